@@ -18,6 +18,7 @@ use Rattle.slack_tables.specs.Course.{Course, course_of, route_of, IsCourseIn}
 use Rattle.slack_tables.specs.Insertion.{KeepsLimits}
 use Rattle.slack_tables.specs.RequestFloors.{AreWays}
 use Rattle.slack_tables.specs.declared.request.RequestWays.{RequestWays}
+use Rattle.slack_tables.proofs.InsertLemmas.{request-valid}
 use Rattle.move_ops.specs.Insertion.{of_vehicle, best_insertion}
 use Rattle.move_ops.specs.Laws.{PlansPassWithoutPins}
 use Rattle.move_ops.specs.Refreshing.{AreWithin}
@@ -25,7 +26,6 @@ use Rattle.move_ops.specs.Tables.{plan_of, AreTablesIn}
 use Rattle.move_ops.specs.Choosing.{place_found, InsertionLaws, IsAsked, IsBestAmongThese, IsEntryOf, IsLookable, IsLookedAt, IsNamed, IsNamedOrUpTo, HasIdle, IsBetter, IsReach}
 use Rattle.move_ops.specs.declared.tables.Found.{Found}
 use Rattle.move_ops.proofs.Fitting.{route_limits}
-use Rattle.move_ops.proofs.Inserting.{valid_request}
 use Rattle.move_ops.proofs.Replacing.{parts}
 use Rattle.move_ops.proofs.Times.{none_some, some_same}
 use Rattle.move_ops.proofs.Choosing.{pin_within, bettered, skipped, these_same, answer_is}
@@ -77,7 +77,7 @@ idle_more routes k idle = (idle.0, idle.1, (let h = idle.2 in omega arith), idle
 
 module _ (laws : InsertionLaws) {p : Instance} {pins : List (List ℕ)} {courses : List Course} {r : Request} (asked : IsAsked p pins courses r) where
   pub request_valid : IsRequest r
-  request_valid = valid_request p.requests (request_name r) r (asked.valid.valid) (asked.named)
+  request_valid = request-valid p (request_name r) r asked.valid (asked.named)
 
   module _ (entries : List (ℕ × Course)) where
     abbrev Looked : ℕ → ℕ → Type 0

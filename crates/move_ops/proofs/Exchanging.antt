@@ -1,9 +1,9 @@
 -- Two requests of a plan that passes take one another's places.
 use Rattle.std.proofs.Common.{◌≡◌, ℕ, ◌+◌, ◌≤◌, ◌&&◌, ◌||◌, Bool, true, false, cond, eqb, nat_eq, List, [], ◌∷◌, All, map, Some, None, slice_get, refl, sym, ap, subst, ◌∙◌, inl, inr, arith}
-use Rattle.std.specs.List.{AllByRecursion, list_all, list_any, concat}
+use Rattle.std.specs.List.{list_all, list_any, concat}
 use Rattle.std.specs.Map.{lookup}
 use Rattle.std.specs.Option.{option_map}
-use Rattle.std.proofs.lemmas.Bool.{cases_lt, and_parts, eq-eqb}
+use Rattle.std.proofs.lemmas.Bool.{cases_lt, and_parts, eq-eqb, ne_eqb}
 use Rattle.std.proofs.lemmas.Bool.Decides.{eqb_tells}
 use Rattle.std.proofs.lemmas.List.{length-map}
 use Rattle.std.proofs.lemmas.Option.{slice_get-map}
@@ -17,16 +17,15 @@ use Rattle.route_sched.specs.Route.{IsLive, AreLiveOnce, IsPlan}
 use Rattle.plan_audit.specs.Laws.{KeepsPins}
 use Rattle.plan_audit.specs.Locality.{PassesAreLocal, PlansAreLocal, TestsSayFeasible}
 use Rattle.plan_audit.specs.Passes.{feasible_alone, passes}
+use Rattle.slack_tables.proofs.InsertLemmas.{request-valid}
 use Rattle.move_ops.specs.Moves.{is_movable, have_same_form, are_exchangeable, swapped, counterpart, exchanged}
-use Rattle.move_ops.proofs.Times.{none_some, some_same, times, one_here, none_here, times-append, once_from, once_few, once_live}
+use Rattle.move_ops.proofs.Times.{some_same, times, one_here, none_here, times-append, once_from, once_few, once_live}
+use Rattle.move_ops.proofs.Choosing.{name_of}
 use Rattle.move_ops.proofs.Fitting.{had_often, often_had}
 use Rattle.move_ops.proofs.Replacing.{parts}
-use Rattle.move_ops.proofs.Inserting.{numbers_of, in_numbers, found_live, valid_request}
+use Rattle.move_ops.proofs.Inserting.{numbers_of, in_numbers, found_live}
 use Rattle.move_ops.proofs.Changing.{passes_where_feasible, each_once, pins_map}
 use Rattle.move_ops.proofs.Removing.{unpinned}
-
-apart_eqb : (m n : ℕ) → (m ≡ n → ⊥) → eqb m n ≡ false
-apart_eqb m n apart = elim (eqb_tells m n) [ inl t ↦ absurd (apart t.1) | inr t ↦ t.0 ]
 
 -- one of two numbers for the other
 pub swap_left : (a b : ℕ) → swapped a b a ≡ b
@@ -39,7 +38,7 @@ swap_right a b = elim (eqb_tells b a) [
 ]
 
 pub swap_other : (a b n : ℕ) → (n ≡ a → ⊥) → (n ≡ b → ⊥) → swapped a b n ≡ n
-swap_other a b n left right = rw (apart_eqb n a left, apart_eqb n b right) refl
+swap_other a b n left right = rw (ne_eqb n a left, ne_eqb n b right) refl
 
 swap_turned : (a b n : ℕ) → swapped a b n ≡ swapped b a n
 swap_turned a b n = elim (eqb_tells n a) [
@@ -106,7 +105,7 @@ module _ (f : ℕ → ℕ) (back : (n : ℕ) → f (f n) ≡ n) where
         omega arith)
     | inr t ↦ (
         let e = none_here n (f x) t.0 in
-        let g = none_here (f n) x (apart_eqb (f n) x (λ same. t.1 (sym (back n) ∙ ap f same))) in
+        let g = none_here (f n) x (ne_eqb (f n) x (λ same. t.1 (sym (back n) ∙ ap f same))) in
         let h = times_mapped n xs in
         omega arith)
   ]
@@ -201,22 +200,15 @@ module _ (routes others : List (List ℕ)) where
       ∙ ap (λ h. has_stop routes c.number || (h || false)) (had b.number ∙ ap (has_stop routes) (both_b a.number b.number c.number d.number (valid.2) a_d c_b (too.2)))
 
 -- requests of two names share no number
-pub named_so : (es : List (ℕ × Request)) (name : ℕ) (r : Request) → AllByRecursion (λ e. e.0 ≡ request_name e.1) es → lookup (nat_eq name) es ≡ Some r → name ≡ request_name r
-named_so [] name r named at = absurd (none_some r at)
-named_so (e ∷ es) name r named at = elim (eqb_tells name e.0) [
-  | inl t ↦ t.1 ∙ (named.0 ∙ ap request_name (some_same e.1 r (rw t.0 at at)))
-  | inr t ↦ named_so es name r named.1 (rw t.0 at at)
-]
-
 module _ (found : NamedAreFound) (p : Instance) (valid : IsInstance p) (a b : ℕ) (apart : a ≡ b → ⊥) (r s : Request) (is_r : lookup (nat_eq a) p.requests ≡ Some r) (is_s : lookup (nat_eq b) p.requests ≡ Some s) where
   share_none : (n : ℕ) → 1 ≤ times n (numbers_of r) → 1 ≤ times n (numbers_of s) → ⊥
   share_none n one two =
       let e = (found p n a r valid is_r (in_numbers n r one)).name in
       let f = (found p n b s valid is_s (in_numbers n s two)).name in
-      apart (named_so p.requests a r (valid.named) is_r ∙ (some_same (request_name r) (request_name s) (sym e ∙ f) ∙ sym (named_so p.requests b s (valid.named) is_s)))
+      apart (sym (name_of p.requests a r (valid.named) is_r) ∙ (some_same (request_name r) (request_name s) (sym e ∙ f) ∙ name_of p.requests b s (valid.named) is_s))
 
   back : (n : ℕ) → counterpart r s (counterpart r s n) ≡ n
-  back = counterpart_back r s (valid_request p.requests a r (valid.valid) is_r) (valid_request p.requests b s (valid.valid) is_s) share_none
+  back = counterpart_back r s (request-valid p a r valid is_r) (request-valid p b s valid is_s) share_none
 
   -- a stop stands in a route where its counterpart stood
   pub times_exchanged : (n : ℕ) (routes : List (List ℕ)) → times n (concat (map (map (counterpart r s)) routes)) ≡ times (counterpart r s n) (concat routes)
@@ -227,11 +219,11 @@ module _ (found : NamedAreFound) (p : Instance) (valid : IsInstance p) (a b : �
 
   pub first_for_second : (routes : List (List ℕ)) → have_same_form r s ≡ true → is_planned (map (map (counterpart r s)) routes) r ≡ is_planned routes s
   first_for_second routes form =
-      first_planned routes (map (map (counterpart r s)) routes) r s (valid_request p.requests a r (valid.valid) is_r) (valid_request p.requests b s (valid.valid) is_s) share_none form (had_exchanged routes)
+      first_planned routes (map (map (counterpart r s)) routes) r s (request-valid p a r valid is_r) (request-valid p b s valid is_s) share_none form (had_exchanged routes)
 
   pub second_for_first : (routes : List (List ℕ)) → have_same_form r s ≡ true → is_planned (map (map (counterpart r s)) routes) s ≡ is_planned routes r
   second_for_first routes form =
-      first_planned routes (map (map (counterpart r s)) routes) s r (valid_request p.requests b s (valid.valid) is_s) (valid_request p.requests a r (valid.valid) is_r) (λ n two one. share_none n one two)
+      first_planned routes (map (map (counterpart r s)) routes) s r (request-valid p b s valid is_s) (request-valid p a r valid is_r) (λ n two one. share_none n one two)
       (same_form_turned s r ∙ form) (λ n. had_exchanged routes n ∙ ap (has_stop routes) (counterpart_turned r s n))
 
   stays_live : (n : ℕ) → IsLive p (counterpart r s n) → IsLive p n
@@ -265,4 +257,4 @@ module _ (found : NamedAreFound) (p : Instance) (valid : IsInstance p) (a b : �
 
     pub exchanged_is : (t : Bool) → t ≡ list_all (feasible_alone p) (map (map (counterpart r s)) routes) → exchanged p pins routes a b ≡ cond t (Some (map (map (counterpart r s)) routes)) None
     exchanged_is t e =
-        rw (apart_eqb a b apart, is_r, is_s, can, passes_where_feasible local says p pins routes good others others_plan (length-map routes (map (counterpart r s))) others_pinned t e) refl
+        rw (ne_eqb a b apart, is_r, is_s, can, passes_where_feasible local says p pins routes good others others_plan (length-map routes (map (counterpart r s))) others_pinned t e) refl

@@ -2,11 +2,11 @@
 use Rattle.std.proofs.Common.{◌≡◌, ℕ, zero, suc, ◌+◌, ◌-◌, ◌<◌, ◌≤◌, ◌⊎◌, cond, eqb, ◌&&◌, Bool, true, false, not, List, [], ◌∷◌, length, map, Option, Some, None, IsSome, slice_get, refl, sym, ap, subst, ◌∙◌, inl, inr, arith}
 use Rattle.std.specs.Prelude.{unwrap_or}
 use Rattle.std.specs.List.{concat}
-use Rattle.std.proofs.lemmas.Bool.{and_parts, ne_eqb, eq-eqb}
+use Rattle.std.proofs.lemmas.Bool.{and_parts, eq-eqb}
 use Rattle.std.proofs.lemmas.Bool.Decides.{eqb_tells}
 use Rattle.std.proofs.lemmas.List.{length-set}
 use Rattle.std.proofs.lemmas.List.Elements.{All-from_recursion}
-use Rattle.plan_types.specs.Instance.{Instance, IsInstance, stop_at}
+use Rattle.plan_types.specs.Instance.{Instance, IsInstance}
 use Rattle.plan_types.specs.Laws.{NamedAreFound, RequestsStandByName}
 use Rattle.plan_types.specs.Request.{stop_in}
 use Rattle.plan_types.specs.declared.plans.Cost.{Cost}
@@ -19,13 +19,13 @@ use Rattle.route_sched.specs.Cost.{unplanned_count, vehicle_count, total_length,
 use Rattle.route_sched.specs.Route.{stop_numbered}
 use Rattle.route_sched.specs.Schedule.{route_length}
 use Rattle.plan_audit.specs.Locality.{PassesAreLocal}
-use Rattle.plan_audit.specs.Passes.{passes}
+use Rattle.slack_tables.proofs.InsertLemmas.{request-valid, single-found, stands}
 use Rattle.move_ops.specs.Changes.{AreVehiclesOf}
 use Rattle.move_ops.specs.Drafts.{Drafted, draft_of, IsDraftOf}
 use Rattle.move_ops.specs.Foreseen.{IsCostIfMade}
 use Rattle.move_ops.specs.Ways.{ways_over, way_across, IsCutOf, IsMoved, IsSeatOf}
 use Rattle.move_ops.specs.Insertion.{request_named, of_vehicle, passing, with_route}
-use Rattle.move_ops.specs.Moves.{swapped, counterpart, are_exchangeable, exchange_of, exchanged, is_cut, joined, with_ends_exchanged, crossed}
+use Rattle.move_ops.specs.Moves.{counterpart, are_exchangeable, exchange_of, exchanged, is_cut, joined, with_ends_exchanged, crossed}
 use Rattle.move_ops.specs.declared.draft.foreseeing.Seat.{Seat}
 use Rattle.move_ops.specs.declared.draft.rearranging.Cut.{Cut}
 use Rattle.move_ops.proofs.Costs.{same_cost, unplanned_same}
@@ -33,28 +33,25 @@ use Rattle.move_ops.proofs.Crossing.{same_times}
 use Rattle.move_ops.proofs.Exchanging.{swap_left, swap_right, swap_other}
 use Rattle.move_ops.proofs.Fitting.{had_often}
 use Rattle.move_ops.proofs.Gathering.{exchanged_changes}
-use Rattle.move_ops.proofs.Inserting.{valid_request}
+use Rattle.move_ops.proofs.Installing.{passing_some}
 use Rattle.move_ops.proofs.Leaving.{as_many}
 use Rattle.move_ops.proofs.Replacing.{other_vehicle, parts, times_with, times_in_vehicle}
 use Rattle.move_ops.proofs.Rerouting.{within_route, length_exchanged, lengths_crossed, lengths_of_two}
-use Rattle.move_ops.proofs.Times.{none_some, some_same, times, stands_once_more, once_few}
+use Rattle.move_ops.proofs.Times.{none_some, times, stands_once_more, once_few}
 
 -- ---- the answers of the moves
-cond_some : {X : Type 0} (t : Bool) (o : Option X) (x : X) → cond t o None ≡ Some x → (t ≡ true) × (o ≡ Some x)
-cond_some true o x e = (refl, e)
-cond_some false o x e = absurd (none_some x e)
-
-passed_is : (p : Instance) (pins others new : List (List ℕ)) → passing p pins others ≡ Some new → others ≡ new
-passed_is p pins others new e = some_same others new (cond_some (passes p pins others) (Some others) new e).1
+made_where : {X : Type 0} (t : Bool) (o : Option X) (x : X) → cond t o None ≡ Some x → (t ≡ true) × (o ≡ Some x)
+made_where true o x e = (refl, e)
+made_where false o x e = absurd (none_some x e)
 
 crossed_plan : (p : Instance) (pins routes : List (List ℕ)) (a ca b cb : ℕ) (new : List (List ℕ)) → crossed p pins routes a ca b cb ≡ Some new → (b ≡ a → ⊥) × (with_ends_exchanged routes a ca b cb ≡ new)
 crossed_plan p pins routes a ca b cb new e =
-    let one = cond_some (not (eqb a b) && (is_cut pins routes a ca && is_cut pins routes b cb)) (passing p pins (with_ends_exchanged routes a ca b cb)) new e in (
+    let one = made_where (not (eqb a b) && (is_cut pins routes a ca && is_cut pins routes b cb)) (passing p pins (with_ends_exchanged routes a ca b cb)) new e in (
       (λ same. elim (eqb_tells a b) [
         | inl t ↦ (let h : false ≡ true = rw t.0 at (and_parts (not (eqb a b)) (is_cut pins routes a ca && is_cut pins routes b cb) one.0).0 in cc)
         | inr t ↦ t.1 (sym same)
       ]),
-      passed_is p pins (with_ends_exchanged routes a ca b cb) new one.1,
+      (passing_some p pins (with_ends_exchanged routes a ca b cb) new one.1).1,
     )
 
 exchanged_plan : (p : Instance) (pins routes : List (List ℕ)) (a b : ℕ) (r s : Request) (new : List (List ℕ)) → request_named p a ≡ Some r → request_named p b ≡ Some s → exchanged p pins routes a b ≡ Some new
@@ -63,8 +60,8 @@ exchanged_plan p pins routes a b r s new is_r is_s e = elim (eqb_tells a b) [
   | inl t ↦ absurd (none_some new (rw t.0 at e))
   | inr t ↦ (
       let one : exchange_of p pins routes r s ≡ Some new = rw (t.0, is_r, is_s) at e in
-      let two = cond_some (are_exchangeable pins routes r s) (passing p pins (map (map (counterpart r s)) routes)) new one in
-      (t.1, two.0, passed_is p pins (map (map (counterpart r s)) routes) new two.1))
+      let two = made_where (are_exchangeable pins routes r s) (passing p pins (map (map (counterpart r s)) routes)) new one in
+      (t.1, two.0, (passing_some p pins (map (map (counterpart r s)) routes) new two.1).1))
 ]
 
 -- ---- what the plan costs
@@ -113,18 +110,13 @@ seat_is p routes name s v k valid named at =
     let there = some_in routes v s.number (stands_once_more s.number k (of_vehicle routes v) at) in
     record {
       named = named;
-      visit = (valid_request p.requests name (Single s) valid.valid named).0.visit;
+      visit = (request-valid p name (Single s) valid named).0.visit;
       seat = record { from = there.0; within = there.1; index = within_route (of_vehicle routes v) k s.number at };
       at = at;
     }
 
 numbered : NamedAreFound → (p : Instance) (name : ℕ) (s : Stop) → IsInstance p → request_named p name ≡ Some (Single s) → stop_numbered p s.number ≡ s
-numbered found p name s valid named =
-    let stop = (valid_request p.requests name (Single s) valid.valid named).0 in
-    let positive : eqb s.number 0 ≡ false = ne_eqb s.number 0 (λ e. let one = stop.from_one in omega arith) in
-    let own : stop_in s.number (Single s) ≡ Some s = rw (eq-eqb s.number s.number refl) refl in
-    let there : stop_at p s.number ≡ Some s = (found p s.number name (Single s) valid named (subst (λ (o : Option Stop). IsSome o) (sym own) refl)).stop ∙ own in
-    rw (positive, there) refl
+numbered found p name s valid named = stands p name (Single s) s found valid named (request-valid p name (Single s) valid named).0 (single-found s)
 
 -- ---- the number of a single
 is_number : (s : Stop) (n : ℕ) → IsSome (stop_in n (Single s)) → n ≡ s.number

@@ -150,7 +150,7 @@ module _ (routes : List (List ℕ)) where
 kept_whole : (keep : ℕ → Bool) (xs : List ℕ) → ((n : ℕ) → has xs n ≡ true → keep n ≡ true) → filter keep xs ≡ xs
 kept_whole keep [] all = refl
 kept_whole keep (x ∷ xs) all =
-    let t : keep x ≡ true = all x (or_left (eqb x x) (has xs x) (elim (eqb_tells x x) [ inl u ↦ u.0 | inr u ↦ absurd (u.1 refl) ])) in
+    let t : keep x ≡ true = all x (or_left (eqb x x) (has xs x) (eq-eqb x x refl)) in
     rw t (ap (λ l. x ∷ l) (kept_whole keep xs (λ n h. all n (or_right (eqb n x) (has xs n) h))))
 
 same_lists : (xs ys : List (List ℕ)) → length xs ≡ length ys → ((k : ℕ) → k < length ys → slice_get xs k ≡ slice_get ys k) → xs ≡ ys
@@ -272,7 +272,7 @@ counterpart_stays (Pair a b) (Pair c d) n = elim (eqb_tells n b.number) [
 mapped_whole : (f : ℕ → ℕ) (xs : List ℕ) → ((n : ℕ) → has xs n ≡ true → f n ≡ n) → map f xs ≡ xs
 mapped_whole f [] all = refl
 mapped_whole f (x ∷ xs) all =
-    let same : f x ≡ x = all x (or_left (eqb x x) (has xs x) (elim (eqb_tells x x) [ inl u ↦ u.0 | inr u ↦ absurd (u.1 refl) ])) in
+    let same : f x ≡ x = all x (or_left (eqb x x) (has xs x) (eq-eqb x x refl)) in
     ap (λ (y : ℕ). y ∷ map f xs) same ∙ ap (λ (l : List ℕ). x ∷ l) (mapped_whole f xs (λ n h. all n (or_right (eqb n x) (has xs n) h)))
 
 pub exchanged_changes : (r s : Request) (old : List (List ℕ)) (vs : List ℕ) → AreIn old vs → AreVehiclesOf old (λ n. IsSome (stop_in n r) ⊎ IsSome (stop_in n s)) vs

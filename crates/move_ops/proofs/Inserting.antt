@@ -1,8 +1,8 @@
 -- A request put into a route of a plan that passes.
 use Rattle.std.proofs.Common.{◌≡◌, ℕ, zero, suc, ◌+◌, ◌-◌, ◌<◌, ◌≤◌, ◌||◌, Bool, true, false, cond, eqb, ltb, leb, ◌&&◌, List, [], ◌∷◌, ◌++◌, length, take, drop, Some, None, IsSome, slice_get, refl, sym, subst, ◌∙◌, inl, inr, arith, rules, nat_eq}
-use Rattle.std.specs.List.{concat, AllByRecursion}
+use Rattle.std.specs.List.{concat}
 use Rattle.std.specs.Map.{lookup}
-use Rattle.std.proofs.lemmas.Bool.{cases_lt, cases_Bool, and_parts, eq-eqb, eqb-true, ltb-true, leb-true, or_parts}
+use Rattle.std.proofs.lemmas.Bool.{cases_lt, cases_Bool, and_parts, eq-eqb, eqb-true, ne_eqb, ltb-true, leb-true, or_parts}
 use Rattle.std.proofs.lemmas.Bool.Decides.{eqb_tells}
 use Rattle.std.proofs.lemmas.List.{length-set}
 use Rattle.std.proofs.lemmas.List.Elements.{All-set}
@@ -17,8 +17,9 @@ use Rattle.plan_audit.specs.Alone.{IsFeasibleAlone}
 use Rattle.plan_audit.specs.Locality.{PassesAreLocal, TestsSayFeasible}
 use Rattle.plan_audit.specs.Passes.{feasible_alone, passes}
 use Rattle.plan_audit.specs.Rules.{item_at}
+use Rattle.slack_tables.proofs.InsertLemmas.{request-valid}
 use Rattle.move_ops.specs.Insertion.{Insertion, put_at, inserted, of_vehicle, with_route, with_request_at, are_places, is_place_of, put_in}
-use Rattle.move_ops.proofs.Times.{none_some, some_same, times, one_here, none_here, times-append, times_split, once_from, once_few, once_live, none_anywhere}
+use Rattle.move_ops.proofs.Times.{none_some, times, one_here, none_here, times-append, times_split, once_from, once_few, once_live, none_anywhere}
 use Rattle.move_ops.proofs.Replacing.{within_list, times_with, times_in_vehicle, pins_with, same_vehicle, all_at, parts, passes_too}
 
 abbrev pub numbers_of : Request → List ℕ
@@ -52,13 +53,6 @@ front_inserted (Pair a b) route i j k n below order at = front_put (put_at route
 pub found_live : NamedAreFound → (p : Instance) (name n : ℕ) (r : Request) → IsInstance p → lookup (nat_eq name) p.requests ≡ Some r → IsSome (stop_in n r) → IsLive p n
 found_live found p name n r valid at some = subst (λ o. IsSome o) (sym (found p n name r valid at some).stop) some
 
-pub valid_request : (es : List (ℕ × Request)) (name : ℕ) (r : Request) → AllByRecursion (λ e. IsRequest e.1) es → lookup (nat_eq name) es ≡ Some r → IsRequest r
-valid_request [] name r valid at = absurd (none_some r at)
-valid_request (e ∷ es) name r valid at = elim (eqb_tells name e.0) [
-  | inl t ↦ subst IsRequest (some_same e.1 r (rw t.0 at at)) valid.0
-  | inr t ↦ valid_request es name r valid.1 (rw t.0 at at)
-]
-
 pub in_numbers : (n : ℕ) (r : Request) → 1 ≤ times n (numbers_of r) → IsSome (stop_in n r)
 in_numbers n (Single s) some = elim (eqb_tells n s.number) [
   | inl t ↦ rw (eq-eqb s.number n (sym t.1)) (search rules)
@@ -69,8 +63,8 @@ in_numbers n (Pair a b) some = elim (eqb_tells a.number n) [
   | inr t ↦ elim (eqb_tells b.number n) [
     | inl u ↦ rw (t.0, u.0) (search rules)
     | inr u ↦ (
-        let e : eqb n a.number ≡ false = elim (eqb_tells n a.number) [ inl x ↦ absurd (t.1 (sym x.1)) | inr x ↦ x.0 ] in
-        let f : eqb n b.number ≡ false = elim (eqb_tells n b.number) [ inl x ↦ absurd (u.1 (sym x.1)) | inr x ↦ x.0 ] in
+        let e : eqb n a.number ≡ false = ne_eqb n a.number (λ x. t.1 (sym x)) in
+        let f : eqb n b.number ≡ false = ne_eqb n b.number (λ x. u.1 (sym x)) in
         let g = none_here n a.number e in let h = none_here n b.number f in absurd (omega arith))
   ]
 ]
@@ -116,7 +110,7 @@ module _ (found : NamedAreFound) (local : PassesAreLocal) (p : Instance) (pins r
       let e = times_with n routes v (inserted r i j (of_vehicle routes v)) from within in
       let f = times_inserted n r i j (of_vehicle routes v) in
       let few = once_few p (concat routes) plan n in
-      let two = few_numbers n r (valid_request p.requests name r (valid.valid) named) in
+      let two = few_numbers n r (request-valid p name r valid named) in
       elim (cases_lt 0 (times n (numbers_of r))) [
         | inl some ↦ (let none = nowhere routes r free n (omega arith) in omega arith)
         | inr none ↦ omega arith

@@ -2,6 +2,7 @@
 use Rattle.std.proofs.Common.{◌≡◌, ℕ, ◌≤◌, ◌&&◌, not, Bool, true, false, cond, eqb, List, [], ◌∷◌, length, Some, None, refl, sym, ap, subst, ◌∙◌}
 use Rattle.std.specs.List.{concat}
 use Rattle.std.proofs.lemmas.List.Elements.{All-from_recursion}
+use Rattle.std.proofs.lemmas.Option.{cond_some}
 use Rattle.plan_types.specs.Instance.{Instance}
 use Rattle.route_sched.specs.Route.{AreLiveOnce}
 use Rattle.slack_tables.specs.Insertion.{KeepsLimits}
@@ -12,21 +13,17 @@ use Rattle.move_ops.specs.Moves.{is_cut, joined, with_ends_exchanged, crossed}
 use Rattle.move_ops.specs.Changes.{IsChange}
 use Rattle.move_ops.specs.Drafts.{Drafted, draft_of, IsDraftOf}
 use Rattle.move_ops.specs.declared.changes.Change.{Change}
-use Rattle.move_ops.proofs.Times.{none_some, some_same, times}
+use Rattle.move_ops.proofs.Times.{none_some, times}
 use Rattle.move_ops.proofs.Fitting.{route_limits}
 use Rattle.move_ops.proofs.Costs.{unplanned_same}
 use Rattle.move_ops.proofs.Crossing.{of_a, of_b, first_route_once, second_route_once, crossed_is, as_often}
 
 -- what is answered passes
-passing_some : (p : Instance) (pins routes given : List (List ℕ)) → passing p pins routes ≡ Some given → passes p pins given ≡ true
-passing_some p pins routes given at = by (passes p pins routes) refl
-  where
-    by : (b : Bool) → passes p pins routes ≡ b → passes p pins given ≡ true
-    by true t = subst (λ (l : List (List ℕ)). passes p pins l ≡ true) (some_same routes given (rw t at at)) t
-    by false f = absurd (none_some given (rw f at at))
+pub passing_some : (p : Instance) (pins routes given : List (List ℕ)) → passing p pins routes ≡ Some given → (passes p pins routes ≡ true) × (routes ≡ given)
+passing_some p pins routes given = cond_some (passes p pins routes) routes given
 
 pub if_some : (p : Instance) (pins routes given : List (List ℕ)) (b : Bool) → cond b (passing p pins routes) None ≡ Some given → passes p pins given ≡ true
-if_some p pins routes given true at = passing_some p pins routes given at
+if_some p pins routes given true at = let one = passing_some p pins routes given at in subst (λ l. passes p pins l ≡ true) one.1 one.0
 if_some p pins routes given false at = absurd (none_some given at)
 
 module _ (local : PassesAreLocal) (says : TestsSayFeasible) (p : Instance) (pins : List (List ℕ)) (d : Drafted) (is : IsDraftOf p pins d) (a ca b cb : ℕ)

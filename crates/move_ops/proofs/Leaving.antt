@@ -3,7 +3,7 @@ use Rattle.std.proofs.Common.{◌≡◌, ℕ, zero, suc, ◌+◌, ◌<◌, ◌�
 use Rattle.std.specs.List.{AllByRecursion, list_all, concat}
 use Rattle.std.specs.Map.{lookup}
 use Rattle.std.specs.Option.{option_map, option_map_or}
-use Rattle.std.proofs.lemmas.Bool.{cases_Bool, and_parts, eq-eqb, or_right}
+use Rattle.std.proofs.lemmas.Bool.{cases_Bool, and_parts, eq-eqb, ne_eqb, or_right}
 use Rattle.std.proofs.lemmas.Bool.Decides.{eqb_tells}
 use Rattle.std.proofs.lemmas.List.Sums.{count_by-le-length}
 use Rattle.std.proofs.lemmas.Map.Steps.{length-le_from_distinct_below}
@@ -19,20 +19,21 @@ use Rattle.move_ops.specs.Moves.{counterpart, have_same_form, are_exchangeable, 
 use Rattle.move_ops.specs.Changes.{distinct_count}
 use Rattle.move_ops.proofs.Times.{none_some, some_same, times, one_here, none_here, times-append}
 use Rattle.move_ops.proofs.Inserting.{numbers_of, in_numbers}
+use Rattle.move_ops.proofs.Choosing.{name_of}
 use Rattle.move_ops.proofs.Costs.{any_same, unplanned_same}
 use Rattle.move_ops.proofs.Counting.{one_more_planned}
 use Rattle.move_ops.proofs.Drafting.{named_gone}
-use Rattle.move_ops.proofs.Exchanging.{named_so, counterpart_other, times_exchanged, first_for_second, second_for_first}
+use Rattle.move_ops.proofs.Exchanging.{counterpart_other, times_exchanged, first_for_second, second_for_first}
 use Rattle.move_ops.proofs.Removing.{found_has}
 
 -- ---- the stops of a name
 pub has_item : (ns : List ℕ) (k : ℕ) → k < length ns → has ns (get_or ns k 0) ≡ true
 has_item [] k below = absurd (omega arith)
-has_item (n ∷ ns) zero below = elim (eqb_tells n n) [ inl t ↦ rw t.0 refl | inr t ↦ absurd (t.1 refl) ]
+has_item (n ∷ ns) zero below = rw (eq-eqb n n refl) refl
 has_item (n ∷ ns) (suc k) below = or_right (eqb (get_or ns k 0) n) (has ns (get_or ns k 0)) (has_item ns k (omega arith))
 
 pub named_stop : NamedAreFound → (p : Instance) → IsInstance p → (names : List ℕ) (name : ℕ) (r : Request) → has names name ≡ true → lookup (nat_eq name) p.requests ≡ Some r → (n : ℕ) → IsSome (stop_in n r) → is_of_named p names n ≡ true
-named_stop found p valid names name r there at n some = ap (λ (o : Option ℕ). option_map_or (has names) o false) ((found p n name r valid at some).name) ∙ (ap (has names) (sym (named_so p.requests name r (valid.named) at)) ∙ there)
+named_stop found p valid names name r there at n some = ap (λ (o : Option ℕ). option_map_or (has names) o false) ((found p n name r valid at some).name) ∙ (ap (has names) (name_of p.requests name r (valid.named) at) ∙ there)
 
 -- ---- a number among those that are kept
 module _ (keep : ℕ → Bool) (n : ℕ) where
@@ -41,7 +42,7 @@ module _ (keep : ℕ → Bool) (n : ℕ) where
   kept_times k (x ∷ xs) = elim (cases_Bool (keep x)) [
     | inl t ↦ rw t (let h = kept_times k xs in omega arith)
     | inr f ↦ rw f (
-        let apart : eqb n x ≡ false = elim (eqb_tells n x) [ inl u ↦ absurd (let e : true ≡ false = sym k ∙ (ap keep u.1 ∙ f) in cc) | inr u ↦ u.0 ] in
+        let apart : eqb n x ≡ false = ne_eqb n x (λ u. let e : true ≡ false = sym k ∙ (ap keep u ∙ f) in cc) in
         let e = none_here n x apart in
         let h = kept_times k xs in
         omega arith)
@@ -51,7 +52,7 @@ module _ (keep : ℕ → Bool) (n : ℕ) where
   gone_times k [] = refl
   gone_times k (x ∷ xs) = elim (cases_Bool (keep x)) [
     | inl t ↦ rw t (
-        let apart : eqb n x ≡ false = elim (eqb_tells n x) [ inl u ↦ absurd (let e : true ≡ false = sym t ∙ (ap keep (sym u.1) ∙ k) in cc) | inr u ↦ u.0 ] in
+        let apart : eqb n x ≡ false = ne_eqb n x (λ u. let e : true ≡ false = sym t ∙ (ap keep (sym u) ∙ k) in cc) in
         let e = none_here n x apart in
         let h = gone_times k xs in
         omega arith)
@@ -84,7 +85,7 @@ alike keep other n same routes = elim (cases_Bool (keep n)) [
 -- ---- the numbers of a named request
 module _ (found : NamedAreFound) (by_name : RequestsStandByName) (p : Instance) (valid : IsInstance p) where
   pub is_named : (name m : ℕ) (r : Request) → lookup (nat_eq name) p.requests ≡ Some r → 1 ≤ times m (numbers_of r) → name_at p m ≡ Some name
-  is_named name m r at some = (found p m name r valid at (in_numbers m r some)).name ∙ ap (λ (k : ℕ). Some k) (sym (named_so p.requests name r (valid.named) at))
+  is_named name m r at some = (found p m name r valid at (in_numbers m r some)).name ∙ ap (λ (k : ℕ). Some k) (name_of p.requests name r (valid.named) at)
 
   not_named : (name m : ℕ) (r : Request) → lookup (nat_eq name) p.requests ≡ Some r → times m (numbers_of r) ≡ 0 → name_at p m ≡ Some name → ⊥
   not_named name m r at none = by (request_with p m) refl

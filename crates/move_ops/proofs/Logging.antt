@@ -1,11 +1,11 @@
 -- The log of a draft, in which no vehicle stands twice.
-use Rattle.std.proofs.Common.{◌≡◌, ℕ, ℤ, zero, suc, ◌+◌, ◌-◌, ◌<◌, ◌≤◌, ◌||◌, true, false, eqb, List, [], ◌∷◌, ◌++◌, length, drop, map, set, get_or, Option, None, Some, slice_get, refl, sym, ap, subst, ◌∙◌, inl, inr, arith}
+use Rattle.std.proofs.Common.{◌≡◌, ℕ, ℤ, zero, suc, ◌+◌, ◌-◌, ◌<◌, ◌≤◌, ◌||◌, true, false, eqb, List, [], ◌∷◌, ◌++◌, length, map, set, Option, None, Some, slice_get, refl, sym, ap, subst, ◌∙◌, inl, inr, arith}
 use Rattle.std.specs.Prelude.{MatchOption, vec_capacity}
 use Rattle.std.specs.List.{list_any, remove, AllByRecursion, IsDistinct}
 use Rattle.std.specs.Option.{is_none, is_some}
-use Rattle.std.proofs.lemmas.Bool.{or_cases, or_left, or_right, or_parts, or_from, eq-eqb}
+use Rattle.std.proofs.lemmas.Bool.{or_cases, or_left, or_right, or_parts, or_from, eq-eqb, eqb-true, ne_eqb}
 use Rattle.std.proofs.lemmas.Bool.Decides.{eqb_tells}
-use Rattle.std.proofs.lemmas.List.{drop_more, length-map, length-set, set-set, set_comm}
+use Rattle.std.proofs.lemmas.List.{length-map, length-set, set-set, set_comm}
 use Rattle.std.proofs.lemmas.Map.Steps.{length-le_from_distinct_below}
 use Rattle.plan_audit.specs.Passes.{has}
 use Rattle.slack_tables.specs.Course.{Course, route_of}
@@ -39,7 +39,7 @@ pub undone_same : (tours : List Course) (log : List (ℕ × Course)) (v : ℕ) (
 undone_same tours [] v c had = absurd (let h : false ≡ true = had in cc)
 undone_same tours (e ∷ log) v c had = elim (or_cases (eqb e.0 v) (is_logged log v) had) [
   | inl here ↦ (
-      let is : e.0 ≡ v = elim (eqb_tells e.0 v) [ inl t ↦ t.1 | inr t ↦ absurd (let k : true ≡ false = sym here ∙ t.0 in cc) ] in
+      let is : e.0 ≡ v = eqb-true e.0 v here in
       subst (λ (u : ℕ). set (undone (set tours (u - 1) c) log) (e.0 - 1) e.1 ≡ set (undone tours log) (e.0 - 1) e.1) is (set_over tours log (e.0 - 1) c e.1))
   | inr later ↦ ap (λ l. set l (e.0 - 1) e.1) (undone_same tours log v c later)
 ]
@@ -49,7 +49,7 @@ set_below : (tours : List Course) (log : List (ℕ × Course)) (n v : ℕ) (c : 
 set_below tours [] n v c from all none = refl
 set_below tours (e ∷ log) n v c from all none =
     let parts = or_parts (eqb e.0 v) (is_logged log v) none in
-    let apart : e.0 ≡ v → ⊥ = λ same. elim (eqb_tells e.0 v) [ inl t ↦ absurd (let k : true ≡ false = sym (t.0) ∙ parts.0 in cc) | inr t ↦ t.1 same ] in
+    let apart : e.0 ≡ v → ⊥ = λ same. (let k : true ≡ false = sym (eq-eqb e.0 v same) ∙ parts.0 in cc) in
     ap (λ l. set l (e.0 - 1) e.1) (set_below tours log n v c from all.1 parts.1)
     ∙ sym (set_comm (undone tours log) (e.0 - 1) (v - 1) e.1 c (λ same. apart (omega arith)))
 
@@ -80,14 +80,14 @@ once_without (x ∷ log) (suc k) once = (logged_without log k x.0 once.0, once_w
 
 -- ---- the newest entry
 logged_more : (log : List (ℕ × Course)) (v : ℕ) (c : Course) (u : ℕ) → is_logged log u ≡ false → (v ≡ u → ⊥) → is_logged (log ++ (v, c) ∷ []) u ≡ false
-logged_more [] v c u none apart = or_from (eqb v u) false (elim (eqb_tells v u) [ inl t ↦ absurd (apart (t.1)) | inr t ↦ t.0 ]) refl
+logged_more [] v c u none apart = or_from (eqb v u) false (ne_eqb v u apart) refl
 logged_more (x ∷ log) v c u none apart = let parts = or_parts (eqb x.0 u) (is_logged log u) none in or_from (eqb x.0 u) (is_logged (log ++ (v, c) ∷ []) u) parts.0 (logged_more log v c u parts.1 apart)
 
 pub once_more : (log : List (ℕ × Course)) (v : ℕ) (c : Course) → is_logged log v ≡ false → AreOnce log → AreOnce (log ++ (v, c) ∷ [])
 once_more [] v c none once = (refl, tt)
 once_more (x ∷ log) v c none once =
     let parts = or_parts (eqb x.0 v) (is_logged log v) none in
-    let apart : v ≡ x.0 → ⊥ = λ same. elim (eqb_tells x.0 v) [ inl t ↦ absurd (let k : true ≡ false = sym (t.0) ∙ parts.0 in cc) | inr t ↦ t.1 (sym same) ] in
+    let apart : v ≡ x.0 → ⊥ = λ same. (let k : true ≡ false = sym (eq-eqb x.0 v (sym same)) ∙ parts.0 in cc) in
     (logged_more log v c x.0 once.0 apart, once_more log v c parts.1 once.1)
 
 -- ---- what a vehicle had in the base
@@ -107,12 +107,7 @@ base_at tours (x ∷ log) n (suc k) e at all once within =
     let apart : x.0 ≡ e.0 → ⊥ = λ same. absurd (let h : false ≡ true = sym (once.0) ∙ subst (λ v. is_logged log v ≡ true) (sym same) (has_at log k e at) in cc) in
     base_later tours x log e.0 low all.0.0 apart ∙ base_at tours log n k e at all.1 once.1 within
 
--- ---- looked for entry by entry
-pub logged_later : (log : List (ℕ × Course)) (k v : ℕ) (x : ℕ × Course) → x ≡ get_or log k x → k < length log → (x.0 ≡ v → ⊥) → is_logged (drop (k + 1) log) v ≡ is_logged (drop k log) v
-logged_later log k v x at below apart =
-    let other : eqb x.0 v ≡ false = elim (eqb_tells x.0 v) [ inl t ↦ absurd (apart (t.1)) | inr t ↦ t.0 ] in
-    sym (ap (λ l. is_logged l v) (drop_more log k x below ∙ ap (λ (y : ℕ × Course). y ∷ drop (k + 1) log) (sym at)) ∙ ap (λ b. b || is_logged (drop (k + 1) log) v) other)
-
+-- ---- whether an entry was found
 pub not_logged : (o : Option ℕ) (log : List (ℕ × Course)) (v : ℕ) → MatchOption o (is_logged log v ≡ false) (λ k. IsEntry log v k) → is_none o ≡ true → is_logged log v ≡ false
 not_logged None log v told none = told
 not_logged (Some k) log v told none = absurd (let h : false ≡ true = none in cc)
@@ -126,11 +121,7 @@ apart_from : (log : List (ℕ × Course)) (v : ℕ) → is_logged log v ≡ fals
 apart_from [] v none = tt
 apart_from (e ∷ log) v none =
     let parts = or_parts (eqb e.0 v) (is_logged log v) none in
-    let other : eqb v e.0 ≡ false = elim (eqb_tells v e.0) [
-      | inl t ↦ elim (eqb_tells e.0 v) [ inl u ↦ absurd (let k : true ≡ false = sym u.0 ∙ parts.0 in cc) | inr u ↦ absurd (u.1 (sym t.1)) ]
-      | inr t ↦ t.0
-    ] in
-    (other, apart_from log v parts.1)
+    (ne_eqb v e.0 (λ same. let k : true ≡ false = sym (eq-eqb e.0 v (sym same)) ∙ parts.0 in cc), apart_from log v parts.1)
 
 distinct_once : (log : List (ℕ × Course)) → AreOnce log → IsDistinct eqb (map (λ e. e.0) log)
 unfolding IsDistinct
@@ -140,12 +131,12 @@ distinct_once (e ∷ log) once = (apart_from log e.0 once.0, distinct_once log o
 apart_zero : (n : ℕ) (log : List (ℕ × Course)) → AreWithin n log → AllByRecursion (λ u. eqb 0 u ≡ false) (map (λ e. e.0) log)
 apart_zero n [] all = tt
 apart_zero n (e ∷ log) all =
-    (elim (eqb_tells 0 e.0) [ inl t ↦ (let h = t.1 in absurd (omega arith)) | inr t ↦ t.0 ], apart_zero n log all.1)
+    (ne_eqb 0 e.0 (λ h. omega arith), apart_zero n log all.1)
 
 below_all : (n : ℕ) (log : List (ℕ × Course)) → AreWithin n log → (q : ℕ) → list_any (eqb q) (map (λ e. e.0) log) ≡ true → q < n + 1
 below_all n [] all q some = absurd (let h : false ≡ true = some in cc)
 below_all n (e ∷ log) all q some = elim (or_cases (eqb q e.0) (list_any (eqb q) (map (λ e. e.0) log)) some) [
-  | inl here ↦ (let high = all.0.1 in elim (eqb_tells q e.0) [ inl t ↦ (let h = t.1 in omega arith) | inr t ↦ absurd (let k : true ≡ false = sym here ∙ t.0 in cc) ])
+  | inl here ↦ (let high = all.0.1 in let h = eqb-true q e.0 here in omega arith)
   | inr later ↦ below_all n log all.1 q later
 ]
 
@@ -153,12 +144,12 @@ pub room_left : (n : ℕ) (log : List (ℕ × Course)) (v : ℕ) → 1 ≤ v →
 unfolding IsDistinct
 room_left n log v low high all once none =
     let vehicles = map (λ (e : ℕ × Course). e.0) log in
-    let zero_v : eqb 0 v ≡ false = elim (eqb_tells 0 v) [ inl t ↦ (let h = t.1 in absurd (omega arith)) | inr t ↦ t.0 ] in
+    let zero_v : eqb 0 v ≡ false = ne_eqb 0 v (λ h. omega arith) in
     let most = length-le_from_distinct_below (0 ∷ v ∷ vehicles) (n + 1) ((zero_v, apart_zero n log all), (apart_from log v none, distinct_once log once))
     (λ q some. elim (or_cases (eqb q 0) (eqb q v || list_any (eqb q) vehicles) some) [
-      | inl here ↦ elim (eqb_tells q 0) [ inl t ↦ (let h = t.1 in omega arith) | inr t ↦ absurd (let k : true ≡ false = sym here ∙ t.0 in cc) ]
+      | inl here ↦ (let h = eqb-true q 0 here in omega arith)
       | inr later ↦ elim (or_cases (eqb q v) (list_any (eqb q) vehicles) later) [
-        | inl here ↦ elim (eqb_tells q v) [ inl t ↦ (let h = t.1 in omega arith) | inr t ↦ absurd (let k : true ≡ false = sym here ∙ t.0 in cc) ]
+        | inl here ↦ (let h = eqb-true q v here in omega arith)
         | inr among ↦ below_all n log all q among
       ]
     ]) in

@@ -1,28 +1,21 @@
 -- The request of a name, by the table of stops.
-use Rattle.std.proofs.Common.{◌≡◌, ℕ, Option, Some, None, IsSome, refl, sym, ap, subst, ◌∙◌, inl, inr, nat_eq}
+use Rattle.std.proofs.Common.{◌≡◌, ℕ, Option, Some, None, IsSome, refl, sym, ap, subst, ◌∙◌, nat_eq}
 use Rattle.std.specs.Map.{lookup}
 use Rattle.std.specs.Option.{option_map}
 use Rattle.std.proofs.lemmas.Bool.{eq-eqb}
-use Rattle.std.proofs.lemmas.Bool.Decides.{eqb_tells}
 use Rattle.plan_types.specs.Instance.{Instance, IsInstance, stop_at, name_at, partner_at, request_with}
 use Rattle.plan_types.specs.Laws.{NamedAreFound, RequestsStandByName, IsFoundAt}
-use Rattle.plan_types.specs.Request.{request_name, stop_in, partner_in, IsRequest}
+use Rattle.plan_types.specs.Request.{request_name, stop_in, partner_in}
 use Rattle.plan_types.specs.declared.requests.Request.{Request}
 use Rattle.plan_types.specs.declared.requests.Request.TheVariants.{Single, Pair}
 use Rattle.plan_types.specs.declared.requests.Stop.{Stop}
+use Rattle.slack_tables.proofs.InsertLemmas.{delivery-found, request-valid}
 use Rattle.move_ops.proofs.Choosing.{name_of}
-use Rattle.move_ops.proofs.Inserting.{valid_request}
 use Rattle.move_ops.proofs.Times.{none_some, some_same}
 
 first_in : (r : Request) (n : ℕ) → request_name r ≡ n → IsSome (stop_in n r)
 first_in (Single s) n same = rw (eq-eqb s.number n same) refl
 first_in (Pair a b) n same = rw (eq-eqb a.number n same) refl
-
-second_in : (a b : Stop) → IsRequest (Pair a b) → stop_in b.number (Pair a b) ≡ Some b
-second_in a b valid = elim (eqb_tells a.number b.number) [
-  | inl t ↦ absurd (valid.2 t.1)
-  | inr t ↦ rw (t.0, eq-eqb b.number b.number refl) refl
-]
 
 module _ (law : NamedAreFound) (stand : RequestsStandByName) (p : Instance) (valid : IsInstance p) (n : ℕ) where
   -- it is found at its number
@@ -76,7 +69,7 @@ module _ (law : NamedAreFound) (stand : RequestsStandByName) (p : Instance) (val
       let x = named_at (Pair a b) at in
       let other : partner_in n (Pair a b) ≡ Some b.number = rw (eq-eqb a.number n x.1) refl in
       let same : b.number ≡ m = some_same b.number m (sym (x.0.partner ∙ other) ∙ is) in
-      let here = second_in a b (valid_request p.requests n (Pair a b) valid.valid at) in
+      let here = delivery-found a b (request-valid p n (Pair a b) valid at).2 in
       let some : IsSome (stop_in b.number (Pair a b)) = rw here refl in
       subst (λ k. stop_at p k ≡ Some b) same ((law p b.number n (Pair a b) valid at some).stop ∙ here)
 

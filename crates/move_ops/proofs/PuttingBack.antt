@@ -1,10 +1,9 @@
 -- A request that is taken out of a plan fits back into the places that it had, which gives the old plan.
-use Rattle.std.proofs.Common.{◌≡◌, ℕ, zero, suc, ◌-◌, ◌<◌, ◌≤◌, ◌||◌, ◌&&◌, Bool, true, false, not, leb, List, [], ◌∷◌, map, filter, length, set, get_or, Option, Some, None, slice_get, refl, sym, ap, subst, ◌∙◌, inl, inr, arith}
+use Rattle.std.proofs.Common.{◌≡◌, ℕ, zero, suc, ◌-◌, ◌<◌, ◌≤◌, ◌&&◌, Bool, true, false, not, leb, List, [], ◌∷◌, map, filter, length, set, get_or, Option, Some, None, slice_get, refl, sym, ap, subst, ◌∙◌, inl, inr, arith}
 use Rattle.std.specs.Prelude.{unwrap_or, IsTrue, MatchOption}
 use Rattle.std.specs.List.{concat, insert, list_all, Contains}
 use Rattle.std.specs.Option.{option_and_then, option_map, option_map_or}
-use Rattle.std.proofs.lemmas.Bool.{and_from, and_parts, cases_Bool, cases_lt, le-leb, or_cases}
-use Rattle.std.proofs.lemmas.Bool.Decides.{eqb_tells}
+use Rattle.std.proofs.lemmas.Bool.{and_from, and_parts, cases_Bool, cases_lt, le-leb, ne_eqb, or_cases}
 use Rattle.std.proofs.lemmas.List.{length-map}
 use Rattle.std.proofs.lemmas.Option.{slice_get-get_or, slice_get-map, slice_get_within}
 use Rattle.plan_types.specs.Cost.{cost_at_most, cost_below, BelowIsAtMost}
@@ -13,13 +12,13 @@ use Rattle.plan_types.specs.Laws.{NamedAreFound, RequestsStandByName}
 use Rattle.plan_types.specs.declared.requests.Request.{Request}
 use Rattle.plan_types.specs.declared.requests.Request.TheVariants.{Single, Pair}
 use Rattle.plan_types.specs.declared.requests.Stop.{Stop}
-use Rattle.route_sched.specs.Cost.{has_stop, is_planned, cost_of}
-use Rattle.plan_audit.specs.Laws.{IsPlanned, IsServedOnce, KeepsPins, PassesAreSound}
+use Rattle.route_sched.specs.Cost.{is_planned, cost_of}
+use Rattle.plan_audit.specs.Laws.{IsServedOnce, KeepsPins, PassesAreSound}
 use Rattle.plan_audit.specs.Locality.{PassesAreLocal, TestsSayPass}
 use Rattle.plan_audit.specs.Passes.{passes}
 use Rattle.plan_audit.specs.Rules.{Stands}
 use Rattle.plan_audit.specs.Verdict.{planned}
-use Rattle.plan_audit.proofs.ServedLemmas.{a_seat}
+use Rattle.plan_audit.proofs.PrintLemmas.{is_there}
 use Rattle.move_ops.specs.Drafts.{placed}
 use Rattle.move_ops.specs.Insertion.{Insertion, request_named, inserted, of_vehicle, passing, are_places, with_request_at, is_place_of, insertions, insertions_of, put_in, is_no_later, cost_with, is_no_worse, best_insertion}
 use Rattle.move_ops.specs.Laws.{BestInsertionsAreLeast, IsBest, IsRelocated, RelocationsNeverCostMore, RequestsKeepTheirPlaces}
@@ -112,32 +111,10 @@ behind_pin pins routes kept w k n route at stop free = by (slice_get pins w) ref
 
 -- ---- a request
 other_than_single : (s : Stop) (m : ℕ) → (m ≡ s.number → ⊥) → times m (numbers_of (Single s)) ≡ 0
-other_than_single s m apart = elim (eqb_tells m s.number) [
-  | inl t ↦ absurd (apart t.1)
-  | inr t ↦ (let e = none_here m s.number t.0 in omega arith)
-]
+other_than_single s m apart = let e = none_here m s.number (ne_eqb m s.number apart) in omega arith
 
 other_than_pair : (a b : Stop) (m : ℕ) → (m ≡ a.number → ⊥) → (m ≡ b.number → ⊥) → times m (numbers_of (Pair a b)) ≡ 0
-other_than_pair a b m apart away = elim (eqb_tells m a.number) [
-  | inl t ↦ absurd (apart t.1)
-  | inr t ↦ elim (eqb_tells m b.number) [
-    | inl u ↦ absurd (away u.1)
-    | inr u ↦ (let e = none_here m a.number t.0 in let f = none_here m b.number u.0 in omega arith)
-  ]
-]
-
-planned_somewhere : (routes : List (List ℕ)) (r : Request) → is_planned routes r ≡ true → IsPlanned routes r
-planned_somewhere routes (Single s) e = elim (or_cases (has_stop routes s.number) false e) [
-  | inl t ↦ a_seat routes s.number t
-  | inr t ↦ (let g : false ≡ true = t in absurd cc)
-]
-planned_somewhere routes (Pair a b) e = elim (or_cases (has_stop routes a.number) (has_stop routes b.number || false) e) [
-  | inl t ↦ inl (a_seat routes a.number t)
-  | inr t ↦ elim (or_cases (has_stop routes b.number) false t) [
-    | inl u ↦ inr (a_seat routes b.number u)
-    | inr u ↦ (let g : false ≡ true = u in absurd cc)
-  ]
-]
+other_than_pair a b m apart away = let e = none_here m a.number (ne_eqb m a.number apart) in let f = none_here m b.number (ne_eqb m b.number away) in omega arith
 
 module _ (keep : ℕ → Bool) (pins routes : List (List ℕ)) (pinned : KeepsPins routes pins) where
   abbrev left : List (List ℕ)
@@ -248,7 +225,7 @@ module _ (found : NamedAreFound) (by_name : RequestsStandByName) (local : Passes
   fits_back : (r : Request) → request_named p name ≡ Some r → is_movable pins routes r ≡ true → (x : Insertion) × FitsBack r x
   fits_back r named movable =
       let served = ((sound p (planned routes pins) (cost_of p routes) valid ((says p pins routes).0 good)).served) name r named
-      (planned_somewhere routes r (and_parts (is_planned routes r) (not (is_planned pins r)) movable).0) in
+      (is_there routes r (and_parts (is_planned routes r) (not (is_planned pins r)) movable).0) in
       let old = served_back keep pins routes ((parts local p pins routes good).pinned) r served
       (λ m some. ap not (stops_of_it found by_name p valid name [] r named m some))
       (λ m none. ap not (others_as found by_name p valid name [] r named m none ∙ none_named found by_name p valid m))

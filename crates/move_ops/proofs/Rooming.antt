@@ -6,9 +6,6 @@ use Rattle.move_ops.specs.Rooms.{AreRooms}
 use Rattle.move_ops.proofs.Times.{none_some, some_same}
 
 -- of no vehicle anything is known
-pub no_rooms : (courses : List Course) → AreRooms courses []
-no_rooms courses = record { each = λ k c x at none. absurd (none_some x none) }
-
 same_room : (a c : Course) (x y : ℤ) → IsRoom a x → Some a ≡ Some c → Some x ≡ Some y → IsRoom c y
 same_room a c x y is here there = subst (λ d. IsRoom d y) (some_same a c here) (subst (IsRoom a) (some_same x y there) is)
 

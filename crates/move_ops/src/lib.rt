@@ -4,15 +4,18 @@
 //! The search (`seeded_search`) works on a `Draft`, a plan that is changed in its place over kept tables, and
 //! so do the commands that put requests in. `insert_at`, `remove`, `exchange`, `two_opt_star` and
 //! `best_insertion` are the same from plan to plan: each makes a draft of the plan and asks it. `Tables` finds
-//! where requests are put in best, and leaves the plan to its caller.
+//! where requests are put in best, and leaves the plan to its caller. `of_vehicle`, `request_named` and `marks`
+//! look for a vehicle's route or pin, for the request of a name, and for the stops that routes have.
 //!
 //! Modules, in reading order:
 //! - `plan_moves`: the moves from plan to plan.
 //! - `draft`: the draft; in `draft/` its moves: `removing`, `rearranging` (exchange and 2-opt*), `placing`,
-//!   and `installing`, which they share; `foreseeing`, what an exchange or 2-opt* would cost.
+//!   and `installing`, which they share; `foreseeing`, what an exchange or 2-opt* would cost, by the ways that
+//!   it changes alone.
 //! - `lists`, `insert`, `removal`, `swap`: routes and pins by vehicle, and the stops of new routes.
 //! - `pairing`, `tour`, `tours`, `changes`: a route with its table, and what is asked of a new one.
-//! - `seats`, `naming`: where to look for a stop, and the request of a name.
+//! - `seats`, `naming`: where to look for a stop, marks at the stops of routes, and the request of a name.
+//! - `rooms`: what a single may ask of each vehicle at most.
 //! - `facts`: what is known of a problem that is only handed on.
 //! - `tables`: the best insertion, by a table for each vehicle.
 //! - `laws`: what the best insertion is, and that a request which is taken out has one, without code.
@@ -38,6 +41,8 @@
 //!   `placed`), `cost` is what it costs, `take` makes it the base and `drop_draft` forgets it, without
 //!   memory; `cost_exchanged` and `cost_crossed`, where they tell, are what the plan of the move costs, if it
 //!   makes one;
+//! - `of_vehicle` and `request_named` are the definitions of these names, and `marks` has for each number below
+//!   its length what `has_stop` says of it;
 //! - the laws: the best insertion is the least and the only one; the list of insertions holds those that can
 //!   be put in and no others; a request that is taken out fits where it was, and relocated the plan costs no
 //!   more; a plan that passes with its pins passes without them; the limits of which tables speak are the

@@ -46,7 +46,8 @@ pub(crate) fn unseat(seats: &mut [u32], stop: u32)
     }
 }
 
-/// For each number below `len` whether it is a stop of one of the routes.
+/// For each number below `len` whether it is a stop of one of the routes: so many marks in one list, where `has_stop` would look
+/// through all routes each time.
 pub fn marks(alloc: Global, routes: &[Route], len: usize) -> Result<Vec<bool>, OutOfMemory>
     ensures len { IfOk result (λ marks. length marks.items ≡ len) }
     ensures marks { IfOk result (λ marks. (n : ℕ) → n < length marks.items

@@ -75,7 +75,7 @@ cost-used p routes =
     ∙ ap (λ d. cost (unplanned_count p routes) (vehicle_count p.kind routes) d) (total-used p routes))
 
 -- ---- where none is unplanned, each is planned
-is_there : (routes : List (List ℕ)) (request : Request) → is_planned routes request ≡ true → IsPlanned routes request
+pub is_there : (routes : List (List ℕ)) (request : Request) → is_planned routes request ≡ true → IsPlanned routes request
 is_there routes (Single s) e = elim (or_cases (has_stop routes s.number) false e) [
   | inl t ↦ a_seat routes s.number t
   | inr t ↦ (let g : false ≡ true = t in absurd cc)

@@ -109,17 +109,17 @@ valid-among name (e ∷ es) r valid is = by (eqb name e.0) refl (λ found. valid
 pub request-valid : (p : Instance) (name : ℕ) (r : Request) → IsInstance p → request_named p name ≡ Some r → IsRequest r
 request-valid p name r valid is = valid-among name p.requests r valid.valid is
 
-single-found : (s : Stop) → stop_in s.number (Single s) ≡ Some s
+pub single-found : (s : Stop) → stop_in s.number (Single s) ≡ Some s
 single-found s = rw (eq-eqb s.number s.number refl) refl
 
 pickup-found : (p d : Stop) → stop_in p.number (Pair p d) ≡ Some p
 pickup-found p d = rw (eq-eqb p.number p.number refl) refl
 
-delivery-found : (p d : Stop) → p.number ≢ d.number → stop_in d.number (Pair p d) ≡ Some d
+pub delivery-found : (p d : Stop) → p.number ≢ d.number → stop_in d.number (Pair p d) ≡ Some d
 delivery-found p d apart = rw (ne_eqb p.number d.number apart, eq-eqb d.number d.number refl) refl
 
 -- a stop that the request has stands in the problem under its number
-stands : (p : Instance) (name : ℕ) (r : Request) (s : Stop) → NamedAreFound → IsInstance p → request_named p name ≡ Some r → IsStop s → stop_in s.number r ≡ Some s → stop_numbered p s.number ≡ s
+pub stands : (p : Instance) (name : ℕ) (r : Request) (s : Stop) → NamedAreFound → IsInstance p → request_named p name ≡ Some r → IsStop s → stop_in s.number r ≡ Some s → stop_numbered p s.number ≡ s
 stands p name r s law valid named stop own =
     numbered-is p s stop ((law p s.number name r valid named (subst (λ o. IsSome o) (sym own) refl)).stop ∙ own)
 

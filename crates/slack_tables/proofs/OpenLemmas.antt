@@ -1,12 +1,12 @@
 -- The places of a route, one after another on the way forward.
-use Rattle.std.proofs.Common.{◌≡◌, ℕ, ◌+◌, ◌^◌, ◌<◌, ◌≤◌, ◌⊎◌, true, false, eqb, List, get_or, length, Some, refl, sym, ap, ◌∙◌, arith, add-one, subst, inl, inr, set, length-set, get_or-set_same, get_or-set_other}
+use Rattle.std.proofs.Common.{◌≡◌, ℕ, ◌+◌, ◌^◌, ◌<◌, ◌≤◌, ◌⊎◌, true, eqb, List, get_or, length, refl, sym, ap, ◌∙◌, arith, add-one, subst, inl, inr, set, length-set, get_or-set_same, get_or-set_other}
 use Rattle.std.specs.List.{Any}
-use Rattle.std.proofs.lemmas.Bool.{cases_lt, ne_eqb, eqb-true}
+use Rattle.std.proofs.lemmas.Bool.{cases_lt, eqb-true}
 use Rattle.std.proofs.lemmas.List.{get_or_past}
 use Rattle.std.proofs.lemmas.List.Folds.{Any-from_list_any}
 use Rattle.std.proofs.lemmas.Map.Steps.{length-le_from_distinct_below}
-use Rattle.plan_types.specs.Limits.{IsStop, IsVisit}
-use Rattle.plan_types.specs.Instance.{Instance, IsInstance, stop_at}
+use Rattle.plan_types.specs.Limits.{IsVisit}
+use Rattle.plan_types.specs.Instance.{Instance, IsInstance}
 use Rattle.plan_types.specs.Laws.{StopsAreBelowNext}
 use Rattle.plan_types.specs.declared.requests.Stop.{Stop}
 use Rattle.route_sched.specs.Route.{AreLiveOnce, IsLive, place}
@@ -26,18 +26,11 @@ few_stops p numbers below valid once =
     by : (q : ℕ) → Any (λ x. eqb q x ≡ true) numbers → q < 40001
     by q any = let most = valid.next_to_most in let live : IsLive p q = rw (eqb-true q any.1 any.4, ← any.3) (once.live any.0 any.1 any.2) in let less = below p q valid live in omega arith
 
--- ---- the stop at a place
+-- ---- the stop behind the last place
 pub place-return : (p : Instance) (route : List ℕ) (k : ℕ) → length route ≤ k → place p route (k + 1) ≡ p.depot
 unfolding place
 place-return p route k h =
     let none : get_or route k 0 ≡ 0 = get_or_past route k 0 h in rw (add-one k, none) refl
-
-pub place-stop : (p : Instance) (route : List ℕ) (k n : ℕ) (s : Stop) → n ≡ get_or route k 0 → stop_at p n ≡ Some s → s.number ≡ n → IsStop s → place p route (k + 1) ≡ s
-unfolding place
-place-stop p route k n s at found is valid =
-    let here : get_or route k 0 ≡ n = sym at in
-    let positive : eqb n 0 ≡ false = ne_eqb n 0 (λ e. let one = valid.from_one in omega arith) in
-    rw (add-one k, here, positive, found) refl
 
 -- ---- the first place, and one more
 pub at-first : (stops : ℕ → Stop) (depot : Stop) → stops 0 ≡ depot → IsAt stops 0 (leaving depot)

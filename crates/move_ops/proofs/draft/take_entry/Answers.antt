@@ -3,9 +3,6 @@ use Rattle.std.proofs.lemmas.Option.{slice_get_read}
 use Rattle.move_ops.proofs.Logging.{within_without}
 use Rattle.move_ops.proofs.draft.take_entry.Goals as goal
 
-pub returns-clause-at : goal.returns-clause-at
-returns-clause-at c = slice_get_read c.args.log.now.items (length c.args.log.now.items) c.args.entry c.remove.result refl c.requires c.remove.ensures.value
-
 pub returns-clause-within : goal.returns-clause-within
 returns-clause-within c = λ n all.
     within_without n c.args.log.now.items c.args.entry c.remove.result (slice_get_read c.args.log.now.items (length c.args.log.now.items) c.args.entry c.remove.result refl c.requires c.remove.ensures.value) all

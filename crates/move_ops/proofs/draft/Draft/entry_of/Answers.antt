@@ -1,13 +1,7 @@
-use Rattle.std.proofs.Common.{rules, ◌≡◌, ◌∙◌, ℕ, List, Some, length, get_or, refl, sym, ap, subst}
-use Rattle.std.proofs.lemmas.List.{drop_all}
+use Rattle.std.proofs.Common.{rules, ◌≡◌, ◌∙◌, ℕ, List, Some, length, get_or, refl, ap, subst}
 use Rattle.std.proofs.lemmas.Option.{slice_get_read}
 use Rattle.slack_tables.specs.Course.{Course}
-use Rattle.move_ops.specs.Logged.{is_logged}
-use Rattle.move_ops.proofs.Logging.{logged_later}
 use Rattle.move_ops.proofs.draft.Draft.entry_of.Goals as goal
-
-pub loop-entry-init : goal.loop-entry-init
-loop-entry-init c = refl
 
 pub returns-then-index-vehicle : goal.returns-then-index-vehicle
 returns-then-index-vehicle c =
@@ -16,15 +10,3 @@ returns-then-index-vehicle c =
     let x = c.index.result.now in
     let at : x ≡ get_or log k x = subst (λ (l : List (ℕ × Course)). c.index.result.now ≡ get_or l c.loop-entry.entry c.index.result.now) (search rules) c.index.ensures in
     (x.1, slice_get_read log (length log) k x refl (search rules) at ∙ ap (λ (v : ℕ). Some (v, x.1)) c.if-index-vehicle.true)
-
-pub loop-entry-preserved : goal.loop-entry-preserved
-loop-entry-preserved c =
-    let log = c.args.self.now.log in
-    let k = c.loop-entry.entry in
-    let x = c.index.result.now in
-    let at : x ≡ get_or log k x = subst (λ (l : List (ℕ × Course)). c.index.result.now ≡ get_or l c.loop-entry.entry c.index.result.now) (search rules) c.index.ensures in
-    logged_later log k c.args.vehicle x at (search rules) c.if-index-vehicle.false ∙ c.loop-entry.invariant
-
-pub returns : goal.returns
-returns c =
-    sym c.loop-entry.invariant ∙ ap (λ (l : List (ℕ × Course)). is_logged l c.args.vehicle) (drop_all c.loop-entry.entry c.args.self.now.log (search rules))
