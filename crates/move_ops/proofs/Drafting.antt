@@ -22,7 +22,7 @@ use Rattle.move_ops.specs.Refreshing.{AreWithin}
 use Rattle.move_ops.proofs.Asked.{course_at, route_at}
 use Rattle.move_ops.proofs.Times.{some_same}
 use Rattle.move_ops.proofs.Replacing.{get_set, get_set_other, item_set_other}
-use Rattle.std.proofs.lemmas.Option.{slice_get_within}
+use Rattle.std.proofs.lemmas.Option.{slice_get_past, slice_get_within}
 
 -- ---- seats
 -- the number of a seat 0 has stayed, and is no stop seated now
@@ -73,6 +73,10 @@ front_with tours set_tours v tour old new is from idle more within =
     subst (AreIdleBehind new) (sym (ap plan_of is ∙ plan_with tours (v - 1) tour)) (idle_with (plan_of tours) v (route_of tour) old new from idle more within)
 
 -- behind all vehicles there is none
+pub idle_behind_all : (routes : List (List ℕ)) (k : ℕ) → length routes ≤ k → AreIdleBehind k routes
+idle_behind_all routes k all zero above = refl
+idle_behind_all routes k all (suc u) above = ap (λ (o : Option (List ℕ)). length (unwrap_or o [])) (slice_get_past routes u (omega arith))
+
 -- one vehicle less, which has no stops
 pub idle_before : (routes : List (List ℕ)) (k : ℕ) → AreIdleBehind (k + 1) routes → length (of_vehicle routes (k + 1)) ≡ 0 → AreIdleBehind k routes
 idle_before routes k idle none u above = elim (cases_lt (k + 1) u) [

@@ -1,6 +1,6 @@
 -- A request put into a route of a plan that passes.
 use Rattle.std.proofs.Common.{◌≡◌, ℕ, zero, suc, ◌+◌, ◌-◌, ◌<◌, ◌≤◌, ◌||◌, Bool, true, false, cond, eqb, ltb, leb, ◌&&◌, List, [], ◌∷◌, ◌++◌, length, take, drop, Some, None, IsSome, slice_get, refl, sym, subst, ◌∙◌, inl, inr, arith, rules, nat_eq}
-use Rattle.std.specs.List.{concat}
+use Rattle.std.specs.List.{AllByRecursion, concat}
 use Rattle.std.specs.Map.{lookup}
 use Rattle.std.proofs.lemmas.Bool.{cases_lt, cases_Bool, and_parts, eq-eqb, eqb-true, ne_eqb, ltb-true, leb-true, or_parts}
 use Rattle.std.proofs.lemmas.Bool.Decides.{eqb_tells}
@@ -17,7 +17,7 @@ use Rattle.plan_audit.specs.Alone.{IsFeasibleAlone}
 use Rattle.plan_audit.specs.Locality.{PassesAreLocal, TestsSayFeasible}
 use Rattle.plan_audit.specs.Passes.{feasible_alone, passes}
 use Rattle.plan_audit.specs.Rules.{item_at}
-use Rattle.slack_tables.proofs.InsertLemmas.{request-valid}
+use Rattle.slack_tables.proofs.InsertLemmas.{request-valid, valid-among}
 use Rattle.move_ops.specs.Insertion.{Insertion, put_at, inserted, of_vehicle, with_route, with_request_at, are_places, is_place_of, put_in}
 use Rattle.move_ops.proofs.Times.{none_some, times, one_here, none_here, times-append, times_split, once_from, once_few, once_live, none_anywhere}
 use Rattle.move_ops.proofs.Replacing.{within_list, times_with, times_in_vehicle, pins_with, same_vehicle, all_at, parts, passes_too}
@@ -52,6 +52,9 @@ front_inserted (Pair a b) route i j k n below order at = front_put (put_at route
 -- the request's stops are live, and stand in no route
 pub found_live : NamedAreFound → (p : Instance) (name n : ℕ) (r : Request) → IsInstance p → lookup (nat_eq name) p.requests ≡ Some r → IsSome (stop_in n r) → IsLive p n
 found_live found p name n r valid at some = subst (λ o. IsSome o) (sym (found p n name r valid at some).stop) some
+
+pub valid_request : (es : List (ℕ × Request)) (name : ℕ) (r : Request) → AllByRecursion (λ e. IsRequest e.1) es → lookup (nat_eq name) es ≡ Some r → IsRequest r
+valid_request es name r valid at = valid-among name es r valid at
 
 pub in_numbers : (n : ℕ) (r : Request) → 1 ≤ times n (numbers_of r) → IsSome (stop_in n r)
 in_numbers n (Single s) some = elim (eqb_tells n s.number) [

@@ -98,7 +98,7 @@ numbered-is p s valid found =
     let positive : eqb s.number 0 ≡ false = ne_eqb s.number 0 (λ e. let one = valid.from_one in omega arith) in
     rw (positive, found) refl
 
-valid-among : (name : ℕ) (es : List (ℕ × Request)) (r : Request) → AllByRecursion (λ e. IsRequest e.1) es → lookup (nat_eq name) es ≡ Some r → IsRequest r
+pub valid-among : (name : ℕ) (es : List (ℕ × Request)) (r : Request) → AllByRecursion (λ e. IsRequest e.1) es → lookup (nat_eq name) es ≡ Some r → IsRequest r
 valid-among name [] r valid is = absurd (cc)
 valid-among name (e ∷ es) r valid is = by (eqb name e.0) refl (λ found. valid-among name es r valid.1 found)
   where
