@@ -17,7 +17,7 @@ use Rattle.command_core.proofs.PassLemmas.{Agree}
 at_most : (a b : ℤ) → int_le a b ≡ true → a ≤ℤ b
 at_most a b test = le_z_yes (subst T (sym test) tt)
 
-coordinate : (x : ℤ) → is_coordinate x ≡ true → IsCoordinate x
+pub coordinate : (x : ℤ) → is_coordinate x ≡ true → IsCoordinate x
 coordinate x test = let both = and_parts (int_le (negsuc 999999) x) (int_le x (pos 1000000)) test in (at_most _ _ both.0, at_most _ _ both.1)
 
 -- a spot within its limits is where and when a stop can be

@@ -1,8 +1,9 @@
 //! The state of a planner, and what each command makes of it. No bytes, no device, no text.
 //!
-//! Entry functions: `check` tells whether a state accepts a command, `apply` gives the state that it makes, and a
-//! `Planner` is a state that commands change in its place: a session's (`recover`), and a solving's (`plan_solve`).
-//! `state_codec` and `checkpoint` write and read the types, `command_text` the answers (`unplanned_names`).
+//! Entry functions: `check` tells whether a state accepts a command, and a `Planner` is a state that commands change in
+//! its place: a session's (`recover`), and a solving's (`plan_solve`). `apply` makes the new state beside the old one;
+//! the program has no use for it, and tests try each command by it. `state_codec` and `checkpoint` write and read the
+//! types, `command_text` the answers (`unplanned_names`).
 //!
 //! Source: this project's own. Requests come in (`Add`, `Add1`), go (`Withdraw`) and are planned (`Build`, `Search`,
 //! `Anneal`); `Pin` and `Unpin` say which stops a vehicle keeps at the front of its route.
@@ -72,7 +73,9 @@ pub use laws::{
     accepted_commands_fit_records, annealings_add_up, costs_never_rise, effects_keep_facts,
     given_numbers_are_new, plans_never_cost_more, searches_add_up,
 };
-pub use limits::{MAX_ANNEAL_COUNT, MAX_COUNT, MAX_DEVIATION, MAX_STEPS};
+pub use limits::{
+    MAX_ANNEAL_COUNT, MAX_COUNT, MAX_DEVIATION, MAX_STEPS, is_coordinate, is_demand, is_spot,
+};
 pub use marks::unplanned_names;
 pub use planners::Planner;
 pub use refusals::Refusal;

@@ -15,14 +15,14 @@ pub const MAX_COUNT: u16 = 256;
 pub const MAX_ANNEAL_COUNT: u32 = 65_536;
 
 /// Whether goods to be picked up or delivered keep the limit of a demand.
-pub(crate) fn is_demand(demand: u32) -> bool
+pub fn is_demand(demand: u32) -> bool
     ensures { result ≡ is_demand demand }
 {
     demand <= MAX_DEMAND as u32
 }
 
 /// Whether coordinates, window and service keep the limits of a stop.
-pub(crate) fn is_spot(spot: &Spot) -> bool
+pub fn is_spot(spot: &Spot) -> bool
     ensures { result ≡ is_spot spot.now }
 {
     is_coordinate(spot.x)
@@ -32,7 +32,8 @@ pub(crate) fn is_spot(spot: &Spot) -> bool
         && spot.service <= MAX_SERVICE
 }
 
-fn is_coordinate(x: i32) -> bool
+/// Whether an x or a y keeps the limits of a stop.
+pub fn is_coordinate(x: i32) -> bool
     ensures { result ≡ is_coordinate x }
 {
     -MAX_COORDINATE <= x && x <= MAX_COORDINATE

@@ -1,7 +1,7 @@
 //! Why a command is refused.
 ghost use Rattle.std.specs.Prelude.{◌≡◌};
 
-use std::alloc::{AllocError, AllocFailed};
+use std::alloc::AllocError;
 use thiserror::Error;
 
 /// Why a command is refused. The cases stand in the order in which they are told; memory is asked for after the others.
@@ -55,17 +55,6 @@ impl From<AllocError> for Refusal {
     ghost from_gives = { λ _ refusal. refusal ≡ OutOfMemory };
 
     fn from(_: AllocError) -> Refusal {
-        Refusal::OutOfMemory
-    }
-}
-
-impl<T: Drop> From<AllocFailed<T>> for Refusal {
-    ghost use Rattle.std.specs.Prelude.{◌≡◌};
-    ghost use Rattle.command_core.specs.declared.refusals.Refusal.TheVariants.{OutOfMemory};
-
-    ghost from_gives = { λ _ refusal. refusal ≡ OutOfMemory };
-
-    fn from(_: AllocFailed<T>) -> Refusal {
         Refusal::OutOfMemory
     }
 }
