@@ -10,6 +10,7 @@ use Rattle.std.specs.Option.{option_or}
 use Rattle.std.proofs.lemmas.Int.{ints}
 use Rattle.std.proofs.lemmas.List.{append-nil}
 use Rattle.std.proofs.lemmas.List.Folds.{list_all-append}
+use Rattle.std.proofs.lemmas.Bool.{lt-ltb, le-leb, and_from}
 use Rattle.plan_types.specs.Laws.{StopsAreBelowNext}
 use Rattle.plan_types.specs.Limits.{IsStop, IsDemand}
 use Rattle.plan_types.specs.Request.{IsRequest, request_name, stop_in}
@@ -26,16 +27,13 @@ use Rattle.state_codec.specs.Limits.{most, IsJobOf}
 use Rattle.state_codec.specs.Fields.{byte_at, number_at}
 use Rattle.state_codec.specs.Reading.{is_free, is_name, is_delivery, is_wanted, first_at, delivery_at, single_at, pair_at, request_at, times, next_request, next_route, next_vehicle, work_at, problem_at, job_at, state_at, whole_at}
 use Rattle.state_codec.proofs.FieldLaws.{number_again, only_again, small}
-use Rattle.state_codec.proofs.RequestLaws.{visit_again, parts_and, is_le, is_demand-holds, int_eq-same, IsNew}
+use Rattle.state_codec.proofs.RequestLaws.{visit_again, is_demand-holds, int_eq-same, IsNew}
 use Rattle.state_codec.proofs.TimesLaws.{AreNext, times_again, added_behind}
 use Rattle.state_codec.proofs.RouteLaws.{IsWritable, HaveRoom, routes_again, more_vehicles}
 use Rattle.state_codec.proofs.HeadLaws.{head_text, head_again, IsHeadOf, IsAllowance}
 use Rattle.state_codec.proofs.SizeLemmas.{sizes, AreBelow, requests_below, short_routes}
 
 -- ---- one request
-
-is_lt : (a b : ℕ) → a < b → nat_lt a b ≡ true
-is_lt a b h = grind (arith, h)
 
 room : (v : Version) (next n : ℕ) → next ≤ most v + 1 → n < next → n < 256 ^ width v
 room One next n h lt = omega (arith, h, lt)
@@ -62,11 +60,11 @@ not_eq a b h = grind (arith, h)
 request_again : (v : Version) (next : ℕ) (before : List (ℕ × Request)) (r : Request) (rest : List ℕ) → next ≤ most v + 1 → IsNew next before r → request_at v next before (request_bytes v r ++ rest) ≡ Ok (r, rest)
 unfolding request_at byte_at single_at pair_at
 request_again v next before (Single s) rest most-is new =
-    let name : is_name next before s.number ≡ true = parts_and _ _ (is_le 1 s.number new.request.0.from_one) (parts_and _ _ (is_lt s.number next new.below.0) (parts_and _ _ new.names new.free.0)) in
+    let name : is_name next before s.number ≡ true = and_from _ _ (le-leb 1 s.number new.request.0.from_one) (and_from _ _ (lt-ltb s.number next new.below.0) (and_from _ _ new.names new.free.0)) in
     rw (first_again v next before s rest most-is new.request.0 new.request.1 name new.below.0) refl
 request_again v next before (Pair p d) rest most-is new =
-    let name : is_name next before p.number ≡ true = parts_and _ _ (is_le 1 p.number new.request.0.from_one) (parts_and _ _ (is_lt p.number next new.below.0) (parts_and _ _ new.names new.free.0)) in
-    let other : is_delivery next before p.number d.number ≡ true = parts_and _ _ (is_le 1 d.number new.request.1.from_one) (parts_and _ _ (is_lt d.number next new.below.1.0) (parts_and _ _ (not_eq d.number p.number new.request.2) new.free.1.0)) in
+    let name : is_name next before p.number ≡ true = and_from _ _ (le-leb 1 p.number new.request.0.from_one) (and_from _ _ (lt-ltb p.number next new.below.0) (and_from _ _ new.names new.free.0)) in
+    let other : is_delivery next before p.number d.number ≡ true = and_from _ _ (le-leb 1 d.number new.request.1.from_one) (and_from _ _ (lt-ltb d.number next new.below.1.0) (and_from _ _ (not_eq d.number p.number new.request.2) new.free.1.0)) in
     let second = stop_bytes v d ++ rest in
     ap (λ t. request_at v next before (2 ∷ t)) (append_assoc (stop_bytes v p) (stop_bytes v d) rest)
     ∙ rw (first_again v next before p second most-is new.request.0 new.request.3 name new.below.0)

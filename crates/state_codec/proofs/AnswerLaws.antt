@@ -1,7 +1,7 @@
 -- Bytes that were read whole are those of a state that keeps its facts, or a rule refuses them.
 use Rattle.std.proofs.Common.{◌≡◌, ◌≢◌, ◌⊎◌, ℕ, suc, ◌<◌, true, All, List, [], ◌∷◌, length, Option, Some, None, Result, Ok, Err, refl, ap, subst, ◌∙◌, arith, inl, inr}
 use Rattle.std.specs.List.{list_all}
-use Rattle.std.proofs.lemmas.Bool.{cases_lt}
+use Rattle.std.proofs.lemmas.Bool.{cases_lt, and_from}
 use Rattle.std.proofs.lemmas.List.{get_or_past}
 use Rattle.plan_types.specs.Instance.{Instance, IsInstance}
 use Rattle.plan_types.specs.Laws.{PutGivesProblem}
@@ -27,7 +27,6 @@ use Rattle.state_codec.proofs.FieldLaws.{IsBytes}
 use Rattle.state_codec.proofs.GrowLaws.{whole_faults}
 use Rattle.state_codec.proofs.JobLaws.{whole_takes, IsReadJob}
 use Rattle.state_codec.proofs.ProblemLaws.{whole_problem}
-use Rattle.state_codec.proofs.RequestLaws.{parts_and}
 
 module _ (verdict : PlansHaveVerdicts) (asked : RoutesHaveAnswers) (pass : TestsSayPass) (feasible : TestsSayFeasible) (once : PinsAreLiveOnce) where
   all_live : (p : Instance) (pin : List ℕ) (pins : List (List ℕ)) → All (AreLiveOnce p) (pin ∷ pins) → AreLiveOnce p pin × All (AreLiveOnce p) pins
@@ -39,7 +38,7 @@ module _ (verdict : PlansHaveVerdicts) (asked : RoutesHaveAnswers) (pass : Tests
       let parts = all_live p pin pins live in
       elim (asked p pin parts.0) [
         | inl ok ↦ (elim (pins_asked p pins parts.1) [
-          | inl more ↦ inl (parts_and (feasible_alone p pin) (list_all (feasible_alone p) pins) ((feasible p pin).1 ok) more)
+          | inl more ↦ inl (and_from (feasible_alone p pin) (list_all (feasible_alone p) pins) ((feasible p pin).1 ok) more)
           | inr more ↦ inr (more.0, inr (ok, more.1))
         ])
         | inr fault ↦ inr (fault.0, inl fault.1)

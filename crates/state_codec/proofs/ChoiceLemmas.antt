@@ -1,21 +1,20 @@
 -- Whether a sector is a record, and of which command.
-use Rattle.std.proofs.Common.{◌≡◌, ◌≢◌, ◌⊎◌, ℕ, ◌<◌, ◌≤◌, ◌^◌, ℤ, Bool, true, false, List, [], ◌∷◌, drop, Ok, Err, refl, sym, ap, subst, ◌∙◌, arith, inl, inr}
+use Rattle.std.proofs.Common.{◌≡◌, ◌≢◌, ◌⊎◌, ℕ, ◌<◌, ◌≤◌, ◌^◌, Bool, true, false, List, [], ◌∷◌, drop, Ok, Err, refl, sym, ap, subst, ◌∙◌, arith, inl, inr}
+use Rattle.std.specs.Prelude.{◌&&◌}
 use Rattle.std.proofs.lemmas.Bool.{cases_lt}
 use Rattle.std.proofs.lemmas.Bool.Decides.{eqb_tells}
-use Rattle.plan_types.specs.Limits.{IsCoordinate}
-use Rattle.command_core.specs.declared.commands.Spot.{Spot}
+use Rattle.command_core.specs.Wishes.{is_spot, is_demand}
 use Rattle.command_core.specs.declared.commands.Command.{Command}
 use Rattle.command_core.specs.declared.commands.Command.TheVariants.{Load, Add, Add1, Withdraw, Pin, Unpin, Build, Search, Checkpoint, Deviation, Anneal}
 use Rattle.state_codec.specs.declared.version.Version.{Version}
 use Rattle.state_codec.specs.declared.version.Version.TheVariants.{One, Two}
 use Rattle.state_codec.specs.Bytes.{record_bytes, width}
-use Rattle.state_codec.specs.Fields.{Field, is_coordinate}
+use Rattle.state_codec.specs.Fields.{Field}
 use Rattle.state_codec.specs.Laws.{RecordsAreDecided}
-use Rattle.state_codec.specs.Limits.{IsSpot, IsDeviationOf, IsRecorded}
+use Rattle.state_codec.specs.Limits.{IsDeviationOf, IsRecorded}
 use Rattle.state_codec.specs.Records.{command_at}
 use Rattle.state_codec.proofs.FieldLaws.{ok_is}
 use Rattle.state_codec.proofs.RecordLaws.{record_again}
-use Rattle.state_codec.proofs.RequestLaws.{coordinate_is, is_coordinate-holds}
 
 -- it holds, or it doesn't
 abbrev pub Settled : Type 0 → Type 0
@@ -42,14 +41,8 @@ below a b = elim (cases_lt a b) [
   | inr le ↦ inr (λ h. omega (arith, le, h))
 ]
 
-coordinate : (x : ℤ) → Settled (IsCoordinate x)
-coordinate x = by_test (is_coordinate x) (coordinate_is x) (is_coordinate-holds x)
-
-spot : (s : Spot) → Settled (IsSpot s)
-spot s = elim (settled_both (settled_both (coordinate s.x) (coordinate s.y)) (settled_both (at_most s.earliest s.latest) (settled_both (at_most s.latest 100000000) (at_most s.service 1000000)))) [
-  | inl p ↦ inl (record { x = p.0.0; y = p.0.1; window = p.1.0; latest = p.1.1.0; service = p.1.1.1 })
-  | inr n ↦ inr (λ h. n ((h.x, h.y), (h.window, (h.latest, h.service))))
-]
+holds : (b : Bool) → Settled (b ≡ true)
+holds b = by_test b (λ h. h) (λ h. h)
 
 deviation : (v : Version) (d : ℕ) → Settled (IsDeviationOf v d)
 deviation One d = inr (λ h. h)
@@ -57,11 +50,8 @@ deviation Two d = at_most d 1000000000
 
 recorded : (v : Version) (c : Command) → Settled (IsRecorded v c)
 recorded v (Load problem seed) = inr (λ h. h)
-recorded v (Add demand pickup delivery) = elim (settled_both (at_most demand 1000000) (settled_both (spot pickup) (spot delivery))) [
-  | inl p ↦ inl (p.0, p.1.0, p.1.1)
-  | inr n ↦ inr (λ h. n (h.0, (h.1, h.2)))
-]
-recorded v (Add1 demand s) = settled_both (at_most demand 1000000) (spot s)
+recorded v (Add demand pickup delivery) = holds (is_demand demand && (is_spot pickup && is_spot delivery))
+recorded v (Add1 demand spot) = holds (is_demand demand && is_spot spot)
 recorded v (Withdraw name) = below name (256 ^ width v)
 recorded v (Pin vehicle k) = settled_both (below vehicle (256 ^ width v)) (below k (256 ^ width v))
 recorded v (Unpin vehicle) = below vehicle (256 ^ width v)

@@ -1,6 +1,7 @@
 -- What decoding answers, by what was read and how it was judged.
 use Rattle.std.proofs.Common.{◌≡◌, ◌⊎◌, ℕ, ◌<◌, ◌≤◌, arith, List, [], ◌∷◌, ◌++◌, Option, Some, None, Result, Ok, Err, refl, sym, ap, subst, ◌∙◌, true, inl, inr}
 use Rattle.std.specs.List.{list_all}
+use Rattle.std.proofs.lemmas.Bool.{and_parts}
 use Rattle.plan_types.specs.Instance.{Instance}
 use Rattle.plan_types.specs.Laws.{StopsAreBelowNext}
 use Rattle.route_sched.specs.Cost.{cost_of}
@@ -24,7 +25,6 @@ use Rattle.state_codec.specs.Reading.{whole_at}
 use Rattle.state_codec.specs.Laws.{StatesDiffer, StatesHaveNoFault, FaultsAreOne, IsOfWhole, BadFieldsStay, BytesBehindAreBad, FrontsAreTruncated}
 use Rattle.state_codec.specs.Refused.{Decodes, IsDecoded, option_of, IsUnlessMemory, IsRefused, IsPlanRefused, IsPinRefused, TellsRule}
 use Rattle.state_codec.proofs.FieldLaws.{IsBytes}
-use Rattle.state_codec.proofs.RequestLaws.{and_parts}
 use Rattle.state_codec.proofs.AgainLaws.{whole_again, empty_again}
 use Rattle.state_codec.proofs.JobLaws.{whole_takes}
 use Rattle.state_codec.proofs.GrowLaws.{whole_is_plain, whole_stays, whole_and_more, front_is_cut}

@@ -17,7 +17,7 @@ use Rattle.state_codec.specs.declared.version.Version.TheVariants.{One, Two}
 use Rattle.state_codec.specs.declared.fault.CodecFault.{CodecFault}
 use Rattle.state_codec.specs.declared.fault.CodecFault.TheVariants.{Truncated, BadField, PlanRefused}
 use Rattle.state_codec.specs.Bytes.{width}
-use Rattle.state_codec.specs.Fields.{◌>>=◌, Field, only, byte_at, number_at, signed_at}
+use Rattle.state_codec.specs.Fields.{◌>>=◌, Field, only, byte_at, number_at, signed_at, point_at, window_at}
 use Rattle.state_codec.specs.Reading.{visit_at, first_at, delivery_at, single_at, pair_at, request_at, times, next_request, next_stop, vehicle_at, next_vehicle, route_at, next_route, work_at, kind_at, depot_at, allowance_at, head_at, problem_at, job_at, state_at, whole_at}
 use Rattle.state_codec.proofs.FieldLaws.{bind_ok, ok_is}
 
@@ -93,23 +93,25 @@ module _ (more : List ℕ) where
   unfolding signed_at
   signed bytes = front (λ b. cast_signed w32 (big_number 4 b)) 4 bytes (λ long. ap (cast_signed w32) (big_from-append 4 bytes more long))
 
+  point : Grow point_at
+  unfolding point_at
+  point bytes = bind _ _ _ (kept _ _ _ (signed bytes)) (λ x. bind _ _ _ (kept _ _ _ (signed x.1)) (λ y. done _))
+
+  window : Grow window_at
+  unfolding window_at
+  window bytes = bind _ _ _ (kept _ _ _ (number 4 bytes)) (λ a. bind _ _ _ (kept _ _ _ (number 4 a.1)) (λ b. done _))
+
   visit : (n : ℕ) (wanted : Option ℤ) → Grow (visit_at n wanted)
   unfolding visit_at
   visit n wanted bytes =
-      bind _ _ _ (kept _ _ _ (signed bytes)) (λ x.
-      bind _ _ _ (kept _ _ _ (signed x.1)) (λ y.
-      bind _ _ _ (kept _ _ _ (signed y.1)) (λ q.
-      bind _ _ _ (kept _ _ _ (number 4 q.1)) (λ a.
-      bind _ _ _ (kept _ _ _ (number 4 a.1)) (λ b.
-      bind _ _ _ (kept _ _ _ (number 4 b.1)) (λ d. done _))))))
+      bind _ _ _ (point bytes) (λ p.
+      bind _ _ _ (kept _ _ _ (signed p.1)) (λ q.
+      bind _ _ _ (window q.1) (λ w.
+      bind _ _ _ (kept _ _ _ (number 4 w.1)) (λ d. done _))))
 
   depot : Grow depot_at
   unfolding depot_at
-  depot bytes =
-      bind _ _ _ (kept _ _ _ (signed bytes)) (λ x.
-      bind _ _ _ (kept _ _ _ (signed x.1)) (λ y.
-      bind _ _ _ (kept _ _ _ (number 4 y.1)) (λ a.
-      bind _ _ _ (kept _ _ _ (number 4 a.1)) (λ b. done _))))
+  depot bytes = bind _ _ _ (point bytes) (λ p. bind _ _ _ (window p.1) (λ w. done _))
 
   first : (v : Version) (next : ℕ) (before : List (ℕ × Request)) → Grow (first_at v next before)
   unfolding first_at

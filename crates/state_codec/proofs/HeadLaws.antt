@@ -1,8 +1,8 @@
 -- What stands before the requests is read as it was written.
 use Rattle.std.proofs.Common.{◌≡◌, ℕ, ◌+◌, ◌^◌, ◌<◌, ◌≤◌, ℤ, pos, Bool, true, false, cond, List, [], ◌∷◌, ◌++◌, Ok, Err, refl, sym, ap, subst, ◌∙◌, append_assoc, arith}
 use Rattle.std.specs.Prelude.{nat_le, ◌&&◌, ◌==◌}
-use Rattle.std.proofs.lemmas.Bool.{eqb-true}
-use Rattle.plan_types.specs.Limits.{IsCoordinate, IsVisit, IsDepot}
+use Rattle.std.proofs.lemmas.Bool.{eqb-true, leb-true, le-leb, and_parts, and_from}
+use Rattle.plan_types.specs.Limits.{IsVisit, IsDepot}
 use Rattle.plan_types.specs.declared.requests.Stop.{Stop}
 use Rattle.plan_types.specs.declared.requests.Kind.{Kind}
 use Rattle.plan_types.specs.declared.requests.Kind.TheVariants.{LiLim, Vrp}
@@ -12,11 +12,11 @@ use Rattle.state_codec.specs.declared.version.Version.TheVariants.{One, Two}
 use Rattle.state_codec.specs.declared.fault.CodecFault.TheVariants.{BadField}
 use Rattle.state_codec.specs.Bytes.{number_bytes, signed_bytes, count_bytes, kind_code, depot_bytes, deviation_bytes, width}
 use Rattle.state_codec.specs.Limits.{most}
-use Rattle.state_codec.specs.Fields.{only, byte_at, number_at, signed_at, is_coordinate, is_time}
+use Rattle.state_codec.specs.Fields.{only, byte_at, number_at, point_at, window_at}
 use Rattle.state_codec.specs.Reading.{kind_at, is_steps, is_capacity, is_fleet, is_next, is_deviation, depot_at, allowance_at, head_at}
 use Rattle.state_codec.specs.Parts.{IsHead}
-use Rattle.state_codec.proofs.FieldLaws.{IsBytes, Takes, takes_then, step, ok_is, number_takes, number_again, signed_again, small, of_4, of_8, of_width, only_again}
-use Rattle.state_codec.proofs.RequestLaws.{and_parts, parts_and, le_is, is_le, number_only, coordinate_takes, is_coordinate-holds, byte_takes}
+use Rattle.state_codec.proofs.FieldLaws.{IsBytes, Takes, takes_then, step, ok_is, number_takes, number_again, of_4, of_8, of_width, only_again}
+use Rattle.state_codec.proofs.RequestLaws.{number_only, byte_takes, point_bytes, IsPoint, point_takes, point_again, window_bytes, IsWindow, window_takes, window_again}
 
 -- ---- the kind
 
@@ -42,17 +42,13 @@ kind_again Vrp rest = refl
 depot_takes : (bytes : List ℕ) → IsBytes bytes → (y : Stop × List ℕ) → depot_at bytes ≡ Ok y → Takes bytes (depot_bytes y.0) y.1 × IsDepot y.0
 unfolding depot_at
 depot_takes bytes fits y e =
-    step (only is_coordinate (signed_at bytes)) _ y bytes signed_bytes IsCoordinate (coordinate_takes bytes fits) e (λ x tx px ex.
-    step (only is_coordinate (signed_at x.1)) _ y x.1 signed_bytes IsCoordinate (coordinate_takes x.1 tx.rest_fits) ex (λ v tv pv ev.
-    step (only is_time (number_at 4 v.1)) _ y v.1 (number_bytes 4) (λ t. is_time t ≡ true) (number_only is_time 4 (number_takes 4 of_4) v.1 tv.rest_fits) ev (λ a ta pa ea.
-    step (only (λ t. nat_le a.0 t && is_time t) (number_at 4 a.1)) _ y a.1 (number_bytes 4) (λ t. (nat_le a.0 t && is_time t) ≡ true) (number_only (λ t. nat_le a.0 t && is_time t) 4 (number_takes 4 of_4) a.1 ta.rest_fits) ea (λ b tb pb eb.
-    let made : Stop = record { number = 0; x = x.0; y = v.0; demand = pos 0; earliest = a.0; latest = b.0; service = 0 } in
-    let window = and_parts (nat_le a.0 b.0) (is_time b.0) pb in
-    let t2 = takes_then v.1 (number_bytes 4 a.0) a.1 (number_bytes 4 b.0) b.1 ta tb in
-    let t1 = takes_then x.1 (signed_bytes v.0) v.1 (number_bytes 4 a.0 ++ number_bytes 4 b.0) b.1 tv t2 in
-    let t0 = takes_then bytes (signed_bytes x.0) x.1 (signed_bytes v.0 ++ (number_bytes 4 a.0 ++ number_bytes 4 b.0)) b.1 tx t1 in
-    let visit : IsVisit made = record { x = px; y = pv; window = le_is a.0 b.0 window.0; latest = le_is b.0 100000000 window.1; service = omega arith } in
-    subst (λ (z : Stop × List ℕ). Takes bytes (depot_bytes z.0) z.1 × IsDepot z.0) (ok_is (made, b.1) y eb) (t0, record { number = refl; demand = refl; service = refl; visit = visit })))))
+    step (point_at bytes) _ y bytes point_bytes IsPoint (point_takes bytes fits) e (λ p tp pp ep.
+    step (window_at p.1) _ y p.1 window_bytes IsWindow (window_takes p.1 tp.rest_fits) ep (λ w tw pw ew.
+    let made : Stop = record { number = 0; x = p.0.0; y = p.0.1; demand = pos 0; earliest = w.0.0; latest = w.0.1; service = 0 } in
+    let all = takes_then bytes (point_bytes p.0) p.1 (window_bytes w.0) w.1 tp tw in
+    let regrouped : point_bytes p.0 ++ window_bytes w.0 ≡ depot_bytes made = simp append_assoc in
+    let visit : IsVisit made = record { x = pp.0; y = pp.1; window = pw.0; latest = pw.1; service = omega arith } in
+    subst (λ (z : Stop × List ℕ). Takes bytes (depot_bytes z.0) z.1 × IsDepot z.0) (ok_is (made, w.1) y ew) (subst (λ t. Takes bytes t w.1) regrouped all, record { number = refl; demand = refl; service = refl; visit = visit })))
 
 abbrev with_depot : Stop → ℕ → ℤ → ℕ → Stop
 with_depot s n q t = record { number = n; x = s.x; y = s.y; demand = q; earliest = s.earliest; latest = s.latest; service = t }
@@ -64,17 +60,12 @@ depot_again : (s : Stop) (rest : List ℕ) → IsDepot s → depot_at (depot_byt
 unfolding depot_at
 depot_again s rest is =
     let visit = is.visit in
-    let latest = number_bytes 4 s.latest ++ rest in
-    let earliest = number_bytes 4 s.earliest ++ latest in
-    let y = signed_bytes s.y ++ earliest in
-    let regrouped : depot_bytes s ++ rest ≡ signed_bytes s.x ++ y = simp append_assoc in
-    let window : (nat_le s.earliest s.latest && is_time s.latest) ≡ true = parts_and _ _ (is_le s.earliest s.latest visit.window) (is_le s.latest 100000000 visit.latest) in
+    let window = window_bytes (s.earliest, s.latest) ++ rest in
+    let regrouped : depot_bytes s ++ rest ≡ point_bytes (s.x, s.y) ++ window = simp append_assoc in
     ap depot_at regrouped
-    ∙ rw (only_again is_coordinate (signed_at (signed_bytes s.x ++ y)) (s.x, y) (signed_again s.x y (small s.x visit.x.0 visit.x.1)) (is_coordinate-holds s.x visit.x))
-    (rw (only_again is_coordinate (signed_at y) (s.y, earliest) (signed_again s.y earliest (small s.y visit.y.0 visit.y.1)) (is_coordinate-holds s.y visit.y))
-    (rw (only_again is_time (number_at 4 earliest) (s.earliest, latest) (number_again 4 s.earliest latest (omega (arith, visit.window, visit.latest))) (is_le s.earliest 100000000 (omega (arith, visit.window, visit.latest))))
-    (rw (only_again (λ t. nat_le s.earliest t && is_time t) (number_at 4 latest) (s.latest, rest) (number_again 4 s.latest rest (omega (arith, visit.latest))) window)
-    (ap (λ (z : Stop). Ok (z, rest)) (depot_is s is)))))
+    ∙ rw (point_again (s.x, s.y) window (visit.x, visit.y))
+    (rw (window_again (s.earliest, s.latest) rest (visit.window, visit.latest))
+    (ap (λ (z : Stop). Ok (z, rest)) (depot_is s is)))
 
 -- ---- the deviation
 
@@ -84,11 +75,11 @@ IsAllowance Two d = d ≤ 1000000000
 
 allowance_takes : (v : Version) (bytes : List ℕ) → IsBytes bytes → (y : ℕ × List ℕ) → allowance_at v bytes ≡ Ok y → Takes bytes (deviation_bytes v y.0) y.1 × IsAllowance v y.0
 allowance_takes One bytes fits y e = subst (λ (z : ℕ × List ℕ). Takes bytes [] z.1 × (z.0 ≡ 0)) (ok_is (0, bytes) y e) (record { parts = refl; rest_fits = fits }, refl)
-allowance_takes Two bytes fits y e = let t = number_only is_deviation 4 (number_takes 4 of_4) bytes fits y e in (t.0, le_is y.0 1000000000 t.1)
+allowance_takes Two bytes fits y e = let t = number_only is_deviation 4 (number_takes 4 of_4) bytes fits y e in (t.0, leb-true y.0 1000000000 t.1)
 
 allowance_again : (v : Version) (d : ℕ) (rest : List ℕ) → IsAllowance v d → allowance_at v (deviation_bytes v d ++ rest) ≡ Ok (d, rest)
 allowance_again One d rest is = rw is refl
-allowance_again Two d rest is = only_again is_deviation (number_at 4 (number_bytes 4 d ++ rest)) (d, rest) (number_again 4 d rest (omega (arith, is))) (is_le d 1000000000 is)
+allowance_again Two d rest is = only_again is_deviation (number_at 4 (number_bytes 4 d ++ rest)) (d, rest) (number_again 4 d rest (omega (arith, is))) (le-leb d 1000000000 is)
 
 -- ---- all of it
 
@@ -128,10 +119,10 @@ head_takes v bytes fits y e =
     let t3 = takes_then s.1 (number_bytes 8 t.0) t.1 (number_bytes 4 q.0 ++ (count_bytes v f.0 ++ (count_bytes v n.0 ++ (depot_bytes d.0 ++ deviation_bytes v a.0)))) a.1 tt' t4 in
     let t2 = takes_then k.1 (number_bytes 8 s.0) s.1 (number_bytes 8 t.0 ++ (number_bytes 4 q.0 ++ (count_bytes v f.0 ++ (count_bytes v n.0 ++ (depot_bytes d.0 ++ deviation_bytes v a.0))))) a.1 ts t3 in
     let t1 = takes_then bytes (kind_code k.0 ∷ []) k.1 (number_bytes 8 s.0 ++ (number_bytes 8 t.0 ++ (number_bytes 4 q.0 ++ (count_bytes v f.0 ++ (count_bytes v n.0 ++ (depot_bytes d.0 ++ deviation_bytes v a.0)))))) a.1 tk t2 in
-    let small-fleet = le_is f.0 (most v) fleet.1 in
-    let small-next = le_is n.0 (most v + 1) next.1 in
-    let head : IsHead made = record { depot = pd; capacity = le_is q.0 1000000 pq; fleet = (le_is 1 f.0 fleet.0, omega (arith, small-fleet, most_is v)); next_from_one = le_is 1 n.0 next.0; next_to_most = omega (arith, small-next, most_is v) } in
-    let of : IsHeadOf v made = record { head = head; fleet = small-fleet; next_number = small-next; deviation = pa; seed = ps; steps = le_is t.0 (2 ^ 60) pt } in
+    let small-fleet = leb-true f.0 (most v) fleet.1 in
+    let small-next = leb-true n.0 (most v + 1) next.1 in
+    let head : IsHead made = record { depot = pd; capacity = leb-true q.0 1000000 pq; fleet = (leb-true 1 f.0 fleet.0, omega (arith, small-fleet, most_is v)); next_from_one = leb-true 1 n.0 next.0; next_to_most = omega (arith, small-next, most_is v) } in
+    let of : IsHeadOf v made = record { head = head; fleet = small-fleet; next_number = small-next; deviation = pa; seed = ps; steps = leb-true t.0 (2 ^ 60) pt } in
     subst (λ (z : Head × List ℕ). Takes bytes (head_text v z.0) z.1 × IsHeadOf v z.0) (ok_is (made, a.1) y ea) (t1, of)))))))))
 
 fleet_below : (v : Version) (n : ℕ) → n ≤ most v + 1 → n < 256 ^ width v
@@ -154,9 +145,9 @@ head_again v h rest is =
     ap (head_at v) regrouped
     ∙ rw (kind_again h.kind seed)
     (rw (number_again 8 h.seed steps is.seed)
-    (rw (only_again is_steps (number_at 8 steps) (h.steps, capacity) (number_again 8 h.steps capacity (omega (arith, is.steps))) (is_le h.steps (2 ^ 60) is.steps))
-    (rw (only_again is_capacity (number_at 4 capacity) (h.capacity, fleet) (number_again 4 h.capacity fleet (omega (arith, is.head.capacity))) (is_le h.capacity 1000000 is.head.capacity))
-    (rw (only_again (is_fleet v) (number_at (width v) fleet) (h.fleet, next) (number_again (width v) h.fleet next (fleet_below v h.fleet (omega (arith, is.fleet)))) (parts_and _ _ (is_le 1 h.fleet is.head.fleet.0) (is_le h.fleet (most v) is.fleet)))
-    (rw (only_again (is_next v) (number_at (width v) next) (h.next_number, depot) (number_again (width v) h.next_number depot (fleet_below v h.next_number is.next_number)) (parts_and _ _ (is_le 1 h.next_number is.head.next_from_one) (is_le h.next_number (most v + 1) is.next_number)))
+    (rw (only_again is_steps (number_at 8 steps) (h.steps, capacity) (number_again 8 h.steps capacity (omega (arith, is.steps))) (le-leb h.steps (2 ^ 60) is.steps))
+    (rw (only_again is_capacity (number_at 4 capacity) (h.capacity, fleet) (number_again 4 h.capacity fleet (omega (arith, is.head.capacity))) (le-leb h.capacity 1000000 is.head.capacity))
+    (rw (only_again (is_fleet v) (number_at (width v) fleet) (h.fleet, next) (number_again (width v) h.fleet next (fleet_below v h.fleet (omega (arith, is.fleet)))) (and_from _ _ (le-leb 1 h.fleet is.head.fleet.0) (le-leb h.fleet (most v) is.fleet)))
+    (rw (only_again (is_next v) (number_at (width v) next) (h.next_number, depot) (number_again (width v) h.next_number depot (fleet_below v h.next_number is.next_number)) (and_from _ _ (le-leb 1 h.next_number is.head.next_from_one) (le-leb h.next_number (most v + 1) is.next_number)))
     (rw (depot_again h.depot deviation is.head.depot)
     (rw (allowance_again v h.deviation rest is.deviation) refl)))))))

@@ -2,12 +2,13 @@
 use Rattle.std.proofs.Common.{◌≡◌, ℕ, ◌<◌, true, false, List, [], ◌∷◌, ◌++◌, Option, Some, None, refl, sym, ap, subst, arith, nat_lt, inl, inr}
 use Rattle.std.specs.Prelude.{IsSome, not, is_some}
 use Rattle.std.specs.List.{list_all, AllByRecursion}
+use Rattle.std.proofs.lemmas.Bool.{and_parts}
 use Rattle.plan_types.specs.Request.{request_name, stops_of}
 use Rattle.plan_types.specs.Instance.{Instance, IsTaken, stop_at, lesser_names, greater_names, with_entry, with_request, numbers_among}
 use Rattle.plan_types.specs.declared.requests.Request.{Request}
 use Rattle.plan_types.specs.declared.requests.Request.TheVariants.{Single, Pair}
 use Rattle.state_codec.specs.Filled.{IsFilledBelow}
-use Rattle.state_codec.proofs.RequestLaws.{IsNew, and_parts}
+use Rattle.state_codec.proofs.RequestLaws.{IsNew}
 
 all_lesser : (name : ℕ) (es : List (ℕ × Request)) → list_all (λ e. nat_lt e.0 name) es ≡ true → lesser_names es name ≡ es
 all_lesser name [] h = refl

@@ -1,22 +1,27 @@
 -- A command that is written is read again.
 use Rattle.std.proofs.Common.{◌≡◌, ℕ, ◌-◌, ◌^◌, ◌<◌, ◌≤◌, List, ◌++◌, length, drop, Ok, refl, sym, ap, ◌∙◌, append_assoc, arith, length-append}
-use Rattle.std.specs.Prelude.{replicate}
+use Rattle.std.specs.Prelude.{◌&&◌, true, pos, replicate}
+use Rattle.std.proofs.lemmas.Bool.{and_parts, leb-true}
 use Rattle.std.proofs.lemmas.List.{drop_at}
+use Rattle.plan_types.specs.Limits.{IsVisit}
+use Rattle.command_core.specs.Wishes.{is_demand, is_spot, stop_on}
 use Rattle.command_core.specs.declared.commands.Spot.{Spot}
 use Rattle.command_core.specs.declared.commands.Command.{Command}
 use Rattle.command_core.specs.declared.commands.Command.TheVariants.{Load, Add, Add1, Withdraw, Pin, Unpin, Build, Search, Checkpoint, Deviation, Anneal}
+use Rattle.command_core.proofs.AddLemmas.{visit}
 use Rattle.state_codec.specs.declared.version.Version.{Version}
 use Rattle.state_codec.specs.declared.version.Version.TheVariants.{One, Two}
 use Rattle.state_codec.specs.Bytes.{number_bytes, signed_bytes, count_bytes, spot_bytes, command_bytes, fields_bytes, record_bytes, width}
-use Rattle.state_codec.specs.Limits.{IsSpot, IsRecorded}
+use Rattle.state_codec.specs.Limits.{IsRecorded}
 use Rattle.state_codec.specs.Fields.{byte_at, number_at}
 use Rattle.state_codec.specs.Laws.{RecordsDiffer}
 use Rattle.state_codec.specs.Records.{spot_at, add_at, add1_at, withdraw_at, pin_at, unpin_at, search_at, deviation_at, command_at}
 use Rattle.state_codec.proofs.FieldLaws.{done, ok_is, number_again, signed_again, small, length-number_bytes}
 
-spot_again : (s : Spot) (rest : List ℕ) → IsSpot s → spot_at (spot_bytes s ++ rest) ≡ Ok (s, rest)
+spot_again : (s : Spot) (rest : List ℕ) → is_spot s ≡ true → spot_at (spot_bytes s ++ rest) ≡ Ok (s, rest)
 unfolding spot_at
-spot_again s rest is =
+spot_again s rest test =
+    let is : IsVisit (stop_on s 0 (pos 0)) = visit s 0 (pos 0) test in
     let service = number_bytes 4 s.service ++ rest in
     let latest = number_bytes 4 s.latest ++ service in
     let earliest = number_bytes 4 s.earliest ++ latest in
@@ -25,18 +30,18 @@ spot_again s rest is =
     ap spot_at regrouped
     ∙ rw (signed_again s.x y (small s.x is.x.0 is.x.1), signed_again s.y earliest (small s.y is.y.0 is.y.1), number_again 4 s.earliest latest (omega (arith, is.window, is.latest)), number_again 4 s.latest service (omega (arith, is.latest)), number_again 4 s.service rest (omega (arith, is.service))) refl
 
-add_again : (demand : ℕ) (pickup delivery : Spot) (rest : List ℕ) → demand ≤ 1000000 → IsSpot pickup → IsSpot delivery → add_at ((number_bytes 4 demand ++ (spot_bytes pickup ++ spot_bytes delivery)) ++ rest) ≡ Ok (Add demand pickup delivery, rest)
+add_again : (demand : ℕ) (pickup delivery : Spot) (rest : List ℕ) → is_demand demand ≡ true → is_spot pickup ≡ true → is_spot delivery ≡ true → add_at ((number_bytes 4 demand ++ (spot_bytes pickup ++ spot_bytes delivery)) ++ rest) ≡ Ok (Add demand pickup delivery, rest)
 unfolding add_at
 add_again demand pickup delivery rest is p d =
     let second = spot_bytes delivery ++ rest in
     let first = spot_bytes pickup ++ second in
-    let regrouped : (number_bytes 4 demand ++ (spot_bytes pickup ++ spot_bytes delivery)) ++ rest ≡ number_bytes 4 demand ++ first = append_assoc (number_bytes 4 demand) (spot_bytes pickup ++ spot_bytes delivery) rest ∙ ap (λ t. number_bytes 4 demand ++ t) (append_assoc (spot_bytes pickup) (spot_bytes delivery) rest) in
-    ap add_at regrouped ∙ rw (number_again 4 demand first (omega (arith, is)), spot_again pickup second p, spot_again delivery rest d) refl
+    let regrouped : (number_bytes 4 demand ++ (spot_bytes pickup ++ spot_bytes delivery)) ++ rest ≡ number_bytes 4 demand ++ first = simp append_assoc in
+    ap add_at regrouped ∙ rw (number_again 4 demand first (omega (arith, leb-true demand 1000000 is)), spot_again pickup second p, spot_again delivery rest d) refl
 
-add1_again : (demand : ℕ) (spot : Spot) (rest : List ℕ) → demand ≤ 1000000 → IsSpot spot → add1_at ((number_bytes 4 demand ++ spot_bytes spot) ++ rest) ≡ Ok (Add1 demand spot, rest)
+add1_again : (demand : ℕ) (spot : Spot) (rest : List ℕ) → is_demand demand ≡ true → is_spot spot ≡ true → add1_at ((number_bytes 4 demand ++ spot_bytes spot) ++ rest) ≡ Ok (Add1 demand spot, rest)
 unfolding add1_at
 add1_again demand spot rest is s =
-    ap add1_at (append_assoc (number_bytes 4 demand) (spot_bytes spot) rest) ∙ rw (number_again 4 demand (spot_bytes spot ++ rest) (omega (arith, is)), spot_again spot rest s) refl
+    ap add1_at (append_assoc (number_bytes 4 demand) (spot_bytes spot) rest) ∙ rw (number_again 4 demand (spot_bytes spot ++ rest) (omega (arith, leb-true demand 1000000 is)), spot_again spot rest s) refl
 
 pin_again : (v : Version) (vehicle k : ℕ) (rest : List ℕ) → vehicle < 256 ^ width v → k < 256 ^ width v → pin_at v ((count_bytes v vehicle ++ count_bytes v k) ++ rest) ≡ Ok (Pin vehicle k, rest)
 unfolding pin_at
@@ -46,8 +51,13 @@ pin_again v vehicle k rest p q =
 command_again : (v : Version) (c : Command) (rest : List ℕ) → IsRecorded v c → command_at v (command_bytes v c ++ rest) ≡ Ok (c, rest)
 unfolding command_at byte_at withdraw_at unpin_at search_at deviation_at
 command_again v (Load problem seed) rest is = absurd is
-command_again v (Add demand pickup delivery) rest is = add_again demand pickup delivery rest is.0 is.1 is.2
-command_again v (Add1 demand spot) rest is = add1_again demand spot rest is.0 is.1
+command_again v (Add demand pickup delivery) rest is =
+    let goods = and_parts (is_demand demand) (is_spot pickup && is_spot delivery) is in
+    let spots = and_parts (is_spot pickup) (is_spot delivery) goods.1 in
+    add_again demand pickup delivery rest goods.0 spots.0 spots.1
+command_again v (Add1 demand spot) rest is =
+    let both = and_parts (is_demand demand) (is_spot spot) is in
+    add1_again demand spot rest both.0 both.1
 command_again v (Withdraw name) rest is = rw (number_again (width v) name rest is) refl
 command_again v (Pin vehicle k) rest is = pin_again v vehicle k rest is.0 is.1
 command_again v (Unpin vehicle) rest is = rw (number_again (width v) vehicle rest is) refl

@@ -2,7 +2,7 @@
 use Rattle.std.proofs.Common.{◌≡◌, ◌≢◌, ℕ, suc, ◌^◌, ◌<◌, ◌≤◌, ℤ, pos, Bool, true, false, cond, List, [], ◌∷◌, ◌++◌, Option, Some, None, Ok, Err, refl, sym, ap, subst, ◌∙◌, append_assoc, arith}
 use Rattle.std.specs.Prelude.{negsuc, neg_ℤ, int_le, nat_le, nat_lt, not, ◌&&◌, ◌==◌}
 use Rattle.std.specs.List.{list_all, AllByRecursion}
-use Rattle.std.proofs.lemmas.Bool.{eqb-true}
+use Rattle.std.proofs.lemmas.Bool.{eqb-true, ltb-true, leb-true, le-leb, and_parts, and_from}
 use Rattle.std.specs.Int.{w32}
 use mir.Val.{SFits}
 use Rattle.std.proofs.lemmas.Int.{ints}
@@ -14,18 +14,13 @@ use Rattle.plan_types.specs.declared.requests.Request.TheVariants.{Single, Pair}
 use Rattle.state_codec.specs.declared.version.Version.{Version}
 use Rattle.state_codec.specs.declared.fault.CodecFault.TheVariants.{BadField}
 use Rattle.state_codec.specs.Bytes.{number_bytes, signed_bytes, visit_bytes, stop_bytes, request_bytes, width}
-use Rattle.state_codec.specs.Fields.{only, byte_at, number_at, signed_at, is_coordinate, is_demand, is_time, is_service, int_eq}
+use Rattle.command_core.specs.Wishes.{is_coordinate}
+use Rattle.command_core.proofs.AddLemmas.{coordinate}
+use Rattle.state_codec.specs.Fields.{only, byte_at, number_at, signed_at, point_at, window_at, is_demand, is_time, is_service, int_eq}
 use Rattle.state_codec.specs.Reading.{is_free, is_name, is_delivery, is_wanted, visit_at, first_at, delivery_at, single_at, pair_at, request_at}
 use Rattle.state_codec.proofs.FieldLaws.{IsBytes, Takes, takes_then, step, only_ok, number_takes, signed_takes, of_4, of_width, ok_is, only_again, number_again, signed_again, small}
 
 -- ---- what the rules of fields say
-
-pub and_parts : (a b : Bool) → (a && b) ≡ true → (a ≡ true) × (b ≡ true)
-and_parts true b h = (refl, h)
-and_parts false b h = absurd cc
-
-pub coordinate_is : (x : ℤ) → is_coordinate x ≡ true → IsCoordinate x
-coordinate_is x h = let p = and_parts (int_le (negsuc 999999) x) (int_le x (pos 1000000)) h in (grind (arith, ints, p.0), grind (arith, ints, p.1))
 
 pub demand_is : (q : ℤ) → is_demand q ≡ true → IsDemand q
 demand_is q h = let p = and_parts (int_le (pos 0) q) (int_le q (pos 1000000)) h in (grind (arith, ints, p.0), grind (arith, ints, p.1))
@@ -33,30 +28,21 @@ demand_is q h = let p = and_parts (int_le (pos 0) q) (int_le q (pos 1000000)) h 
 pub int_eq_is : (x y : ℤ) → int_eq x y ≡ true → x ≡ y
 int_eq_is x y h = let p = and_parts (int_le x y) (int_le y x) h in grind (arith, ints, p.0, p.1)
 
-pub parts_and : (a b : Bool) → a ≡ true → b ≡ true → (a && b) ≡ true
-parts_and a b p q = rw (p, q) refl
-
-pub le_is : (a b : ℕ) → nat_le a b ≡ true → a ≤ b
-le_is a b h = grind (arith, h)
-
-pub is_le : (a b : ℕ) → a ≤ b → nat_le a b ≡ true
-is_le a b h = grind (arith, h)
-
 pub is_coordinate-holds : (x : ℤ) → IsCoordinate x → is_coordinate x ≡ true
-is_coordinate-holds x h = parts_and (int_le (negsuc 999999) x) (int_le x (pos 1000000)) (grind (arith, ints, h.0)) (grind (arith, ints, h.1))
+is_coordinate-holds x h = and_from (int_le (negsuc 999999) x) (int_le x (pos 1000000)) (grind (arith, ints, h.0)) (grind (arith, ints, h.1))
 
 pub is_demand-holds : (q : ℤ) → IsDemand q → is_demand q ≡ true
-is_demand-holds q h = parts_and (int_le (pos 0) q) (int_le q (pos 1000000)) (grind (arith, ints, h.0)) (grind (arith, ints, h.1))
+is_demand-holds q h = and_from (int_le (pos 0) q) (int_le q (pos 1000000)) (grind (arith, ints, h.0)) (grind (arith, ints, h.1))
 
 pub int_eq-same : (x : ℤ) → int_eq x x ≡ true
-int_eq-same x = parts_and (int_le x x) (int_le x x) (grind (arith, ints)) (grind (arith, ints))
+int_eq-same x = and_from (int_le x x) (int_le x x) (grind (arith, ints)) (grind (arith, ints))
 
 -- ---- what follows a stop's number
 
-pub coordinate_takes : (bytes : List ℕ) → IsBytes bytes → (x : ℤ × List ℕ) → only is_coordinate (signed_at bytes) ≡ Ok x → Takes bytes (signed_bytes x.0) x.1 × IsCoordinate x.0
+coordinate_takes : (bytes : List ℕ) → IsBytes bytes → (x : ℤ × List ℕ) → only is_coordinate (signed_at bytes) ≡ Ok x → Takes bytes (signed_bytes x.0) x.1 × IsCoordinate x.0
 coordinate_takes bytes fits x e =
     let o = only_ok is_coordinate (signed_at bytes) x e in
-    (signed_takes bytes x fits o.0, coordinate_is x.0 o.1)
+    (signed_takes bytes x fits o.0, coordinate x.0 o.1)
 
 demand_takes : (wanted : Option ℤ) (bytes : List ℕ) → IsBytes bytes → (x : ℤ × List ℕ) → only (is_wanted wanted) (signed_at bytes) ≡ Ok x → Takes bytes (signed_bytes x.0) x.1 × (is_wanted wanted x.0 ≡ true)
 demand_takes wanted bytes fits x e =
@@ -68,6 +54,50 @@ number_only rule size takes bytes fits x e =
     let o = only_ok rule (number_at size bytes) x e in
     ((takes bytes x fits o.0).0, o.1)
 
+abbrev pub point_bytes : ℤ × ℤ → List ℕ
+point_bytes p = signed_bytes p.0 ++ signed_bytes p.1
+
+abbrev pub IsPoint : ℤ × ℤ → Type 0
+IsPoint p = IsCoordinate p.0 × IsCoordinate p.1
+
+pub point_takes : (bytes : List ℕ) → IsBytes bytes → (y : (ℤ × ℤ) × List ℕ) → point_at bytes ≡ Ok y → Takes bytes (point_bytes y.0) y.1 × IsPoint y.0
+unfolding point_at
+point_takes bytes fits y e =
+    step (only is_coordinate (signed_at bytes)) _ y bytes signed_bytes IsCoordinate (coordinate_takes bytes fits) e (λ a ta pa ea.
+    step (only is_coordinate (signed_at a.1)) _ y a.1 signed_bytes IsCoordinate (coordinate_takes a.1 ta.rest_fits) ea (λ b tb pb eb.
+    subst (λ (z : (ℤ × ℤ) × List ℕ). Takes bytes (point_bytes z.0) z.1 × IsPoint z.0) (ok_is ((a.0, b.0), b.1) y eb) (takes_then bytes (signed_bytes a.0) a.1 (signed_bytes b.0) b.1 ta tb, (pa, pb))))
+
+pub point_again : (p : ℤ × ℤ) (rest : List ℕ) → IsPoint p → point_at (point_bytes p ++ rest) ≡ Ok (p, rest)
+unfolding point_at
+point_again p rest is =
+    let y = signed_bytes p.1 ++ rest in
+    ap point_at (append_assoc (signed_bytes p.0) (signed_bytes p.1) rest)
+    ∙ rw (only_again is_coordinate (signed_at (signed_bytes p.0 ++ y)) (p.0, y) (signed_again p.0 y (small p.0 is.0.0 is.0.1)) (is_coordinate-holds p.0 is.0))
+    (rw (only_again is_coordinate (signed_at y) (p.1, rest) (signed_again p.1 rest (small p.1 is.1.0 is.1.1)) (is_coordinate-holds p.1 is.1)) refl)
+
+abbrev pub window_bytes : ℕ × ℕ → List ℕ
+window_bytes w = number_bytes 4 w.0 ++ number_bytes 4 w.1
+
+abbrev pub IsWindow : ℕ × ℕ → Type 0
+IsWindow w = (w.0 ≤ w.1) × (w.1 ≤ 100000000)
+
+pub window_takes : (bytes : List ℕ) → IsBytes bytes → (y : (ℕ × ℕ) × List ℕ) → window_at bytes ≡ Ok y → Takes bytes (window_bytes y.0) y.1 × IsWindow y.0
+unfolding window_at
+window_takes bytes fits y e =
+    step (only is_time (number_at 4 bytes)) _ y bytes (number_bytes 4) (λ t. is_time t ≡ true) (number_only is_time 4 (number_takes 4 of_4) bytes fits) e (λ a ta pa ea.
+    step (only (λ t. nat_le a.0 t && is_time t) (number_at 4 a.1)) _ y a.1 (number_bytes 4) (λ t. (nat_le a.0 t && is_time t) ≡ true) (number_only (λ t. nat_le a.0 t && is_time t) 4 (number_takes 4 of_4) a.1 ta.rest_fits) ea (λ b tb pb eb.
+    let ends = and_parts (nat_le a.0 b.0) (is_time b.0) pb in
+    subst (λ (z : (ℕ × ℕ) × List ℕ). Takes bytes (window_bytes z.0) z.1 × IsWindow z.0) (ok_is ((a.0, b.0), b.1) y eb) (takes_then bytes (number_bytes 4 a.0) a.1 (number_bytes 4 b.0) b.1 ta tb, (leb-true a.0 b.0 ends.0, leb-true b.0 100000000 ends.1))))
+
+pub window_again : (w : ℕ × ℕ) (rest : List ℕ) → IsWindow w → window_at (window_bytes w ++ rest) ≡ Ok (w, rest)
+unfolding window_at
+window_again w rest is =
+    let latest = number_bytes 4 w.1 ++ rest in
+    let early : w.0 ≤ 100000000 = omega (arith, is.0, is.1) in
+    ap window_at (append_assoc (number_bytes 4 w.0) (number_bytes 4 w.1) rest)
+    ∙ rw (only_again is_time (number_at 4 (number_bytes 4 w.0 ++ latest)) (w.0, latest) (number_again 4 w.0 latest (omega (arith, early))) (le-leb w.0 100000000 early))
+    (rw (only_again (λ t. nat_le w.0 t && is_time t) (number_at 4 latest) (w.1, rest) (number_again 4 w.1 rest (omega (arith, is.1))) (and_from _ _ (le-leb w.0 w.1 is.0) (le-leb w.1 100000000 is.1))) refl)
+
 -- what is known of a stop that was read
 pub record IsRead (wanted : Option ℤ) (s : Stop) : Type 0 where
   pub visit : IsVisit s
@@ -76,41 +106,32 @@ pub record IsRead (wanted : Option ℤ) (s : Stop) : Type 0 where
 pub visit_takes : (number : ℕ) (wanted : Option ℤ) (bytes : List ℕ) → IsBytes bytes → (y : Stop × List ℕ) → visit_at number wanted bytes ≡ Ok y → Takes bytes (visit_bytes y.0) y.1 × IsRead wanted y.0 × (y.0.number ≡ number)
 unfolding visit_at
 visit_takes number wanted bytes fits y e =
-    step (only is_coordinate (signed_at bytes)) _ y bytes signed_bytes IsCoordinate (coordinate_takes bytes fits) e (λ x tx px ex.
-    step (only is_coordinate (signed_at x.1)) _ y x.1 signed_bytes IsCoordinate (coordinate_takes x.1 tx.rest_fits) ex (λ v tv pv ev.
-    step (only (is_wanted wanted) (signed_at v.1)) _ y v.1 signed_bytes (λ q. is_wanted wanted q ≡ true) (demand_takes wanted v.1 tv.rest_fits) ev (λ q tq pq eq.
-    step (only is_time (number_at 4 q.1)) _ y q.1 (number_bytes 4) (λ t. is_time t ≡ true) (number_only is_time 4 (number_takes 4 of_4) q.1 tq.rest_fits) eq (λ a ta pa ea.
-    step (only (λ t. nat_le a.0 t && is_time t) (number_at 4 a.1)) _ y a.1 (number_bytes 4) (λ t. (nat_le a.0 t && is_time t) ≡ true) (number_only (λ t. nat_le a.0 t && is_time t) 4 (number_takes 4 of_4) a.1 ta.rest_fits) ea (λ b tb pb eb.
-    step (only is_service (number_at 4 b.1)) _ y b.1 (number_bytes 4) (λ t. is_service t ≡ true) (number_only is_service 4 (number_takes 4 of_4) b.1 tb.rest_fits) eb (λ d td pd ed.
-    let made : Stop = record { number = number; x = x.0; y = v.0; demand = q.0; earliest = a.0; latest = b.0; service = d.0 } in
-    let window = and_parts (nat_le a.0 b.0) (is_time b.0) pb in
-    let t4 = takes_then a.1 (number_bytes 4 b.0) b.1 (number_bytes 4 d.0) d.1 tb td in
-    let t3 = takes_then q.1 (number_bytes 4 a.0) a.1 (number_bytes 4 b.0 ++ number_bytes 4 d.0) d.1 ta t4 in
-    let t2 = takes_then v.1 (signed_bytes q.0) q.1 (number_bytes 4 a.0 ++ (number_bytes 4 b.0 ++ number_bytes 4 d.0)) d.1 tq t3 in
-    let t1 = takes_then x.1 (signed_bytes v.0) v.1 (signed_bytes q.0 ++ (number_bytes 4 a.0 ++ (number_bytes 4 b.0 ++ number_bytes 4 d.0))) d.1 tv t2 in
-    let t0 = takes_then bytes (signed_bytes x.0) x.1 (signed_bytes v.0 ++ (signed_bytes q.0 ++ (number_bytes 4 a.0 ++ (number_bytes 4 b.0 ++ number_bytes 4 d.0)))) d.1 tx t1 in
-    let visit : IsVisit made = record { x = px; y = pv; window = le_is a.0 b.0 window.0; latest = le_is b.0 100000000 window.1; service = le_is d.0 1000000 pd } in
-    subst (λ (z : Stop × List ℕ). Takes bytes (visit_bytes z.0) z.1 × IsRead wanted z.0 × (z.0.number ≡ number)) (ok_is (made, d.1) y ed) (t0, record { visit = visit; demand = pq }, refl)))))))
+    step (point_at bytes) _ y bytes point_bytes IsPoint (point_takes bytes fits) e (λ p tp pp ep.
+    step (only (is_wanted wanted) (signed_at p.1)) _ y p.1 signed_bytes (λ q. is_wanted wanted q ≡ true) (demand_takes wanted p.1 tp.rest_fits) ep (λ q tq pq eq.
+    step (window_at q.1) _ y q.1 window_bytes IsWindow (window_takes q.1 tq.rest_fits) eq (λ w tw pw ew.
+    step (only is_service (number_at 4 w.1)) _ y w.1 (number_bytes 4) (λ t. is_service t ≡ true) (number_only is_service 4 (number_takes 4 of_4) w.1 tw.rest_fits) ew (λ d td pd ed.
+    let made : Stop = record { number = number; x = p.0.0; y = p.0.1; demand = q.0; earliest = w.0.0; latest = w.0.1; service = d.0 } in
+    let times = takes_then q.1 (window_bytes w.0) w.1 (number_bytes 4 d.0) d.1 tw td in
+    let goods = takes_then p.1 (signed_bytes q.0) q.1 (window_bytes w.0 ++ number_bytes 4 d.0) d.1 tq times in
+    let all = takes_then bytes (point_bytes p.0) p.1 (signed_bytes q.0 ++ (window_bytes w.0 ++ number_bytes 4 d.0)) d.1 tp goods in
+    let regrouped : point_bytes p.0 ++ (signed_bytes q.0 ++ (window_bytes w.0 ++ number_bytes 4 d.0)) ≡ visit_bytes made = simp append_assoc in
+    let visit : IsVisit made = record { x = pp.0; y = pp.1; window = pw.0; latest = pw.1; service = leb-true d.0 1000000 pd } in
+    subst (λ (z : Stop × List ℕ). Takes bytes (visit_bytes z.0) z.1 × IsRead wanted z.0 × (z.0.number ≡ number)) (ok_is (made, d.1) y ed) (subst (λ t. Takes bytes t d.1) regrouped all, record { visit = visit; demand = pq }, refl)))))
 
 -- what a stop that may be read is
 pub visit_again : (s : Stop) (wanted : Option ℤ) (rest : List ℕ) → IsVisit s → is_wanted wanted s.demand ≡ true → SFits w32 s.demand → visit_at s.number wanted (visit_bytes s ++ rest) ≡ Ok (s, rest)
 unfolding visit_at
 visit_again s wanted rest visit goods fits =
     let service = number_bytes 4 s.service ++ rest in
-    let latest = number_bytes 4 s.latest ++ service in
-    let earliest = number_bytes 4 s.earliest ++ latest in
-    let demand = signed_bytes s.demand ++ earliest in
-    let y = signed_bytes s.y ++ demand in
-    let regrouped : visit_bytes s ++ rest ≡ signed_bytes s.x ++ y = simp append_assoc in
-    let window : (nat_le s.earliest s.latest && is_time s.latest) ≡ true = parts_and _ _ (is_le s.earliest s.latest visit.window) (is_le s.latest 100000000 visit.latest) in
+    let window = window_bytes (s.earliest, s.latest) ++ service in
+    let demand = signed_bytes s.demand ++ window in
+    let regrouped : visit_bytes s ++ rest ≡ point_bytes (s.x, s.y) ++ demand = simp append_assoc in
     ap (visit_at s.number wanted) regrouped
-    ∙ rw (only_again is_coordinate (signed_at (signed_bytes s.x ++ y)) (s.x, y) (signed_again s.x y (small s.x visit.x.0 visit.x.1)) (is_coordinate-holds s.x visit.x))
-    (rw (only_again is_coordinate (signed_at y) (s.y, demand) (signed_again s.y demand (small s.y visit.y.0 visit.y.1)) (is_coordinate-holds s.y visit.y))
-    (rw (only_again (is_wanted wanted) (signed_at demand) (s.demand, earliest) (signed_again s.demand earliest fits) goods)
-    (rw (only_again is_time (number_at 4 earliest) (s.earliest, latest) (number_again 4 s.earliest latest (omega (arith, visit.window, visit.latest))) (is_le s.earliest 100000000 (omega (arith, visit.window, visit.latest))))
-    (rw (only_again (λ t. nat_le s.earliest t && is_time t) (number_at 4 latest) (s.latest, service) (number_again 4 s.latest service (omega (arith, visit.latest))) window)
-    (rw (only_again is_service (number_at 4 service) (s.service, rest) (number_again 4 s.service rest (omega (arith, visit.service))) (is_le s.service 1000000 visit.service))
-    refl)))))
+    ∙ rw (point_again (s.x, s.y) demand (visit.x, visit.y))
+    (rw (only_again (is_wanted wanted) (signed_at demand) (s.demand, window) (signed_again s.demand window fits) goods)
+    (rw (window_again (s.earliest, s.latest) service (visit.window, visit.latest))
+    (rw (only_again is_service (number_at 4 service) (s.service, rest) (number_again 4 s.service rest (omega (arith, visit.service))) (le-leb s.service 1000000 visit.service))
+    refl)))
 
 -- ---- stops with their numbers
 
@@ -147,15 +168,12 @@ record NameParts (next : ℕ) (before : List (ℕ × Request)) (n : ℕ) : Type 
   pub names : list_all (λ e. nat_lt e.0 n) before ≡ true
   pub free : is_free before n ≡ true
 
-lt_is : (a b : ℕ) → nat_lt a b ≡ true → a < b
-lt_is a b h = grind (arith, h)
-
 name_parts : (next : ℕ) (before : List (ℕ × Request)) (n : ℕ) → is_name next before n ≡ true → NameParts next before n
 name_parts next before n h =
     let a = and_parts (nat_le 1 n) (nat_lt n next && (list_all (λ e. nat_lt e.0 n) before && is_free before n)) h in
     let b = and_parts (nat_lt n next) (list_all (λ e. nat_lt e.0 n) before && is_free before n) a.1 in
     let d = and_parts (list_all (λ e. nat_lt e.0 n) before) (is_free before n) b.1 in
-    record { from_one = le_is 1 n a.0; below = lt_is n next b.0; names = d.0; free = d.1 }
+    record { from_one = leb-true 1 n a.0; below = ltb-true n next b.0; names = d.0; free = d.1 }
 
 record DeliveryParts (next : ℕ) (before : List (ℕ × Request)) (pickup n : ℕ) : Type 0 where
   pub from_one : 1 ≤ n
@@ -171,7 +189,7 @@ delivery_parts next before pickup n h =
     let a = and_parts (nat_le 1 n) (nat_lt n next && (not (n == pickup) && is_free before n)) h in
     let b = and_parts (nat_lt n next) (not (n == pickup) && is_free before n) a.1 in
     let d = and_parts (not (n == pickup)) (is_free before n) b.1 in
-    record { from_one = le_is 1 n a.0; below = lt_is n next b.0; other = not_same n pickup d.0; free = d.1 }
+    record { from_one = leb-true 1 n a.0; below = ltb-true n next b.0; other = not_same n pickup d.0; free = d.1 }
 
 single_takes : (v : Version) (next : ℕ) (before : List (ℕ × Request)) (bytes : List ℕ) → next ≤ 40001 → IsBytes bytes → (y : Request × List ℕ) → single_at v next before bytes ≡ Ok y → Takes (1 ∷ bytes) (request_bytes v y.0) y.1 × IsNew next before y.0
 unfolding single_at

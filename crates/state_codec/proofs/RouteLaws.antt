@@ -2,13 +2,14 @@
 use Rattle.std.proofs.Common.{true, ◌≡◌, ℕ, zero, suc, ◌+◌, ◌^◌, ◌<◌, ◌≤◌, List, [], ◌∷◌, ◌++◌, length, take, Ok, refl, sym, ap, subst, ◌∙◌, append_assoc, arith, length-append, length-take}
 use Rattle.std.specs.Prelude.{nat_le}
 use Rattle.std.specs.List.{AllByRecursion}
+use Rattle.std.proofs.lemmas.Bool.{leb-true, le-leb}
 use Rattle.std.proofs.lemmas.List.{append-nil}
 use Rattle.state_codec.specs.declared.version.Version.{Version}
 use Rattle.state_codec.specs.Bytes.{count_bytes, width, stops_bytes, vehicles_bytes, routes_bytes}
 use Rattle.state_codec.specs.Fields.{only, number_at}
 use Rattle.state_codec.specs.Reading.{times, next_stop, vehicle_at, next_vehicle, route_at, next_route}
 use Rattle.state_codec.proofs.FieldLaws.{IsBytes, Takes, takes_then, step, bind_ok, ok_is, number_takes, number_again, of_width, only_again, only_ok}
-use Rattle.state_codec.proofs.RequestLaws.{number_only, le_is, is_le}
+use Rattle.state_codec.proofs.RequestLaws.{number_only}
 use Rattle.state_codec.proofs.TimesLaws.{Adds, times_take, AreNext, times_again, added_behind, flat_map_one}
 
 -- ---- stops
@@ -34,7 +35,7 @@ pub pin_fits : (v : Version) (pin len : ℕ) (bytes rest after : List ℕ) (stop
 pin_fits v pin len bytes rest after stops e f =
     let o = only_ok (nat_le pin) (number_at (width v) bytes) (len, rest) e in
     let n = stops_len v len [] rest (stops, after) f in
-    omega (arith, n, le_is pin len o.1)
+    omega (arith, n, leb-true pin len o.1)
 
 -- so many stops
 pub stops_take : (v : Version) (n : ℕ) (bytes : List ℕ) → IsBytes bytes → (y : List ℕ × List ℕ) → times (next_stop v) n [] bytes ≡ Ok y → Takes bytes (stops_bytes v y.0) y.1 × (length y.0 ≡ n)
@@ -116,7 +117,7 @@ vehicle_takes v bytes fits y e =
     step (number_at (width v) bytes) _ y bytes (count_bytes v) (λ n. n < 256 ^ width v) (λ a h. number_takes (width v) (of_width v) bytes a fits h) e (λ p tp pp ep.
     step (only (nat_le p.0) (number_at (width v) p.1)) _ y p.1 (count_bytes v) (λ n. nat_le p.0 n ≡ true) (number_only (nat_le p.0) (width v) (number_takes (width v) (of_width v)) p.1 tp.rest_fits) ep (λ l tl pl el.
     step (times (next_stop v) l.0 [] l.1) _ y l.1 (stops_bytes v) (λ s. length s ≡ l.0) (λ a h. stops_take v l.0 l.1 tl.rest_fits a h) el (λ r tr pr er.
-    let within = le_is p.0 l.0 pl in
+    let within = leb-true p.0 l.0 pl in
     let pin-len : length (take p.0 r.0) ≡ p.0 = omega (arith, length-take p.0 r.0, pr, within) in
     let tail = takes_then l.1 (stops_bytes v r.0) r.1 [] r.1 tr (record { parts = refl; rest_fits = tr.rest_fits }) in
     let t1 = takes_then p.1 (count_bytes v (length r.0)) l.1 (stops_bytes v r.0) r.1 (subst (λ n. Takes p.1 (count_bytes v n) l.1) (sym pr) tl) tr in
@@ -131,7 +132,7 @@ vehicle_again v pin route rest front fit =
     let regrouped : vehicle_word v (pin, route) ++ rest ≡ count_bytes v (length pin) ++ len = simp append_assoc in
     ap (vehicle_at v) regrouped
     ∙ rw (number_again (width v) (length pin) len (omega (arith, front.within, fit.short)))
-    (rw (only_again (nat_le (length pin)) (number_at (width v) len) (length route, stops) (number_again (width v) (length route) stops fit.short) (is_le (length pin) (length route) front.within))
+    (rw (only_again (nat_le (length pin)) (number_at (width v) len) (length route, stops) (number_again (width v) (length route) stops fit.short) (le-leb (length pin) (length route) front.within))
     (rw (stops_again v route rest fit.stops) (ap (λ (p : List ℕ). Ok ((p, route), rest)) front.front)))
 
 abbrev pairs_bytes : Version → List (List ℕ) × List (List ℕ) → List ℕ

@@ -4,7 +4,7 @@ use Rattle.std.specs.Prelude.{IsSome, not, is_some, ◌&&◌, ◌||◌, ◌==◌
 use Rattle.std.specs.List.{list_all, list_any, AllByRecursion, IsDistinct, concat, starts_with}
 use Rattle.std.proofs.lemmas.List.Elements.{All-from_recursion}
 use Rattle.std.proofs.lemmas.Map.Steps.{length-le_from_distinct_below}
-use Rattle.std.proofs.lemmas.Bool.{eqb-true}
+use Rattle.std.proofs.lemmas.Bool.{eqb-true, and_parts}
 use Rattle.plan_types.specs.Request.{IsRequest, stop_in}
 use Rattle.plan_types.specs.Instance.{Instance, IsInstance, stop_at, first_some, numbers_among}
 use Rattle.plan_types.specs.Laws.{StopsAreBelowNext}
@@ -14,7 +14,6 @@ use Rattle.plan_audit.specs.Passes.{has, are_distinct, are_live_once, feasible_a
 use Rattle.std.specs.Prelude.{nat_eq}
 use Rattle.std.proofs.lemmas.Slice.Eq.{bytes_eq-Decides}
 use Rattle.command_core.specs.Job.{JobValue, IsJob}
-use Rattle.state_codec.proofs.RequestLaws.{and_parts}
 use Rattle.state_codec.proofs.RouteLaws.{BeginsRoute, AreFronts}
 
 not_zero : (n : ℕ) → 1 ≤ n → eqb n 0 ≡ false

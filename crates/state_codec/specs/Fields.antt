@@ -1,8 +1,9 @@
 -- Reading a field from the front of bytes: its value and the bytes behind it, or the fault. Bytes that end before or inside the
 -- field are `Truncated`; a value that the field's rule refuses is `BadField`.
-use Rattle.std.specs.Prelude.{◌≡◌, ℕ, ℤ, pos, negsuc, Bool, ◌&&◌, nat_lt, nat_le, int_le, List, [], ◌∷◌, length, drop, Result, Ok, Err, if◌then◌else◌}
+use Rattle.std.specs.Prelude.{◌≡◌, ℕ, ℤ, pos, Bool, ◌&&◌, nat_lt, nat_le, int_le, List, [], ◌∷◌, length, drop, Result, Ok, Err, if◌then◌else◌}
 use Rattle.std.specs.Int.{w32, cast_signed}
 use Rattle.byteorder.specs.Endian.{big_number}
+use Rattle.command_core.specs.Wishes.{is_coordinate}
 use Rattle.state_codec.specs.declared.fault.CodecFault.{CodecFault}
 use Rattle.state_codec.specs.declared.fault.CodecFault.TheVariants.{Truncated, BadField, PlanRefused, OutOfMemory}
 
@@ -33,9 +34,6 @@ unfoldable pub signed_at : List ℕ → Field ℤ
 signed_at bytes = if nat_lt (length bytes) 4 then Err Truncated else Ok (cast_signed w32 (big_number 4 bytes), drop 4 bytes)
 
 -- the rules of single fields
-abbrev pub is_coordinate : ℤ → Bool
-is_coordinate x = int_le (negsuc 999999) x && int_le x (pos 1000000)
-
 abbrev pub int_eq : ℤ → ℤ → Bool
 int_eq x y = int_le x y && int_le y x
 
@@ -47,6 +45,20 @@ is_time t = nat_le t 100000000
 
 abbrev pub is_service : ℕ → Bool
 is_service t = nat_le t 1000000
+
+-- x and y
+unfoldable pub point_at : List ℕ → Field (ℤ × ℤ)
+point_at bytes = do
+  x ← only is_coordinate (signed_at bytes)
+  y ← only is_coordinate (signed_at x.1)
+  Ok ((x.0, y.0), y.1)
+
+-- when a window begins and ends
+unfoldable pub window_at : List ℕ → Field (ℕ × ℕ)
+window_at bytes = do
+  earliest ← only is_time (number_at 4 bytes)
+  latest ← only (λ t. nat_le earliest.0 t && is_time t) (number_at 4 earliest.1)
+  Ok ((earliest.0, latest.0), latest.1)
 
 -- What a function of the code returned, seen by `view`, is what reading gives.
 abbrev pub Reads : {X Y : Type 0} → (X → Y) → Result X CodecFault → Result Y CodecFault → Type 0

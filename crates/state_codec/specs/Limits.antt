@@ -1,10 +1,9 @@
 -- What has bytes in each version.
-use Rattle.std.specs.Prelude.{◌≡◌, ℕ, ◌<◌, ◌≤◌, ◌^◌, ◌+◌}
-use Rattle.plan_types.specs.Limits.{IsCoordinate}
+use Rattle.std.specs.Prelude.{◌≡◌, ℕ, ◌<◌, ◌≤◌, ◌^◌, ◌+◌, ◌&&◌, true}
 use Rattle.command_core.specs.Job.{JobValue}
+use Rattle.command_core.specs.Wishes.{is_spot, is_demand}
 use Rattle.command_core.specs.declared.states.State.{State}
 use Rattle.command_core.specs.declared.states.State.TheVariants.{Empty, Loaded}
-use Rattle.command_core.specs.declared.commands.Spot.{Spot}
 use Rattle.command_core.specs.declared.commands.Command.{Command}
 use Rattle.command_core.specs.declared.commands.Command.TheVariants.{Load, Add, Add1, Withdraw, Pin, Unpin, Build, Search, Checkpoint, Deviation, Anneal}
 use Rattle.state_codec.specs.declared.version.Version.{Version}
@@ -31,14 +30,6 @@ abbrev pub IsStateOf : Version → State → Type 0
 IsStateOf v Empty = Unit {0}
 IsStateOf v (Loaded j) = IsJobOf v j
 
--- a spot within the limits of a visit
-pub record IsSpot (s : Spot) : Type 0 where
-  pub x : IsCoordinate s.x
-  pub y : IsCoordinate s.y
-  pub window : s.earliest ≤ s.latest
-  pub latest : s.latest ≤ 100000000
-  pub service : s.service ≤ 1000000
-
 -- a number that a version has room for
 abbrev pub HasRoom : Version → ℕ → Type 0
 HasRoom v n = n < 256 ^ width v
@@ -52,8 +43,8 @@ IsDeviationOf Two d = d ≤ 1000000000
 -- places may be any.
 abbrev pub IsRecorded : Version → Command → Type 0
 IsRecorded v (Load problem seed) = ⊥
-IsRecorded v (Add demand pickup delivery) = (demand ≤ 1000000) × IsSpot pickup × IsSpot delivery
-IsRecorded v (Add1 demand spot) = (demand ≤ 1000000) × IsSpot spot
+IsRecorded v (Add demand pickup delivery) = (is_demand demand && (is_spot pickup && is_spot delivery)) ≡ true
+IsRecorded v (Add1 demand spot) = (is_demand demand && is_spot spot) ≡ true
 IsRecorded v (Withdraw name) = HasRoom v name
 IsRecorded v (Pin vehicle k) = HasRoom v vehicle × HasRoom v k
 IsRecorded v (Unpin vehicle) = HasRoom v vehicle

@@ -16,7 +16,7 @@ use Rattle.state_codec.specs.declared.head.Head.{Head}
 use Rattle.state_codec.specs.declared.fault.CodecFault.TheVariants.{BadField}
 use Rattle.state_codec.specs.Bytes.{width}
 use Rattle.state_codec.specs.Limits.{most}
-use Rattle.state_codec.specs.Fields.{◌>>=◌, Field, only, byte_at, number_at, signed_at, is_coordinate, is_demand, is_time, is_service, int_eq}
+use Rattle.state_codec.specs.Fields.{◌>>=◌, Field, only, byte_at, number_at, signed_at, point_at, window_at, is_demand, is_service, int_eq}
 
 -- no request so far has a stop with this number
 abbrev pub is_free : List (ℕ × Request) → ℕ → Bool
@@ -38,13 +38,11 @@ is_wanted (Some wanted) q = int_eq q wanted
 -- what follows the number of a stop
 unfoldable pub visit_at : ℕ → Option ℤ → List ℕ → Field Stop
 visit_at number wanted bytes = do
-  x ← only is_coordinate (signed_at bytes)
-  y ← only is_coordinate (signed_at x.1)
-  demand ← only (is_wanted wanted) (signed_at y.1)
-  earliest ← only is_time (number_at 4 demand.1)
-  latest ← only (λ t. nat_le earliest.0 t && is_time t) (number_at 4 earliest.1)
-  service ← only is_service (number_at 4 latest.1)
-  Ok (record { number = number; x = x.0; y = y.0; demand = demand.0; earliest = earliest.0; latest = latest.0; service = service.0 }, service.1)
+  point ← point_at bytes
+  demand ← only (is_wanted wanted) (signed_at point.1)
+  window ← window_at demand.1
+  service ← only is_service (number_at 4 window.1)
+  Ok (record { number = number; x = point.0.0; y = point.0.1; demand = demand.0; earliest = window.0.0; latest = window.0.1; service = service.0 }, service.1)
 
 -- the stop that names a request
 unfoldable pub first_at : Version → ℕ → List (ℕ × Request) → List ℕ → Field Stop
@@ -147,11 +145,9 @@ is_deviation d = nat_le d 1000000000
 
 unfoldable pub depot_at : List ℕ → Field Stop
 depot_at bytes = do
-  x ← only is_coordinate (signed_at bytes)
-  y ← only is_coordinate (signed_at x.1)
-  earliest ← only is_time (number_at 4 y.1)
-  latest ← only (λ t. nat_le earliest.0 t && is_time t) (number_at 4 earliest.1)
-  Ok (record { number = 0; x = x.0; y = y.0; demand = pos 0; earliest = earliest.0; latest = latest.0; service = 0 }, latest.1)
+  point ← point_at bytes
+  window ← window_at point.1
+  Ok (record { number = 0; x = point.0.0; y = point.0.1; demand = pos 0; earliest = window.0.0; latest = window.0.1; service = 0 }, window.1)
 
 -- version 1 has no deviation: it is 0
 abbrev pub allowance_at : Version → List ℕ → Field ℕ

@@ -3,7 +3,7 @@
 //! Truncated is not "where some continuation is an encoding": a count of 4 billion requests is read as far as the bytes go,
 //! though no continuation has so many. What holds is the law of fronts, and that a bad field is final.
 
-use std::alloc::{AllocError, AllocFailed};
+use std::alloc::AllocError;
 use thiserror::Error;
 
 /// Why bytes are no state.
@@ -27,17 +27,6 @@ impl From<AllocError> for CodecFault {
     ghost from_gives = { λ _ fault. fault ≡ OutOfMemory };
 
     fn from(_: AllocError) -> CodecFault {
-        CodecFault::OutOfMemory
-    }
-}
-
-impl<T: Drop> From<AllocFailed<T>> for CodecFault {
-    ghost use Rattle.std.specs.Prelude.{◌≡◌};
-    ghost use Rattle.state_codec.specs.declared.fault.CodecFault.TheVariants.{OutOfMemory};
-
-    ghost from_gives = { λ _ fault. fault ≡ OutOfMemory };
-
-    fn from(_: AllocFailed<T>) -> CodecFault {
         CodecFault::OutOfMemory
     }
 }

@@ -1,11 +1,14 @@
 //! Fields at the front of bytes.
-ghost use Rattle.std.specs.Prelude.{◌≡◌};
+ghost use Rattle.std.specs.Prelude.{◌≡◌, ◌&&◌, List, ℕ, nat_le, Ok, Err, if◌then◌else◌};
+ghost use Rattle.command_core.specs.Wishes.{is_coordinate};
 ghost use Rattle.state_codec.specs.Bytes.{width};
-ghost use Rattle.state_codec.specs.Fields.{Reads, only, byte_at, number_at, signed_at, is_coordinate, is_demand, is_time, is_service};
+ghost use Rattle.state_codec.specs.declared.fault.CodecFault.TheVariants.{BadField};
+ghost use Rattle.state_codec.specs.Fields.{Reads, only, byte_at, number_at, signed_at, point_at, window_at, is_time};
 
 use crate::fault::CodecFault;
 use crate::version::Version;
-use plan_types::limits::{MAX_COORDINATE, MAX_DEMAND, MAX_SERVICE, MAX_TIME};
+use command_core::is_coordinate;
+use plan_types::limits::MAX_TIME;
 
 #[tactic(auto, unfolding(crate::specs::Fields::byte_at))]
 pub(crate) fn u8_at(bytes: &[u8]) -> Result<(u8, &[u8]), CodecFault>
@@ -76,24 +79,56 @@ pub(crate) fn number_at(version: Version, bytes: &[u8]) -> Result<(u32, &[u8]), 
     }
 }
 
-/// An x or a y.
-pub(crate) fn coordinate_at(bytes: &[u8]) -> Result<(i32, &[u8]), CodecFault>
+/// A value that was read, where its rule takes it, and what stands behind it.
+pub(crate) fn only<T: Drop>(is_taken: bool, value: T, rest: &[u8]) -> Result<(T, &[u8]), CodecFault>
+    ensures { let read : T × List ℕ = (value, rest.now) in
+        Reads (λ x. (x.0, x.1.now)) result (if is_taken then Ok read else Err BadField) }
+{
+    if is_taken {
+        Ok((value, rest))
+    } else {
+        Err(CodecFault::BadField)
+    }
+}
+
+fn coordinate_at(bytes: &[u8]) -> Result<(i32, &[u8]), CodecFault>
     ensures { Reads (λ x. (x.0, x.1.now)) result (only is_coordinate (signed_at bytes.now)) }
 {
     let (x, rest) = i32_at(bytes)?;
-    if x < -MAX_COORDINATE || MAX_COORDINATE < x {
-        return Err(CodecFault::BadField);
-    }
-    Ok((x, rest))
+    only(is_coordinate(x), x, rest)
 }
 
-/// When a window begins.
-pub(crate) fn time_at(bytes: &[u8]) -> Result<(u32, &[u8]), CodecFault>
+/// An x and a y.
+#[tactic(auto, unfolding(crate::specs::Fields::point_at))]
+pub(crate) fn point_at(bytes: &[u8]) -> Result<((i32, i32), &[u8]), CodecFault>
+    ensures { Reads (λ x. (x.0, x.1.now)) result (point_at bytes.now) }
+{
+    let (x, rest) = coordinate_at(bytes)?;
+    let (y, rest) = coordinate_at(rest)?;
+    Ok(((x, y), rest))
+}
+
+fn earliest_at(bytes: &[u8]) -> Result<(u32, &[u8]), CodecFault>
     ensures { Reads (λ x. (x.0, x.1.now)) result (only is_time (number_at 4 bytes.now)) }
 {
-    let (time, rest) = u32_at(bytes)?;
-    if MAX_TIME < time {
-        return Err(CodecFault::BadField);
-    }
-    Ok((time, rest))
+    let (earliest, rest) = u32_at(bytes)?;
+    only(earliest <= MAX_TIME, earliest, rest)
+}
+
+fn latest_at(earliest: u32, bytes: &[u8]) -> Result<(u32, &[u8]), CodecFault>
+    ensures { Reads (λ x. (x.0, x.1.now)) result
+        (only (λ t. nat_le earliest t && is_time t) (number_at 4 bytes.now)) }
+{
+    let (latest, rest) = u32_at(bytes)?;
+    only(earliest <= latest && latest <= MAX_TIME, latest, rest)
+}
+
+/// When a window begins and ends.
+#[tactic(auto, unfolding(crate::specs::Fields::window_at))]
+pub(crate) fn window_at(bytes: &[u8]) -> Result<((u32, u32), &[u8]), CodecFault>
+    ensures { Reads (λ x. (x.0, x.1.now)) result (window_at bytes.now) }
+{
+    let (earliest, rest) = earliest_at(bytes)?;
+    let (latest, rest) = latest_at(earliest, rest)?;
+    Ok(((earliest, latest), rest))
 }

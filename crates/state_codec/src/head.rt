@@ -3,18 +3,14 @@ ghost use Rattle.std.specs.Prelude.{◌≡◌};
 ghost use Rattle.state_codec.specs.Bytes.{width};
 ghost use Rattle.state_codec.specs.Fields.{Reads, only, number_at};
 ghost use Rattle.state_codec.specs.Limits.{most};
-ghost use Rattle.state_codec.specs.Reading.{kind_at, is_steps, is_capacity, is_fleet, is_next, is_deviation, allowance_at, head_at};
+ghost use Rattle.state_codec.specs.Reading.{kind_at, is_steps, is_capacity, is_fleet, is_next, depot_at, allowance_at, head_at};
 
 use crate::fault::CodecFault;
-use crate::fields::{number_at, u8_at, u32_at, u64_at};
-use crate::requests::depot_at;
+use crate::fields::{number_at, only, point_at, u8_at, u32_at, u64_at, window_at};
 use crate::version::Version;
+use command_core::{MAX_DEVIATION, MAX_STEPS};
 use plan_types::limits::MAX_CAPACITY;
 use plan_types::{Kind, Stop};
-
-const MAX_STEPS: u64 = 1 << 60;
-
-const MAX_DEVIATION: u32 = 1_000_000_000;
 
 #[derive(Clone, Copy)]
 pub(crate) struct Head {
@@ -53,20 +49,14 @@ fn steps_at(bytes: &[u8]) -> Result<(u64, &[u8]), CodecFault>
     ensures { Reads (λ x. (x.0, x.1.now)) result (only is_steps (number_at 8 bytes.now)) }
 {
     let (steps, rest) = u64_at(bytes)?;
-    if MAX_STEPS < steps {
-        return Err(CodecFault::BadField);
-    }
-    Ok((steps, rest))
+    only(steps <= MAX_STEPS, steps, rest)
 }
 
 fn capacity_at(bytes: &[u8]) -> Result<(u32, &[u8]), CodecFault>
     ensures { Reads (λ x. (x.0, x.1.now)) result (only is_capacity (number_at 4 bytes.now)) }
 {
     let (capacity, rest) = u32_at(bytes)?;
-    if MAX_CAPACITY < capacity {
-        return Err(CodecFault::BadField);
-    }
-    Ok((capacity, rest))
+    only(capacity <= MAX_CAPACITY, capacity, rest)
 }
 
 fn fleet_at(version: Version, bytes: &[u8]) -> Result<(u32, &[u8]), CodecFault>
@@ -74,10 +64,7 @@ fn fleet_at(version: Version, bytes: &[u8]) -> Result<(u32, &[u8]), CodecFault>
         (only (is_fleet version) (number_at (width version) bytes.now)) }
 {
     let (fleet, rest) = number_at(version, bytes)?;
-    if fleet < 1 || most(version) < fleet {
-        return Err(CodecFault::BadField);
-    }
-    Ok((fleet, rest))
+    only(1 <= fleet && fleet <= most(version), fleet, rest)
 }
 
 fn next_number_at(version: Version, bytes: &[u8]) -> Result<(u32, &[u8]), CodecFault>
@@ -85,10 +72,26 @@ fn next_number_at(version: Version, bytes: &[u8]) -> Result<(u32, &[u8]), CodecF
         (only (is_next version) (number_at (width version) bytes.now)) }
 {
     let (next, rest) = number_at(version, bytes)?;
-    if next < 1 || most(version) + 1 < next {
-        return Err(CodecFault::BadField);
-    }
-    Ok((next, rest))
+    only(1 <= next && next <= most(version) + 1, next, rest)
+}
+
+// The depot's place and window.
+#[tactic(auto, unfolding(crate::specs::Reading::depot_at))]
+fn depot_at(bytes: &[u8]) -> Result<(Stop, &[u8]), CodecFault>
+    ensures { Reads (λ x. (x.0, x.1.now)) result (depot_at bytes.now) }
+{
+    let ((x, y), rest) = point_at(bytes)?;
+    let ((earliest, latest), rest) = window_at(rest)?;
+    let depot = Stop {
+        number: 0,
+        x,
+        y,
+        demand: 0,
+        earliest,
+        latest,
+        service: 0,
+    };
+    Ok((depot, rest))
 }
 
 // How much longer the working plan may be.
@@ -100,10 +103,7 @@ fn allowance_at(version: Version, bytes: &[u8]) -> Result<(u32, &[u8]), CodecFau
         Version::Two => {}
     }
     let (deviation, rest) = u32_at(bytes)?;
-    if MAX_DEVIATION < deviation {
-        return Err(CodecFault::BadField);
-    }
-    Ok((deviation, rest))
+    only(deviation <= MAX_DEVIATION, deviation, rest)
 }
 
 #[tactic(auto, unfolding(crate::specs::Reading::head_at))]

@@ -70,10 +70,7 @@ fn work_at<'a>(
 {
     match version {
         Version::One => Ok((plan.copy()?, bytes)),
-        Version::Two => {
-            let (work, rest) = routes_at(alloc, Version::Two, fleet, bytes)?;
-            Ok((Routes::from(work), rest))
-        }
+        Version::Two => routes_at(alloc, Version::Two, fleet, bytes),
     }
 }
 
@@ -84,13 +81,10 @@ fn job_at(alloc: Global, version: Version, bytes: &[u8]) -> Result<(Parts, &[u8]
     let (head, rest) = head_at(version, bytes)?;
     let (problem, rest) = problem_at(alloc, version, &head, rest)?;
     let ((pins, plan), rest) = vehicles_at(alloc, version, head.fleet, rest)?;
-    let plan = Routes::from(plan);
     let (work, rest) = work_at(alloc, version, head.fleet, &plan, rest)?;
     let parts = Parts {
         problem,
-        pins: Pins {
-            routes: Routes::from(pins),
-        },
+        pins: Pins { routes: pins },
         plan: Plan { routes: plan },
         work: Plan { routes: work },
         deviation: head.deviation,

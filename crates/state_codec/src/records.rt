@@ -3,23 +3,17 @@
 //! A record is decoded by reading a command, testing its limits, and comparing its record with the sector: so the bytes
 //! behind the fields need no rule of their own.
 ghost use Rattle.std.specs.Prelude.{◌≡◌, ◌≢◌, ◌≤◌, ◌+◌, ◌++◌, ◌∷◌, ◌↔◌, IsTrue, length, MatchOption};
-ghost use Rattle.plan_types.specs.Limits.{IsCoordinate};
 ghost use Rattle.state_codec.specs.declared.version.Version.TheVariants.{One, Two};
 ghost use Rattle.state_codec.specs.Bytes.{spot_bytes, command_bytes, record_bytes};
 ghost use Rattle.state_codec.specs.Fields.{Reads};
-ghost use Rattle.state_codec.specs.Limits.{HasRoom, IsSpot, IsDeviationOf, IsRecorded};
+ghost use Rattle.state_codec.specs.Limits.{HasRoom, IsDeviationOf, IsRecorded};
 ghost use Rattle.state_codec.specs.Records.{spot_at, add_at, add1_at, withdraw_at, pin_at, unpin_at, search_at, deviation_at, fields_at, command_at};
 
 use crate::fault::CodecFault;
 use crate::fields::{i32_at, number_at, u8_at, u16_at, u32_at};
 use crate::sector::Sector;
 use crate::version::Version;
-use command_core::{Command, Spot};
-use plan_types::limits::{MAX_COORDINATE, MAX_DEMAND, MAX_SERVICE, MAX_TIME};
-
-const MAX_STEPS: u16 = 256;
-
-const MAX_DEVIATION: u32 = 1_000_000_000;
+use command_core::{Command, MAX_COUNT, MAX_DEVIATION, Spot, is_demand, is_spot};
 
 /// The sector of a record: the command as the one of this index in the journal of this sequence. The command is none of Load,
 /// Checkpoint and Anneal, and its fields keep their limits. Takes no memory.
@@ -138,22 +132,6 @@ fn put_spot(sector: &mut Sector, spot: &Spot)
     sector.put_u32(spot.service);
 }
 
-fn is_coordinate(x: i32) -> bool
-    ensures { IsTrue result ↔ IsCoordinate x }
-{
-    -MAX_COORDINATE <= x && x <= MAX_COORDINATE
-}
-
-fn is_spot(spot: &Spot) -> bool
-    ensures { IsTrue result ↔ IsSpot spot.now }
-{
-    is_coordinate(spot.x)
-        && is_coordinate(spot.y)
-        && spot.earliest <= spot.latest
-        && spot.latest <= MAX_TIME
-        && spot.service <= MAX_SERVICE
-}
-
 fn has_room(version: Version, number: u32) -> bool
     ensures { IsTrue result ↔ HasRoom version number }
 {
@@ -183,12 +161,12 @@ fn is_recorded(version: Version, command: &Command) -> bool
             demand,
             pickup,
             delivery,
-        } => *demand <= MAX_DEMAND as u32 && is_spot(pickup) && is_spot(delivery),
-        Command::Add1 { demand, spot } => *demand <= MAX_DEMAND as u32 && is_spot(spot),
+        } => is_demand(*demand) && is_spot(pickup) && is_spot(delivery),
+        Command::Add1 { demand, spot } => is_demand(*demand) && is_spot(spot),
         Command::Withdraw(name) => has_room(version, *name),
         Command::Pin(vehicle, k) => has_room(version, *vehicle) && has_room(version, *k),
         Command::Unpin(vehicle) => has_room(version, *vehicle),
-        Command::Search(count) => 1 <= *count && *count <= MAX_STEPS,
+        Command::Search(count) => 1 <= *count && *count <= MAX_COUNT,
         Command::Deviation(deviation) => is_deviation(version, *deviation),
     }
 }

@@ -1,18 +1,17 @@
 //! The requests of a state.
-ghost use Rattle.std.specs.Prelude.{◌≡◌, ◌≤◌, ◌&&◌, [], nat_le, nat_lt, OnOk, IfOk, IfErr};
+ghost use Rattle.std.specs.Prelude.{◌≡◌, ◌≤◌, [], nat_lt, OnOk, IfOk, IfErr};
 ghost use Rattle.plan_types.specs.Instance.{with_request, IsTaken};
 ghost use Rattle.plan_types.specs.Request.{IsRequest};
 ghost use Rattle.state_codec.specs.Filled.{IsFilledBelow};
 ghost use Rattle.plan_types.specs.Limits.{IsDemand};
 ghost use Rattle.std.specs.List.{list_all};
-ghost use Rattle.state_codec.specs.Bytes.{width};
-ghost use Rattle.state_codec.specs.Fields.{Reads, Gives, only, number_at, signed_at, is_coordinate, is_service, is_time};
-ghost use Rattle.state_codec.specs.Reading.{is_free, is_name, is_delivery, is_wanted, visit_at, first_at, delivery_at, single_at, pair_at, request_at, depot_at, times, next_request};
+ghost use Rattle.state_codec.specs.Fields.{Reads, Gives, only, number_at, signed_at, is_service};
+ghost use Rattle.state_codec.specs.Reading.{is_free, is_name, is_delivery, is_wanted, visit_at, first_at, delivery_at, single_at, pair_at, request_at, times, next_request};
 
 use crate::fault::CodecFault;
-use crate::fields::{coordinate_at, i32_at, number_at, time_at, u8_at, u32_at};
+use crate::fields::{i32_at, number_at, only, point_at, u8_at, u32_at, window_at};
 use crate::version::Version;
-use plan_types::limits::{MAX_DEMAND, MAX_SERVICE, MAX_TIME};
+use plan_types::limits::{MAX_DEMAND, MAX_SERVICE};
 use plan_types::{Problem, Request, Stop};
 
 // Whether the number may name the next request.
@@ -57,64 +56,23 @@ fn demand_at(wanted: Option<i32>, bytes: &[u8]) -> Result<(i32, &[u8]), CodecFau
     ensures { Reads (λ x. (x.0, x.1.now)) result (only (is_wanted wanted) (signed_at bytes.now)) }
 {
     let (demand, rest) = i32_at(bytes)?;
-    if !is_wanted(wanted, demand) {
-        return Err(CodecFault::BadField);
-    }
-    Ok((demand, rest))
-}
-
-/// When a window that began then ends.
-pub(crate) fn end_at(earliest: u32, bytes: &[u8]) -> Result<(u32, &[u8]), CodecFault>
-    ensures { Reads (λ x. (x.0, x.1.now)) result
-        (only (λ t. nat_le earliest t && is_time t) (number_at 4 bytes.now)) }
-{
-    let (latest, rest) = u32_at(bytes)?;
-    if latest < earliest || MAX_TIME < latest {
-        return Err(CodecFault::BadField);
-    }
-    Ok((latest, rest))
+    only(is_wanted(wanted, demand), demand, rest)
 }
 
 fn service_at(bytes: &[u8]) -> Result<(u32, &[u8]), CodecFault>
     ensures { Reads (λ x. (x.0, x.1.now)) result (only is_service (number_at 4 bytes.now)) }
 {
     let (service, rest) = u32_at(bytes)?;
-    if MAX_SERVICE < service {
-        return Err(CodecFault::BadField);
-    }
-    Ok((service, rest))
-}
-
-/// The depot's place and window.
-#[tactic(auto, unfolding(crate::specs::Reading::depot_at))]
-pub(crate) fn depot_at(bytes: &[u8]) -> Result<(Stop, &[u8]), CodecFault>
-    ensures { Reads (λ x. (x.0, x.1.now)) result (depot_at bytes.now) }
-{
-    let (x, rest) = coordinate_at(bytes)?;
-    let (y, rest) = coordinate_at(rest)?;
-    let (earliest, rest) = time_at(rest)?;
-    let (latest, rest) = end_at(earliest, rest)?;
-    let depot = Stop {
-        number: 0,
-        x,
-        y,
-        demand: 0,
-        earliest,
-        latest,
-        service: 0,
-    };
-    Ok((depot, rest))
+    only(service <= MAX_SERVICE, service, rest)
 }
 
 #[tactic(auto, unfolding(crate::specs::Reading::visit_at))]
 fn visit_at(number: u32, wanted: Option<i32>, bytes: &[u8]) -> Result<(Stop, &[u8]), CodecFault>
     ensures { Reads (λ x. (x.0, x.1.now)) result (visit_at number wanted bytes.now) }
 {
-    let (x, rest) = coordinate_at(bytes)?;
-    let (y, rest) = coordinate_at(rest)?;
+    let ((x, y), rest) = point_at(bytes)?;
     let (demand, rest) = demand_at(wanted, rest)?;
-    let (earliest, rest) = time_at(rest)?;
-    let (latest, rest) = end_at(earliest, rest)?;
+    let ((earliest, latest), rest) = window_at(rest)?;
     let (service, rest) = service_at(rest)?;
     let stop = Stop {
         number,
@@ -128,22 +86,6 @@ fn visit_at(number: u32, wanted: Option<i32>, bytes: &[u8]) -> Result<(Stop, &[u
     Ok((stop, rest))
 }
 
-fn name_at<'a>(
-    version: Version,
-    problem: &Problem,
-    next: u32,
-    bytes: &'a [u8],
-) -> Result<(u32, &'a [u8]), CodecFault>
-    ensures { Reads (λ x. (x.0, x.1.now)) result
-        (only (is_name next problem.now.requests) (number_at (width version) bytes.now)) }
-{
-    let (number, rest) = number_at(version, bytes)?;
-    if !is_name(problem, next, number) {
-        return Err(CodecFault::BadField);
-    }
-    Ok((number, rest))
-}
-
 #[tactic(auto, unfolding(crate::specs::Reading::first_at))]
 fn first_at<'a>(
     version: Version,
@@ -154,26 +96,9 @@ fn first_at<'a>(
     ensures { Reads (λ x. (x.0, x.1.now)) result
         (first_at version next problem.now.requests bytes.now) }
 {
-    let (number, rest) = name_at(version, problem, next, bytes)?;
-    visit_at(number, None, rest)
-}
-
-fn delivered_at<'a>(
-    version: Version,
-    problem: &Problem,
-    next: u32,
-    pickup: u32,
-    bytes: &'a [u8],
-) -> Result<(u32, &'a [u8]), CodecFault>
-    ensures { Reads (λ x. (x.0, x.1.now)) result
-        (only (is_delivery next problem.now.requests pickup)
-        (number_at (width version) bytes.now)) }
-{
     let (number, rest) = number_at(version, bytes)?;
-    if !is_delivery(problem, next, pickup, number) {
-        return Err(CodecFault::BadField);
-    }
-    Ok((number, rest))
+    let (name, rest) = only(is_name(problem, next, number), number, rest)?;
+    visit_at(name, None, rest)
 }
 
 #[tactic(auto, unfolding(crate::specs::Reading::delivery_at))]
@@ -188,7 +113,9 @@ fn delivery_at<'a>(
     ensures { Reads (λ x. (x.0, x.1.now)) result
         (delivery_at version next problem.now.requests pickup.now bytes.now) }
 {
-    let (number, rest) = delivered_at(version, problem, next, pickup.number, bytes)?;
+    let (number, rest) = number_at(version, bytes)?;
+    let is_delivery = is_delivery(problem, next, pickup.number, number);
+    let (number, rest) = only(is_delivery, number, rest)?;
     visit_at(number, Some(-pickup.demand), rest)
 }
 

@@ -1,13 +1,13 @@
 //! The pins and routes of a state.
-ghost use Rattle.std.specs.Prelude.{◌≡◌, ◌≤◌, [], IfOk, Ok, length, take, nat_le};
+ghost use Rattle.std.specs.Prelude.{◌≡◌, ◌≤◌, [], IfOk, length, take, nat_le};
 ghost use Rattle.state_codec.specs.Bytes.{width};
 ghost use Rattle.state_codec.specs.Fields.{Reads, Gives, only, number_at};
 ghost use Rattle.state_codec.specs.Reading.{times, next_stop, vehicle_at, next_vehicle, route_at, next_route};
 
 use crate::fault::CodecFault;
-use crate::fields::number_at;
+use crate::fields::{number_at, only};
 use crate::version::Version;
-use plan_types::Route;
+use plan_types::{OutOfMemory, Route, Routes};
 use std::alloc::Global;
 
 // So many stop numbers. No room is made for them by their count alone.
@@ -16,11 +16,11 @@ fn stops_at(
     version: Version,
     count: u32,
     bytes: &[u8],
-) -> Result<(Vec<u32>, &[u8]), CodecFault>
-    ensures { Gives (λ x. (x.0.items, x.1.now)) result
+) -> Result<(Route, &[u8]), CodecFault>
+    ensures { Gives (λ x. (x.0, x.1.now)) result
         (times (next_stop version) count [] bytes.now) }
 {
-    let mut stops = Vec::new(alloc);
+    let mut stops = Route::new(alloc);
     let mut rest = bytes;
     for _ in 0..count {
         let (stop, after) = number_at(version, rest)?;
@@ -36,19 +36,16 @@ fn route_len_at(version: Version, pin: u32, bytes: &[u8]) -> Result<(u32, &[u8])
         (only (nat_le pin) (number_at (width version) bytes.now)) }
 {
     let (len, rest) = number_at(version, bytes)?;
-    if len < pin {
-        return Err(CodecFault::BadField);
-    }
-    Ok((len, rest))
+    only(pin <= len, len, rest)
 }
 
 // The first stops of a route.
-fn front(alloc: Global, stops: &[u32], len: u32) -> Result<Vec<u32>, CodecFault>
+fn front(alloc: Global, stops: &[u32], len: u32) -> Result<Route, OutOfMemory>
     requires { len ≤ length stops.now }
-    ensures { Gives (λ v. v.items) result (Ok (take len stops.now)) }
+    ensures { IfOk result (λ front. front ≡ take len stops.now) }
 {
     let front = Vec::from_slice(alloc, &stops[..len as usize])?;
-    Ok(front)
+    Ok(Route::from(front))
 }
 
 #[tactic(auto, unfolding(crate::specs::Reading::vehicle_at))]
@@ -62,8 +59,8 @@ fn vehicle_at(
     let (pin, rest) = number_at(version, bytes)?;
     let (len, rest) = route_len_at(version, pin, rest)?;
     let (stops, rest) = stops_at(alloc, version, len, rest)?;
-    let front = front(alloc, &stops, pin)?;
-    Ok(((Route::from(front), Route::from(stops)), rest))
+    let front = front(alloc, stops.as_slice(), pin)?;
+    Ok(((front, stops), rest))
 }
 
 #[tactic(auto, unfolding(crate::specs::Reading::route_at))]
@@ -71,8 +68,7 @@ fn route_at(alloc: Global, version: Version, bytes: &[u8]) -> Result<(Route, &[u
     ensures { Gives (λ x. (x.0, x.1.now)) result (route_at version bytes.now) }
 {
     let (len, rest) = number_at(version, bytes)?;
-    let (stops, rest) = stops_at(alloc, version, len, rest)?;
-    Ok((Route::from(stops), rest))
+    stops_at(alloc, version, len, rest)
 }
 
 /// The pins and the routes of so many vehicles.
@@ -81,12 +77,12 @@ pub(crate) fn vehicles_at(
     version: Version,
     count: u32,
     bytes: &[u8],
-) -> Result<((Vec<Route>, Vec<Route>), &[u8]), CodecFault>
-    ensures { Gives (λ x. ((x.0.0.items, x.0.1.items), x.1.now)) result
+) -> Result<((Routes, Routes), &[u8]), CodecFault>
+    ensures { Gives (λ x. (x.0, x.1.now)) result
         (times (next_vehicle version) count ([], []) bytes.now) }
 {
-    let mut pins = Vec::new(alloc);
-    let mut routes = Vec::new(alloc);
+    let mut pins = Routes::new(alloc);
+    let mut routes = Routes::new(alloc);
     let mut rest = bytes;
     for _ in 0..count {
         let ((pin, route), after) = vehicle_at(alloc, version, rest)?;
@@ -103,11 +99,11 @@ pub(crate) fn routes_at(
     version: Version,
     count: u32,
     bytes: &[u8],
-) -> Result<(Vec<Route>, &[u8]), CodecFault>
-    ensures { Gives (λ x. (x.0.items, x.1.now)) result
+) -> Result<(Routes, &[u8]), CodecFault>
+    ensures { Gives (λ x. (x.0, x.1.now)) result
         (times (next_route version) count [] bytes.now) }
 {
-    let mut routes = Vec::new(alloc);
+    let mut routes = Routes::new(alloc);
     let mut rest = bytes;
     for _ in 0..count {
         let (route, after) = route_at(alloc, version, rest)?;

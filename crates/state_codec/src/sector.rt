@@ -4,7 +4,6 @@ ghost use Rattle.state_codec.specs.Bytes.{number_bytes, signed_bytes, count_byte
 ghost use Rattle.state_codec.specs.Limits.{HasRoom};
 
 use crate::version::Version;
-use byteorder::{BigEndian, ByteOrder};
 use std::marker::Model;
 
 /// Contracts see what is written so far. Zeros follow it.
@@ -67,9 +66,7 @@ impl Sector {
         ensures text { self.new ≡ self.old ++ number_bytes 2 n }
         ensures len { length self.new ≡ length self.old + 2 }
     {
-        let mut text = [0; 2];
-        BigEndian::write_u16(&mut text, n);
-        self.put(&text);
+        self.put(&n.to_be_bytes());
     }
 
     #[tactic(auto, unfolding(crate::specs::Bytes::number_bytes))]
@@ -78,9 +75,7 @@ impl Sector {
         ensures text { self.new ≡ self.old ++ number_bytes 4 n }
         ensures len { length self.new ≡ length self.old + 4 }
     {
-        let mut text = [0; 4];
-        BigEndian::write_u32(&mut text, n);
-        self.put(&text);
+        self.put(&n.to_be_bytes());
     }
 
     #[tactic(auto, unfolding(crate::specs::Bytes::number_bytes))]
@@ -89,9 +84,7 @@ impl Sector {
         ensures text { self.new ≡ self.old ++ number_bytes 8 n }
         ensures len { length self.new ≡ length self.old + 8 }
     {
-        let mut text = [0; 8];
-        BigEndian::write_u64(&mut text, n);
-        self.put(&text);
+        self.put(&n.to_be_bytes());
     }
 
     #[tactic(auto, unfolding(crate::specs::Bytes::signed_bytes))]
@@ -100,9 +93,7 @@ impl Sector {
         ensures text { self.new ≡ self.old ++ signed_bytes n }
         ensures len { length self.new ≡ length self.old + 4 }
     {
-        let mut text = [0; 4];
-        BigEndian::write_i32(&mut text, n);
-        self.put(&text);
+        self.put(&n.to_be_bytes());
     }
 
     /// A number that the version has room for.

@@ -64,11 +64,7 @@ pub fn decode_state(alloc: Global, bytes: &[u8]) -> Result<State, CodecFault>
     ensures only { (state : State) → IsState state → IsStateOf Two state
         → bytes.now ≡ state_bytes Two state → IsUnlessMemory state result }
 {
-    numbers_are_below_the_next();
-    verdicts_are_unique();
-    tests_say_pass();
-    tests_say_feasible();
-    decode(alloc, Version::Two, bytes)
+    decoded(alloc, Version::Two, bytes)
 }
 
 /// The same for the bytes of version 1, which have shorter numbers and lower limits. The state has deviation 0, and the plan is the
@@ -78,13 +74,22 @@ pub fn decode_state_v1(alloc: Global, bytes: &[u8]) -> Result<State, CodecFault>
     ensures only { (state : State) → IsState state → IsStateOf One state
         → bytes.now ≡ state_bytes One state → IsUnlessMemory state result }
 {
+    decoded(alloc, Version::One, bytes)
+}
+
+fn decoded(alloc: Global, version: Version, bytes: &[u8]) -> Result<State, CodecFault>
+    ensures decodes { Decodes version bytes.now result }
+    ensures only { (state : State) → IsState state → IsStateOf version state
+        → bytes.now ≡ state_bytes version state → IsUnlessMemory state result }
+{
     numbers_are_below_the_next();
     verdicts_are_unique();
     tests_say_pass();
     tests_say_feasible();
-    decode(alloc, Version::One, bytes)
+    decode(alloc, version, bytes)
 }
 
+// The same by what reading gives.
 fn decode(alloc: Global, version: Version, bytes: &[u8]) -> Result<State, CodecFault>
     ensures { IsDecoded version bytes.now result }
 {

@@ -3,7 +3,6 @@ ghost use Rattle.std.specs.Prelude.{◌≡◌, ◌≤◌, ◌<◌, ◌^◌, ◌+
 ghost use Rattle.state_codec.specs.declared.version.Version.TheVariants.{Two};
 ghost use Rattle.state_codec.specs.Bytes.{number_bytes, signed_bytes, stop_bytes, request_bytes, requests_bytes, stops_bytes, vehicles_bytes, routes_bytes, depot_bytes, kind_code, head_bytes, job_bytes, state_bytes};
 
-use byteorder::{BigEndian, ByteOrder};
 use command_core::{Job, State};
 use indexmap::IndexMap;
 use plan_types::{Kind, OutOfMemory, Problem, Request, Route, Stop, numbers_are_below_the_next};
@@ -13,27 +12,21 @@ use std::alloc::Global;
 fn put_u32(out: &mut Vec<u8>, n: u32) -> Result<(), OutOfMemory>
     ensures { OnOk result (out.new.items ≡ out.old.items ++ number_bytes 4 n) }
 {
-    let mut text = [0; 4];
-    BigEndian::write_u32(&mut text, n);
-    out.extend_from_slice(&text)
+    out.extend_from_slice(&n.to_be_bytes())
 }
 
 #[tactic(auto, unfolding(crate::specs::Bytes::number_bytes))]
 fn put_u64(out: &mut Vec<u8>, n: u64) -> Result<(), OutOfMemory>
     ensures { OnOk result (out.new.items ≡ out.old.items ++ number_bytes 8 n) }
 {
-    let mut text = [0; 8];
-    BigEndian::write_u64(&mut text, n);
-    out.extend_from_slice(&text)
+    out.extend_from_slice(&n.to_be_bytes())
 }
 
 #[tactic(auto, unfolding(crate::specs::Bytes::signed_bytes))]
 fn put_i32(out: &mut Vec<u8>, n: i32) -> Result<(), OutOfMemory>
     ensures { OnOk result (out.new.items ≡ out.old.items ++ signed_bytes n) }
 {
-    let mut text = [0; 4];
-    BigEndian::write_i32(&mut text, n);
-    out.extend_from_slice(&text)
+    out.extend_from_slice(&n.to_be_bytes())
 }
 
 fn put_point(out: &mut Vec<u8>, stop: &Stop) -> Result<(), OutOfMemory>

@@ -9,15 +9,15 @@ returns-in_err-route c =
     let p = err_from_is_err_and c.from_residual.result c.from_residual.ensures.1 in
     let more = next_route c.args.version in
     let e = c.in_err-route.field-0.0 in
-    rw (p.1, p.2) (ends more c.args.count c.loop.counter c.loop.routes.items c.loop.rest.now (times more c.args.count [] c.args.bytes.now) c.loop.invariant c.loop-test.true e (fails_on e (route_at c.args.version c.loop.rest.now) (λ r. Ok (c.loop.routes.items ++ r.0 ∷ [], r.1)) c.in_err-route.ensures))
+    rw (p.1, p.2) (ends more c.args.count c.loop.counter c.loop.routes c.loop.rest.now (times more c.args.count [] c.args.bytes.now) c.loop.invariant c.loop-test.true e (fails_on e (route_at c.args.version c.loop.rest.now) (λ r. Ok (c.loop.routes ++ r.0 ∷ [], r.1)) c.in_err-route.ensures))
 
 pub loop-preserved : goal.loop-preserved
 loop-preserved c =
     let more = next_route c.args.version in
-    let b = c.loop.routes.items ++ c.in_ok-route.route ∷ [] in
-    rw c.in_ok-push.ensures.items (goes_on more c.args.count c.loop.counter c.loop.routes.items c.loop.rest.now (times more c.args.count [] c.args.bytes.now) c.loop.invariant c.loop-test.true b c.in_ok-route.after.now (rw c.in_ok-route.ensures refl))
+    let b = c.loop.routes ++ c.in_ok-route.route ∷ [] in
+    rw c.in_ok-push.ensures.ok (goes_on more c.args.count c.loop.counter c.loop.routes c.loop.rest.now (times more c.args.count [] c.args.bytes.now) c.loop.invariant c.loop-test.true b c.in_ok-route.after.now (rw c.in_ok-route.ensures refl))
 
 pub returns : goal.returns
 returns c =
     let more = next_route c.args.version in
-    is_done more c.args.count c.loop.counter c.loop.routes.items c.loop.rest.now (times more c.args.count [] c.args.bytes.now) c.loop.invariant c.loop-test.false
+    is_done more c.args.count c.loop.counter c.loop.routes c.loop.rest.now (times more c.args.count [] c.args.bytes.now) c.loop.invariant c.loop-test.false

@@ -4,4 +4,4 @@ use Rattle.state_codec.proofs.routes.vehicles_at.Given as goal
 
 -- the vehicles so far, and those left, are all
 abbrev pub invariant-loop : goal.invariant-loop
-invariant-loop l = times (next_vehicle l.version) (l.count - l.counter) (l.pins.items, l.routes.items) l.rest ≡ times (next_vehicle l.version) l.count ([], []) l.bytes
+invariant-loop l = times (next_vehicle l.version) (l.count - l.counter) (l.pins, l.routes) l.rest ≡ times (next_vehicle l.version) l.count ([], []) l.bytes
