@@ -1,6 +1,6 @@
 -- What stands before the requests is read as it was written.
 use Rattle.std.proofs.Common.{◌≡◌, ℕ, ◌+◌, ◌^◌, ◌<◌, ◌≤◌, ℤ, pos, Bool, true, false, cond, List, [], ◌∷◌, ◌++◌, Ok, Err, refl, sym, ap, subst, ◌∙◌, append_assoc, arith}
-use Rattle.std.specs.Prelude.{nat_le, ◌&&◌, ◌==◌}
+use Rattle.std.specs.Prelude.{nat_le, ◌==◌}
 use Rattle.std.proofs.lemmas.Bool.{eqb-true, leb-true, le-leb, and_parts, and_from}
 use Rattle.plan_types.specs.Limits.{IsVisit, IsDepot}
 use Rattle.plan_types.specs.declared.requests.Stop.{Stop}
@@ -10,7 +10,7 @@ use Rattle.state_codec.specs.declared.head.Head.{Head}
 use Rattle.state_codec.specs.declared.version.Version.{Version}
 use Rattle.state_codec.specs.declared.version.Version.TheVariants.{One, Two}
 use Rattle.state_codec.specs.declared.fault.CodecFault.TheVariants.{BadField}
-use Rattle.state_codec.specs.Bytes.{number_bytes, signed_bytes, count_bytes, kind_code, depot_bytes, deviation_bytes, width}
+use Rattle.state_codec.specs.Bytes.{number_bytes, count_bytes, kind_code, depot_bytes, deviation_bytes, width}
 use Rattle.state_codec.specs.Limits.{most}
 use Rattle.state_codec.specs.Fields.{only, byte_at, number_at, point_at, window_at}
 use Rattle.state_codec.specs.Reading.{kind_at, is_steps, is_capacity, is_fleet, is_next, is_deviation, depot_at, allowance_at, head_at}
