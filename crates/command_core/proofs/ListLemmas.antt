@@ -1,7 +1,7 @@
 -- Lists of routes, and parts of live stops that stand once.
-use Rattle.std.proofs.Common.{◌≡◌, ℕ, zero, suc, true, false, List, [], ◌∷◌, take, ap, subst, sym, ◌∙◌, nat_eq}
+use Rattle.std.proofs.Common.{◌≡◌, ℕ, zero, suc, true, List, [], ◌∷◌, take, ap, subst, sym, ◌∙◌}
 use Rattle.std.specs.List.{AllByRecursion, IsDistinct}
-use Rattle.std.proofs.lemmas.List.Elements.{All-take, All-nil, recursion_from_All}
+use Rattle.std.proofs.lemmas.List.Elements.{All-nil, recursion_from_All}
 use Rattle.plan_types.specs.Instance.{Instance}
 use Rattle.route_sched.specs.Route.{IsLive, AreLiveOnce}
 use Rattle.route_sched.proofs.LiveStops.{front_once}
