@@ -1,23 +1,18 @@
 -- The key and the value of a line from its parts, and the parts from them.
-use Rattle.std.proofs.Common.{◌≡◌, ℕ, suc, ◌+◌, ◌-◌, ◌<◌, ◌≤◌, Bool, true, false, ◌⊎◌, inl, inr, ⊎_elim, List, [], ◌∷◌, ◌++◌, length, get_or, take, drop, Option, Some, refl, sym, ap, subst, ◌∙◌, arith, append-nil, length-append}
+use Rattle.std.proofs.Common.{◌≡◌, ℕ, suc, ◌+◌, ◌-◌, ◌<◌, ◌≤◌, true, false, ◌⊎◌, inl, inr, ⊎_elim, List, [], ◌∷◌, ◌++◌, length, get_or, take, drop, Option, Some, refl, sym, ap, subst, ◌∙◌, arith, append-nil, length-append}
 use Rattle.std.specs.Prelude.{not, IfSome}
-use Rattle.std.specs.List.{after_first, before_first, last_or, list_all, position_or_len, prefix_len, suffix_len}
+use Rattle.std.specs.List.{after_first, before_first, last_or, position_or_len, prefix_len, suffix_len}
 use Rattle.std.proofs.lemmas.Bool.{and_from, and_parts, cases_Bool, cases_lt, eqb-true, false≢true, ne_eqb}
 use Rattle.std.proofs.lemmas.List.{drop_all, drop_at, drop_more, get_or-take, get_or_append_left, get_or_at, get_or-append_right, get_or_default, length-take, take-append-drop, take_all, take_at}
 use Rattle.std.proofs.lemmas.List.Folds.{list_all-append}
-use Rattle.std.proofs.lemmas.List.Sums.{AllPass-from_list_all, fails_before_first, list_all-from_AllPass, passes_at_first, position_or_len_is, prefix_len-le-length, prefix_len_passes, prefix_len_stops, split_at_first, suffix_len_is}
+use Rattle.std.proofs.lemmas.List.Sums.{AllPass-from_list_all, fails_before_first, passes_at_first, position_or_len_is, prefix_len-le-length, prefix_len_stops, split_at_first, suffix_len_is}
+use Rattle.text_lines.proofs.LawProofs.{drop_after}
+use Rattle.text_lines.proofs.NumberLemmas.{front_passes}
 use Rattle.text_lines.specs.Words.{is_blank, is_blank_line}
 use Rattle.instance_read.specs.VrpKeys.{AreKeyLines, BeginsSolid, EndsSolid, HasNoColon, IsKeyAlone, IsKeyWithValue, IsTrimmed}
 use Rattle.instance_read.specs.VrpLines.{is_colon, key_text, trimmed, value_text}
 
 -- ---- blanks at the front
-front_passes : (p : ℕ → Bool) (text : List ℕ) → list_all p (take (prefix_len p text) text) ≡ true
-front_passes p text =
-    let n = prefix_len p text in
-    list_all-from_AllPass p (take n text) (λ k d h.
-    let before : k < n = omega (arith, length-take n text) in
-    rw get_or-take (prefix_len_passes p text k d before))
-
 rest_begins : (text : List ℕ) → BeginsSolid (drop (prefix_len is_blank text) text)
 rest_begins text =
     let n = prefix_len is_blank text in
@@ -149,10 +144,6 @@ no_colon : (line : List ℕ) → HasNoColon line → position_or_len is_colon li
 no_colon line none =
     position_or_len_is is_colon line (length line) 0 (omega arith) (other_than_colon line none) (λ h. absurd (omega (arith, h)))
 
-drop_front : (front : List ℕ) (b : ℕ) (back : List ℕ) → drop (suc (length front)) (front ++ b ∷ back) ≡ back
-drop_front [] b back = refl
-drop_front (c ∷ front) b back = drop_front front b back
-
 from_value : (line key value : List ℕ) → IsKeyWithValue line key value → (key_text line ≡ key) × (value_text line ≡ value)
 from_value line key value is =
     let n : position_or_len is_colon line ≡ length is.front = ap (position_or_len is_colon) is.whole ∙ colon_behind is.front is.back is.first in
@@ -160,7 +151,7 @@ from_value line key value is =
     ap (λ k. take k line) n ∙ ap (take (length is.front)) is.whole ∙ take_at is.front (58 ∷ is.back) (length is.front) refl in
     let behind : after_first is_colon line ≡ is.back =
     let more : length is.front + 1 ≡ suc (length is.front) = omega arith in
-    ap (λ k. drop (k + 1) line) n ∙ ap (λ k. drop k line) more ∙ ap (drop (suc (length is.front))) is.whole ∙ drop_front is.front 58 is.back in
+    ap (λ k. drop (k + 1) line) n ∙ ap (λ k. drop k line) more ∙ ap (drop (suc (length is.front))) is.whole ∙ drop_after is.front 58 is.back in
     (ap trimmed before ∙ trimmed_from is.front key is.key_is, ap trimmed behind ∙ trimmed_from is.back value is.value_is)
 
 from_alone : (line key value : List ℕ) → IsKeyAlone line key value → (key_text line ≡ key) × (value_text line ≡ value)

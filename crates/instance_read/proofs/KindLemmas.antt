@@ -2,7 +2,7 @@
 use Rattle.std.proofs.Common.{◌≡◌, ℕ, ◌<◌, ◌≤◌, Bool, true, false, cond, ⊎_elim, refl, sym, ◌∙◌, arith}
 use Rattle.std.proofs.lemmas.Bool.{cases_lt, false≢true}
 use Rattle.instance_read.specs.declared.faults.ReadFaultKind.{ReadFaultKind}
-use Rattle.instance_read.specs.declared.faults.ReadFaultKind.TheVariants.{BadNumber, Range, FieldCount, TaskOrder, PairMismatch, EmptyWindow, TooManyStops, MissingKey, Unsupported, DepotNotFirst, NodeRepeated, Truncated, OutOfMemory}
+use Rattle.instance_read.specs.declared.faults.ReadFaultKind.TheVariants.{BadNumber, Range, FieldCount, TaskOrder, EmptyWindow, TooManyStops, Unsupported}
 use Rattle.instance_read.specs.Faults.{rank}
 use Rattle.instance_read.specs.Walk.{IsFirstKind}
 
@@ -18,12 +18,7 @@ none_below fault n small count number stops range order window Range e = no_less
 none_below fault n small count number stops range order window TaskOrder e = no_lesser n 5 (fault TaskOrder) order e
 none_below fault n small count number stops range order window EmptyWindow e = no_lesser n 6 (fault EmptyWindow) window e
 none_below fault n small count number stops range order window Unsupported e = small
-none_below fault n small count number stops range order window MissingKey e = omega arith
-none_below fault n small count number stops range order window NodeRepeated e = omega arith
-none_below fault n small count number stops range order window DepotNotFirst e = omega arith
-none_below fault n small count number stops range order window PairMismatch e = omega arith
-none_below fault n small count number stops range order window Truncated e = omega arith
-none_below fault n small count number stops range order window OutOfMemory e = omega arith
+none_below fault n small count number stops range order window _ e = omega arith
 
 -- which of the two it is says the test
 pub stops_or_range : (fault : ReadFaultKind → Bool) (t : Bool) (kind : ReadFaultKind) → kind ≡ cond t TooManyStops Range → fault FieldCount ≡ false → fault BadNumber ≡ false → fault TooManyStops ≡ t → (t ≡ false → fault Range ≡ true) → IsFirstKind fault kind

@@ -7,10 +7,11 @@ use Rattle.std.proofs.lemmas.Bool.{cases_lt, false≢true, or_parts, eqb-true, e
 use Rattle.std.proofs.lemmas.Option.{none-some}
 use Rattle.std.proofs.lemmas.List.{get_or_past, get_or-replicate, length-replicate}
 use Rattle.std.proofs.lemmas.List.Folds.{find-append, list_any-append}
+use Rattle.std.proofs.Math.Bool.{or-false, or-true}
 use Rattle.instance_read.specs.declared.faults.ReadFaultKind.TheVariants.{FieldCount, NodeRepeated, Unsupported}
 use Rattle.instance_read.specs.declared.vrp_draft.Draft.{Draft}
 use Rattle.instance_read.specs.declared.vrp_lines.Key.{Key}
-use Rattle.instance_read.specs.declared.vrp_lines.Key.TheVariants.{Dimension, Capacity, ProblemType, WeightType, Refused, Coordinates, Demands, Depots, End, StrayNumber, Ignored}
+use Rattle.instance_read.specs.declared.vrp_lines.Key.TheVariants.{Dimension, Capacity, Refused, Coordinates, Demands, End, StrayNumber}
 use Rattle.instance_read.specs.declared.vrp_lines.Section.{Section}
 use Rattle.instance_read.specs.declared.vrp_lines.Section.TheVariants.{Outside}
 use Rattle.instance_read.specs.Drafts.{IsDraft, TakesValue, entry_at, has_seen, nodes_in, with_key}
@@ -39,20 +40,16 @@ or_none : {X : Type 0} (o : Option X) → option_or o None ≡ o
 or_none None = refl
 or_none (Some x) = refl
 
-or_false : (b : Bool) → (b || false) ≡ b
-or_false true = refl
-or_false false = refl
-
 or_left : (a b : Bool) → (a || b) ≡ false → a ≡ false
 or_left a b e = (or_parts a b e).0
 
 -- one line more at the end
 module _ (before : List Placed) (p : Placed) where
   any_more : (test : Placed → Bool) → list_any test (before ++ p ∷ []) ≡ (list_any test before || test p)
-  any_more test = list_any-append test before (p ∷ []) ∙ ap (λ b. list_any test before || b) (or_false (test p))
+  any_more test = list_any-append test before (p ∷ []) ∙ ap (λ b. list_any test before || b) (or-false (test p))
 
   pub any_same : (test : Placed → Bool) → test p ≡ false → list_any test (before ++ p ∷ []) ≡ list_any test before
-  any_same test other = any_more test ∙ ap (λ b. list_any test before || b) other ∙ or_false (list_any test before)
+  any_same test other = any_more test ∙ ap (λ b. list_any test before || b) other ∙ or-false (list_any test before)
 
   pub find_same : (test : Placed → Bool) → test p ≡ false → find test (before ++ p ∷ []) ≡ find test before
   find_same test other = find-append test before (p ∷ []) ∙ ap (λ b. option_or (find test before) (cond b (Some p) None)) other ∙ or_none (find test before)
@@ -72,22 +69,9 @@ pub map_none : {X Y : Type 0} (f : X → Y) (o : Option X) → option_map f o �
 map_none f None e = refl
 map_none f (Some x) e = absurd (none-some (f x) (sym e))
 
-pub or_true : (a : Bool) → (a || true) ≡ true
-or_true true = refl
-or_true false = refl
-
 key_small : (key : Key) → key_number key < 11
 key_small Dimension = omega arith
-key_small Capacity = omega arith
-key_small ProblemType = omega arith
-key_small WeightType = omega arith
-key_small Refused = omega arith
-key_small Coordinates = omega arith
-key_small Demands = omega arith
-key_small Depots = omega arith
-key_small End = omega arith
-key_small StrayNumber = omega arith
-key_small Ignored = omega arith
+key_small _ = omega arith
 
 -- a table of nodes that no line has named
 abbrev blank : (X : Type 0) → ℕ → List (Option X)
@@ -130,7 +114,7 @@ module _ (before : List Placed) (row : Row) (key : Key) (key_is : key_of row ≡
   new_first k this fresh = ap (option_map (λ p. p.row)) (find_new before (placed row Outside) (has_key k) (has_is k ∙ this) (none_from_any (has_key k) before fresh))
 
   new_any : (k : Key) → eqb (key_number key) (key_number k) ≡ true → any_key k (before ++ placed row Outside ∷ []) ≡ true
-  new_any k this = any_more before (placed row Outside) (has_key k) ∙ ap (λ b. any_key k before || b) (has_is k ∙ this) ∙ or_true (any_key k before)
+  new_any k this = any_more before (placed row Outside) (has_key k) ∙ ap (λ b. any_key k before || b) (has_is k ∙ this) ∙ or-true (any_key k before)
 
   seen_cases : (old_seen : List Bool) → length old_seen ≡ 11 → (k : Key) (b : Bool) → eqb (key_number key) (key_number k) ≡ b → slice_index_or old_seen (key_number k) false ≡ any_key k before → slice_index_or (set old_seen (key_number key) true) (key_number k) false ≡ any_key k (before ++ placed row Outside ∷ [])
   seen_cases old_seen long k true this known =
@@ -246,9 +230,6 @@ knows_key before row old new End key_is valid known none is =
     (nodes_kept before row End key_is old new valid known refl (ap (λ (d : Draft). d.nodes) is))
     (capacity_kept before row End key_is old new valid known refl (ap (λ (d : Draft). d.capacity) is))
     (ap (λ (d : Draft). d.end) is ∙ ap (λ o. option_or o (Some row.line)) known.end ∙ end_more before row (has_is before row End key_is End))
-knows_key before row old new ProblemType key_is valid known none is = all_kept before row ProblemType key_is old new valid known refl refl refl is
-knows_key before row old new WeightType key_is valid known none is = all_kept before row WeightType key_is old new valid known refl refl refl is
-knows_key before row old new Depots key_is valid known none is = all_kept before row Depots key_is old new valid known refl refl refl is
-knows_key before row old new Ignored key_is valid known none is = all_kept before row Ignored key_is old new valid known refl refl refl is
 knows_key before row old new Refused key_is valid known none is = absurd (false≢true (sym (none Unsupported)))
 knows_key before row old new StrayNumber key_is valid known none is = absurd (false≢true (sym (none FieldCount)))
+knows_key before row old new key key_is valid known none is = all_kept before row key key_is old new valid known refl refl refl is

@@ -9,7 +9,7 @@ use Rattle.text_lines.specs.Lines.{lines_of}
 use Rattle.text_lines.specs.Words.{words_of}
 use Rattle.instance_read.specs.declared.faults.ReadFault.{ReadFault}
 use Rattle.instance_read.specs.declared.faults.ReadFaultKind.{ReadFaultKind}
-use Rattle.instance_read.specs.declared.faults.ReadFaultKind.TheVariants.{BadNumber, Range, FieldCount, TaskOrder, PairMismatch, EmptyWindow, TooManyStops, MissingKey, Unsupported, DepotNotFirst, NodeRepeated, Truncated, OutOfMemory}
+use Rattle.instance_read.specs.declared.faults.ReadFaultKind.TheVariants.{PairMismatch, Truncated}
 use Rattle.instance_read.specs.declared.tasks.Task.{Task}
 use Rattle.instance_read.specs.Faults.{Class, OfLine, OfText, rank, HasNone, IsFirstFault, IsNoLater, IsNoLaterPlace}
 use Rattle.instance_read.specs.Lilim.{LilimFault, customers_of, header_fault, row_fault, task_fault}
@@ -69,19 +69,9 @@ abbrev Cut : List ℕ → ℕ → Type 0
 Cut text line = (length (rows_of text) < 2) × (line ≡ length (lines_of text) + 1)
 
 text_cases : (text : List ℕ) (line : ℕ) (kind : ReadFaultKind) → LilimFault text OfText line kind → ((kind ≡ PairMismatch) × Mismatch text line) ⊎ ((kind ≡ Truncated) × Cut text line)
-text_cases text line BadNumber f = absurd f
-text_cases text line Range f = absurd f
-text_cases text line FieldCount f = absurd f
-text_cases text line TaskOrder f = absurd f
 text_cases text line PairMismatch f = inl (refl, f)
-text_cases text line EmptyWindow f = absurd f
-text_cases text line TooManyStops f = absurd f
-text_cases text line MissingKey f = absurd f
-text_cases text line Unsupported f = absurd f
-text_cases text line DepotNotFirst f = absurd f
-text_cases text line NodeRepeated f = absurd f
 text_cases text line Truncated f = inr (refl, f)
-text_cases text line OutOfMemory f = absurd f
+text_cases text line _ f = absurd f
 
 none_contained : {X : Type 0} (x : X) → Contains [] x → ⊥
 none_contained x h = omega (arith, h.1)

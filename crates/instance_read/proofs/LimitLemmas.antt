@@ -1,9 +1,9 @@
 -- What lines without a fault say of the header and of the tasks.
-use Rattle.std.proofs.Common.{◌≡◌, ℕ, zero, suc, ◌<◌, ◌≤◌, Bool, true, false, not, List, [], ◌∷◌, length, get_or, map, Option, Some, None, inl, inr, refl, sym, ap, subst, ◌∙◌, arith, ℤ, pos, negsuc}
+use Rattle.std.proofs.Common.{◌≡◌, ℕ, zero, suc, ◌<◌, ◌≤◌, false, List, [], ◌∷◌, length, get_or, map, Option, Some, None, inl, inr, refl, sym, ap, subst, ◌∙◌, arith, ℤ, pos, negsuc}
 use Rattle.std.specs.Prelude.{int_lt, ◌≤ℤ◌, is_none, ◌==◌, unwrap_or}
 use Rattle.std.specs.Int.RustNames.{unsigned_abs}
 use Rattle.std.specs.List.{AllByRecursion}
-use Rattle.std.proofs.lemmas.Bool.{or_parts, eqb-true, ltb-true, ltb-false, false≢true, false_from_ne_true}
+use Rattle.std.proofs.lemmas.Bool.{or_parts, eqb-true, ltb-true, ltb-false, false≢true, false_from_ne_true, not-false}
 use Rattle.std.proofs.lemmas.Int.{ints}
 use Rattle.text_lines.specs.Numbers.{number_of}
 use Rattle.text_lines.specs.Words.{words_of}
@@ -35,10 +35,6 @@ magnitude_le : (most : ℕ) (z : ℤ) → is_beyond (pos 0, pos most) z ≡ fals
 magnitude_le most (pos n) e = most_from most n (or_parts (int_lt (pos n) (pos 0)) (int_lt (pos most) (pos n)) e).1
 magnitude_le most (negsuc n) e = absurd (false≢true (sym e))
 
-pub not_true : (b : Bool) → not b ≡ false → b ≡ true
-not_true true e = refl
-not_true false e = absurd (false≢true (sym e))
-
 -- each number of a line without a fault keeps its limits
 value_here : (limits : ℤ × ℤ) (number : Option ℤ) → is_none number ≡ false → is_that (is_beyond limits) number ≡ false → IsValue limits number (unwrap_or number (pos 0))
 value_here limits None some h = absurd (false≢true (sym some))
@@ -60,7 +56,7 @@ from_one_to most (negsuc n) e = absurd (false≢true (sym e))
 
 pub header_limits_of : (words : List (List ℕ)) (header : Header) → HasNoKind (header_fault words) → IsHeader words header → HeaderKeepsLimits header
 header_limits_of words header none is =
-    let three = eqb-true (length words) 3 (not_true (length words == 3) (none FieldCount)) in
+    let three = eqb-true (length words) 3 (not-false (length words == 3) (none FieldCount)) in
     let fleet = values_of header_limits words 0 (omega (arith, three)) (none BadNumber) (none Range) (omega arith) in
     let capacity = values_of header_limits words 1 (omega (arith, three)) (none BadNumber) (none Range) (omega arith) in
     record {
@@ -80,7 +76,7 @@ exceeds-is a b x y p q = ap (λ o. exceeds o y) p ∙ ap (λ o. exceeds (Some a)
 -- The task of a line without a fault, after the task before it.
 module _ (previous : Option Task) (row : Row) (none : HasNoKind (task_fault previous (words_of row.text))) where
   nine : length (words_of row.text) ≡ 9
-  nine = eqb-true (length (words_of row.text)) 9 (not_true (length (words_of row.text) == 9) (none FieldCount))
+  nine = eqb-true (length (words_of row.text)) 9 (not-false (length (words_of row.text) == 9) (none FieldCount))
 
   value : (k : ℕ) → k < 9 → IsValue (get_or task_limits k (pos 0, pos 0)) (field (words_of row.text) k) (value_at (words_of row.text) k)
   value k l = values_of task_limits (words_of row.text) k (omega (arith, nine)) (none BadNumber) (none Range) (omega arith)
@@ -125,7 +121,7 @@ none_tail : (previous : Option Task) (row : Row) (rows : List Row) → HasNoTask
 none_tail previous row rows h line kind f = h line kind (inr f)
 
 rises : (previous : Task) (row : Row) → HasNoKind (task_fault (Some previous) (words_of row.text)) → previous.stop.number < (task_of row).stop.number
-rises previous row none = ltb-true previous.stop.number (task_of row).stop.number (not_true (int_lt (pos previous.stop.number) (pos (task_of row).stop.number)) (in_order (Some previous) row none))
+rises previous row none = ltb-true previous.stop.number (task_of row).stop.number (not-false (int_lt (pos previous.stop.number) (pos (task_of row).stop.number)) (in_order (Some previous) row none))
 
 rising_tasks : (previous : Task) (rows : List Row) → HasNoTaskFault (Some previous) rows → RisesFrom previous.stop.number (map task_of rows)
 rising_tasks previous [] h = tt

@@ -4,7 +4,7 @@ use Rattle.std.specs.Prelude.{find, slice_index_or, int_lt, ◌||◌, ◌&&◌}
 use Rattle.std.specs.Int.RustNames.{unsigned_abs}
 use Rattle.std.specs.Option.{option_map}
 use Rattle.std.specs.Ordering.{int_eq, is_eq}
-use Rattle.std.proofs.lemmas.Bool.{cases_lt, false≢true, or_parts, eqb-true, eqb-false, lt-ltb, le-ltb, ltb-false}
+use Rattle.std.proofs.lemmas.Bool.{cases_lt, false≢true, or_parts, eqb-true, eqb-false, lt-ltb, le-ltb, ltb-false, not-false}
 use Rattle.text_lines.specs.Words.{words_of}
 use Rattle.instance_read.specs.declared.faults.ReadFaultKind.TheVariants.{BadNumber, FieldCount, Range, NodeRepeated}
 use Rattle.instance_read.specs.declared.vrp_lines.Section.{Section}
@@ -14,7 +14,7 @@ use Rattle.instance_read.specs.Vrp.{is_node_line, node_fault}
 use Rattle.instance_read.specs.VrpLines.{Placed}
 use Rattle.instance_read.specs.Walk.{HasNoKind}
 use Rattle.instance_read.proofs.KnowLemmas.{find_new, find_same, map_none, some_false}
-use Rattle.instance_read.proofs.LimitLemmas.{not_true, values_of}
+use Rattle.instance_read.proofs.LimitLemmas.{values_of}
 
 -- the test for one number
 abbrev is_one : ℤ → ℤ → Bool
@@ -73,7 +73,7 @@ node_from nodes (negsuc k) e = absurd (false≢true (sym e))
 module _ {X : Type 0} (more : List (ℤ × ℤ)) (nodes : ℕ) (table : List (Option X)) (words : List (List ℕ)) (none : HasNoKind (node_fault (length more + 1) ((pos 1, pos nodes) ∷ more) (is_taken table) words)) where
   first_value : (field words 0 ≡ Some (value_at words 0)) × (is_beyond (pos 1, pos nodes) (value_at words 0) ≡ false)
   first_value =
-      let count = eqb-true (length words) (length more + 1) (not_true (eqb (length words) (length more + 1)) (none FieldCount)) in
+      let count = eqb-true (length words) (length more + 1) (not-false (eqb (length words) (length more + 1)) (none FieldCount)) in
       values_of ((pos 1, pos nodes) ∷ more) words 0 (omega (arith, count)) (none BadNumber) (none Range) (omega arith)
 
   pub node_of : (k : ℕ) × (value_at words 0 ≡ pos (suc k)) × (k < nodes)

@@ -4,7 +4,7 @@ use Rattle.std.specs.Prelude.{◌||◌, ◌==◌, nat_lt, neg_ℤ, ◌≤ℤ◌,
 use Rattle.std.specs.List.{AllByRecursion, cons_option, filter_map}
 use Rattle.std.specs.Option.{option_map, option_map_or, option_or}
 use Rattle.std.specs.Ordering.{is_eq}
-use Rattle.std.proofs.lemmas.Bool.{eqb-true, eq-eqb, ne_eqb, lt-ltb, le-ltb, or_parts, cond-true, cond-false, false≢true}
+use Rattle.std.proofs.lemmas.Bool.{eqb-true, eq-eqb, ne_eqb, lt-ltb, le-ltb, or_parts, cond-true, cond-false, false≢true, not-false}
 use Rattle.std.proofs.lemmas.Option.{none-some, same_Some, some_pair_parts}
 use Rattle.std.proofs.lemmas.Int.{ints}
 use Rattle.std.proofs.lemmas.List.{append-nil, get_or-take, length-take, take_more}
@@ -80,10 +80,6 @@ pub record IsPair (tasks : List Task) (p d : Task) : Type 0 where
   pub even : d.stop.demand ≡ neg_ℤ p.stop.demand
   pub goods : pos 0 ≤ℤ p.stop.demand
 
-not_false : (b : Bool) → not b ≡ false → b ≡ true
-not_false true e = refl
-not_false false e = absurd (false≢true (sym e))
-
 even_from : (a b : ℤ) → int_lt (a +ℤ b) (pos 0) ≡ false → int_lt (pos 0) (a +ℤ b) ≡ false → b ≡ neg_ℤ a
 even_from a b low high = grind (arith, ints)
 
@@ -122,7 +118,7 @@ pair_cases tasks t k r other true false (Some d) valid paired good picks at righ
         pickup = good;
         delivery = found_good tasks t.delivery d valid paired at;
         picks = eqb-true t.pickup 0 picks;
-        named = eqb-true d.pickup t.stop.number (not_false (d.pickup == t.stop.number) first.0);
+        named = eqb-true d.pickup t.stop.number (not-false (d.pickup == t.stop.number) first.0);
         even = even_from t.stop.demand d.stop.demand sum.0 sum.1;
         goods = goods_from t.stop.demand parts.1;
       },

@@ -3,7 +3,7 @@ use Rattle.std.proofs.Common.{◌≡◌, ℕ, zero, suc, ◌+◌, ◌-◌, ◌�
 use Rattle.std.specs.Prelude.{is_none, is_some, unwrap_or, nat_lt}
 use Rattle.std.specs.Int.RustNames.{unsigned_abs}
 use Rattle.std.specs.Option.{option_map}
-use Rattle.std.proofs.lemmas.Bool.{false≢true, or_parts, eqb-true, eqb-false, ltb-true}
+use Rattle.std.proofs.lemmas.Bool.{false≢true, or_parts, eqb-true, eqb-false, ltb-true, not-false}
 use Rattle.std.proofs.lemmas.List.{length-replicate, length-set}
 use Rattle.text_lines.specs.Numbers.{number_of}
 use Rattle.text_lines.specs.Words.{words_of}
@@ -12,7 +12,7 @@ use Rattle.instance_read.specs.declared.faults.ReadFaultKind.{ReadFaultKind}
 use Rattle.instance_read.specs.declared.faults.ReadFaultKind.TheVariants.{BadNumber, FieldCount, NodeRepeated, OutOfMemory}
 use Rattle.instance_read.specs.declared.vrp_draft.Draft.{Draft}
 use Rattle.instance_read.specs.declared.vrp_lines.Key.{Key}
-use Rattle.instance_read.specs.declared.vrp_lines.Key.TheVariants.{Dimension, Capacity, ProblemType, WeightType, Refused, Coordinates, Demands, Depots, End, StrayNumber, Ignored}
+use Rattle.instance_read.specs.declared.vrp_lines.Key.TheVariants.{Dimension, Coordinates, Demands, Depots}
 use Rattle.instance_read.specs.declared.vrp_lines.Section.{Section}
 use Rattle.instance_read.specs.declared.vrp_lines.Section.TheVariants.{Outside, CoordinateLine, DemandLine, DepotLine, AfterEnd}
 use Rattle.instance_read.specs.Drafts.{FitsSection, IsDraft, TakesLine, TakesValue, TellsKind, has_seen, line_fault, nodes_in, with_key}
@@ -24,7 +24,6 @@ use Rattle.instance_read.specs.VrpWalk.{HasNoLineFault, IsFirstFaultyLine, Knows
 use Rattle.instance_read.specs.Walk.{HasNoKind, IsFirstKind}
 use Rattle.instance_read.proofs.KnowLemmas.{placed}
 use Rattle.instance_read.proofs.LilimLemmas.{cons_head, cons_tail}
-use Rattle.instance_read.proofs.LimitLemmas.{not_true}
 use Rattle.instance_read.proofs.LineLemmas.{announced_is, knows_more, same_fault}
 use Rattle.instance_read.proofs.KnowLemmas.{some_false}
 
@@ -73,20 +72,13 @@ nodes_other row key None key_is none = ap (nodes_in_key row) key_is ∙ none
 nodes_key : (before : List Placed) (row : Row) (old new : Draft) (key : Key) → key_of row ≡ key → Knows before old → HasNoKind (key_fault (is_some old.nodes) (has_seen old key) (value_of row) key) → TakesValue (with_key old key) row.line (value_of row) key new → nodes_after old.nodes row Outside ≡ new.nodes
 nodes_key before row old new Dimension key_is known none takes =
     let words = value_words row in
-    let count = eqb-true (length words) 1 (not_true (eqb (length words) 1) (none FieldCount)) in
+    let count = eqb-true (length words) 1 (not-false (eqb (length words) 1) (none FieldCount)) in
     let fresh = some_false old.nodes (sym (announced_is before old known) ∙ sym (known.seen Dimension) ∙ none NodeRepeated) in
     ap (λ o. nodes_after o row Outside) fresh ∙ ap (nodes_in_key row) key_is
     ∙ ap (option_map unsigned_abs) (field_there words (omega (arith, count)) (none BadNumber)) ∙ sym (ap (λ (d : Draft). d.nodes) takes)
-nodes_key before row old new Capacity key_is known none takes = nodes_other row Capacity old.nodes key_is refl ∙ sym (ap (λ (d : Draft). d.nodes) takes)
-nodes_key before row old new ProblemType key_is known none takes = nodes_other row ProblemType old.nodes key_is refl ∙ sym (ap (λ (d : Draft). d.nodes) takes)
-nodes_key before row old new WeightType key_is known none takes = nodes_other row WeightType old.nodes key_is refl ∙ sym (ap (λ (d : Draft). d.nodes) takes)
-nodes_key before row old new Refused key_is known none takes = nodes_other row Refused old.nodes key_is refl ∙ sym (ap (λ (d : Draft). d.nodes) takes)
 nodes_key before row old new Coordinates key_is known none takes = nodes_other row Coordinates old.nodes key_is refl ∙ sym (ap (λ (d : Draft). d.nodes) takes.0)
 nodes_key before row old new Demands key_is known none takes = nodes_other row Demands old.nodes key_is refl ∙ sym (ap (λ (d : Draft). d.nodes) takes.0)
-nodes_key before row old new Depots key_is known none takes = nodes_other row Depots old.nodes key_is refl ∙ sym (ap (λ (d : Draft). d.nodes) takes)
-nodes_key before row old new End key_is known none takes = nodes_other row End old.nodes key_is refl ∙ sym (ap (λ (d : Draft). d.nodes) takes)
-nodes_key before row old new StrayNumber key_is known none takes = nodes_other row StrayNumber old.nodes key_is refl ∙ sym (ap (λ (d : Draft). d.nodes) takes)
-nodes_key before row old new Ignored key_is known none takes = nodes_other row Ignored old.nodes key_is refl ∙ sym (ap (λ (d : Draft). d.nodes) takes)
+nodes_key before row old new key key_is known none takes = nodes_other row key old.nodes key_is refl ∙ sym (ap (λ (d : Draft). d.nodes) takes)
 
 nodes_section : (o : Option ℕ) (row : Row) (place : Section) → ((n : ℕ) → nodes_after None row place ≡ None) → nodes_after o row place ≡ o
 nodes_section None row place none = none 0
@@ -128,14 +120,7 @@ fits_key row old new (Some n) Demands is takes =
 fits_key row old new None Coordinates is takes = tt
 fits_key row old new None Demands is takes = tt
 fits_key row old new nodes Depots is takes = omega arith
-fits_key row old new nodes End is takes = tt
-fits_key row old new nodes Dimension is takes = tt
-fits_key row old new nodes Capacity is takes = tt
-fits_key row old new nodes ProblemType is takes = tt
-fits_key row old new nodes WeightType is takes = tt
-fits_key row old new nodes Refused is takes = tt
-fits_key row old new nodes StrayNumber is takes = tt
-fits_key row old new nodes Ignored is takes = tt
+fits_key row old new nodes _ is takes = tt
 
 fits_next : (row : Row) (place : Section) (old new : Draft) → FitsSection place old → TakesLine old row place new → FitsSection (place_after old.nodes row place) new
 fits_next row Outside old new fits takes = fits_key row old new old.nodes (key_of row) refl takes
@@ -201,24 +186,13 @@ module _ (all : List Row) (old new : Draft) (place next : Section) (rest more : 
     where
       no_memory_key : (announced stands : Bool) (value : List ℕ) (key : Key) → key_fault announced stands value key OutOfMemory ≡ true → ⊥
       no_memory_key announced stands value Dimension e = false≢true e
-      no_memory_key announced stands value Capacity e = false≢true e
-      no_memory_key announced stands value ProblemType e = false≢true e
-      no_memory_key announced stands value WeightType e = false≢true e
-      no_memory_key announced stands value Refused e = false≢true e
-      no_memory_key announced stands value Coordinates e = false≢true e
-      no_memory_key announced stands value Demands e = false≢true e
-      no_memory_key announced stands value Depots e = false≢true e
-      no_memory_key announced stands value End e = false≢true e
-      no_memory_key announced stands value StrayNumber e = false≢true e
-      no_memory_key announced stands value Ignored e = false≢true e
+      no_memory_key announced stands value _ e = false≢true e
 
       no_memory : (row : Row) (place : Section) → line_fault old row place OutOfMemory ≡ true → ⊥
       no_memory row Outside e = no_memory_key (is_some old.nodes) (has_seen old (key_of row)) (value_of row) (key_of row) e
-      no_memory row (CoordinateLine n) e = false≢true e
-      no_memory row (DemandLine n) e = false≢true e
       no_memory row (DepotLine zero) e = false≢true e
       no_memory row (DepotLine (suc n)) e = false≢true e
-      no_memory row AfterEnd e = false≢true e
+      no_memory row _ e = false≢true e
 
 -- all lines are read
 pub reading_done : (all : List Row) (draft : Draft) (place : Section) (rest : List Row) → rest ≡ [] → IsReading all draft place rest → Knows (placed_rows all) draft × IsDraft draft × HasNoLineFault (placed_rows all) × (place ≡ end_from None Outside all)

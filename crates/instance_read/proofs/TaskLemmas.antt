@@ -5,13 +5,13 @@ use Rattle.std.specs.Int.RustNames.{unsigned_abs}
 use Rattle.std.proofs.lemmas.Bool.{or_parts, lt-ltb, le-ltb, false≢true}
 use Rattle.instance_read.specs.declared.tasks.Task.{Task}
 use Rattle.instance_read.specs.Fields.{field, value_at, is_that, is_beyond, any_beyond, has_no_number, exceeds}
-use Rattle.instance_read.specs.FieldValues.{IsValue}
+use Rattle.instance_read.specs.FieldValues.{HasNumbers}
 use Rattle.instance_read.specs.Lilim.{is_out_of_order, task_fault, task_limits}
 use Rattle.instance_read.specs.Pairs.{task_from}
 use Rattle.instance_read.specs.Walk.{HasNoKind, IsFirstKind}
-use Rattle.instance_read.specs.declared.faults.ReadFaultKind.TheVariants.{BadNumber, Range, FieldCount, TaskOrder, PairMismatch, EmptyWindow, TooManyStops, MissingKey, Unsupported, DepotNotFirst, NodeRepeated, Truncated, OutOfMemory}
+use Rattle.instance_read.specs.declared.faults.ReadFaultKind.TheVariants.{BadNumber, Range, FieldCount, TaskOrder, EmptyWindow, TooManyStops}
 use Rattle.instance_read.proofs.KindLemmas.{none_below}
-use Rattle.instance_read.proofs.NumberLemmas.{any_beyond-false}
+use Rattle.instance_read.proofs.NumberLemmas.{any_beyond-false, numbers_of}
 
 -- a number of 0 or more is that of its bits
 pub from_zero : (most z : ℤ) → is_beyond (pos 0, most) z ≡ false → z ≡ pos (unsigned_abs z)
@@ -43,55 +43,55 @@ same_task line words v h =
     cc
 
 -- What is known of a line whose nine numbers keep their limits.
-module _ (words : List (List ℕ)) (values : List ℤ) (h : (k : ℕ) → k < 9 → IsValue (get_or task_limits k (pos 0, pos 0)) (field words k) (get_or values k (pos 0))) where
-  pub task_is : (line : ℕ) → task_from line (λ k. get_or values k (pos 0)) ≡ task_from line (value_at words)
-  unfolding task_by
-  task_is line = same_task line words (λ k. get_or values k (pos 0)) (λ k l. ap (λ o. unwrap_or o (pos 0)) (h k l).0)
+module _ (words : List (List ℕ)) (values : List ℤ) (h : HasNumbers 9 task_limits words values) where
+  counted : not (length words == 9) ≡ false
+  counted = ap (λ n. not (n == 9)) h.0
 
-  pub in_limits : any_beyond task_limits words ≡ false
-  in_limits = any_beyond-false task_limits words (λ k. get_or values k (pos 0)) h
+  numbers : has_no_number words ≡ false
+  numbers = numbers_of words (λ k. get_or values k (pos 0)) (λ k l. (h.1 k (omega (arith, h.0))).0)
 
-  pub few_stops : is_that (λ z. int_lt (pos 40000) z) (field words 0) ≡ false
+  in_limits : any_beyond task_limits words ≡ false
+  in_limits = any_beyond-false task_limits words (λ k. get_or values k (pos 0)) h.1
+
+  few_stops : is_that (λ z. int_lt (pos 40000) z) (field words 0) ≡ false
   few_stops =
-      let first = h 0 (omega arith) in
+      let first = h.1 0 (omega arith) in
       ap (is_that (λ z. int_lt (pos 40000) z)) first.0 ∙ (or_parts (int_lt (get_or values 0 (pos 0)) (pos 0)) (int_lt (pos 40000) (get_or values 0 (pos 0))) first.1).1
 
-  pub order_of : (previous : Option Task) → is_that (is_out_of_order previous) (field words 0) ≡ is_out_of_order previous (pos (unsigned_abs (get_or values 0 (pos 0))))
-  order_of previous =
-      let first = h 0 (omega arith) in
-      ap (is_that (is_out_of_order previous)) first.0 ∙ ap (is_out_of_order previous) (from_zero (pos 40000) (get_or values 0 (pos 0)) first.1)
+  -- the task that they make, after another one
+  module _ (previous : Option Task) (line : ℕ) (task : Task) (made : task ≡ task_from line (λ k. get_or values k (pos 0))) where
+    pub task_is : task ≡ task_from line (value_at words)
+    unfolding task_by
+    task_is = made ∙ same_task line words (λ k. get_or values k (pos 0)) (λ k l. ap (λ o. unwrap_or o (pos 0)) (h.1 k l).0)
 
-  pub window_of : exceeds (field words 4) (field words 5) ≡ int_lt (pos (unsigned_abs (get_or values 5 (pos 0)))) (pos (unsigned_abs (get_or values 4 (pos 0))))
-  window_of =
-      let earliest = h 4 (omega arith) in
-      let latest = h 5 (omega arith) in
-      ap (λ o. exceeds o (field words 5)) earliest.0 ∙ ap (λ o. exceeds (Some (get_or values 4 (pos 0))) o) latest.0
-      ∙ ap (λ z. int_lt z (get_or values 4 (pos 0))) (from_zero (pos 100000000) (get_or values 5 (pos 0)) latest.1)
-      ∙ ap (λ z. int_lt (pos (unsigned_abs (get_or values 5 (pos 0)))) z) (from_zero (pos 100000000) (get_or values 4 (pos 0)) earliest.1)
+    order_is : is_that (is_out_of_order previous) (field words 0) ≡ is_out_of_order previous (pos task.stop.number)
+    order_is =
+        let first = h.1 0 (omega arith) in
+        ap (is_that (is_out_of_order previous)) first.0 ∙ ap (is_out_of_order previous) (from_zero (pos 40000) (get_or values 0 (pos 0)) first.1)
+        ∙ sym (ap (λ t. is_out_of_order previous (pos t.stop.number)) made)
 
-  module _ (previous : Option Task) (nine : length words ≡ 9) (numbers : has_no_number words ≡ false) where
-    counted : not (length words == 9) ≡ false
-    counted = ap (λ n. not (n == 9)) nine
+    window_is : exceeds (field words 4) (field words 5) ≡ int_lt (pos task.stop.latest) (pos task.stop.earliest)
+    window_is =
+        let earliest = h.1 4 (omega arith) in
+        let latest = h.1 5 (omega arith) in
+        ap (λ o. exceeds o (field words 5)) earliest.0 ∙ ap (λ o. exceeds (Some (get_or values 4 (pos 0))) o) latest.0
+        ∙ ap (λ z. int_lt z (get_or values 4 (pos 0))) (from_zero (pos 100000000) (get_or values 5 (pos 0)) latest.1)
+        ∙ ap (λ z. int_lt (pos (unsigned_abs (get_or values 5 (pos 0)))) z) (from_zero (pos 100000000) (get_or values 4 (pos 0)) earliest.1)
+        ∙ sym (ap (λ t. int_lt (pos t.stop.latest) (pos t.stop.earliest)) made)
 
-    pub order_first : is_out_of_order previous (pos (unsigned_abs (get_or values 0 (pos 0)))) ≡ true → IsFirstKind (task_fault previous words) TaskOrder
+    pub order_first : is_out_of_order previous (pos task.stop.number) ≡ true → IsFirstKind (task_fault previous words) TaskOrder
     order_first e =
-        (order_of previous ∙ e, none_below (task_fault previous words) 5 (omega arith) (λ _. counted) (λ _. numbers) (λ _. few_stops) (λ _. in_limits) (λ h. absurd (omega arith)) (λ h. absurd (omega arith)))
+        (order_is ∙ e, none_below (task_fault previous words) 5 (omega arith) (λ _. counted) (λ _. numbers) (λ _. few_stops) (λ _. in_limits) (λ h. absurd (omega arith)) (λ h. absurd (omega arith)))
 
-    pub window_first : is_out_of_order previous (pos (unsigned_abs (get_or values 0 (pos 0)))) ≡ false → unsigned_abs (get_or values 5 (pos 0)) < unsigned_abs (get_or values 4 (pos 0)) → IsFirstKind (task_fault previous words) EmptyWindow
+    pub window_first : is_out_of_order previous (pos task.stop.number) ≡ false → task.stop.latest < task.stop.earliest → IsFirstKind (task_fault previous words) EmptyWindow
     window_first e l =
-        (window_of ∙ lt-ltb _ _ l, none_below (task_fault previous words) 6 (omega arith) (λ _. counted) (λ _. numbers) (λ _. few_stops) (λ _. in_limits) (λ _. order_of previous ∙ e) (λ h. absurd (omega arith)))
+        (window_is ∙ lt-ltb _ _ l, none_below (task_fault previous words) 6 (omega arith) (λ _. counted) (λ _. numbers) (λ _. few_stops) (λ _. in_limits) (λ _. order_is ∙ e) (λ h. absurd (omega arith)))
 
-    pub no_fault : is_out_of_order previous (pos (unsigned_abs (get_or values 0 (pos 0)))) ≡ false → unsigned_abs (get_or values 4 (pos 0)) ≤ unsigned_abs (get_or values 5 (pos 0)) → HasNoKind (task_fault previous words)
+    pub no_fault : is_out_of_order previous (pos task.stop.number) ≡ false → task.stop.earliest ≤ task.stop.latest → HasNoKind (task_fault previous words)
     no_fault e l FieldCount = counted
     no_fault e l BadNumber = numbers
     no_fault e l TooManyStops = few_stops
     no_fault e l Range = in_limits
-    no_fault e l TaskOrder = order_of previous ∙ e
-    no_fault e l EmptyWindow = window_of ∙ le-ltb _ _ l
-    no_fault e l Unsupported = refl
-    no_fault e l MissingKey = refl
-    no_fault e l NodeRepeated = refl
-    no_fault e l DepotNotFirst = refl
-    no_fault e l PairMismatch = refl
-    no_fault e l Truncated = refl
-    no_fault e l OutOfMemory = refl
+    no_fault e l TaskOrder = order_is ∙ e
+    no_fault e l EmptyWindow = window_is ∙ le-ltb _ _ l
+    no_fault e l _ = refl

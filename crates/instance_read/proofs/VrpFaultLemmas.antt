@@ -4,7 +4,7 @@ use Rattle.std.proofs.lemmas.Bool.{false≢true}
 use Rattle.text_lines.specs.Lines.{lines_of}
 use Rattle.instance_read.specs.declared.faults.ReadFault.{ReadFault}
 use Rattle.instance_read.specs.declared.faults.ReadFaultKind.{ReadFaultKind}
-use Rattle.instance_read.specs.declared.faults.ReadFaultKind.TheVariants.{BadNumber, Range, FieldCount, TaskOrder, PairMismatch, EmptyWindow, TooManyStops, MissingKey, Unsupported, DepotNotFirst, NodeRepeated, Truncated, OutOfMemory}
+use Rattle.instance_read.specs.declared.faults.ReadFaultKind.TheVariants.{MissingKey, Truncated}
 use Rattle.instance_read.specs.declared.vrp_lines.Section.{Section}
 use Rattle.instance_read.specs.declared.vrp_lines.Section.TheVariants.{Outside}
 use Rattle.instance_read.specs.Faults.{Class, OfLine, OfText, HasNone, IsFirstFault, IsNoLater, IsNoLaterPlace, TellsFirstFault, rank}
@@ -73,17 +73,7 @@ module _ (text : List ℕ) where
         ⊎ ((kind ≡ MissingKey) × (is_inside (end_place text) ≡ false) × (lacks_key (placed_of text) ≡ true) × (line ≡ end_line text))
     text_cases line Truncated g = inl (refl, g.0, g.1)
     text_cases line MissingKey g = inr (refl, g.0, g.1, g.2)
-    text_cases line BadNumber g = absurd g
-    text_cases line Range g = absurd g
-    text_cases line FieldCount g = absurd g
-    text_cases line TaskOrder g = absurd g
-    text_cases line PairMismatch g = absurd g
-    text_cases line EmptyWindow g = absurd g
-    text_cases line TooManyStops g = absurd g
-    text_cases line Unsupported g = absurd g
-    text_cases line DepotNotFirst g = absurd g
-    text_cases line NodeRepeated g = absurd g
-    text_cases line OutOfMemory g = absurd g
+    text_cases line _ g = absurd g
 
     -- a text that ends inside a section
     module _ (inside : is_inside (end_place text) ≡ true) where

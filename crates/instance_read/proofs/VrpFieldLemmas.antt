@@ -3,6 +3,7 @@ use Rattle.std.proofs.Common.{◌≡◌, ℕ, ◌<◌, Bool, true, false, List, 
 use Rattle.std.specs.Prelude.{int_lt, ◌||◌}
 use Rattle.std.specs.Int.RustNames.{unsigned_abs}
 use Rattle.std.proofs.lemmas.Bool.{or_parts, or_cases, false≢true}
+use Rattle.std.proofs.Math.Bool.{or-false}
 use Rattle.text_lines.specs.Numbers.{number_of}
 use Rattle.instance_read.specs.declared.faults.ReadFaultKind.{ReadFaultKind}
 use Rattle.instance_read.specs.declared.faults.ReadFaultKind.TheVariants.{BadNumber, Range, FieldCount, TooManyStops, NodeRepeated}
@@ -40,13 +41,9 @@ node_is count nodes more words values l h =
     let first = h.1 0 l in
     first.0 ∙ ap Some (from_one (pos nodes) (get_or values 0 (pos 0)) first.1)
 
-or_false : (b : Bool) → (b || false) ≡ b
-or_false true = refl
-or_false false = refl
-
 one_beyond : (limits : ℤ × ℤ) (words : List (List ℕ)) → any_beyond (limits ∷ []) words ≡ is_that (is_beyond limits) (field words 0)
 one_beyond limits [] = refl
-one_beyond limits (w ∷ words) = or_false (is_that (is_beyond limits) (number_of w))
+one_beyond limits (w ∷ words) = or-false (is_that (is_beyond limits) (number_of w))
 
 low : (number : Option ℤ) → is_that (λ z. int_lt (pos 40001) z) number ≡ false → is_that (is_beyond (pos 2, pos 40001)) number ≡ true → is_that (λ z. int_lt z (pos 2)) number ≡ true
 low None few e = absurd (false≢true e)

@@ -57,16 +57,7 @@ announced_stays n (p ∷ before) = announced_stays n before
 -- only a DIMENSION line announces
 key_cases : (key : Key) → (key ≡ Dimension) ⊎ ((eqb (key_number key) 0 ≡ false) × ((row : Row) → nodes_in_key row key ≡ None))
 key_cases Dimension = inl refl
-key_cases Capacity = inr (refl, λ row. refl)
-key_cases ProblemType = inr (refl, λ row. refl)
-key_cases WeightType = inr (refl, λ row. refl)
-key_cases Refused = inr (refl, λ row. refl)
-key_cases Coordinates = inr (refl, λ row. refl)
-key_cases Demands = inr (refl, λ row. refl)
-key_cases Depots = inr (refl, λ row. refl)
-key_cases End = inr (refl, λ row. refl)
-key_cases StrayNumber = inr (refl, λ row. refl)
-key_cases Ignored = inr (refl, λ row. refl)
+key_cases _ = inr (refl, λ row. refl)
 
 none_in_key : (row : Row) (key : Key) → eqb (key_number key) 0 ≡ false → nodes_in_key row key ≡ None
 none_in_key row key other =
@@ -77,10 +68,7 @@ still_none p other = by p.place other
   where
     by : (place : Section) → has_key Dimension (record { row = p.row; place = place }) ≡ false → nodes_after None p.row place ≡ None
     by Outside other = none_in_key p.row (key_of p.row) other
-    by (CoordinateLine n) other = refl
-    by (DemandLine n) other = refl
-    by (DepotLine n) other = refl
-    by AfterEnd other = refl
+    by _ other = refl
 
 dimension_key : (key : Key) → eqb (key_number key) 0 ≡ true → key ≡ Dimension
 dimension_key key is = ⊎_elim (λ same. same) (λ no. absurd (false≢true (sym no.0 ∙ is))) (key_cases key)
@@ -90,10 +78,7 @@ now_some p n is value = by p.place is
   where
     by : (place : Section) → has_key Dimension (record { row = p.row; place = place }) ≡ true → nodes_after None p.row place ≡ Some n
     by Outside is = ap (nodes_in_key p.row) (dimension_key (key_of p.row) is) ∙ ap (option_map unsigned_abs) value
-    by (CoordinateLine k) is = absurd (false≢true is)
-    by (DemandLine k) is = absurd (false≢true is)
-    by (DepotLine k) is = absurd (false≢true is)
-    by AfterEnd is = absurd (false≢true is)
+    by _ is = absurd (false≢true is)
 
 -- what the first DIMENSION line says is announced from there on
 announced_first : (before : List Placed) (dimension : Row) (n : ℕ) → first_key Dimension before ≡ Some dimension → field (value_words dimension) 0 ≡ Some (pos n) → announced None before ≡ Some n

@@ -2,7 +2,7 @@
 //!
 //! A number of a text is an integer of any size until a field's limit is asked, so one of a hundred digits is told as
 //! out of range, not as no number.
-ghost use Rattle.std.specs.Prelude.{◌≡◌, ◌<◌, ℕ, length, drop, MatchOption, MatchResult, OnSome};
+ghost use Rattle.std.specs.Prelude.{◌≡◌, ◌<◌, ℕ, drop, MatchOption, MatchResult, OnSome};
 ghost use Rattle.text_lines.specs.Words.{words_of};
 ghost use Rattle.instance_read.specs.Fields.{field, has_no_number};
 ghost use Rattle.instance_read.specs.FieldValues.{HasNumbers, HasNoNumbers, HasValue, HasNoValue, IsValue, IsNoValue, kind_beyond, numbers_fault, numbers_kind};
@@ -10,14 +10,7 @@ ghost use Rattle.instance_read.specs.Walk.{IsFirstKind};
 
 use crate::ReadFaultKind;
 use crate::field_limits::Limits;
-use text_lines::{Number, Words};
-
-/// How many words a line has.
-pub fn word_count(line: &[u8]) -> usize
-    ensures { result ≡ length (words_of line.now) }
-{
-    Words::new(line).count()
-}
+use text_lines::{Number, Words, word_count};
 
 /// Whether some word of a line is no number.
 pub fn has_no_number(line: &[u8]) -> bool

@@ -2,7 +2,8 @@
 //!
 //! Entry functions: `read_lilim` and `read_vrp`. Each gives the `Problem` that a text spells, or the first of its
 //! faults. Called by `command_text` (the line `load`), `plan_solve` and `auditor_cli`.
-//! `split_key` and `field_limits` give key and value of a line and the limits of its numbers, for who tells a fault of one.
+//! `split_key` and `field_limits` give key and value of a line and the limits of its numbers, for `plan_explain`, which
+//! tells a fault of one in words.
 //!
 //! Sources: Li and Lim's benchmark instances of PDPTW; TSPLIB95's keys and sections, as CVRPLIB's instances use them
 //! (TYPE CVRP, EDGE_WEIGHT_TYPE EUC_2D). Faults, their order and the limits (`plan_types::limits`) are this project's.

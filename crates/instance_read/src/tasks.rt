@@ -9,10 +9,10 @@ ghost use Rattle.instance_read.specs.Walk.{ReadsValue};
 
 use crate::ReadFaultKind;
 use crate::field_limits::{HEADER, TASK};
-use crate::fields::{beyond_limits, has_no_number, next_values, read_numbers, word_count};
+use crate::fields::{beyond_limits, has_no_number, next_values, read_numbers};
 use plan_types::Stop;
 use plan_types::limits::MAX_STOP_NUMBER;
-use text_lines::Words;
+use text_lines::{Words, word_count};
 
 /// The first line.
 #[derive(Clone, Copy)]
@@ -36,7 +36,8 @@ pub struct Task {
 impl Header {
     /// Reads the words of the first line.
     pub fn read(line: &[u8]) -> Result<Header, ReadFaultKind>
-        ensures { ReadsValue (header_fault (words_of line.now)) (IsHeader (words_of line.now)) result }
+        ensures { let words = words_of line.now in
+            ReadsValue (header_fault words) (IsHeader words) result }
     {
         if word_count(line) != 3 {
             return Err(ReadFaultKind::FieldCount);

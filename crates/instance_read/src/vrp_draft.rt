@@ -1,11 +1,12 @@
 //! What the lines of a `.vrp` text say, one after another.
-ghost use Rattle.std.specs.Prelude.{◌≡◌, ◌≤◌, ◌<◌, ◌+◌, IfOk, IfErr, MatchResult, Some, None, is_some, false, length, set};
+ghost use Rattle.std.specs.Prelude.{◌≡◌, ◌≤◌, ◌<◌, ◌+◌, ◌-◌, IfOk, IfErr, MatchResult, Some, None, is_some, false, true, length, set, slice_index_or};
 ghost use Rattle.text_lines.specs.Words.{words_of};
 ghost use Rattle.instance_read.specs.Vrp.{key_fault};
+ghost use Rattle.instance_read.specs.declared.faults.ReadFaultKind.TheVariants.{NodeRepeated};
 ghost use Rattle.instance_read.specs.Walk.{HasNoKind, IsFirstKind};
 
 use crate::ReadFaultKind;
-use crate::fields::word_count;
+use crate::entries::entry_of;
 use crate::rows::NumberedLine;
 use crate::vrp_fields::{
     expect_word, open_section, read_capacity, read_coordinates, read_demand, read_depots,
@@ -13,6 +14,7 @@ use crate::vrp_fields::{
 };
 use crate::vrp_lines::{KEYS, Key, Section, read_key};
 use std::alloc::Global;
+use text_lines::word_count;
 
 /// What the lines so far have said.
 #[derive(Drop)]
@@ -166,13 +168,8 @@ impl Draft {
         ensures err { IfErr result
             (IsFirstKind (line_fault self.old (unnumbered text.now) (Section.CoordinateLine 0))) }
     {
-        let (node, point) = read_coordinates(self.nodes.unwrap_or(0), text)?;
-        let entry = &mut self.coordinates[node as usize - 1];
-        if entry.is_some() {
-            return Err(ReadFaultKind::NodeRepeated);
-        }
-        *entry = Some(point);
-        Ok(())
+        let (node, point) = read_coordinates(self.node_count(), text)?;
+        put_once(&mut self.coordinates, node, point)
     }
 
     fn take_demand(&mut self, text: &[u8]) -> Result<(), ReadFaultKind>
@@ -183,12 +180,21 @@ impl Draft {
         ensures err { IfErr result
             (IsFirstKind (line_fault self.old (unnumbered text.now) (Section.DemandLine 0))) }
     {
-        let (node, demand) = read_demand(self.nodes.unwrap_or(0), text)?;
-        let entry = &mut self.demands[node as usize - 1];
-        if entry.is_some() {
-            return Err(ReadFaultKind::NodeRepeated);
-        }
-        *entry = Some(demand);
-        Ok(())
+        let (node, demand) = read_demand(self.node_count(), text)?;
+        put_once(&mut self.demands, node, demand)
     }
+}
+
+// Keeps what a line says of a node, if no line before it named the node.
+fn put_once<T: Copy>(table: &mut [Option<T>], node: u32, value: T) -> Result<(), ReadFaultKind>
+    requires { (1 ≤ node) × (node ≤ length table.old) }
+    ensures { let entry = slice_index_or table.old (node - 1) None in MatchResult result
+        (λ _. (is_some entry ≡ false) × (table.new ≡ set table.old (node - 1) (Some value)))
+        (λ kind. (is_some entry ≡ true) × (kind ≡ NodeRepeated)) }
+{
+    if entry_of(table, node - 1).is_some() {
+        return Err(ReadFaultKind::NodeRepeated);
+    }
+    table[node as usize - 1] = Some(value);
+    Ok(())
 }

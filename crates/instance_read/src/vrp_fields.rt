@@ -18,7 +18,8 @@ use text_lines::{Number, Words};
 /// The number of nodes that the value of a DIMENSION announces, where one may stand before it.
 pub fn read_dimension(stands: bool, value: &[u8]) -> Result<u32, ReadFaultKind>
     ensures read { let words = words_of value.now in
-        ReadsValue (dimension_fault stands words) (λ n. n ≡ unsigned_abs (value_at words 0)) result }
+        ReadsValue (dimension_fault stands words)
+        (λ n. n ≡ unsigned_abs (value_at words 0)) result }
     ensures within { IfOk result (λ n. (2 ≤ n) × (n ≤ most_nodes)) }
 {
     let [nodes] = match read_numbers(value, &[DIMENSION]) {

@@ -172,39 +172,30 @@ fn key_from(key: &[u8], line: &[u8]) -> Key
     ensures { result ≡ key_from key.now line.now }
 {
     if is_word(key, b"DIMENSION") {
-        return Key::Dimension;
+        Key::Dimension
+    } else if is_word(key, b"CAPACITY") {
+        Key::Capacity
+    } else if is_word(key, b"TYPE") {
+        Key::ProblemType
+    } else if is_word(key, b"EDGE_WEIGHT_TYPE") {
+        Key::WeightType
+    } else if is_word(key, b"DISTANCE") || is_word(key, b"SERVICE_TIME") {
+        Key::Refused
+    } else if is_word(key, b"NODE_COORD_SECTION") {
+        Key::Coordinates
+    } else if is_word(key, b"DEMAND_SECTION") {
+        Key::Demands
+    } else if is_word(key, b"DEPOT_SECTION") {
+        Key::Depots
+    } else if is_word(key, b"EOF") {
+        Key::End
+    } else if ends_in(b"_SECTION", key) {
+        Key::Refused
+    } else if begins_as_number(line) {
+        Key::StrayNumber
+    } else {
+        Key::Ignored
     }
-    if is_word(key, b"CAPACITY") {
-        return Key::Capacity;
-    }
-    if is_word(key, b"TYPE") {
-        return Key::ProblemType;
-    }
-    if is_word(key, b"EDGE_WEIGHT_TYPE") {
-        return Key::WeightType;
-    }
-    if is_word(key, b"DISTANCE") || is_word(key, b"SERVICE_TIME") {
-        return Key::Refused;
-    }
-    if is_word(key, b"NODE_COORD_SECTION") {
-        return Key::Coordinates;
-    }
-    if is_word(key, b"DEMAND_SECTION") {
-        return Key::Demands;
-    }
-    if is_word(key, b"DEPOT_SECTION") {
-        return Key::Depots;
-    }
-    if is_word(key, b"EOF") {
-        return Key::End;
-    }
-    if ends_in(b"_SECTION", key) {
-        return Key::Refused;
-    }
-    if begins_as_number(line) {
-        return Key::StrayNumber;
-    }
-    Key::Ignored
 }
 
 /// Whether a text is this word, in any ASCII letter case.

@@ -19,7 +19,7 @@ use Rattle.text_lines.proofs.PieceLemmas.{nil_feed, pieces_are_cut, pieces_at, p
 use Rattle.text_lines.proofs.WordLemmas.{words_of-word, words_of-trim, words_of-none, front_no_blank, words_blank, words_nil, words_of-front}
 
 -- ---- lines
-drop_after : (xs : List ℕ) (y : ℕ) (ys : List ℕ) → drop (suc (length xs)) (xs ++ y ∷ ys) ≡ ys
+pub drop_after : (xs : List ℕ) (y : ℕ) (ys : List ℕ) → drop (suc (length xs)) (xs ++ y ∷ ys) ≡ ys
 drop_after [] y ys = refl
 drop_after (x ∷ xs) y ys = drop_after xs y ys
 

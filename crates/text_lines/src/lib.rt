@@ -24,8 +24,8 @@
 //! short loops over digits.
 //!
 //! Proved:
-//! - `Lines` gives `lines_of` the text, `Words` gives `words_of` the line, `Number::parse` gives `number_of`
-//!   the word, `Number::parse_integer` gives `integer_of` it;
+//! - `Lines` gives `lines_of` the text, `Words` gives `words_of` the line and `word_count` their number,
+//!   `Number::parse` gives `number_of` the word, `Number::parse_integer` gives `integer_of` it;
 //! - `Words::next_number` gives the number of the next word within limits, and goes past that word;
 //! - `digits_to_u32` and `number_to_u64` give the number that a word is, where it fits;
 //! - `digits_len` counts the digits at the front; nothing here takes memory;
@@ -44,4 +44,4 @@ pub use laws::{
 };
 pub use line_iter::Lines;
 pub use numeral::{Number, digits_len, digits_to_u32, number_to_u64};
-pub use word_iter::{Words, is_blank_line, trim_blanks_start};
+pub use word_iter::{Words, is_blank_line, trim_blanks_start, word_count};

@@ -115,6 +115,13 @@ fn without_blanks(text: &[u8]) -> &[u8]
     &text[blanks..]
 }
 
+/// How many words a line has.
+pub fn word_count(line: &[u8]) -> usize
+    ensures { result ≡ length (words_of line.now) }
+{
+    Words::new(line).count()
+}
+
 /// Whether a line has nothing but blanks and tabs.
 #[inline]
 pub fn is_blank_line(line: &[u8]) -> bool

@@ -5,7 +5,6 @@ use Rattle.std.specs.Prelude.{FitsSigned}
 use Rattle.text_lines.specs.Words.{words_of}
 use Rattle.instance_read.specs.Vrp.{coordinate_limits}
 use Rattle.instance_read.specs.FieldValues.{HasNumbers}
-use Rattle.instance_read.proofs.LimitLemmas.{from_one_to, within_from}
 use Rattle.instance_read.proofs.NumberLemmas.{value_is}
 use Rattle.instance_read.proofs.VrpFieldLemmas.{node_is, node_none}
 use Rattle.instance_read.proofs.vrp_fields.read_coordinates.Goals as goal
@@ -26,20 +25,4 @@ returns-clause-read c =
       node_is 3 c.args.nodes ((negsuc 999999, pos 1000000) ∷ (negsuc 999999, pos 1000000) ∷ []) words values (omega arith) h
           ∙ ap (λ n. Some (pos n)) (sym (c.unsigned_abs.ensures.value ∙ ap unsigned_abs (to_z-of_z w32 (get_or values 0 (pos 0)) fits))),
       cc,
-    )
-
-pub returns-clause-within : goal.returns-clause-within
-returns-clause-within c =
-    let values = c.in_ok-node.field-0 in
-    let P : ℤ × ℤ → Type 0 = λ l. HasNumbers 3 (l ∷ (negsuc 999999, pos 1000000) ∷ (negsuc 999999, pos 1000000) ∷ []) (words_of c.args.line.now) values in
-    let h = subst P c.node_limits.ensures c.in_ok-node.ensures in
-    let fits : FitsSigned w32 (get_or values 0 (pos 0)) = search rules in
-    let x_fits : FitsSigned w32 (get_or values 1 (pos 0)) = search rules in
-    let y_fits : FitsSigned w32 (get_or values 2 (pos 0)) = search rules in
-    let node = from_one_to c.args.nodes (get_or values 0 (pos 0)) (h.1 0 (omega arith)).1 in
-    let is = c.unsigned_abs.ensures.value ∙ ap unsigned_abs (to_z-of_z w32 (get_or values 0 (pos 0)) fits) in (
-      omega arith,
-      omega arith,
-      rw (to_z-of_z w32 (get_or values 1 (pos 0)) x_fits) (within_from (negsuc 999999) (pos 1000000) (get_or values 1 (pos 0)) (h.1 1 (omega arith)).1),
-      rw (to_z-of_z w32 (get_or values 2 (pos 0)) y_fits) (within_from (negsuc 999999) (pos 1000000) (get_or values 2 (pos 0)) (h.1 2 (omega arith)).1),
     )

@@ -1,18 +1,11 @@
-use Rattle.std.proofs.Common.{◌∷◌, [], ap, ◌∙◌, get_or, pos, w32, rules, arith, refl}
+use Rattle.std.proofs.Common.{◌∷◌, [], ap, ◌∙◌, get_or, pos, w32, rules, arith}
 use Rattle.std.proofs.lemmas.Int.{to_z-of_z}
 use Rattle.std.specs.Int.RustNames.{unsigned_abs}
-use Rattle.std.specs.Prelude.{FitsSigned, int_lt}
+use Rattle.std.specs.Prelude.{FitsSigned}
 use Rattle.text_lines.specs.Words.{words_of}
-use Rattle.instance_read.specs.Fields.{field, is_that}
-use Rattle.instance_read.specs.Vrp.{dimension_fault}
-use Rattle.instance_read.proofs.NumberLemmas.{stops_first, value_is}
-use Rattle.instance_read.proofs.VrpFieldLemmas.{below_two, dimension_none, dimension_repeated}
+use Rattle.instance_read.proofs.NumberLemmas.{value_is}
+use Rattle.instance_read.proofs.VrpFieldLemmas.{dimension_none, dimension_repeated}
 use Rattle.instance_read.proofs.vrp_fields.read_dimension.Goals as goal
-
-pub returns-in-Err-Range-clause-read : goal.returns-in-Err-Range-clause-read
-returns-in-Err-Range-clause-read c =
-    let words = words_of c.args.value.now in
-    stops_first 1 ((pos 2, pos 40001) ∷ []) words (dimension_fault c.args.stands words) refl refl (is_that (λ z. int_lt (pos 40001) z) (field words 0)) c.beyond_limits.result c.beyond_limits.ensures refl (below_two words) c.in-Err-Range.field-0 c.in-Err-Range.field-0-is c.in-Err-Range.ensures
 
 pub returns-then-stands-clause-read : goal.returns-then-stands-clause-read
 returns-then-stands-clause-read c =

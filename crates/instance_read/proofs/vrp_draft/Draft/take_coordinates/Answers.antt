@@ -1,27 +1,29 @@
-use Rattle.std.proofs.Common.{arith, sym, ap, ◌∙◌, refl, IfSome, Some, set, ◌-◌}
+use Rattle.std.proofs.Common.{sym, ap, subst, ◌∙◌, refl, IfSome, Some, set}
+use Rattle.std.specs.Prelude.{All}
+use Rattle.std.proofs.lemmas.List.{with_items_is}
 use Rattle.std.proofs.lemmas.List.Elements.{All-set}
+use Rattle.std.proofs.lemmas.Result.{IfOk-weaker}
 use Rattle.text_lines.specs.Words.{words_of}
-use Rattle.instance_read.specs.Drafts.{is_taken, node_index, nodes_in, IsPoint}
+use Rattle.instance_read.specs.Drafts.{node_index, nodes_in, IsPoint}
 use Rattle.instance_read.specs.Vrp.{coordinate_limits}
-use Rattle.instance_read.proofs.NodeLemmas.{node_none, node_repeated, taken_is, index_is, entry_read}
+use Rattle.instance_read.proofs.NodeLemmas.{put_ok, put_err}
 use Rattle.instance_read.proofs.vrp_draft.Draft.take_coordinates.Goals as goal
-
-pub returns-then-is_some-clause-err : goal.returns-then-is_some-clause-err
-returns-then-is_some-clause-err c =
-    let words = words_of c.args.text.now in
-    let table = c.args.self.now.coordinates.items in
-    let read = c.in_ok-node.ensures.read in
-    node_repeated 3 (coordinate_limits c.unwrap_or.result) (coordinate_limits (nodes_in c.args.self.now)) (ap coordinate_limits c.unwrap_or.ensures) words read.0 (is_taken table)
-    (taken_is table words c.in_ok-node.node c.in_ok-node.ensures.within.0 read.1 ∙ entry_read table (c.in_ok-node.node - 1) c.index_mut-entry.result.now (omega (arith, c.in_ok-node.ensures.within.0, c.in_ok-node.ensures.within.1, c.unwrap_or.ensures, c.requires.fits)) c.index_mut-entry.ensures.value ∙ sym c.is_some.ensures ∙ c.if-is_some.true)
 
 pub returns-clause-ok : goal.returns-clause-ok
 returns-clause-ok c =
+    let items = c.args.self.now.coordinates.items in
     let words = words_of c.args.text.now in
-    let table = c.args.self.now.coordinates.items in
-    let read = c.in_ok-node.ensures.read in
-    let node = c.in_ok-node.node in (
-      node_none 3 (coordinate_limits c.unwrap_or.result) (coordinate_limits (nodes_in c.args.self.now)) (ap coordinate_limits c.unwrap_or.ensures) words read.0 (is_taken table)
-          (taken_is table words node c.in_ok-node.ensures.within.0 read.1 ∙ entry_read table (c.in_ok-node.node - 1) c.index_mut-entry.result.now (omega (arith, c.in_ok-node.ensures.within.0, c.in_ok-node.ensures.within.1, c.unwrap_or.ensures, c.requires.fits)) c.index_mut-entry.ensures.value ∙ sym c.is_some.ensures ∙ c.if-is_some.false),
-      (refl, ap (λ k. set table k (Some c.in_ok-node.point)) (sym (index_is words node read.1)) ∙ ap (λ v. set table (node_index words) (Some v)) read.2),
-      record { keys = c.requires.draft.keys; nodes = c.requires.draft.nodes; capacity = c.requires.draft.capacity; demands = c.requires.draft.demands; coordinates = All-set (λ entry. IfSome entry IsPoint) table (node - 1) (Some c.in_ok-node.point) (c.in_ok-node.ensures.within.2, c.in_ok-node.ensures.within.3) c.requires.draft.coordinates },
-    )
+    let read = c.in_ok-node.ensures in
+    let draft = c.requires.draft in
+    let held = with_items_is c.args.self.now.coordinates c.put_once.new.table (c.put_once.auto.table ∙ c.deref_mut.ensures.len) in
+    IfOk-weaker c.put_once.result _ _ (λ x h. (
+      h.0,
+      (refl, held ∙ h.1 ∙ ap (λ v. set items (node_index words) (Some v)) read.read.2),
+      record { keys = draft.keys; nodes = draft.nodes; capacity = draft.capacity; demands = draft.demands; coordinates = subst (All (λ entry. IfSome entry IsPoint)) (sym (held ∙ h.1)) (All-set (λ entry. IfSome entry IsPoint) items (node_index words) (Some c.in_ok-node.point) (read.within.2, read.within.3) draft.coordinates) },
+    ))
+    (put_ok 3 (coordinate_limits c.node_count.result) (coordinate_limits (nodes_in c.args.self.now)) (ap coordinate_limits c.node_count.ensures) words read.read.0 c.in_ok-node.node read.within.0 read.read.1 items _ _ c.deref_mut.ensures.value _ c.put_once.result c.put_once.ensures)
+
+pub returns-clause-err : goal.returns-clause-err
+returns-clause-err c =
+    let read = c.in_ok-node.ensures in
+    put_err 3 (coordinate_limits c.node_count.result) (coordinate_limits (nodes_in c.args.self.now)) (ap coordinate_limits c.node_count.ensures) (words_of c.args.text.now) read.read.0 c.in_ok-node.node read.within.0 read.read.1 c.args.self.now.coordinates.items _ _ c.deref_mut.ensures.value _ c.put_once.result c.put_once.ensures
