@@ -30,8 +30,8 @@ pub fn route_fault(problem: &Problem, route: &[u32]) -> Option<u32>
     }
 }
 
-/// Whether the list is a feasible route by itself: it breaks none of the rules 3 to 8 as the only route. The same time and memory as for
-/// `route_fault`.
+/// Whether the list is a feasible route by itself: it breaks none of the rules 3 to 8 as the only route. The stops are
+/// live and distinct. Takes the time of `route_fault`, and no memory either.
 pub fn is_feasible(problem: &Problem, route: &[u32]) -> bool
     requires { AreLiveOnce problem.now route.now }
     ensures { result ≡ feasible_alone problem.now route.now }

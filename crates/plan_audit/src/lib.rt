@@ -3,7 +3,7 @@
 //!
 //! `audit_solution` judges anybody's printed solution, for the program's word `audit`. `audit` judges a plan
 //! with its pins: that a plan passes is what moves, commands and the store promise. `route_fault` judges one
-//! route.
+//! route by itself, and `is_feasible` says whether it is one.
 //!
 //! Modules, in reading order:
 //! - `rules`: the eleven rules by number, with who asks each, and the verdict.
@@ -26,8 +26,8 @@
 //! How it works: one pass notes the first seat of each stop, by number. A rule on where stops stand is then a
 //! pass over the plan with one look for each partner. The rules on loads and times, and the distance, take one
 //! drive along each route where these are kept, since each way takes a root; else a drive for each rule. So
-//! an audit is linear. A rule is asked only where all before it are kept. `route_fault` takes no memory and
-//! looks through the list for each partner: that is quadratic.
+//! an audit is linear. A rule is asked only where all before it are kept. `route_fault` and `is_feasible` take
+//! no memory and look through the list for each partner: that is quadratic.
 //!
 //! A plan may leave requests out and has no printed cost, a printed solution has no pins, and a problem of
 //! kind `Vrp` has no times: rules on these are not asked.
@@ -36,7 +36,7 @@
 //! - `audit` and `audit_solution` answer the verdict (`IsVerdict`): pass with the cost exactly where no rule
 //!   is broken, else the least fault by rule, route, place and stop; or they tell want of memory;
 //! - `route_fault` tells the least of the rules 3 to 8 that the list breaks as the only route, none exactly
-//!   where it is feasible alone;
+//!   where it is feasible alone; `is_feasible` answers the test `feasible_alone`;
 //! - each plan has one verdict (`each_plan_has_a_verdict`, `verdicts_are_unique`), and passes exactly where
 //!   it is sound and keeps fleet and pins, a printed solution where it keeps fleet and cost (the laws named
 //!   after `sound`);

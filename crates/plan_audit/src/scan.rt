@@ -18,7 +18,8 @@ pub(crate) struct Scan<'a> {
     pub routes: &'a [Route],
     pub seats: &'a [Option<Seat>],
     ghost sized: { problem.now.next_number ≤ length seats.now },
-    ghost seated: { (n : ℕ) → n < length seats.now → slice_index_or seats.now n None ≡ seat_of routes.now n },
+    ghost seated: { (n : ℕ) → n < length seats.now
+        → slice_index_or seats.now n None ≡ seat_of routes.now n },
 }
 
 impl Scan<'_> {
