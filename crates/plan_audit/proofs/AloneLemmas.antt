@@ -1,7 +1,8 @@
 -- What each step of `route_fault` has shown.
 use Rattle.std.proofs.Common.{◌≡◌, ℕ, zero, suc, ◌≤◌, true, false, List, [], ◌∷◌, Option, Some, None, is_some, slice_get, refl, sym, subst, ◌∙◌, inl, inr, arith, nat_eq}
 use Rattle.std.specs.List.{AllByRecursion, IsDistinct}
-use Rattle.std.proofs.lemmas.Bool.{eq-eqb}
+use Rattle.std.proofs.lemmas.Bool.{eqb-false}
+use Rattle.std.proofs.lemmas.Option.{same_Some}
 use Rattle.plan_types.specs.Instance.{Instance}
 use Rattle.plan_types.specs.declared.requests.Kind.TheVariants.{LiLim, Vrp}
 use Rattle.route_sched.specs.Route.{AreLiveOnce}
@@ -13,7 +14,7 @@ use Rattle.plan_audit.specs.declared.faults.Told.{Told}
 use Rattle.plan_audit.specs.declared.faults.Fault.{Fault}
 use Rattle.plan_audit.specs.declared.rules.Rule.{Rule}
 use Rattle.plan_audit.specs.declared.rules.Rule.TheVariants.{Missing, SplitPair, DeliveryFirst, Load, Late, LateReturn}
-use Rattle.plan_audit.proofs.FirstLemmas.{none_some, some_same}
+use Rattle.plan_audit.proofs.FirstLemmas.{none_some}
 use Rattle.plan_audit.proofs.SpotLemmas.{IsLeastOf, rule_nothing, rule_found}
 use Rattle.plan_audit.proofs.RuleLemmas.{missing_rule, delivered_rule}
 use Rattle.plan_audit.proofs.TimeLemmas.{load_rule, late_rule, late_return_nothing, late_return_found}
@@ -22,8 +23,12 @@ use Rattle.plan_audit.proofs.VerdictLemmas.{KeepsBelow, Keeps, keeps_none, keeps
 -- the only route is the first
 pub only_route : (route other : List ℕ) (r : ℕ) → item_at (route ∷ []) r ≡ Some other → (r ≡ 1) × (route ≡ other)
 only_route route other zero at = absurd (none_some other at)
-only_route route other (suc zero) at = (omega arith, some_same route other at)
+only_route route other (suc zero) at = (omega arith, same_Some route other at)
 only_route route other (suc (suc r)) at = absurd (none_some other at)
+
+-- what is said of it is said of the route
+pub in_route : (route : List ℕ) (P : List ℕ → Type 0) (r : ℕ) (other : List ℕ) → item_at (route ∷ []) r ≡ Some other → P other → P route
+in_route route P r other at b = subst P (sym (only_route route other r at).1) b
 
 -- no pair is split there
 pub not_split : (p : Instance) (route : List ℕ) (r i n : ℕ) → IsSplit p (route ∷ []) r i n → ⊥
@@ -35,18 +40,15 @@ not_split p route r i n b =
 -- no number of a distinct list stands at two places
 pub item_holds : (P : ℕ → Type 0) (ns : List ℕ) (k n : ℕ) → AllByRecursion P ns → slice_get ns k ≡ Some n → P n
 item_holds P [] k n all at = absurd (none_some n at)
-item_holds P (m ∷ ns) zero n all at = subst P (some_same m n at) all.0
+item_holds P (m ∷ ns) zero n all at = subst P (same_Some m n at) all.0
 item_holds P (m ∷ ns) (suc k) n all at = item_holds P ns k n all.1 at
-
-not_apart : (n m : ℕ) → nat_eq n m ≡ false → n ≡ m → ⊥
-not_apart n m apart same = let h : true ≡ false = sym (eq-eqb n m same) ∙ apart in cc
 
 pub distinct_places : (ns : List ℕ) (j i n : ℕ) → IsDistinct nat_eq ns → slice_get ns j ≡ Some n → slice_get ns i ≡ Some n → j ≡ i
 unfolding IsDistinct
 distinct_places [] j i n once a b = absurd (none_some n a)
 distinct_places (m ∷ ns) zero zero n once a b = refl
-distinct_places (m ∷ ns) zero (suc i) n once a b = absurd (not_apart m n (item_holds (λ y. nat_eq m y ≡ false) ns i n once.0 b) (some_same m n a))
-distinct_places (m ∷ ns) (suc j) zero n once a b = absurd (not_apart m n (item_holds (λ y. nat_eq m y ≡ false) ns j n once.0 a) (some_same m n b))
+distinct_places (m ∷ ns) zero (suc i) n once a b = absurd (eqb-false m n (item_holds (λ y. nat_eq m y ≡ false) ns i n once.0 b) (same_Some m n a))
+distinct_places (m ∷ ns) (suc j) zero n once a b = absurd (eqb-false m n (item_holds (λ y. nat_eq m y ≡ false) ns j n once.0 a) (same_Some m n b))
 distinct_places (m ∷ ns) (suc j) (suc i) n once a b = let e = distinct_places ns j i n once.1 a b in omega arith
 
 -- what is told of the only route

@@ -1,19 +1,18 @@
 -- One drive along each route: how far it goes, and that the rules on loads and times are kept.
-use Rattle.std.proofs.Common.{◌≡◌, ℕ, suc, ◌+◌, ◌-◌, ◌<◌, ◌≤◌, Bool, true, false, ◌||◌, All, List, [], ◌∷◌, map, length, get_or, slice_get, Some, int_lt, pos, refl, sym, ap, subst, ◌∙◌, arith, add-one, T}
+use Rattle.std.proofs.Common.{◌≡◌, ℕ, suc, ◌+◌, ◌-◌, ◌<◌, ◌≤◌, true, false, ◌||◌, List, [], ◌∷◌, map, length, get_or, slice_get, Some, int_lt, pos, refl, sym, ap, subst, ◌∙◌, arith, add-one, T}
 use Rattle.std.specs.List.{AllByRecursion, range_with_len, sum_by}
-use Rattle.std.proofs.lemmas.Bool.{lt-ltb, false≢true}
+use Rattle.std.proofs.lemmas.Bool.{lt-ltb, false≢true, or_parts}
 use Rattle.std.proofs.lemmas.List.Elements.{All-from_recursion}
 use Rattle.std.proofs.lemmas.List.Sums.{sum_by-cons, sum-map}
-use Rattle.std.proofs.lemmas.Option.{slice_get_within, slice_get-get_or, get_or_from_slice_get}
+use Rattle.std.proofs.lemmas.Option.{slice_get_within, get_or_from_slice_get}
 use Rattle.plan_types.specs.Instance.{Instance}
 use Rattle.plan_types.specs.declared.requests.Kind.{Kind}
 use Rattle.plan_types.specs.declared.requests.Kind.TheVariants.{LiLim}
 use Rattle.plan_types.specs.declared.requests.Stop.{Stop}
-use Rattle.route_sched.specs.Route.{AreLiveOnce, IsPlan, place}
+use Rattle.route_sched.specs.Route.{place}
 use Rattle.route_sched.specs.Schedule.{leg, start, load, route_length}
 use Rattle.route_sched.specs.Visiting.{visits_from, visit_after}
 use Rattle.route_sched.specs.declared.visits.Visit.{Visit}
-use Rattle.route_sched.proofs.Concats.{route_of_plan}
 use Rattle.route_sched.proofs.LiveStops.{place-return}
 use Rattle.plan_audit.specs.Rules.{IsOverloaded, IsLate, IsLateReturn}
 use Rattle.plan_audit.specs.Finding.{is_overloaded, breaks_window, breaks_limits, KeepsLimits}
@@ -52,10 +51,6 @@ pub kept_idle : (p : Instance) (route : List ℕ) → length route ≡ 0 → Kee
 unfolding KeepsLimits
 kept_idle p route none some = absurd (omega arith)
 
-neither : (a b : Bool) → (a || b) ≡ false → (a ≡ false) × (b ≡ false)
-neither true b is = absurd (false≢true (sym is))
-neither false b is = (refl, is)
-
 -- what is kept behind place k of such a route
 module _ (p : Instance) (route : List ℕ) (kept : KeepsLimits p route) (some : 0 < length route) (k : ℕ) (le : k ≤ length route) where
   limits_at : breaks_limits p (visit_after p route k) ≡ false
@@ -66,11 +61,11 @@ module _ (p : Instance) (route : List ℕ) (kept : KeepsLimits p route) (some : 
       all_items (λ v. breaks_limits p v ≡ false) (visits_from p route 0) (All-from_recursion (λ v. breaks_limits p v ≡ false) (visits_from p route 0) (kept some)) (suc k) (visit_after p route k) at
 
   light : int_lt (pos p.capacity) (load p route (k + 1)) ≡ true → ⊥
-  light heavy = false≢true (sym (neither (is_overloaded p (visit_after p route k)) _ limits_at).0 ∙ heavy)
+  light heavy = false≢true (sym (or_parts (is_overloaded p (visit_after p route k)) _ limits_at).0 ∙ heavy)
 
   in_time : p.kind ≡ LiLim → (place p route (k + 1)).latest < start p route (k + 1) → ⊥
   in_time kind late =
-      let is = subst (λ (kind : Kind). breaks_window kind (visit_after p route k) ≡ false) kind (neither (is_overloaded p (visit_after p route k)) (breaks_window p.kind (visit_after p route k)) limits_at).1 in
+      let is = subst (λ (kind : Kind). breaks_window kind (visit_after p route k) ≡ false) kind (or_parts (is_overloaded p (visit_after p route k)) (breaks_window p.kind (visit_after p route k)) limits_at).1 in
       false≢true (sym is ∙ lt-ltb (place p route (k + 1)).latest (start p route (k + 1)) late)
 
 -- routes that keep the limits keep the rules on loads and times
@@ -109,7 +104,3 @@ module _ (p : Instance) (routes : List (List ℕ)) (each : (k : ℕ) → k < len
       (keeps_more p s 6 Load (keeps_none p s 6) (none_of s routes is (IsOverloaded p) none_heavy))
       (none_of s routes is (IsLate p) none_late))
       (none_of s routes is (IsLateReturn p) none_back_late))
-
--- the stops of each route of a plan are live and stand once
-pub live_in_plan : (p : Instance) (routes : List (List ℕ)) → IsPlan p routes → All (AreLiveOnce p) routes
-live_in_plan p routes plan k d lt = subst (AreLiveOnce p) (sym (get_or_from_slice_get routes k (get_or routes k []) d (slice_get-get_or routes k [] lt))) (route_of_plan p routes k lt plan)

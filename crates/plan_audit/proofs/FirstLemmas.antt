@@ -1,15 +1,13 @@
 -- What is answered first is answered somewhere, and nowhere before.
 use Rattle.std.proofs.Common.{◌≡◌, ℕ, zero, suc, ◌+◌, ◌≤◌, List, [], ◌∷◌, Option, Some, None, slice_get, refl, sym, ap, subst, ◌∙◌, arith}
 use Rattle.std.specs.Option.{option_map, option_or}
+use Rattle.std.proofs.lemmas.Option.{same_Some}
 use Rattle.plan_audit.specs.Finding.{first_place, first_route}
 use Rattle.plan_audit.specs.declared.faults.Told.{Told}
 use Rattle.plan_audit.specs.declared.faults.Fault.{Fault}
 
 pub none_some : {X : Type 0} (x : X) → None ≡ Some x → ⊥
 none_some x h = cc
-
-pub some_same : {X : Type 0} (x y : X) → Some x ≡ Some y → x ≡ y
-some_same x y h = cc
 
 -- what a test of the items of a list answers first, and where; the places count from k on
 unfoldable pub first_answer : {X Y : Type 0} → (ℕ → X → Option Y) → ℕ → List X → Option (ℕ × Y)
@@ -33,7 +31,7 @@ module _ {X Y : Type 0} (test : ℕ → X → Option Y) where
   here : (k : ℕ) (x y : X) (o : Option Y) → Some x ≡ Some y → test (k + 0) y ≡ o → test k x ≡ o
   here k x y o same told =
       let at : k + 0 ≡ k = omega arith in
-      subst (λ a. test a x ≡ o) at (subst (λ b. test (k + 0) b ≡ o) (sym (some_same x y same)) told)
+      subst (λ a. test a x ≡ o) at (subst (λ b. test (k + 0) b ≡ o) (sym (same_Some x y same)) told)
 
   there : (k j : ℕ) (x : X) (o : Option Y) → test (k + suc j) x ≡ o → test (k + 1 + j) x ≡ o
   there k j x o told = let at : k + suc j ≡ k + 1 + j = omega arith in subst (λ a. test a x ≡ o) at told
@@ -41,7 +39,7 @@ module _ {X Y : Type 0} (test : ℕ → X → Option Y) where
   here-none : (k : ℕ) (x y : X) → Some x ≡ Some y → test k x ≡ None → test (k + 0) y ≡ None
   here-none k x y same none =
       let at : k ≡ k + 0 = omega arith in
-      subst (λ a. test a y ≡ None) at (subst (λ b. test k b ≡ None) (some_same x y same) none)
+      subst (λ a. test a y ≡ None) at (subst (λ b. test k b ≡ None) (same_Some x y same) none)
 
   there-none : (k j : ℕ) (x : X) → test (k + 1 + j) x ≡ None → test (k + suc j) x ≡ None
   there-none k j x told = let at : k + 1 + j ≡ k + suc j = omega arith in subst (λ a. test a x ≡ None) at told
@@ -67,7 +65,7 @@ module _ {X Y : Type 0} (test : ℕ → X → Option Y) where
             least = later-least k x xs a later o;
           }
       by (Some y) o rest =
-          let same : ◌≡◌ {A = ℕ × Y} (k, y) a = some_same _ _ (let h : option_or (option_map (λ y. (k, y)) (test k x)) (first_answer test (k + 1) xs) ≡ Some a = is in rw o at h) in
+          let same : ◌≡◌ {A = ℕ × Y} (k, y) a = same_Some _ _ (let h : option_or (option_map (λ y. (k, y)) (test k x)) (first_answer test (k + 1) xs) ≡ Some a = is in rw o at h) in
           record {
             index = 0;
             item = x;
@@ -125,7 +123,7 @@ fault_found test rs f is = by (first_answer test 0 rs) refl
     by : (o : Option (ℕ × Told)) → first_answer test 0 rs ≡ o → IsFirst test 0 rs (f.route, record { place = f.place; stop = f.stop })
     by None e = absurd (none_some f (sym (route_is test 0 rs ∙ ap (option_map fault_of) e) ∙ is))
     by (Some a) e =
-        let same : fault_of a ≡ f = some_same _ _ (sym (route_is test 0 rs ∙ ap (option_map fault_of) e) ∙ is) in
+        let same : fault_of a ≡ f = same_Some _ _ (sym (route_is test 0 rs ∙ ap (option_map fault_of) e) ∙ is) in
         subst (λ (f : Fault). IsFirst test 0 rs (f.route, record { place = f.place; stop = f.stop })) same (first_found test 0 rs a e)
 
 pub told_found : (test : ℕ → ℕ → Option ℕ) (ns : List ℕ) (t : Told) → first_place test 0 ns ≡ Some t → IsFirst test 0 ns (t.place, t.stop)
@@ -135,7 +133,7 @@ told_found test ns t is = by (first_answer test 0 ns) refl
     by : (o : Option (ℕ × ℕ)) → first_answer test 0 ns ≡ o → IsFirst test 0 ns (t.place, t.stop)
     by None e = absurd (none_some t (sym (place_is test 0 ns ∙ ap (option_map told_of) e) ∙ is))
     by (Some a) e =
-        let same : told_of a ≡ t = some_same _ _ (sym (place_is test 0 ns ∙ ap (option_map told_of) e) ∙ is) in
+        let same : told_of a ≡ t = same_Some _ _ (sym (place_is test 0 ns ∙ ap (option_map told_of) e) ∙ is) in
         subst (λ (t : Told). IsFirst test 0 ns (t.place, t.stop)) same (first_found test 0 ns a e)
 
 pub map-none : {X Y : Type 0} (g : X → Y) (o : Option X) → option_map g o ≡ None → o ≡ None

@@ -2,11 +2,12 @@
 use Rattle.std.proofs.Common.{◌≡◌, ◌≢◌, ℕ, zero, suc, ◌+◌, ◌-◌, ◌<◌, ◌≤◌, ◌⊎◌, Bool, true, false, cond, not, List, [], ◌∷◌, length, take, Option, Some, None, slice_get, refl, sym, ap, subst, ◌∙◌, inl, inr, arith, eqb}
 use Rattle.std.proofs.lemmas.Bool.Decides.{eqb_tells}
 use Rattle.std.proofs.lemmas.List.Sums.{sum_by-cons}
+use Rattle.std.proofs.lemmas.Option.{same_Some}
 use Rattle.plan_types.specs.Instance.{Instance}
 use Rattle.route_sched.specs.Cost.{used_count}
 use Rattle.plan_audit.specs.Finding.{first_beyond}
 use Rattle.plan_audit.specs.Verdict.{IsBeyondFleet}
-use Rattle.plan_audit.proofs.FirstLemmas.{none_some, some_same}
+use Rattle.plan_audit.proofs.FirstLemmas.{none_some}
 use Rattle.plan_audit.proofs.SpotLemmas.{IsLeastOf}
 use Rattle.plan_audit.proofs.TimeLemmas.{positive, nonzero, route_in}
 
@@ -53,7 +54,7 @@ length-take-most (suc n) (r ∷ rs) = let rest = length-take-most n rs in omega 
 used-some : (rs : List (List ℕ)) (y : ℕ) (r : List ℕ) → slice_get rs y ≡ Some r → 0 < length r → 1 ≤ used_count (take (suc y) rs)
 used-some [] y r at some = absurd (none_some r at)
 used-some (x ∷ xs) zero r at some =
-    let same : x ≡ r = some_same x r at in
+    let same : x ≡ r = same_Some x r at in
     let step = used-more x [] (nonzero (length x) (subst (λ (l : List ℕ). 0 < length l) (sym same) some)) in
     omega arith
 used-some (x ∷ xs) (suc y) r at some =
@@ -65,7 +66,7 @@ used-some (x ∷ xs) (suc y) r at some =
 beyond_at : (left k y : ℕ) (rs : List (List ℕ)) (r : List ℕ) → slice_get rs y ≡ Some r → 0 < length r → used_count (take (suc y) rs) ≡ left + 1 → first_beyond left k rs ≡ Some (k + y)
 beyond_at left k y [] r at some is = absurd (none_some r at)
 beyond_at left k zero (x ∷ xs) r at some is =
-    let same : x ≡ r = some_same x r at in
+    let same : x ≡ r = same_Some x r at in
     let used = nonzero (length x) (subst (λ (l : List ℕ). 0 < length l) (sym same) some) in
     let step = used-more x [] used in
     let none : left ≡ 0 = omega arith in
@@ -109,7 +110,7 @@ beyond_found left k (x ∷ xs) m is = by (eqb (length x) 0) refl (eqb_tells left
           count = used-empty x (take (suc (later.index)) xs) e ∙ later.count;
         }
     by false e (inl t) empty used =
-        let same : k ≡ m = some_same k m (let h : cond (eqb (length x) 0) (first_beyond left (k + 1) xs) (cond (eqb left 0) (Some k) (first_beyond (left - 1) (k + 1) xs)) ≡ Some m = is in rw (e, t.0) at h) in
+        let same : k ≡ m = same_Some k m (let h : cond (eqb (length x) 0) (first_beyond left (k + 1) xs) (cond (eqb left 0) (Some k) (first_beyond (left - 1) (k + 1) xs)) ≡ Some m = is in rw (e, t.0) at h) in
         let step = used-more x [] e in
         let none = t.1 in
         record {
@@ -166,7 +167,7 @@ module _ (p : Instance) (routes : List (List ℕ)) where
         broken = (refl, refl, subst (λ x. used_count (take (suc x) routes) ≡ p.fleet + 1) here (found.count), (found.route, subst (λ x. slice_get routes x ≡ Some (found.route)) here (found.stands), found.used));
         least = λ q j t b. (
             let at = route_in routes b.3.0 q b.3.1 in
-            let same : 0 + at.0 ≡ m = some_same _ _ (sym (beyond_at p.fleet 0 at.0 routes b.3.0 at.2 b.3.2 (subst (λ r. used_count (take r routes) ≡ p.fleet + 1) at.1 b.2)) ∙ is) in
+            let same : 0 + at.0 ≡ m = same_Some _ _ (sym (beyond_at p.fleet 0 at.0 routes b.3.0 at.2 b.3.2 (subst (λ r. used_count (take r routes) ≡ p.fleet + 1) at.1 b.2)) ∙ is) in
             let e = at.1 in let a = b.0 in let c = b.1 in
             inr (omega arith, inr (sym a, omega arith)));
       }

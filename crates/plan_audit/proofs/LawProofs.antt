@@ -2,6 +2,7 @@
 use Rattle.std.proofs.Common.{◌≡◌, ℕ, suc, ◌+◌, ◌<◌, ◌≤◌, ◌⊎◌, true, false, pos, ◌<ℤ◌, List, [], ◌∷◌, length, Option, Some, None, unwrap_or, refl, sym, ap, subst, ◌∙◌, inl, inr, arith, eqb}
 use Rattle.std.specs.List.{AllByRecursion}
 use Rattle.std.proofs.lemmas.Bool.Decides.{eqb_tells}
+use Rattle.std.proofs.lemmas.Option.{same_Some}
 use Rattle.plan_types.specs.Instance.{Instance, IsInstance}
 use Rattle.plan_types.specs.Laws.{NamedAreFound, RequestsStandByName}
 use Rattle.plan_types.specs.Request.{stops_of}
@@ -17,11 +18,10 @@ use Rattle.plan_audit.specs.Verdict.{Subject, planned, printed, routes_of, Keeps
 use Rattle.plan_audit.specs.Alone.{alone}
 use Rattle.plan_audit.specs.Laws.{IsPlanned, IsNamed, IsSoundPlan, KeepsPins, AreAllPlanned, PassesAreSound, PassesArePlans, UnsoundIsBroken, PlansPassWhereSound, SolutionsPassWhereSound, RoutesAreFeasible}
 use Rattle.plan_audit.specs.declared.faults.Fault.{Fault}
-use Rattle.plan_audit.specs.declared.rules.Rule.TheVariants.{UnknownStop, Twice, Missing, SplitPair, DeliveryFirst, Load, Late, LateReturn, Fleet, Pin, PrintedCost}
+use Rattle.plan_audit.specs.declared.rules.Rule.TheVariants.{Missing, SplitPair, DeliveryFirst, Load, Late, LateReturn, Fleet, Pin, PrintedCost}
 use Rattle.plan_audit.specs.declared.rules.Verdict.{Verdict}
 use Rattle.plan_audit.specs.declared.rules.Verdict.TheVariants.{Pass, Broken}
-use Rattle.plan_audit.proofs.AloneLemmas.{only_route, not_split}
-use Rattle.plan_audit.proofs.FirstLemmas.{some_same}
+use Rattle.plan_audit.proofs.AloneLemmas.{only_route, not_split, in_route}
 use Rattle.plan_audit.proofs.FleetLemmas.{fleet_found, none_beyond, used-within}
 use Rattle.plan_audit.proofs.PinLemmas.{pin_found, pins_kept}
 use Rattle.plan_audit.proofs.SoundLemmas.{missing_in, somewhere_or_not, sound_from, keeps_from, keeps_partners}
@@ -146,33 +146,25 @@ module _ (p : Instance) (s : Subject) (kept : KeepsRules 3 8 p s) (r : ℕ) (rou
   stands_there : (q i n : ℕ) → Stands (route ∷ []) q i n → Stands (routes_of s) r i n
   stands_there q i n t = (route, at, subst (λ (l : List ℕ). item_at l i ≡ Some n) (sym (only_route route t.0 q t.1).1) t.2)
 
-  -- what is said of the only route is said of this one
-  in_route : (P : List ℕ → Type 0) (q : ℕ) (other : List ℕ) → item_at (route ∷ []) q ≡ Some other → P other → P route
-  in_route P q other there b = subst P (sym (only_route route other q there).1) b
-
   feasible : KeepsRules 3 8 p (alone route)
-  feasible UnknownStop q i n from to b = omega arith
-  feasible Twice q i n from to b = omega arith
   feasible Missing q i n from to b = elim (somewhere_or_not (routes_of s) n) [
     | inr nowhere ↦ kept Missing r i n (omega arith) (omega arith) (missing_in p s r i n (b.0, stands_there q i b.0 b.1, b.2, nowhere))
     | inl u ↦ elim (eqb_tells u.0 r) [
-      | inl t ↦ b.3 (1, u.1, (route, refl, subst (λ (l : List ℕ). item_at l u.1 ≡ Some n) (some_same _ _ (sym u.2.1 ∙ ap (item_at (routes_of s)) t.1 ∙ at)) u.2.2))
+      | inl t ↦ b.3 (1, u.1, (route, refl, subst (λ (l : List ℕ). item_at l u.1 ≡ Some n) (same_Some _ _ (sym u.2.1 ∙ ap (item_at (routes_of s)) t.1 ∙ at)) u.2.2))
       | inr t ↦ kept SplitPair r i b.0 (omega arith) (omega arith) (stands_there q i b.0 b.1, (n, b.2, (u.0, u.1, t.1, u.2)))
     ]
   ]
   feasible SplitPair q i n from to b = not_split p route q i n b
   feasible DeliveryFirst q i n from to b = kept DeliveryFirst r i n (omega arith) (omega arith) (stands_there q i n b.0, (b.1.0, b.1.1, (b.1.2.0, b.1.2.1, stands_there q b.1.2.0 b.1.0 b.1.2.2)))
   feasible Load q i n from to b =
-      kept Load r i n (omega arith) (omega arith) (route, at, in_route (λ l. item_at l i ≡ Some n) q b.0 b.1 b.2, in_route (λ l. pos p.capacity <ℤ load p l i) q b.0 b.1 b.3)
+      kept Load r i n (omega arith) (omega arith) (route, at, in_route route (λ l. item_at l i ≡ Some n) q b.0 b.1 b.2, in_route route (λ l. pos p.capacity <ℤ load p l i) q b.0 b.1 b.3)
   feasible Late q i n from to b =
       kept Late r i n (omega arith) (omega arith)
-      (b.0, (route, at, in_route (λ l. item_at l i ≡ Some n) q b.1.0 b.1.1 b.1.2, in_route (λ l. (place p l i).latest < start p l i) q b.1.0 b.1.1 b.1.3))
+      (b.0, (route, at, in_route route (λ l. item_at l i ≡ Some n) q b.1.0 b.1.1 b.1.2, in_route route (λ l. (place p l i).latest < start p l i) q b.1.0 b.1.1 b.1.3))
   feasible LateReturn q i n from to b =
       kept LateReturn r i n (omega arith) (omega arith)
-      (b.0, (route, at, in_route (λ l. 0 < length l) q b.1.0 b.1.1 b.1.2, in_route (λ l. i ≡ length l + 1) q b.1.0 b.1.1 b.1.3, b.1.4, in_route (λ l. p.depot.latest < start p l i) q b.1.0 b.1.1 b.1.5))
-  feasible Fleet q i n from to b = omega arith
-  feasible Pin q i n from to b = omega arith
-  feasible PrintedCost q i n from to b = omega arith
+      (b.0, (route, at, in_route route (λ l. 0 < length l) q b.1.0 b.1.1 b.1.2, in_route route (λ l. i ≡ length l + 1) q b.1.0 b.1.1 b.1.3, b.1.4, in_route route (λ l. p.depot.latest < start p l i) q b.1.0 b.1.1 b.1.5))
+  feasible _ q i n from to b = omega arith
 
 pub routes_are_feasible : RoutesAreFeasible
 routes_are_feasible p s kept r route at = feasible p s kept r route at

@@ -1,9 +1,10 @@
 -- What passes is judged route by route.
 use Rattle.std.proofs.Common.{◌≡◌, ℕ, zero, suc, ◌<◌, ◌≤◌, ◌⊎◌, Bool, true, false, not, ◌&&◌, List, [], ◌∷◌, ◌++◌, All, length, Some, is_some, slice_get, refl, sym, ap, subst, ◌∙◌, inl, inr, arith, eqb, nat_eq}
 use Rattle.std.specs.List.{AllByRecursion, IsDistinct, list_all, concat, starts_with}
-use Rattle.std.proofs.lemmas.Bool.{and_parts, and_from, not-true, not_from_false, eqb-true, eq-eqb}
+use Rattle.std.proofs.lemmas.Bool.{and_parts, and_from, not-true, not_from_false, eqb-true, eq-eqb, eqb-false}
 use Rattle.std.proofs.lemmas.List.Elements.{All-from_recursion, recursion_from_All, All-weaker}
 use Rattle.std.proofs.lemmas.List.Sums.{AllPass-from_list_all, list_all-from_AllPass}
+use Rattle.std.proofs.lemmas.Option.{same_Some}
 use Rattle.plan_types.specs.Instance.{Instance, stop_at}
 use Rattle.route_sched.specs.Route.{IsLive, AreLiveOnce, IsPlan}
 use Rattle.plan_audit.specs.Rules.{item_at, Stands, IsUnknown, IsRepeated}
@@ -12,10 +13,10 @@ use Rattle.plan_audit.specs.Alone.{IsFeasibleAlone}
 use Rattle.plan_audit.specs.Laws.{KeepsPins}
 use Rattle.plan_audit.specs.Passes.{has, are_distinct, are_live_once, begin_with_pins, feasible_alone, passes}
 use Rattle.plan_audit.specs.Locality.{VerdictsAreUnique, TestsSayPass, IsPassing, PassesAreLocal, StandInOneRoute, PlansAreLocal, PinsAreLiveOnce, RoutesMayBeReplaced}
-use Rattle.plan_audit.specs.declared.rules.Rule.TheVariants.{UnknownStop, Twice, Missing, SplitPair, DeliveryFirst, Load, Late, LateReturn, Fleet, Pin, PrintedCost}
+use Rattle.plan_audit.specs.declared.rules.Rule.TheVariants.{UnknownStop, Twice, Missing, SplitPair, DeliveryFirst, Load, Late, LateReturn, Fleet, Pin}
 use Rattle.plan_audit.specs.declared.rules.Verdict.TheVariants.{Pass, Broken}
 use Rattle.plan_audit.proofs.AloneLemmas.{item_holds, distinct_places}
-use Rattle.plan_audit.proofs.FirstLemmas.{none_some, some_same}
+use Rattle.plan_audit.proofs.FirstLemmas.{none_some}
 use Rattle.plan_audit.proofs.LawProofs.{no_pin_off, routes_are_feasible}
 use Rattle.plan_audit.proofs.PinLemmas.{pins_kept}
 use Rattle.plan_audit.proofs.PlanLemmas.{all_by_get, StandOnce, distinct_route, is_plan, live_routes}
@@ -33,7 +34,7 @@ all_parts P (x ∷ xs) ys all = let rest = all_parts P xs ys all.1 in ((all.0, r
 all_seats : (P : ℕ → Type 0) (routes : List (List ℕ)) → AllByRecursion P (concat routes) → (r i n : ℕ) → Sits routes r i n → P n
 all_seats P [] all r i n sits = absurd (none_some sits.0 sits.1)
 all_seats P (route ∷ rest) all zero i n sits =
-    item_holds P route i n (all_parts P route (concat rest) all).0 (subst (λ (l : List ℕ). slice_get l i ≡ Some n) (sym (some_same route sits.0 sits.1)) sits.2)
+    item_holds P route i n (all_parts P route (concat rest) all).0 (subst (λ (l : List ℕ). slice_get l i ≡ Some n) (sym (same_Some route sits.0 sits.1)) sits.2)
 all_seats P (route ∷ rest) all (suc r) i n sits = all_seats P rest (all_parts P route (concat rest) all).1 r i n sits
 
 -- the numbers of a front and those behind it
@@ -45,16 +46,13 @@ distinct_parts (x ∷ xs) ys once =
     let rest = distinct_parts xs ys once.1 in
     ((here.0, rest.0), rest.1, (here.1, rest.2))
 
-not_same : (n m : ℕ) → nat_eq n m ≡ false → n ≡ m → ⊥
-not_same n m apart same = let h : true ≡ false = sym (eq-eqb n m same) ∙ apart in cc
-
 -- a number of the first route is in no later one
 not_in_both : (route : List ℕ) (rest : List (List ℕ)) → AllByRecursion (λ x. AllByRecursion (λ y. nat_eq x y ≡ false) (concat rest)) route → (j r i n : ℕ) → slice_get route j ≡ Some n → Sits rest r i n → ⊥
 not_in_both route rest apart j r i n at sits =
-    not_same n n (all_seats (λ y. nat_eq n y ≡ false) rest (item_holds (λ x. AllByRecursion (λ y. nat_eq x y ≡ false) (concat rest)) route j n apart at) r i n sits) refl
+    eqb-false n n (all_seats (λ y. nat_eq n y ≡ false) rest (item_holds (λ x. AllByRecursion (λ y. nat_eq x y ≡ false) (concat rest)) route j n apart at) r i n sits) refl
 
 in_first : (route : List ℕ) (rest : List (List ℕ)) (i n : ℕ) → Sits (route ∷ rest) zero i n → slice_get route i ≡ Some n
-in_first route rest i n sits = subst (λ (l : List ℕ). slice_get l i ≡ Some n) (sym (some_same route sits.0 sits.1)) sits.2
+in_first route rest i n sits = subst (λ (l : List ℕ). slice_get l i ≡ Some n) (sym (same_Some route sits.0 sits.1)) sits.2
 
 -- distinct stops have one seat each
 pub stand_once_from : (routes : List (List ℕ)) → IsDistinct nat_eq (concat routes) → StandOnce routes
@@ -80,7 +78,7 @@ had_none n ns none = by (has ns n) refl
   where
     by : (b : Bool) → has ns n ≡ b → b ≡ false
     by false e = refl
-    by true e = (let t = place_of_had ns n e in absurd (not_same n n (item_holds (λ m. nat_eq n m ≡ false) ns t.0 n none t.1) refl))
+    by true e = (let t = place_of_had ns n e in absurd (eqb-false n n (item_holds (λ m. nat_eq n m ≡ false) ns t.0 n none t.1) refl))
 
 distinct_tested : (ns : List ℕ) → are_distinct ns ≡ true → IsDistinct nat_eq ns
 unfolding IsDistinct
@@ -114,7 +112,7 @@ starts_from : (ns pin : List ℕ) → ((i n : ℕ) → slice_get pin i ≡ Some 
 starts_from ns [] each = refl
 starts_from [] (m ∷ pin) each = absurd (none_some m (each zero m refl))
 starts_from (x ∷ ns) (m ∷ pin) each =
-    and_from (nat_eq m x) (starts_with nat_eq ns pin) (eq-eqb m x (some_same m x (sym (each zero m refl)))) (starts_from ns pin (λ i n at. each (suc i) n at))
+    and_from (nat_eq m x) (starts_with nat_eq ns pin) (eq-eqb m x (same_Some m x (sym (each zero m refl)))) (starts_from ns pin (λ i n at. each (suc i) n at))
 
 -- pins, by places that count from 0
 pins_tested : (routes pins : List (List ℕ)) → begin_with_pins routes pins ≡ true → (r i n : ℕ) → Sits pins r i n → Sits routes r i n
@@ -194,11 +192,11 @@ module _ (p : Instance) (routes : List (List ℕ)) where
   module _ (pins : List (List ℕ)) (once : StandOnce routes) (live : (r i n : ℕ) → Sits routes r i n → IsLive p n) (feasible : (r : ℕ) (route : List ℕ) → item_at routes r ≡ Some route → IsFeasibleAlone p route) where
     anywhere : (route : List ℕ) (r : ℕ) → item_at routes r ≡ Some route → (q j n : ℕ) → Stands (route ∷ []) q j n → Stands routes r j n
     anywhere route r at zero j n t = absurd (none_some t.0 t.1)
-    anywhere route r at (suc zero) j n t = (route, at, subst (λ (l : List ℕ). item_at l j ≡ Some n) (sym (some_same route t.0 t.1)) t.2)
+    anywhere route r at (suc zero) j n t = (route, at, subst (λ (l : List ℕ). item_at l j ≡ Some n) (sym (same_Some route t.0 t.1)) t.2)
     anywhere route r at (suc (suc q)) j n t = absurd (none_some t.0 t.1)
 
     here : (r : ℕ) (route other : List ℕ) → item_at routes r ≡ Some route → item_at routes r ≡ Some other → other ≡ route
-    here r route other at on = some_same other route (sym on ∙ at)
+    here r route other at on = same_Some other route (sym on ∙ at)
 
     pub kept_rules : KeepsRules 1 8 p (planned routes pins)
     kept_rules UnknownStop r i n from to b = none_unknown live r i n b
@@ -221,9 +219,7 @@ module _ (p : Instance) (routes : List (List ℕ)) where
     kept_rules Load r i n from to b = feasible r b.0 b.1 Load 1 i n (omega arith) (omega arith) (b.0, refl, b.2, b.3)
     kept_rules Late r i n from to b = feasible r b.1.0 b.1.1 Late 1 i n (omega arith) (omega arith) (b.0, (b.1.0, refl, b.1.2, b.1.3))
     kept_rules LateReturn r i n from to b = feasible r b.1.0 b.1.1 LateReturn 1 i n (omega arith) (omega arith) (b.0, (b.1.0, refl, b.1.2, b.1.3, b.1.4, b.1.5))
-    kept_rules Fleet r i n from to b = omega arith
-    kept_rules Pin r i n from to b = omega arith
-    kept_rules PrintedCost r i n from to b = omega arith
+    kept_rules _ r i n from to b = omega arith
 
 -- the item at an index holds what all hold
 pub all_items : {X : Type 0} (P : X → Type 0) (xs : List X) → All P xs → (r : ℕ) (x : X) → item_at xs r ≡ Some x → P x
@@ -232,7 +228,7 @@ all_items {X = X} P xs all (suc r) x at = by xs (recursion_from_All P xs all) r 
   where
     by : (xs : List X) → AllByRecursion P xs → (k : ℕ) → slice_get xs k ≡ Some x → P x
     by [] all k at = absurd (none_some x at)
-    by (y ∷ xs) all zero at = subst P (some_same y x at) all.0
+    by (y ∷ xs) all zero at = subst P (same_Some y x at) all.0
     by (y ∷ xs) all (suc k) at = by xs all.1 k at
 
 pub items_all : {X : Type 0} (P : X → Type 0) (xs : List X) → ((r : ℕ) (x : X) → item_at xs r ≡ Some x → P x) → All P xs
@@ -306,7 +302,7 @@ plans_are_local p routes = (λ plan. (each plan, λ q j r i n a b. (stands_once 
         let same = one (suc q) (suc j) (suc r) (suc i) n a b in
         let e : q ≡ r = omega arith in
         let live = all_items (AreLiveOnce p) routes all (suc r) b.0 b.1 in
-        let route : a.0 ≡ b.0 = some_same a.0 b.0 (sym a.1 ∙ ap (slice_get routes) e ∙ b.1) in
+        let route : a.0 ≡ b.0 = same_Some a.0 b.0 (sym a.1 ∙ ap (slice_get routes) e ∙ b.1) in
         (e, distinct_places b.0 j i n (live.distinct) (subst (λ (l : List ℕ). slice_get l j ≡ Some n) route a.2) b.2)
 
     lives : All (AreLiveOnce p) routes → (r i n : ℕ) → Sits routes r i n → IsLive p n
@@ -373,7 +369,7 @@ routes_may_be_replaced p pins routes others test same apart change = passing_tes
         let old = kept (suc r) (suc i) n sits in
         let new = item_of_same routes others (sym same) r old.0 old.1 in
         elim (change (suc r) new.0 new.1) [
-          | inl at ↦ (new.0, new.1, subst (λ (l : List ℕ). slice_get l i ≡ Some n) (some_same old.0 new.0 (sym old.1 ∙ at)) old.2)
+          | inl at ↦ (new.0, new.1, subst (λ (l : List ℕ). slice_get l i ≡ Some n) (same_Some old.0 new.0 (sym old.1 ∙ at)) old.2)
           | inr may ↦ (new.0, new.1, starts_at new.0 sits.0 (may.pinned sits.0 sits.1) i n sits.2)
         ]
 

@@ -1,11 +1,12 @@
 -- The first place at which a route is not as its pin.
 use Rattle.std.proofs.Common.{◌≡◌, ◌≢◌, ℕ, zero, suc, ◌<◌, ◌≤◌, ◌⊎◌, true, false, cond, List, [], ◌∷◌, Option, Some, None, slice_get, unwrap_or, refl, sym, ap, subst, ◌∙◌, inl, inr, arith}
 use Rattle.std.proofs.lemmas.Bool.Decides.{eqb_tells}
+use Rattle.std.proofs.lemmas.Option.{same_Some}
 use Rattle.plan_audit.specs.Rules.{item_at, Stands, IsNotAfter}
 use Rattle.plan_audit.specs.Finding.{first_off_pin, is_found, off_pin_at}
 use Rattle.plan_audit.specs.Verdict.{IsOffPin}
 use Rattle.plan_audit.specs.declared.faults.Fault.{Fault}
-use Rattle.plan_audit.proofs.FirstLemmas.{none_some, some_same}
+use Rattle.plan_audit.proofs.FirstLemmas.{none_some}
 use Rattle.plan_audit.proofs.SpotLemmas.{Spot, IsTestOf, IsLeastOf, rule_nothing, rule_found}
 use Rattle.plan_audit.proofs.TimeLemmas.{standing_in}
 
@@ -17,7 +18,7 @@ holds : (n : ℕ) (o : Option ℕ) → IsHolding n o
 holds n None = inr (refl, none_some n)
 holds n (Some m) = elim (eqb_tells m n) as (λ _. IsHolding n (Some m)) [
   | inl t ↦ inl (t.0, ap Some t.1)
-  | inr t ↦ inr (t.0, λ same. t.1 (some_same m n same))
+  | inr t ↦ inr (t.0, λ same. t.1 (same_Some m n same))
 ]
 
 -- before a place of a list there are places
@@ -48,7 +49,7 @@ module _ (routes pins : List (List ℕ)) where
       to : (r i s : ℕ) (t : Spot (λ r _ i n. off_pin_at (unwrap_or (slice_get routes r) []) i n) pins r i s) → IsHolding t.1 (slice_get (unwrap_or (slice_get routes r) []) i) → IsOff (suc r) (suc i) s
       to r i s t (inl h) = absurd (none_some s (let g : cond (is_found t.1 (slice_get (unwrap_or (slice_get routes r) []) i)) None (Some t.1) ≡ Some s = t.4 in rw (h.0) at g))
       to r i s t (inr h) =
-          let same : t.1 ≡ s = some_same _ _ (let g : cond (is_found t.1 (slice_get (unwrap_or (slice_get routes r) []) i)) None (Some t.1) ≡ Some s = t.4 in rw (h.0) at g) in
+          let same : t.1 ≡ s = same_Some _ _ (let g : cond (is_found t.1 (slice_get (unwrap_or (slice_get routes r) []) i)) None (Some t.1) ≡ Some s = t.4 in rw (h.0) at g) in
           (t.0, t.2, subst (λ n. slice_get t.0 i ≡ Some n) same t.3, subst (λ n. slice_get (unwrap_or (slice_get routes r) []) i ≢ Some n) same h.1)
 
       from : (r i s : ℕ) → IsOff r i s → (q : ℕ) × (j : ℕ) × (r ≡ suc q) × (i ≡ suc j) × Spot (λ r _ i n. off_pin_at (unwrap_or (slice_get routes r) []) i n) pins q j s

@@ -1,7 +1,6 @@
 -- Plans whose stops are all known and stand once each.
 use Rattle.std.proofs.Common.{◌≡◌, ℕ, zero, suc, ◌<◌, false, List, [], ◌∷◌, ◌++◌, All, Option, Some, None, IsSome, slice_get, refl, sym, ap, ◌∙◌, inl, inr, arith, nat_eq}
 use Rattle.std.specs.List.{AllByRecursion, IsDistinct, concat}
-use Rattle.std.proofs.lemmas.Bool.{cases_lt}
 use Rattle.std.proofs.lemmas.Bool.Decides.{eqb_tells}
 use Rattle.std.proofs.lemmas.List.Elements.{All-from_recursion}
 use Rattle.plan_types.specs.Instance.{Instance, IsInstance, stop_at}
@@ -9,7 +8,7 @@ use Rattle.plan_types.specs.Laws.{StopsAreBelowNext}
 use Rattle.plan_types.specs.declared.requests.Stop.{Stop}
 use Rattle.route_sched.specs.Route.{IsLive, AreLiveOnce, IsPlan}
 use Rattle.plan_audit.specs.Rules.{IsUnknown, IsRepeated}
-use Rattle.plan_audit.proofs.SeatLemmas.{Sits}
+use Rattle.plan_audit.proofs.SeatLemmas.{Sits, neither_before}
 
 -- what holds of the item at each index
 pub all_by_get : {X : Type 0} (P : X → Type 0) (xs : List X) → ((k : ℕ) (x : X) → slice_get xs k ≡ Some x → P x) → AllByRecursion P xs
@@ -79,19 +78,8 @@ module _ (p : Instance) (routes : List (List ℕ)) (known : (r i n : ℕ) → Is
     stand_once : StandOnce routes
     unfolding StandOnce
     stand_once q j r i n a b =
-        elim (cases_lt q r) [
-          | inl lt ↦ absurd (once (suc r) (suc i) n (b, (suc q, suc j, inl (omega arith), a)))
-          | inr ge ↦ elim (cases_lt r q) [
-            | inl lt ↦ absurd (once (suc q) (suc j) n (a, (suc r, suc i, inl (omega arith), b)))
-            | inr le ↦ (let same : q ≡ r = omega arith in elim (cases_lt j i) [
-              | inl lt ↦ absurd (once (suc r) (suc i) n (b, (suc q, suc j, inr (ap suc same, omega arith), a)))
-              | inr ge' ↦ elim (cases_lt i j) [
-                | inl lt ↦ absurd (once (suc q) (suc j) n (a, (suc r, suc i, inr (ap suc (sym same), omega arith), b)))
-                | inr le' ↦ (same, omega arith)
-              ]
-            ])
-          ]
-        ]
+        let same = neither_before (suc q) (suc j) (suc r) (suc i) (λ earlier. once (suc r) (suc i) n (b, (suc q, suc j, earlier, a))) (λ earlier. once (suc q) (suc j) n (a, (suc r, suc i, earlier, b))) in
+        (omega (arith, same.0), omega (arith, same.1))
 
     pub is_plan : IsPlan p routes
     is_plan = record {

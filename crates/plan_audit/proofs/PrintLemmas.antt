@@ -7,6 +7,7 @@ use Rattle.std.proofs.lemmas.Bool.{ne_eqb, or_cases}
 use Rattle.std.proofs.lemmas.Bool.Decides.{eqb_tells}
 use Rattle.std.proofs.lemmas.List.Elements.{All-filter}
 use Rattle.std.proofs.lemmas.List.Sums.{sum_by-cons}
+use Rattle.std.proofs.lemmas.Option.{same_Some}
 use Rattle.plan_types.specs.Instance.{Instance}
 use Rattle.plan_types.specs.Laws.{NamedAreFound, RequestsStandByName}
 use Rattle.plan_types.specs.Request.{stops_of}
@@ -25,8 +26,8 @@ use Rattle.plan_audit.specs.Laws.{AreAllPlanned, IsPlanned}
 use Rattle.plan_audit.specs.Locality.{IsPassing}
 use Rattle.plan_audit.specs.Printing.{UsedRoutesAreSound, WholePlansPassPrinted}
 use Rattle.plan_audit.specs.Verdict.{KeepsRules, planned, printed}
-use Rattle.plan_audit.specs.declared.rules.Rule.TheVariants.{UnknownStop, Twice, Missing, SplitPair, DeliveryFirst, Load, Late, LateReturn, Fleet, Pin, PrintedCost}
-use Rattle.plan_audit.proofs.FirstLemmas.{none_some, some_same}
+use Rattle.plan_audit.specs.declared.rules.Rule.TheVariants.{Missing, Fleet, Pin, PrintedCost}
+use Rattle.plan_audit.proofs.FirstLemmas.{none_some}
 use Rattle.plan_audit.proofs.FleetLemmas.{none_beyond, used-most}
 use Rattle.plan_audit.proofs.LawProofs as laws
 use Rattle.plan_audit.proofs.LocalLemmas.{all_items, items_all, kept_rules, live_seat, once_seat, passes_are_local}
@@ -96,7 +97,7 @@ none_left : (routes : List (List ℕ)) (es : List (ℕ × Request)) → count_by
 none_left routes [] none name request at = absurd (none_some request at)
 none_left routes (e ∷ es) none name request at =
     elim (eqb_tells name e.0) [
-      | inl t ↦ subst (λ r. is_planned routes r ≡ true) (some_same e.1 request (let h : lookup (nat_eq name) (e ∷ es) ≡ Some request = at in rw t.0 at h)) (here (is_planned routes e.1) refl)
+      | inl t ↦ subst (λ r. is_planned routes r ≡ true) (same_Some e.1 request (let h : lookup (nat_eq name) (e ∷ es) ≡ Some request = at in rw t.0 at h)) (here (is_planned routes e.1) refl)
       | inr t ↦ none_left routes es (omega (arith, step, none)) name request (let h : lookup (nat_eq name) (e ∷ es) ≡ Some request = at in rw t.0 at h)
     ]
   where
@@ -125,18 +126,12 @@ module _ (p : Instance) (routes : List (List ℕ)) (plan : IsPlan p routes) (fea
 
   -- printed, each request is planned, too
   printed_kept : (cost : ℕ) → AreAllPlanned p (used_routes routes) → KeepsRules 1 8 p (printed (used_routes routes) cost)
-  printed_kept cost all UnknownStop r i n from to b = used_kept UnknownStop r i n from to b
-  printed_kept cost all Twice r i n from to b = used_kept Twice r i n from to b
   printed_kept cost all Missing r i n from to (inl b) = used_kept Missing r i n from to b
   printed_kept cost all Missing r i n from to (inr b) = laws.is_planned p (used_routes routes) all n b.1
-  printed_kept cost all SplitPair r i n from to b = used_kept SplitPair r i n from to b
-  printed_kept cost all DeliveryFirst r i n from to b = used_kept DeliveryFirst r i n from to b
-  printed_kept cost all Load r i n from to b = used_kept Load r i n from to b
-  printed_kept cost all Late r i n from to b = used_kept Late r i n from to b
-  printed_kept cost all LateReturn r i n from to b = used_kept LateReturn r i n from to b
   printed_kept cost all Fleet r i n from to b = omega arith
   printed_kept cost all Pin r i n from to b = omega arith
   printed_kept cost all PrintedCost r i n from to b = omega arith
+  printed_kept cost all rule r i n from to b = used_kept rule r i n from to b
 
 pub used_routes_are_sound : RequestsStandByName → NamedAreFound → UsedRoutesAreSound
 used_routes_are_sound by_name found p routes valid sound = sound_from found p (planned (used_routes routes) []) valid (used_kept p routes (plan_from p (planned routes []) kept) feasible)

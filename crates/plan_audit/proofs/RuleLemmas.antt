@@ -1,8 +1,9 @@
 -- Each rule on where stops stand is the test that the auditor makes.
 use Rattle.std.proofs.Common.{◌≡◌, ◌≢◌, ℕ, zero, suc, ◌<◌, ◌≤◌, ◌⊎◌, Bool, true, false, cond, ◌&&◌, nat_lt, List, Option, Some, None, slice_get, is_some, refl, sym, ap, subst, ◌∙◌, inl, inr, arith, eqb}
 use Rattle.std.specs.Option.{option_and_then}
-use Rattle.std.proofs.lemmas.Bool.{cases_lt, lt-ltb, ltb-true}
+use Rattle.std.proofs.lemmas.Bool.{lt-ltb, ltb-true}
 use Rattle.std.proofs.lemmas.Bool.Decides.{eqb_tells}
+use Rattle.std.proofs.lemmas.Option.{same_Some}
 use Rattle.plan_types.specs.Instance.{Instance, stop_at, partner_at, request_with, pickup_at}
 use Rattle.plan_types.specs.Request.{partner_in, pickup_in}
 use Rattle.plan_types.specs.declared.requests.Stop.{Stop}
@@ -11,8 +12,8 @@ use Rattle.plan_types.specs.declared.requests.Request.TheVariants.{Single, Pair}
 use Rattle.plan_audit.specs.Rules.{Stands, StandsSomewhere, IsEarlier, IsUnknown, IsRepeated, IsMissing, IsSplit, IsDeliveredFirst}
 use Rattle.plan_audit.specs.Finding.{seat_of, unknown_at, repeated_at, missing_at, split_at, delivered_at}
 use Rattle.plan_audit.specs.declared.seats.Seat.{Seat}
-use Rattle.plan_audit.proofs.FirstLemmas.{none_some, some_same}
-use Rattle.plan_audit.proofs.SeatLemmas.{Sits, seat_of-found, seat_of-none}
+use Rattle.plan_audit.proofs.FirstLemmas.{none_some}
+use Rattle.plan_audit.proofs.SeatLemmas.{Sits, seat_of-found, seat_of-none, neither_before}
 use Rattle.plan_audit.proofs.SpotLemmas.{Spot, IsTestOf}
 
 -- a place counted from 1 is one counted from 0
@@ -67,7 +68,7 @@ module _ (p : Instance) (routes : List (List ℕ)) where
       to : (r i s : ℕ) (t : Spot (λ _ _ _ n. unknown_at p routes n) routes r i s) (o : Option Stop) → stop_at p (t.1) ≡ o → IsUnknown p routes (suc r) (suc i) s
       to r i s t (Some x) e = absurd (none_some s (let h : cond (is_some (stop_at p t.1)) None (Some t.1) ≡ Some s = t.4 in rw e at h))
       to r i s t None e =
-          let same : t.1 ≡ s = some_same _ _ (let h : cond (is_some (stop_at p t.1)) None (Some t.1) ≡ Some s = t.4 in rw e at h) in
+          let same : t.1 ≡ s = same_Some _ _ (let h : cond (is_some (stop_at p t.1)) None (Some t.1) ≡ Some s = t.4 in rw e at h) in
           ((t.0, t.2, subst (λ n. slice_get t.0 i ≡ Some n) same t.3), subst (λ n. stop_at p n ≡ None) same e)
 
       from : (r i s : ℕ) → IsUnknown p routes r i s → (q : ℕ) × (j : ℕ) × (r ≡ suc q) × (i ≡ suc j) × Spot (λ _ _ _ n. unknown_at p routes n) routes q j s
@@ -88,11 +89,11 @@ module _ (p : Instance) (routes : List (List ℕ)) where
               → cond (eqb u.route r && eqb u.place i) None (Some (t.1)) ≡ Some s → (u.route < r) ⊎ ((u.route ≡ r) × (u.place ≤ i)) → Sits routes u.route u.place (t.1) → IsRepeated p routes (suc r) (suc i) s
           elsewhere (inl a) (inl b) told first sits = absurd (none_some s (rw (a.0, b.0) at told))
           elsewhere (inl a) (inr b) told first sits =
-              let same : t.1 ≡ s = some_same _ _ (rw (a.0, b.0) at told) in
+              let same : t.1 ≡ s = same_Some _ _ (rw (a.0, b.0) at told) in
               let before : u.place < i = elim first [ inl lt ↦ (let e = a.1 in omega arith) | inr le ↦ (let ne = b.1 in let le' = le.1 in omega arith) ] in
               ((t.0, t.2, subst (λ n. slice_get t.0 i ≡ Some n) same t.3), (suc u.route, suc u.place, inr (ap suc a.1, omega arith), subst (λ n. Sits routes u.route u.place n) same sits))
           elsewhere (inr a) b told first sits =
-              let same : t.1 ≡ s = some_same _ _ (rw (a.0) at told) in
+              let same : t.1 ≡ s = same_Some _ _ (rw (a.0) at told) in
               let before : u.route < r = elim first [ inl lt ↦ lt | inr le ↦ absurd (a.1 le.0) ] in
               ((t.0, t.2, subst (λ n. slice_get t.0 i ≡ Some n) same t.3), (suc u.route, suc u.place, inl (omega arith), subst (λ n. Sits routes u.route u.place n) same sits))
 
@@ -132,7 +133,7 @@ module _ (p : Instance) (routes : List (List ℕ)) where
           by : (o : Option Seat) → seat_of routes m ≡ o → IsMissing p routes (suc r) (suc i) s
           by (Some u) f = absurd (none_some s (let h : partner_test routes (partner_at p t.1) ≡ Some s = t.4 in let g : cond (is_some (seat_of routes m)) None (Some m) ≡ Some s = (rw e at h) in rw f at g))
           by None f =
-              let same : m ≡ s = some_same _ _ (let h : partner_test routes (partner_at p t.1) ≡ Some s = t.4 in let g : cond (is_some (seat_of routes m)) None (Some m) ≡ Some s = (rw e at h) in rw f at g) in
+              let same : m ≡ s = same_Some _ _ (let h : partner_test routes (partner_at p t.1) ≡ Some s = t.4 in let g : cond (is_some (seat_of routes m)) None (Some m) ≡ Some s = (rw e at h) in rw f at g) in
               (t.1, (t.0, t.2, t.3), e ∙ ap Some same, λ somewhere. nowhere-seat routes m f (subst (λ n. StandsSomewhere routes n) (sym same) somewhere))
 
       from : (r i s : ℕ) → IsMissing p routes r i s → (q : ℕ) × (j : ℕ) × (r ≡ suc q) × (i ≡ suc j) × Spot (λ _ _ _ n. missing_at p routes n) routes q j s
@@ -148,13 +149,8 @@ module _ (p : Instance) (routes : List (List ℕ)) where
   only-seat : ((r i n : ℕ) → IsRepeated p routes r i n → ⊥) → (n : ℕ) (u : Seat) → seat_of routes n ≡ Some u → (r i : ℕ) → Sits routes r i n → (u.route ≡ r) × (u.place ≡ i)
   only-seat once n u e r i sits =
       let seat = seat_of-found routes n u e in
-      elim (seat.least r i sits) [
-        | inl lt ↦ absurd (once (suc r) (suc i) n (sits, (suc u.route, suc u.place, inl (omega arith), seat.sits)))
-        | inr le ↦ elim (cases_lt u.place i) [
-          | inl lt ↦ absurd (once (suc r) (suc i) n (sits, (suc u.route, suc u.place, inr (ap suc le.0, omega arith), seat.sits)))
-          | inr ge ↦ (let a = le.1 in (le.0, omega arith))
-        ]
-      ]
+      let same = neither_before (suc u.route) (suc u.place) (suc r) (suc i) (λ earlier. once (suc r) (suc i) n (sits, (suc u.route, suc u.place, earlier, seat.sits))) (λ earlier. once (suc u.route) (suc u.place) n (seat.sits, (suc r, suc i, earlier, sits))) in
+      (omega (arith, same.0), omega (arith, same.1))
 
   pub split_rule : ((r i n : ℕ) → IsRepeated p routes r i n → ⊥) → IsTestOf (IsSplit p routes) (λ r _ _ n. split_at p routes r n) routes
   split_rule once = record { to = to; from = from }
@@ -167,7 +163,7 @@ module _ (p : Instance) (routes : List (List ℕ)) where
           away : (m : ℕ) (u : Seat) → partner_at p (t.1) ≡ Some m → Sits routes u.route u.place m → ((eqb u.route r ≡ true) × (u.route ≡ r)) ⊎ ((eqb u.route r ≡ false) × (u.route ≢ r)) → cond (eqb u.route r) None (Some (t.1)) ≡ Some s → IsSplit p routes (suc r) (suc i) s
           away m u e sits (inl a) told = absurd (none_some s (rw (a.0) at told))
           away m u e sits (inr a) told =
-              let same : t.1 ≡ s = some_same _ _ (rw (a.0) at told) in
+              let same : t.1 ≡ s = same_Some _ _ (rw (a.0) at told) in
               ((t.0, t.2, subst (λ n. slice_get t.0 i ≡ Some n) same t.3), (m, subst (λ n. partner_at p n ≡ Some m) same e, (suc u.route, suc u.place, (λ h. a.1 (omega arith)), sits)))
 
       from : (r i s : ℕ) → IsSplit p routes r i s → (q : ℕ) × (j : ℕ) × (r ≡ suc q) × (i ≡ suc j) × Spot (λ r _ _ n. split_at p routes r n) routes q j s
@@ -200,7 +196,7 @@ module _ (p : Instance) (routes : List (List ℕ)) where
           later m u e sits true lt told (inr a) =
               absurd (whole (suc r) (suc i) t.1 ((t.0, t.2, t.3), (m, partner_from_pickup p t.1 m e, (suc u.route, suc u.place, (λ h. a.1 (omega arith)), sits))))
           later m u e sits true lt told (inl a) =
-              let same : t.1 ≡ s = some_same _ _ (rw lt at told) in
+              let same : t.1 ≡ s = same_Some _ _ (rw lt at told) in
               let after : i < u.place = ltb-true i u.place lt in
               ((t.0, t.2, subst (λ n. slice_get t.0 i ≡ Some n) same t.3), (m, subst (λ n. pickup_at p n ≡ Some m) same e, (suc u.place, omega arith, subst (λ q. Sits routes q u.place m) (a.1) sits)))
 

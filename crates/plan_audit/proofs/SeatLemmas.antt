@@ -2,9 +2,11 @@
 use Rattle.std.proofs.Common.{◌≡◌, ℕ, ◌+◌, ◌<◌, ◌≤◌, ◌⊎◌, Bool, true, false, cond, List, [], ◌∷◌, Option, Some, None, slice_get, refl, sym, ap, subst, ◌∙◌, inl, inr, arith, eqb}
 use Rattle.std.specs.Option.{option_map, option_or}
 use Rattle.std.proofs.lemmas.Bool.{eqb-true, eq-eqb, cases_lt}
+use Rattle.std.proofs.lemmas.Option.{same_Some}
+use Rattle.plan_audit.specs.Rules.{IsEarlier}
 use Rattle.plan_audit.specs.Finding.{place_of, seat_in, seat_from, seat_of}
 use Rattle.plan_audit.specs.declared.seats.Seat.{Seat}
-use Rattle.plan_audit.proofs.FirstLemmas.{none_some, some_same, first_answer, IsFirst, AnswersNothing, first_found, first_nothing, option_or-map, map-map, map-none}
+use Rattle.plan_audit.proofs.FirstLemmas.{none_some, first_answer, IsFirst, AnswersNothing, first_found, first_nothing, option_or-map, map-map, map-none}
 
 -- whether a place is one of stop n
 place_test : ℕ → ℕ → ℕ → Option ℕ
@@ -35,6 +37,22 @@ seat_from-is n k (r ∷ rs) =
 abbrev pub Sits : List (List ℕ) → ℕ → ℕ → ℕ → Type 0
 Sits routes r i n = (route : List ℕ) × (slice_get routes r ≡ Some route) × (slice_get route i ≡ Some n)
 
+-- two places of which neither is before the other are one
+pub neither_before : (q j r i : ℕ) → (IsEarlier q j r i → ⊥) → (IsEarlier r i q j → ⊥) → (q ≡ r) × (j ≡ i)
+neither_before q j r i before behind = elim (cases_lt q r) [
+  | inl lt ↦ absurd (before (inl lt))
+  | inr ge ↦ elim (cases_lt r q) [
+    | inl lt ↦ absurd (behind (inl lt))
+    | inr le ↦ (let same : q ≡ r = omega arith in elim (cases_lt j i) [
+      | inl lt ↦ absurd (before (inr (same, lt)))
+      | inr ge' ↦ elim (cases_lt i j) [
+        | inl lt ↦ absurd (behind (inr (sym same, lt)))
+        | inr le' ↦ (same, omega arith)
+      ]
+    ])
+  ]
+]
+
 -- what is known of the first place of a stop
 pub record IsPlace (n : ℕ) (ms : List ℕ) (i : ℕ) : Type 0 where
   pub stands : slice_get ms i ≡ Some n
@@ -44,7 +62,7 @@ some_place : (n i m s : ℕ) → cond (eqb m n) (Some i) None ≡ Some s → (m 
 some_place n i m s h = by (eqb m n) refl
   where
     by : (b : Bool) → eqb m n ≡ b → (m ≡ n) × (s ≡ i)
-    by true e = (eqb-true m n e, (let g : cond (eqb m n) (Some i) None ≡ Some s = h in sym (some_same i s (rw e at g))))
+    by true e = (eqb-true m n e, (let g : cond (eqb m n) (Some i) None ≡ Some s = h in sym (same_Some i s (rw e at g))))
     by false e = absurd (none_some s (let g : cond (eqb m n) (Some i) None ≡ Some s = h in rw e at g))
 
 pub place_of-found : (n : ℕ) (ms : List ℕ) (i : ℕ) → place_of n 0 ms ≡ Some i → IsPlace n ms i
@@ -56,7 +74,7 @@ place_of-found n ms i is = by (first_answer (place_test n) 0 ms) refl
     by (Some a) e =
         let first = first_found (place_test n) 0 ms a e in
         let told = some_place n a.0 (first.item) a.1 (first.told) in
-        let same : a.1 ≡ i = some_same _ _ (sym (place_of-is n 0 ms ∙ ap (option_map (λ a. a.1)) e) ∙ is) in
+        let same : a.1 ≡ i = same_Some _ _ (sym (place_of-is n 0 ms ∙ ap (option_map (λ a. a.1)) e) ∙ is) in
         let place = first.place in
         let index : first.index ≡ i = omega arith in
         record {
@@ -84,7 +102,7 @@ seat_of-found routes n s is = by (first_answer (λ _ r. place_of n 0 r) 0 routes
     by None e = absurd (none_some s (sym (seat_from-is n 0 routes ∙ ap (option_map seat_at) e) ∙ is))
     by (Some a) e =
         let first = first_found (λ _ r. place_of n 0 r) 0 routes a e in
-        let same : seat_at a ≡ s = some_same _ _ (sym (seat_from-is n 0 routes ∙ ap (option_map seat_at) e) ∙ is) in
+        let same : seat_at a ≡ s = same_Some _ _ (sym (seat_from-is n 0 routes ∙ ap (option_map seat_at) e) ∙ is) in
         let place = place_of-found n (first.item) a.1 (first.told) in
         let at = first.place in
         let index : first.index ≡ a.0 = omega arith in
@@ -101,7 +119,7 @@ seat_of-found routes n s is = by (first_answer (λ _ r. place_of n 0 r) 0 routes
               | inl lt ↦ inl lt
               | inr ge ↦ (
                   let here : a.0 ≡ r = omega arith in
-                  let same : first.item ≡ t.0 = some_same _ _ (sym (subst (λ q. slice_get routes q ≡ Some (first.item)) (index ∙ here) (first.stands)) ∙ t.1) in
+                  let same : first.item ≡ t.0 = same_Some _ _ (sym (subst (λ q. slice_get routes q ≡ Some (first.item)) (index ∙ here) (first.stands)) ∙ t.1) in
                   let known = place_of-found n (first.item) a.1 (first.told) in
                   inr (here, known.least i (subst (λ (q : List ℕ). slice_get q i ≡ Some n) (sym same) t.2)))
             ]

@@ -9,6 +9,7 @@ use Rattle.std.specs.declared.cmp.Ordering.TheVariants.{Less, Equal, Greater}
 use Rattle.std.proofs.lemmas.Bool.{eq-eqb, ne_eqb, cases_lt, le-ltb, or_parts, or_cases}
 use Rattle.std.proofs.lemmas.Bool.Decides.{eqb_tells}
 use Rattle.std.proofs.lemmas.List.Folds.{list_any-append}
+use Rattle.std.proofs.lemmas.Option.{same_Some}
 use Rattle.plan_types.specs.Request.{stops_of}
 use Rattle.plan_types.specs.declared.requests.Request.{Request}
 use Rattle.plan_types.specs.declared.requests.Request.TheVariants.{Single, Pair}
@@ -16,7 +17,7 @@ use Rattle.plan_audit.specs.Rules.{StandsSomewhere}
 use Rattle.route_sched.specs.Cost.{has_stop, is_planned}
 use Rattle.plan_audit.specs.Finding.{place_of, seat_in, seat_from, seat_of, first_unserved}
 use Rattle.plan_audit.specs.declared.seats.Seat.{Seat}
-use Rattle.plan_audit.proofs.FirstLemmas.{none_some, some_same}
+use Rattle.plan_audit.proofs.FirstLemmas.{none_some}
 use Rattle.plan_audit.proofs.SeatLemmas.{seat_of-found}
 use Rattle.plan_audit.proofs.RuleLemmas.{nowhere-seat}
 
@@ -124,7 +125,7 @@ unserved_found routes (e ∷ es) n up is = by (is_planned routes e.1) refl (λ h
   where
     by : (b : Bool) → is_planned routes e.1 ≡ b → (first_unserved routes es ≡ Some n → IsFirstUnserved routes es n) → IsFirstUnserved routes (e ∷ es) n
     by false b rest =
-        let same : e.0 ≡ n = some_same _ _ (let h : option_or (cond (is_planned routes e.1) None (Some e.0)) (first_unserved routes es) ≡ Some n = is in rw b at h) in
+        let same : e.0 ≡ n = same_Some _ _ (let h : option_or (cond (is_planned routes e.1) None (Some e.0)) (first_unserved routes es) ≡ Some n = is in rw b at h) in
         record {
           request = e.1;
           found = rw (eq-eqb n e.0 (sym same)) refl;
@@ -143,7 +144,7 @@ unserved_found routes (e ∷ es) n up is = by (is_planned routes e.1) refl (λ h
           found = rw apart (later.found);
           nowhere = later.nowhere;
           least = λ m r at nowhere. elim (eqb_tells m e.0) [
-            | inl t ↦ absurd (served_somewhere routes e.1 b (subst (IsNowhere routes) (some_same r e.1 (sym (let h : lookup (nat_eq m) (e ∷ es) ≡ Some r = at in rw t.0 at h))) nowhere))
+            | inl t ↦ absurd (served_somewhere routes e.1 b (subst (IsNowhere routes) (same_Some r e.1 (sym (let h : lookup (nat_eq m) (e ∷ es) ≡ Some r = at in rw t.0 at h))) nowhere))
             | inr t ↦ later.least m r (let h : lookup (nat_eq m) (e ∷ es) ≡ Some r = at in rw t.0 at h) nowhere
           ];
         }
@@ -155,6 +156,6 @@ unserved_nothing routes (e ∷ es) is m r at nowhere = by (is_planned routes e.1
     by : (b : Bool) → is_planned routes e.1 ≡ b → (first_unserved routes es ≡ None → lookup (nat_eq m) es ≡ Some r → ⊥) → ⊥
     by false b rest = none_some e.0 (sym (let h : option_or (cond (is_planned routes e.1) None (Some e.0)) (first_unserved routes es) ≡ None = is in rw b at h))
     by true b rest = elim (eqb_tells m e.0) [
-      | inl t ↦ served_somewhere routes e.1 b (subst (IsNowhere routes) (some_same r e.1 (sym (let h : lookup (nat_eq m) (e ∷ es) ≡ Some r = at in rw t.0 at h))) nowhere)
+      | inl t ↦ served_somewhere routes e.1 b (subst (IsNowhere routes) (same_Some r e.1 (sym (let h : lookup (nat_eq m) (e ∷ es) ≡ Some r = at in rw t.0 at h))) nowhere)
       | inr t ↦ rest (let h : option_or (cond (is_planned routes e.1) None (Some e.0)) (first_unserved routes es) ≡ None = is in rw b at h) (let h : lookup (nat_eq m) (e ∷ es) ≡ Some r = at in rw t.0 at h)
     ]

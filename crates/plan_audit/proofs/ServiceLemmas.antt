@@ -5,6 +5,7 @@ use Rattle.std.specs.List.{AllByRecursion}
 use Rattle.std.specs.Map.{lookup}
 use Rattle.std.proofs.lemmas.Bool.{eq-eqb}
 use Rattle.std.proofs.lemmas.Bool.Decides.{eqb_tells}
+use Rattle.std.proofs.lemmas.Option.{same_Some}
 use Rattle.plan_types.specs.Instance.{Instance, IsInstance, partner_at, pickup_at}
 use Rattle.plan_types.specs.Laws.{IsFoundAt, NamedAreFound}
 use Rattle.plan_types.specs.Request.{stop_in, IsRequest}
@@ -12,7 +13,7 @@ use Rattle.plan_types.specs.declared.requests.Stop.{Stop}
 use Rattle.plan_types.specs.declared.requests.Request.{Request}
 use Rattle.plan_types.specs.declared.requests.Request.TheVariants.{Single, Pair}
 use Rattle.plan_audit.specs.Laws.{IsNamed}
-use Rattle.plan_audit.proofs.FirstLemmas.{none_some, some_same}
+use Rattle.plan_audit.proofs.FirstLemmas.{none_some}
 
 -- the request has the stop
 abbrev pub HasStop : ℕ → Request → Type 0
@@ -47,7 +48,7 @@ request_holds P [] name r all at = absurd (none_some r at)
 request_holds P (e ∷ es) name r all at = by (eqb_tells name e.0) (λ h. request_holds P es name r all.1 h)
   where
     by : ((eqb name e.0 ≡ true) × (name ≡ e.0)) ⊎ ((eqb name e.0 ≡ false) × (name ≢ e.0)) → (lookup (nat_eq name) es ≡ Some r → P r) → P r
-    by (inl t) rest = subst P (some_same _ _ (let h : cond (eqb name e.0) (Some e.1) (lookup (nat_eq name) es) ≡ Some r = at in rw (t.0) at h)) all.0
+    by (inl t) rest = subst P (same_Some _ _ (let h : cond (eqb name e.0) (Some e.1) (lookup (nat_eq name) es) ≡ Some r = at in rw (t.0) at h)) all.0
     by (inr t) rest = rest (let h : cond (eqb name e.0) (Some e.1) (lookup (nat_eq name) es) ≡ Some r = at in rw (t.0) at h)
 
 pub pair_apart : (p : Instance) → IsInstance p → (name : ℕ) (a b : Stop) → IsNamed p name (Pair a b) → a.number ≢ b.number

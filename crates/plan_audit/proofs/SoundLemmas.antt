@@ -1,5 +1,5 @@
 -- What is kept by a sound plan, and the other way round.
-use Rattle.std.proofs.Common.{◌≡◌, ℕ, zero, suc, ◌+◌, ◌<◌, ◌≤◌, ◌⊎◌, true, false, cond, max, ℤ, pos, ◌<ℤ◌, ◌≤ℤ◌, List, [], ◌∷◌, length, map, Option, Some, None, IsSome, slice_get, refl, sym, ap, subst, ◌∙◌, inl, inr, arith, eqb}
+use Rattle.std.proofs.Common.{◌≡◌, get_or, ℕ, zero, suc, ◌+◌, ◌<◌, ◌≤◌, ◌⊎◌, true, false, cond, max, ℤ, pos, ◌<ℤ◌, ◌≤ℤ◌, List, [], ◌∷◌, length, map, Option, Some, None, IsSome, refl, sym, ap, subst, ◌∙◌, inl, inr, arith, eqb}
 use Rattle.std.specs.List.{range_with_len}
 use Rattle.std.specs.Option.{option_map, option_and_then, option_or}
 use Rattle.std.proofs.lemmas.Bool.{cases_lt}
@@ -7,6 +7,7 @@ use Rattle.std.proofs.lemmas.Bool.Decides.{eqb_tells}
 use Rattle.std.proofs.lemmas.Int.{by_lt_z, ints}
 use Rattle.std.proofs.lemmas.List.Sums.{fold_push}
 use Rattle.std.proofs.lemmas.List.FromFn.{map-range_with_len_more}
+use Rattle.std.proofs.lemmas.Option.{same_Some, slice_get-get_or, slice_get_within}
 use Rattle.plan_types.specs.Instance.{Instance, IsInstance, stop_at, partner_at, request_with, first_some, pickup_at}
 use Rattle.plan_types.specs.Laws.{NamedAreFound, RequestsStandByName}
 use Rattle.plan_types.specs.Request.{request_name, stop_in, partner_in, pickup_in}
@@ -21,9 +22,9 @@ use Rattle.plan_audit.specs.Finding.{seat_of}
 use Rattle.plan_audit.specs.Verdict.{Subject, planned, printed, routes_of, Breaks, KeepsRules}
 use Rattle.plan_audit.specs.Laws.{StandsOnce, IsPlanned, IsServedOnce, IsNamed, IsPlaceOf, IsSoundPlan}
 use Rattle.plan_audit.specs.declared.seats.Seat.{Seat}
-use Rattle.plan_audit.specs.declared.rules.Rule.TheVariants.{UnknownStop, Twice, Missing, SplitPair, DeliveryFirst, Load, Late, LateReturn, Fleet, Pin, PrintedCost}
-use Rattle.plan_audit.proofs.FirstLemmas.{none_some, some_same}
-use Rattle.plan_audit.proofs.SeatLemmas.{seat_of-found}
+use Rattle.plan_audit.specs.declared.rules.Rule.TheVariants.{UnknownStop, Twice, Missing, SplitPair, DeliveryFirst, Load, Late, LateReturn}
+use Rattle.plan_audit.proofs.FirstLemmas.{none_some}
+use Rattle.plan_audit.proofs.SeatLemmas.{seat_of-found, neither_before}
 use Rattle.plan_audit.proofs.RuleLemmas.{nowhere-seat}
 use Rattle.plan_audit.proofs.VerdictLemmas.{Keeps}
 use Rattle.plan_audit.proofs.ServiceLemmas.{HasStop, has_found, pair_apart, partner_of_pickup, partner_of_delivery, pickup_of_delivery}
@@ -42,23 +43,13 @@ somewhere_or_not routes n = by (seat_of routes n) refl
     by (Some u) e = inl (suc u.route, suc u.place, (seat_of-found routes n u e).sits)
 
 -- a place of a route has a stop
-item_there : (ns : List ℕ) (k : ℕ) → k < length ns → (n : ℕ) × (slice_get ns k ≡ Some n)
-item_there [] k lt = absurd (omega arith)
-item_there (n ∷ ns) zero lt = (n, refl)
-item_there (n ∷ ns) (suc k) lt = item_there ns k (omega arith)
-
 pub stop_there : (ns : List ℕ) (i : ℕ) → 1 ≤ i → i ≤ length ns → (n : ℕ) × (item_at ns i ≡ Some n)
 stop_there ns zero from to = absurd (omega arith)
-stop_there ns (suc k) from to = item_there ns k (omega arith)
-
-pub item_within : (ns : List ℕ) (k n : ℕ) → slice_get ns k ≡ Some n → k < length ns
-item_within [] k n at = absurd (none_some n at)
-item_within (m ∷ ns) zero n at = omega arith
-item_within (m ∷ ns) (suc k) n at = let lt = item_within ns k n at in omega arith
+stop_there ns (suc k) from to = (get_or ns k 0, slice_get-get_or ns k 0 (omega arith))
 
 pub stop_within : (ns : List ℕ) (i n : ℕ) → item_at ns i ≡ Some n → (1 ≤ i) × (i ≤ length ns)
 stop_within ns zero n at = absurd (none_some n at)
-stop_within ns (suc k) n at = let lt = item_within ns k n at in (omega arith, omega arith)
+stop_within ns (suc k) n at = let lt = slice_get_within ns k n at in (omega arith, omega arith)
 
 -- service starts no earlier than the stop's earliest time
 start_from : (p : Instance) (route : List ℕ) (i : ℕ) → (place p route i).earliest ≤ start p route i
@@ -81,19 +72,7 @@ module _ (found : NamedAreFound) (p : Instance) (s : Subject) (valid : IsInstanc
   not_twice r i q j n t u earlier = kept Twice r i n (omega arith) (omega arith) (t, (q, j, earlier, u))
 
   once : (r i n : ℕ) → Stands (routes_of s) r i n → (q j : ℕ) → Stands (routes_of s) q j n → (q ≡ r) × (j ≡ i)
-  once r i n t q j u = elim (cases_lt q r) [
-    | inl lt ↦ absurd (not_twice r i q j n t u (inl lt))
-    | inr ge ↦ elim (cases_lt r q) [
-      | inl lt ↦ absurd (not_twice q j r i n u t (inl lt))
-      | inr le ↦ (let same : q ≡ r = omega arith in elim (cases_lt j i) [
-        | inl lt ↦ absurd (not_twice r i q j n t u (inr (same, lt)))
-        | inr ge' ↦ elim (cases_lt i j) [
-          | inl lt ↦ absurd (not_twice q j r i n u t (inr (sym same, lt)))
-          | inr le' ↦ (same, omega arith)
-        ]
-      ])
-    ]
-  ]
+  once r i n t q j u = neither_before q j r i (not_twice r i q j n t u) (not_twice q j r i n u t)
 
   stands_once : (r i n : ℕ) → Stands (routes_of s) r i n → StandsOnce (routes_of s) r i n
   stands_once r i n t = (t, once r i n t)
@@ -118,8 +97,8 @@ module _ (found : NamedAreFound) (p : Instance) (s : Subject) (valid : IsInstanc
     where
       same_stop : (t' : Stands (routes_of s) r i a.number) (u' : Stands (routes_of s) r j b.number) → i ≡ j → a.number ≡ b.number
       same_stop t' u' e =
-          let route : t'.0 ≡ u'.0 = some_same _ _ (sym t'.1 ∙ u'.1) in
-          some_same _ _ (sym t'.2 ∙ subst (λ k. item_at t'.0 k ≡ Some b.number) (sym e) (subst (λ (l : List ℕ). item_at l j ≡ Some b.number) (sym route) u'.2))
+          let route : t'.0 ≡ u'.0 = same_Some _ _ (sym t'.1 ∙ u'.1) in
+          same_Some _ _ (sym t'.2 ∙ subst (λ k. item_at t'.0 k ≡ Some b.number) (sym e) (subst (λ (l : List ℕ). item_at l j ≡ Some b.number) (sym route) u'.2))
 
       behind : j ≤ i → Stands (routes_of s) r j b.number → j < i
       behind ge u' = elim (cases_lt j i) [
@@ -184,9 +163,9 @@ module _ (by_name : RequestsStandByName) (p : Instance) (valid : IsInstance p) w
       by None e told = absurd (none_some m told)
       by (Some (Single s)) e told = absurd (none_some m told)
       by (Some (Pair a b)) e told = elim (eqb_tells a.number n) [
-        | inl t ↦ (a, b, (by_name p n (Pair a b) valid e, inl (t.1, some_same _ _ (let h : cond (eqb a.number n) (Some b.number) (cond (eqb b.number n) (Some a.number) None) ≡ Some m = told in rw (t.0) at h))))
+        | inl t ↦ (a, b, (by_name p n (Pair a b) valid e, inl (t.1, same_Some _ _ (let h : cond (eqb a.number n) (Some b.number) (cond (eqb b.number n) (Some a.number) None) ≡ Some m = told in rw (t.0) at h))))
         | inr t ↦ elim (eqb_tells b.number n) [
-          | inl u ↦ (a, b, (by_name p n (Pair a b) valid e, inr (u.1, some_same _ _ (let h : cond (eqb a.number n) (Some b.number) (cond (eqb b.number n) (Some a.number) None) ≡ Some m = told in rw (t.0, u.0) at h))))
+          | inl u ↦ (a, b, (by_name p n (Pair a b) valid e, inr (u.1, same_Some _ _ (let h : cond (eqb a.number n) (Some b.number) (cond (eqb b.number n) (Some a.number) None) ≡ Some m = told in rw (t.0, u.0) at h))))
           | inr u ↦ absurd (none_some m (let h : cond (eqb a.number n) (Some b.number) (cond (eqb b.number n) (Some a.number) None) ≡ Some m = told in rw (t.0, u.0) at h))
         ]
       ]
@@ -200,7 +179,7 @@ module _ (by_name : RequestsStandByName) (p : Instance) (valid : IsInstance p) w
       by (Some (Pair a b)) e told = elim (eqb_tells a.number n) [
         | inl t ↦ absurd (none_some m (let h : cond (eqb a.number n) None (cond (eqb b.number n) (Some a.number) None) ≡ Some m = told in rw (t.0) at h))
         | inr t ↦ elim (eqb_tells b.number n) [
-          | inl u ↦ (a, b, by_name p n (Pair a b) valid e, u.1, some_same _ _ (let h : cond (eqb a.number n) None (cond (eqb b.number n) (Some a.number) None) ≡ Some m = told in rw (t.0, u.0) at h))
+          | inl u ↦ (a, b, by_name p n (Pair a b) valid e, u.1, same_Some _ _ (let h : cond (eqb a.number n) None (cond (eqb b.number n) (Some a.number) None) ≡ Some m = told in rw (t.0, u.0) at h))
           | inr u ↦ absurd (none_some m (let h : cond (eqb a.number n) None (cond (eqb b.number n) (Some a.number) None) ≡ Some m = told in rw (t.0, u.0) at h))
         ]
       ]
@@ -322,9 +301,7 @@ module _ (by_name : RequestsStandByName) (p : Instance) (valid : IsInstance p) (
   keeps_from missing Load r i n from to b = keeps_loads r i n b
   keeps_from missing Late r i n from to b = keeps_windows r i n b
   keeps_from missing LateReturn r i n from to b = keeps_returns r i n b
-  keeps_from missing Fleet r i n from to b = omega arith
-  keeps_from missing Pin r i n from to b = omega arith
-  keeps_from missing PrintedCost r i n from to b = omega arith
+  keeps_from missing _ r i n from to b = omega arith
 
   pub keeps_partners : (r i n : ℕ) → IsMissing p (routes_of s) r i n → ⊥
   keeps_partners r i n b = keeps_missing r i n b

@@ -1,11 +1,12 @@
 -- The first place of a plan at which a test of places answers.
 use Rattle.std.proofs.Common.{◌≡◌, ℕ, suc, ◌≤◌, List, Option, Some, None, slice_get, refl, sym, subst, ◌∙◌, inl, inr, arith}
 use Rattle.std.proofs.lemmas.Bool.{cases_lt}
+use Rattle.std.proofs.lemmas.Option.{same_Some}
 use Rattle.plan_audit.specs.Rules.{IsNotAfter}
 use Rattle.plan_audit.specs.Finding.{first_place, first_route, told_by}
 use Rattle.plan_audit.specs.declared.faults.Told.{Told}
 use Rattle.plan_audit.specs.declared.faults.Fault.{Fault}
-use Rattle.plan_audit.proofs.FirstLemmas.{none_some, some_same, IsFirst, least_at, fault_found, told_found, fault_nothing, told_nothing}
+use Rattle.plan_audit.proofs.FirstLemmas.{none_some, IsFirst, least_at, fault_found, told_found, fault_nothing, told_nothing}
 
 -- the test answers s at place i of route r; both count from 0
 abbrev pub Spot : (ℕ → List ℕ → ℕ → ℕ → Option ℕ) → List (List ℕ) → ℕ → ℕ → ℕ → Type 0
@@ -42,7 +43,7 @@ module _ (test : ℕ → List ℕ → ℕ → ℕ → Option ℕ) (routes : List
             | inl lt ↦ inl lt
             | inr ge ↦ (
                 let here : f.route ≡ r = omega arith in
-                let same : first.item ≡ t.0 = some_same _ _ (sym (subst (λ q. slice_get routes q ≡ Some (first.item)) here stands) ∙ t.2) in
+                let same : first.item ≡ t.0 = same_Some _ _ (sym (subst (λ q. slice_get routes q ≡ Some (first.item)) here stands) ∙ t.2) in
                 let on : slice_get (first.item) i ≡ Some t.1 = subst (λ (q : List ℕ). slice_get q i ≡ Some t.1) (sym same) t.3 in
                 let says : test f.route (first.item) i t.1 ≡ Some s = subst (λ q. test q (first.item) i t.1 ≡ Some s) (sym here) (subst (λ (q : List ℕ). test r q i t.1 ≡ Some s) (sym same) t.4) in
                 let le' = least_at (test f.route (first.item)) (first.item) (f.place, f.stop) told i t.1 s on says in
@@ -50,9 +51,9 @@ module _ (test : ℕ → List ℕ → ℕ → ℕ → Option ℕ) (routes : List
                   | inl lt ↦ inr (here, inl lt)
                   | inr ge' ↦ (
                       let here' : f.place ≡ i = omega arith in
-                      let same' : told.item ≡ t.1 = some_same _ _ (sym (subst (λ q. slice_get (first.item) q ≡ Some (told.item)) here' stands') ∙ on) in
+                      let same' : told.item ≡ t.1 = same_Some _ _ (sym (subst (λ q. slice_get (first.item) q ≡ Some (told.item)) here' stands') ∙ on) in
                       let says' : test f.route (first.item) f.place (told.item) ≡ Some s = subst (λ q. test f.route (first.item) q (told.item) ≡ Some s) (sym here') (subst (λ q. test f.route (first.item) i q ≡ Some s) (sym same') says) in
-                      let stop : f.stop ≡ s = some_same _ _ (sym (told.told) ∙ says') in
+                      let stop : f.stop ≡ s = same_Some _ _ (sym (told.told) ∙ says') in
                       let le : f.stop ≤ s = omega arith in
                       inr (here, inr (here', le)))
                 ])

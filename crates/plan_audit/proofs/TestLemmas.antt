@@ -4,6 +4,7 @@ use Rattle.std.specs.List.{list_all, range_with_len}
 use Rattle.std.specs.Option.{option_map_or}
 use Rattle.std.proofs.lemmas.Bool.{cases_lt, and_parts, and_from, not-true, both_ways, eq-eqb, eqb-true, leb-true, le-leb, or_cases}
 use Rattle.std.proofs.lemmas.Map.Keys.{any_passes_from_place}
+use Rattle.std.proofs.lemmas.Option.{same_Some}
 use Rattle.plan_types.specs.Instance.{Instance, partner_at, pickup_at}
 use Rattle.plan_types.specs.declared.requests.Kind.{Kind}
 use Rattle.plan_types.specs.declared.requests.Kind.TheVariants.{LiLim, Vrp}
@@ -13,16 +14,16 @@ use Rattle.plan_audit.specs.Rules.{item_at, Stands, StandsSomewhere}
 use Rattle.plan_audit.specs.Alone.{IsFeasibleAlone}
 use Rattle.plan_audit.specs.Passes.{has, has_whole_pairs, picks_up_first, keeps_capacity, keeps_windows, is_back_in_time, keeps_times, feasible_alone}
 use Rattle.plan_audit.specs.Locality.{TestsSayFeasible}
-use Rattle.plan_audit.specs.declared.rules.Rule.TheVariants.{UnknownStop, Twice, Missing, SplitPair, DeliveryFirst, Load, Late, LateReturn, Fleet, Pin, PrintedCost}
-use Rattle.plan_audit.proofs.FirstLemmas.{none_some, some_same}
-use Rattle.plan_audit.proofs.AloneLemmas.{only_route, not_split}
+use Rattle.plan_audit.specs.declared.rules.Rule.TheVariants.{Missing, SplitPair, DeliveryFirst, Load, Late, LateReturn}
+use Rattle.plan_audit.proofs.FirstLemmas.{none_some}
+use Rattle.plan_audit.proofs.AloneLemmas.{only_route, not_split, in_route}
 use Rattle.plan_audit.proofs.SoundLemmas.{stop_there, stop_within}
 use Rattle.plan_audit.proofs.TimeLemmas.{true_from, positive}
 
 -- a test of all items, by index
 pub all_true : {X : Type 0} (test : X → Bool) (xs : List X) → list_all test xs ≡ true → (k : ℕ) (x : X) → slice_get xs k ≡ Some x → test x ≡ true
 all_true test [] all k x at = absurd (none_some x at)
-all_true test (y ∷ xs) all zero x at = subst (λ z. test z ≡ true) (some_same y x at) (and_parts (test y) (list_all test xs) all).0
+all_true test (y ∷ xs) all zero x at = subst (λ z. test z ≡ true) (same_Some y x at) (and_parts (test y) (list_all test xs) all).0
 all_true test (y ∷ xs) all (suc k) x at = all_true test xs (and_parts (test y) (list_all test xs) all).1 k x at
 
 pub true_all : {X : Type 0} (test : X → Bool) (xs : List X) → ((k : ℕ) (x : X) → slice_get xs k ≡ Some x → test x ≡ true) → list_all test xs ≡ true
@@ -68,7 +69,7 @@ module _ (p : Instance) where
   none_behind (x ∷ ns) first i zero n m lt at on is = omega arith
   none_behind (x ∷ ns) first zero (suc j) n m lt at on is =
       let both = and_parts (not (option_map_or (has ns) (pickup_at p x) false)) (picks_up_first p ns) first in
-      let told : pickup_at p x ≡ Some m = ap (pickup_at p) (some_same x n at) ∙ is in
+      let told : pickup_at p x ≡ Some m = ap (pickup_at p) (same_Some x n at) ∙ is in
       let found : option_map_or (has ns) (pickup_at p x) false ≡ true = ap (λ (o : Option ℕ). option_map_or (has ns) o false) told ∙ has_at ns j m on in
       both_ways (option_map_or (has ns) (pickup_at p x) false) (not-true (option_map_or (has ns) (pickup_at p x) false) both.0) found
   none_behind (x ∷ ns) first (suc i) (suc j) n m lt at on is =
@@ -106,10 +107,6 @@ module _ (p : Instance) where
         by : (m j : ℕ) → slice_get route j ≡ Some m → (o : Option ℕ) → partner_at p m ≡ o → option_map_or (has route) o true ≡ true
         by m j at None e = refl
         by m j at (Some n) e = had m j n at e (has route n) refl
-
-    -- what is said of the only route
-    in_route : (P : List ℕ → Type 0) (r : ℕ) (other : List ℕ) → item_at (route ∷ []) r ≡ Some other → P other → P route
-    in_route P r other at b = subst P (sym (only_route route other r at).1) b
 
     not_above : keeps_capacity p route ≡ true → (i n : ℕ) → item_at route i ≡ Some n → pos p.capacity <ℤ load p route i → ⊥
     not_above kept i n at above =
@@ -151,8 +148,6 @@ module _ (p : Instance) where
         rest = and_parts (keeps_capacity p route) (keeps_times p.kind p route) first.1
 
         by : IsFeasibleAlone p route
-        by UnknownStop r i n from to b = omega arith
-        by Twice r i n from to b = omega arith
         by Missing r i n from to b =
             let here = in_only route r i b.0 b.1 in
             let there = partner_there pairs.0 here.0 b.0 n here.2 b.2 in
@@ -166,14 +161,12 @@ module _ (p : Instance) where
             let c = there.1 in
             none_behind route first.0 here.0 there.0 n b.1.0 (omega arith) here.2 there.2 b.1.1
         by Load r i n from to b =
-            not_above rest.0 i n (in_route (λ l. item_at l i ≡ Some n) r b.0 b.1 b.2) (in_route (λ l. pos p.capacity <ℤ load p l i) r b.0 b.1 b.3)
+            not_above rest.0 i n (in_route route (λ l. item_at l i ≡ Some n) r b.0 b.1 b.2) (in_route route (λ l. pos p.capacity <ℤ load p l i) r b.0 b.1 b.3)
         by Late r i n from to b =
-            not_late (timely LiLim b.0 rest.1 refl).0 i n (in_route (λ l. item_at l i ≡ Some n) r b.1.0 b.1.1 b.1.2) (in_route (λ l. (place p l i).latest < start p l i) r b.1.0 b.1.1 b.1.3)
+            not_late (timely LiLim b.0 rest.1 refl).0 i n (in_route route (λ l. item_at l i ≡ Some n) r b.1.0 b.1.1 b.1.2) (in_route route (λ l. (place p l i).latest < start p l i) r b.1.0 b.1.1 b.1.3)
         by LateReturn r i n from to b =
-            not_back_late (timely LiLim b.0 rest.1 refl).1 i (in_route (λ l. 0 < length l) r b.1.0 b.1.1 b.1.2) (in_route (λ l. i ≡ length l + 1) r b.1.0 b.1.1 b.1.3) (in_route (λ l. p.depot.latest < start p l i) r b.1.0 b.1.1 b.1.5)
-        by Fleet r i n from to b = omega arith
-        by Pin r i n from to b = omega arith
-        by PrintedCost r i n from to b = omega arith
+            not_back_late (timely LiLim b.0 rest.1 refl).1 i (in_route route (λ l. 0 < length l) r b.1.0 b.1.1 b.1.2) (in_route route (λ l. i ≡ length l + 1) r b.1.0 b.1.1 b.1.3) (in_route route (λ l. p.depot.latest < start p l i) r b.1.0 b.1.1 b.1.5)
+        by _ r i n from to b = omega arith
 
     module _ (kept : IsFeasibleAlone p route) where
       pairs_kept : has_whole_pairs p route ≡ true

@@ -2,6 +2,7 @@
 use Rattle.std.proofs.Common.{◌≡◌, ℕ, zero, suc, ◌+◌, ◌<◌, Bool, true, false, cond, not, ◌||◌, nat_lt, int_lt, pos, ◌<ℤ◌, List, length, Some, None, slice_get, refl, sym, ap, subst, ◌∙◌, inl, inr, arith, eqb, add-one, T}
 use Rattle.std.proofs.lemmas.Bool.{cases_lt, lt-ltb, ltb-true}
 use Rattle.std.proofs.lemmas.Bool.Decides.{eqb_tells}
+use Rattle.std.proofs.lemmas.Option.{same_Some}
 use Rattle.plan_types.specs.Instance.{Instance}
 use Rattle.plan_types.specs.declared.requests.Kind.TheVariants.{LiLim}
 use Rattle.route_sched.specs.Route.{place}
@@ -12,7 +13,7 @@ use Rattle.plan_audit.specs.Rules.{item_at, IsNotAfter, IsOverloaded, IsLate, Is
 use Rattle.plan_audit.specs.Finding.{first_route, visit_told, is_overloaded, is_late, return_told}
 use Rattle.plan_audit.specs.declared.faults.Told.{Told}
 use Rattle.plan_audit.specs.declared.faults.Fault.{Fault}
-use Rattle.plan_audit.proofs.FirstLemmas.{none_some, some_same, fault_found, fault_nothing, least_at}
+use Rattle.plan_audit.proofs.FirstLemmas.{none_some, fault_found, fault_nothing, least_at}
 use Rattle.plan_audit.proofs.SpotLemmas.{Spot, IsTestOf, IsLeastOf}
 
 -- a place of a route, counted from 1, is one counted from 0
@@ -33,7 +34,7 @@ module _ (p : Instance) (fails : Visit → Bool) (Fails : List ℕ → ℕ → T
       to : (r i s : ℕ) (t : Spot (λ _ route i n. visit_told p fails route i n) routes r i s) (b : Bool) → fails (visit_after p (t.0) i) ≡ b → visit_broken (suc r) (suc i) s
       to r i s t false e = absurd (none_some s (let h : cond (fails (visit_after p t.0 i)) (Some t.1) None ≡ Some s = t.4 in rw e at h))
       to r i s t true e =
-          let same : t.1 ≡ s = some_same _ _ (let h : cond (fails (visit_after p t.0 i)) (Some t.1) None ≡ Some s = t.4 in rw e at h) in
+          let same : t.1 ≡ s = same_Some _ _ (let h : cond (fails (visit_after p t.0 i)) (Some t.1) None ≡ Some s = t.4 in rw e at h) in
           (t.0, t.2, subst (λ n. slice_get t.0 i ≡ Some n) same t.3, says t.0 i e)
 
       from : (r i s : ℕ) → visit_broken r i s → (q : ℕ) × (j : ℕ) × (r ≡ suc q) × (i ≡ suc j) × Spot (λ _ route i n. visit_told p fails route i n) routes q j s
@@ -80,7 +81,7 @@ return_facts p route t is = by (eqb (length route) 0) refl (nat_lt p.depot.lates
     by true ea b eb = absurd (none_some t (let h : cond (eqb (length route) 0 || not (nat_lt p.depot.latest (start p route (length route + 1)))) None (Some (record { place = length route; stop = 0 })) ≡ Some t = is in rw ea at h))
     by false ea false eb = absurd (none_some t (let h : cond (eqb (length route) 0 || not (nat_lt p.depot.latest (start p route (length route + 1)))) None (Some (record { place = length route; stop = 0 })) ≡ Some t = is in rw (ea, eb) at h))
     by false ea true eb =
-        let told : ◌≡◌ {A = Told} (record { place = length route; stop = 0 }) t = some_same _ _ (let h : cond (eqb (length route) 0 || not (nat_lt p.depot.latest (start p route (length route + 1)))) None (Some (record { place = length route; stop = 0 })) ≡ Some t = is in rw (ea, eb) at h) in
+        let told : ◌≡◌ {A = Told} (record { place = length route; stop = 0 }) t = same_Some _ _ (let h : cond (eqb (length route) 0 || not (nat_lt p.depot.latest (start p route (length route + 1)))) None (Some (record { place = length route; stop = 0 })) ≡ Some t = is in rw (ea, eb) at h) in
         (positive (length route) ea, sym (ap (λ (t : Told). t.place) told), sym (ap (λ (t : Told). t.stop) told), ltb-true _ _ eb)
 
 return_tells : (p : Instance) (route : List ℕ) → 0 < length route → p.depot.latest < start p route (length route + 1) → return_told p route ≡ Some (record { place = length route; stop = 0 })
@@ -117,7 +118,7 @@ late_return_found p routes kind f is =
             | inl lt ↦ (let e = at.1 in inl (omega arith))
             | inr ge ↦ (
                 let here : f.route ≡ at.0 = omega arith in
-                let same : first.item ≡ route = some_same _ _ (sym (subst (λ r. slice_get routes r ≡ Some (first.item)) here stands) ∙ at.2) in
+                let same : first.item ≡ route = same_Some _ _ (sym (subst (λ r. slice_get routes r ≡ Some (first.item)) here stands) ∙ at.2) in
                 let long : length (first.item) ≡ length route = ap length same in
                 let e = at.1 in let j_is = b.1.3 in let m_is = b.1.4 in let stop = facts.2 in
                 inr (omega arith, inr (omega arith, omega arith)))

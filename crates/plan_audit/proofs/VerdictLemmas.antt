@@ -23,16 +23,7 @@ numbered n = cond (eqb n 1) UnknownStop (cond (eqb n 2) Twice (cond (eqb n 3) Mi
 numbered-is : (k : Rule) → numbered (rule_number k) ≡ k
 unfolding numbered
 numbered-is UnknownStop = refl
-numbered-is Twice = refl
-numbered-is Missing = refl
-numbered-is SplitPair = refl
-numbered-is DeliveryFirst = refl
-numbered-is Load = refl
-numbered-is Late = refl
-numbered-is LateReturn = refl
-numbered-is Fleet = refl
-numbered-is Pin = refl
-numbered-is PrintedCost = refl
+numbered-is _ = refl
 
 same_rule : (k m : Rule) → rule_number k ≡ rule_number m → k ≡ m
 same_rule k m e = sym (numbered-is k) ∙ ap numbered e ∙ numbered-is m

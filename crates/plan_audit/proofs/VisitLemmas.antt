@@ -3,6 +3,7 @@ use Rattle.std.proofs.Common.{◌≡◌, ℕ, zero, suc, slice_get, ◌+◌, ◌
 use Rattle.std.specs.Option.{option_map, option_or}
 use Rattle.plan_audit.specs.Finding.{first_place, visit_told}
 use Rattle.std.specs.List.{range_with_len}
+use Rattle.route_sched.proofs.Visited.{visits_from-cons}
 use Rattle.plan_types.specs.Instance.{Instance}
 use Rattle.plan_audit.proofs.FirstLemmas.{none_some}
 use Rattle.route_sched.specs.Visiting.{visits_from, visit_after}
@@ -10,10 +11,7 @@ use Rattle.route_sched.specs.declared.visits.Visit.{Visit}
 
 -- one visit, and those behind it
 pub visits_from-step : (p : Instance) (route : List ℕ) (k : ℕ) → k ≤ length route → visits_from p route k ≡ visit_after p route k ∷ visits_from p route (k + 1)
-visits_from-step p route k le =
-    let more : length route + 1 - k ≡ suc (length route - k) = omega arith in
-    let same : length route + 1 - (k + 1) ≡ length route - k = omega arith in
-    ap (λ n. map (visit_after p route) (range_with_len k n)) more ∙ ap (λ n. visit_after p route k ∷ map (visit_after p route) (range_with_len (k + 1) n)) (sym same)
+visits_from-step = visits_from-cons
 
 heads : {X : Type 0} (x y : X) (xs ys : List X) → x ∷ xs ≡ y ∷ ys → x ≡ y
 heads x y xs ys h = cc
