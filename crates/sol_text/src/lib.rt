@@ -1,8 +1,9 @@
 //! Solutions as texts: the `.sol` files of CVRPLIB, for both kinds of problem.
 //!
 //! Entry functions: `read_sol` gives what a text spells (a `Solution`, which `plan_audit` takes) and is called by
-//! `auditor_cli`; `write_sol` gives the text of a plan and is called by `command_text` (the line `print`). `cost_tail` and
-//! `cost_word` give what a cost line says, for who tells a fault of one.
+//! `auditor_cli`; `write_sol` gives the text of a plan and is called by `command_text` (the line `print`). `write_routes`
+//! gives the route lines alone, of a plan that leaves requests out; `cost_tail` and `cost_word` give what a cost line
+//! says, for who tells a fault of one.
 //!
 //! Source: the `.sol` files of CVRPLIB. What is a blank line, a number and a fault is this project's own.
 //!
@@ -21,6 +22,7 @@
 //!   least line, or want of memory
 //! - `write_sol`: `text`, each byte; `spells`, `read_sol` takes it as the nonempty routes with the distance that they
 //!   drive; `unplanned`, a plan that leaves requests out is refused with their number
+//! - `write_routes`: each byte
 //! - `route_lines_are_made`, `cost_lines_are_made`: such a line is exactly its parts put together
 #![tactic(auto)]
 
@@ -34,4 +36,4 @@ pub use faults::{SolFault, SolFaultKind, WriteSolFault};
 pub use laws::{cost_lines_are_made, route_lines_are_made};
 pub use lines::{cost_tail, cost_word};
 pub use read::{Solution, read_sol};
-pub use write::write_sol;
+pub use write::{write_routes, write_sol};

@@ -39,8 +39,7 @@ pub fn write_sol(alloc: Global, problem: &Problem, plan: &Plan) -> Result<Vec<u8
     if cost.unplanned > 0 {
         return Err(WriteSolFault::Unplanned(cost.unplanned));
     }
-    let mut text = Vec::new(alloc);
-    write_routes(&mut text, plan.routes.as_slice())?;
+    let mut text = write_routes(alloc, plan.routes.as_slice())?;
     write_cost(&mut text, cost.distance)?;
     // By these laws the text is read as what was written.
     lines_follow();
@@ -49,18 +48,19 @@ pub fn write_sol(alloc: Global, problem: &Problem, plan: &Plan) -> Result<Vec<u8
     Ok(text)
 }
 
-fn write_routes(text: &mut Vec<u8>, routes: &[Route]) -> Result<(), AllocError>
-    ensures { OnOk result (text.new.items
-        ≡ text.old.items ++ routes_text 1 (used_routes routes.now)) }
+/// The route lines of a plan alone: each nonempty route as `write_sol` writes it, numbered from 1.
+pub fn write_routes(alloc: Global, routes: &[Route]) -> Result<Vec<u8>, AllocError>
+    ensures { IfOk result (λ text. text.items ≡ routes_text 1 (used_routes routes.now)) }
 {
+    let mut text = Vec::new(alloc);
     let mut number = 1u64;
     for route in routes {
         if !route.as_slice().is_empty() {
-            write_route(text, number, route.as_slice())?;
+            write_route(&mut text, number, route.as_slice())?;
             number += 1;
         }
     }
-    Ok(())
+    Ok(text)
 }
 
 #[tactic(auto, unfolding(crate::specs::Written::route_text))]

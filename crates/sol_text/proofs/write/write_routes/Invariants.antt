@@ -6,5 +6,5 @@ use Rattle.sol_text.proofs.write.write_routes.Given as goal
 abbrev pub invariant-loop-route : goal.invariant-loop-route
 invariant-loop-route l = record {
   few : l.number ≤ l.route-index + 1;
-  all : l.text.items ++ routes_text l.number (used_routes (drop l.route-index l.routes)) ≡ l.fn.text.items ++ routes_text 1 (used_routes l.routes);
+  all : l.text.items ++ routes_text l.number (used_routes (drop l.route-index l.routes)) ≡ routes_text 1 (used_routes l.routes);
 }

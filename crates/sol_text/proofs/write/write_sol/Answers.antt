@@ -1,7 +1,7 @@
 use Rattle.std.proofs.Common.{◌≡◌, ◌∙◌, ◌<◌, ◌+◌, ◌^◌, ◌++◌, ◌∷◌, [], length, sym, ap, subst, arith}
 use Rattle.route_sched.specs.Cost.{total_length}
 use Rattle.sol_text.specs.Faults.{Spells}
-use Rattle.sol_text.specs.Written.{used_routes, routes_text, cost_text, solution_text}
+use Rattle.sol_text.specs.Written.{used_routes, cost_text, solution_text}
 use Rattle.sol_text.proofs.TextLemmas.{spells_from_told}
 use Rattle.sol_text.proofs.WrittenRead.{reads_back, used_small, length-solution_text}
 use Rattle.sol_text.proofs.write.write_sol.Goals as goal
@@ -12,7 +12,7 @@ returns-clause-spells c =
     let slice : c.as_slice.result.now ≡ c.args.plan.now.routes = c.as_slice.ensures in
     let text : c.write_cost.new.text.items ≡ solution_text (used_routes c.args.plan.now.routes) (total_length c.args.problem.now c.args.plan.now.routes) =
     c.in_ok-write_cost.ensures
-    ∙ (ap (λ t. t ++ (cost_text c.plan_cost-cost.result.distance ++ 10 ∷ [])) (c.in_ok-write_routes.ensures ∙ ap (λ t. t ++ routes_text 1 (used_routes c.as_slice.result.now)) c.new-text.ensures.items)
+    ∙ (ap (λ t. t ++ (cost_text c.plan_cost-cost.result.distance ++ 10 ∷ [])) c.in_ok-text.ensures
     ∙ (ap (λ rs. solution_text (used_routes rs) c.plan_cost-cost.result.distance) slice ∙ ap (λ d. solution_text (used_routes c.args.plan.now.routes) d) distance))
     in
     let few : 1 + length (used_routes c.args.plan.now.routes) < 2 ^ 64 =
