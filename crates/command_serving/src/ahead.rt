@@ -77,7 +77,8 @@ impl Ahead {
 fn read_block<R: Source>(reader: &mut R, block: &mut [u8]) -> Result<usize, Failed>
     ensures bound { ReadsAtMost result block.new }
     ensures bytes { (how : How) → Fits R.Source how reader.new
-        → ReadConsumes (left_by R.Source how reader.old) (left_by R.Source how reader.new) result block.new }
+        → ReadConsumes (left_by R.Source how reader.old) (left_by R.Source how reader.new)
+        result block.new }
     ensures fits { (how : How) → Fits R.Source how reader.new → Fits R.Source how reader.old }
     ensures failed { OnErr result (R.has_failed reader.new ≡ true) }
 {

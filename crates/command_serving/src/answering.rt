@@ -377,7 +377,8 @@ fn serve_load<D: Sectors, W: Sink>(
 // What is answered to a text for which no memory was found.
 fn dropped<D: Sectors>(session: &Session<D>) -> Answer
     ensures { (seed : ℕ) (found : Result Instance ReadFault)
-        → Tells D.Sectors session.now (load_reply seed found) (line (answer_text result)) session.now silent }
+        → Tells D.Sectors session.now (load_reply seed found)
+        (line (answer_text result)) session.now silent }
 {
     if session.is_broken() {
         Answer::Broken
@@ -475,7 +476,8 @@ fn serve_print<D: Sectors, W: Sink>(
     session: &Session<D>,
     writer: &mut W,
 ) -> Result<(), Failed>
-    ensures answers { Answers D.Sectors result session.now (λ s. unless_broken s (printed s s.state))
+    ensures answers { Answers D.Sectors result session.now
+        (λ s. unless_broken s (printed s s.state))
         (W.stream writer.old) (W.stream writer.new) session.now silent }
     ensures failed { OnErr result (W.has_failed writer.new ≡ true) }
     ensures origin { W.origin writer.new ≡ W.origin writer.old }
@@ -542,7 +544,8 @@ fn serve_question<D: Sectors, W: Sink>(
 }
 
 fn serve_next<D: Sectors, W: Sink>(session: &Session<D>, writer: &mut W) -> Result<(), Failed>
-    ensures answers { Answers D.Sectors result session.now (λ s. unless_broken s (next_stated s s.state))
+    ensures answers { Answers D.Sectors result session.now
+        (λ s. unless_broken s (next_stated s s.state))
         (W.stream writer.old) (W.stream writer.new) session.now silent }
     ensures failed { OnErr result (W.has_failed writer.new ≡ true) }
     ensures origin { W.origin writer.new ≡ W.origin writer.old }

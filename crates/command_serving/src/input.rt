@@ -228,7 +228,8 @@ impl Input {
         ensures cuts { IfOk result (λ next. Between R.Source self.old reader.old self.new reader.new
             (CutsNext next)) }
         ensures counted { Counts R.Source self.old reader.old self.new reader.new }
-        ensures exact { OnOk result (CountsExactly R.Source self.old reader.old self.new reader.new) }
+        ensures exact { OnOk result
+            (CountsExactly R.Source self.old reader.old self.new reader.new) }
         ensures less { IfOk result (λ next. OnSome next (self.new.left < self.old.left)) }
         ensures unread { OnErr result (IsUnread (R.has_failed reader.new) self.new.left) }
     {
@@ -247,7 +248,8 @@ impl Input {
         ensures part { IfOk result (λ part. Between R.Source self.old reader.old self.new reader.new
             (λ old new. TakesPart old new self.old.line self.new.line part)) }
         ensures counted { Counts R.Source self.old reader.old self.new reader.new }
-        ensures exact { OnOk result (CountsExactly R.Source self.old reader.old self.new reader.new) }
+        ensures exact { OnOk result
+            (CountsExactly R.Source self.old reader.old self.new reader.new) }
         ensures less { IfOk result (TakesLess self.old.left self.new.left) }
         ensures unread { OnErr result (IsUnread (R.has_failed reader.new) self.new.left) }
     {
@@ -265,10 +267,11 @@ impl Input {
         reader: &mut R,
         len: usize,
     ) -> Result<LoadText, Unread>
-        ensures loads { IfOk result (λ text. Between R.Source self.old reader.old self.new reader.new
-            (λ old new. Loads len old new text)) }
+        ensures loads { IfOk result (λ text. Between R.Source self.old reader.old
+            self.new reader.new (λ old new. Loads len old new text)) }
         ensures counted { Counts R.Source self.old reader.old self.new reader.new }
-        ensures exact { OnOk result (CountsExactly R.Source self.old reader.old self.new reader.new) }
+        ensures exact { OnOk result
+            (CountsExactly R.Source self.old reader.old self.new reader.new) }
         ensures less { self.new.left ≤ self.old.left }
         ensures unread { OnErr result (IsUnread (R.has_failed reader.new) self.new.left) }
     {
@@ -290,7 +293,8 @@ impl Input {
         ensures more { IfOk result (λ some. Between R.Source self.old reader.old self.new reader.new
             (λ old new. TakesMore old new text.old text.new some)) }
         ensures counted { Counts R.Source self.old reader.old self.new reader.new }
-        ensures exact { OnOk result (CountsExactly R.Source self.old reader.old self.new reader.new) }
+        ensures exact { OnOk result
+            (CountsExactly R.Source self.old reader.old self.new reader.new) }
         ensures less { self.new.left ≤ self.old.left }
         ensures unread { OnErr result (IsUnread (R.has_failed reader.new) self.new.left) }
     {

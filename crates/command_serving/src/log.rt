@@ -40,7 +40,8 @@ impl Log {
 
     /// A text was put, over this session.
     pub(crate) fn with_put<D: Sectors>(&self, session: &Session<D>, text: &[u8]) -> Log
-        ensures events { result.events ≡ self.now.events ++ Put (D.calls session.now.device) text.now ∷ [] }
+        ensures events { result.events
+            ≡ self.now.events ++ Put (D.calls session.now.device) text.now ∷ [] }
         ensures reads { result.reads ≡ self.now.reads }
     {
         self.of_put(session, text)
@@ -48,7 +49,8 @@ impl Log {
 
     /// All was handed on, over this session.
     pub(crate) fn with_flush<D: Sectors>(&self, session: &Session<D>) -> Log
-        ensures events { result.events ≡ self.now.events ++ Flushed (D.calls session.now.device) ∷ [] }
+        ensures events { result.events
+            ≡ self.now.events ++ Flushed (D.calls session.now.device) ∷ [] }
         ensures reads { result.reads ≡ self.now.reads }
     {
         self.of_flush(session)

@@ -39,7 +39,8 @@ pub trait Source {
         ensures bytes { ReadConsumes (remaining self.old) (remaining self.new) result block.new }
         ensures gave { (text : List ℕ) → gave self.new text → gave self.old text }
         ensures text { (text : List ℕ) → gave self.new text
-            → ReadConsumes (Some (left self.old text)) (Some (left self.new text)) result block.new }
+            → ReadConsumes (Some (left self.old text)) (Some (left self.new text))
+            result block.new }
         ensures failed { OnErr result (has_failed self.new ≡ true) };
 }
 

@@ -180,7 +180,8 @@ impl<W: Write> Sink for Strict<W> {
     fn put<D: Sectors>(&mut self, session: &Session<D>, text: &[u8]) -> Result<(), Failed>
         ensures puts { Puts (held W.contents self.old.writer) (held W.contents self.new.writer)
             result (D.calls session.now.device) text.now }
-        ensures failed { OnErr result (self.new.writer.has_failed || is_stopped self.new.told ≡ true) }
+        ensures failed { OnErr result
+            (self.new.writer.has_failed || is_stopped self.new.told ≡ true) }
         ensures origin { began_with self.new.before ≡ began_with self.old.before }
     {
         self.writer.put(session, text)?;
@@ -189,9 +190,10 @@ impl<W: Write> Sink for Strict<W> {
     }
 
     fn flush<D: Sectors>(&mut self, session: &Session<D>) -> Result<(), Failed>
-        ensures flushes { Flushes (held W.contents self.old.writer) (held W.contents self.new.writer)
-            result (D.calls session.now.device) }
-        ensures failed { OnErr result (self.new.writer.has_failed || is_stopped self.new.told ≡ true) }
+        ensures flushes { Flushes (held W.contents self.old.writer)
+            (held W.contents self.new.writer) result (D.calls session.now.device) }
+        ensures failed { OnErr result
+            (self.new.writer.has_failed || is_stopped self.new.told ≡ true) }
         ensures origin { began_with self.new.before ≡ began_with self.old.before }
         ensures told { self.new.told ≡ self.old.told }
         ensures lets { OnOk result (self.new.told ≡ None) }
@@ -222,7 +224,8 @@ impl<W: Write> Write for Strict<W> {
     }
 
     fn flush(&mut self) -> io::Result<()>
-        ensures bytes { Keeps (W.contents self.old.writer.inner) (W.contents self.new.writer.inner) }
+        ensures bytes { Keeps (W.contents self.old.writer.inner)
+            (W.contents self.new.writer.inner) }
         ensures since { self.new.before ≡ self.old.before }
         ensures told { self.new.told ≡ self.old.told }
         ensures has_failed { self.new.writer.has_failed ≡ self.old.writer.has_failed }

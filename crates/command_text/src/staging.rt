@@ -14,7 +14,8 @@ use plan_audit::passes_are_local;
 /// The next command of annealing by stages, and the steps behind it: where a stage begins, its deviation.
 pub(crate) fn next_staged(from: u64, to: u64, job: &Job) -> Option<(Command, Steps)>
     ensures { MatchOption result (stage_commands from to job.now ≡ [])
-        (λ x. stage_commands from to job.now ≡ x.0 ∷ commands_of x.1 (effect (Loaded job.now) x.0)) }
+        (λ x. stage_commands from to job.now
+        ≡ x.0 ∷ commands_of x.1 (effect (Loaded job.now) x.0)) }
 {
     let step = steps_made(job);
     let Some(stage) = stage_in(from, to, step) else {
@@ -30,7 +31,8 @@ pub(crate) fn next_staged(from: u64, to: u64, job: &Job) -> Option<(Command, Ste
 /// The next command of annealing in a stage whose deviation is set, and the steps behind it.
 pub(crate) fn next_in_stage(from: u64, to: u64, job: &Job) -> Option<(Command, Steps)>
     ensures { MatchOption result (commands_in_stage from to job.now ≡ [])
-        (λ x. commands_in_stage from to job.now ≡ x.0 ∷ commands_of x.1 (effect (Loaded job.now) x.0)) }
+        (λ x. commands_in_stage from to job.now
+        ≡ x.0 ∷ commands_of x.1 (effect (Loaded job.now) x.0)) }
 {
     let step = steps_made(job);
     let Some(stage) = stage_in(from, to, step) else {
@@ -49,7 +51,8 @@ fn steps_made(job: &Job) -> u64
 // The stage of a step; none where the first number is above the second.
 fn stage_in(from: u64, to: u64, step: u64) -> Option<u32>
     ensures stage { result ≡ stage_of from to step }
-    ensures within { IfSome result (λ k. (from ≤ to) × (k < 20) × (step < boundary from to (k + 1))) }
+    ensures within { IfSome result (λ k. (from ≤ to) × (k < 20)
+        × (step < boundary from to (k + 1))) }
 {
     if to < from {
         return None;
