@@ -13,6 +13,7 @@ use Rattle.command_core.specs.declared.states.State.{State}
 use Rattle.command_core.specs.declared.states.State.TheVariants.{Empty, Loaded}
 use Rattle.command_text.specs.Answers.{at_text, line}
 use Rattle.command_text.specs.Readings.{SpellsInstance}
+use Rattle.fleet_tries.specs.Fleets.{with_fleet}
 use Rattle.plan_solve.specs.Solved.{IsFirst, above, begun, twentieths}
 use Rattle.plan_solve.specs.Staged.{Stand}
 use Rattle.plan_solve.specs.Tried.{after_try, fewer_after, is_whole, tried, vehicles_of}
@@ -20,6 +21,7 @@ use Rattle.plan_solve.specs.declared.faults.SolveFault.{SolveFault}
 use Rattle.plan_solve.specs.declared.faults.SolveFault.TheVariants as fault
 use Rattle.plan_solve.specs.declared.staging.Walk.{Walk}
 use Rattle.plan_solve.specs.declared.trying.Outcome.{Outcome}
+use Rattle.plan_solve.specs.declared.trying.Tries.{Tries}
 
 -- the plan is built of the problem that the text spells
 pub record IsBegun (kind : Kind) (text : List ℕ) (seed : ℕ) (job : JobValue) : Type 0 where
@@ -68,9 +70,22 @@ abbrev pub lacks_some : State → Bool
 lacks_some Empty = false
 lacks_some (Loaded j) = not (is_whole j)
 
--- what comes of a try: fewer vehicles are used, or fewer are left out by the next
-pub record IsOutcome (most left_out : ℕ) (j : JobValue) (o : Outcome) : Type 0 where
-  pub job : o.job ≡ after_try j (tried most left_out j)
-  pub fewer : o.fewer ≡ fewer_after left_out (tried most left_out j)
-  pub sinks : vehicles_of o.job + o.fewer < vehicles_of j + left_out
+-- the job of a try: its fleet is smaller, and no step is made too many
+pub record IsTried (most fewer : ℕ) (j found : JobValue) : Type 0 where
+  pub job : found ≡ tried most fewer j
+  pub problem : found.problem ≡ with_fleet j.problem (vehicles_of j - fewer)
+  pub smaller : found.problem.fleet ≤ j.problem.fleet
+  pub steps : found.steps ≤ most
+
+-- what comes of a try with so many vehicles fewer: fewer are used, or the next one has not so many fewer
+pub record IsOutcome (most fewer : ℕ) (j : JobValue) (o : Outcome) : Type 0 where
+  pub job : o.job ≡ after_try j (tried most fewer j)
+  pub next : o.fewer ≡ fewer_after fewer (tried most fewer j)
+  pub sinks : vehicles_of o.job + o.fewer < vehicles_of j + fewer
   pub steps : o.job.steps ≤ most
+
+-- what the next try begins with
+pub record IsNextTry (most : ℕ) (tries next : Tries) : Type 0 where
+  pub fewer : next.fewer ≡ fewer_after tries.fewer (tried most tries.fewer tries.walk.job)
+  pub sinks : vehicles_of next.walk.job + next.fewer < vehicles_of tries.walk.job + tries.fewer
+  pub steps : next.walk.job.steps ≤ most

@@ -1,7 +1,5 @@
 //! The text of a plan, and the requests that it leaves out.
-ghost use Rattle.std.specs.Prelude.{◌≡◌, ◌++◌, ◌∷◌, [], IfOk, OnOk};
-ghost use Rattle.std.specs.Fmt.{decimal};
-ghost use Rattle.sol_text.specs.Written.{customers_text, route_text, routes_text, used_routes};
+ghost use Rattle.std.specs.Prelude.{◌≡◌, [], IfOk};
 ghost use Rattle.sol_text.specs.Faults.{Spells};
 ghost use Rattle.seeded_search.specs.Steps.{unplanned_names};
 ghost use Rattle.command_text.specs.Showing.{solution_of};
@@ -10,10 +8,9 @@ ghost use Rattle.plan_solve.specs.Solved.{TellsPlan, plan_text};
 use crate::solving::Solved;
 use crate::staging::Walk;
 use command_core::{Job, unplanned_names};
-use itoa::Buffer;
 use plan_audit::passes_are_local;
-use plan_types::{OutOfMemory, Route};
-use sol_text::write_sol;
+use plan_types::OutOfMemory;
+use sol_text::{write_routes, write_sol};
 use std::alloc::{AllocError, Global};
 
 /// What is told of a job's plan.
@@ -57,55 +54,11 @@ fn plan_text(alloc: Global, job: &Job, unplanned: &[u32]) -> Result<Vec<u8>, Out
         → Spells text.items (solution_of job.now)) }
 {
     if !unplanned.is_empty() {
-        return routes_text(alloc, job.plan.routes.as_slice());
+        return write_routes(alloc, job.plan.routes.as_slice());
     }
     passes_are_local();
     match write_sol(alloc, &job.problem, &job.plan) {
         Ok(text) => Ok(text),
         Err(_) => Err(AllocError),
     }
-}
-
-// The lines of the routes that are not empty, numbered from 1.
-fn routes_text(alloc: Global, routes: &[Route]) -> Result<Vec<u8>, OutOfMemory>
-    ensures { IfOk result (λ text. text.items ≡ routes_text 1 (used_routes routes.now)) }
-{
-    let mut text = Vec::new(alloc);
-    let mut number = 1u64;
-    for route in routes {
-        if !route.as_slice().is_empty() {
-            write_route(&mut text, number, route.as_slice())?;
-            number += 1;
-        }
-    }
-    Ok(text)
-}
-
-fn write_route(text: &mut Vec<u8>, number: u64, route: &[u32]) -> Result<(), OutOfMemory>
-    ensures { OnOk result (text.new.items
-        ≡ text.old.items ++ (route_text number route.now ++ 10 ∷ [])) }
-{
-    text.extend_from_slice(b"Route #")?;
-    write_number(text, number)?;
-    text.push(b':')?;
-    write_customers(text, route)?;
-    text.push(b'\n')?;
-    Ok(())
-}
-
-fn write_customers(text: &mut Vec<u8>, route: &[u32]) -> Result<(), OutOfMemory>
-    ensures { OnOk result (text.new.items ≡ text.old.items ++ customers_text route.now) }
-{
-    for customer in route {
-        text.push(b' ')?;
-        write_number(text, u64::from(*customer))?;
-    }
-    Ok(())
-}
-
-fn write_number(text: &mut Vec<u8>, n: u64) -> Result<(), OutOfMemory>
-    ensures { OnOk result (text.new.items ≡ text.old.items ++ decimal n) }
-{
-    let mut buffer = Buffer::new();
-    text.extend_from_slice(buffer.format(n).as_bytes())
 }

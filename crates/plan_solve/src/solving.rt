@@ -153,7 +153,7 @@ fn kind_of(job: &Job) -> Kind
     job.problem.kind
 }
 
-// The same from a solving that has made no step.
+// The same from a solving that has made no step. `kind` is that of its problem, read before the job was given away.
 fn annealed_from<W: Write>(
     alloc: Global,
     kind: Kind,

@@ -1,9 +1,9 @@
 //! Tries of smaller fleets, with a line behind each that makes another twentieth of the steps.
-ghost use Rattle.std.specs.Prelude.{◌≡◌, ◌+◌, ◌-◌, ◌<◌, ◌≤◌, ◌^◌, true, [], replicate, IfOk};
+ghost use Rattle.std.specs.Prelude.{◌≡◌, ◌+◌, ◌<◌, ◌≤◌, ◌^◌, true, [], replicate, IfOk};
 ghost use Rattle.fleet_tries.specs.Fleets.{longest_routes, with_fleet, with_vehicles};
 ghost use Rattle.route_sched.specs.Cost.{used_count};
-ghost use Rattle.plan_solve.specs.Telling.{IsOutcome, Leads, lacks_some};
-ghost use Rattle.plan_solve.specs.Tried.{after_try, all_tries, behind_try, by_tries, fewer_after, first_fewer, half, in_pieces, in_vain, is_whole, limit_of, may_try, taken_over, tried, vehicles_of, with_fewer};
+ghost use Rattle.plan_solve.specs.Telling.{IsNextTry, IsOutcome, IsTried, Leads, lacks_some};
+ghost use Rattle.plan_solve.specs.Tried.{after_try, all_tries, behind_try, by_tries, fewer_after, first_fewer, half, in_pieces, in_vain, is_whole, limit_of, may_try, taken_over, vehicles_of, with_fewer};
 
 use crate::carrying::{carry_out, into_job};
 use crate::staging::{Frame, Walk, annealed_on, behind, stages_telling};
@@ -84,11 +84,7 @@ fn try_fewer<W: Write>(
     requires may { may_try (half to) tries.fewer tries.walk.job ≡ true }
     ensures leads { IfOk result (λ new. Leads (W.contents progress.old) (W.contents progress.new)
         (behind_try to tries.fewer) tries.walk new.walk) }
-    ensures fewer { IfOk result (λ new. new.fewer
-        ≡ fewer_after tries.fewer (tried (half to) tries.fewer tries.walk.job)) }
-    ensures sinks { IfOk result (λ new. vehicles_of new.walk.job + new.fewer
-        < vehicles_of tries.walk.job + tries.fewer) }
-    ensures most { IfOk result (λ new. new.walk.job.steps ≤ half to) }
+    ensures next { IfOk result (IsNextTry (half to) tries) }
 {
     let Tries { walk, fewer } = tries;
     let outcome = outcome_of(alloc, &walk.job, to / 2, fewer)?;
@@ -99,8 +95,8 @@ fn try_fewer<W: Write>(
 
 /// What comes of a try.
 #[derive(Drop)]
-pub(crate) struct Outcome {
-    pub job: Job,
+struct Outcome {
+    job: Job,
     /// How many vehicles fewer the next try has.
     pub fewer: u64,
 }
@@ -121,11 +117,7 @@ fn outcome_of(alloc: Global, job: &Job, most: u64, fewer: u64) -> Result<Outcome
 fn tried(alloc: Global, job: &Job, most: u64, fewer: u64) -> Result<Job, OutOfMemory>
     requires few { most < 2 ^ 32 }
     requires may { may_try most fewer job.now ≡ true }
-    ensures tried { IfOk result (λ found. found ≡ tried most fewer job.now) }
-    ensures fleet { IfOk result (λ found. found.problem
-        ≡ with_fleet job.now.problem (vehicles_of job.now - fewer)) }
-    ensures smaller { IfOk result (λ found. found.problem.fleet ≤ job.now.problem.fleet) }
-    ensures most { IfOk result (λ found. found.steps ≤ most) }
+    ensures { IfOk result (IsTried most fewer job.now) }
 {
     let limit = limit_of(most, fewer, job.steps);
     let begun = with_fewer(alloc, job, vehicles_of(job) - fewer)?;

@@ -12,12 +12,12 @@ returns c =
     let found = c.in_ok-found in
     let new = c.in_ok-job in
     let may = may_parts _ fewer j c.requires.may in
-    let fleet : found.found.problem.fleet ≡ vehicles_of j - fewer = ap (λ (p : Instance). p.fleet) found.ensures.fleet in
+    let fleet : found.found.problem.fleet ≡ vehicles_of j - fewer = ap (λ (p : Instance). p.fleet) found.ensures.problem in
     let sinks = try_sinks fewer j found.found new.job may.1.0 may.1.1 new.ensures.after new.ensures.used fleet in
     let steps = steps_after j found.found new.job new.ensures.after in
     record {
-      job = new.ensures.after ∙ ap (after_try j) found.ensures.tried;
-      fewer = c.fewer_after-fewer.ensures ∙ ap (fewer_after fewer) found.ensures.tried;
+      job = new.ensures.after ∙ ap (after_try j) found.ensures.job;
+      next = c.fewer_after-fewer.ensures ∙ ap (fewer_after fewer) found.ensures.job;
       sinks = omega (arith, sinks, c.fewer_after-fewer.ensures);
-      steps = omega (arith, steps, found.ensures.most);
+      steps = omega (arith, steps, found.ensures.steps);
     }

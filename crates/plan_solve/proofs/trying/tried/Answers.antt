@@ -33,14 +33,15 @@ returns c =
     subst (λ n. IfOk result (λ found. found ≡ in_pieces (begun.steps + (limit.result - n)) (limit.result - n) begun)) same c.in_pieces.ensures in
     let fleet = ap (λ (i : JobValue). i.problem) is in
     let vehicles : begun.problem.fleet ≡ vehicles_of j - fewer = ap (λ (p : Instance). p.fleet) fleet in
+    IfOk-weaker result _ _
+    (λ found m.
+    let is_tried = tried_is most fewer limit.result j begun found is limited least m in
+    let kept = ap (λ (p : Instance). p.fleet) is_tried.1.problem in
+    let steps = is_tried.1.steps in
     record {
-      tried = IfOk-weaker result _ _ (λ found m. (tried_is most fewer limit.result j begun found is limited least m).0) made;
-      fleet = IfOk-weaker result _ _ (λ found m. (tried_is most fewer limit.result j begun found is limited least m).1.problem ∙ fleet) made;
-      smaller =
-          IfOk-weaker result _ _
-          (λ found m.
-          let kept = ap (λ (p : Instance). p.fleet) (tried_is most fewer limit.result j begun found is limited least m).1.problem in
-          omega (arith, kept, vehicles, c.vehicles_of.ensures.count, c.vehicles_of.ensures.fleet))
-          made;
-      most = IfOk-weaker result _ _ (λ found m. let steps = (tried_is most fewer limit.result j begun found is limited least m).1.steps in omega (arith, steps, limit.ensures.most)) made;
-    }
+      job = is_tried.0;
+      problem = is_tried.1.problem ∙ fleet;
+      smaller = omega (arith, kept, vehicles, c.vehicles_of.ensures.count, c.vehicles_of.ensures.fleet);
+      steps = omega (arith, steps, limit.ensures.most);
+    })
+    made

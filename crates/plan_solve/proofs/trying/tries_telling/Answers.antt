@@ -14,10 +14,10 @@ loop-alloc-preserved g c =
     let l = c.loop-alloc in
     let next = c.in_ok-tries in
     record {
-      most = next.ensures.most;
+      most = next.ensures.next.steps;
       leads =
           tries_on (g.W.Write.contents c.args.progress.now) (g.W.Write.contents l.progress) (g.W.Write.contents c.try_fewer.new.progress) c.args.walk l.tries.walk next.tries.walk c.args.to
-          l.tries.fewer next.tries.fewer l.invariant.leads (sym c.may_try.ensures ∙ c.loop-alloc-test.true) next.ensures.leads next.ensures.fewer next.ensures.sinks;
+          l.tries.fewer next.tries.fewer l.invariant.leads (sym c.may_try.ensures ∙ c.loop-alloc-test.true) next.ensures.leads next.ensures.next.fewer next.ensures.next.sinks;
     }
 
 pub returns : goal.returns

@@ -19,7 +19,5 @@ returns g c =
           λ before s h.
           subst (λ v. Stands before next v walk.result) (sym (try_is a.to a.tries.fewer s a.tries.walk.job new.outcome.job h.walked.made new.ensures.job))
           (walk.ensures.stands before s (sym h.parts) h.walked.told);
-      fewer = new.ensures.fewer;
-      sinks = omega (arith, new.ensures.sinks, used);
-      most = omega (arith, new.ensures.steps, same);
+      next = record { fewer = new.ensures.next; sinks = omega (arith, new.ensures.sinks, used); steps = omega (arith, new.ensures.steps, same) };
     }

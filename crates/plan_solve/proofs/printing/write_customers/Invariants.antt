@@ -1,7 +1,0 @@
-use Rattle.std.proofs.Common.{◌≡◌, ◌++◌, drop}
-use Rattle.sol_text.specs.Written.{customers_text}
-use Rattle.plan_solve.proofs.printing.write_customers.Given as goal
-
--- the text so far and that of the customers to come
-abbrev pub invariant-loop-customer : goal.invariant-loop-customer
-invariant-loop-customer l = l.text.items ++ customers_text (drop l.customer-index l.route) ≡ l.fn.text.items ++ customers_text l.route
