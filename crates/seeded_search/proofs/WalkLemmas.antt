@@ -12,7 +12,7 @@ use Rattle.move_ops.specs.Laws.{RelocationsNeverCostMore}
 use Rattle.move_ops.specs.Moves.{removed, exchanged, crossed}
 use Rattle.move_ops.proofs.Times.{none_some, some_same}
 use Rattle.seeded_search.specs.Words.{pick, step_words}
-use Rattle.seeded_search.specs.Steps.{picked, movable_names, unplanned_names, placed_all, relocated, exchanged_by, used_vehicles, cut_by, crossed_by, ruined_names, recreated_by, candidate, Walked, has_less_pair, has_same_pair, is_near, moved_on, moved_on_by, step, steps, walked}
+use Rattle.seeded_search.specs.Steps.{picked, movable_names, unplanned_names, placed_all, relocated, exchanged_by, used_vehicles, cut_by, crossed_by, ruined_names, recreated_by, candidate, Walked, has_less_pair, has_same_pair, is_near, moved_on, moved_on_by, many, step, steps, walked}
 use Rattle.move_ops.specs.Foreseen.{IsCostIfMade}
 use Rattle.move_ops.specs.Drafts.{placed, AreIdleBehind, Drafted, base_of, draft_of, IsDraftOf, IsMade}
 use Rattle.seeded_search.specs.Working.{AreListsOf, IsMadeIfNear, IsWalk, HasTaken}
@@ -36,6 +36,43 @@ then_some false o y is = absurd (none_some y is)
 else_some : {X : Type 0} (b : Bool) (o : Option X) (y : X) → cond b None o ≡ Some y → o ≡ Some y
 else_some false o y is = is
 else_some true o y is = absurd (none_some y is)
+
+-- ---- many steps of any kind
+pub same_cost : CostsAreTotal → (a : Cost) → IsTrue (cost_at_most a a)
+same_cost total a = elim (total a a) [ inl t ↦ t | inr t ↦ t ]
+
+module _ (one : ℕ → Walked → Walked) where
+  pub many_add_up : (b a n : ℕ) (s : Walked) → many one n (a + b) s ≡ many one (n + a) b (many one n a s)
+  many_add_up b zero n s =
+      let none : 0 + b ≡ b = omega arith in
+      let here : n ≡ n + 0 = omega arith in
+      ap (λ k. many one n k s) none ∙ ap (λ m. many one m b s) here
+  many_add_up b (suc a) n s =
+      let more : suc a + b ≡ suc (a + b) = omega arith in
+      let there : n + 1 + a ≡ n + suc a = omega arith in
+      ap (λ k. many one n k s) more ∙ many_add_up b a (n + 1) (one n s) ∙ ap (λ m. many one m b (many one (n + 1) a (one n s))) there
+
+  -- what each step keeps
+  pub many_keep : (P : Walked → Type 0) → ((n : ℕ) (s : Walked) → P s → P (one n s)) → (count n : ℕ) (s : Walked) → P s → P (many one n count s)
+  many_keep P keep zero n s is = is
+  many_keep P keep (suc count) n s is = many_keep P keep count (n + 1) (one n s) (keep n s is)
+
+  pub many_cost : (p : Instance) → CostsAreTotal → CostsAreTransitive → ((n : ℕ) (s : Walked) → IsTrue (cost_at_most (cost_of p (one n s).incumbent) (cost_of p s.incumbent)))
+      → (count n : ℕ) (s : Walked) → IsTrue (cost_at_most (cost_of p (many one n count s).incumbent) (cost_of p s.incumbent))
+  many_cost p total transitive less count n s =
+      many_keep (λ (t : Walked). IsTrue (cost_at_most (cost_of p t.incumbent) (cost_of p s.incumbent)))
+      (λ m t so_far. transitive (cost_of p (one m t).incumbent) (cost_of p t.incumbent) (cost_of p s.incumbent) (less m t) so_far) count n s (same_cost total (cost_of p s.incumbent))
+
+-- what the words of its number make is the next step
+pub walked_more : (made_by : List ℕ → Walked → Walked) (seed n count k : ℕ) (s new : Walked) (words : List ℕ) (key number : ℕ) (all : Walked)
+    → many (λ m t. made_by (step_words seed m) t) (n + k) (count - k) s ≡ all → k < count → words ≡ step_words key number → key ≡ seed → number ≡ n + k → new ≡ made_by words s
+    → many (λ m t. made_by (step_words seed m) t) (n + (k + 1)) (count - (k + 1)) new ≡ all
+walked_more made_by seed n count k s new words key number all so_far within is_words is_seed is_number made =
+    let less : count - k ≡ suc (count - (k + 1)) = omega arith in
+    let there : n + k + 1 ≡ n + (k + 1) = omega arith in
+    let same : new ≡ made_by (step_words seed (n + k)) s = made ∙ ap (λ ws. made_by ws s) (is_words ∙ (ap (λ x. step_words x number) is_seed ∙ ap (step_words seed) is_number)) in
+    ap (λ m. many (λ m t. made_by (step_words seed m) t) m (count - (k + 1)) new) (sym there)
+    ∙ (ap (λ t. many (λ m t. made_by (step_words seed m) t) (n + k + 1) (count - (k + 1)) t) same ∙ (ap (λ m. many (λ m t. made_by (step_words seed m) t) (n + k) m s) (sym less) ∙ so_far))
 
 module _ (p : Instance) (pins : List (List ℕ)) where
   abbrev pub Passes : List (List ℕ) → Type 0
@@ -140,55 +177,15 @@ module _ (p : Instance) (pins : List (List ℕ)) where
     unfolding step
     step_passes n s both = moved_passes (step_words seed n) s both (candidate p pins s.working (step_words seed n)) refl
 
-    -- a step with the words of its number is the next of many
-    pub walked_more : (n count k : ℕ) (s new : Walked) (words : List ℕ) (key number : ℕ) (all : Walked) → steps p pins deviation seed (n + k) (count - k) s ≡ all → k < count
-        → words ≡ step_words key number → key ≡ seed → number ≡ n + k → new ≡ moved_on_by p deviation s (candidate p pins s.working words) → steps p pins deviation seed (n + (k + 1)) (count - (k + 1)) new ≡ all
-    unfolding step steps
-    walked_more n count k s new words key number all so_far within is_words is_seed is_number made =
-        let one : count - k ≡ suc (count - (k + 1)) = omega arith in
-        let there : n + k + 1 ≡ n + (k + 1) = omega arith in
-        let same : new ≡ step p pins deviation seed (n + k) s =
-        made ∙ ap (λ ws. moved_on_by p deviation s (candidate p pins s.working ws)) (is_words ∙ (ap (λ x. step_words x number) is_seed ∙ ap (step_words seed) is_number)) in
-        ap (λ m. steps p pins deviation seed m (count - (k + 1)) new) (sym there)
-        ∙ (ap (λ t. steps p pins deviation seed (n + k + 1) (count - (k + 1)) t) same ∙ (ap (λ m. steps p pins deviation seed (n + k) m s) (sym one) ∙ so_far))
-
-    steps_pass : (count n : ℕ) (s : Walked) → BothPass p pins s → BothPass p pins (steps p pins deviation seed n count s)
-    unfolding steps
-    steps_pass zero n s both = both
-    steps_pass (suc count) n s both = steps_pass count (n + 1) (step p pins deviation seed n s) (step_passes n s both)
-
-    module _ (total : CostsAreTotal) (transitive : CostsAreTransitive) where
-      same_cost : (a : Cost) → IsTrue (cost_at_most a a)
-      same_cost a = elim (total a a) [ inl t ↦ t | inr t ↦ t ]
-
-      step_cost : (n : ℕ) (s : Walked) → IsTrue (cost_at_most (cost_of p (step p pins deviation seed n s).incumbent) (cost_of p s.incumbent))
-      unfolding step
-      step_cost n s = by (candidate p pins s.working (step_words seed n))
-        where
-          by : (o : Option (List (List ℕ))) → IsTrue (cost_at_most (cost_of p (moved_on_by p deviation s o).incumbent) (cost_of p s.incumbent))
-          by None = same_cost (cost_of p s.incumbent)
-          by (Some c) =
-              cond_both (cost_at_most (cost_of p c) (cost_of p s.incumbent)) c s.incumbent (λ best. IsTrue (cost_at_most (cost_of p best) (cost_of p s.incumbent))) (λ t. t) (λ t. same_cost (cost_of p s.incumbent))
-
-      steps_cost : (count n : ℕ) (s : Walked) → IsTrue (cost_at_most (cost_of p (steps p pins deviation seed n count s).incumbent) (cost_of p s.incumbent))
-      unfolding steps
-      steps_cost zero n s = same_cost (cost_of p s.incumbent)
-      steps_cost (suc count) n s =
-          transitive (cost_of p (steps p pins deviation seed (n + 1) count (step p pins deviation seed n s)).incumbent) (cost_of p (step p pins deviation seed n s).incumbent) (cost_of p s.incumbent)
-          (steps_cost count (n + 1) (step p pins deviation seed n s)) (step_cost n s)
-
-    steps_more : (b a n : ℕ) (s : Walked) → steps p pins deviation seed n (a + b) s ≡ steps p pins deviation seed (n + a) b (steps p pins deviation seed n a s)
-    unfolding steps
-    steps_more b zero n s =
-        let none : 0 + b ≡ b = omega arith in
-        let here : n ≡ n + 0 = omega arith in
-        ap (λ k. steps p pins deviation seed n k s) none ∙ ap (λ m. steps p pins deviation seed m b s) here
-    steps_more b (suc a) n s =
-        let one : suc a + b ≡ suc (a + b) = omega arith in
-        let there : n + 1 + a ≡ n + suc a = omega arith in
-        ap (λ k. steps p pins deviation seed n k s) one
-        ∙ steps_more b a (n + 1) (step p pins deviation seed n s)
-        ∙ ap (λ m. steps p pins deviation seed m b (steps p pins deviation seed (n + 1) a (step p pins deviation seed n s))) there
+    -- the incumbent of a step costs no more
+    step_cost : CostsAreTotal → (n : ℕ) (s : Walked) → IsTrue (cost_at_most (cost_of p (step p pins deviation seed n s).incumbent) (cost_of p s.incumbent))
+    unfolding step
+    step_cost total n s = by (candidate p pins s.working (step_words seed n))
+      where
+        by : (o : Option (List (List ℕ))) → IsTrue (cost_at_most (cost_of p (moved_on_by p deviation s o).incumbent) (cost_of p s.incumbent))
+        by None = same_cost total (cost_of p s.incumbent)
+        by (Some c) =
+            cond_both (cost_at_most (cost_of p c) (cost_of p s.incumbent)) c s.incumbent (λ best. IsTrue (cost_at_most (cost_of p best) (cost_of p s.incumbent))) (λ t. t) (λ t. same_cost total (cost_of p s.incumbent))
 
 -- a plan that is near, and costs more, has the same pair and drives at most the deviation more
 near_apart : BelowIsAtMost → (deviation : ℕ) (a b : Cost) → is_near deviation a b ≡ true → cost_at_most a b ≡ false
@@ -257,22 +254,21 @@ module _ (p : Instance) (pins : List (List ℕ)) (deviation seed : ℕ) (below :
       by None = near
       by (Some c) = moved_near s c near
 
-  steps_near : (count n : ℕ) (s : Walked) → WorksNear p deviation s → WorksNear p deviation (steps p pins deviation seed n count s)
-  unfolding steps
-  steps_near zero n s near = near
-  steps_near (suc count) n s near = steps_near count (n + 1) (step p pins deviation seed n s) (step_near n s near)
-
 pub working_stays_near : BelowIsAtMost → WorkingStaysNear
-working_stays_near below p pins deviation seed n count s near = steps_near p pins deviation seed below count n s near
+unfolding steps
+working_stays_near below p pins deviation seed n count s near = many_keep (step p pins deviation seed) (WorksNear p deviation) (step_near p pins deviation seed below) count n s near
 
 pub steps_add_up : StepsAddUp
-steps_add_up p pins deviation seed n a b s = steps_more p pins deviation seed b a n s
+unfolding steps
+steps_add_up p pins deviation seed n a b s = many_add_up (step p pins deviation seed) b a n s
 
 pub steps_keep_passing : StepsKeepPassing
-steps_keep_passing p pins deviation seed n count s both = steps_pass p pins deviation seed count n s both
+unfolding steps
+steps_keep_passing p pins deviation seed n count s both = many_keep (step p pins deviation seed) (BothPass p pins) (step_passes p pins deviation seed) count n s both
 
 pub incumbents_never_cost_more : CostsAreTotal → CostsAreTransitive → IncumbentsNeverCostMore
-incumbents_never_cost_more total transitive p pins deviation seed n count s = steps_cost p pins deviation seed total transitive count n s
+unfolding steps
+incumbents_never_cost_more total transitive p pins deviation seed n count s = many_cost (step p pins deviation seed) p total transitive (step_cost p pins deviation seed total) count n s
 
 -- a candidate that is far changes nothing
 module _ (p : Instance) (deviation : ℕ) (s : Walked) (c : List (List ℕ)) where

@@ -1,4 +1,4 @@
--- What the steps of a search keep, for every problem, pins, deviation and seed.
+-- What the steps of a search keep, for every problem, pins, deviation and seed: first of a search of any kind.
 use Rattle.std.specs.Prelude.{◌≡◌, ℕ, ◌+◌, ◌≤◌, IsTrue, List, Some, true}
 use Rattle.plan_types.specs.Cost.{cost_at_most}
 use Rattle.plan_types.specs.Instance.{Instance, IsInstance}
@@ -6,15 +6,14 @@ use Rattle.route_sched.specs.Cost.{cost_of}
 use Rattle.plan_audit.specs.Passes.{passes}
 use Rattle.seeded_search.specs.Steps.{relocated, Walked, steps}
 
--- law: so many steps and then so many more are all of them at once
-abbrev pub StepsAddUp : Type 0
-StepsAddUp = (p : Instance) (pins : List (List ℕ)) (deviation seed n a b : ℕ) (s : Walked)
-    → steps p pins deviation seed n (a + b) s ≡ steps p pins deviation seed (n + a) b (steps p pins deviation seed n a s)
+-- a search of some kind, by problem, pins, deviation and seed: what so many steps from a number on make of both plans
+abbrev pub Search : Type 0
+Search = Instance → List (List ℕ) → ℕ → ℕ → ℕ → ℕ → Walked → Walked
 
--- law: a request that is relocated from a plan that passes is put in again, and the plan costs no more
-abbrev pub RelocatedNeverCostMore : Type 0
-RelocatedNeverCostMore = (p : Instance) (pins routes new : List (List ℕ)) (word : ℕ)
-    → IsInstance p → passes p pins routes ≡ true → relocated p pins routes word ≡ Some new → IsTrue (cost_at_most (cost_of p new) (cost_of p routes))
+-- law: so many steps and then so many more are all of them at once
+abbrev pub AddUp : Search → Type 0
+AddUp steps = (p : Instance) (pins : List (List ℕ)) (deviation seed n a b : ℕ) (s : Walked)
+    → steps p pins deviation seed n (a + b) s ≡ steps p pins deviation seed (n + a) b (steps p pins deviation seed n a s)
 
 -- both plans pass
 pub record BothPass (p : Instance) (pins : List (List ℕ)) (s : Walked) : Type 0 where
@@ -22,14 +21,29 @@ pub record BothPass (p : Instance) (pins : List (List ℕ)) (s : Walked) : Type 
   pub working : passes p pins s.working ≡ true
 
 -- law: plans that pass are walked on to plans that pass
-abbrev pub StepsKeepPassing : Type 0
-StepsKeepPassing = (p : Instance) (pins : List (List ℕ)) (deviation seed n count : ℕ) (s : Walked)
+abbrev pub KeepPassing : Search → Type 0
+KeepPassing steps = (p : Instance) (pins : List (List ℕ)) (deviation seed n count : ℕ) (s : Walked)
     → BothPass p pins s → BothPass p pins (steps p pins deviation seed n count s)
 
 -- law: the incumbent never costs more
-abbrev pub IncumbentsNeverCostMore : Type 0
-IncumbentsNeverCostMore = (p : Instance) (pins : List (List ℕ)) (deviation seed n count : ℕ) (s : Walked)
+abbrev pub NeverCostMore : Search → Type 0
+NeverCostMore steps = (p : Instance) (pins : List (List ℕ)) (deviation seed n count : ℕ) (s : Walked)
     → IsTrue (cost_at_most (cost_of p (steps p pins deviation seed n count s).incumbent) (cost_of p s.incumbent))
+
+-- the laws of this search
+abbrev pub StepsAddUp : Type 0
+StepsAddUp = AddUp steps
+
+abbrev pub StepsKeepPassing : Type 0
+StepsKeepPassing = KeepPassing steps
+
+abbrev pub IncumbentsNeverCostMore : Type 0
+IncumbentsNeverCostMore = NeverCostMore steps
+
+-- law: a request that is relocated from a plan that passes is put in again, and the plan costs no more
+abbrev pub RelocatedNeverCostMore : Type 0
+RelocatedNeverCostMore = (p : Instance) (pins routes new : List (List ℕ)) (word : ℕ)
+    → IsInstance p → passes p pins routes ≡ true → relocated p pins routes word ≡ Some new → IsTrue (cost_at_most (cost_of p new) (cost_of p routes))
 
 -- the working plan leaves as many requests out and uses as many vehicles as the incumbent, and drives at most the deviation more
 abbrev pub WorksNear : Instance → ℕ → Walked → Type 0

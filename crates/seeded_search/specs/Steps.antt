@@ -114,7 +114,11 @@ moved_on_by p deviation s (Some c) = moved_on p deviation s c
 unfoldable pub step : Instance → List (List ℕ) → ℕ → ℕ → ℕ → Walked → Walked
 step p pins deviation seed n s = moved_on_by p deviation s (candidate p pins s.working (step_words seed n))
 
+-- so many steps of a kind, one after another, from number n on
+abbrev pub many : (ℕ → Walked → Walked) → ℕ → ℕ → Walked → Walked
+many one n zero s = s
+many one n (suc count) s = many one (n + 1) count (one n s)
+
 -- so many steps from number n on
 unfoldable pub steps : Instance → List (List ℕ) → ℕ → ℕ → ℕ → ℕ → Walked → Walked
-steps p pins deviation seed n zero s = s
-steps p pins deviation seed n (suc count) s = steps p pins deviation seed (n + 1) count (step p pins deviation seed n s)
+steps p pins deviation seed n count s = many (step p pins deviation seed) n count s

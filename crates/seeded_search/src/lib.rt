@@ -10,6 +10,7 @@
 //! - `stream`: the words of the steps, from ChaCha20's key stream.
 //! - `draws`: what a step's words draw of lists.
 //! - `lists`: the lists that a step draws from.
+//! - `near`: which candidates are walked on from.
 //! - `operators`: the candidate that a step's words make.
 //! - `walk`: what a search keeps from step to step, and what a candidate replaces.
 //! - `incumbent`: the incumbent's routes, copied where they differ.
@@ -25,7 +26,8 @@
 //! How a step works: its words make a candidate of the working plan, by one of four operators over the moves
 //! of `move_ops`. A candidate that costs no more than the incumbent becomes incumbent and working plan. One
 //! that leaves out as many requests, uses as many vehicles and drives at most the deviation more becomes the
-//! working plan alone. Otherwise nothing changes.
+//! working plan alone. Otherwise nothing changes. What an exchange or 2-opt* would cost is often foreseen by the
+//! few ways that change; where that is too much, it is not made, and not asked whether it passes.
 //!
 //! What a step of another kind needs too is public: `Walk` with its `Lists` begins, ends and takes a candidate,
 //! `StepWords` gives the words of one step after another, `place_all` recreates, `Walk::improve` and `is_near` settle.
@@ -54,6 +56,7 @@ mod draws;
 mod incumbent;
 mod laws;
 mod lists;
+mod near;
 mod operators;
 mod search;
 mod stream;
@@ -64,10 +67,11 @@ pub use laws::{
     steps_are_blocks, steps_keep_passing, working_stays_near,
 };
 pub use lists::Lists;
+pub use near::is_near;
 pub use operators::place_all;
 pub use search::{Found, search_step, search_steps, walk_on};
 pub use stream::{StepWords, words};
-pub use walk::{Walk, is_near};
+pub use walk::Walk;
 
 /// One of `m` things, 1 or more, numbered from 0, by the word `w`: the whole part of `w * m / 2^32`.
 pub fn pick(w: u32, m: u32) -> u32

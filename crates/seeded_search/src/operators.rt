@@ -3,20 +3,19 @@
 //! By the definition a request that is removed and has no insertion stays unplanned. Where one request alone
 //! is taken out, its old place is always one, so that a relocated request is put in again, and the plan costs
 //! no more (`relocated_never_cost_more`).
-ghost use Rattle.std.specs.Prelude.{◌≡◌, ◌+◌, false, IfOk, OnOk, IsTrue, IsSomeAnd, take, drop, slice_index};
+ghost use Rattle.std.specs.Prelude.{◌≡◌, ◌+◌, IfOk, OnOk, take, drop, slice_index};
 ghost use Rattle.seeded_search.specs.Words.{pick};
 ghost use Rattle.move_ops.specs.Drafts.{base_of, draft_of, IsDraftOf, IsMade};
-ghost use Rattle.move_ops.specs.Moves.{exchanged, crossed};
 ghost use Rattle.seeded_search.specs.Working.{AreListsOf, IsMadeIfNear};
-ghost use Rattle.seeded_search.specs.Steps.{candidate, is_near, drawn, movable_names, placed_all, relocated, exchanged_by, crossed_by, cut_by, recreated_by};
+ghost use Rattle.seeded_search.specs.Steps.{candidate, drawn, movable_names, placed_all, relocated, exchanged_by, crossed_by, cut_by, recreated_by};
 
 use crate::draws::{drawn, picked, picked_vehicle, place};
 use crate::lists::{Lists, used_vehicles};
+use crate::near::Near;
 use crate::pick;
-use crate::walk::is_near;
 use move_ops::{Draft, of_vehicle};
 use plan_audit::passes_are_local;
-use plan_types::{Cost, OutOfMemory, Pins, Problem};
+use plan_types::{OutOfMemory, Pins, Problem};
 use std::alloc::Global;
 
 /// Makes of the draft what the words of a step make of it, if anything: a request is relocated, two are exchanged, two routes exchange
@@ -30,30 +29,21 @@ pub(crate) fn make(
     draft: &mut Draft,
     lists: &Lists,
     words: &[u32; 16],
-    deviation: u32,
-    best: &Cost,
+    near: &Near,
 ) -> Result<bool, OutOfMemory>
     requires draft { IsDraftOf problem.now pins.now.routes draft.old }
     requires lists { AreListsOf problem.now pins.now.routes (draft_of draft.old) lists.now }
     ensures is { OnOk result (IsDraftOf problem.now pins.now.routes draft.new) }
     ensures base { OnOk result (base_of draft.new ≡ base_of draft.old) }
-    ensures made { IfOk result (λ made. IsMadeIfNear problem.now deviation best.now
+    ensures made { IfOk result (λ made.
+        IsMadeIfNear problem.now near.now.deviation near.now.best.now
         (candidate problem.now pins.now.routes (draft_of draft.old) words.now) made
         draft.old draft.new) }
 {
     match pick(words[0], 4) {
         0 => relocate(problem, pins, draft, &lists.movable, words[1]),
-        1 => exchange(
-            problem,
-            pins,
-            draft,
-            &lists.movable,
-            words[1],
-            words[2],
-            deviation,
-            best,
-        ),
-        2 => cross(alloc, problem, pins, draft, words, deviation, best),
+        1 => exchange(problem, pins, draft, &lists.movable, words, near),
+        2 => cross(alloc, problem, pins, draft, words, near),
         _ => recreate(alloc, problem, pins, draft, lists, words),
     }
 }
@@ -86,71 +76,52 @@ fn relocate(
 }
 
 // Two requests take one another's places, unless the draft is seen to be far from the incumbent then.
+#[tactic(auto, using(crate::proofs::WalkLemmas::made_near, crate::proofs::WalkLemmas::foreseen_far))]
 fn exchange(
     problem: &Problem,
     pins: &Pins,
     draft: &mut Draft,
     movable: &[u32],
-    first: u32,
-    second: u32,
-    deviation: u32,
-    best: &Cost,
+    words: &[u32; 16],
+    near: &Near,
 ) -> Result<bool, OutOfMemory>
     requires draft { IsDraftOf problem.now pins.now.routes draft.old }
     requires movable { movable.now
         ≡ movable_names problem.now pins.now.routes (draft_of draft.old) }
     ensures is { OnOk result (IsDraftOf problem.now pins.now.routes draft.new) }
     ensures base { OnOk result (base_of draft.new ≡ base_of draft.old) }
-    ensures made { IfOk result (λ made. IsMadeIfNear problem.now deviation best.now
-        (exchanged_by problem.now pins.now.routes (draft_of draft.old) first second) made
-        draft.old draft.new) }
+    ensures made { IfOk result (λ made.
+        IsMadeIfNear problem.now near.now.deviation near.now.best.now
+        (exchanged_by problem.now pins.now.routes (draft_of draft.old) (slice_index words.now 1)
+        (slice_index words.now 2)) made draft.old draft.new) }
 {
-    let Some(a) = picked(first, movable) else {
+    let Some(a) = picked(words[1], movable) else {
         return Ok(false);
     };
-    let Some(b) = picked(second, movable) else {
+    let Some(b) = picked(words[2], movable) else {
         return Ok(false);
     };
-    exchange_if_near(problem, pins, draft, a, b, deviation, best)
-}
-
-#[tactic(auto, using(crate::proofs::WalkLemmas::made_near, crate::proofs::WalkLemmas::foreseen_far))]
-fn exchange_if_near(
-    problem: &Problem,
-    pins: &Pins,
-    draft: &mut Draft,
-    a: u32,
-    b: u32,
-    deviation: u32,
-    best: &Cost,
-) -> Result<bool, OutOfMemory>
-    requires { IsDraftOf problem.now pins.now.routes draft.old }
-    ensures is { OnOk result (IsDraftOf problem.now pins.now.routes draft.new) }
-    ensures base { OnOk result (base_of draft.new ≡ base_of draft.old) }
-    ensures made { IfOk result (λ made. IsMadeIfNear problem.now deviation best.now
-        (exchanged problem.now pins.now.routes (draft_of draft.old) a b) made
-        draft.old draft.new) }
-{
-    if is_far(deviation, draft.cost_exchanged(problem, pins, a, b), best) {
+    if near.is_far(draft.cost_exchanged(problem, pins, a, b)) {
         return Ok(false);
     }
     draft.exchange(problem, pins, a, b)
 }
 
 // Two routes exchange what stands behind their cuts, unless the draft is seen to be far from the incumbent then.
+#[tactic(auto, using(crate::proofs::WalkLemmas::made_near, crate::proofs::WalkLemmas::foreseen_far))]
 fn cross(
     alloc: Global,
     problem: &Problem,
     pins: &Pins,
     draft: &mut Draft,
     words: &[u32; 16],
-    deviation: u32,
-    best: &Cost,
+    near: &Near,
 ) -> Result<bool, OutOfMemory>
-    requires draft { IsDraftOf problem.now pins.now.routes draft.old }
+    requires { IsDraftOf problem.now pins.now.routes draft.old }
     ensures is { OnOk result (IsDraftOf problem.now pins.now.routes draft.new) }
     ensures base { OnOk result (base_of draft.new ≡ base_of draft.old) }
-    ensures made { IfOk result (λ made. IsMadeIfNear problem.now deviation best.now
+    ensures made { IfOk result (λ made.
+        IsMadeIfNear problem.now near.now.deviation near.now.best.now
         (crossed_by problem.now pins.now.routes (draft_of draft.old) words.now) made
         draft.old draft.new) }
 {
@@ -164,46 +135,10 @@ fn cross(
     };
     let a_cut = cut(pins, draft, a, words[3]);
     let b_cut = cut(pins, draft, b, words[4]);
-    cross_if_near(problem, pins, draft, a, a_cut, b, b_cut, deviation, best)
-}
-
-#[tactic(auto, using(crate::proofs::WalkLemmas::made_near, crate::proofs::WalkLemmas::foreseen_far))]
-fn cross_if_near(
-    problem: &Problem,
-    pins: &Pins,
-    draft: &mut Draft,
-    a: u64,
-    a_cut: u64,
-    b: u64,
-    b_cut: u64,
-    deviation: u32,
-    best: &Cost,
-) -> Result<bool, OutOfMemory>
-    requires { IsDraftOf problem.now pins.now.routes draft.old }
-    ensures is { OnOk result (IsDraftOf problem.now pins.now.routes draft.new) }
-    ensures base { OnOk result (base_of draft.new ≡ base_of draft.old) }
-    ensures made { IfOk result (λ made. IsMadeIfNear problem.now deviation best.now
-        (crossed problem.now pins.now.routes (draft_of draft.old) a a_cut b b_cut) made
-        draft.old draft.new) }
-{
-    if is_far(
-        deviation,
-        draft.cost_crossed(problem, pins, a, a_cut, b, b_cut),
-        best,
-    ) {
+    if near.is_far(draft.cost_crossed(problem, pins, a, a_cut, b, b_cut)) {
         return Ok(false);
     }
     draft.cross(problem, pins, a, a_cut, b, b_cut)
-}
-
-// Whether a draft of this cost, where it is foreseen, is not near the incumbent.
-fn is_far(deviation: u32, cost: Option<Cost>, best: &Cost) -> bool
-    ensures { IsTrue result → IsSomeAnd cost (λ k. is_near deviation k best.now ≡ false) }
-{
-    match cost {
-        Some(cost) => !is_near(deviation, &cost, best),
-        None => false,
-    }
 }
 
 // Behind how many stops the word cuts the route of a vehicle; never within its pin.

@@ -2,7 +2,8 @@
 //! 1993).
 //!
 //! The candidate stands in a draft over the working plan (`move_ops::Draft`) and is taken or dropped; no plan
-//! is copied for it. One that costs no more than the incumbent is near it, so one `take` serves both plans.
+//! is copied for it. An exchange or a crossing that is foreseen to be far is no candidate: the step ends before a
+//! route changes. One that costs no more than the incumbent is near it, so one `take` serves both plans.
 //! The lists of movable and of unplanned requests stay where none is unplanned before and after a candidate
 //! is taken, since both plans then plan all requests, and where the candidate is the plan that it was made of;
 //! else they are filled anew.
@@ -10,11 +11,12 @@ ghost use Rattle.std.specs.Prelude.{◌≡◌, true, IfOk, OnOk};
 ghost use Rattle.route_sched.specs.Cost.{cost_of};
 ghost use Rattle.plan_audit.specs.Passes.{passes};
 ghost use Rattle.move_ops.specs.Drafts.{base_of, draft_of, IsDraftOf};
-ghost use Rattle.seeded_search.specs.Steps.{walked, candidate, is_near, moved_on, moved_on_by};
+ghost use Rattle.seeded_search.specs.Steps.{walked, candidate, moved_on, moved_on_by};
 ghost use Rattle.seeded_search.specs.Working.{KeepsWalk, IsWalk, AreListsOf, HasFollowed, HasTaken, walked_by};
 
 use crate::incumbent::follow;
 use crate::lists::Lists;
+use crate::near::{Near, is_near};
 use crate::operators::make;
 use crate::search::Found;
 use move_ops::Draft;
@@ -83,6 +85,10 @@ impl Walk {
             (candidate problem.now pins.now.routes (base_of self.old.draft) words.now)) }
         ensures walk { OnOk result (IsWalk problem.now pins.now.routes self.new) }
     {
+        let near = Near {
+            deviation,
+            best: &self.best,
+        };
         if !make(
             alloc,
             problem,
@@ -90,8 +96,7 @@ impl Walk {
             &mut self.draft,
             &self.lists,
             words,
-            deviation,
-            &self.best,
+            &near,
         )? {
             return Ok(());
         }
@@ -194,17 +199,4 @@ impl Walk {
             work: self.draft.plan(alloc)?,
         })
     }
-}
-
-/// Whether a plan of this cost may be walked on from beside one of that cost.
-pub fn is_near(deviation: u32, cost: &Cost, best: &Cost) -> bool
-    ensures { result ≡ is_near deviation cost.now best.now }
-{
-    if cost.unplanned != best.unplanned {
-        return cost.unplanned < best.unplanned;
-    }
-    if cost.vehicles != best.vehicles {
-        return cost.vehicles < best.vehicles;
-    }
-    cost.distance.saturating_sub(best.distance) <= u64::from(deviation)
 }
