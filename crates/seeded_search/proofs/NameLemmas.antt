@@ -2,9 +2,9 @@
 use Rattle.std.proofs.Common.{◌≡◌, ℕ, zero, suc, ◌+◌, ◌-◌, ◌<◌, ◌≤◌, ◌==◌, ◌&&◌, not, Bool, true, false, cond, List, [], ◌∷◌, ◌++◌, length, drop, filter, map, Some, None, slice_get, refl, sym, ap, ◌∙◌, inl, inr, arith}
 use Rattle.std.specs.List.{range_with_len}
 use Rattle.std.specs.Option.{option_and_then}
-use Rattle.std.proofs.lemmas.Bool.{cases_Bool}
+use Rattle.std.proofs.lemmas.Bool.{cases_Bool, not-false}
 use Rattle.std.proofs.lemmas.List.Sums.{length-filter}
-use Rattle.std.proofs.lemmas.List.{append-nil, append_assoc, drop_all, drop_more}
+use Rattle.std.proofs.lemmas.List.{append-nil, append_assoc, drop_all, drop_more, nil_from_length}
 use Rattle.std.proofs.lemmas.Option.{slice_get_cases}
 use Rattle.plan_types.specs.Instance.{Instance}
 use Rattle.plan_types.specs.declared.requests.Request.{Request}
@@ -79,16 +79,8 @@ names_same f g (e ∷ es) same =
     ∙ (ap (λ b. cond b (e.0 ∷ names_where f es) (names_where f es)) (same zero e.0 e.1 refl)
     ∙ (ap (λ ns. cond (g e.1) (e.0 ∷ ns) ns) (names_same f g es (λ k. same (suc k))) ∙ sym (first_name g e es)))
 
-not_false : (b : Bool) → not b ≡ false → b ≡ true
-not_false true h = refl
-not_false false h = absurd (let k : true ≡ false = h in cc)
-
 cons_none : {X : Type 0} (x : X) (xs : List X) → x ∷ xs ≡ [] → ⊥
 cons_none x xs h = cc
-
-pub no_items : {X : Type 0} (xs : List X) → length xs ≡ 0 → xs ≡ []
-no_items [] h = refl
-no_items (x ∷ xs) h = absurd (omega arith)
 
 -- where no request passes a test, each fails it
 none_named : (test : Request → Bool) (es : List (ℕ × Request)) → names_where test es ≡ [] → (k name : ℕ) (r : Request) → slice_get es k ≡ Some (name, r) → test r ≡ false
@@ -107,7 +99,7 @@ none_named test (e ∷ es) none k name r at = elim (cases_Bool (test e.1)) [
 module _ (p : Instance) where
   pub none_unplanned : (routes : List (List ℕ)) → unplanned_count p routes ≡ 0 → unplanned_names p routes ≡ []
   none_unplanned routes none =
-      ap (map (λ (e : ℕ × Request). e.0)) (no_items (filter (λ (e : ℕ × Request). not (is_planned routes e.1)) p.requests) (length-filter (λ (e : ℕ × Request). not (is_planned routes e.1)) p.requests ∙ none))
+      ap (map (λ (e : ℕ × Request). e.0)) (nil_from_length (filter (λ (e : ℕ × Request). not (is_planned routes e.1)) p.requests) (length-filter (λ (e : ℕ × Request). not (is_planned routes e.1)) p.requests ∙ none))
 
   -- two plans without an unplanned request have the same list of movable ones
   pub movable_stay : (pins old new : List (List ℕ)) → unplanned_names p old ≡ [] → unplanned_names p new ≡ [] → movable_names p pins old ≡ movable_names p pins new
@@ -115,8 +107,8 @@ module _ (p : Instance) where
       names_same (is_movable pins old) (is_movable pins new) p.requests
       (λ k name r at.
       ap (λ b. b && not (is_planned pins r))
-      (not_false (is_planned old r) (none_named (λ r. not (is_planned old r)) p.requests before k name r at)
-      ∙ sym (not_false (is_planned new r) (none_named (λ r. not (is_planned new r)) p.requests after k name r at))))
+      (not-false (is_planned old r) (none_named (λ r. not (is_planned old r)) p.requests before k name r at)
+      ∙ sym (not-false (is_planned new r) (none_named (λ r. not (is_planned new r)) p.requests after k name r at))))
 
 -- the used vehicles from an index on
 abbrev is_used : List (List ℕ) → ℕ → Bool

@@ -1,9 +1,10 @@
 use Rattle.std.proofs.Common.{rules, ◌≡◌, [], length, sym, subst, ◌∙◌}
+use Rattle.std.proofs.lemmas.List.{nil_from_length}
 use Rattle.route_sched.specs.Cost.{unplanned_count}
 use Rattle.move_ops.specs.Drafts.{base_of, draft_of}
 use Rattle.seeded_search.specs.Steps.{unplanned_names}
 use Rattle.seeded_search.specs.Working.{AreListsOf}
-use Rattle.seeded_search.proofs.NameLemmas.{no_items, none_unplanned, movable_stay}
+use Rattle.seeded_search.proofs.NameLemmas.{none_unplanned, movable_stay}
 use Rattle.seeded_search.proofs.walk.Walk.take.Goals as goal
 
 -- where both plans leave no request out, the lists stay
@@ -14,7 +15,7 @@ returns-then-is_empty c =
     let new = draft_of c.args.self.now.draft in
     let empty : length c.args.self.now.lists.unplanned.items ≡ 0 = search rules in
     let none : unplanned_count p new ≡ 0 = search rules in
-    let before : unplanned_names p old ≡ [] = sym c.requires.lists.unplanned ∙ no_items c.args.self.now.lists.unplanned.items empty in
+    let before : unplanned_names p old ≡ [] = sym c.requires.lists.unplanned ∙ nil_from_length c.args.self.now.lists.unplanned.items empty in
     let after : unplanned_names p new ≡ [] = none_unplanned p new none in
     record {
       base = c.take.ensures.base;
