@@ -1,5 +1,5 @@
 -- What annealing steps keep, proved.
-use Rattle.std.proofs.Common.{◌≡◌, ℕ, zero, suc, ◌+◌, ◌-◌, ◌<◌, ◌==◌, Bool, true, false, cond, List, length, slice_index, Option, Some, None, IsTrue, refl, sym, ap, subst, ◌∙◌, inl, inr, arith, eqb}
+use Rattle.std.proofs.Common.{◌≡◌, ℕ, ◌==◌, Bool, true, false, cond, List, length, slice_index, Option, Some, None, IsTrue, refl, sym, ap, subst, ◌∙◌, eqb}
 use Rattle.std.specs.Option.{option_map}
 use Rattle.std.proofs.lemmas.Bool.{both_ways, eq-eqb}
 use Rattle.plan_types.specs.Cost.{cost_at_most, CostsAreTotal, CostsAreTransitive}
@@ -9,23 +9,18 @@ use Rattle.plan_types.specs.declared.plans.Plan.{Plan}
 use Rattle.route_sched.specs.Cost.{cost_of}
 use Rattle.move_ops.specs.Moves.{removed}
 use Rattle.move_ops.specs.Drafts.{Drafted, base_of, draft_of, IsMade}
+use Rattle.move_ops.proofs.Times.{none_some, some_same}
 use Rattle.seeded_search.specs.Words.{step_words}
 use Rattle.seeded_search.specs.Steps.{unplanned_names, is_near}
 use Rattle.seeded_search.specs.StepLaws.{BothPass}
 use Rattle.seeded_search.specs.Working.{walked_by, HasTaken}
 use Rattle.seeded_search.specs.declared.walk.Walk.{Walk}
-use Rattle.seeded_search.proofs.WalkLemmas.{Passes, removed_passes, placed_all_passes, noted_walk, taken_walk}
+use Rattle.seeded_search.proofs.WalkLemmas.{Passes, removed_passes, placed_all_passes, same_cost, many_add_up, many_keep, many_cost, noted_walk, taken_walk}
 use Rattle.anneal_search.specs.Orders.{ordered}
 use Rattle.anneal_search.specs.Strings.{ruined_names}
 use Rattle.anneal_search.specs.Annealing.{Walked, walked, recreated, candidate, annealed, annealed_by, anneal_step, anneal_steps}
 use Rattle.anneal_search.specs.AnnealLaws.{AnnealStepsAddUp, AnnealStepsKeepPassing, AnnealedNeverCostMore}
 use Rattle.anneal_search.specs.Going.{HasImproved, IsGoing}
-
-none_some : {X : Type 0} (x : X) → None ≡ Some x → ⊥
-none_some x h = cc
-
-some_same : {X : Type 0} (x y : X) → Some x ≡ Some y → x ≡ y
-some_same x y h = cc
 
 -- ---- the candidate
 module _ (p : Instance) (pins routes : List (List ℕ)) (words names : List ℕ) (ruined : names ≡ ruined_names p pins routes words) where
@@ -76,32 +71,8 @@ module _ (p : Instance) (pins : List (List ℕ)) (deviation : ℕ) (old improved
     work = cost_is ∙ ap (cost_of p) (sym base_is);
   }
 
--- ---- many steps
+-- ---- steps
 module _ (p : Instance) (pins : List (List ℕ)) (deviation seed : ℕ) where
-  pub walked_more : (n count k : ℕ) (s new : Walked) (words : List ℕ) (key number : ℕ) (all : Walked) → anneal_steps p pins deviation seed (n + k) (count - k) s ≡ all → k < count
-      → words ≡ step_words key number → key ≡ seed → number ≡ n + k → new ≡ annealed_by p deviation s (candidate p pins s.working words) → anneal_steps p pins deviation seed (n + (k + 1)) (count - (k + 1)) new ≡ all
-  unfolding anneal_step anneal_steps
-  walked_more n count k s new words key number all so_far within is_words is_seed is_number made =
-      let one : count - k ≡ suc (count - (k + 1)) = omega arith in
-      let there : n + k + 1 ≡ n + (k + 1) = omega arith in
-      let same : new ≡ anneal_step p pins deviation seed (n + k) s =
-      made ∙ ap (λ ws. annealed_by p deviation s (candidate p pins s.working ws)) (is_words ∙ (ap (λ x. step_words x number) is_seed ∙ ap (step_words seed) is_number)) in
-      ap (λ m. anneal_steps p pins deviation seed m (count - (k + 1)) new) (sym there)
-      ∙ (ap (λ t. anneal_steps p pins deviation seed (n + k + 1) (count - (k + 1)) t) same ∙ (ap (λ m. anneal_steps p pins deviation seed (n + k) m s) (sym one) ∙ so_far))
-
-  steps_more : (b a n : ℕ) (s : Walked) → anneal_steps p pins deviation seed n (a + b) s ≡ anneal_steps p pins deviation seed (n + a) b (anneal_steps p pins deviation seed n a s)
-  unfolding anneal_steps
-  steps_more b zero n s =
-      let none : 0 + b ≡ b = omega arith in
-      let here : n ≡ n + 0 = omega arith in
-      ap (λ k. anneal_steps p pins deviation seed n k s) none ∙ ap (λ m. anneal_steps p pins deviation seed m b s) here
-  steps_more b (suc a) n s =
-      let one : suc a + b ≡ suc (a + b) = omega arith in
-      let there : n + 1 + a ≡ n + suc a = omega arith in
-      ap (λ k. anneal_steps p pins deviation seed n k s) one
-      ∙ steps_more b a (n + 1) (anneal_step p pins deviation seed n s)
-      ∙ ap (λ m. anneal_steps p pins deviation seed m b (anneal_steps p pins deviation seed (n + 1) a (anneal_step p pins deviation seed n s))) there
-
   -- what a candidate's plan passes
   recreated_passes : (w : ℕ) (left : List (List ℕ)) → Passes p pins left → Passes p pins (recreated p pins w left)
   recreated_passes w left pass = placed_all_passes p pins (ordered p w (unplanned_names p left)) left pass
@@ -133,44 +104,28 @@ module _ (p : Instance) (pins : List (List ℕ)) (deviation seed : ℕ) where
       by None e = both
       by (Some c) e = annealed_passes s c (candidate_passes s.working (step_words seed n) c e) both
 
-  steps_pass : (count n : ℕ) (s : Walked) → BothPass p pins s → BothPass p pins (anneal_steps p pins deviation seed n count s)
-  unfolding anneal_steps
-  steps_pass zero n s both = both
-  steps_pass (suc count) n s both = steps_pass count (n + 1) (anneal_step p pins deviation seed n s) (step_passes n s both)
+  step_cost : CostsAreTotal → (n : ℕ) (s : Walked) → IsTrue (cost_at_most (cost_of p (anneal_step p pins deviation seed n s).incumbent) (cost_of p s.incumbent))
+  unfolding anneal_step
+  step_cost total n s = by (candidate p pins s.working (step_words seed n))
+    where
+      either : (c : List (List ℕ)) (near less : Bool) → cost_at_most (cost_of p c) (cost_of p s.incumbent) ≡ less
+          → IsTrue (cost_at_most (cost_of p (cond near (walked (cond less c s.incumbent) c) s).incumbent) (cost_of p s.incumbent))
+      either c true true e = e
+      either c true false e = same_cost total (cost_of p s.incumbent)
+      either c false less e = same_cost total (cost_of p s.incumbent)
 
-  module _ (total : CostsAreTotal) (transitive : CostsAreTransitive) where
-    same_cost : (a : Cost) → IsTrue (cost_at_most a a)
-    same_cost a = elim (total a a) [ inl t ↦ t | inr t ↦ t ]
-
-    annealed_cost : (s : Walked) (c : List (List ℕ)) → IsTrue (cost_at_most (cost_of p (annealed p deviation s c).incumbent) (cost_of p s.incumbent))
-    annealed_cost s c = by (is_near deviation (cost_of p c) (cost_of p s.working)) (cost_at_most (cost_of p c) (cost_of p s.incumbent)) refl
-      where
-        by : (near less : Bool) → cost_at_most (cost_of p c) (cost_of p s.incumbent) ≡ less
-            → IsTrue (cost_at_most (cost_of p (cond near (walked (cond less c s.incumbent) c) s).incumbent) (cost_of p s.incumbent))
-        by true true e = e
-        by true false e = same_cost (cost_of p s.incumbent)
-        by false less e = same_cost (cost_of p s.incumbent)
-
-    step_cost : (n : ℕ) (s : Walked) → IsTrue (cost_at_most (cost_of p (anneal_step p pins deviation seed n s).incumbent) (cost_of p s.incumbent))
-    unfolding anneal_step
-    step_cost n s = by (candidate p pins s.working (step_words seed n))
-      where
-        by : (o : Option (List (List ℕ))) → IsTrue (cost_at_most (cost_of p (annealed_by p deviation s o).incumbent) (cost_of p s.incumbent))
-        by None = same_cost (cost_of p s.incumbent)
-        by (Some c) = annealed_cost s c
-
-    steps_cost : (count n : ℕ) (s : Walked) → IsTrue (cost_at_most (cost_of p (anneal_steps p pins deviation seed n count s).incumbent) (cost_of p s.incumbent))
-    unfolding anneal_steps
-    steps_cost zero n s = same_cost (cost_of p s.incumbent)
-    steps_cost (suc count) n s =
-        transitive (cost_of p (anneal_steps p pins deviation seed (n + 1) count (anneal_step p pins deviation seed n s)).incumbent) (cost_of p (anneal_step p pins deviation seed n s).incumbent) (cost_of p s.incumbent)
-        (steps_cost count (n + 1) (anneal_step p pins deviation seed n s)) (step_cost n s)
+      by : (o : Option (List (List ℕ))) → IsTrue (cost_at_most (cost_of p (annealed_by p deviation s o).incumbent) (cost_of p s.incumbent))
+      by None = same_cost total (cost_of p s.incumbent)
+      by (Some c) = either c (is_near deviation (cost_of p c) (cost_of p s.working)) (cost_at_most (cost_of p c) (cost_of p s.incumbent)) refl
 
 pub anneal_steps_add_up : AnnealStepsAddUp
-anneal_steps_add_up p pins deviation seed n a b s = steps_more p pins deviation seed b a n s
+unfolding anneal_steps
+anneal_steps_add_up p pins deviation seed n a b s = many_add_up (anneal_step p pins deviation seed) b a n s
 
 pub anneal_steps_keep_passing : AnnealStepsKeepPassing
-anneal_steps_keep_passing p pins deviation seed n count s both = steps_pass p pins deviation seed count n s both
+unfolding anneal_steps
+anneal_steps_keep_passing p pins deviation seed n count s both = many_keep (anneal_step p pins deviation seed) (BothPass p pins) (step_passes p pins deviation seed) count n s both
 
 pub annealed_never_cost_more : CostsAreTotal → CostsAreTransitive → AnnealedNeverCostMore
-annealed_never_cost_more total transitive p pins deviation seed n count s = steps_cost p pins deviation seed total transitive count n s
+unfolding anneal_steps
+annealed_never_cost_more total transitive p pins deviation seed n count s = many_cost (anneal_step p pins deviation seed) p total transitive (step_cost p pins deviation seed total) count n s

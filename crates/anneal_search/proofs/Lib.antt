@@ -5,7 +5,7 @@ mod MissingLemmas
 mod NearLemmas
 mod NearestLemmas
 mod OrderLemmas
-mod SortLemmas
+pub mod SortLemmas
 mod StopLemmas
 mod StringExamples
 mod StringLemmas

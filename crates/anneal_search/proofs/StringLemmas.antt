@@ -1,7 +1,8 @@
 -- Stops and used routes, counted up to the front.
-use Rattle.std.proofs.Common.{◌≡◌, ℕ, zero, suc, ◌+◌, ◌<◌, ◌==◌, not, cond, List, [], ◌∷◌, length, drop, get_or, refl, sym, ap, ◌∙◌, arith, add-one}
+use Rattle.std.proofs.Common.{◌≡◌, ℕ, zero, suc, ◌+◌, ◌<◌, ◌≤◌, ◌==◌, Bool, true, false, not, cond, List, [], ◌∷◌, length, drop, get_or, refl, sym, ap, ◌∙◌, arith, add-one}
+use Rattle.std.specs.Int.{from_bool}
 use Rattle.std.specs.List.{concat}
-use Rattle.std.proofs.lemmas.List.{drop_more, length-append}
+use Rattle.std.proofs.lemmas.List.{drop_more, length-append, nil_from_length}
 use Rattle.std.proofs.lemmas.List.Sums.{sum_by-cons}
 use Rattle.std.proofs.lemmas.Option.{unwrap_or-slice_get}
 use Rattle.route_sched.specs.Cost.{used_count}
@@ -13,10 +14,6 @@ route_at plan k = rw (add-one k) (unwrap_or-slice_get plan k [])
 
 drop_at : (routes : List (List ℕ)) (k : ℕ) → k < length routes → drop k routes ≡ of_vehicle routes (k + 1) ∷ drop (k + 1) routes
 drop_at routes k within = drop_more routes k [] within ∙ ap (λ r. r ∷ drop (k + 1) routes) (sym (route_at routes k))
-
-no_stops : (route : List ℕ) → length route ≡ 0 → route ≡ []
-no_stops [] none = refl
-no_stops (n ∷ route) none = absurd (omega arith)
 
 later : (r : List ℕ) (routes : List (List ℕ)) (k j : ℕ) → j < k + 2 → AreIdleBehind j (r ∷ routes) → AreIdleBehind k routes
 later r routes k j low idle zero above = refl
@@ -47,6 +44,17 @@ stops_end routes front count all idle so_far = let e = none_left routes front id
 abbrev pub used : List ℕ → ℕ
 used route = cond (not (length route == 0)) 1 0
 
+pub used_is : (b : Bool) → from_bool (not b) ≡ cond (not b) 1 0
+used_is true = refl
+used_is false = refl
+
+pub used_most : (route : List ℕ) → used route ≤ 1
+used_most route = by (length route == 0)
+  where
+    by : (b : Bool) → cond (not b) 1 0 ≤ 1
+    by true = omega arith
+    by false = omega arith
+
 pub used_more : (routes : List (List ℕ)) (k count new all : ℕ) → k < length routes → new ≡ count + used (of_vehicle routes (k + 1)) → count + used_count (drop k routes) ≡ all
     → new + used_count (drop (k + 1) routes) ≡ all
 used_more routes k count new all within made so_far =
@@ -59,7 +67,7 @@ none_used [] zero idle = refl
 none_used [] (suc front) idle = refl
 none_used (r ∷ routes) zero idle =
     let e = sum_by-cons used r routes in
-    let here : used r ≡ 0 = ap used (no_stops r (idle (suc zero) (omega arith))) in
+    let here : used r ≡ 0 = ap used (nil_from_length r (idle (suc zero) (omega arith))) in
     let rest : used_count routes ≡ 0 = none_used routes zero (later r routes zero zero (omega arith) idle) in
     e ∙ (let sum : used r + used_count routes ≡ 0 = omega arith in sum)
 none_used (r ∷ routes) (suc front) idle = none_used routes front (later r routes front (suc front) (omega arith) idle)

@@ -1,14 +1,14 @@
 -- One annealing step, and many: strings of neighbouring stops are taken out and put in again (Christiaens and Vanden Berghe 2020), under
 -- threshold accepting (Dueck and Scheuer 1990), which compares with the working plan. A step is a function of the plans, the deviation,
 -- the seed and its number alone.
-use Rattle.std.specs.Prelude.{ℕ, zero, suc, ◌+◌, ◌==◌, List, length, Option, Some, None, slice_index, if◌then◌else◌}
+use Rattle.std.specs.Prelude.{ℕ, ◌==◌, List, length, Option, Some, None, slice_index, if◌then◌else◌}
 use Rattle.std.specs.Option.{option_map}
 use Rattle.plan_types.specs.Cost.{cost_at_most}
 use Rattle.plan_types.specs.Instance.{Instance}
 use Rattle.route_sched.specs.Cost.{cost_of}
 use Rattle.move_ops.specs.Moves.{removed}
 use Rattle.seeded_search.specs.Words.{step_words}
-use Rattle.seeded_search.specs.Steps.{unplanned_names, placed_all, is_near}
+use Rattle.seeded_search.specs.Steps.{unplanned_names, placed_all, is_near, many}
 pub use Rattle.seeded_search.specs.Steps.{Walked, walked}
 use Rattle.anneal_search.specs.Orders.{ordered}
 use Rattle.anneal_search.specs.Strings.{ruined_names}
@@ -40,5 +40,4 @@ anneal_step p pins deviation seed n s = annealed_by p deviation s (candidate p p
 
 -- so many steps from number n on
 unfoldable pub anneal_steps : Instance → List (List ℕ) → ℕ → ℕ → ℕ → ℕ → Walked → Walked
-anneal_steps p pins deviation seed n zero s = s
-anneal_steps p pins deviation seed n (suc count) s = anneal_steps p pins deviation seed (n + 1) count (anneal_step p pins deviation seed n s)
+anneal_steps p pins deviation seed n count s = many (anneal_step p pins deviation seed) n count s

@@ -1,5 +1,5 @@
 -- What the loops of a step go by, and what annealing keeps of its plans from step to step.
-use Rattle.std.specs.Prelude.{◌≡◌, ℕ, suc, ◌+◌, ◌-◌, nat_lt, ◌<◌, ◌≤◌, Bool, List, [], ◌∷◌, Option, Some, None, IfSome, IsTrue, length, slice_get, if◌then◌else◌}
+use Rattle.std.specs.Prelude.{◌≡◌, ℕ, ◌+◌, ◌-◌, nat_lt, ◌<◌, ◌≤◌, Bool, List, [], ◌∷◌, Option, Some, None, IfSome, IsTrue, length, slice_get, if◌then◌else◌}
 use Rattle.std.specs.Option.{option_or}
 use Rattle.plan_types.specs.Cost.{cost_at_most}
 use Rattle.plan_types.specs.Instance.{Instance}
@@ -13,11 +13,6 @@ use Rattle.anneal_search.specs.Nearest.{is_nearer, near}
 use Rattle.anneal_search.specs.declared.routes.Near.{Near}
 use Rattle.anneal_search.specs.declared.strings.Cut.{Cut}
 use Rattle.anneal_search.specs.declared.search.Annealing.{Annealing}
-
--- the index of the first item that passes, or the length
-abbrev pub first_place : {X : Type 0} → (X → Bool) → List X → ℕ
-first_place test [] = 0
-first_place test (x ∷ xs) = if test x then 0 else suc (first_place test xs)
 
 -- of these, the last where they are so many
 abbrev pub limit_of : ℕ → List Near → Option Near

@@ -1,6 +1,6 @@
 //! The requests that are unplanned once some are taken out of a plan, without a look at all others.
 ghost use Rattle.std.specs.Prelude.{◌≡◌, ◌≤◌, IfOk, OnOk, length, nat_le};
-ghost use Rattle.anneal_search.specs.Going.{first_place};
+ghost use Rattle.anneal_search.specs.Sorting.{first_place};
 ghost use Rattle.anneal_search.specs.Missing.{put_name, with_names};
 
 use plan_types::OutOfMemory;

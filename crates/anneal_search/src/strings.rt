@@ -120,9 +120,7 @@ fn totals_of(draft: &Draft) -> Totals
     for index in 0..draft.front() {
         let route = draft.route(index + 1);
         stops += route.len() as u128;
-        if !route.is_empty() {
-            used += 1;
-        }
+        used += u64::from(!route.is_empty());
     }
     Totals { stops, used }
 }

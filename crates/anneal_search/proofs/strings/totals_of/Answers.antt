@@ -1,11 +1,10 @@
-use Rattle.std.proofs.Common.{rules, ◌≡◌, ◌+◌, ◌<◌, ◌==◌, not, true, false, length, ap, subst, arith, cond}
+use Rattle.std.proofs.Common.{rules, ◌≡◌, ◌+◌, ◌<◌, ◌==◌, not, length, ap, subst, arith, cond, ◌∙◌}
 use Rattle.std.specs.List.{concat}
 use Rattle.route_sched.specs.Cost.{used_count}
 use Rattle.move_ops.specs.Insertion.{of_vehicle}
 use Rattle.move_ops.specs.Drafts.{draft_of, AreIdleBehind}
-use Rattle.anneal_search.proofs.StringLemmas.{stops_more, stops_end, used, used_more, used_end}
+use Rattle.anneal_search.proofs.StringLemmas.{stops_more, stops_end, used, used_is, used_more, used_most, used_end}
 use Rattle.anneal_search.proofs.strings.totals_of.Goals as goal
-use Rattle.anneal_search.proofs.strings.totals_of.Goals.{then-not-is_empty, else-not-is_empty}
 
 pub loop-index-preserved : goal.loop-index-preserved
 loop-index-preserved c =
@@ -15,28 +14,14 @@ loop-index-preserved c =
     let within : c.loop-index.index < length routes = omega arith in
     let long : length c.route-route.result.now ≡ length (of_vehicle routes (c.loop-index.index + 1)) = ap length c.route-route.ensures in
     let more = stops_more routes c.loop-index.index c.loop-index.stops (length (concat routes)) within c.loop-index.invariant.stops in
-    elim c.if-not-is_empty.branch [
-      | then-not-is_empty w ↦ (
-          let is : (length (of_vehicle routes (c.loop-index.index + 1)) == 0) ≡ false = search rules in
-          let one : used (of_vehicle routes (c.loop-index.index + 1)) ≡ 1 = ap (λ b. cond (not b) 1 0) is in
-          let made : c.if-not-is_empty.used ≡ c.loop-index.used + used (of_vehicle routes (c.loop-index.index + 1)) = omega (arith, w.used-is) in
-          record {
-            stops = omega arith;
-            stops_bound = omega (arith, c.loop-index.invariant.stops_bound, c.route-route.type_inv);
-            used = used_more routes c.loop-index.index c.loop-index.used c.if-not-is_empty.used (used_count routes) within made c.loop-index.invariant.used;
-            used_bound = omega (arith, w.used-is, c.loop-index.invariant.used_bound);
-          })
-      | else-not-is_empty w ↦ (
-          let is : (length (of_vehicle routes (c.loop-index.index + 1)) == 0) ≡ true = search rules in
-          let none : used (of_vehicle routes (c.loop-index.index + 1)) ≡ 0 = ap (λ b. cond (not b) 1 0) is in
-          let made : c.if-not-is_empty.used ≡ c.loop-index.used + used (of_vehicle routes (c.loop-index.index + 1)) = omega (arith, w.used-is) in
-          record {
-            stops = omega arith;
-            stops_bound = omega (arith, c.loop-index.invariant.stops_bound, c.route-route.type_inv);
-            used = used_more routes c.loop-index.index c.loop-index.used c.if-not-is_empty.used (used_count routes) within made c.loop-index.invariant.used;
-            used_bound = omega (arith, w.used-is, c.loop-index.invariant.used_bound);
-          })
-    ]
+    let one : c.from-used.result ≡ used c.route-route.result.now = c.from-used.ensures ∙ (used_is c.is_empty.result ∙ ap (λ b. cond (not b) 1 0) c.is_empty.ensures) in
+    let more_used : c.loop-index.used + c.from-used.result ≡ c.loop-index.used + used (of_vehicle routes (c.loop-index.index + 1)) = ap (λ n. c.loop-index.used + n) (one ∙ ap used c.route-route.ensures) in
+    record {
+      stops = omega arith;
+      stops_bound = omega (arith, c.loop-index.invariant.stops_bound, c.route-route.type_inv);
+      used = used_more routes c.loop-index.index c.loop-index.used (c.loop-index.used + c.from-used.result) (used_count routes) within more_used c.loop-index.invariant.used;
+      used_bound = omega (arith, c.loop-index.invariant.used_bound, one, used_most c.route-route.result.now);
+    }
 
 pub returns-clause-stops : goal.returns-clause-stops
 returns-clause-stops c =
