@@ -1,3 +1,2 @@
 mod FleetLemmas
 mod PassLemmas
-mod SortLemmas

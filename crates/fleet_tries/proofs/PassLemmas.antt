@@ -25,7 +25,7 @@ use Rattle.move_ops.proofs.Times.{none_some, once_few, once_from, once_live, tim
 use Rattle.fleet_tries.specs.Fleets.{is_longer, longest_routes, with_fleet, with_vehicles}
 use Rattle.fleet_tries.specs.Laws.{LongestRoutesPass, NoPinsAreFeasible, SmallerFleetsPass, SmallerFleetsUseFewer}
 use Rattle.anneal_search.specs.Sorting.{put, put_all, sorted}
-use Rattle.fleet_tries.proofs.SortLemmas.{all_put_all, length_put_all}
+use Rattle.anneal_search.proofs.SortLemmas.{all_put_all, length_put_all}
 
 -- ---- how often a number stands
 
