@@ -1,4 +1,4 @@
-use Rattle.std.proofs.Common.{rules, ◌≡◌, ◌+◌, ◌<◌, ◌==◌, not, length, ap, subst, arith, cond, ◌∙◌}
+use Rattle.std.proofs.Common.{rules, ◌≡◌, ◌+◌, ◌<◌, not, length, ap, subst, arith, cond, ◌∙◌}
 use Rattle.std.specs.List.{concat}
 use Rattle.route_sched.specs.Cost.{used_count}
 use Rattle.move_ops.specs.Insertion.{of_vehicle}
