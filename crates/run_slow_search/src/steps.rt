@@ -24,7 +24,13 @@ pub(crate) fn step(
         plan: found.plan.copy()?,
         work: found.work.copy()?,
     };
-    let Some(candidate) = candidate(alloc, problem, pins, &found.work, words)? else {
+    let work = Work {
+        problem,
+        pins,
+        plan: &found.work,
+        words,
+    };
+    let Some(candidate) = work.candidate(alloc)? else {
         return Ok(new);
     };
     let Some(cost) = cost(alloc, problem, pins, &candidate)? else {
@@ -46,114 +52,117 @@ fn is_near(cost: &Cost, best: &Cost, deviation: u32) -> bool {
         || pair == best_pair && cost.distance <= best.distance.saturating_add(u64::from(deviation))
 }
 
-fn candidate(
-    alloc: Global,
-    problem: &Problem,
-    pins: &Pins,
-    work: &Plan,
-    words: &[u32; 16],
-) -> Result<Option<Plan>, OutOfMemory>
-    requires { passes problem.now pins.now.routes work.now.routes ≡ true }
-{
-    match picked(words[0], 4) {
-        0 => relocated(alloc, problem, pins, work, words),
-        1 => exchanged(alloc, problem, pins, work, words),
-        2 => crossed(alloc, problem, pins, work, words),
-        _ => recreated(alloc, problem, pins, work, words),
+/// A working plan, which passes, and the words of a step.
+#[derive(Drop)]
+struct Work<'a> {
+    problem: &'a Problem,
+    pins: &'a Pins,
+    plan: &'a Plan,
+    words: &'a [u32; 16],
+    ghost passing: { passes problem.now pins.now.routes plan.now.routes ≡ true },
+}
+
+impl Work<'_> {
+    fn candidate(&self, alloc: Global) -> Result<Option<Plan>, OutOfMemory> {
+        match picked(self.words[0], 4) {
+            0 => self.relocated(alloc),
+            1 => self.exchanged(alloc),
+            2 => self.crossed(alloc),
+            _ => self.recreated(alloc),
+        }
+    }
+
+    fn relocated(&self, alloc: Global) -> Result<Option<Plan>, OutOfMemory> {
+        let names = self.movable(alloc)?;
+        let Some(name) = names.get(picked(self.words[1], names.len())) else {
+            return Ok(None);
+        };
+        let Some(left) = remove(alloc, self.problem, self.pins, self.plan, &[*name])? else {
+            return Ok(None);
+        };
+        Ok(Some(self.placed(alloc, left, *name)?))
+    }
+
+    fn exchanged(&self, alloc: Global) -> Result<Option<Plan>, OutOfMemory> {
+        let names = self.movable(alloc)?;
+        let one = names.get(picked(self.words[1], names.len())).copied();
+        let other = names.get(picked(self.words[2], names.len())).copied();
+        let (Some(one), Some(other)) = (one, other) else {
+            return Ok(None);
+        };
+        exchange(alloc, self.problem, self.pins, self.plan, one, other)
+    }
+
+    fn crossed(&self, alloc: Global) -> Result<Option<Plan>, OutOfMemory> {
+        let mut used = Vec::new(alloc);
+        for (index, route) in self.plan.routes.as_slice().iter().enumerate() {
+            if !route.as_slice().is_empty() {
+                used.push(index)?;
+            }
+        }
+        let a = used.get(picked(self.words[1], used.len())).copied();
+        let b = used.get(picked(self.words[2], used.len())).copied();
+        let (Some(a), Some(b)) = (a, b) else {
+            return Ok(None);
+        };
+        two_opt_star(
+            alloc,
+            self.problem,
+            self.pins,
+            self.plan,
+            (a as u64).saturating_add(1),
+            cut(self.pins, self.plan, a, self.words[3]),
+            (b as u64).saturating_add(1),
+            cut(self.pins, self.plan, b, self.words[4]),
+        )
+    }
+
+    fn recreated(&self, alloc: Global) -> Result<Option<Plan>, OutOfMemory> {
+        let drawn = drawn(alloc, self.movable(alloc)?, self.words)?;
+        if drawn.is_empty() {
+            return Ok(None);
+        }
+        let Some(mut plan) = remove(alloc, self.problem, self.pins, self.plan, &drawn)? else {
+            return Ok(None);
+        };
+        for name in &drawn {
+            plan = self.placed(alloc, plan, *name)?;
+        }
+        let problem = self.problem;
+        for index in 0..problem.requests.len() {
+            if let Some((name, request)) = problem.requests.get_index(index) {
+                // Those drawn had their turn.
+                if !has(&self.plan.routes, request) {
+                    plan = self.placed(alloc, plan, *name)?;
+                }
+            }
+        }
+        Ok(Some(plan))
+    }
+
+    // The planned requests without a pinned stop, by rising name.
+    fn movable(&self, alloc: Global) -> Result<Vec<u32>, OutOfMemory> {
+        let problem = self.problem;
+        let mut names = Vec::new(alloc);
+        for index in 0..problem.requests.len() {
+            if let Some((name, request)) = problem.requests.get_index(index) {
+                if has(&self.plan.routes, request) && !has(&self.pins.routes, request) {
+                    names.push(*name)?;
+                }
+            }
+        }
+        Ok(names)
+    }
+
+    // The plan with the request put in where it is best, or as it is.
+    fn placed(&self, alloc: Global, plan: Plan, name: u32) -> Result<Plan, OutOfMemory> {
+        placed(alloc, self.problem, self.pins, plan, name)
     }
 }
 
 // One of so many things, from 0.
 fn picked(word: u32, things: usize) -> usize {
     ((u128::from(word) * things as u128) >> 32) as usize
-}
-
-// The planned requests without a pinned stop, by rising name.
-fn movable(
-    alloc: Global,
-    problem: &Problem,
-    pins: &Pins,
-    work: &Plan,
-) -> Result<Vec<u32>, OutOfMemory> {
-    let mut names = Vec::new(alloc);
-    for index in 0..problem.requests.len() {
-        if let Some((name, request)) = problem.requests.get_index(index) {
-            if has(&work.routes, request) && !has(&pins.routes, request) {
-                names.push(*name)?;
-            }
-        }
-    }
-    Ok(names)
-}
-
-fn relocated(
-    alloc: Global,
-    problem: &Problem,
-    pins: &Pins,
-    work: &Plan,
-    words: &[u32; 16],
-) -> Result<Option<Plan>, OutOfMemory>
-    requires { passes problem.now pins.now.routes work.now.routes ≡ true }
-{
-    let names = movable(alloc, problem, pins, work)?;
-    let Some(name) = names.get(picked(words[1], names.len())) else {
-        return Ok(None);
-    };
-    let Some(left) = remove(alloc, problem, pins, work, &[*name])? else {
-        return Ok(None);
-    };
-    Ok(Some(placed(alloc, problem, pins, left, *name)?))
-}
-
-fn exchanged(
-    alloc: Global,
-    problem: &Problem,
-    pins: &Pins,
-    work: &Plan,
-    words: &[u32; 16],
-) -> Result<Option<Plan>, OutOfMemory>
-    requires { passes problem.now pins.now.routes work.now.routes ≡ true }
-{
-    let names = movable(alloc, problem, pins, work)?;
-    let one = names.get(picked(words[1], names.len())).copied();
-    let other = names.get(picked(words[2], names.len())).copied();
-    let (Some(one), Some(other)) = (one, other) else {
-        return Ok(None);
-    };
-    exchange(alloc, problem, pins, work, one, other)
-}
-
-fn crossed(
-    alloc: Global,
-    problem: &Problem,
-    pins: &Pins,
-    work: &Plan,
-    words: &[u32; 16],
-) -> Result<Option<Plan>, OutOfMemory>
-    requires { passes problem.now pins.now.routes work.now.routes ≡ true }
-{
-    let mut used = Vec::new(alloc);
-    for (index, route) in work.routes.as_slice().iter().enumerate() {
-        if !route.as_slice().is_empty() {
-            used.push(index)?;
-        }
-    }
-    let a = used.get(picked(words[1], used.len())).copied();
-    let b = used.get(picked(words[2], used.len())).copied();
-    let (Some(a), Some(b)) = (a, b) else {
-        return Ok(None);
-    };
-    let (a_cut, b_cut) = (cut(pins, work, a, words[3]), cut(pins, work, b, words[4]));
-    two_opt_star(
-        alloc,
-        problem,
-        pins,
-        work,
-        (a as u64).saturating_add(1),
-        a_cut,
-        (b as u64).saturating_add(1),
-        b_cut,
-    )
 }
 
 // A cut behind the pin.
@@ -168,36 +177,6 @@ fn cut(pins: &Pins, work: &Plan, index: usize, word: u32) -> u64 {
     };
     let places = stops.saturating_sub(pinned).saturating_add(1);
     pinned.saturating_add(picked(word, places)) as u64
-}
-
-fn recreated(
-    alloc: Global,
-    problem: &Problem,
-    pins: &Pins,
-    work: &Plan,
-    words: &[u32; 16],
-) -> Result<Option<Plan>, OutOfMemory>
-    requires { passes problem.now pins.now.routes work.now.routes ≡ true }
-{
-    let drawn = drawn(alloc, movable(alloc, problem, pins, work)?, words)?;
-    if drawn.is_empty() {
-        return Ok(None);
-    }
-    let Some(mut plan) = remove(alloc, problem, pins, work, &drawn)? else {
-        return Ok(None);
-    };
-    for name in &drawn {
-        plan = placed(alloc, problem, pins, plan, *name)?;
-    }
-    for index in 0..problem.requests.len() {
-        if let Some((name, request)) = problem.requests.get_index(index) {
-            // Those drawn had their turn.
-            if !has(&work.routes, request) {
-                plan = placed(alloc, problem, pins, plan, *name)?;
-            }
-        }
-    }
-    Ok(Some(plan))
 }
 
 // One to eight of the names, each drawn of those that are left.
