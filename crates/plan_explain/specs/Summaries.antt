@@ -5,7 +5,7 @@ use Rattle.plan_types.specs.Instance.{Instance}
 use Rattle.route_sched.specs.Schedule.{route_length, start}
 use Rattle.route_sched.specs.Cost.{total_length}
 use Rattle.text_lines.specs.Lines.{ended}
-use Rattle.plan_explain.specs.Columns.{right, right_signed}
+use Rattle.plan_explain.specs.Columns.{cell, right, right_signed}
 use Rattle.plan_explain.specs.Phrases.{phrase}
 use Rattle.plan_explain.specs.Tables.{rows_of}
 use Rattle.plan_explain.specs.declared.phrases.Phrase.TheVariants.{RoutesHeading, Sum}
@@ -37,10 +37,10 @@ summary_of p route = record {
 }
 
 unfoldable pub way_text : ℕ → Summary → List ℕ
-way_text k s = right 5 k ++ codes " " ++ right 6 s.stops ++ codes " " ++ right 10 s.distance ++ codes " " ++ right_signed 9 s.load ++ codes " "
+way_text k s = cell 5 k ++ cell 6 s.stops ++ cell 10 s.distance ++ right_signed 9 s.load ++ codes " "
 
 unfoldable pub day_text : Summary → List ℕ
-day_text s = ended (right 10 s.start ++ codes " " ++ right 10 s.back ++ codes " " ++ right 10 s.waiting)
+day_text s = ended (cell 10 s.start ++ cell 10 s.back ++ right 10 s.waiting)
 
 abbrev pub summary_line : ℕ → Summary → List ℕ
 summary_line k s = way_text k s ++ day_text s

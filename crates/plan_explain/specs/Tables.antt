@@ -7,7 +7,7 @@ use Rattle.plan_types.specs.declared.requests.Kind.TheVariants.{LiLim, Vrp}
 use Rattle.route_sched.specs.Route.{place}
 use Rattle.route_sched.specs.Schedule.{leg, load, start}
 use Rattle.text_lines.specs.Lines.{ended}
-use Rattle.plan_explain.specs.Columns.{left, right, right_signed}
+use Rattle.plan_explain.specs.Columns.{cell, left, right, right_signed}
 use Rattle.plan_explain.specs.Phrases.{phrase, text_if}
 use Rattle.plan_explain.specs.declared.phrases.Phrase.TheVariants.{LoadsHeading, MarkLate, MarkOverload, StopsHeading, TimesHeading}
 use Rattle.plan_explain.specs.declared.rows.Row.{Row}
@@ -37,14 +37,18 @@ abbrev pub heading : Kind → List ℕ
 heading LiLim = phrase TimesHeading
 heading Vrp = phrase LoadsHeading
 
+-- where and when the vehicle comes
+unfoldable pub arrival_text : Row → List ℕ
+arrival_text r = cell 5 r.place ++ cell 6 r.stop ++ cell 10 r.arrival
+
 unfoldable pub times_text : Row → List ℕ
-times_text r = right 5 r.place ++ codes " " ++ right 6 r.stop ++ codes " " ++ right 10 r.arrival ++ codes " " ++ right 10 r.start ++ codes " "
+times_text r = arrival_text r ++ cell 10 r.start
 
 unfoldable pub window_text : Row → List ℕ
 window_text r = right 10 r.earliest ++ codes ".." ++ left 10 r.latest ++ codes " " ++ right_signed 9 r.load
 
 unfoldable pub load_text : Row → List ℕ
-load_text r = right 5 r.place ++ codes " " ++ right 6 r.stop ++ codes " " ++ right 10 r.arrival ++ codes " " ++ right_signed 9 r.load
+load_text r = arrival_text r ++ right_signed 9 r.load
 
 abbrev pub figures_text : Kind → Row → List ℕ
 figures_text LiLim r = times_text r ++ window_text r
@@ -72,7 +76,7 @@ table_text p route = heading p.kind ++ flat_map (row_text p) (rows_of p route)
 -- Where a stop is unknown or stands twice, nobody knows when the vehicle comes: places and stops alone.
 abbrev pub stop_rows : ℕ → List ℕ → List ℕ
 stop_rows k [] = []
-stop_rows k (n ∷ route) = ended (right 5 k ++ codes " " ++ right 6 n) ++ stop_rows (k + 1) route
+stop_rows k (n ∷ route) = ended (cell 5 k ++ right 6 n) ++ stop_rows (k + 1) route
 
 abbrev pub stops_table : List ℕ → List ℕ
 stops_table route = phrase StopsHeading ++ stop_rows 1 route

@@ -38,7 +38,7 @@ pub(crate) fn put_kind_note(text: &mut Told, kind: Kind, instance: &[u8])
 fn looks_vrp(instance: &[u8]) -> bool
     ensures { result ≡ list_any is_vrp_line (lines_of instance.now) }
 {
-    Lines::new(instance).any(|line| is_vrp_line(line))
+    Lines::new(instance).any(is_vrp_line)
 }
 
 fn is_vrp_line(line: &[u8]) -> bool
@@ -51,7 +51,7 @@ fn is_vrp_line(line: &[u8]) -> bool
 fn looks_lilim(instance: &[u8]) -> bool
     ensures { result ≡ list_any has_nine_numbers (lines_of instance.now) }
 {
-    Lines::new(instance).any(|line| has_nine_numbers(line))
+    Lines::new(instance).any(has_nine_numbers)
 }
 
 fn has_nine_numbers(line: &[u8]) -> bool

@@ -11,16 +11,17 @@ use crate::phrases::Phrase;
 use crate::rows::{Row, visit_behind};
 use crate::seats::{Seat, first_seat};
 use crate::told::Told;
+use itoa::Integer;
 use plan_types::{Problem, Route, Stop};
 use route_sched::{total_distance, used_count};
 use sol_text::Solution;
 
 /// Appends words, and the number behind them.
-pub(crate) fn put_named(text: &mut Told, words: Phrase, n: u64)
-    ensures { text.new ≡ text.old ++ (phrase words ++ decimal n) }
+pub(crate) fn put_named<N: Integer>(text: &mut Told, words: Phrase, n: N)
+    ensures { text.new ≡ text.old ++ (phrase words ++ N.text n) }
 {
     put_phrase(text, words);
-    text.push_number(u128::from(n));
+    text.push_number(n);
 }
 
 /// Appends words.
@@ -129,16 +130,8 @@ pub(crate) fn put_overload(text: &mut Told, problem: &Problem, row: Option<Row>)
         return;
     };
     put_stop(text, problem, Phrase::Overload, row.stop);
-    put_signed(text, Phrase::LoadIs, row.load);
+    put_named(text, Phrase::LoadIs, row.load);
     put_named(text, Phrase::Capacity, u64::from(problem.capacity));
-}
-
-// Words, and the number behind them.
-fn put_signed(text: &mut Told, words: Phrase, n: i64)
-    ensures { text.new ≡ text.old ++ (phrase words ++ signed_decimal n) }
-{
-    put_phrase(text, words);
-    text.push_signed(n);
 }
 
 // Words, and behind them a stop with its demand.
@@ -162,7 +155,7 @@ fn put_demand(text: &mut Told, stop: Option<&Stop>)
 fn put_demand_of(text: &mut Told, stop: &Stop)
     ensures { text.new ≡ text.old ++ signed_decimal stop.now.demand }
 {
-    text.push_signed(i64::from(stop.demand));
+    text.push_number(i64::from(stop.demand));
 }
 
 /// Appends the start of service at the place of this row, and the latest there.
@@ -211,7 +204,7 @@ fn put_lateness(text: &mut Told, start: u64, latest: u32)
     ensures { text.new ≡ text.old ++ late_text start latest }
 {
     let latest = u64::from(latest);
-    text.push_number(u128::from(start));
+    text.push_number(start);
     put_named(text, Phrase::Latest, latest);
     put_named(text, Phrase::LateBy, start.saturating_sub(latest));
 }

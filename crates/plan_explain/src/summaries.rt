@@ -141,12 +141,9 @@ fn put_line(text: &mut Told, route: u64, summary: &Summary)
 fn put_way(text: &mut Told, route: u64, summary: &Summary)
     ensures { text.new ≡ text.old ++ way_text route summary.now }
 {
-    text.push_right(5, u128::from(route));
-    text.push_str(" ");
-    text.push_right(6, u128::from(summary.stops));
-    text.push_str(" ");
-    text.push_right(10, u128::from(summary.distance));
-    text.push_str(" ");
+    text.push_cell(5, u128::from(route));
+    text.push_cell(6, u128::from(summary.stops));
+    text.push_cell(10, u128::from(summary.distance));
     text.push_right_signed(9, summary.load);
     text.push_str(" ");
 }
@@ -155,10 +152,8 @@ fn put_way(text: &mut Told, route: u64, summary: &Summary)
 fn put_day(text: &mut Told, summary: &Summary)
     ensures { text.new ≡ text.old ++ day_text summary.now }
 {
-    text.push_right(10, u128::from(summary.start));
-    text.push_str(" ");
-    text.push_right(10, u128::from(summary.back));
-    text.push_str(" ");
+    text.push_cell(10, u128::from(summary.start));
+    text.push_cell(10, u128::from(summary.back));
     text.push_right(10, u128::from(summary.waiting));
     text.push_str("\n");
 }

@@ -1,11 +1,11 @@
 //! A route as a table.
-ghost use Rattle.std.specs.Prelude.{◌≡◌, ◌++◌, OnOk, codes};
+ghost use Rattle.std.specs.Prelude.{◌≡◌, ◌++◌, OnOk};
 ghost use Rattle.std.specs.List.{flat_map};
 ghost use Rattle.route_sched.specs.Route.{AreLiveOnce};
 ghost use Rattle.text_lines.specs.Lines.{ended};
-ghost use Rattle.plan_explain.specs.Columns.{right};
+ghost use Rattle.plan_explain.specs.Columns.{cell, right};
 ghost use Rattle.plan_explain.specs.Phrases.{phrase};
-ghost use Rattle.plan_explain.specs.Tables.{figures_text, heading, is_late, is_overload, load_text, row_text, stop_rows, stops_table, table_text, times_text, window_text};
+ghost use Rattle.plan_explain.specs.Tables.{arrival_text, figures_text, heading, is_late, is_overload, load_text, row_text, stop_rows, stops_table, table_text, times_text, window_text};
 
 use crate::phrases::Phrase;
 use crate::rows::{Row, rows_of};
@@ -91,21 +91,17 @@ fn put_times(text: &mut Told, row: &Row)
     ensures { text.new ≡ text.old ++ times_text row.now }
 {
     put_arrival(text, row);
-    text.push_right(10, u128::from(row.start));
-    text.push_str(" ");
+    text.push_cell(10, u128::from(row.start));
 }
 
 // Where and when the vehicle comes.
+#[tactic(auto, unfolding(crate::specs::Tables::arrival_text))]
 fn put_arrival(text: &mut Told, row: &Row)
-    ensures { text.new ≡ text.old ++ (right 5 row.now.place ++ codes " "
-        ++ right 6 row.now.stop ++ codes " " ++ right 10 row.now.arrival ++ codes " ") }
+    ensures { text.new ≡ text.old ++ arrival_text row.now }
 {
-    text.push_right(5, u128::from(row.place));
-    text.push_str(" ");
-    text.push_right(6, u128::from(row.stop));
-    text.push_str(" ");
-    text.push_right(10, u128::from(row.arrival));
-    text.push_str(" ");
+    text.push_cell(5, u128::from(row.place));
+    text.push_cell(6, u128::from(row.stop));
+    text.push_cell(10, u128::from(row.arrival));
 }
 
 #[tactic(auto, unfolding(crate::specs::Tables::window_text))]
@@ -144,10 +140,9 @@ fn put_stop_rows(text: &mut Told, route: &[u32])
 }
 
 fn put_stop(text: &mut Told, place: u64, stop: u32)
-    ensures { text.new ≡ text.old ++ ended (right 5 place ++ codes " " ++ right 6 stop) }
+    ensures { text.new ≡ text.old ++ ended (cell 5 place ++ right 6 stop) }
 {
-    text.push_right(5, u128::from(place));
-    text.push_str(" ");
+    text.push_cell(5, u128::from(place));
     text.push_right(6, u128::from(stop));
     text.push_str("\n");
 }

@@ -1,9 +1,9 @@
 //! A text that is told piece by piece. It keeps whether memory has run out, so that no piece has to be looked at for that.
-ghost use Rattle.std.specs.Prelude.{◌≡◌, ◌<◌, ◌∷◌, ◌++◌, [], IfOk, decimal, string_bytes};
-ghost use Rattle.std.specs.Fmt.{signed_decimal};
-ghost use Rattle.plan_explain.specs.Columns.{left, right, right_signed};
+ghost use Rattle.std.specs.Prelude.{◌≡◌, ◌<◌, ◌∷◌, ◌++◌, [], IfOk, string_bytes};
+ghost use Rattle.plan_explain.specs.Columns.{cell, left, right, right_signed};
 
 use ghost_values::{Ghost, ListOf};
+use itoa::{Buffer, Integer};
 use plan_types::OutOfMemory;
 use std::alloc::{AllocError, Global};
 use std::marker::Model;
@@ -52,9 +52,7 @@ impl Told {
         ensures { self.new ≡ self.old ++ text.now }
     {
         self.meant = self.meant.after(text.as_bytes());
-        if self.has_room && self.text.push_str(text).is_err() {
-            self.has_room = false;
-        }
+        self.has_room = self.has_room && self.text.push_str(text).is_ok();
     }
 
     /// Appends a character of ASCII.
@@ -63,29 +61,23 @@ impl Told {
         ensures { self.new ≡ self.old ++ byte ∷ [] }
     {
         self.meant = self.meant.after(byte);
-        if self.has_room && self.text.push(char::from(byte)).is_err() {
-            self.has_room = false;
-        }
+        self.has_room = self.has_room && self.text.push(char::from(byte)).is_ok();
     }
 
     /// Appends a number in decimal.
-    pub(crate) fn push_number(&mut self, n: u128)
-        ensures { self.new ≡ self.old ++ decimal n }
+    pub(crate) fn push_number<N: Integer>(&mut self, n: N)
+        ensures { self.new ≡ self.old ++ N.text n }
     {
-        self.meant = self.meant.after(n);
-        if self.has_room && write!(self.text, "{n}").is_err() {
-            self.has_room = false;
-        }
+        let mut buffer = Buffer::new();
+        self.push_str(buffer.format(n));
     }
 
-    /// The same at the right of so many columns.
+    /// A number at the right of so many columns.
     pub(crate) fn push_right(&mut self, width: usize, n: u128)
         ensures { self.new ≡ self.old ++ right width n }
     {
         self.meant = self.meant.after((width, n));
-        if self.has_room && write!(self.text, "{n:>width$}").is_err() {
-            self.has_room = false;
-        }
+        self.has_room = self.has_room && write!(self.text, "{n:>width$}").is_ok();
     }
 
     /// The same at the left of them.
@@ -93,9 +85,7 @@ impl Told {
         ensures { self.new ≡ self.old ++ left width n }
     {
         self.meant = self.meant.after((width, n));
-        if self.has_room && write!(self.text, "{n:<width$}").is_err() {
-            self.has_room = false;
-        }
+        self.has_room = self.has_room && write!(self.text, "{n:<width$}").is_ok();
     }
 
     /// A number with a sign, at the right of so many columns.
@@ -103,18 +93,14 @@ impl Told {
         ensures { self.new ≡ self.old ++ right_signed width n }
     {
         self.meant = self.meant.after((width, n));
-        if self.has_room && write!(self.text, "{n:>width$}").is_err() {
-            self.has_room = false;
-        }
+        self.has_room = self.has_room && write!(self.text, "{n:>width$}").is_ok();
     }
 
-    /// The same without columns.
-    pub(crate) fn push_signed(&mut self, n: i64)
-        ensures { self.new ≡ self.old ++ signed_decimal n }
+    /// A number at the right of so many columns, and a blank.
+    pub(crate) fn push_cell(&mut self, width: usize, n: u128)
+        ensures { self.new ≡ self.old ++ cell width n }
     {
-        self.meant = self.meant.after(n);
-        if self.has_room && write!(self.text, "{n}").is_err() {
-            self.has_room = false;
-        }
+        self.push_right(width, n);
+        self.push_str(" ");
     }
 }

@@ -32,8 +32,9 @@ pub fn explain_verdict(
         ≡ verdict_text problem.now solution.now verdict) }
 {
     let mut text = Told::new(alloc);
+    let routes = solution.routes.as_slice();
     match verdict {
-        Verdict::Pass(_) => put_summary(alloc, &mut text, problem, solution.routes.as_slice())?,
+        Verdict::Pass(_) => put_summary(alloc, &mut text, problem, routes)?,
         Verdict::Broken {
             rule,
             route,
@@ -41,30 +42,13 @@ pub fn explain_verdict(
             stop,
         } => {
             let breach = Breach { route, place, stop };
-            put_broken(alloc, &mut text, problem, solution, rule, breach)?;
+            put_sentence(alloc, &mut text, problem, solution, rule, breach)?;
+            text.push_str("\n");
+            put_shown(alloc, &mut text, problem, routes, rule, route)?;
+            put_further(alloc, &mut text, problem, routes, rule)?;
         }
     }
     text.into_string()
-}
-
-fn put_broken(
-    alloc: Global,
-    text: &mut Told,
-    problem: &Problem,
-    solution: &Solution,
-    rule: u32,
-    breach: Breach,
-) -> Result<(), OutOfMemory>
-    requires { IsVerdict problem.now (printed solution.now.routes solution.now.cost)
-        (Broken rule breach.route breach.place breach.stop) }
-    ensures { OnOk result (text.new ≡ text.old
-        ++ (ended (sentence problem.now solution.now rule breach)
-        ++ places_shown problem.now solution.now.routes rule breach.route)) }
-{
-    put_sentence(alloc, text, problem, solution, rule, breach)?;
-    text.push_str("\n");
-    let routes = solution.routes.as_slice();
-    put_places(alloc, text, problem, routes, rule, breach.route)
 }
 
 // The sentence on a broken rule.
@@ -105,22 +89,6 @@ fn put_sentence(
         _ => {}
     }
     Ok(())
-}
-
-// What is shown of the routes, and how often and where else the rule is broken.
-fn put_places(
-    alloc: Global,
-    text: &mut Told,
-    problem: &Problem,
-    routes: &[Route],
-    rule: u32,
-    route: u64,
-) -> Result<(), OutOfMemory>
-    requires { 2 < rule → All (AreLiveOnce problem.now) routes.now }
-    ensures { OnOk result (text.new ≡ text.old ++ places_shown problem.now routes.now rule route) }
-{
-    put_shown(alloc, text, problem, routes, rule, route)?;
-    put_further(alloc, text, problem, routes, rule)
 }
 
 // What is shown of the routes for a broken rule.

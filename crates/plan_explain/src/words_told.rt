@@ -134,14 +134,6 @@ fn put_limits(text: &mut Told, limits: Option<Limits>)
     let Some((least, most)) = limits else {
         return;
     };
-    put_signed(text, Phrase::Limits, least);
-    put_signed(text, Phrase::To, most);
-}
-
-// Words, and the number behind them.
-fn put_signed(text: &mut Told, words: Phrase, n: i32)
-    ensures { text.new ≡ text.old ++ (phrase words ++ signed_decimal n) }
-{
-    put_phrase(text, words);
-    text.push_signed(i64::from(n));
+    put_named(text, Phrase::Limits, least);
+    put_named(text, Phrase::To, most);
 }
