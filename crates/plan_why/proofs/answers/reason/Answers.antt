@@ -8,10 +8,7 @@ use Rattle.plan_why.proofs.answers.reason.Goals as goal
 
 pub unplanned_text-requires-clause-alone : goal.unplanned_text-requires-clause-alone
 unplanned_text-requires-clause-alone c =
-    let p = c.args.problem.now in
-    let valid : IsInstance p = subst (λ q. IsInstance q) c.problem.view_is c.problem.invariant.valid in
-    let named : lookup (nat_eq c.args.name) p.requests ≡ Some c.in-Some.request.now = search rules in
-    alone_once c.requests_are_found_by_stop.ensures p valid c.args.name c.in-Some.request.now named
+    alone_once c.requests_are_found_by_stop.ensures c.args.problem.now (subst (λ q. IsInstance q) c.problem.view_is c.problem.invariant.valid) c.args.name c.in-Some.request.now (search rules)
 
 pub unplanned_text-requires-clause-tried : goal.unplanned_text-requires-clause-tried
 unplanned_text-requires-clause-tried c =
