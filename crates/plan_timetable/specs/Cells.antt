@@ -13,9 +13,10 @@ abbrev pub number : Form → ℕ → ℕ → List ℕ
 number Columns width n = codes " " ++ right width n
 number Tabs width n = codes "\t" ++ decimal n
 
-abbrev pub signed : Form → ℕ → ℤ → List ℕ
-signed Columns width n = codes " " ++ right_signed width n
-signed Tabs width n = codes "\t" ++ signed_decimal n
+-- a load, in a column of 8
+abbrev pub load_cell : Form → ℤ → List ℕ
+load_cell Columns load = codes " " ++ right_signed 8 load
+load_cell Tabs load = codes "\t" ++ signed_decimal load
 
 -- a number that may be missing, in a column of 8
 abbrev pub number_or_nothing : Form → Option ℕ → List ℕ

@@ -13,7 +13,7 @@ use Rattle.plan_explain.specs.declared.summaries.Summary.{Summary}
 use Rattle.plan_why.specs.Why.{reason_text}
 use Rattle.plan_why.specs.declared.leads.Lead.{Lead}
 use Rattle.plan_why.specs.declared.leads.Lead.TheVariants.{Named, Tabbed}
-use Rattle.plan_timetable.specs.Cells.{named, number, number_or_nothing, signed}
+use Rattle.plan_timetable.specs.Cells.{load_cell, named, number, number_or_nothing}
 use Rattle.plan_timetable.specs.Entries.{entries_of}
 use Rattle.plan_timetable.specs.Words.{word}
 use Rattle.plan_timetable.specs.declared.entries.Entry.{Entry}
@@ -57,7 +57,7 @@ when_text form Vrp e = number form 8 e.row.arrival
 
 -- what it carries then, and whether a pin may end there
 abbrev pub load_text : Form → Entry → List ℕ
-load_text form e = ended (signed form 8 e.row.load ++ word form (pin_word e.may_end))
+load_text form e = ended (load_cell form e.row.load ++ word form (pin_word e.may_end))
 
 -- the line of a place
 abbrev pub entry_text : Form → Kind → ℕ → Entry → List ℕ

@@ -5,48 +5,28 @@ use Rattle.plan_timetable.specs.declared.forms.Form.TheVariants.{Columns, Tabs}
 use Rattle.plan_timetable.specs.declared.words.Word.{Word}
 use Rattle.plan_timetable.specs.declared.words.Word.TheVariants as the
 
-unfoldable pub in_columns : Word → List ℕ
-in_columns the.Vehicle = codes "\nvehicle "
-in_columns the.Stops = codes ": stops "
-in_columns the.Distance = codes ", distance "
-in_columns the.Load = codes ", load "
-in_columns the.Start = codes ", start "
-in_columns the.Return = codes ", return "
-in_columns the.Waiting = codes ", waiting "
-in_columns the.TimesHeading = codes " place  stop  kind      partner  arrival    start  waiting   latest     load\n"
-in_columns the.LoadsHeading = codes " place  stop  kind      partner  arrival     load\n"
-in_columns the.Stop = codes ""
-in_columns the.Pickup = codes "  pickup  "
-in_columns the.Delivery = codes "  delivery"
-in_columns the.Single = codes "  single  "
-in_columns the.Back = codes "  return  "
-in_columns the.Nothing = codes "        -"
-in_columns the.PinMayEnd = codes " pin"
-in_columns the.PinMayNotEnd = codes ""
-in_columns the.Gap = codes "\n"
-in_columns the.Unplanned = codes "unplanned "
+-- what stands in columns, and what by tabs
+abbrev pub in_form : Form → List ℕ → List ℕ → List ℕ
+in_form Columns columns tabs = columns
+in_form Tabs columns tabs = tabs
 
-unfoldable pub in_tabs : Word → List ℕ
-in_tabs the.Vehicle = codes "vehicle\t"
-in_tabs the.Stops = codes "\t"
-in_tabs the.Distance = codes "\t"
-in_tabs the.Load = codes "\t"
-in_tabs the.Start = codes "\t"
-in_tabs the.Return = codes "\t"
-in_tabs the.Waiting = codes "\t"
-in_tabs the.TimesHeading = codes ""
-in_tabs the.LoadsHeading = codes ""
-in_tabs the.Stop = codes "stop\t"
-in_tabs the.Pickup = codes "\tpickup"
-in_tabs the.Delivery = codes "\tdelivery"
-in_tabs the.Single = codes "\tsingle"
-in_tabs the.Back = codes "\treturn"
-in_tabs the.Nothing = codes "\t-"
-in_tabs the.PinMayEnd = codes "\tpin"
-in_tabs the.PinMayNotEnd = codes "\t-"
-in_tabs the.Gap = codes ""
-in_tabs the.Unplanned = codes "unplanned\t"
-
-abbrev pub word : Form → Word → List ℕ
-word Columns w = in_columns w
-word Tabs w = in_tabs w
+unfoldable pub word : Form → Word → List ℕ
+word form the.Vehicle = in_form form (codes "\nvehicle ") (codes "vehicle\t")
+word form the.Stops = in_form form (codes ": stops ") (codes "\t")
+word form the.Distance = in_form form (codes ", distance ") (codes "\t")
+word form the.Load = in_form form (codes ", load ") (codes "\t")
+word form the.Start = in_form form (codes ", start ") (codes "\t")
+word form the.Return = in_form form (codes ", return ") (codes "\t")
+word form the.Waiting = in_form form (codes ", waiting ") (codes "\t")
+word form the.TimesHeading = in_form form (codes " place  stop  kind      partner  arrival    start  waiting   latest     load\n") (codes "")
+word form the.LoadsHeading = in_form form (codes " place  stop  kind      partner  arrival     load\n") (codes "")
+word form the.Stop = in_form form (codes "") (codes "stop\t")
+word form the.Pickup = in_form form (codes "  pickup  ") (codes "\tpickup")
+word form the.Delivery = in_form form (codes "  delivery") (codes "\tdelivery")
+word form the.Single = in_form form (codes "  single  ") (codes "\tsingle")
+word form the.Back = in_form form (codes "  return  ") (codes "\treturn")
+word form the.Nothing = in_form form (codes "        -") (codes "\t-")
+word form the.PinMayEnd = in_form form (codes " pin") (codes "\tpin")
+word form the.PinMayNotEnd = in_form form (codes "") (codes "\t-")
+word form the.Gap = in_form form (codes "\n") (codes "")
+word form the.Unplanned = in_form form (codes "unplanned ") (codes "unplanned\t")

@@ -1,7 +1,7 @@
 //! Numbers in their columns, or behind tabs.
 ghost use Rattle.std.specs.Prelude.{◌≡◌, ◌<◌, ◌++◌, OnOk, decimal, string_bytes};
 ghost use Rattle.std.specs.Fmt.{signed_decimal};
-ghost use Rattle.plan_timetable.specs.Cells.{named, number, number_or_nothing, signed};
+ghost use Rattle.plan_timetable.specs.Cells.{load_cell, named, number, number_or_nothing};
 ghost use Rattle.plan_timetable.specs.Words.{word};
 
 use crate::forms::Form;
@@ -31,19 +31,13 @@ pub(crate) fn put_number(
     }
 }
 
-/// Appends a signed number to a line, in a column of this width.
-pub(crate) fn put_signed(
-    text: &mut String,
-    form: Form,
-    width: usize,
-    n: i64,
-) -> Result<(), OutOfMemory>
-    requires { width < 100 }
-    ensures { OnOk result (string_bytes text.new ≡ string_bytes text.old ++ signed form width n) }
+/// Appends a load to a line, in a column of 8.
+pub(crate) fn put_load(text: &mut String, form: Form, load: i64) -> Result<(), OutOfMemory>
+    ensures { OnOk result (string_bytes text.new ≡ string_bytes text.old ++ load_cell form load) }
 {
     match form {
-        Form::Columns => write!(text, " {n:>width$}"),
-        Form::Tabs => write!(text, "\t{n}"),
+        Form::Columns => write!(text, " {load:>8}"),
+        Form::Tabs => write!(text, "\t{load}"),
     }
 }
 

@@ -3,7 +3,7 @@ ghost use Rattle.std.specs.Prelude.{◌≡◌, ◌++◌, OnOk, string_bytes};
 ghost use Rattle.std.specs.List.{flat_map};
 ghost use Rattle.plan_timetable.specs.Timetable.{entry_text, lead, load_text, pin_word, role_word, times_text, what_text, when_text, where_text};
 
-use crate::cells::{put_named, put_number, put_number_or_nothing, put_signed, put_word};
+use crate::cells::{put_load, put_named, put_number, put_number_or_nothing, put_word};
 use crate::entries::{Entry, Role};
 use crate::forms::Form;
 use crate::words::Word;
@@ -40,7 +40,7 @@ fn put_entry(
     put_where(text, form, vehicle, entry)?;
     put_what(text, form, entry)?;
     put_when(text, form, kind, entry)?;
-    put_load(text, form, entry)
+    put_load_and_pin(text, form, entry)
 }
 
 fn put_where(text: &mut String, form: Form, vehicle: u64, entry: &Entry) -> Result<(), OutOfMemory>
@@ -101,11 +101,11 @@ fn put_times(text: &mut String, form: Form, entry: &Entry) -> Result<(), OutOfMe
     put_number_or_nothing(text, form, entry.latest)
 }
 
-fn put_load(text: &mut String, form: Form, entry: &Entry) -> Result<(), OutOfMemory>
+fn put_load_and_pin(text: &mut String, form: Form, entry: &Entry) -> Result<(), OutOfMemory>
     ensures { OnOk result (string_bytes text.new
         ≡ string_bytes text.old ++ load_text form entry.now) }
 {
-    put_signed(text, form, 8, entry.row.load)?;
+    put_load(text, form, entry.row.load)?;
     put_word(text, form, pin_word(entry.may_end))?;
     text.push_str("\n")
 }

@@ -1,6 +1,6 @@
 //! The words of a timetable, in columns and by tabs.
 ghost use Rattle.std.specs.Prelude.{◌≡◌};
-ghost use Rattle.plan_timetable.specs.Words.{in_columns, in_tabs, word};
+ghost use Rattle.plan_timetable.specs.Words.{in_form, word};
 
 use crate::forms::Form;
 
@@ -30,67 +30,40 @@ pub(crate) enum Word {
 
 impl Word {
     /// The word in this form, in ASCII.
+    #[tactic(auto, unfolding(crate::specs::Words::word))]
     pub(crate) fn text(self, form: Form) -> &'static str
         ensures { result.now ≡ word form self }
     {
-        match form {
-            Form::Columns => self.in_columns(),
-            Form::Tabs => self.in_tabs(),
+        match self {
+            Word::Vehicle => in_form(form, "\nvehicle ", "vehicle\t"),
+            Word::Stops => in_form(form, ": stops ", "\t"),
+            Word::Distance => in_form(form, ", distance ", "\t"),
+            Word::Load => in_form(form, ", load ", "\t"),
+            Word::Start => in_form(form, ", start ", "\t"),
+            Word::Return => in_form(form, ", return ", "\t"),
+            Word::Waiting => in_form(form, ", waiting ", "\t"),
+            Word::TimesHeading => in_form(form, " place  stop  kind      partner  arrival    start  waiting   latest     load\n", ""),
+            Word::LoadsHeading => in_form(form, " place  stop  kind      partner  arrival     load\n", ""),
+            Word::Stop => in_form(form, "", "stop\t"),
+            Word::Pickup => in_form(form, "  pickup  ", "\tpickup"),
+            Word::Delivery => in_form(form, "  delivery", "\tdelivery"),
+            Word::Single => in_form(form, "  single  ", "\tsingle"),
+            Word::Back => in_form(form, "  return  ", "\treturn"),
+            Word::Nothing => in_form(form, "        -", "\t-"),
+            Word::PinMayEnd => in_form(form, " pin", "\tpin"),
+            Word::PinMayNotEnd => in_form(form, "", "\t-"),
+            Word::Gap => in_form(form, "\n", ""),
+            Word::Unplanned => in_form(form, "unplanned ", "unplanned\t"),
         }
     }
+}
 
-    #[tactic(auto, unfolding(crate::specs::Words::in_columns))]
-    fn in_columns(self) -> &'static str
-        ensures { result.now ≡ in_columns self }
-    {
-        match self {
-            Word::Vehicle => "\nvehicle ",
-            Word::Stops => ": stops ",
-            Word::Distance => ", distance ",
-            Word::Load => ", load ",
-            Word::Start => ", start ",
-            Word::Return => ", return ",
-            Word::Waiting => ", waiting ",
-            Word::TimesHeading =>
-                " place  stop  kind      partner  arrival    start  waiting   latest     load\n",
-            Word::LoadsHeading => " place  stop  kind      partner  arrival     load\n",
-            Word::Stop => "",
-            Word::Pickup => "  pickup  ",
-            Word::Delivery => "  delivery",
-            Word::Single => "  single  ",
-            Word::Back => "  return  ",
-            Word::Nothing => "        -",
-            Word::PinMayEnd => " pin",
-            Word::PinMayNotEnd => "",
-            Word::Gap => "\n",
-            Word::Unplanned => "unplanned ",
-        }
-    }
-
-    #[tactic(auto, unfolding(crate::specs::Words::in_tabs))]
-    fn in_tabs(self) -> &'static str
-        ensures { result.now ≡ in_tabs self }
-    {
-        match self {
-            Word::Vehicle => "vehicle\t",
-            Word::Stops => "\t",
-            Word::Distance => "\t",
-            Word::Load => "\t",
-            Word::Start => "\t",
-            Word::Return => "\t",
-            Word::Waiting => "\t",
-            Word::TimesHeading => "",
-            Word::LoadsHeading => "",
-            Word::Stop => "stop\t",
-            Word::Pickup => "\tpickup",
-            Word::Delivery => "\tdelivery",
-            Word::Single => "\tsingle",
-            Word::Back => "\treturn",
-            Word::Nothing => "\t-",
-            Word::PinMayEnd => "\tpin",
-            Word::PinMayNotEnd => "\t-",
-            Word::Gap => "",
-            Word::Unplanned => "unplanned\t",
-        }
+// What stands in columns, or what stands there by tabs.
+fn in_form(form: Form, columns: &'static str, tabs: &'static str) -> &'static str
+    ensures { result.now ≡ in_form form columns.now tabs.now }
+{
+    match form {
+        Form::Columns => columns,
+        Form::Tabs => tabs,
     }
 }
