@@ -24,6 +24,7 @@ use Rattle.plan_picture.specs.Svg.{attribute, named, some_named}
 use Rattle.plan_picture.specs.Table.{grid_of, rows_text}
 use Rattle.plan_picture.specs.Texts.{fixed}
 use Rattle.plan_picture.specs.WellFormed.{inside, IsWellFormed, outside, unquoted}
+use Rattle.plan_picture.specs.declared.heads.Breach.{Breach}
 use Rattle.plan_picture.specs.declared.texts.Text.{Text}
 use Rattle.plan_picture.specs.declared.texts.Text.TheVariants as text
 use Rattle.plan_picture.proofs.MapReadLemmas.{map_stays, stays_maybe}
@@ -113,32 +114,32 @@ unfolding fleet_figures fixed
 fleet_stays p routes =
     stays_with (named text.Used (used_count routes)) (named text.Fleet p.fleet) (named_stays text.Used (used_count routes) (λ n os. refl)) (named_stays text.Fleet p.fleet (λ n os. refl))
 
-figures_stay : (p : Instance) (routes : List (List ℕ)) (rule r i s : ℕ) → Stays (figures_of p routes rule r i s)
+figures_stay : (p : Instance) (routes : List (List ℕ)) (b : Breach) → Stays (figures_of p routes b)
 unfolding fixed
-figures_stay p routes rule r i s =
-    stays_if ((rule == 3) || (rule == 4) || (rule == 5)) (partner_figures p s) _ (stays_maybe (named text.Partner) (partner_at p s) (λ m. named_stays text.Partner m (λ n os. refl)))
-    (stays_if ((rule == 6) || (rule == 7) || (rule == 8)) (option_map_or (visit_figures p rule) (visit_told p routes r i) []) _ (stays_maybe (visit_figures p rule) (visit_told p routes r i) (visit_stays p rule))
-    (stays_if (rule == 9) (fleet_figures p routes) _ (fleet_stays p routes)
-    (stays_if (rule == 11) (named text.Driven (total_length p routes)) [] (named_stays text.Driven (total_length p routes) (λ n os. refl)) (λ n os. refl))))
+figures_stay p routes b =
+    stays_if ((b.rule == 3) || (b.rule == 4) || (b.rule == 5)) (partner_figures p b.stop) _ (stays_maybe (named text.Partner) (partner_at p b.stop) (λ m. named_stays text.Partner m (λ n os. refl)))
+    (stays_if ((b.rule == 6) || (b.rule == 7) || (b.rule == 8)) (option_map_or (visit_figures p b.rule) (visit_told p routes b.route b.place) []) _ (stays_maybe (visit_figures p b.rule) (visit_told p routes b.route b.place) (visit_stays p b.rule))
+    (stays_if (b.rule == 9) (fleet_figures p routes) _ (fleet_stays p routes)
+    (stays_if (b.rule == 11) (named text.Driven (total_length p routes)) [] (named_stays text.Driven (total_length p routes) (λ n os. refl)) (λ n os. refl))))
 
-place_stays : (r i s : ℕ) → Stays (broken_place r i s)
+place_stays : (b : Breach) → Stays (broken_place b)
 unfolding broken_place fixed
-place_stays r i s =
-    let route = some_named text.BrokenRoute r in
-    let place = some_named text.BrokenPlace i in
-    stays_with (route ++ place) (some_named text.BrokenStop s) (stays_with route place (some_named_stays text.BrokenRoute r (λ n os. refl)) (some_named_stays text.BrokenPlace i (λ n os. refl))) (some_named_stays text.BrokenStop s (λ n os. refl))
+place_stays b =
+    let route = some_named text.BrokenRoute b.route in
+    let place = some_named text.BrokenPlace b.place in
+    stays_with (route ++ place) (some_named text.BrokenStop b.stop) (stays_with route place (some_named_stays text.BrokenRoute b.route (λ n os. refl)) (some_named_stays text.BrokenPlace b.place (λ n os. refl))) (some_named_stays text.BrokenStop b.stop (λ n os. refl))
 
-broken_stays : (p : Instance) (routes : List (List ℕ)) (rule r i s : ℕ) → Stays (broken_text p routes rule r i s)
+broken_stays : (p : Instance) (routes : List (List ℕ)) (b : Breach) → Stays (broken_text p routes b)
 unfolding broken_text fixed
-broken_stays p routes rule r i s =
-    let first = named text.BrokenRule rule in
-    let name = fixed (rule_name rule) in
-    stays_with (first ++ name ++ broken_place r i s) (figures_of p routes rule r i s)
-    (stays_with (first ++ name) (broken_place r i s) (stays_with first name (named_stays text.BrokenRule rule (λ n os. refl)) (name_stays rule)) (place_stays r i s)) (figures_stay p routes rule r i s)
+broken_stays p routes b =
+    let first = named text.BrokenRule b.rule in
+    let name = fixed (rule_name b.rule) in
+    stays_with (first ++ name ++ broken_place b) (figures_of p routes b)
+    (stays_with (first ++ name) (broken_place b) (stays_with first name (named_stays text.BrokenRule b.rule (λ n os. refl)) (name_stays b.rule)) (place_stays b)) (figures_stay p routes b)
 
 verdict_stays : (p : Instance) (routes : List (List ℕ)) (verdict : Verdict) → Stays (verdict_text p routes verdict)
 verdict_stays p routes (Pass cost) = cost_stays p.kind cost
-verdict_stays p routes (Broken rule r i s) = broken_stays p routes rule r i s
+verdict_stays p routes (Broken rule r i s) = broken_stays p routes (record { rule = rule; route = r; place = i; stop = s })
 
 scope_stays : (number all : ℕ) → Stays (scope_text number all)
 unfolding one_route fixed

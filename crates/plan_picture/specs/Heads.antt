@@ -14,6 +14,7 @@ use Rattle.plan_audit.specs.declared.rules.Verdict.TheVariants.{Broken, Pass}
 use Rattle.plan_picture.specs.Known.{visits_of}
 use Rattle.plan_picture.specs.Svg.{attribute, named, some_named}
 use Rattle.plan_picture.specs.Texts.{fixed}
+use Rattle.plan_picture.specs.declared.heads.Breach.{Breach}
 use Rattle.plan_picture.specs.declared.texts.Text.{Text}
 use Rattle.plan_picture.specs.declared.texts.Text.TheVariants as text
 
@@ -66,25 +67,25 @@ fleet_figures p routes = named text.Used (used_count routes) ++ named text.Fleet
 abbrev pub partner_figures : Instance → ℕ → List ℕ
 partner_figures p n = option_map_or (named text.Partner) (partner_at p n) []
 
-abbrev pub figures_of : Instance → List (List ℕ) → ℕ → ℕ → ℕ → ℕ → List ℕ
-figures_of p routes rule r i n =
-    if (rule == 3) || (rule == 4) || (rule == 5) then partner_figures p n
-    else if (rule == 6) || (rule == 7) || (rule == 8) then option_map_or (visit_figures p rule) (visit_told p routes r i) []
-    else if rule == 9 then fleet_figures p routes
-    else if rule == 11 then named text.Driven (total_length p routes)
+abbrev pub figures_of : Instance → List (List ℕ) → Breach → List ℕ
+figures_of p routes b =
+    if (b.rule == 3) || (b.rule == 4) || (b.rule == 5) then partner_figures p b.stop
+    else if (b.rule == 6) || (b.rule == 7) || (b.rule == 8) then option_map_or (visit_figures p b.rule) (visit_told p routes b.route b.place) []
+    else if b.rule == 9 then fleet_figures p routes
+    else if b.rule == 11 then named text.Driven (total_length p routes)
     else []
 
 -- where the rule is broken
-unfoldable pub broken_place : ℕ → ℕ → ℕ → List ℕ
-broken_place r i n = some_named text.BrokenRoute r ++ some_named text.BrokenPlace i ++ some_named text.BrokenStop n
+unfoldable pub broken_place : Breach → List ℕ
+broken_place b = some_named text.BrokenRoute b.route ++ some_named text.BrokenPlace b.place ++ some_named text.BrokenStop b.stop
 
-unfoldable pub broken_text : Instance → List (List ℕ) → ℕ → ℕ → ℕ → ℕ → List ℕ
-broken_text p routes rule r i n =
-    named text.BrokenRule rule ++ fixed (rule_name rule) ++ broken_place r i n ++ figures_of p routes rule r i n
+unfoldable pub broken_text : Instance → List (List ℕ) → Breach → List ℕ
+broken_text p routes b =
+    named text.BrokenRule b.rule ++ fixed (rule_name b.rule) ++ broken_place b ++ figures_of p routes b
 
 abbrev pub verdict_text : Instance → List (List ℕ) → Verdict → List ℕ
 verdict_text p routes (Pass cost) = cost_text p.kind cost
-verdict_text p routes (Broken rule r i n) = broken_text p routes rule r i n
+verdict_text p routes (Broken rule r i n) = broken_text p routes (record { rule = rule; route = r; place = i; stop = n })
 
 abbrev pub title_head : Verdict → Text
 title_head (Pass cost) = text.Title

@@ -13,6 +13,15 @@ use plan_audit::Verdict;
 use plan_types::{Cost, Kind, Problem, Route};
 use route_sched::{Visit, Visits, total_distance, used_count};
 
+/// A broken rule by its number, and where it is broken; routes and places count from 1, and 0 is none.
+#[derive(Clone, Copy)]
+pub(crate) struct Breach {
+    pub rule: u32,
+    pub route: u64,
+    pub place: u64,
+    pub stop: u32,
+}
+
 impl Svg {
     /// Appends the size of the picture, its shapes, and what they mean.
     #[tactic(auto, unfolding(crate::specs::Heads::head_text))]
@@ -111,7 +120,15 @@ impl Svg {
                 route,
                 place,
                 stop,
-            } => self.put_broken_rule(problem, routes, rule, route, place, stop),
+            } => {
+                let breach = Breach {
+                    rule,
+                    route,
+                    place,
+                    stop,
+                };
+                self.put_broken_rule(problem, routes, breach)
+            }
         }
     }
 
@@ -134,49 +151,34 @@ impl Svg {
     }
 
     #[tactic(auto, unfolding(crate::specs::Heads::broken_text))]
-    fn put_broken_rule(
-        &mut self,
-        problem: &Problem,
-        routes: &[Route],
-        rule: u32,
-        route: u64,
-        place: u64,
-        stop: u32,
-    )
+    fn put_broken_rule(&mut self, problem: &Problem, routes: &[Route], breach: Breach)
         requires { All (AreLiveOnce problem.now) routes.now }
-        ensures { self.new ≡ self.old ++ broken_text problem.now routes.now rule route place stop }
+        ensures { self.new ≡ self.old ++ broken_text problem.now routes.now breach }
     {
-        self.put_named(Text::BrokenRule, rule as u128);
-        self.put(rule_name(rule));
-        self.put_broken_place(route, place, stop);
-        self.put_figures_of(problem, routes, rule, route, place, stop);
+        self.put_named(Text::BrokenRule, breach.rule as u128);
+        self.put(rule_name(breach.rule));
+        self.put_broken_place(breach);
+        self.put_figures_of(problem, routes, breach);
     }
 
     #[tactic(auto, unfolding(crate::specs::Heads::broken_place))]
-    fn put_broken_place(&mut self, route: u64, place: u64, stop: u32)
-        ensures { self.new ≡ self.old ++ broken_place route place stop }
+    fn put_broken_place(&mut self, breach: Breach)
+        ensures { self.new ≡ self.old ++ broken_place breach }
     {
-        self.put_some(Text::BrokenRoute, route as u128);
-        self.put_some(Text::BrokenPlace, place as u128);
-        self.put_some(Text::BrokenStop, stop as u128);
+        self.put_some(Text::BrokenRoute, breach.route as u128);
+        self.put_some(Text::BrokenPlace, breach.place as u128);
+        self.put_some(Text::BrokenStop, breach.stop as u128);
     }
 
-    fn put_figures_of(
-        &mut self,
-        problem: &Problem,
-        routes: &[Route],
-        rule: u32,
-        route: u64,
-        place: u64,
-        stop: u32,
-    )
+    fn put_figures_of(&mut self, problem: &Problem, routes: &[Route], breach: Breach)
         requires { All (AreLiveOnce problem.now) routes.now }
-        ensures { self.new ≡ self.old ++ figures_of problem.now routes.now rule route place stop }
+        ensures { self.new ≡ self.old ++ figures_of problem.now routes.now breach }
     {
+        let rule = breach.rule;
         if rule == 3 || rule == 4 || rule == 5 {
-            self.put_partner(problem, stop);
+            self.put_partner(problem, breach.stop);
         } else if rule == 6 || rule == 7 || rule == 8 {
-            let visit = visit_told(problem, routes, route, place);
+            let visit = visit_told(problem, routes, breach.route, breach.place);
             self.put_visit_told(problem, rule, visit);
         } else if rule == 9 {
             self.put_fleet(problem, routes);
@@ -219,7 +221,7 @@ impl Svg {
         ensures { self.new ≡ self.old ++ load_figures problem.now visit.now }
     {
         self.put(Text::Load);
-        self.put_signed(visit.load);
+        self.put_number(visit.load);
         self.put_named(Text::Capacity, problem.capacity as u128);
     }
 

@@ -1,15 +1,14 @@
 //! The text of a picture, piece by piece.
 //!
 //! Route n has the colour `hsl(137 n mod 360, 75%, 30 + 4 (n mod 7)%)`, which is another one for 2,520 routes.
-ghost use Rattle.std.specs.Prelude.{◌≡◌, ◌++◌, ◌≤◌, [], IfOk, decimal};
-ghost use Rattle.std.specs.Fmt.{signed_decimal};
+ghost use Rattle.std.specs.Prelude.{◌≡◌, ◌++◌, ◌≤◌, [], IfOk};
 ghost use Rattle.plan_picture.specs.Svg.{at_text, attribute, bar, broken_class, colour, digit_count, named, placed_tag, placed_text, some_named};
 ghost use Rattle.plan_picture.specs.Texts.{fixed};
 
 use crate::frame::Point;
 use crate::texts::Text;
 use ghost_values::{Ghost, ListOf};
-use itoa::Buffer;
+use itoa::{Buffer, Integer};
 use plan_types::OutOfMemory;
 use std::alloc::{AllocError, Global};
 use std::marker::Model;
@@ -62,21 +61,12 @@ impl Svg {
     {
         let bytes = text.as_bytes();
         self.meant = self.meant.after(bytes);
-        if self.has_room && self.bytes.extend_from_slice(bytes).is_err() {
-            self.has_room = false;
-        }
-    }
-
-    fn put_number(&mut self, n: u128)
-        ensures { self.new ≡ self.old ++ decimal n }
-    {
-        let mut buffer = Buffer::new();
-        self.put_str(buffer.format(n));
+        self.has_room = self.has_room && self.bytes.extend_from_slice(bytes).is_ok();
     }
 
     /// Appends a number in decimal.
-    pub(crate) fn put_signed(&mut self, n: i64)
-        ensures { self.new ≡ self.old ++ signed_decimal n }
+    pub(crate) fn put_number<N: Integer>(&mut self, n: N)
+        ensures { self.new ≡ self.old ++ N.text n }
     {
         let mut buffer = Buffer::new();
         self.put_str(buffer.format(n));

@@ -135,7 +135,7 @@ impl Svg {
         ensures { self.new ≡ self.old ++ load_text load }
     {
         self.put(Text::LoadCell);
-        self.put_signed(load);
+        self.put_number(load);
     }
 
     #[tactic(auto, unfolding(crate::specs::Table::row_end))]
