@@ -80,6 +80,18 @@ fn printed(
 }
 
 const PAIR: Posed = Posed::Pair(Kind::LiLim, 10, 60, 100);
+// The same with a smaller capacity, an earlier latest start, an earlier latest return, and without windows.
+const SMALL_VEHICLE: Posed = Posed::Pair(Kind::LiLim, 3, 60, 100);
+
+const DUE_AT_11: Posed = Posed::Pair(Kind::LiLim, 10, 11, 100);
+
+const DUE_AT_12: Posed = Posed::Pair(Kind::LiLim, 10, 12, 100);
+
+const BACK_AT_23: Posed = Posed::Pair(Kind::LiLim, 10, 60, 23);
+
+const BACK_AT_24: Posed = Posed::Pair(Kind::LiLim, 10, 60, 24);
+
+const NO_WINDOWS: Posed = Posed::Pair(Kind::Vrp, 10, 11, 23);
 
 /// A problem, two printed routes, the printed cost, and what is told.
 const PRINTED: [(Posed, &[u32], &[u32], u64, [u64; 4]); 19] = [
@@ -92,56 +104,14 @@ const PRINTED: [(Posed, &[u32], &[u32], u64, [u64; 4]); 19] = [
     (PAIR, &[2, 1], &[], 20, [5, 1, 1, 2]),
     (PAIR, &[1, 2], &[], 21, [11, 0, 0, 0]),
     // Capacity and windows.
-    (
-        Posed::Pair(Kind::LiLim, 3, 60, 100),
-        &[1, 2],
-        &[],
-        20,
-        [6, 1, 1, 1],
-    ),
-    (
-        Posed::Pair(Kind::LiLim, 10, 11, 100),
-        &[1, 2],
-        &[],
-        20,
-        [7, 1, 2, 2],
-    ),
-    (
-        Posed::Pair(Kind::LiLim, 10, 11, 100),
-        &[1, 2],
-        &[9],
-        20,
-        [1, 2, 1, 9],
-    ),
-    (
-        Posed::Pair(Kind::LiLim, 10, 12, 100),
-        &[1, 2],
-        &[],
-        20,
-        [0, 0, 1, 20],
-    ),
-    (
-        Posed::Pair(Kind::LiLim, 10, 60, 23),
-        &[1, 2],
-        &[],
-        20,
-        [8, 1, 3, 0],
-    ),
-    (
-        Posed::Pair(Kind::LiLim, 10, 60, 24),
-        &[1, 2],
-        &[],
-        20,
-        [0, 0, 1, 20],
-    ),
+    (SMALL_VEHICLE, &[1, 2], &[], 20, [6, 1, 1, 1]),
+    (DUE_AT_11, &[1, 2], &[], 20, [7, 1, 2, 2]),
+    (DUE_AT_11, &[1, 2], &[9], 20, [1, 2, 1, 9]),
+    (DUE_AT_12, &[1, 2], &[], 20, [0, 0, 1, 20]),
+    (BACK_AT_23, &[1, 2], &[], 20, [8, 1, 3, 0]),
+    (BACK_AT_24, &[1, 2], &[], 20, [0, 0, 1, 20]),
     // No windows.
-    (
-        Posed::Pair(Kind::Vrp, 10, 11, 23),
-        &[1, 2],
-        &[],
-        20,
-        [0, 0, 0, 20],
-    ),
+    (NO_WINDOWS, &[1, 2], &[], 20, [0, 0, 0, 20]),
     // Vehicles.
     (Posed::TwoPairs, &[1, 2], &[3, 4], 8, [9, 2, 0, 0]),
     (Posed::TwoPairs, &[], &[1, 3, 4, 2], 4, [0, 0, 1, 4]),
