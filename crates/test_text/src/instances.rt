@@ -1,6 +1,10 @@
 //! Instances as texts, of both formats.
 
 use crate::builders::{Form, ONE_PAIR, Part, read_instance, text_of};
+use instance_read::ReadFaultKind::{
+    BadNumber, DepotNotFirst, EmptyWindow, FieldCount, MissingKey, NodeRepeated, PairMismatch,
+    Range, TaskOrder, TooManyStops, Truncated, Unsupported,
+};
 use instance_read::{ReadFault, ReadFaultKind, read_vrp, split_key};
 use plan_types::{Kind, Problem, limits};
 use std::alloc::Global;
@@ -142,63 +146,55 @@ fn first_other(alloc: Global, kind: Kind, rows: &[(&[u8], u64, ReadFaultKind)]) 
 
 /// Li-Lim texts, and the line and the kind of the first fault of each.
 const PAIR_FAULTS: [(&[u8], u64, ReadFaultKind); 22] = [
-    (b"", 1, ReadFaultKind::Truncated),
-    (b"\n \n", 3, ReadFaultKind::Truncated),
-    (b"2 10 1", 2, ReadFaultKind::Truncated),
-    (b"2 10 1\n", 2, ReadFaultKind::Truncated),
+    (b"", 1, Truncated),
+    (b"\n \n", 3, Truncated),
+    (b"2 10 1", 2, Truncated),
+    (b"2 10 1\n", 2, Truncated),
     (
         b"2 10 1\n0 0 0 0 0 100 0 0 0\n1 3 4 4 0 50 2 0 2\n",
         3,
-        ReadFaultKind::PairMismatch,
+        PairMismatch,
     ),
     (
         b"2 10 1\n0 0 0 0 0 100 0 0 0\n1 3 4 4 0 50 2 0 2\n2 6 8 -4 0 60 2 3 0\n",
         3,
-        ReadFaultKind::PairMismatch,
+        PairMismatch,
     ),
-    (b"2 x 1\n", 1, ReadFaultKind::BadNumber),
-    (b"2 x\n", 1, ReadFaultKind::FieldCount),
-    (b"0 x 1\n", 1, ReadFaultKind::BadNumber),
-    (b"40001 1 1\n", 1, ReadFaultKind::Range),
-    (b"1 1 1\n0 0 0 0 0 9 0 x\n", 2, ReadFaultKind::FieldCount),
-    (
-        b"1 1 1\n40001 0 0 0 0 9 0 0 x\n",
-        2,
-        ReadFaultKind::BadNumber,
-    ),
-    (
-        b"1 1 1\n40001 1000001 0 0 0 9 0 0 0\n",
-        2,
-        ReadFaultKind::TooManyStops,
-    ),
-    (b"1 1 1\n1 1000001 0 0 0 9 0 0 0\n", 2, ReadFaultKind::Range),
-    (b"1 1 1\n-1 0 0 0 0 9 0 0 0\n", 2, ReadFaultKind::Range),
-    (b"1 1 1\n1 0 0 0 9 8 0 0 0\n", 2, ReadFaultKind::TaskOrder),
-    (b"1 1 1\n0 0 0 0 9 8 0 0 0\n", 2, ReadFaultKind::EmptyWindow),
+    (b"2 x 1\n", 1, BadNumber),
+    (b"2 x\n", 1, FieldCount),
+    (b"0 x 1\n", 1, BadNumber),
+    (b"40001 1 1\n", 1, Range),
+    (b"1 1 1\n0 0 0 0 0 9 0 x\n", 2, FieldCount),
+    (b"1 1 1\n40001 0 0 0 0 9 0 0 x\n", 2, BadNumber),
+    (b"1 1 1\n40001 1000001 0 0 0 9 0 0 0\n", 2, TooManyStops),
+    (b"1 1 1\n1 1000001 0 0 0 9 0 0 0\n", 2, Range),
+    (b"1 1 1\n-1 0 0 0 0 9 0 0 0\n", 2, Range),
+    (b"1 1 1\n1 0 0 0 9 8 0 0 0\n", 2, TaskOrder),
+    (b"1 1 1\n0 0 0 0 9 8 0 0 0\n", 2, EmptyWindow),
     (
         b"1 1 1\n0 0 0 0 0 9 0 0 0\n\n0 0 0 0 0 9 0 0 0\n",
         4,
-        ReadFaultKind::TaskOrder,
+        TaskOrder,
     ),
     (
         b"1 1 1\n0 0 0 0 0 9 0 0 0\n2 0 0 0 0 9 0 0 0\n\n3 0 0 0 x 9 0 0 0\n",
         5,
-        ReadFaultKind::BadNumber,
+        BadNumber,
     ),
     (
         b"1 1 1\n0 0 0 0 0 9 0 0 0\n1 0 0 -1 0 9 0 0 2\n2 0 0 1 0 9 0 1 0\n",
         3,
-        ReadFaultKind::PairMismatch,
+        PairMismatch,
     ),
     (
         b"1 1 1\n0 0 0 0 0 9 0 0 0\n1 0 0 1 0 9 0 0 2\n2 0 0 -2 0 9 0 1 0\n",
         3,
-        ReadFaultKind::PairMismatch,
+        PairMismatch,
     ),
     (
         b"1 1 1\n0 0 0 0 0 9 0 0 0\n1 0 0 1 0 9 0 0 3\n2 0 0 -1 0 9 0 3 0\n3 0 0 1 0 9 0 0 0\n",
         3,
-        ReadFaultKind::PairMismatch,
+        PairMismatch,
     ),
 ];
 
@@ -212,56 +208,36 @@ fn tells_the_first_fault_of_pairs(rt: HostRuntime) {
 fn names_faults(rt: HostRuntime) {
     let fault = ReadFault {
         line: 1,
-        kind: ReadFaultKind::Truncated,
+        kind: Truncated,
     };
     assert!(rt; fault.name() == "Truncated");
 }
 
 /// `.vrp` texts with a fault outside the sections.
 const KEY_FAULTS: [(&[u8], u64, ReadFaultKind); 23] = [
-    (b"", 1, ReadFaultKind::MissingKey),
-    (b"DIMENSION : 4\n\n", 3, ReadFaultKind::MissingKey),
-    (
-        b"DIMENSION : 4\nEOF\nDIMENSION : x\n",
-        2,
-        ReadFaultKind::MissingKey,
-    ),
-    (b"DIMENSION :\n", 1, ReadFaultKind::FieldCount),
-    (b"DIMENSION : x y\n", 1, ReadFaultKind::FieldCount),
-    (b"DIMENSION : x\n", 1, ReadFaultKind::BadNumber),
-    (b"DIMENSION : 4:5\n", 1, ReadFaultKind::BadNumber),
-    (b"DIMENSION : 40002\n", 1, ReadFaultKind::TooManyStops),
-    (b"DIMENSION : 1\n", 1, ReadFaultKind::Range),
-    (b"CAPACITY : 1000001\n", 1, ReadFaultKind::Range),
-    (b"CAPACITY : -1\n", 1, ReadFaultKind::Range),
-    (
-        b"DIMENSION : 4\n\nDIMENSION : 4 4\n",
-        3,
-        ReadFaultKind::FieldCount,
-    ),
-    (
-        b"DIMENSION : 4\n\nDIMENSION : 40002\n",
-        3,
-        ReadFaultKind::TooManyStops,
-    ),
-    (
-        b"DIMENSION : 4\n\ndimension : 4\n",
-        3,
-        ReadFaultKind::NodeRepeated,
-    ),
-    (b"TYPE :\n", 1, ReadFaultKind::Unsupported),
-    (b"TYPE : CVRP\nTYPE : TSP\n", 2, ReadFaultKind::Unsupported),
-    (
-        b"TYPE : CVRP\nTYPE : CVRP\n",
-        2,
-        ReadFaultKind::NodeRepeated,
-    ),
-    (b"EDGE_WEIGHT_TYPE : GEO\n", 1, ReadFaultKind::Unsupported),
-    (b"DISTANCE : 200\n", 1, ReadFaultKind::Unsupported),
-    (b"A NODE_COORD_SECTION\n", 1, ReadFaultKind::Unsupported),
-    (b"5_SECTION\n", 1, ReadFaultKind::Unsupported),
-    (b" 5 1 1\n", 1, ReadFaultKind::FieldCount),
-    (b"NODE_COORD_SECTION\n", 1, ReadFaultKind::MissingKey),
+    (b"", 1, MissingKey),
+    (b"DIMENSION : 4\n\n", 3, MissingKey),
+    (b"DIMENSION : 4\nEOF\nDIMENSION : x\n", 2, MissingKey),
+    (b"DIMENSION :\n", 1, FieldCount),
+    (b"DIMENSION : x y\n", 1, FieldCount),
+    (b"DIMENSION : x\n", 1, BadNumber),
+    (b"DIMENSION : 4:5\n", 1, BadNumber),
+    (b"DIMENSION : 40002\n", 1, TooManyStops),
+    (b"DIMENSION : 1\n", 1, Range),
+    (b"CAPACITY : 1000001\n", 1, Range),
+    (b"CAPACITY : -1\n", 1, Range),
+    (b"DIMENSION : 4\n\nDIMENSION : 4 4\n", 3, FieldCount),
+    (b"DIMENSION : 4\n\nDIMENSION : 40002\n", 3, TooManyStops),
+    (b"DIMENSION : 4\n\ndimension : 4\n", 3, NodeRepeated),
+    (b"TYPE :\n", 1, Unsupported),
+    (b"TYPE : CVRP\nTYPE : TSP\n", 2, Unsupported),
+    (b"TYPE : CVRP\nTYPE : CVRP\n", 2, NodeRepeated),
+    (b"EDGE_WEIGHT_TYPE : GEO\n", 1, Unsupported),
+    (b"DISTANCE : 200\n", 1, Unsupported),
+    (b"A NODE_COORD_SECTION\n", 1, Unsupported),
+    (b"5_SECTION\n", 1, Unsupported),
+    (b" 5 1 1\n", 1, FieldCount),
+    (b"NODE_COORD_SECTION\n", 1, MissingKey),
 ];
 
 #[test]
@@ -275,31 +251,23 @@ const SECTION_FAULTS: [(&[u8], u64, ReadFaultKind); 8] = [
     (
         b"DIMENSION : 2\nNODE_COORD_SECTION\n1 30.5 1000001\n",
         3,
-        ReadFaultKind::BadNumber,
+        BadNumber,
     ),
     (
         b"DIMENSION : 2\nNODE_COORD_SECTION\n1 0 0\n1 1000001 0\n",
         4,
-        ReadFaultKind::Range,
+        Range,
     ),
     (
         b"DIMENSION : 2\nNODE_COORD_SECTION\n1 0 0\n1 0 0\n",
         4,
-        ReadFaultKind::NodeRepeated,
+        NodeRepeated,
     ),
-    (
-        b"DIMENSION : 2\nDEMAND_SECTION\n0 0\n",
-        3,
-        ReadFaultKind::Range,
-    ),
-    (
-        b"DIMENSION : 2\nDEMAND_SECTION\nEOF\n",
-        3,
-        ReadFaultKind::FieldCount,
-    ),
-    (b"DEPOT_SECTION\n2 -1 3\n", 2, ReadFaultKind::FieldCount),
-    (b"DEPOT_SECTION\n2 x\n", 2, ReadFaultKind::BadNumber),
-    (b"DEPOT_SECTION\n1 2\n", 2, ReadFaultKind::DepotNotFirst),
+    (b"DIMENSION : 2\nDEMAND_SECTION\n0 0\n", 3, Range),
+    (b"DIMENSION : 2\nDEMAND_SECTION\nEOF\n", 3, FieldCount),
+    (b"DEPOT_SECTION\n2 -1 3\n", 2, FieldCount),
+    (b"DEPOT_SECTION\n2 x\n", 2, BadNumber),
+    (b"DEPOT_SECTION\n1 2\n", 2, DepotNotFirst),
 ];
 
 #[test]
@@ -320,7 +288,7 @@ fn reads_every_prefix(rt: HostRuntime) {
 #[test]
 fn tells_a_cut_section(rt: HostRuntime) {
     let nine_lines = &THREE_CUSTOMERS[..113];
-    let truncated = ReadFaultKind::Truncated;
+    let truncated = Truncated;
     assert!(rt; is_refused(rt.alloc(), Kind::Vrp, nine_lines, 10, truncated));
 }
 
@@ -332,7 +300,7 @@ const LONG_NUMBER: [Part; 2] = [
 #[test]
 fn tells_the_line_of_a_long_number(rt: HostRuntime) -> Result<(), Fail> {
     let text = text_of(rt.alloc(), &LONG_NUMBER)?;
-    assert!(rt; is_refused(rt.alloc(), Kind::Vrp, &text, 2, ReadFaultKind::Range));
+    assert!(rt; is_refused(rt.alloc(), Kind::Vrp, &text, 2, Range));
     Ok(())
 }
 
