@@ -1,14 +1,13 @@
 -- The limits of a route that is feasible alone.
-use Rattle.std.proofs.Common.{◌≡◌, ℕ, zero, suc, ◌+◌, ◌<◌, ◌≤◌, ◌≤ℤ◌, ℤ, pos, int_lt, ◌&&◌, Bool, true, false, not, T, List, [], ◌∷◌, length, slice_index_or, take, refl, sym, ap, subst, ◌∙◌, arith, inl, inr, nat_eq, nat_le, eqb}
-use Rattle.std.specs.List.{AllByRecursion, IsDistinct, list_all, range_with_len}
+use Rattle.std.proofs.Common.{◌≡◌, ℕ, zero, suc, ◌+◌, ◌<◌, ◌≤◌, ◌≤ℤ◌, ℤ, pos, int_lt, ◌&&◌, Bool, true, false, not, T, List, length, slice_index_or, refl, sym, ap, subst, ◌∙◌, arith, inl, inr, nat_le, eqb}
+use Rattle.std.specs.List.{list_all, range_with_len}
 use Rattle.std.proofs.lemmas.Bool.{and_parts, cases_lt, eqb-true, leb-true, or_cases}
 use Rattle.std.proofs.lemmas.Int.{by_lt_z}
-use Rattle.std.proofs.lemmas.List.Elements.{All-take}
 use Rattle.std.proofs.lemmas.List.FromFn.{get_or-map-range_with_len, length-map-range_with_len}
 use Rattle.plan_types.specs.Instance.{Instance}
 use Rattle.plan_types.specs.declared.requests.Kind.{Kind}
 use Rattle.plan_types.specs.declared.requests.Kind.TheVariants.{LiLim, Vrp}
-use Rattle.route_sched.specs.Route.{AreLiveOnce, IsLive, place}
+use Rattle.route_sched.specs.Route.{place}
 use Rattle.route_sched.specs.Schedule.{load, start}
 use Rattle.plan_audit.specs.Passes.{feasible_alone, has_whole_pairs, is_back_in_time, keeps_capacity, keeps_times, keeps_windows, picks_up_first}
 use Rattle.slack_tables.specs.Insertion.{KeepsLimits}
