@@ -24,7 +24,7 @@ use Rattle.std.proofs.lemmas.Slice.Eq.{bytes_eq-Decides}
 use Rattle.clap.proofs.WalkLemmas.{first_value-rows, list_any-map}
 use Rattle.clap.proofs.OnLiterals.{clap_on_literals}
 use Rattle.command_line.specs.declared.words.Invocation.{Invocation}
-use Rattle.command_line.specs.Asked.{IsRefusal, ArePositional, Asked, PathsAsked, ReadsWords, asked_by, asked_with, asks_help, audit, audits, deviation_or_none, draw_asked, draw_in, draw_with, explain, format, is_positional_word, kind_named, list_asked, list_from, list_in, load, load_asked, load_from, load_in, load_with, paths_asked, paths_from, paths_in, run, run_asked, run_from, run_in, run_with, seed_named, seed_or_none, solve, solves, steps_named, store_asked, store_in, task_asked, task_from, task_in, task_with, tasks_asked, tasks_from, tasks_in, tasks_with, timetable_asked, timetable_in, timetable_with, told_by, told_by_other, told_of, told_of_store, upgrade, upgrade_asked, upgrade_in, usage_status_of}
+use Rattle.command_line.specs.Asked.{ArePositional, Asked, IsRefusal, PathsAsked, ReadsWords, asked_by, asked_with, asks_help, audit, audits, deviation_or_none, draw_asked, draw_in, explain, format, is_positional_word, kind_named, list_asked, list_in, load, load_asked, load_from, load_in, paths_asked, paths_in, run, run_asked, run_in, seed_named, solve, solves, steps_named, store_asked, store_in, task_asked, task_from, task_in, tasks_asked, tasks_from, tasks_in, timetable_asked, timetable_in, told_by, told_by_other, told_of, told_of_store, upgrade, upgrade_asked, upgrade_in, usage_status_of, ◌>>=◌}
 use Rattle.command_line.specs.CommandLine.{IsKindNames, IsModeNames, IsPlannerCommand, audits_app, draw_app, load_app, paths_app, planner_app, run_app, solve_app, solves_app, store_app, timetable_app, upgrade_app}
 
 -- ---- a word that does not begin with a hyphen is a value
@@ -313,7 +313,7 @@ module _ (Help : Type 0) (names : Bor (List (Bor Text))) (kinds : IsKindNames na
   unfolding clap_on_literals
   judged_list [] = inr (inl (refl, tt), refl)
   judged_list (k ∷ []) = too_few k _
-  judged_list (k ∷ l ∷ []) = enough k _ _ (λ none. ap (λ o. option_map (λ k. audits k l) o) none) refl
+  judged_list (k ∷ l ∷ []) = enough k _ _ (λ none. ap (λ o. o >>= (λ k. Some (audits k l))) none) refl
   judged_list (k ∷ l ∷ x ∷ rest) = too_many k _ _
 
   judged_task : (words : List Text)
@@ -380,10 +380,10 @@ known_mode : (modes : Bor (List (Bor Text))) (m : Text) → IsModeNames modes
     → or_else (if list_any (λ name. bytes_eq name.now m) modes.now then [] else kind.InvalidValue ∷ []) [] ≡ unless_strict (bytes_eq (codes "strict") m)
 known_mode modes m named = ap (λ b. or_else (if b then [] else kind.InvalidValue ∷ []) []) (accepts_modes modes m named) ∙ strict_by (bytes_eq (codes "strict") m)
 
-judged_mode : (Help : Type 0) (a : Bool) (store : Text) (faults : Kinds) (told : Option Asked) → faults ≡ unless_strict a → (if a then Some (run store true) else None) ≡ told
-    → IsJudged Help faults (if a then Some (run store true) else None) told
-judged_mode Help true store faults told f same = inl (f, same)
-judged_mode Help false store faults told f same = inr (inl (subst IsFault (sym f) (refl, tt)), refl)
+judged_mode : (Help : Type 0) (a : Bool) (store : Text) (faults : Kinds) → faults ≡ unless_strict a
+    → let asked = option_map (run store) (if a then Some true else None) in IsJudged Help faults asked asked
+judged_mode Help true store faults f = inl (f, refl)
+judged_mode Help false store faults f = inr (inl (subst IsFault (sym f) (refl, tt)), refl)
 
 module _ (Help : Type 0) where
   judged_store : (does : Text → Asked) (name : Text) (words : List Text)
@@ -397,7 +397,7 @@ module _ (Help : Type 0) where
   unfolding clap_on_literals
   judged_run modes named [] = inr (inl (refl, tt), refl)
   judged_run modes named (w ∷ []) = inl (refl, refl)
-  judged_run modes named (w ∷ m ∷ []) = judged_mode Help (bytes_eq (codes "strict") m) w _ _ (or_else-nil _ ∙ known_mode modes m named) refl
+  judged_run modes named (w ∷ m ∷ []) = judged_mode Help (bytes_eq (codes "strict") m) w _ (or_else-nil _ ∙ known_mode modes m named)
   judged_run modes named (w ∷ m ∷ x ∷ rest) = inr (inl (refl, tt), refl)
 
   judged_upgrade : (words : List Text) → IsJudged Help (leaf_fault upgrade_shape words) (upgrade_asked words) (upgrade_in (leaf_rows upgrade_shape words))
@@ -579,177 +579,9 @@ judged_words names modes (w ∷ words) kinds known p = judged_first names modes 
 pub value_is : (f : Found) (id : Text) (o : Option Text) → o ≡ first_value f id → first_of id (rows_of f) ≡ o
 value_is f id o e = sym (e ∙ first_value-rows f id)
 
-unnamed_kind : (k : Text) (i s : Option Text) → kind_named k ≡ None → paths_from (Some k) i s ≡ None
-unnamed_kind k None s e = refl
-unnamed_kind k (Some i) None e = refl
-unnamed_kind k (Some i) (Some s) e = rw e refl
-
-module _ (f : Found) where
-  pub three_found : (k i s : Text) (kind : Kind) → Some k ≡ first_value f (codes "KIND") → Some i ≡ first_value f (codes "INSTANCE") → Some s ≡ first_value f (codes "SOLUTION") → Some kind ≡ kind_named k
-      → Some (record { kind = kind; instance = i; solution = s }) ≡ paths_in (rows_of f)
-  three_found k i s kind ek ei es named =
-      let named' : kind_named k ≡ Some kind = sym named in
-      rw (value_is f (codes "KIND") (Some k) ek, value_is f (codes "INSTANCE") (Some i) ei, value_is f (codes "SOLUTION") (Some s) es, named') refl
-
-  pub no_kind_word : None ≡ first_value f (codes "KIND") → None ≡ paths_in (rows_of f)
-  no_kind_word ek = rw (value_is f (codes "KIND") None ek) refl
-
-  pub no_kind : (k : Text) → Some k ≡ first_value f (codes "KIND") → None ≡ kind_named k → None ≡ paths_in (rows_of f)
-  no_kind k ek unnamed = sym (rw (value_is f (codes "KIND") (Some k) ek) (unnamed_kind k _ _ (sym unnamed)))
-
-  pub no_instance : (k : Text) → Some k ≡ first_value f (codes "KIND") → None ≡ first_value f (codes "INSTANCE") → None ≡ paths_in (rows_of f)
-  no_instance k ek ei = rw (value_is f (codes "KIND") (Some k) ek, value_is f (codes "INSTANCE") None ei) refl
-
-  pub no_solution : (k i : Text) → Some k ≡ first_value f (codes "KIND") → Some i ≡ first_value f (codes "INSTANCE") → None ≡ first_value f (codes "SOLUTION") → None ≡ paths_in (rows_of f)
-  no_solution k i ek ei es = rw (value_is f (codes "KIND") (Some k) ek, value_is f (codes "INSTANCE") (Some i) ei, value_is f (codes "SOLUTION") None es) refl
-
-  -- of `audits`
-  unnamed_list : (k : Text) (l : Option Text) → kind_named k ≡ None → list_from (Some k) l ≡ None
-  unnamed_list k None e = refl
-  unnamed_list k (Some l) e = rw e refl
-
-  pub no_list_kind : None ≡ first_value f (codes "KIND") → None ≡ list_in (rows_of f)
-  no_list_kind ek = rw (value_is f (codes "KIND") None ek) refl
-
-  pub no_kind_of_list : (k : Text) → Some k ≡ first_value f (codes "KIND") → None ≡ kind_named k → None ≡ list_in (rows_of f)
-  no_kind_of_list k ek unnamed = sym (rw (value_is f (codes "KIND") (Some k) ek) (unnamed_list k _ (sym unnamed)))
-
-  pub no_list_path : (k : Text) → Some k ≡ first_value f (codes "KIND") → None ≡ first_value f (codes "LIST") → None ≡ list_in (rows_of f)
-  no_list_path k ek el = rw (value_is f (codes "KIND") (Some k) ek, value_is f (codes "LIST") None el) refl
-
-  pub list_found : (k l : Text) (kind : Kind) → Some k ≡ first_value f (codes "KIND") → Some l ≡ first_value f (codes "LIST") → Some kind ≡ kind_named k → Some (audits kind l) ≡ list_in (rows_of f)
-  list_found k l kind ek el named =
-      let named' : kind_named k ≡ Some kind = sym named in
-      rw (value_is f (codes "KIND") (Some k) ek, value_is f (codes "LIST") (Some l) el, named') refl
-
-  -- of `upgrade`
-  pub no_old : None ≡ first_value f (codes "OLD") → None ≡ upgrade_in (rows_of f)
-  no_old eo = rw (value_is f (codes "OLD") None eo) refl
-
-  pub no_new : (o : Text) → Some o ≡ first_value f (codes "OLD") → None ≡ first_value f (codes "NEW") → None ≡ upgrade_in (rows_of f)
-  no_new o eo en = rw (value_is f (codes "OLD") (Some o) eo, value_is f (codes "NEW") None en) refl
-
-  pub upgrade_found : (o n : Text) → Some o ≡ first_value f (codes "OLD") → Some n ≡ first_value f (codes "NEW") → Some (upgrade o n) ≡ upgrade_in (rows_of f)
-  upgrade_found o n eo en = rw (value_is f (codes "OLD") (Some o) eo, value_is f (codes "NEW") (Some n) en) refl
-
-  -- of `solve`
-  abbrev IsValue : Text → Option Text → Type 0
-  IsValue id o = o ≡ first_value f id
-
-  pub task_is : (k i n : Option Text) → IsValue (codes "KIND") k → IsValue (codes "INSTANCE") i → IsValue (codes "STEPS") n → task_in (rows_of f) ≡ task_with k i n (first_of (codes "SEED") (rows_of f)) (first_of (codes "DEVIATION") (rows_of f))
-  task_is k i n ek ei en = rw (value_is f (codes "KIND") k ek, value_is f (codes "INSTANCE") i ei, value_is f (codes "STEPS") n en) refl
-
-  -- of `solves`
-  pub tasks_is : (k l n : Option Text) → IsValue (codes "KIND") k → IsValue (codes "LIST") l → IsValue (codes "STEPS") n → tasks_in (rows_of f) ≡ tasks_with k l n (first_of (codes "SEED") (rows_of f))
-  tasks_is k l n ek el en = rw (value_is f (codes "KIND") k ek, value_is f (codes "LIST") l el, value_is f (codes "STEPS") n en) refl
-
-  -- of `draw`
-  pub draw_is : (a b c d : Option Text) → IsValue (codes "STORE|KIND") a → IsValue (codes "INSTANCE") b → IsValue (codes "SOLUTION") c → IsValue (codes "ROUTE") d → draw_in (rows_of f) ≡ draw_with a b c d
-  draw_is a b c d ea eb ec ed = rw (value_is f (codes "STORE|KIND") a ea, value_is f (codes "INSTANCE") b eb, value_is f (codes "SOLUTION") c ec, value_is f (codes "ROUTE") d ed) refl
-
-  -- of `run`
-  pub run_is : (w m : Option Text) → IsValue (codes "STORE") w → IsValue (codes "strict") m → run_in (rows_of f) ≡ run_with w m
-  run_is w m ew em = rw (value_is f (codes "STORE") w ew, value_is f (codes "strict") m em) refl
-
-  -- of `timetable`
-  pub table_is : (a b c d : Option Text) → IsValue (codes "STORE|KIND") a → IsValue (codes "tabs|INSTANCE") b → IsValue (codes "SOLUTION") c → IsValue (codes "tabs") d → timetable_in (rows_of f) ≡ timetable_with a b c d
-  table_is a b c d ea eb ec ed = rw (value_is f (codes "STORE|KIND") a ea, value_is f (codes "tabs|INSTANCE") b eb, value_is f (codes "SOLUTION") c ec, value_is f (codes "tabs") d ed) refl
-
-  -- of `load`
-  pub load_is : (w k i : Option Text) → IsValue (codes "STORE") w → IsValue (codes "KIND") k → IsValue (codes "INSTANCE") i → load_in (rows_of f) ≡ load_with w k i (first_of (codes "SEED") (rows_of f))
-  load_is w k i ew ek ei = rw (value_is f (codes "STORE") w ew, value_is f (codes "KIND") k ek, value_is f (codes "INSTANCE") i ei) refl
-
--- words that ask for no task
-pub no_kind_of_task : (k : Text) (i n s d : Option Text) → kind_named k ≡ None → task_with (Some k) i n s d ≡ None
-no_kind_of_task k None n s d e = refl
-no_kind_of_task k (Some i) None s d e = refl
-no_kind_of_task k (Some i) (Some n) s d e = ap (λ o. task_from o i (steps_named n) (seed_or_none s) (deviation_or_none d)) e
-
-no_steps_from : (o : Option Kind) (i : Text) (s : Option ℕ) (d : Option (Option ℕ)) → task_from o i None s d ≡ None
-no_steps_from None i s d = refl
-no_steps_from (Some k) i s d = refl
-
-pub bad_steps : (k i n : Text) (s d : Option Text) → steps_named n ≡ None → task_with (Some k) (Some i) (Some n) s d ≡ None
-bad_steps k i n s d e = ap (λ o. task_from (kind_named k) i o (seed_or_none s) (deviation_or_none d)) e ∙ no_steps_from (kind_named k) i (seed_or_none s) (deviation_or_none d)
-
-no_seed_from : (o : Option Kind) (i : Text) (n : Option ℕ) (d : Option (Option ℕ)) → task_from o i n None d ≡ None
-no_seed_from None i n d = refl
-no_seed_from (Some k) i None d = refl
-no_seed_from (Some k) i (Some n) d = refl
-
-pub bad_seed : (k i n : Text) (s d : Option Text) → seed_or_none s ≡ None → task_with (Some k) (Some i) (Some n) s d ≡ None
-bad_seed k i n s d e = ap (λ o. task_from (kind_named k) i (steps_named n) o (deviation_or_none d)) e ∙ no_seed_from (kind_named k) i (steps_named n) (deviation_or_none d)
-
-no_deviation_from : (o : Option Kind) (i : Text) (n s : Option ℕ) → task_from o i n s None ≡ None
-no_deviation_from None i n s = refl
-no_deviation_from (Some k) i None s = refl
-no_deviation_from (Some k) i (Some n) None = refl
-no_deviation_from (Some k) i (Some n) (Some s) = refl
-
-pub bad_deviation : (k i n : Text) (s d : Option Text) → deviation_or_none d ≡ None → task_with (Some k) (Some i) (Some n) s d ≡ None
-bad_deviation k i n s d e = ap (task_from (kind_named k) i (steps_named n) (seed_or_none s)) e ∙ no_deviation_from (kind_named k) i (steps_named n) (seed_or_none s)
-
-pub task_found : (k i n : Text) (s d : Option Text) (kind : Kind) (steps seed : ℕ) (deviation : Option ℕ) → kind_named k ≡ Some kind → steps_named n ≡ Some steps → seed_or_none s ≡ Some seed
-    → deviation_or_none d ≡ Some deviation
-    → task_with (Some k) (Some i) (Some n) s d ≡ Some (record { kind = kind; instance = i; steps = steps; seed = seed; deviation = deviation })
-task_found k i n s d kind steps seed deviation ek en es ed =
-    ap (λ o. task_from o i (steps_named n) (seed_or_none s) (deviation_or_none d)) ek
-    ∙ (ap (λ o. task_from (Some kind) i o (seed_or_none s) (deviation_or_none d)) en
-    ∙ (ap (λ o. task_from (Some kind) i (Some steps) o (deviation_or_none d)) es ∙ ap (task_from (Some kind) i (Some steps) (Some seed)) ed))
-
--- words that ask for no solving of a list
-pub no_kind_of_tasks : (k : Text) (l n s : Option Text) → kind_named k ≡ None → tasks_with (Some k) l n s ≡ None
-no_kind_of_tasks k None n s e = refl
-no_kind_of_tasks k (Some l) None s e = refl
-no_kind_of_tasks k (Some l) (Some n) s e = ap (λ o. tasks_from o l (steps_named n) (seed_or_none s)) e
-
-no_listed_steps : (o : Option Kind) (l : Text) (s : Option ℕ) → tasks_from o l None s ≡ None
-no_listed_steps None l s = refl
-no_listed_steps (Some k) l s = refl
-
-pub bad_tasks_steps : (k l n : Text) (s : Option Text) → steps_named n ≡ None → tasks_with (Some k) (Some l) (Some n) s ≡ None
-bad_tasks_steps k l n s e = ap (λ o. tasks_from (kind_named k) l o (seed_or_none s)) e ∙ no_listed_steps (kind_named k) l (seed_or_none s)
-
-no_listed_seed : (o : Option Kind) (l : Text) (n : Option ℕ) → tasks_from o l n None ≡ None
-no_listed_seed None l n = refl
-no_listed_seed (Some k) l None = refl
-no_listed_seed (Some k) l (Some n) = refl
-
-pub bad_tasks_seed : (k l n : Text) (s : Option Text) → seed_or_none s ≡ None → tasks_with (Some k) (Some l) (Some n) s ≡ None
-bad_tasks_seed k l n s e = ap (λ o. tasks_from (kind_named k) l (steps_named n) o) e ∙ no_listed_seed (kind_named k) l (steps_named n)
-
-pub tasks_found : (k l n : Text) (s : Option Text) (kind : Kind) (steps seed : ℕ) → kind_named k ≡ Some kind → steps_named n ≡ Some steps → seed_or_none s ≡ Some seed
-    → tasks_with (Some k) (Some l) (Some n) s ≡ Some (record { kind = kind; list = l; steps = steps; seed = seed })
-tasks_found k l n s kind steps seed ek en es =
-    ap (λ o. tasks_from o l (steps_named n) (seed_or_none s)) ek
-    ∙ (ap (λ o. tasks_from (Some kind) l o (seed_or_none s)) en ∙ ap (tasks_from (Some kind) l (Some steps)) es)
-
 is_not : (b : Bool) → (b ≡ true → ⊥) → b ≡ false
 is_not true n = absurd (n refl)
 is_not false n = refl
-
--- a word behind the store that is not `strict`
-pub other_mode : (w m : Text) → (m ≡ codes "strict" → ⊥) → run_with (Some w) (Some m) ≡ None
-other_mode w m n = rw (is_not (bytes_eq (codes "strict") m) (λ e. n (sym ((bytes_eq-Decides (codes "strict") m).0 e)))) refl
-
-pub strict_mode : (w m : Text) → m ≡ codes "strict" → run_with (Some w) (Some m) ≡ Some (run w true)
-strict_mode w m is = ap (λ (x : Text). run_from w x) is
-
--- words that load nothing
-pub no_kind_of_load : (w k : Text) (i s : Option Text) → kind_named k ≡ None → load_with (Some w) (Some k) i s ≡ None
-no_kind_of_load w k None s e = refl
-no_kind_of_load w k (Some i) s e = ap (λ o. load_from w o i (seed_or_none s)) e
-
-no_seed_to_load : (w : Text) (o : Option Kind) (i : Text) → load_from w o i None ≡ None
-no_seed_to_load w None i = refl
-no_seed_to_load w (Some k) i = refl
-
-pub bad_load_seed : (w k i : Text) (s : Option Text) → seed_or_none s ≡ None → load_with (Some w) (Some k) (Some i) s ≡ None
-bad_load_seed w k i s e = ap (λ o. load_from w (kind_named k) i o) e ∙ no_seed_to_load w (kind_named k) i
-
-pub load_found : (w k i : Text) (s : Option Text) (kind : Kind) (seed : ℕ) → kind_named k ≡ Some kind → seed_or_none s ≡ Some seed
-    → load_with (Some w) (Some k) (Some i) s ≡ Some (record { store = w; kind = kind; instance = i; seed = seed })
-load_found w k i s kind seed ek es = ap (λ o. load_from w o i (seed_or_none s)) ek ∙ ap (λ o. load_from w (Some kind) i o) es
 
 -- ---- the name of a command that takes no solution
 

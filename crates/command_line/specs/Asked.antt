@@ -114,14 +114,23 @@ abbrev pub seed_or_none : Option Text → Option ℕ
 seed_or_none None = Some 0
 seed_or_none (Some word) = seed_named word
 
+infixl 10 ◌>>=◌
+
+-- what the function makes of the value, if there is one
+abbrev pub ◌>>=◌ : {A B : Type 0} → Option A → (A → Option B) → Option B
+o >>= f = option_and_then f o
+
+abbrev pub paths_from : Text → Text → Text → Option PathsAsked
+paths_from kind instance solution = option_map (λ k. record { kind = k; instance = instance; solution = solution }) (kind_named kind)
+
 -- `KIND INSTANCE SOLUTION`
 abbrev pub paths_asked : List Text → Option PathsAsked
-paths_asked (kind ∷ instance ∷ solution ∷ []) = option_map (λ k. record { kind = k; instance = instance; solution = solution }) (kind_named kind)
+paths_asked (kind ∷ instance ∷ solution ∷ []) = paths_from kind instance solution
 paths_asked _ = None
 
 -- `KIND LIST`
 abbrev pub list_asked : List Text → Option Asked
-list_asked (kind ∷ list ∷ []) = option_map (λ k. audits k list) (kind_named kind)
+list_asked (kind ∷ list ∷ []) = kind_named kind >>= (λ k. Some (audits k list))
 list_asked _ = None
 
 -- a deviation, in digits alone; or that none is named
@@ -130,8 +139,12 @@ deviation_or_none None = Some None
 deviation_or_none (Some word) = option_map (λ d. Some d) (below 1000000001 (digits_of word))
 
 abbrev pub task_from : Option Kind → Text → Option ℕ → Option ℕ → Option (Option ℕ) → Option TaskAsked
-task_from (Some kind) instance (Some steps) (Some seed) (Some deviation) = Some (record { kind = kind; instance = instance; steps = steps; seed = seed; deviation = deviation })
-task_from _ _ _ _ _ = None
+task_from kind instance steps seed deviation = do
+  kind ← kind
+  steps ← steps
+  seed ← seed
+  deviation ← deviation
+  Some (record { kind = kind; instance = instance; steps = steps; seed = seed; deviation = deviation })
 
 -- `KIND INSTANCE STEPS [SEED [DEVIATION]]`
 abbrev pub task_asked : List Text → Option TaskAsked
@@ -142,8 +155,11 @@ task_asked (kind ∷ instance ∷ steps ∷ seed ∷ deviation ∷ []) =
 task_asked _ = None
 
 abbrev pub tasks_from : Option Kind → Text → Option ℕ → Option ℕ → Option TasksAsked
-tasks_from (Some kind) list (Some steps) (Some seed) = Some (record { kind = kind; list = list; steps = steps; seed = seed })
-tasks_from _ _ _ _ = None
+tasks_from kind list steps seed = do
+  kind ← kind
+  steps ← steps
+  seed ← seed
+  Some (record { kind = kind; list = list; steps = steps; seed = seed })
 
 -- `KIND LIST STEPS [SEED]`
 abbrev pub tasks_asked : List Text → Option TasksAsked
@@ -157,16 +173,23 @@ store_asked (store ∷ []) = Some store
 store_asked _ = None
 
 abbrev pub load_from : Text → Option Kind → Text → Option ℕ → Option LoadAsked
-load_from store (Some kind) instance (Some seed) = Some (record { store = store; kind = kind; instance = instance; seed = seed })
-load_from _ _ _ _ = None
+load_from store kind instance seed = do
+  kind ← kind
+  seed ← seed
+  Some (record { store = store; kind = kind; instance = instance; seed = seed })
+
+-- whether a last word is this one; no other may stand there
+abbrev pub flag_named : Text → Option Text → Option Bool
+flag_named name None = Some false
+flag_named name (Some word) = if bytes_eq name word then Some true else None
+
+abbrev pub run_from : Text → Option Text → Option Asked
+run_from store mode = option_map (run store) (flag_named (codes "strict") mode)
 
 -- `STORE [strict]`
-abbrev pub run_from : Text → Text → Option Asked
-run_from store mode = if bytes_eq (codes "strict") mode then Some (run store true) else None
-
 abbrev pub run_asked : List Text → Option Asked
-run_asked (store ∷ []) = Some (run store false)
-run_asked (store ∷ mode ∷ []) = run_from store mode
+run_asked (store ∷ []) = run_from store None
+run_asked (store ∷ mode ∷ []) = run_from store (Some mode)
 run_asked _ = None
 
 -- `STORE KIND INSTANCE [SEED]`
@@ -180,26 +203,23 @@ abbrev pub upgrade_asked : List Text → Option Asked
 upgrade_asked (old ∷ new ∷ []) = Some (upgrade old new)
 upgrade_asked _ = None
 
--- whether a last word asks for tabs; no other word may stand there
-abbrev pub tabs_named : Option Text → Option Bool
-tabs_named None = Some false
-tabs_named (Some word) = if bytes_eq (codes "tabs") word then Some true else None
-
 -- `STORE [tabs]`
 abbrev pub store_timetable_from : Text → Option Text → Option Asked
-store_timetable_from store last = option_map (store_timetable store) (tabs_named last)
+store_timetable_from store last = option_map (store_timetable store) (flag_named (codes "tabs") last)
 
 -- `KIND INSTANCE SOLUTION [tabs]`
-abbrev pub timetable_from : Option Kind → Text → Text → Option Bool → Option Asked
-timetable_from (Some kind) instance solution (Some is_tabbed) = Some (timetable (record { kind = kind; instance = instance; solution = solution }) is_tabbed)
-timetable_from _ _ _ _ = None
+abbrev pub timetable_from : Text → Text → Text → Option Text → Option Asked
+timetable_from kind instance solution last = do
+  paths ← paths_from kind instance solution
+  is_tabbed ← flag_named (codes "tabs") last
+  Some (timetable paths is_tabbed)
 
 -- one or two words of a store, three or four of a solution
 abbrev pub timetable_asked : List Text → Option Asked
 timetable_asked (store ∷ []) = store_timetable_from store None
 timetable_asked (store ∷ last ∷ []) = store_timetable_from store (Some last)
-timetable_asked (kind ∷ instance ∷ solution ∷ []) = timetable_from (kind_named kind) instance solution (tabs_named None)
-timetable_asked (kind ∷ instance ∷ solution ∷ last ∷ []) = timetable_from (kind_named kind) instance solution (tabs_named (Some last))
+timetable_asked (kind ∷ instance ∷ solution ∷ []) = timetable_from kind instance solution None
+timetable_asked (kind ∷ instance ∷ solution ∷ last ∷ []) = timetable_from kind instance solution (Some last)
 timetable_asked _ = None
 
 -- the number of a route, in digits alone; or that none is named
@@ -208,15 +228,17 @@ route_or_none None = Some None
 route_or_none (Some word) = option_map (λ n. Some n) (below (2 ^ 32) (digits_of word))
 
 -- `KIND INSTANCE SOLUTION [ROUTE]`
-abbrev pub draw_from : Option Kind → Text → Text → Option (Option ℕ) → Option Asked
-draw_from (Some kind) instance solution (Some route) = Some (draw (record { kind = kind; instance = instance; solution = solution }) route)
-draw_from _ _ _ _ = None
+abbrev pub draw_from : Text → Text → Text → Option Text → Option Asked
+draw_from kind instance solution last = do
+  paths ← paths_from kind instance solution
+  route ← route_or_none last
+  Some (draw paths route)
 
 -- one word of a store, three or four of a solution
 abbrev pub draw_asked : List Text → Option Asked
 draw_asked (store ∷ []) = Some (draw_store store)
-draw_asked (kind ∷ instance ∷ solution ∷ []) = draw_from (kind_named kind) instance solution (route_or_none None)
-draw_asked (kind ∷ instance ∷ solution ∷ route ∷ []) = draw_from (kind_named kind) instance solution (route_or_none (Some route))
+draw_asked (kind ∷ instance ∷ solution ∷ []) = draw_from kind instance solution None
+draw_asked (kind ∷ instance ∷ solution ∷ route ∷ []) = draw_from kind instance solution (Some route)
 draw_asked _ = None
 
 -- what the command of this name asks for with these words; no other has this name
@@ -239,86 +261,83 @@ asked_by [] = Some built_in
 asked_by (command ∷ words) = asked_with words command
 
 -- what the values of `KIND INSTANCE SOLUTION` ask for
-abbrev pub paths_from : Option Text → Option Text → Option Text → Option PathsAsked
-paths_from (Some kind) (Some instance) (Some solution) = paths_asked (kind ∷ instance ∷ solution ∷ [])
-paths_from _ _ _ = None
-
 abbrev pub paths_in : List Row → Option PathsAsked
-paths_in rows = paths_from (first_of (codes "KIND") rows) (first_of (codes "INSTANCE") rows) (first_of (codes "SOLUTION") rows)
+paths_in rows = do
+  kind ← first_of (codes "KIND") rows
+  instance ← first_of (codes "INSTANCE") rows
+  solution ← first_of (codes "SOLUTION") rows
+  paths_from kind instance solution
 
 -- those of `KIND LIST`
-abbrev pub list_from : Option Text → Option Text → Option Asked
-list_from (Some kind) (Some list) = list_asked (kind ∷ list ∷ [])
-list_from _ _ = None
-
 abbrev pub list_in : List Row → Option Asked
-list_in rows = list_from (first_of (codes "KIND") rows) (first_of (codes "LIST") rows)
+list_in rows = do
+  kind ← first_of (codes "KIND") rows >>= kind_named
+  list ← first_of (codes "LIST") rows
+  Some (audits kind list)
+
+abbrev pub seed_in : List Row → Option ℕ
+seed_in rows = seed_or_none (first_of (codes "SEED") rows)
 
 -- those of `KIND INSTANCE STEPS [SEED [DEVIATION]]`
-abbrev pub task_with : Option Text → Option Text → Option Text → Option Text → Option Text → Option TaskAsked
-task_with (Some kind) (Some instance) (Some steps) seed deviation =
-    task_from (kind_named kind) instance (steps_named steps) (seed_or_none seed) (deviation_or_none deviation)
-task_with _ _ _ _ _ = None
-
 abbrev pub task_in : List Row → Option TaskAsked
-task_in rows = task_with (first_of (codes "KIND") rows) (first_of (codes "INSTANCE") rows) (first_of (codes "STEPS") rows) (first_of (codes "SEED") rows)
-    (first_of (codes "DEVIATION") rows)
+task_in rows = do
+  kind ← first_of (codes "KIND") rows >>= kind_named
+  instance ← first_of (codes "INSTANCE") rows
+  steps ← first_of (codes "STEPS") rows >>= steps_named
+  seed ← seed_in rows
+  deviation ← deviation_or_none (first_of (codes "DEVIATION") rows)
+  Some (record { kind = kind; instance = instance; steps = steps; seed = seed; deviation = deviation })
 
 -- those of `KIND LIST STEPS [SEED]`
-abbrev pub tasks_with : Option Text → Option Text → Option Text → Option Text → Option TasksAsked
-tasks_with (Some kind) (Some list) (Some steps) seed = tasks_from (kind_named kind) list (steps_named steps) (seed_or_none seed)
-tasks_with _ _ _ _ = None
-
 abbrev pub tasks_in : List Row → Option TasksAsked
-tasks_in rows = tasks_with (first_of (codes "KIND") rows) (first_of (codes "LIST") rows) (first_of (codes "STEPS") rows) (first_of (codes "SEED") rows)
+tasks_in rows = do
+  kind ← first_of (codes "KIND") rows >>= kind_named
+  list ← first_of (codes "LIST") rows
+  steps ← first_of (codes "STEPS") rows >>= steps_named
+  seed ← seed_in rows
+  Some (record { kind = kind; list = list; steps = steps; seed = seed })
 
 -- the value of `STORE`
 abbrev pub store_in : List Row → Option Text
 store_in rows = first_of (codes "STORE") rows
 
 -- those of `STORE [strict]`
-abbrev pub run_with : Option Text → Option Text → Option Asked
-run_with (Some store) None = Some (run store false)
-run_with (Some store) (Some mode) = run_from store mode
-run_with None _ = None
-
 abbrev pub run_in : List Row → Option Asked
-run_in rows = run_with (first_of (codes "STORE") rows) (first_of (codes "strict") rows)
+run_in rows = store_in rows >>= (λ store. run_from store (first_of (codes "strict") rows))
 
 -- those of `STORE KIND INSTANCE [SEED]`
-abbrev pub load_with : Option Text → Option Text → Option Text → Option Text → Option LoadAsked
-load_with (Some store) (Some kind) (Some instance) seed = load_from store (kind_named kind) instance (seed_or_none seed)
-load_with _ _ _ _ = None
-
 abbrev pub load_in : List Row → Option LoadAsked
-load_in rows = load_with (first_of (codes "STORE") rows) (first_of (codes "KIND") rows) (first_of (codes "INSTANCE") rows) (first_of (codes "SEED") rows)
+load_in rows = do
+  store ← store_in rows
+  kind ← first_of (codes "KIND") rows >>= kind_named
+  instance ← first_of (codes "INSTANCE") rows
+  seed ← seed_in rows
+  Some (record { store = store; kind = kind; instance = instance; seed = seed })
 
 -- those of `OLD NEW`
-abbrev pub upgrade_from : Option Text → Option Text → Option Asked
-upgrade_from (Some old) (Some new) = Some (upgrade old new)
-upgrade_from _ _ = None
-
 abbrev pub upgrade_in : List Row → Option Asked
-upgrade_in rows = upgrade_from (first_of (codes "OLD") rows) (first_of (codes "NEW") rows)
+upgrade_in rows = do
+  old ← first_of (codes "OLD") rows
+  new ← first_of (codes "NEW") rows
+  Some (upgrade old new)
 
 -- those of `STORE [tabs]`, or of `KIND INSTANCE SOLUTION [tabs]`
-abbrev pub timetable_with : Option Text → Option Text → Option Text → Option Text → Option Asked
-timetable_with None _ _ _ = None
-timetable_with (Some store) None _ _ = store_timetable_from store None
-timetable_with (Some store) (Some last) None _ = store_timetable_from store (Some last)
-timetable_with (Some kind) (Some instance) (Some solution) last = timetable_from (kind_named kind) instance solution (tabs_named last)
+abbrev pub timetable_with : Text → Option Text → Option Text → Option Text → Option Asked
+timetable_with store last None _ = store_timetable_from store last
+timetable_with kind second (Some solution) last = second >>= (λ instance. timetable_from kind instance solution last)
 
 abbrev pub timetable_in : List Row → Option Asked
-timetable_in rows = timetable_with (first_of (codes "STORE|KIND") rows) (first_of (codes "tabs|INSTANCE") rows) (first_of (codes "SOLUTION") rows) (first_of (codes "tabs") rows)
+timetable_in rows = first_of (codes "STORE|KIND") rows >>= (λ first.
+    timetable_with first (first_of (codes "tabs|INSTANCE") rows) (first_of (codes "SOLUTION") rows) (first_of (codes "tabs") rows))
 
 -- those of `STORE`, or of `KIND INSTANCE SOLUTION [ROUTE]`
-abbrev pub draw_with : Option Text → Option Text → Option Text → Option Text → Option Asked
-draw_with (Some store) None _ _ = Some (draw_store store)
-draw_with (Some kind) (Some instance) (Some solution) route = draw_from (kind_named kind) instance solution (route_or_none route)
-draw_with _ _ _ _ = None
+abbrev pub draw_with : Text → Option Text → Option Text → Option Text → Option Asked
+draw_with store None _ _ = Some (draw_store store)
+draw_with kind (Some instance) solution route = solution >>= (λ solution. draw_from kind instance solution route)
 
 abbrev pub draw_in : List Row → Option Asked
-draw_in rows = draw_with (first_of (codes "STORE|KIND") rows) (first_of (codes "INSTANCE") rows) (first_of (codes "SOLUTION") rows) (first_of (codes "ROUTE") rows)
+draw_in rows = first_of (codes "STORE|KIND") rows >>= (λ first.
+    draw_with first (first_of (codes "INSTANCE") rows) (first_of (codes "SOLUTION") rows) (first_of (codes "ROUTE") rows))
 
 -- what `format`, `load`, `upgrade` or `run` asks for
 abbrev pub told_of_store : Text → List Row → Option Asked

@@ -5,7 +5,7 @@
 ghost use Rattle.std.specs.Prelude.{◌≡◌, Some, IfOk, codes, drop, map, option_and_then, option_map};
 ghost use Rattle.clap.specs.Words.{App, Rule, app_of, first_of, found_of, kind_of, new_app, new_rule, rows_of, subcommand_rows_of, with_rule, with_subcommand};
 ghost use Rattle.text_lines.specs.Numbers.{integer_of};
-ghost use Rattle.command_line.specs.Asked.{ArePositional, ReadsWords, as_u64, asked_of, paths_in, paths_of, run_in, kind_named, list_in, load_in, load_of, deviation_or_none, draw_from, draw_in, route_or_none, seed_named, seed_or_none, steps_named, store_in, store_timetable_from, tabs_named, task_in, task_of, tasks_in, tasks_of, timetable_from, timetable_in, told_by, told_by_other, told_of, told_of_store, upgrade_in};
+ghost use Rattle.command_line.specs.Asked.{ArePositional, ReadsWords, as_u64, asked_of, paths_from, paths_in, paths_of, run_in, kind_named, list_in, load_in, load_of, deviation_or_none, draw_from, draw_in, flag_named, route_or_none, seed_in, seed_named, steps_named, store_timetable_from, task_in, task_of, tasks_in, tasks_of, timetable_from, timetable_in, told_by, told_by_other, told_of, told_of_store, upgrade_in};
 ghost use Rattle.command_line.specs.CommandLine.{IsKindNames, IsLeafCommand, IsModeNames, IsPlannerCommand, IsWord, audits_app, draw_app, load_app, mode_rule, paths_app, kind_rule, run_app, solve_app, solves_app, store_app, timetable_app, upgrade_app, with_plan_rules, with_search_apps, with_solution_apps, with_store_apps, word_rule};
 
 use crate::help::{
@@ -537,7 +537,7 @@ fn store_words<'a>(name: &str, words: &ArgMatches<'a>) -> Option<Invocation<'a>>
 {
     match name {
         "format" => Some(Invocation::Format {
-            store: store_word(words)?,
+            store: value_of(words, "STORE")?,
         }),
         "load" => Some(Invocation::Load(loading_words(words)?)),
         "upgrade" => upgrade_words(words),
@@ -549,26 +549,17 @@ fn store_words<'a>(name: &str, words: &ArgMatches<'a>) -> Option<Invocation<'a>>
 fn run_words<'a>(matches: &ArgMatches<'a>) -> Option<Invocation<'a>>
     ensures { option_map asked_of result ≡ run_in (rows_of (found_of matches.now)) }
 {
-    let store = matches.get_str("STORE")?;
-    match matches.get_str("strict") {
-        None => Some(Invocation::Run {
-            store,
-            is_strict: false,
-        }),
-        Some("strict") => Some(Invocation::Run {
-            store,
-            is_strict: true,
-        }),
-        Some(_) => None,
-    }
+    let store = value_of(matches, "STORE")?;
+    let is_strict = flag_of_word("strict", value_of(matches, "strict"))?;
+    Some(Invocation::Run { store, is_strict })
 }
 
 // `None` where a path is missing.
 fn upgrade_words<'a>(matches: &ArgMatches<'a>) -> Option<Invocation<'a>>
     ensures { option_map asked_of result ≡ upgrade_in (rows_of (found_of matches.now)) }
 {
-    let old = matches.get_str("OLD")?;
-    let new = matches.get_str("NEW")?;
+    let old = value_of(matches, "OLD")?;
+    let new = value_of(matches, "NEW")?;
     Some(Invocation::Upgrade { old, new })
 }
 
@@ -576,15 +567,11 @@ fn upgrade_words<'a>(matches: &ArgMatches<'a>) -> Option<Invocation<'a>>
 fn timetable_words<'a>(matches: &ArgMatches<'a>) -> Option<Invocation<'a>>
     ensures { option_map asked_of result ≡ timetable_in (rows_of (found_of matches.now)) }
 {
-    let first = matches.get_str("STORE|KIND")?;
-    match matches.get_str("tabs|INSTANCE") {
-        None => store_timetable(first, None),
-        Some(second) => match matches.get_str("SOLUTION") {
-            None => store_timetable(first, Some(second)),
-            Some(solution) => {
-                solution_timetable(first, second, solution, matches.get_str("tabs"))
-            }
-        },
+    let first = value_of(matches, "STORE|KIND")?;
+    let second = value_of(matches, "tabs|INSTANCE");
+    match value_of(matches, "SOLUTION") {
+        None => store_timetable(first, second),
+        Some(solution) => solution_timetable(first, second?, solution, value_of(matches, "tabs")),
     }
 }
 
@@ -592,39 +579,29 @@ fn timetable_words<'a>(matches: &ArgMatches<'a>) -> Option<Invocation<'a>>
 fn draw_words<'a>(matches: &ArgMatches<'a>) -> Option<Invocation<'a>>
     ensures { option_map asked_of result ≡ draw_in (rows_of (found_of matches.now)) }
 {
-    let first = matches.get_str("STORE|KIND")?;
-    match matches.get_str("INSTANCE") {
+    let first = value_of(matches, "STORE|KIND")?;
+    match value_of(matches, "INSTANCE") {
         None => Some(Invocation::DrawStore { store: first }),
-        Some(instance) => match matches.get_str("SOLUTION") {
-            None => None,
-            Some(solution) => {
-                solution_drawing(first, instance, solution, matches.get_str("ROUTE"))
-            }
-        },
+        Some(instance) => {
+            let solution = value_of(matches, "SOLUTION")?;
+            solution_drawing(first, instance, solution, value_of(matches, "ROUTE"))
+        }
     }
 }
 
 // `None` where the first word names no kind, or the last one no number.
 fn solution_drawing<'a>(
-    kind: &'a str,
+    kind: &str,
     instance: &'a str,
     solution: &'a str,
-    last: Option<&'a str>,
+    last: Option<&str>,
 ) -> Option<Invocation<'a>>
     ensures { option_map asked_of result
-        ≡ draw_from (kind_named kind.now) instance.now solution.now
-        (route_or_none (option_map (λ w. w.now) last.entry)) }
+        ≡ draw_from kind.now instance.now solution.now (option_map (λ w. w.now) last.entry) }
 {
-    let kind = kind_of_word(kind)?;
+    let paths = paths_named(kind, instance, solution)?;
     let route = route_of_word(last)?;
-    Some(Invocation::Draw {
-        paths: Paths {
-            kind,
-            instance,
-            solution,
-        },
-        route,
-    })
+    Some(Invocation::Draw { paths, route })
 }
 
 // The number of a route that a last word names, if there is one; `None` where it is no number.
@@ -638,62 +615,63 @@ fn route_of_word(word: Option<&str>) -> Option<Option<u32>>
 }
 
 // `None` where the last word is not `tabs`.
-fn store_timetable<'a>(store: &'a str, last: Option<&'a str>) -> Option<Invocation<'a>>
+fn store_timetable<'a>(store: &'a str, last: Option<&str>) -> Option<Invocation<'a>>
     ensures { option_map asked_of result
         ≡ store_timetable_from store.now (option_map (λ w. w.now) last.entry) }
 {
-    let is_tabbed = tabs_of_word(last)?;
+    let is_tabbed = flag_of_word("tabs", last)?;
     Some(Invocation::StoreTimetable { store, is_tabbed })
 }
 
 // `None` where the first word names no kind, or the last one is not `tabs`.
 fn solution_timetable<'a>(
-    kind: &'a str,
+    kind: &str,
     instance: &'a str,
     solution: &'a str,
-    last: Option<&'a str>,
+    last: Option<&str>,
 ) -> Option<Invocation<'a>>
     ensures { option_map asked_of result
-        ≡ timetable_from (kind_named kind.now) instance.now solution.now
-        (tabs_named (option_map (λ w. w.now) last.entry)) }
+        ≡ timetable_from kind.now instance.now solution.now (option_map (λ w. w.now) last.entry) }
 {
-    let kind = kind_of_word(kind)?;
-    let is_tabbed = tabs_of_word(last)?;
-    Some(Invocation::Timetable {
-        paths: Paths {
-            kind,
-            instance,
-            solution,
-        },
-        is_tabbed,
-    })
+    let paths = paths_named(kind, instance, solution)?;
+    let is_tabbed = flag_of_word("tabs", last)?;
+    Some(Invocation::Timetable { paths, is_tabbed })
 }
 
-// Whether a last word asks for tabs; `None` where it is another one.
-fn tabs_of_word(word: Option<&str>) -> Option<bool>
-    ensures { result ≡ tabs_named (option_map (λ w. w.now) word.entry) }
+// Whether a last word is this one; `None` where it is another one.
+fn flag_of_word(name: &str, word: Option<&str>) -> Option<bool>
+    ensures { result ≡ flag_named name.now (option_map (λ w. w.now) word.entry) }
 {
     match word {
         None => Some(false),
-        Some("tabs") => Some(true),
+        Some(word) if word == name => Some(true),
         Some(_) => None,
     }
 }
 
-// The path of the store, or `None` where it is missing.
-fn store_word<'a>(matches: &ArgMatches<'a>) -> Option<&'a str>
-    ensures { option_map (λ store. store.now) result ≡ store_in (rows_of (found_of matches.now)) }
+// The word that stands under this name, or `None` where there is none.
+fn value_of<'a>(matches: &ArgMatches<'a>, name: &str) -> Option<&'a str>
+    ensures { option_map (λ word. word.now) result
+        ≡ first_of name.now (rows_of (found_of matches.now)) }
 {
-    matches.get_str("STORE")
+    matches.get_str(name)
 }
 
 // `None` where a word is missing or names no kind.
 fn paths_words<'a>(matches: &ArgMatches<'a>) -> Option<Paths<'a>>
     ensures { option_map paths_of result ≡ paths_in (rows_of (found_of matches.now)) }
 {
-    let kind = kind_of_word(matches.get_str("KIND")?)?;
-    let instance = matches.get_str("INSTANCE")?;
-    let solution = matches.get_str("SOLUTION")?;
+    let kind = value_of(matches, "KIND")?;
+    let instance = value_of(matches, "INSTANCE")?;
+    let solution = value_of(matches, "SOLUTION")?;
+    paths_named(kind, instance, solution)
+}
+
+// `None` where the first word names no kind.
+fn paths_named<'a>(kind: &str, instance: &'a str, solution: &'a str) -> Option<Paths<'a>>
+    ensures { option_map paths_of result ≡ paths_from kind.now instance.now solution.now }
+{
+    let kind = kind_of_word(kind)?;
     Some(Paths {
         kind,
         instance,
@@ -705,8 +683,8 @@ fn paths_words<'a>(matches: &ArgMatches<'a>) -> Option<Paths<'a>>
 fn list_words<'a>(matches: &ArgMatches<'a>) -> Option<Invocation<'a>>
     ensures { option_map asked_of result ≡ list_in (rows_of (found_of matches.now)) }
 {
-    let kind = kind_of_word(matches.get_str("KIND")?)?;
-    let list = matches.get_str("LIST")?;
+    let kind = kind_of_word(value_of(matches, "KIND")?)?;
+    let list = value_of(matches, "LIST")?;
     Some(Invocation::Audits { kind, list })
 }
 
@@ -714,17 +692,12 @@ fn list_words<'a>(matches: &ArgMatches<'a>) -> Option<Invocation<'a>>
 fn task_words<'a>(matches: &ArgMatches<'a>) -> Option<Task<'a>>
     ensures { option_map task_of result ≡ task_in (rows_of (found_of matches.now)) }
 {
-    let kind = kind_of_word(matches.get_str("KIND")?)?;
-    let instance = matches.get_str("INSTANCE")?;
-    let steps = steps_of_word(matches.get_str("STEPS")?)?;
-    let seed = seed_of_words(matches)?;
-    let deviation = deviation_of_words(matches)?;
     Some(Task {
-        kind,
-        instance,
-        steps,
-        seed,
-        deviation,
+        kind: kind_of_word(value_of(matches, "KIND")?)?,
+        instance: value_of(matches, "INSTANCE")?,
+        steps: steps_of_word(value_of(matches, "STEPS")?)?,
+        seed: seed_of_words(matches)?,
+        deviation: deviation_of_word(value_of(matches, "DEVIATION"))?,
     })
 }
 
@@ -732,15 +705,11 @@ fn task_words<'a>(matches: &ArgMatches<'a>) -> Option<Task<'a>>
 fn tasks_words<'a>(matches: &ArgMatches<'a>) -> Option<Tasks<'a>>
     ensures { option_map tasks_of result ≡ tasks_in (rows_of (found_of matches.now)) }
 {
-    let kind = kind_of_word(matches.get_str("KIND")?)?;
-    let list = matches.get_str("LIST")?;
-    let steps = steps_of_word(matches.get_str("STEPS")?)?;
-    let seed = seed_of_words(matches)?;
     Some(Tasks {
-        kind,
-        list,
-        steps,
-        seed,
+        kind: kind_of_word(value_of(matches, "KIND")?)?,
+        list: value_of(matches, "LIST")?,
+        steps: steps_of_word(value_of(matches, "STEPS")?)?,
+        seed: seed_of_words(matches)?,
     })
 }
 
@@ -748,15 +717,11 @@ fn tasks_words<'a>(matches: &ArgMatches<'a>) -> Option<Tasks<'a>>
 fn loading_words<'a>(matches: &ArgMatches<'a>) -> Option<Loading<'a>>
     ensures { option_map load_of result ≡ load_in (rows_of (found_of matches.now)) }
 {
-    let store = matches.get_str("STORE")?;
-    let kind = kind_of_word(matches.get_str("KIND")?)?;
-    let instance = matches.get_str("INSTANCE")?;
-    let seed = seed_of_words(matches)?;
     Some(Loading {
-        store,
-        kind,
-        instance,
-        seed,
+        store: value_of(matches, "STORE")?,
+        kind: kind_of_word(value_of(matches, "KIND")?)?,
+        instance: value_of(matches, "INSTANCE")?,
+        seed: seed_of_words(matches)?,
     })
 }
 
@@ -781,19 +746,13 @@ fn steps_of_word(word: &str) -> Option<u32>
 }
 
 // The deviation that is named, or that none is.
-fn deviation_of_words(matches: &ArgMatches<'_>) -> Option<Option<u32>>
-    ensures { result
-        ≡ deviation_or_none (first_of (codes "DEVIATION") (rows_of (found_of matches.now))) }
+fn deviation_of_word(word: Option<&str>) -> Option<Option<u32>>
+    ensures { result ≡ deviation_or_none (option_map (λ w. w.now) word.entry) }
 {
-    match matches.get_str("DEVIATION") {
-        Some(word) => deviation_of_word(word),
-        None => Some(None),
-    }
-}
-
-fn deviation_of_word(word: &str) -> Option<Option<u32>>
-    ensures { result ≡ deviation_or_none (Some word.now) }
-{
+    let word = match word {
+        Some(word) => word,
+        None => return Some(None),
+    };
     let deviation = digits_to_u32(word.as_bytes())?;
     if deviation > MAX_DEVIATION {
         return None;
@@ -803,10 +762,9 @@ fn deviation_of_word(word: &str) -> Option<Option<u32>>
 
 // The seed that is named, or 0 where none is.
 fn seed_of_words(matches: &ArgMatches<'_>) -> Option<u64>
-    ensures { result
-        ≡ seed_or_none (first_of (codes "SEED") (rows_of (found_of matches.now))) }
+    ensures { result ≡ seed_in (rows_of (found_of matches.now)) }
 {
-    match matches.get_str("SEED") {
+    match value_of(matches, "SEED") {
         Some(word) => seed_of_word(word),
         None => Some(0),
     }
