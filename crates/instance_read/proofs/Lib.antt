@@ -24,3 +24,4 @@ pub mod ReadVrpLemmas
 pub mod VrpLawProofs
 pub mod KeyLineProofs
 pub mod ReadableLemmas
+pub mod SpelledLemmas

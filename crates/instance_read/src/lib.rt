@@ -1,7 +1,7 @@
 //! Instance texts: Li and Lim's pickup and delivery instances, and the `.vrp` files of CVRPLIB.
 //!
-//! Entry functions: `read_lilim` and `read_vrp`. Each gives the `Problem` that a text spells, or the first of its
-//! faults. Called by `command_text` (the line `load`), `plan_solve` and `auditor_cli`.
+//! Entry functions: `read_lilim`, `read_vrp`, and `read_instance` for either. Each gives the `Problem` that a text spells, or the first
+//! of its faults. Called by `command_text` (the line `load`), `plan_solve` and `auditor_cli`.
 //! `split_key` and `field_limits` give key and value of a line and the limits of its numbers, for `plan_explain`, which
 //! tells a fault of one in words.
 //!
@@ -28,10 +28,11 @@
 //! - `vrp_draft`: what the lines so far have said
 //! - `vrp_problem`: the problem that they spell
 //! - `vrp`: the reader of `.vrp` texts
+//! - `instance`: that of a text of either format
 //! - `laws`: what lines of a `.vrp` text are, in other words, and that each text is read
 //!
 //! Said by `specs/Lilim.antt`, `Pairs.antt`, `Vrp.antt`, `VrpLines.antt` and `Faults.antt`, for both formats by `Readings.antt`. Proved:
-//! - `read_lilim`, `read_vrp`: `value`, the problem is the one that the text spells (`SpellsLilim`, `SpellsVrp`);
+//! - `read_lilim`, `read_vrp`, `read_instance`: `value`, the problem is the one that the text spells (`SpellsLilim`, `SpellsVrp`);
 //!   `fault`, else the least fault by class, line and kind, or want of memory (`TellsFirstFault`)
 //! - `sections_have_a_line_for_each_node`: a section of nodes has as many lines as the first DIMENSION line says
 //! - `depots_are_two_words`: the list of depots is over with its second word
@@ -45,6 +46,7 @@ mod entries;
 mod faults;
 pub mod field_limits;
 mod fields;
+mod instance;
 mod laws;
 mod lilim;
 mod pairs;
@@ -58,6 +60,7 @@ mod vrp_lines;
 mod vrp_problem;
 
 pub use faults::{ReadFault, ReadFaultKind};
+pub use instance::read_instance;
 pub use laws::{
     depots_are_two_words, each_text_is_read, eof_is_the_end, key_lines_are_made,
     other_lines_stay_outside, sections_have_a_line_for_each_node,
