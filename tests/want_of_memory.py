@@ -24,7 +24,7 @@ WANT, FAULT = "want of memory", "faults"
 
 # What says so, and functions that always do. The `ReadFault` of an instance's text is no variant, and none of these.
 VALUES = {
-    WANT: re.compile(r"(.*::)?(AllocError|AllocFailed|OutOfMemory|OUT_OF_MEMORY|Dropped|dropped)|[iu]size::MAX"),
+    WANT: re.compile(r"(.*::)?(AllocError|AllocFailed|OutOfMemory|OUT_OF_MEMORY|Dropped|dropped|tell_want_of_memory)|[iu]size::MAX"),
     FAULT: re.compile(
         r"(.*::)?(DeviceFault|Failed|Unread|WriteFault|NoFile|BadLength|InUse|FILE|ReadFailed|WriteFailed|SyncFailed|fault_of|not_read"
         r"|[A-Z]\w*::ReadFault|ErrorKind::\w+|Error(::[a-z]\w*)?)"

@@ -13,9 +13,16 @@ flushed (Some x) None c text written kept = absurd written
 flushed (Some x) (Some y) None text written kept = absurd kept
 flushed (Some x) (Some y) (Some z) text written kept = kept ∙ written
 
--- two paths with tabs behind them, and what follows
-pub tabs : (i s a : List ℕ) → (i ++ 9 ∷ (s ++ 9 ∷ [])) ++ a ≡ pair_text i s a
+-- two paths with tabs behind them
+abbrev pub paths_text : List ℕ → List ℕ → List ℕ
+paths_text i s = i ++ 9 ∷ (s ++ 9 ∷ [])
+
+pub tabs : (i s a : List ℕ) → paths_text i s ++ a ≡ pair_text i s a
 tabs i s a = append_assoc i (9 ∷ (s ++ 9 ∷ [])) a ∙ ap (λ (x : List ℕ). i ++ 9 ∷ x) (append_assoc s (9 ∷ []) a)
+
+-- and what is told behind them
+pub told_of_pair : (i s a : List ℕ) (before mid after : Option (List ℕ)) → Appends before mid (paths_text i s) → Appends mid after a → Appends before after (pair_text i s a)
+told_of_pair i s a before mid after paths told = subst (Appends before after) (tabs i s a) (Appends-trans before mid after (paths_text i s) a paths told)
 
 pub grown_twice : (was next now : List FileEntry) → IsGrown was next → IsGrown next now → IsGrown was now
 grown_twice was next now a b = (b.0 ++ a.0, b.1 ∙ ap (λ (x : List FileEntry). b.0 ++ x) a.1 ∙ sym (append_assoc b.0 a.0 was))

@@ -13,24 +13,12 @@ use Rattle.instance_read.specs.Lilim.{problem_of}
 use Rattle.sol_text.specs.Faults.{Spells}
 use Rattle.sol_text.specs.declared.read.Solution.{Solution}
 use Rattle.instance_read.specs.Readings.{InstanceFault, SpellsInstance}
+use Rattle.instance_read.proofs.SpelledLemmas.{no_fault, problem_once}
 use Rattle.auditor_cli.specs.Answer.{IsAnswer, JudgesSpelled, SaysSound, TellsVerdict, verdict_answer}
 use Rattle.auditor_cli.specs.declared.answer.AuditAnswer.{AuditAnswer}
 
-problem_once : (kind : Kind) (text : List ℕ) (p q : Instance) → SpellsInstance kind text p → SpellsInstance kind text q → p ≡ q
-problem_once Vrp text p q a b = a.1 ∙ sym b.1
-problem_once LiLim text p q a b =
-    let rows : a.1 ∷ a.2 ∷ a.3 ≡ b.1 ∷ b.2 ∷ b.3 = sym a.4 ∙ b.4 in
-    let header : a.1 ≡ b.1 = cc in
-    let depot : a.2 ≡ b.2 = cc in
-    let customers : a.3 ≡ b.3 = cc in
-    a.5 ∙ (ap (λ h. problem_of h a.2 a.3) header ∙ (ap (λ d. problem_of b.1 d a.3) depot ∙ ap (λ c. problem_of b.1 b.2 c) customers)) ∙ sym b.5
-
 solution_once : (text : List ℕ) (s t : Solution) → Spells text s → Spells text t → s ≡ t
 solution_once text s t a b = a.1 ∙ sym b.1
-
-no_fault : (kind : Kind) (text : List ℕ) (p : Instance) → SpellsInstance kind text p → HasNone (InstanceFault kind text)
-no_fault LiLim text p spelled = spelled.0
-no_fault Vrp text p spelled = spelled.0
 
 pub judges_spelled : (kind : Kind) (instance solution : List ℕ) (answer : AuditAnswer) → IsAnswer kind instance solution answer → JudgesSpelled kind instance solution answer
 judges_spelled kind instance solution answer (inl refuses) p s a b = absurd (no_fault kind instance p a refuses.first.0 refuses.fault.line refuses.fault.kind refuses.first.1)

@@ -18,7 +18,7 @@ use Rattle.text_lines.proofs.PieceLemmas.{lines_nil}
 use Rattle.auditor_cli.specs.Listed.{AreTold, IsAudited, IsEnded, IsTakenLine, TellsLines, TellsList, ends_at_feed}
 use Rattle.auditor_cli.specs.Reads.{FileRead, IsGrown, IsReadFirst}
 use Rattle.auditor_cli.specs.Telling.{TellsUnread, unread_line, unread_status}
-use Rattle.auditor_cli.proofs.ListLemmas.{grown_twice}
+use Rattle.auditor_cli.proofs.ListLemmas.{grown_twice, lines_as, read_as}
 
 module _ {S : Type 0} (IsToldOf : List ℕ → S → S → List ℕ → ℕ → Type 0) where
   -- one line more behind those that were told
@@ -108,6 +108,12 @@ module _ (path : List ℕ) (was : List FileRead) where
   first_on later now first grown = (first.0, grown_twice ((path, first.0) ∷ was) later now first.1 grown)
 
 -- ---- the list so far
+
+-- what is told of the lines that were handed on is told of what was read
+pub told_of_line : (k : Kind) (path : List ℕ) (next mid later : List FileRead) (now after : Option (List ℕ)) (line : List ℕ) (lines : List (List ℕ)) (s : ℕ) → mid ≡ (path, Ok line) ∷ next → lines ≡ lines_of line
+    → TellsLines (IsAudited k) lines mid later now after s → TellsLines (IsAudited k) (lines_of line) ((path, Ok line) ∷ next) later now after s
+told_of_line k path next mid later now after line lines s noted are told =
+    read_as (IsAudited k) (lines_of line) mid ((path, Ok line) ∷ next) later now after s noted (lines_as (IsAudited k) lines (lines_of line) mid later now after s are told)
 
 module _ (k : Kind) (path : List ℕ) (was : List FileRead) (before : Option (List ℕ)) where
   pub record IsSoFar (next : List FileRead) (now : Option (List ℕ)) (n : ℕ) : Type 0 where

@@ -9,6 +9,10 @@ use Rattle.text_lines.specs.Lines.{ended}
 use Rattle.auditor_cli.specs.Answer.{IsAnswer}
 use Rattle.auditor_cli.specs.declared.answer.AuditAnswer.{AuditAnswer}
 
+-- want of memory
+abbrev pub TellsWant : Option (List ℕ) → Option (List ℕ) → ℕ → Type 0
+TellsWant before after status = (status ≡ 4) × Appends before after (ended (codes "out of memory"))
+
 -- it tells want of memory
 abbrev pub is_memory : ErrorKind → Bool
 is_memory kind.OutOfMemory = true

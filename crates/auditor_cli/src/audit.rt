@@ -1,14 +1,12 @@
 //! The audit of two texts.
-ghost use Rattle.std.specs.Prelude.{◌≡◌, ◌≢◌, ◌≤◌, IfErr, IfOk};
-ghost use Rattle.instance_read.specs.Faults.{TellsFirstFault};
-ghost use Rattle.instance_read.specs.Readings.{InstanceFault, SpellsInstance};
+ghost use Rattle.std.specs.Prelude.{◌≡◌, ◌≢◌, ◌≤◌, IfOk};
 ghost use Rattle.auditor_cli.specs.Answer.{IsAnswer, JudgesSpelled, SaysSound, refused_answer, verdict_answer};
 ghost use Rattle.auditor_cli.specs.Examined.{IsExamined, answer_of};
 ghost use Rattle.auditor_cli.specs.declared.audit.Examined.TheVariants.{BadInstance, BadSolution};
 
 use crate::answer::{AuditAnswer, broken_line, fault_line, pass_line};
 use crate::status::{BROKEN, DONE, REFUSED};
-use instance_read::{ReadFault, ReadFaultKind, read_lilim, read_vrp};
+use instance_read::{ReadFault, ReadFaultKind, read_instance};
 use plan_audit::{Verdict, audit_solution, solutions_pass_where_they_are_sound};
 use plan_types::{Kind, OutOfMemory, Problem};
 use sol_text::{SolFault, SolFaultKind, Solution, read_sol};
@@ -82,17 +80,6 @@ pub fn examine(
     };
     let verdict = audit_solution(alloc, &problem, &solution)?;
     Ok(Examined::Judged(problem, solution, verdict))
-}
-
-/// Reads the text of an instance.
-pub fn read_instance(alloc: Global, kind: Kind, text: &[u8]) -> Result<Problem, ReadFault>
-    ensures value { IfOk result (SpellsInstance kind text.now) }
-    ensures fault { IfErr result (TellsFirstFault (InstanceFault kind text.now)) }
-{
-    match kind {
-        Kind::LiLim => read_lilim(alloc, text),
-        Kind::Vrp => read_vrp(alloc, text),
-    }
 }
 
 fn bad_instance(fault: ReadFault) -> Result<Examined, OutOfMemory>

@@ -11,8 +11,7 @@ use crate::audit::{Examined, answer_of, examine};
 use crate::audited::read_both;
 use crate::behind::tell_behind;
 use crate::files::ReadFiles;
-use crate::status::OUT_OF_MEMORY;
-use crate::telling::{tell_unread, write_line};
+use crate::telling::{tell_unread, tell_want_of_memory, write_line};
 use command_line::Paths;
 use plan_explain::{explain_instance_fault, explain_solution_fault, explain_verdict};
 use plan_types::{Kind, OutOfMemory};
@@ -69,10 +68,7 @@ pub fn tell_explanation<W: Write>(
             output.write_all(explanation.text.as_bytes())?;
             Ok(explanation.answer.status)
         }
-        Err(_) => {
-            write_line(output, b"out of memory")?;
-            Ok(OUT_OF_MEMORY)
-        }
+        Err(_) => tell_want_of_memory(output),
     }
 }
 

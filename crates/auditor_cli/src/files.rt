@@ -59,77 +59,94 @@ pub trait WriteFiles {
             (λ error. writes self.new ≡ (path.now, Err (error_kind error)) ∷ writes self.old) };
 }
 
+// The files of the system, and what came of those that were asked for.
+#[derive(Drop)]
+struct Host<'a, R> {
+    rt: &'a R,
+    noted: FileRecord,
+}
+
+impl<'a, R> Host<'a, R> {
+    fn new(rt: &'a R) -> Host<'a, R>
+        ensures { result.noted ≡ [] }
+    {
+        Host {
+            rt,
+            noted: FileRecord::new(),
+        }
+    }
+
+    // Notes a file by what was read or written.
+    fn done(&mut self, path: &str, text: &[u8])
+        ensures { self.new.noted ≡ (path.now, Ok text.now) ∷ self.old.noted }
+    {
+        self.noted.note(path.as_bytes(), Outcome::Done, text);
+    }
+}
+
+impl<'a, R: Eprint> Host<'a, R> {
+    // Notes a file that can't be read or made, and tells why, but where something stands in the way of a new one. Gives the error back.
+    fn fail(&mut self, path: &str, error: io::Error) -> io::Error
+        ensures noted { self.new.noted ≡ (path.now, Err (error_kind error)) ∷ self.old.noted }
+        ensures same { result ≡ error }
+    {
+        let kind = error.kind();
+        if kind != ErrorKind::AlreadyExists {
+            let _ = eprintln!(self.rt; "planner: {path}: {error}");
+        }
+        self.noted.note(path.as_bytes(), Outcome::Failed(kind), &[]);
+        error
+    }
+}
+
 /// The files of the system, and standard input for `-`. Why one can't be read is told on standard error, in the system's
 /// words.
 #[derive(Drop)]
 pub struct HostFiles<'a, R> {
-    rt: &'a R,
-    noted: FileRecord,
+    host: Host<'a, R>,
 }
 
 impl<'a, R> HostFiles<'a, R> {
     /// None has been read yet.
     pub fn new(rt: &'a R) -> HostFiles<'a, R>
-        ensures { result.noted ≡ [] }
+        ensures { result.host.noted ≡ [] }
     {
         HostFiles {
-            rt,
-            noted: FileRecord::new(),
+            host: Host::new(rt),
         }
-    }
-}
-
-impl<'a, R: Eprint> HostFiles<'a, R> {
-    // Tells and notes why a file can't be read.
-    fn fail(&mut self, path: &str, error: &io::Error)
-        ensures { self.new.noted
-            ≡ (path.now, Err (error_kind error.now)) ∷ self.old.noted }
-    {
-        let _ = eprintln!(self.rt; "planner: {path}: {error}");
-        let kind = error.kind();
-        self.noted.note(path.as_bytes(), Outcome::Failed(kind), &[]);
     }
 }
 
 impl<'a, R: Files + Eprint + AllocGlobal> ReadFiles for HostFiles<'a, R> {
     type Opened = BufReader<R::File>;
 
-    ghost reads = { λ f. f.noted };
+    ghost reads = { λ f. f.host.noted };
 
     fn read(&mut self, path: &str) -> io::Result<Vec<u8>> {
-        match fs::read(self.rt, source_of(path)) {
+        match fs::read(self.host.rt, source_of(path)) {
             Ok(text) => {
-                self.noted.note(path.as_bytes(), Outcome::Done, &text);
+                self.host.done(path, &text);
                 Ok(text)
             }
-            Err(error) => {
-                self.fail(path, &error);
-                Err(error)
-            }
+            Err(error) => Err(self.host.fail(path, error)),
         }
     }
 
     fn open(&mut self, path: &str) -> io::Result<BufReader<R::File>> {
-        match open_under(self.rt, path) {
+        match open_under(self.host.rt, path) {
             Ok(opened) => Ok(opened),
-            Err(error) => {
-                self.fail(path, &error);
-                Err(error)
-            }
+            Err(error) => Err(self.host.fail(path, error)),
         }
     }
 
     fn read_line(&mut self, path: &str, opened: &mut BufReader<R::File>) -> io::Result<Vec<u8>> {
-        let mut line = Vec::new(self.rt.alloc());
+        let mut line = Vec::new(self.host.rt.alloc());
         match opened.read_until(b'\n', &mut line) {
             Ok(_) => {
-                self.noted.note(path.as_bytes(), Outcome::Done, &line);
+                self.host.done(path, &line);
                 Ok(line)
             }
-            Err(error) => {
-                self.fail(path, &error);
-                Err(error)
-            }
+            Err(error) => Err(self.host.fail(path, error)),
         }
     }
 }
@@ -148,59 +165,37 @@ fn open_under<R: Files + AllocGlobal>(rt: &R, path: &str) -> io::Result<BufReade
 /// the system's words, but where something stands there already.
 #[derive(Drop)]
 pub struct HostNewFiles<'a, R> {
-    rt: &'a R,
-    noted: FileRecord,
+    host: Host<'a, R>,
 }
 
 impl<'a, R> HostNewFiles<'a, R> {
     /// None has been made yet.
     pub fn new(rt: &'a R) -> HostNewFiles<'a, R>
-        ensures { result.noted ≡ [] }
+        ensures { result.host.noted ≡ [] }
     {
         HostNewFiles {
-            rt,
-            noted: FileRecord::new(),
+            host: Host::new(rt),
         }
-    }
-}
-
-impl<'a, R: Eprint> HostNewFiles<'a, R> {
-    // Tells and notes why there is no new file.
-    fn fail(&mut self, path: &str, error: &io::Error)
-        ensures { self.new.noted
-            ≡ (path.now, Err (error_kind error.now)) ∷ self.old.noted }
-    {
-        let kind = error.kind();
-        if kind != ErrorKind::AlreadyExists {
-            let _ = eprintln!(self.rt; "planner: {path}: {error}");
-        }
-        self.noted.note(path.as_bytes(), Outcome::Failed(kind), &[]);
     }
 }
 
 impl<'a, R: Files<File = File> + Eprint> WriteFiles for HostNewFiles<'a, R> {
-    ghost writes = { λ f. f.noted };
+    ghost writes = { λ f. f.host.noted };
 
     fn look(&mut self, path: &str) -> io::Result<()> {
-        match look_under(self.rt, path) {
+        match look_under(self.host.rt, path) {
             Ok(()) => Ok(()),
-            Err(error) => {
-                self.fail(path, &error);
-                Err(error)
-            }
+            Err(error) => Err(self.host.fail(path, error)),
         }
     }
 
     fn write_new(&mut self, path: &str, text: &[u8]) -> io::Result<()> {
-        match write_under(self.rt, path, text) {
+        match write_under(self.host.rt, path, text) {
             Ok(()) => {
-                self.noted.note(path.as_bytes(), Outcome::Done, text);
+                self.host.done(path, text);
                 Ok(())
             }
-            Err(error) => {
-                self.fail(path, &error);
-                Err(error)
-            }
+            Err(error) => Err(self.host.fail(path, error)),
         }
     }
 }

@@ -53,12 +53,15 @@ mod telling;
 mod usage;
 
 pub use answer::{AuditAnswer, Line, pass_line};
-pub use audit::{Examined, answer_of, audit_text, examine, read_instance};
+pub use audit::{Examined, answer_of, audit_text, examine};
 pub use audited::{audit_noted, read_both};
 pub use auditing::audit_words;
 pub use example::audit_example;
 pub use explained::{Explanation, explain_read, tell_explanation};
 pub use files::{HostFiles, HostNewFiles, ReadFiles, WriteFiles};
+pub use instance_read::read_instance;
 pub use listed::{audits_read, greater, pair_of, tell_bad_line};
-pub use telling::{status_of, tell_audit, tell_unread, tell_unwritten, write_line};
+pub use telling::{
+    status_of, tell_audit, tell_unread, tell_unwritten, tell_want_of_memory, write_line,
+};
 pub use usage::{command_words, tell_usage};

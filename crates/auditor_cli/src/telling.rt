@@ -1,7 +1,7 @@
 //! What is printed, and the status that goes with it.
 ghost use Rattle.std.specs.Prelude.{◌≡◌, ◌≤◌, ◌++◌, ◌∷◌, [], IfOk, MatchResult, OnOk};
 ghost use Rattle.std.specs.Io.KnownBytes.{Appends};
-ghost use Rattle.auditor_cli.specs.Telling.{TellsAnswer, TellsUnread, TellsUnwritten, is_memory, is_there};
+ghost use Rattle.auditor_cli.specs.Telling.{TellsAnswer, TellsUnread, TellsUnwritten, TellsWant, is_memory, is_there};
 
 use crate::answer::AuditAnswer;
 use crate::status::{FILE, OUT_OF_MEMORY};
@@ -25,14 +25,21 @@ pub fn status_of(told: io::Result<u8>) -> u8
     told.unwrap_or(FILE)
 }
 
+/// Tells want of memory.
+pub fn tell_want_of_memory<W: Write>(output: &mut W) -> io::Result<u8>
+    ensures { IfOk result (TellsWant (W.contents output.old) (W.contents output.new)) }
+{
+    write_line(output, b"out of memory")?;
+    Ok(OUT_OF_MEMORY)
+}
+
 /// Tells a file that can't be read.
 pub fn tell_unread<W: Write>(output: &mut W, path: &str, kind: ErrorKind) -> io::Result<u8>
     ensures { IfOk result (TellsUnread path.now kind (W.contents output.old)
         (W.contents output.new)) }
 {
     if is_want_of_memory(kind) {
-        write_line(output, b"out of memory")?;
-        return Ok(OUT_OF_MEMORY);
+        return tell_want_of_memory(output);
     }
     writeln!(output, "cannot read {path}")?;
     Ok(FILE)
@@ -59,8 +66,7 @@ pub fn tell_unwritten<W: Write>(output: &mut W, path: &str, kind: ErrorKind) -> 
         return Ok(FILE);
     }
     if is_want_of_memory(kind) {
-        write_line(output, b"out of memory")?;
-        return Ok(OUT_OF_MEMORY);
+        return tell_want_of_memory(output);
     }
     writeln!(output, "cannot write {path}")?;
     Ok(FILE)
@@ -88,9 +94,6 @@ pub fn tell_audit<W: Write>(
             write_line(output, answer.line.as_bytes())?;
             Ok(answer.status)
         }
-        Err(_) => {
-            write_line(output, b"out of memory")?;
-            Ok(OUT_OF_MEMORY)
-        }
+        Err(_) => tell_want_of_memory(output),
     }
 }

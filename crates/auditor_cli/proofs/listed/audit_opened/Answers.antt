@@ -3,9 +3,8 @@ use Rattle.std.proofs.Common.{◌≡◌, ◌∙◌, ◌∷◌, Err, Ok, ap, fals
 use Rattle.std.specs.IoError.{error_kind}
 use Rattle.std.proofs.lemmas.Result.{IfOk-weaker}
 use Rattle.text_lines.specs.Lines.{lines_of}
-use Rattle.auditor_cli.specs.Listed.{IsAudited, TellsList, ends_at_feed}
-use Rattle.auditor_cli.proofs.ListLemmas.{lines_as, read_as}
-use Rattle.auditor_cli.proofs.TakenLemmas.{IsSoFar, at_end, broken_off, ended_line, first_on, first_read, one_more, unended_rest}
+use Rattle.auditor_cli.specs.Listed.{TellsList, ends_at_feed}
+use Rattle.auditor_cli.proofs.TakenLemmas.{IsSoFar, at_end, broken_off, ended_line, first_on, first_read, one_more, told_of_line, unended_rest}
 use Rattle.auditor_cli.proofs.listed.audit_opened.Goals as goal
 
 pub returns-in-Err-clause-reads : goal.returns-in-Err-clause-reads
@@ -47,43 +46,21 @@ pub returns-then-not-ends_at_feed-clause-told : goal.returns-then-not-ends_at_fe
 returns-then-not-ends_at_feed-clause-told g c =
     let k = c.args.kind in
     let path = c.args.path.now in
-    let was = g.F.ReadFiles.reads c.args.files.now in
-    let next = g.F.ReadFiles.reads c.loop.files in
-    let mid = g.F.ReadFiles.reads c.read_line.new.self in
-    let later = g.F.ReadFiles.reads c.audit_lines.new.files in
-    let before = g.W.Write.contents c.args.output.now in
-    let now = g.W.Write.contents c.loop.output in
-    let after = g.W.Write.contents c.audit_lines.new.output in
     let line = c.in-Ok.line.items in
-    let status = c.in_ok-status.status in
-    let are : c.new.result ≡ lines_of line = c.new.ensures.lines ∙ ap lines_of c.deref.ensures.value in
-    let told =
-    read_as (IsAudited k) (lines_of line) mid ((path, Ok line) ∷ next) later now after status c.in-Ok.ensures.noted
-    (lines_as (IsAudited k) c.new.result (lines_of line) mid later now after status are c.in_ok-status.ensures.told) in
+    let told = told_of_line k path _ _ _ _ _ line c.new.result c.in_ok-status.status c.in-Ok.ensures.noted (c.new.ensures.lines ∙ ap lines_of c.deref.ensures.value) c.in_ok-status.ensures.told in
     let unended : ends_at_feed line ≡ false = search rules in
-    subst (TellsList k path was later before after) c.greater-greatest.ensures.value
-    (at_end k path was before next later now after c.loop.greatest c.loop.invariant.0 line status (unended_rest line c.in-Ok.ensures.line unended) told)
+    subst (TellsList k path _ _ _ _) c.greater-greatest.ensures.value
+    (at_end k path _ _ _ _ _ _ c.loop.greatest c.loop.invariant.0 line c.in_ok-status.status (unended_rest line c.in-Ok.ensures.line unended) told)
 
 pub loop-preserved : goal.loop-preserved
 loop-preserved g c =
     let k = c.args.kind in
     let path = c.args.path.now in
-    let was = g.F.ReadFiles.reads c.args.files.now in
-    let next = g.F.ReadFiles.reads c.loop.files in
-    let mid = g.F.ReadFiles.reads c.read_line.new.self in
-    let later = g.F.ReadFiles.reads c.audit_lines.new.files in
-    let before = g.W.Write.contents c.args.output.now in
-    let now = g.W.Write.contents c.loop.output in
-    let after = g.W.Write.contents c.audit_lines.new.output in
     let line = c.in-Ok.line.items in
-    let status = c.in_ok-status.status in
-    let are : c.new.result ≡ lines_of line = c.new.ensures.lines ∙ ap lines_of c.deref.ensures.value in
-    let told =
-    read_as (IsAudited k) (lines_of line) mid ((path, Ok line) ∷ next) later now after status c.in-Ok.ensures.noted
-    (lines_as (IsAudited k) c.new.result (lines_of line) mid later now after status are c.in_ok-status.ensures.told) in
+    let told = told_of_line k path _ _ _ _ _ line c.new.result c.in_ok-status.status c.in-Ok.ensures.noted (c.new.ensures.lines ∙ ap lines_of c.deref.ensures.value) c.in_ok-status.ensures.told in
     let is_ended : ends_at_feed line ≡ true = search rules in (
-      subst (IsSoFar k path was before later after) c.greater-greatest.ensures.value
-          (one_more k path was before next later now after c.loop.greatest c.loop.invariant.0 line status (ended_line line c.in-Ok.ensures.line is_ended) told),
+      subst (IsSoFar k path _ _ _ _) c.greater-greatest.ensures.value
+          (one_more k path _ _ _ _ _ _ c.loop.greatest c.loop.invariant.0 line c.in_ok-status.status (ended_line line c.in-Ok.ensures.line is_ended) told),
       c.greater-greatest.ensures.bound,
-      inr (first_on path was mid later (first_read path was c.loop.counter next mid (Ok line) c.loop.invariant.2 c.in-Ok.ensures.noted) c.audit_lines.ensures.reads),
+      inr (first_on path _ _ _ (first_read path _ c.loop.counter _ _ (Ok line) c.loop.invariant.2 c.in-Ok.ensures.noted) c.audit_lines.ensures.reads),
     )

@@ -1,11 +1,10 @@
 -- The pair of the line with what is told of it beside the best-known cost, or that it names no three columns.
-use Rattle.std.proofs.Common.{◌++◌, ◌∷◌, [], codes, inl, inr, refl, rules, subst}
+use Rattle.std.proofs.Common.{codes, inl, inr, refl, rules}
 use Rattle.std.specs.Io.KnownBytes.{Appends}
-use Rattle.std.proofs.KnownBytes.{Appends-trans}
 use Rattle.std.proofs.lemmas.Result.{IfOk-weaker}
 use Rattle.text_lines.specs.Lines.{ended}
 use Rattle.auditor_cli.specs.Listed.{pair_text}
-use Rattle.auditor_cli.proofs.ListLemmas.{read_in_turn, tabs}
+use Rattle.auditor_cli.proofs.ListLemmas.{paths_text, read_in_turn, told_of_pair}
 use Rattle.auditor_cli.proofs.listed.compare_named.Goals as goal
 
 pub returns-in-None-clause-told : goal.returns-in-None-clause-told
@@ -18,13 +17,12 @@ returns-clause-told g c =
     let solution = pair.solution.now in
     let before = g.W.Write.contents c.args.output.now in
     let mid = g.W.Write.contents c.write.new.self in
-    let after = g.W.Write.contents c.compare_read.new.output in
-    let wrote : Appends before mid (instance ++ 9 ∷ (solution ++ 9 ∷ [])) = search rules in
+    let wrote : Appends before mid (paths_text instance solution) = search rules in
     IfOk-weaker c.compare_read.result _ _
     (λ status told. (
       pair_text instance solution told.0,
       inl (record { instance = instance; solution = solution; best = pair.best; columns = c.in-Some.ensures; answer = told.0; told = told.1; text_is = refl }),
-      subst (Appends before after) (tabs instance solution told.0) (Appends-trans before mid after (instance ++ 9 ∷ (solution ++ 9 ∷ [])) told.0 wrote told.2),
+      told_of_pair instance solution told.0 before mid _ wrote told.2,
     )) c.compare_read.ensures.told
 
 pub returns-clause-reads : goal.returns-clause-reads
