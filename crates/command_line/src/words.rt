@@ -5,7 +5,7 @@
 ghost use Rattle.std.specs.Prelude.{◌≡◌, Some, IfOk, codes, drop, map, option_and_then, option_map};
 ghost use Rattle.clap.specs.Words.{App, Rule, app_of, first_of, found_of, kind_of, new_app, new_rule, rows_of, subcommand_rows_of, with_rule, with_subcommand};
 ghost use Rattle.text_lines.specs.Numbers.{integer_of};
-ghost use Rattle.command_line.specs.Asked.{ArePositional, ReadsWords, as_u64, asked_of, paths_from, paths_in, paths_of, run_in, kind_named, list_in, load_in, load_of, deviation_or_none, draw_from, draw_in, flag_named, route_or_none, seed_in, seed_named, steps_named, store_timetable_from, task_in, task_of, tasks_in, tasks_of, timetable_from, timetable_in, told_by, told_by_other, told_of, told_of_store, upgrade_in};
+ghost use Rattle.command_line.specs.Asked.{ArePositional, ReadsWords, as_u64, asked_of, paths_from, paths_in, paths_of, run_in, kind_named, list_in, load_in, load_of, deviation_or_none, draw_in, flag_named, route_or_none, seed_in, seed_named, steps_named, store_timetable_from, task_in, task_of, tasks_in, tasks_of, timetable_in, told_by, told_by_other, told_of, told_of_store, upgrade_in};
 ghost use Rattle.command_line.specs.CommandLine.{IsKindNames, IsLeafCommand, IsModeNames, IsPlannerCommand, IsWord, audits_app, draw_app, load_app, mode_rule, paths_app, kind_rule, run_app, solve_app, solves_app, store_app, timetable_app, upgrade_app, with_plan_rules, with_search_apps, with_solution_apps, with_store_apps, word_rule};
 
 use crate::help::{
@@ -571,7 +571,11 @@ fn timetable_words<'a>(matches: &ArgMatches<'a>) -> Option<Invocation<'a>>
     let second = value_of(matches, "tabs|INSTANCE");
     match value_of(matches, "SOLUTION") {
         None => store_timetable(first, second),
-        Some(solution) => solution_timetable(first, second?, solution, value_of(matches, "tabs")),
+        Some(solution) => {
+            let paths = paths_named(first, second?, solution)?;
+            let is_tabbed = flag_of_word("tabs", value_of(matches, "tabs"))?;
+            Some(Invocation::Timetable { paths, is_tabbed })
+        }
     }
 }
 
@@ -583,25 +587,11 @@ fn draw_words<'a>(matches: &ArgMatches<'a>) -> Option<Invocation<'a>>
     match value_of(matches, "INSTANCE") {
         None => Some(Invocation::DrawStore { store: first }),
         Some(instance) => {
-            let solution = value_of(matches, "SOLUTION")?;
-            solution_drawing(first, instance, solution, value_of(matches, "ROUTE"))
+            let paths = paths_named(first, instance, value_of(matches, "SOLUTION")?)?;
+            let route = route_of_word(value_of(matches, "ROUTE"))?;
+            Some(Invocation::Draw { paths, route })
         }
     }
-}
-
-// `None` where the first word names no kind, or the last one no number.
-fn solution_drawing<'a>(
-    kind: &str,
-    instance: &'a str,
-    solution: &'a str,
-    last: Option<&str>,
-) -> Option<Invocation<'a>>
-    ensures { option_map asked_of result
-        ≡ draw_from kind.now instance.now solution.now (option_map (λ w. w.now) last.entry) }
-{
-    let paths = paths_named(kind, instance, solution)?;
-    let route = route_of_word(last)?;
-    Some(Invocation::Draw { paths, route })
 }
 
 // The number of a route that a last word names, if there is one; `None` where it is no number.
@@ -621,21 +611,6 @@ fn store_timetable<'a>(store: &'a str, last: Option<&str>) -> Option<Invocation<
 {
     let is_tabbed = flag_of_word("tabs", last)?;
     Some(Invocation::StoreTimetable { store, is_tabbed })
-}
-
-// `None` where the first word names no kind, or the last one is not `tabs`.
-fn solution_timetable<'a>(
-    kind: &str,
-    instance: &'a str,
-    solution: &'a str,
-    last: Option<&str>,
-) -> Option<Invocation<'a>>
-    ensures { option_map asked_of result
-        ≡ timetable_from kind.now instance.now solution.now (option_map (λ w. w.now) last.entry) }
-{
-    let paths = paths_named(kind, instance, solution)?;
-    let is_tabbed = flag_of_word("tabs", last)?;
-    Some(Invocation::Timetable { paths, is_tabbed })
 }
 
 // Whether a last word is this one; `None` where it is another one.
