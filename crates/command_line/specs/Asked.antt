@@ -115,7 +115,6 @@ seed_or_none None = Some 0
 seed_or_none (Some word) = seed_named word
 
 infixl 10 ◌>>=◌
-
 -- what the function makes of the value, if there is one
 abbrev pub ◌>>=◌ : {A B : Type 0} → Option A → (A → Option B) → Option B
 o >>= f = option_and_then f o
