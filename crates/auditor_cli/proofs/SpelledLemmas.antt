@@ -1,5 +1,5 @@
 -- A text spells one value at most, and none where it has a fault.
-use Rattle.std.proofs.Common.{◌≡◌, ◌≤◌, ◌∙◌, ℕ, List, ◌∷◌, sym, ap, subst, inl, inr, arith}
+use Rattle.std.proofs.Common.{◌≡◌, ◌≤◌, ◌∙◌, ℕ, List, sym, ap, subst, inl, inr, arith}
 use Rattle.plan_audit.specs.Laws.{AreAllPlanned, IsSoundPlan, SolutionsPassWhereSound}
 use Rattle.plan_audit.specs.Verdict.{IsVerdict, printed}
 use Rattle.plan_audit.specs.declared.rules.Verdict.{Verdict}
@@ -7,12 +7,9 @@ use Rattle.plan_audit.specs.declared.rules.Verdict.TheVariants.{Broken, Pass}
 use Rattle.route_sched.specs.Cost.{cost_of, total_length, used_count}
 use Rattle.plan_types.specs.Instance.{Instance, IsInstance}
 use Rattle.plan_types.specs.declared.requests.Kind.{Kind}
-use Rattle.plan_types.specs.declared.requests.Kind.TheVariants.{LiLim, Vrp}
-use Rattle.instance_read.specs.Faults.{HasNone}
-use Rattle.instance_read.specs.Lilim.{problem_of}
 use Rattle.sol_text.specs.Faults.{Spells}
 use Rattle.sol_text.specs.declared.read.Solution.{Solution}
-use Rattle.instance_read.specs.Readings.{InstanceFault, SpellsInstance}
+use Rattle.instance_read.specs.Readings.{SpellsInstance}
 use Rattle.instance_read.proofs.SpelledLemmas.{no_fault, problem_once}
 use Rattle.auditor_cli.specs.Answer.{IsAnswer, JudgesSpelled, SaysSound, TellsVerdict, verdict_answer}
 use Rattle.auditor_cli.specs.declared.answer.AuditAnswer.{AuditAnswer}
