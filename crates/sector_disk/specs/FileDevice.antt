@@ -1,5 +1,6 @@
 -- How a device over a file is seen.
-use Rattle.std.specs.Prelude.{◌≡◌, ℕ, List, []}
+use Rattle.std.specs.Prelude.{◌≡◌, ℕ, ◌+◌, ◌-◌, ◌^◌, min, List, [], Option}
+use Rattle.std.specs.declared.io.Error.{Error}
 use Rattle.sector_disk.specs.declared.file_device.FileDevice.{FileDevice}
 use Rattle.sector_disk.specs.declared.file_calls.FileCalls as calls
 use Rattle.sector_disk.specs.declared.file_calls.HostFile.{HostFile}
@@ -26,6 +27,14 @@ module _ {S F : Type 0} {start : starts.Ghosts S} {g : calls.Ghosts F} where
   -- the model's device after the calls in the file's record
   abbrev pub history_of : Disk → (ℕ → List ℕ) → (F → List Entry) → FileDevice S F start g → History
   history_of disk shown entries d = file_history d.sectors disk shown (entries d.file) d.calls
+
+  -- one call more has failed, of which the system said this
+  pub record HasFailed (cause : Option Error) (old new : FileDevice S F start g) : Type 0 where
+    pub fault : new.faults ≡ min (old.faults + 1) (2 ^ 64 - 1)
+    pub file : new.file ≡ old.file
+    pub sectors : new.sectors ≡ old.sectors
+    pub calls : new.calls ≡ old.calls
+    pub told : new.cause ≡ cause
 
   -- no call was made yet
   abbrev pub IsUnused : (F → List Entry) → FileDevice S F start g → Type 0

@@ -1,5 +1,5 @@
 -- What opening or making a file came to, by the calls that were made of the system.
-use Rattle.std.specs.Prelude.{◌≡◌, ℕ, ◌+◌, ◌%◌, max, Bool, true, false, ◌&&◌, List, [], ◌∷◌, drop, Option, Some, None, is_none, Result, Ok, Err, if◌then◌else◌, ◌==◌, IsTrue}
+use Rattle.std.specs.Prelude.{◌≡◌, ℕ, ◌+◌, ◌%◌, max, Bool, true, false, ◌&&◌, List, [], ◌∷◌, drop, Option, Some, None, is_none, Result, Ok, Err, IfOk, if◌then◌else◌, ◌==◌, IsTrue}
 use Rattle.std.specs.Option.{option_or, option_map}
 use Rattle.std.specs.declared.io.ErrorKind.{ErrorKind}
 use Rattle.std.specs.declared.io.ErrorKind.TheVariants as kind
@@ -101,6 +101,17 @@ is_synced calls = is_file_synced (drop 2 calls) && is_folder_synced calls
 abbrev pub fault_told : {T : Type 0} → Result T OpeningFault → Option FileFault
 fault_told (Ok _) = None
 fault_told (Err refusal) = Some refusal.fault
+
+-- the calls so far came to no fault, and the file has this length
+pub record HasLen (calls : List Noted) (len : ℕ) : Type 0 where
+  pub no_fault : first_fault (answered calls) ≡ None
+  pub length : len_after (answered calls) ≡ Some len
+
+-- A step was to give the file this length and to sync it: it told the fault, or the file is so.
+pub record IsResized {T : Type 0} (result : Result T OpeningFault) (calls : List Noted) (len : ℕ) : Type 0 where
+  pub told : first_fault (answered calls) ≡ fault_told result
+  pub length : IfOk result (λ done. len_after (answered calls) ≡ Some len)
+  pub synced : IfOk result (λ done. IsTrue (is_file_synced (answered calls)))
 
 -- The file was opened, locked and measured, and has this length, which is one of whole sectors.
 pub record IsTaken (calls : List Noted) (len : ℕ) : Type 0 where

@@ -1,5 +1,5 @@
 -- What the calls of a device do, as the layers above see it.
-use Rattle.std.specs.Prelude.{◌≡◌, ◌⊎◌, ℕ, ◌+◌, ◌-◌, ◌^◌, ◌≤◌, min, List, Result, is_ok, IsOk, IsErr, OnOk, if◌then◌else◌}
+use Rattle.std.specs.Prelude.{◌≡◌, ◌⊎◌, ℕ, ◌+◌, ◌-◌, ◌*◌, ◌%◌, ◌^◌, ◌<◌, ◌≤◌, min, List, Result, is_ok, IsOk, IsErr, OnOk, if◌then◌else◌}
 use Rattle.sector_disk.specs.Image.{written, Mixes}
 
 -- the number of finished writes and syncs after one more, which may have failed
@@ -9,6 +9,12 @@ calls_after result calls = if is_ok result then calls + 1 else calls
 -- the number of failed calls after one more call; it stays at the last number of 64 bits
 abbrev pub faults_after : {T E : Type 0} → Result T E → ℕ → ℕ
 faults_after result faults = if is_ok result then faults else min (faults + 1) (2 ^ 64 - 1)
+
+-- a run of whole sectors of a device: so many bytes from sector first on
+pub record IsWholeRun (first size sectors : ℕ) : Type 0 where
+  pub some : 0 < size
+  pub whole : size % 512 ≡ 0
+  pub inside : 512 * first + size ≤ 512 * sectors
 
 -- How many calls have finished behind a call, by how many had before it: as many, as of a read;
 abbrev pub as_many : ℕ → ℕ → Type 0

@@ -1,5 +1,5 @@
 -- Calls of the system, each with its answer, as they are noted: the newest first.
-use Rattle.std.specs.Prelude.{ℕ, Bool, true, false, List, [], ◌∷◌, Option, Some, None, Result, Ok, Err, if◌then◌else◌}
+use Rattle.std.specs.Prelude.{ℕ, ◌<◌, ◌≤◌, Bool, true, false, List, [], ◌∷◌, Option, Some, None, Result, Ok, Err, if◌then◌else◌}
 use Rattle.std.specs.declared.io.ErrorKind.{ErrorKind}
 use Rattle.std.specs.declared.io.ErrorKind.TheVariants as kind
 use Rattle.std.specs.declared.io.Error.{Error}
@@ -27,6 +27,11 @@ read_at_answer offset (Err error) = ReadAtFailed offset (error_kind error)
 abbrev pub write_at_answer : ℕ → Result ℕ Error → SystemCall
 write_at_answer offset (Ok moved) = WriteAt offset moved
 write_at_answer offset (Err error) = WriteAtFailed offset (error_kind error)
+
+-- what a read or a write moves of so many bytes: some of them
+pub record IsPart (all moved : ℕ) : Type 0 where
+  pub some : 0 < all → 0 < moved
+  pub inside : moved ≤ all
 
 abbrev pub is_memory : ErrorKind → Bool
 is_memory kind.OutOfMemory = true

@@ -78,7 +78,7 @@ pub struct FileDevice<S: Start, F: FileCalls = HostFile> {
 }
 
 impl<S: Start, F: FileCalls> FileDevice<S, F> {
-    ghost use Rattle.sector_disk.specs.FileDevice.{device_len, IsUnused};
+    ghost use Rattle.sector_disk.specs.FileDevice.{device_len, IsUnused, HasFailed};
 
     // A device over a file of this many sectors that was not called yet.
     fn over(file: F, sectors: u64) -> FileDevice<S, F>
@@ -101,11 +101,7 @@ impl<S: Start, F: FileCalls> FileDevice<S, F> {
     // A call that fails, with what the system said, if it was asked.
     fn fail(&mut self, cause: Option<io::Error>) -> Result<(), DeviceFault>
         ensures fails { IsErr result }
-        ensures fault { self.new.faults ≡ min (self.old.faults + 1) (2 ^ 64 - 1) }
-        ensures file { self.new.file ≡ self.old.file }
-        ensures sectors { self.new.sectors ≡ self.old.sectors }
-        ensures calls { self.new.calls ≡ self.old.calls }
-        ensures cause { self.new.cause ≡ cause }
+        ensures left { HasFailed cause self.old self.new }
     {
         self.faults = self.faults.saturating_add(1);
         self.cause = cause;

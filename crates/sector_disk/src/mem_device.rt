@@ -124,7 +124,7 @@ fn keep_sync(history: &mut Vec<Call>) -> Result<(), AllocError>
 impl MemDevice {
     ghost use Rattle.std.specs.Prelude.{replicate};
     ghost use Rattle.sector_disk.specs.Model.{Stops};
-    ghost use Rattle.sector_disk.specs.Sectors.{Only};
+    ghost use Rattle.sector_disk.specs.Sectors.{Only, IsWholeRun};
     ghost use Rattle.sector_disk.specs.MemDevice.{memory};
     ghost use Rattle.sector_disk.specs.Memory.{fresh, len_of, disk_of, seen_of, MayLeave, IsSameDevice, KeepsCounts, is_due, is_refused, tears, failed, read_of, write_of, sync_of, with_fault, Gives, GivesIfMemory, Crashes};
 
@@ -229,9 +229,7 @@ impl MemDevice {
     /// `write` of `Sectors`, with all that a device in memory answers and leaves. It finds no memory only for a write
     /// that it has to list.
     pub fn try_write(&mut self, first: u64, bytes: &[u8]) -> Result<(), DeviceFault>
-        requires some { 0 < length bytes.now }
-        requires whole { length bytes.now % 512 ≡ 0 }
-        requires inside { 512 * first + length bytes.now ≤ 512 * len_of (memory self.old) }
+        requires { IsWholeRun first (length bytes.now) (len_of (memory self.old)) }
         ensures exact { GivesIfMemory (memory self.old)
             (write_of (memory self.old) first bytes.now) result (memory self.new) }
         ensures refused { IsTrue (is_refused (memory self.old)) → tears (memory self.old) ≡ false

@@ -1,7 +1,7 @@
 //! Reads and writes of whole buffers. A call that moves a part is followed by one for the rest, and one that a signal
 //! interrupts is made again.
 ghost use Rattle.std.specs.Prelude.{◌≡◌, ◌≤◌, ◌<◌, ◌*◌, ◌^◌, length, ◌∷◌, IfOk, IsErr, None, is_ok};
-ghost use Rattle.sector_disk.specs.SystemCalls.{read_at_answer, write_at_answer, is_interruption, answered};
+ghost use Rattle.sector_disk.specs.SystemCalls.{read_at_answer, write_at_answer, is_interruption, answered, IsPart};
 ghost use Rattle.sector_disk.specs.FileCalls.{read_entry, write_entry};
 ghost use Rattle.sector_disk.specs.Told.{told_by, told_in, moved_on, failed, Reads, Writes};
 
@@ -26,17 +26,12 @@ fn is_interrupted(kind: ErrorKind) -> bool
 pub fn write_some(file: &File, bytes: &[u8], offset: u64, noted: &mut Record) -> io::Result<usize>
     ensures noted { answered noted.new
         ≡ (write_at_answer offset result, bytes.now) ∷ answered noted.old }
-    ensures some { 0 < length bytes.now → IfOk result (λ moved. 0 < moved) }
-    ensures inside { IfOk result (λ moved. moved ≤ length bytes.now) }
+    ensures moved { IfOk result (IsPart (length bytes.now)) }
 {
     for _ in 0..u64::MAX {
         match system::write_at(file, bytes, offset, noted) {
-            Ok(moved) => return Ok(moved),
-            Err(error) => {
-                if !is_interrupted(error.kind()) {
-                    return Err(error);
-                }
-            }
+            Err(error) if is_interrupted(error.kind()) => {}
+            answer => return answer,
         }
     }
     Err(system::refuse_write(bytes, offset, ErrorKind::TimedOut, noted))
@@ -66,17 +61,12 @@ pub fn write_whole(file: &File, bytes: &[u8], first: u64, noted: &mut Record) ->
 fn read_some(file: &File, into: &mut [u8], offset: u64, noted: &mut Record) -> io::Result<usize>
     ensures noted { answered noted.new
         ≡ (read_at_answer offset result, into.new) ∷ answered noted.old }
-    ensures some { 0 < length into.new → IfOk result (λ moved. 0 < moved) }
-    ensures inside { IfOk result (λ moved. moved ≤ length into.new) }
+    ensures moved { IfOk result (IsPart (length into.new)) }
 {
     for _ in 0..u64::MAX {
         match system::read_at(file, into, offset, noted) {
-            Ok(moved) => return Ok(moved),
-            Err(error) => {
-                if !is_interrupted(error.kind()) {
-                    return Err(error);
-                }
-            }
+            Err(error) if is_interrupted(error.kind()) => {}
+            answer => return answer,
         }
     }
     Err(system::refuse_read(into, offset, ErrorKind::TimedOut, noted))

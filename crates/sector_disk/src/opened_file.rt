@@ -6,7 +6,7 @@
 ghost use Rattle.std.specs.Prelude.{◌≡◌, ◌*◌, ◌/◌, ◌%◌, ◌^◌, ◌<◌, ◌≤◌, ◌≢◌, IfOk, IfErr, IsTrue, IsErrOf, Ok, Some, None, false, List, [], ◌∷◌};
 ghost use Rattle.std.specs.IoError.{error_kind};
 ghost use Rattle.sector_disk.specs.SystemCalls.{answered};
-ghost use Rattle.sector_disk.specs.Opening.{fault_of, lock_fault, folder_fault, first_fault, len_after, taking_fault, is_file_synced, is_synced, fault_told, IsTaken, IsMade};
+ghost use Rattle.sector_disk.specs.Opening.{fault_of, lock_fault, folder_fault, first_fault, len_after, taking_fault, is_file_synced, is_synced, fault_told, HasLen, IsResized, IsTaken, IsMade};
 
 use crate::file_calls::SECTOR;
 use crate::moving::write_some;
@@ -160,9 +160,7 @@ impl OpenedFile {
     pub fn resize(&self, len: u64, noted: &mut Record) -> Result<(), OpeningFault>
         requires locked { IsTrue self.now.is_locked }
         requires no_fault { first_fault (answered noted.old) ≡ None }
-        ensures told { first_fault (answered noted.new) ≡ fault_told result }
-        ensures len { IfOk result (λ _. len_after (answered noted.new) ≡ Some len) }
-        ensures synced { IfOk result (λ _. IsTrue (is_file_synced (answered noted.new))) }
+        ensures { IsResized result noted.new len }
     {
         let old = self.measure(noted)?;
         settle_len(&self.file, old, len, noted)
@@ -180,11 +178,8 @@ impl OpenedFile {
 // Gives a file that is `old` bytes long another length, and syncs it. Where the disk has no room, the file gives back what it
 // took.
 fn settle_len(file: &File, old: u64, len: u64, noted: &mut Record) -> Result<(), OpeningFault>
-    requires no_fault { first_fault (answered noted.old) ≡ None }
-    requires old { len_after (answered noted.old) ≡ Some old }
-    ensures told { first_fault (answered noted.new) ≡ fault_told result }
-    ensures len { IfOk result (λ _. len_after (answered noted.new) ≡ Some len) }
-    ensures synced { IfOk result (λ _. IsTrue (is_file_synced (answered noted.new))) }
+    requires long { HasLen noted.old old }
+    ensures { IsResized result noted.new len }
 {
     if len <= old {
         return shorten(file, len, noted);
@@ -199,9 +194,7 @@ fn settle_len(file: &File, old: u64, len: u64, noted: &mut Record) -> Result<(),
 // Gives a file this length, which is not above its own, and syncs it.
 fn shorten(file: &File, len: u64, noted: &mut Record) -> Result<(), OpeningFault>
     requires no_fault { first_fault (answered noted.old) ≡ None }
-    ensures told { first_fault (answered noted.new) ≡ fault_told result }
-    ensures len { IfOk result (λ _. len_after (answered noted.new) ≡ Some len) }
-    ensures synced { IfOk result (λ _. IsTrue (is_file_synced (answered noted.new))) }
+    ensures { IsResized result noted.new len }
 {
     system::set_len(file, len, noted)?;
     system::sync_all(file, noted)?;
@@ -211,11 +204,8 @@ fn shorten(file: &File, len: u64, noted: &mut Record) -> Result<(), OpeningFault
 // Writes zeros behind a file that is `old` bytes long, up to another length, and syncs it.
 fn lengthen(file: &File, old: u64, len: u64, noted: &mut Record) -> Result<(), OpeningFault>
     requires longer { old < len }
-    requires no_fault { first_fault (answered noted.old) ≡ None }
-    requires old { len_after (answered noted.old) ≡ Some old }
-    ensures told { first_fault (answered noted.new) ≡ fault_told result }
-    ensures len { IfOk result (λ _. len_after (answered noted.new) ≡ Some len) }
-    ensures synced { IfOk result (λ _. IsTrue (is_file_synced (answered noted.new))) }
+    requires long { HasLen noted.old old }
+    ensures { IsResized result noted.new len }
 {
     write_zeros(file, old, len, noted)?;
     system::sync_all(file, noted)?;
@@ -225,8 +215,7 @@ fn lengthen(file: &File, old: u64, len: u64, noted: &mut Record) -> Result<(), O
 // Writes zeros from one offset, the file's length, to the other.
 fn write_zeros(file: &File, from: u64, to: u64, noted: &mut Record) -> Result<(), OpeningFault>
     requires longer { from ≤ to }
-    requires no_fault { first_fault (answered noted.old) ≡ None }
-    requires old { len_after (answered noted.old) ≡ Some from }
+    requires long { HasLen noted.old from }
     ensures told { first_fault (answered noted.new) ≡ fault_told result }
     ensures len { IfOk result (λ _. len_after (answered noted.new) ≡ Some to) }
 {

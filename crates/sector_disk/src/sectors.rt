@@ -5,7 +5,7 @@
 //! may do; "honest after a call exactly where it was before" could only be met by one whose honesty is settled from the start.
 ghost use Rattle.std.specs.Prelude.{◌≡◌, ◌+◌, ◌-◌, ◌*◌, ◌%◌, ◌^◌, ◌<◌, ◌≤◌, ◌↔◌, List, ℕ, length, take, drop, OnOk, OnErr, IsErr};
 ghost use Rattle.sector_disk.specs.Image.{written};
-ghost use Rattle.sector_disk.specs.Sectors.{IsCalled, as_many, OneMore, faults_after, Reached, AddsContents, Only, SameImages, Passes};
+ghost use Rattle.sector_disk.specs.Sectors.{IsWholeRun, IsCalled, as_many, OneMore, faults_after, Reached, AddsContents, Only, SameImages, Passes};
 
 use std::alloc::AllocError;
 use thiserror::Error;
@@ -64,9 +64,7 @@ pub trait Sectors {
 
     /// Reads a run of whole sectors, `first` the number of its first. After a fault the buffer's bytes are not known.
     fn read(&mut self, first: u64, into: &mut [u8]) -> Result<(), DeviceFault>
-        requires some { 0 < length into.old }
-        requires whole { length into.old % 512 ≡ 0 }
-        requires inside { 512 * first + length into.old ≤ 512 * len self.old }
+        requires { IsWholeRun first (length into.old) (len self.old) }
 
         ensures called { IsCalled len calls faults honest as_many (faults_after result)
             self.old self.new }
@@ -80,9 +78,7 @@ pub trait Sectors {
     /// Writes a run of whole sectors, `first` the number of its first. Until a sync succeeds a stop may leave the old
     /// content or the new one in each of them; after a fault reads give one of the possible images.
     fn write(&mut self, first: u64, bytes: &[u8]) -> Result<(), DeviceFault>
-        requires some { 0 < length bytes.now }
-        requires whole { length bytes.now % 512 ≡ 0 }
-        requires inside { 512 * first + length bytes.now ≤ 512 * len self.old }
+        requires { IsWholeRun first (length bytes.now) (len self.old) }
 
         ensures called { IsCalled len calls faults honest (OneMore result) (faults_after result)
             self.old self.new }

@@ -2,7 +2,7 @@
 //! No contract says what a system does, so that each does make the call that it notes is trusted. Nothing else calls a `File`.
 ghost use Rattle.std.specs.Prelude.{◌≡◌, ◌≤◌, ◌<◌, length, List, [], ◌∷◌, IfOk};
 ghost use Rattle.std.specs.IoError.{error_kind};
-ghost use Rattle.sector_disk.specs.SystemCalls.{kind_in, measured, read_at_answer, write_at_answer};
+ghost use Rattle.sector_disk.specs.SystemCalls.{kind_in, measured, read_at_answer, write_at_answer, IsPart};
 
 use crate::record::Record;
 use crate::system_call::SystemCall;
@@ -86,56 +86,76 @@ pub fn set_len(file: &File, len: u64, noted: &mut Record) -> io::Result<()>
     set
 }
 
+// How a read or a write of so many bytes came out: one that moved none of them has failed so.
+fn some_moved(answer: io::Result<usize>, all: usize, kind: ErrorKind) -> io::Result<usize>
+    ensures { IfOk answer (λ moved. moved ≤ all) → IfOk result (IsPart all) }
+{
+    match answer {
+        Ok(0) if all > 0 => Err(io::Error::from(kind)),
+        answer => answer,
+    }
+}
+
+// What is noted of a read from this offset on.
+fn read_at_answer(offset: u64, answer: &io::Result<usize>) -> SystemCall
+    ensures { result ≡ read_at_answer offset answer.now }
+{
+    match answer {
+        Ok(moved) => SystemCall::ReadAt {
+            offset,
+            moved: *moved as u64,
+        },
+        Err(error) => SystemCall::ReadAtFailed {
+            offset,
+            kind: error.kind(),
+        },
+    }
+}
+
+// What is noted of a write.
+fn write_at_answer(offset: u64, answer: &io::Result<usize>) -> SystemCall
+    ensures { result ≡ write_at_answer offset answer.now }
+{
+    match answer {
+        Ok(moved) => SystemCall::WriteAt {
+            offset,
+            moved: *moved as u64,
+        },
+        Err(error) => SystemCall::WriteAtFailed {
+            offset,
+            kind: error.kind(),
+        },
+    }
+}
+
 /// Reads bytes from this offset on, which may be fewer than there is room for. None where there is room is `UnexpectedEof`.
 pub fn read_at(file: &File, into: &mut [u8], offset: u64, noted: &mut Record) -> io::Result<usize>
     ensures noted { noted.new
         ≡ (read_at_answer offset result, into.new) ∷ noted.old }
-    ensures some { 0 < length into.new → IfOk result (λ moved. 0 < moved) }
-    ensures inside { IfOk result (λ moved. moved ≤ length into.new) }
+    ensures moved { IfOk result (IsPart (length into.new)) }
 {
-    match file.read_at(into, offset) {
-        Ok(0) if !into.is_empty() => {
-            let kind = ErrorKind::UnexpectedEof;
-            noted.note(&SystemCall::ReadAtFailed { offset, kind }, into);
-            Err(io::Error::from(kind))
-        }
-        Ok(count) => {
-            let moved = count as u64;
-            noted.note(&SystemCall::ReadAt { offset, moved }, into);
-            Ok(count)
-        }
-        Err(error) => {
-            let kind = error.kind();
-            noted.note(&SystemCall::ReadAtFailed { offset, kind }, into);
-            Err(error)
-        }
-    }
+    let answer = some_moved(
+        file.read_at(into, offset),
+        into.len(),
+        ErrorKind::UnexpectedEof,
+    );
+    noted.note(&read_at_answer(offset, &answer), into);
+    answer
 }
 
 /// Writes these bytes from this offset on, or the first few of them. None of them is `WriteZero`.
 pub fn write_at(file: &File, bytes: &[u8], offset: u64, noted: &mut Record) -> io::Result<usize>
     ensures noted { noted.new
         ≡ (write_at_answer offset result, bytes.now) ∷ noted.old }
-    ensures some { 0 < length bytes.now → IfOk result (λ moved. 0 < moved) }
-    ensures inside { IfOk result (λ moved. moved ≤ length bytes.now) }
+    ensures moved { IfOk result (IsPart (length bytes.now)) }
 {
-    match file.write_at(bytes, offset) {
-        Ok(0) if !bytes.is_empty() => {
-            let kind = ErrorKind::WriteZero;
-            noted.note(&SystemCall::WriteAtFailed { offset, kind }, bytes);
-            Err(io::Error::from(kind))
-        }
-        Ok(count) => {
-            let moved = count as u64;
-            noted.note(&SystemCall::WriteAt { offset, moved }, bytes);
-            Ok(count)
-        }
-        Err(error) => {
-            let kind = error.kind();
-            noted.note(&SystemCall::WriteAtFailed { offset, kind }, bytes);
-            Err(error)
-        }
-    }
+    let answer = some_moved(
+        file.write_at(bytes, offset),
+        bytes.len(),
+        ErrorKind::WriteZero,
+    );
+    noted.note(&write_at_answer(offset, &answer), bytes);
+    answer
 }
 
 /// A read that is not asked for: it can't be, or was interrupted too often. It is noted as one that failed so.

@@ -11,7 +11,7 @@ use Rattle.sector_disk.proofs.moving.write_whole.Goals as goal
 
 pub loop-at-init : goal.loop-at-init
 loop-at-init c = (
-  c.in_ok-at.ensures.inside,
+  c.in_ok-at.ensures.moved.inside,
   begins Writes c.args.noted.now c.write_some.new.noted (c.args.first * 512) c.args.bytes.now c.requires.settled c.in_ok-at.at c.in_ok-at.ensures.noted,
 )
 
@@ -37,6 +37,6 @@ loop-at-preserved c =
     let gone =
     goes_further Writes c.loop-at.noted c.write_some-in-loop-at.new.noted (c.args.first * 512) entries bytes (drop at bytes) at c.loop-at.invariant.1 c.loop-at-test.true refl n
     (c.in_ok-at-2.ensures.noted ∙ ap (λ (xs : List ℕ). (moved_call Writes (c.args.first * 512 + at) n, xs) ∷ answered c.loop-at.noted) (between_to_end bytes at (length bytes) (omega arith))) in (
-      omega (arith, c.in_ok-at-2.ensures.inside, ap length (between_to_end bytes at (length bytes) (omega arith)), length-drop at bytes, c.loop-at-test.true),
+      omega (arith, c.in_ok-at-2.ensures.moved.inside, ap length (between_to_end bytes at (length bytes) (omega arith)), length-drop at bytes, c.loop-at-test.true),
       subst (λ (xs : List ℕ). told_by c.write_some-in-loop-at.new.noted ≡ so_far entries Writes (c.args.first * 512) xs (at + n)) (take-append-drop at bytes) gone,
     )

@@ -13,7 +13,7 @@ denied g c honest =
     let d = c.args.self.now in
     let new = c.fail-in-Err.new.self in
     let entries = g.F.FileCalls.entries in
-    file_syncs d.sectors new.sectors g.S.Start.disk g.S.Start.shown (entries d.file) (entries new.file) c.fail-in-Err.ensures.sectors d.calls new.calls c.fail-in-Err.result d.inside honest (search rules) (search rules)
+    file_syncs d.sectors new.sectors g.S.Start.disk g.S.Start.shown (entries d.file) (entries new.file) c.fail-in-Err.ensures.left.sectors d.calls new.calls c.fail-in-Err.result d.inside honest (search rules) (search rules)
 
 pub returns-in-Err-clause-contents : goal.returns-in-Err-clause-contents
 returns-in-Err-clause-contents g c = λ honest. (denied g c honest).contents
