@@ -12,6 +12,17 @@ ghost use Rattle.std.specs.Borrow.{ftrue};
 
 use std::marker::{Model, PhantomData};
 
+/// The type of a list as clauses see it, for a `Ghost`. There is no value of it.
+pub struct ListOf<T> {
+    marker: PhantomData<T>,
+}
+
+impl<T> Model for ListOf<T> {
+    ghost Value = { List T };
+
+    ghost view = { λ _. [] };
+}
+
 /// A `T` as clauses see it, as `value`.
 pub struct Ghost<T> {
     marker: PhantomData<T>,
@@ -22,6 +33,7 @@ impl<T> Model for Ghost<T> {
     ghost also_owns = { λ _. ftrue };
 }
 
+// By hand: derived, it would ask that `T` is `Drop`, which the type of a value that only clauses read need not be.
 impl<T> Drop for Ghost<T> {
     fn drop(self) {
         let Ghost { marker: _ } = self;
@@ -46,15 +58,4 @@ impl<T> Ghost<T> {
     {
         Ghost::of()
     }
-}
-
-/// The type of a list as clauses see it, for a `Ghost`. There is no value of it.
-pub struct ListOf<T> {
-    marker: PhantomData<T>,
-}
-
-impl<T> Model for ListOf<T> {
-    ghost Value = { List T };
-
-    ghost view = { λ _. [] };
 }

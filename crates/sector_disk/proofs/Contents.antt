@@ -105,9 +105,6 @@ module _ (synced : List ℕ) (since : List (List ℕ)) (choice count : ℕ) (cou
       at zero later is = absurd (omega arith)
       at (suc n) later is = let less : suc n - 1 ≡ n = omega arith in index_of_get since n content (is ∙ ap (slice_get since) less)
 
-  pub chosen_first : choice % (count + 1) ≡ 0 → chosen synced since choice ≡ synced
-  chosen_first zeroth = ap (λ (n : ℕ). slice_index_or (synced ∷ since) n []) (number_is ∙ zeroth)
-
   pub chosen_there : 0 < choice % (count + 1) → slice_get since (choice % (count + 1) - 1) ≡ None → ⊥
   chosen_there later is = get_within since (choice % (count + 1) - 1) (omega (arith, counted)) is
 

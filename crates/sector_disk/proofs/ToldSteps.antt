@@ -1,19 +1,16 @@
 -- How a call of the system goes on with a read or a write.
-use Rattle.std.proofs.Common.{◌≡◌, inl, inr, ◌⊎◌, ℕ, ◌+◌, ◌-◌, ◌*◌, ◌/◌, ◌<◌, ◌≤◌, true, false, List, [], ◌∷◌, ◌++◌, length, take, drop, refl, sym, ◌∙◌, ap, arith, Option, Some, None, nat_le}
+use Rattle.std.proofs.Common.{◌≡◌, inl, inr, ◌⊎◌, ℕ, ◌+◌, ◌-◌, ◌<◌, ◌≤◌, true, false, List, [], ◌∷◌, ◌++◌, length, take, drop, refl, sym, ◌∙◌, ap, arith, Some, None, nat_le}
 use Rattle.std.proofs.lemmas.Bool.{cond-true, cond-false, and_from, le-leb, lt-leb, eq-eqb}
 use Rattle.std.proofs.lemmas.Bool.Decides.{leb_tells}
 use Rattle.std.proofs.lemmas.List.{append-nil, length-append, length-drop, length-take-le}
 use Rattle.std.proofs.Math.Seq.{take-append-add, drop-append-add}
 use Rattle.std.proofs.Math.ListN.{drop_of_length-le}
-use Rattle.std.proofs.Math.Nat.{mul-div_cancel}
 use borrow.Rule.Slice.PartMut.{put_mid}
-use Rattle.std.specs.declared.io.ErrorKind.{ErrorKind}
 use Rattle.sector_disk.specs.declared.system_call.SystemCall.{SystemCall}
-use Rattle.sector_disk.specs.declared.system_call.SystemCall.TheVariants.{ReadAt, ReadAtFailed, WriteAt, WriteAtFailed}
+use Rattle.sector_disk.specs.declared.system_call.SystemCall.TheVariants.{ReadAt, WriteAt}
 use Rattle.sector_disk.specs.SystemCalls.{Noted, answered}
-use Rattle.sector_disk.specs.FileRecord.{Entry, WriteFailed}
-use Rattle.sector_disk.specs.FileCalls.{write_entry}
-use Rattle.sector_disk.specs.Told.{Way, Reads, Writes, Transfer, Told, finished, failed, is_same, goes_on, moved_on, stopped, by_going, after, told_in, told_by}
+use Rattle.sector_disk.specs.FileRecord.{Entry}
+use Rattle.sector_disk.specs.Told.{Way, Reads, Writes, Transfer, Told, finished, is_same, goes_on, moved_on, by_going, after, told_in, told_by}
 
 -- a read or a write of which so many bytes have moved
 abbrev pub so_far : List Entry → Way → ℕ → List ℕ → ℕ → Told
@@ -72,48 +69,20 @@ module _ (entries : List Entry) (way : Way) (start : ℕ) (bytes piece : List �
   pub goes : step moved_on (so_far entries way start bytes at) n ≡ so_far entries way start (take at bytes ++ piece) (at + n)
   goes = ap (λ (told : Told). step moved_on told n) is_open ∙ cond-true (goes_on going way (start + at) (length piece)) _ _ asks ∙ joined
 
-  -- a call for the rest that failed
-  pub stops : step stopped (so_far entries way start bytes at) 0 ≡ done entries (failed way start (take at bytes ++ piece))
-  stops = ap (λ (told : Told). step stopped told 0) is_open ∙ cond-true (goes_on going way (start + at) (length piece)) _ _ asks
-
 abbrev pub moved_call : Way → ℕ → ℕ → SystemCall
 moved_call Reads offset n = ReadAt offset n
 moved_call Writes offset n = WriteAt offset n
-
-abbrev pub failed_call : Way → ℕ → ErrorKind → SystemCall
-failed_call Reads offset kind = ReadAtFailed offset kind
-failed_call Writes offset kind = WriteAtFailed offset kind
 
 after_moved : (way : Way) (told : Told) (offset n : ℕ) (bytes : List ℕ) → after told (moved_call way offset n) bytes ≡ by_going moved_on told.entries told.going way offset bytes n
 after_moved Reads told offset n bytes = refl
 after_moved Writes told offset n bytes = refl
 
-after_failed : (way : Way) (told : Told) (offset : ℕ) (kind : ErrorKind) (bytes : List ℕ) → after told (failed_call way offset kind) bytes ≡ by_going stopped told.entries told.going way offset bytes 0
-after_failed Reads told offset kind bytes = refl
-after_failed Writes told offset kind bytes = refl
-
 module _ (way : Way) (old new : List Noted) (start : ℕ) where
-  -- the first call of a read or a write
-  module _ (bytes : List ℕ) (none : (told_by old).going ≡ None) where
-    pub begins : (n : ℕ) → answered new ≡ (moved_call way start n, bytes) ∷ answered old → told_by new ≡ so_far (told_by old).entries way start bytes n
-    begins n more = ap told_in more ∙ after_moved way (told_by old) start n bytes ∙ ap (λ (g : Option Transfer). by_going moved_on (told_by old).entries g way start bytes n) none
-
   -- a further one, for what is left
   module _ (entries : List Entry) (bytes piece : List ℕ) (at : ℕ) (is : told_by old ≡ so_far entries way start bytes at) (more : at < length bytes) (rest : length piece ≡ length (drop at bytes)) where
     pub goes_further : (n : ℕ) → answered new ≡ (moved_call way (start + at) n, piece) ∷ answered old → told_by new ≡ so_far entries way start (take at bytes ++ piece) (at + n)
     goes_further n next =
         ap told_in next ∙ after_moved way (told_by old) (start + at) n piece ∙ ap (λ (told : Told). by_going moved_on told.entries told.going way (start + at) piece n) is ∙ goes entries way start bytes piece at n more rest
-
-    pub fails_further : (kind : ErrorKind) → answered new ≡ (failed_call way (start + at) kind, piece) ∷ answered old → told_by new ≡ done entries (failed way start (take at bytes ++ piece))
-    fails_further kind next =
-        ap told_in next ∙ after_failed way (told_by old) (start + at) kind piece ∙ ap (λ (told : Told). by_going stopped told.entries told.going way (start + at) piece 0) is ∙ stops entries way start bytes piece at 0 more rest
-
--- a run of sectors begins at its first
-first_is : (first : ℕ) → first * 512 / 512 ≡ first
-first_is first = mul-div_cancel first (omega arith)
-
-pub write_fails : (first : ℕ) (bytes : List ℕ) → failed Writes (first * 512) bytes ≡ write_entry false first bytes
-write_fails first bytes = ap (λ (k : ℕ). (WriteFailed k, bytes)) (first_is first)
 
 -- a buffer behind a read into what is left of it
 pub put_rest : (at : ℕ) (xs ys : List ℕ) → put_mid at (length xs - at) xs ys ≡ take at xs ++ ys

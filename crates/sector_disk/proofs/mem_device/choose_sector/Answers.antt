@@ -5,7 +5,7 @@ use Rattle.sector_disk.specs.Image.{sector, written}
 use Rattle.sector_disk.specs.ImageLaws.{sector-written_inside, sector-written_cases}
 use Rattle.sector_disk.specs.Kept.{call_of}
 use Rattle.sector_disk.specs.Crash.{content_of}
-use Rattle.sector_disk.proofs.Contents.{chosen_later, chosen_first, chosen_there}
+use Rattle.sector_disk.proofs.Contents.{chosen_later, chosen_there}
 use Rattle.sector_disk.proofs.Steps.{is_none}
 use Rattle.sector_disk.proofs.mem_device.choose_sector.Goals as goal
 
@@ -32,12 +32,6 @@ returns-in-Some-clause-others c = λ i other.
     let inside : 512 * index + 512 * 1 ≤ length image = omega (arith, c.requires) in
     ap (sector i) c.put.ensures
     ∙ ⊎_elim (λ (this : (j : ℕ) × (i ≡ index + j) × (j < 1)). absurd (other (omega (arith, this.1, this.2)))) (λ (same : sector i (written index content image) ≡ sector i image). same) (sector-written_cases index 1 content image whole inside i)
-
-pub returns-then-number-eq0-clause-chosen : goal.returns-then-number-eq0-clause-chosen
-returns-then-number-eq0-clause-chosen c =
-    let synced = sector c.args.index c.args.image.now in
-    let since = filter_map (content_of c.args.index) (map call_of c.args.unsynced.now) in
-    sym (chosen_first synced since c.args.choice c.count_for.result c.count_for.ensures.count (omega (arith, c.if-number-eq0.true)))
 
 pub returns-in_default-clause-chosen : goal.returns-in_default-clause-chosen
 returns-in_default-clause-chosen c =
