@@ -76,22 +76,13 @@ UnlessUnread P store.Spent = P store.Spent
 abbrev pub IsOfHeaders : StoreFault → Type 0
 IsOfHeaders store.NotFormatted = Unit {0}
 IsOfHeaders store.BadVersion = Unit {0}
-IsOfHeaders store.DeviceFault = ⊥
-IsOfHeaders store.OutOfMemory = ⊥
-IsOfHeaders (store.Codec fault) = ⊥
-IsOfHeaders store.Spent = ⊥
+IsOfHeaders _ = ⊥
 
 -- a refusal that the journal alone tells, or want of memory
 abbrev pub IsOfJournal : StoreFault → Type 0
 IsOfJournal store.OutOfMemory = Unit {0}
 IsOfJournal (store.Codec codec.BadField) = Unit {0}
-IsOfJournal (store.Codec codec.Truncated) = ⊥
-IsOfJournal (store.Codec (codec.PlanRefused rule)) = ⊥
-IsOfJournal (store.Codec codec.OutOfMemory) = ⊥
-IsOfJournal store.NotFormatted = ⊥
-IsOfJournal store.BadVersion = ⊥
-IsOfJournal store.DeviceFault = ⊥
-IsOfJournal store.Spent = ⊥
+IsOfJournal _ = ⊥
 
 -- a refusal that the headers tell, or want of memory, or a failed call
 abbrev pub IsOfHeadersOrUnread : StoreFault → Type 0
@@ -99,8 +90,7 @@ IsOfHeadersOrUnread store.NotFormatted = Unit {0}
 IsOfHeadersOrUnread store.BadVersion = Unit {0}
 IsOfHeadersOrUnread store.DeviceFault = Unit {0}
 IsOfHeadersOrUnread store.OutOfMemory = Unit {0}
-IsOfHeadersOrUnread (store.Codec fault) = ⊥
-IsOfHeadersOrUnread store.Spent = ⊥
+IsOfHeadersOrUnread _ = ⊥
 
 -- a refusal that the snapshot and the journal tell, or want of memory
 abbrev pub IsOfBytes : StoreFault → Type 0
@@ -108,11 +98,7 @@ IsOfBytes store.OutOfMemory = Unit {0}
 IsOfBytes (store.Codec codec.BadField) = Unit {0}
 IsOfBytes (store.Codec codec.Truncated) = Unit {0}
 IsOfBytes (store.Codec (codec.PlanRefused rule)) = Unit {0}
-IsOfBytes (store.Codec codec.OutOfMemory) = ⊥
-IsOfBytes store.NotFormatted = ⊥
-IsOfBytes store.BadVersion = ⊥
-IsOfBytes store.DeviceFault = ⊥
-IsOfBytes store.Spent = ⊥
+IsOfBytes _ = ⊥
 
 -- a refusal to read a store
 abbrev pub IsOfLoad : StoreFault → Type 0

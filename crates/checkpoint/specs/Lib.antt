@@ -10,6 +10,8 @@ pub mod Written
 pub mod Reads
 pub mod Holdless
 pub mod Refused
+pub mod Loads
+pub mod Changes
 pub mod Making
 pub mod Names
 pub mod Laws

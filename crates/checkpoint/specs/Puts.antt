@@ -1,8 +1,9 @@
 -- What a stop may leave while a store is written, in bytes.
-use Rattle.std.specs.Prelude.{◌≡◌, ◌⊎◌, ℕ, ◌+◌, ◌≤◌, List, length, replicate}
+use Rattle.std.specs.Prelude.{◌≡◌, ◌⊎◌, ℕ, ◌+◌, ◌*◌, ◌%◌, ◌≤◌, List, length, replicate}
 use Rattle.sector_disk.specs.Image.{written}
 use Rattle.sector_disk.specs.Sectors.{Reached}
 use Rattle.checkpoint.specs.declared.headers.Header.{Header}
+use Rattle.checkpoint.specs.Layouts.{version_2}
 use Rattle.checkpoint.specs.Written.{half_of, with_both}
 
 -- Within a write of these bytes and its sync, with m calls finished in all, and `calls` when it began.
@@ -19,6 +20,13 @@ pub record IsInSnapshot (header : Header) (bytes : List ℕ) (possible : List �
   pub to : m ≤ calls + 4
   pub stage : ((m ≤ calls + 3) × Reached (half_of header) bytes possible image) ⊎ ((calls + 2 ≤ m) × (image ≡ with_both header bytes seen))
   pub done : m ≡ calls + 4 → image ≡ with_both header bytes seen
+
+-- whole sectors that have room in a half, of which the first `size` bytes are a snapshot
+pub record IsSaved (size : ℕ) (bytes : List ℕ) : Type 0 where
+  pub some : 1 ≤ size
+  pub long : size ≤ length bytes
+  pub whole : length bytes % 512 ≡ 0
+  pub fits : length bytes ≤ 512 * version_2.half
 
 -- n zeros
 pub record IsZeros (n : ℕ) (bytes : List ℕ) : Type 0 where

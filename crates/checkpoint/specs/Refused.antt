@@ -48,10 +48,7 @@ faults_after_reading (Err fault) faults = faults_of_store fault faults
 abbrev pub IsOfReading : StoreFault → Type 0
 IsOfReading store.DeviceFault = Unit {0}
 IsOfReading store.OutOfMemory = Unit {0}
-IsOfReading store.NotFormatted = ⊥
-IsOfReading store.BadVersion = ⊥
-IsOfReading (store.Codec fault) = ⊥
-IsOfReading store.Spent = ⊥
+IsOfReading _ = ⊥
 
 -- What a snapshot's commit may be refused for. Only a failed call leaves anything of it on the device.
 abbrev pub IsRefusedCommit : {D : Type 0} → StoreFault → D → D → Type 0

@@ -11,6 +11,8 @@ ghost use Rattle.sector_disk.specs.Calls.{Calls, CommitsFrom};
 ghost use Rattle.state_codec.specs.declared.version.Version.TheVariants.{Two};
 ghost use Rattle.state_codec.specs.Limits.{IsRecorded};
 ghost use Rattle.state_codec.specs.Bytes.{state_bytes};
+ghost use Rattle.checkpoint.specs.Changes.{IsPlaced, IsUnspent, HasRecordRoom, ChangesStore};
+ghost use Rattle.checkpoint.specs.Encoding.{IsSnapshot};
 ghost use Rattle.checkpoint.specs.Holds.{HoldsAt};
 ghost use Rattle.checkpoint.specs.Refused.{IsRefusedCommit, faults_after_reading};
 ghost use Rattle.checkpoint.specs.Layouts.{version_2, journal_room, last_sequence, sectors_in};
@@ -38,22 +40,14 @@ pub fn commit_record<D: Sectors>(
     place: Place,
     command: &Command,
 ) -> Result<Place, StoreFault>
-    requires free { place.used < journal_room }
-    requires recorded { IsRecorded Two command.now }
-    requires room { sectors_in version_2 ≤ D.len device.old }
-    requires first { 1 ≤ place.sequence }
-    requires last { place.sequence ≤ last_sequence }
+    requires { HasRecordRoom (D.len device.old) place command.now }
 
     ensures fails { IfErr result (λ fault. fault ≡ StoreFault.DeviceFault) }
     ensures place { IfOk result (λ next. next ≡ behind_record place) }
     ensures called { Calls D.Sectors (more result 2) (faults_after result) device.old device.new }
-    ensures commits { (state : State) (commands : List Command)
-        → CommitsFrom D.Sectors result 2 0 (HoldsAt state commands place)
-        (HoldsAt state (commands ++ command.now ∷ []) (behind_record place))
-        device.old device.new }
-    ensures durable { D.honest device.new
-        → OnOk result (Only (with_record place command.now (D.seen device.old))
-        (D.possible device.new)) }
+    ensures changes { ChangesStore D.Sectors result 2 0 place
+        (λ state commands. HoldsAt state (commands ++ command.now ∷ []) (behind_record place))
+        (with_record place command.now (D.seen device.old)) device.old device.new }
 {
     let bytes = encode_record(place.sequence, place.used, command);
     match extend(device, place.used, &bytes) {
@@ -73,27 +67,15 @@ fn save<D: Sectors>(
     size: u64,
     bytes: &[u8],
 ) -> Result<Place, StoreFault>
-    requires size { size ≡ length (state_bytes Two state.now) }
-    requires bytes { bytes.now ≡ to_whole_sectors (state_bytes Two state.now) }
-    requires is { take size bytes.now ≡ state_bytes Two state.now }
-    requires facts { IsState state.now }
-    requires some { 1 ≤ size }
-    requires long { size ≤ length bytes.now }
-    requires whole { length bytes.now % 512 ≡ 0 }
-    requires fits { length bytes.now ≤ 512 * version_2.half }
-    requires room { sectors_in version_2 ≤ D.len device.old }
-    requires first { 1 ≤ place.sequence }
-    requires next { place.sequence < last_sequence }
+    requires snapshot { IsSnapshot state.now size bytes.now }
+    requires unspent { IsUnspent (D.len device.old) place }
 
-    ensures fails { IfErr result (λ fault. fault ≡ StoreFault.DeviceFault) }
-    ensures place { IfOk result (λ next. next ≡ behind_snapshot place) }
+    ensures answer { MatchResult result (λ next. next ≡ behind_snapshot place)
+        (λ fault. fault ≡ StoreFault.DeviceFault) }
     ensures called { Calls D.Sectors (more result 4) (faults_after result) device.old device.new }
-    ensures commits { (old : State) (commands : List Command)
-        → CommitsFrom D.Sectors result 4 2 (HoldsAt old commands place)
-        (HoldsAt state.now [] (behind_snapshot place)) device.old device.new }
-    ensures durable { D.honest device.new
-        → OnOk result (Only (with_state (place.sequence + 1) state.now (D.seen device.old))
-        (D.possible device.new)) }
+    ensures changes { ChangesStore D.Sectors result 4 2 place
+        (λ _ _. HoldsAt state.now [] (behind_snapshot place))
+        (with_state (place.sequence + 1) state.now (D.seen device.old)) device.old device.new }
 {
     let sequence = place.sequence + 1;
     match advance(
@@ -121,21 +103,16 @@ pub fn commit_snapshot<D: Sectors>(
     place: Place,
     state: &State,
 ) -> Result<Place, StoreFault>
-    requires room { sectors_in version_2 ≤ D.len device.old }
-    requires first { 1 ≤ place.sequence }
-    requires last { place.sequence ≤ last_sequence }
+    requires { IsPlaced (D.len device.old) place }
 
     ensures answer { MatchResult result (λ next. next ≡ behind_snapshot place)
         (λ fault. IsRefusedCommit fault device.old device.new) }
     ensures spent { IsErrOf result StoreFault.Spent ↔ (place.sequence ≡ last_sequence) }
     ensures called { Calls D.Sectors (more result 4) (faults_after_reading result)
         device.old device.new }
-    ensures commits { (old : State) (commands : List Command)
-        → CommitsFrom D.Sectors result 4 2 (HoldsAt old commands place)
-        (HoldsAt state.now [] (behind_snapshot place)) device.old device.new }
-    ensures durable { D.honest device.new
-        → OnOk result (Only (with_state (place.sequence + 1) state.now (D.seen device.old))
-        (D.possible device.new)) }
+    ensures changes { ChangesStore D.Sectors result 4 2 place
+        (λ _ _. HoldsAt state.now [] (behind_snapshot place))
+        (with_state (place.sequence + 1) state.now (D.seen device.old)) device.old device.new }
 {
     if LAST_SEQUENCE <= place.sequence {
         return Err(StoreFault::Spent);

@@ -1,7 +1,6 @@
 //! Why a store can't be made, read or changed.
 ghost use Rattle.std.specs.Prelude.{◌≡◌};
 
-use sector_disk::DeviceFault;
 use state_codec::CodecFault;
 use std::alloc::{AllocError, AllocFailed};
 use thiserror::Error;
@@ -40,28 +39,6 @@ impl From<AllocError> for FormatFault {
 
     fn from(_: AllocError) -> FormatFault {
         FormatFault::OutOfMemory
-    }
-}
-
-impl<T: Drop> From<AllocFailed<T>> for FormatFault {
-    ghost use Rattle.std.specs.Prelude.{◌≡◌};
-    ghost use Rattle.checkpoint.specs.declared.faults.FormatFault.TheVariants.{OutOfMemory};
-
-    ghost from_gives = { λ _ fault. fault ≡ OutOfMemory };
-
-    fn from(_: AllocFailed<T>) -> FormatFault {
-        FormatFault::OutOfMemory
-    }
-}
-
-impl From<DeviceFault> for FormatFault {
-    ghost use Rattle.std.specs.Prelude.{◌≡◌};
-    ghost use Rattle.checkpoint.specs.declared.faults.FormatFault.TheVariants.{DeviceFault};
-
-    ghost from_gives = { λ _ fault. fault ≡ DeviceFault };
-
-    fn from(_: DeviceFault) -> FormatFault {
-        FormatFault::DeviceFault
     }
 }
 

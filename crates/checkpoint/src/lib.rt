@@ -1,7 +1,7 @@
 //! A store on a device: two headers, a journal of 256 records, and two halves for snapshots in turn.
 //!
-//! `format` and `format_with` make a store, `load_latest` and `load_latest_v1` read one, as `load` does by its version, `commit_record` and
-//! `commit_snapshot` change it. `recover` calls them, and `planner_cli` calls `format`.
+//! `format` and `format_with` make a store, `load` reads one of a version, `commit_record` and `commit_snapshot` change it. `recover` calls
+//! these, and `planner_cli` calls `format`. `load_latest` and `load_latest_v1` are `load` of either version.
 //!
 //! A snapshot goes into the half of the next sequence, which is not the one that counts, and is synced; then its header is
 //! written over the older of the two, and synced. So at each moment a header is valid whose snapshot is whole. A record is one
@@ -19,14 +19,15 @@
 //!
 //! The format is this project's own. `specs/Layouts.antt` and `specs/Headers.antt` have the sectors and the header's bytes,
 //! `specs/Stores.antt` what an image stores as bytes, `specs/Holds.antt` the state, commands and place that it holds,
-//! `specs/Holdless.antt` why it holds nothing, `specs/Moments.antt` what a stop leaves within a call, `specs/Making.antt` what a
+//! `specs/Holdless.antt` why it holds nothing, `specs/Loads.antt` what reading answers, `specs/Changes.antt` what a commit makes,
+//! `specs/Moments.antt` what a stop leaves within a call, `specs/Making.antt` what a
 //! format makes, `specs/Written.antt` which sectors a change writes, with which bytes, `specs/Places.antt` the places that
 //! changes lead to.
 //!
 //! Proved:
 //! - An image holds at most one state, list of commands and place, never beside a cause to hold nothing, and of these
 //!   causes it has at most one (`images_hold_one_thing`); each holds something or has one (`images_hold_or_have_a_cause`).
-//! - Of an honest device: `load_latest` gives what the image that reads give holds, or the cause (`found`), and changes
+//! - Of an honest device: `load` gives what the image that reads give holds, or the cause (`found`), and changes
 //!   nothing (`reads`). `commit_snapshot` and `commit_record` say for each moment, by the number of finished calls, which of the
 //!   old and the new an image may hold, and that after `Ok` it holds the new alone (`commits`); so does `format` (`formats`). The
 //!   image is then what reads gave before with these sectors written, zeros that fill them up among them, and no other (`durable`).

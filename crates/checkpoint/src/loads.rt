@@ -14,6 +14,7 @@ ghost use Rattle.state_codec.specs.Limits.{IsStateOf};
 ghost use Rattle.state_codec.specs.Refused.{Decodes};
 ghost use Rattle.checkpoint.specs.Holds.{Holds, layout_of};
 ghost use Rattle.checkpoint.specs.Holdless.{HasNoHeader, IsOfLoad, HasBadJournal, HoldsNothing, IsOfBytes, told_of, IsOfHeadersOrUnread, IsOfJournal, UnlessUnread};
+ghost use Rattle.checkpoint.specs.Loads.{IsLoaded};
 ghost use Rattle.checkpoint.specs.Refused.{IsOfReading, faults_after_reading};
 
 use crate::encoding::keeps_facts;
@@ -238,22 +239,20 @@ fn decode(alloc: Global, version: Version, bytes: &[u8]) -> Result<State, CodecF
     }
 }
 
-/// `load_latest` for a store of this version, by its layout, bytes and limits.
+/// What the image that reads give holds, by the layout, bytes and limits of this version. It reads only: at each moment of the call each image is one
+/// that was possible before it.
+///
+/// Else the first cause, in this order, why it holds nothing: `NotFormatted` or `BadVersion` by the headers, `Codec` by the snapshot, and then by the
+/// journal. A device of fewer than 802 sectors is `NotFormatted`, and is not called. In version 1 records that add a stop past number 4,000 are
+/// `Codec(BadField)`: the numbers go on from the next one of the snapshot, record by record.
+///
+/// Whatever the device answers, what is given keeps the facts of a store and of a state.
 pub fn load<D: Sectors>(
     alloc: Global,
     device: &mut D,
     version: Version,
 ) -> Result<Loaded, StoreFault>
-    ensures small { D.len device.old < least_sectors
-        → (device.new ≡ device.old) × IsErrOf result StoreFault.NotFormatted }
-    ensures fails { IfErr result IsOfLoad }
-    ensures standing { IfOk result
-        (λ loaded. IsStanding (sectors_in (layout_of version)) (D.len device.old)
-        loaded.state loaded.place) }
-    ensures found { D.honest device.new
-        → MatchResult result (λ loaded.
-        Holds version (D.seen device.old) loaded.state loaded.commands.items loaded.place)
-        (UnlessUnread (HoldsNothing version (D.seen device.old))) }
+    ensures loaded { IsLoaded D.Sectors version result device.old device.new }
     ensures reads { ReadsOnly D.Sectors (faults_after_reading result) device.old device.new }
 {
     let parts = match read_parts(alloc, device, version) {
@@ -264,39 +263,17 @@ pub fn load<D: Sectors>(
     interpreted(alloc, version, &parts.opened, &parts.bytes, decoded)
 }
 
-/// What the image that reads give holds. It reads only: at each moment of the call each image is one that was possible before it.
-///
-/// Else the first cause, in this order, why it holds nothing: `NotFormatted` or `BadVersion` by the headers, `Codec` by the snapshot, and then by the
-/// journal. A device of fewer than 802 sectors is `NotFormatted`, and is not called.
-///
-/// Whatever the device answers, what is given keeps the facts of a store and of a state.
+/// `load` of the version that is written.
 pub fn load_latest<D: Sectors>(alloc: Global, device: &mut D) -> Result<Loaded, StoreFault>
-    ensures small { D.len device.old < least_sectors
-        → (device.new ≡ device.old) × IsErrOf result StoreFault.NotFormatted }
-    ensures fails { IfErr result IsOfLoad }
-    ensures standing { IfOk result
-        (λ loaded. IsStanding (sectors_in version_2) (D.len device.old) loaded.state loaded.place) }
-    ensures found { D.honest device.new
-        → MatchResult result (λ loaded.
-        Holds Two (D.seen device.old) loaded.state loaded.commands.items loaded.place)
-        (UnlessUnread (HoldsNothing Two (D.seen device.old))) }
+    ensures loaded { IsLoaded D.Sectors Two result device.old device.new }
     ensures reads { ReadsOnly D.Sectors (faults_after_reading result) device.old device.new }
 {
     load(alloc, device, Version::Two)
 }
 
-/// The same for a store of version 1, by its layout, bytes and limits. Records that add a stop past number 4,000 are `Codec(BadField)`: the numbers
-/// go on from the next one of the snapshot, record by record.
+/// `load` of version 1.
 pub fn load_latest_v1<D: Sectors>(alloc: Global, device: &mut D) -> Result<Loaded, StoreFault>
-    ensures small { D.len device.old < least_sectors
-        → (device.new ≡ device.old) × IsErrOf result StoreFault.NotFormatted }
-    ensures fails { IfErr result IsOfLoad }
-    ensures standing { IfOk result
-        (λ loaded. IsStanding (sectors_in version_1) (D.len device.old) loaded.state loaded.place) }
-    ensures found { D.honest device.new
-        → MatchResult result (λ loaded.
-        Holds One (D.seen device.old) loaded.state loaded.commands.items loaded.place)
-        (UnlessUnread (HoldsNothing One (D.seen device.old))) }
+    ensures loaded { IsLoaded D.Sectors One result device.old device.new }
     ensures reads { ReadsOnly D.Sectors (faults_after_reading result) device.old device.new }
 {
     load(alloc, device, Version::One)

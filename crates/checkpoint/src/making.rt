@@ -6,10 +6,10 @@ ghost use Rattle.sector_disk.specs.Sectors.{Only, more, faults_after};
 ghost use Rattle.sector_disk.specs.Calls.{Calls, During};
 ghost use Rattle.checkpoint.specs.Layouts.{version_2, sectors_in};
 ghost use Rattle.checkpoint.specs.Places.{first_place};
-ghost use Rattle.checkpoint.specs.Making.{Formats};
+ghost use Rattle.checkpoint.specs.Making.{Formats, MakesStore};
 ghost use Rattle.checkpoint.specs.Stores.{HasStored, IsUnformatted};
 ghost use Rattle.checkpoint.specs.Moments.{IsInFormat};
-ghost use Rattle.checkpoint.specs.Puts.{IsZeros};
+ghost use Rattle.checkpoint.specs.Puts.{IsSaved, IsZeros};
 ghost use Rattle.checkpoint.specs.Written.{cleared, first_header, with_both, with_state};
 ghost use Rattle.checkpoint.specs.Refused.{faults_after_format, IsKeptByFormat};
 
@@ -32,10 +32,7 @@ fn put_all<D: Sectors>(
     bytes: &[u8],
 ) -> Result<(), DeviceFault>
     requires zeros { IsZeros FRONT zeros.now }
-    requires some { 1 ≤ size }
-    requires length { size ≤ length bytes.now }
-    requires whole { length bytes.now % 512 ≡ 0 }
-    requires fits { length bytes.now ≤ 512 * version_2.half }
+    requires saved { IsSaved size bytes.now }
     requires room { sectors_in version_2 ≤ D.len device.old }
 
     ensures called { Calls D.Sectors (more result 6) (faults_after result) device.old device.new }
@@ -64,10 +61,7 @@ pub(crate) fn make<D: Sectors>(
     size: u64,
     bytes: &[u8],
 ) -> Result<Place, FormatFault>
-    requires some { 1 ≤ size }
-    requires length { size ≤ length bytes.now }
-    requires whole { length bytes.now % 512 ≡ 0 }
-    requires fits { length bytes.now ≤ 512 * version_2.half }
+    requires { IsSaved size bytes.now }
 
     ensures place { IfOk result (λ place. place ≡ first_place) }
     ensures too_small { IsErrOf result FormatFault.TooSmall
@@ -100,15 +94,8 @@ pub(crate) fn make<D: Sectors>(
 /// holds it: then the image is what reads gave before with zeros in sectors 0 to 257, the snapshot's sector and its header. `TooSmall` below 8,450 sectors; neither that nor `OutOfMemory` has called the device. After `DeviceFault` there is no store until a format
 /// succeeds.
 pub fn format<D: Sectors>(alloc: Global, device: &mut D) -> Result<Place, FormatFault>
-    ensures place { IfOk result (λ place. place ≡ first_place) }
-    ensures too_small { IsErrOf result FormatFault.TooSmall
-        ↔ D.len device.old < sectors_in version_2 }
-    ensures kept { IfErr result (λ fault. IsKeptByFormat fault device.old device.new) }
-    ensures called { Calls D.Sectors (more result 6) (faults_after_format result)
-        device.old device.new }
-    ensures formats { D.honest device.new
-        → Formats D.Sectors result (HoldsAt Empty [] first_place)
-        (with_state 1 Empty (cleared (D.seen device.old))) device.old device.new }
+    ensures { MakesStore D.Sectors (HoldsAt Empty [] first_place)
+        (with_state 1 Empty (cleared (D.seen device.old))) result device.old device.new }
 {
     make(alloc, device, 1, &[0; SECTOR_SIZE])
 }
@@ -119,15 +106,8 @@ pub fn format_with<D: Sectors>(
     device: &mut D,
     state: &State,
 ) -> Result<Place, FormatFault>
-    ensures place { IfOk result (λ place. place ≡ first_place) }
-    ensures too_small { IsErrOf result FormatFault.TooSmall
-        ↔ D.len device.old < sectors_in version_2 }
-    ensures kept { IfErr result (λ fault. IsKeptByFormat fault device.old device.new) }
-    ensures called { Calls D.Sectors (more result 6) (faults_after_format result)
-        device.old device.new }
-    ensures formats { D.honest device.new
-        → Formats D.Sectors result (HoldsAt state.now [] first_place)
-        (with_state 1 state.now (cleared (D.seen device.old))) device.old device.new }
+    ensures { MakesStore D.Sectors (HoldsAt state.now [] first_place)
+        (with_state 1 state.now (cleared (D.seen device.old))) result device.old device.new }
 {
     if device.len() < SECTORS {
         return Err(FormatFault::TooSmall);

@@ -1,11 +1,11 @@
 //! Writes that are made durable.
 ghost use Rattle.std.specs.Prelude.{◌≡◌, ◌+◌, ◌*◌, ◌%◌, ◌<◌, ◌≤◌, ◌^◌, ℕ, List, [], ◌∷◌, ◌++◌, length, take, OnOk};
 ghost use Rattle.sector_disk.specs.Image.{written};
-ghost use Rattle.sector_disk.specs.Sectors.{Only, Reached, more, faults_after};
+ghost use Rattle.sector_disk.specs.Sectors.{IsWholeRun, Only, Reached, more, faults_after};
 ghost use Rattle.sector_disk.specs.Calls.{Calls, CommitsFrom, During};
 ghost use Rattle.checkpoint.specs.Layouts.{version_2, journal_room, last_sequence, sectors_in};
 ghost use Rattle.checkpoint.specs.Stores.{HasStored, begins_with};
-ghost use Rattle.checkpoint.specs.Puts.{IsInPut, IsInSnapshot};
+ghost use Rattle.checkpoint.specs.Puts.{IsInPut, IsInSnapshot, IsSaved};
 ghost use Rattle.checkpoint.specs.Written.{with_both};
 
 use crate::headers::{Header, header_sector};
@@ -14,9 +14,7 @@ use sector_disk::{DeviceFault, Sectors};
 
 /// Writes a run of whole sectors and syncs it.
 pub(crate) fn put<D: Sectors>(device: &mut D, first: u64, bytes: &[u8]) -> Result<(), DeviceFault>
-    requires some { 0 < length bytes.now }
-    requires whole { length bytes.now % 512 ≡ 0 }
-    requires inside { 512 * first + length bytes.now ≤ 512 * D.len device.old }
+    requires { IsWholeRun first (length bytes.now) (D.len device.old) }
 
     ensures called { Calls D.Sectors (more result 2) (faults_after result) device.old device.new }
     ensures seen { D.honest device.new
@@ -39,9 +37,7 @@ pub(crate) fn put_snapshot<D: Sectors>(
     header: Header,
     bytes: &[u8],
 ) -> Result<(), DeviceFault>
-    requires some { 0 < length bytes.now }
-    requires whole { length bytes.now % 512 ≡ 0 }
-    requires fits { length bytes.now ≤ 512 * version_2.half }
+    requires saved { IsSaved header.length bytes.now }
     requires room { sectors_in version_2 ≤ D.len device.old }
 
     ensures called { Calls D.Sectors (more result 4) (faults_after result) device.old device.new }
@@ -66,10 +62,7 @@ pub(crate) fn advance<D: Sectors>(
     header: Header,
     bytes: &[u8],
 ) -> Result<(), DeviceFault>
-    requires some { 1 ≤ header.length }
-    requires length { header.length ≤ length bytes.now }
-    requires whole { length bytes.now % 512 ≡ 0 }
-    requires fits { length bytes.now ≤ 512 * version_2.half }
+    requires saved { IsSaved header.length bytes.now }
     requires last { header.sequence ≤ last_sequence }
     requires room { sectors_in version_2 ≤ D.len device.old }
 

@@ -1,5 +1,6 @@
 //! Reading a run of sectors.
 ghost use Rattle.std.specs.Prelude.{◌≡◌, ◌+◌, ◌*◌, ◌%◌, ◌<◌, ◌≤◌, ℕ, List, length, take, drop, OnOk, OnErr, IfOk, IfErr};
+ghost use Rattle.sector_disk.specs.Sectors.{IsWholeRun};
 ghost use Rattle.checkpoint.specs.Reads.{ReadsOnly};
 ghost use Rattle.checkpoint.specs.Refused.{IsOfReading, faults_after_reading};
 
@@ -15,9 +16,7 @@ pub(crate) fn read_run<D: Sectors>(
     first: u64,
     size: usize,
 ) -> Result<Vec<u8>, StoreFault>
-    requires some { 0 < size }
-    requires whole { size % 512 ≡ 0 }
-    requires inside { 512 * first + size ≤ 512 * D.len device.old }
+    requires { IsWholeRun first size (D.len device.old) }
 
     ensures fails { IfErr result IsOfReading }
     ensures long { IfOk result (λ bytes. length bytes.items ≡ size) }

@@ -1,16 +1,20 @@
 -- What a commit does, and what a stop may leave within it.
-use Rattle.std.specs.Prelude.{◌≡◌, ℕ, List, Result, Ok, Err, OnOk}
+use Rattle.std.specs.Prelude.{◌≡◌, ℕ, ◌≤◌, true, List, None, Result, Ok, Err, OnOk}
 use Rattle.sector_disk.specs.declared.sectors.Sectors as sectors
 use Rattle.sector_disk.specs.Sectors.{Throughout}
 use Rattle.sector_disk.specs.Calls.{IsInCommit}
+use Rattle.command_core.specs.Runs.{is_recorded, fits_record}
+use Rattle.command_core.specs.declared.commands.Command.{Command}
 use Rattle.command_core.specs.declared.states.State.{State}
 use Rattle.state_codec.specs.declared.version.Version.TheVariants.{Two}
 use Rattle.checkpoint.specs.declared.faults.StoreFault.{StoreFault}
 use Rattle.checkpoint.specs.declared.faults.StoreFault.TheVariants as store
 use Rattle.checkpoint.specs.declared.places.Place.{Place}
+use Rattle.checkpoint.specs.Layouts.{version_2, journal_room, last_sequence, sectors_in}
 use Rattle.checkpoint.specs.Refused.{one_more_fault}
 use Rattle.recover.specs.declared.commits.CommitFault.{CommitFault}
 use Rattle.recover.specs.declared.commits.CommitFault.TheVariants.{OutOfMemory, DeviceFault}
+use Rattle.recover.specs.Applying.{spent}
 use Rattle.recover.specs.StandsFor.{StandsFor}
 use Rattle.recover.specs.Sessions.{AllHold}
 
@@ -22,19 +26,12 @@ IsInStep old new calls steps m image = IsInCommit (λ i. StandsFor Two i old) (�
 abbrev pub IsOfChange : StoreFault → Type 0
 IsOfChange store.DeviceFault = Unit {0}
 IsOfChange store.OutOfMemory = Unit {0}
-IsOfChange store.NotFormatted = ⊥
-IsOfChange store.BadVersion = ⊥
-IsOfChange (store.Codec fault) = ⊥
-IsOfChange store.Spent = ⊥
+IsOfChange _ = ⊥
 
--- as the commit's own fault; the last four don't come
+-- as the commit's own fault: a failed call, else want of memory
 abbrev pub cause : StoreFault → CommitFault
 cause store.DeviceFault = DeviceFault
-cause store.OutOfMemory = OutOfMemory
-cause store.NotFormatted = OutOfMemory
-cause store.BadVersion = OutOfMemory
-cause (store.Codec fault) = OutOfMemory
-cause store.Spent = OutOfMemory
+cause _ = OutOfMemory
 
 -- want of memory leaves the device as it was
 abbrev pub LeavesDevice : {D : Type 0} → CommitFault → D → D → Type 0
@@ -49,6 +46,15 @@ faults_of_commit OutOfMemory faults = faults
 abbrev pub faults_after_commit : {T : Type 0} → Result T CommitFault → ℕ → ℕ
 faults_after_commit (Ok x) faults = faults
 faults_after_commit (Err fault) faults = faults_of_commit fault faults
+
+-- There is a place for the command: a record has room in a sector, and a snapshot that is due a sequence.
+pub record CanCommit (sectors : ℕ) (place : Place) (command : Command) : Type 0 where
+  pub fits : is_recorded command ≡ true → fits_record command ≡ true
+  pub unspent : spent place command ≡ None
+  pub room : sectors_in version_2 ≤ sectors
+  pub first : 1 ≤ place.sequence
+  pub last : place.sequence ≤ last_sequence
+  pub used : place.used ≤ journal_room
 
 module _ {D : Type 0} (on : sectors.Ghosts D) where
   -- A commit of so many calls from one state to another: what a stop leaves within it, and what each image holds after Ok.

@@ -1,5 +1,6 @@
 -- What repeating the commands of a store gives.
-use Rattle.std.specs.Prelude.{◌≡◌, ℕ, ◌+◌, ◌≤◌, List, sum_by, ⊤}
+use Rattle.std.specs.Prelude.{◌≡◌, ℕ, ◌+◌, ◌≤◌, List, sum_by, Result, ⊤}
+use Rattle.sector_disk.specs.declared.sectors.Sectors as sectors
 use Rattle.command_core.specs.Runs.{after, AreAccepted, steps_of}
 use Rattle.command_core.specs.declared.states.State.{State}
 use Rattle.command_core.specs.declared.commands.Command.{Command}
@@ -10,8 +11,12 @@ use Rattle.state_codec.specs.declared.version.Version.{Version}
 use Rattle.checkpoint.specs.declared.faults.StoreFault.{StoreFault}
 use Rattle.checkpoint.specs.declared.faults.StoreFault.TheVariants as store
 use Rattle.checkpoint.specs.declared.places.Place.{Place}
-use Rattle.checkpoint.specs.Holds.{Holds}
-use Rattle.recover.specs.Opening.{steps_in}
+use Rattle.checkpoint.specs.Holds.{Holds, layout_of}
+use Rattle.checkpoint.specs.Layouts.{sectors_in}
+use Rattle.checkpoint.specs.Loads.{Tells}
+use Rattle.checkpoint.specs.Reads.{IsStanding}
+use Rattle.recover.specs.declared.opening.Recovered.{Recovered}
+use Rattle.recover.specs.Opening.{steps_in, StandsForNone}
 
 -- a record that the state refuses does not belong to its store
 abbrev pub fault_of : Refusal → StoreFault
@@ -47,3 +52,9 @@ pub record IsRepeated (version : Version) (image : List ℕ) (state : State) (pl
   pub steps : steps_in state ≡ steps_in snapshot + replayed
   pub searched : replayed ≡ sum_by steps_of commands
   pub most : replayed ≤ 65536
+
+module _ {D : Type 0} (on : sectors.Ghosts D) where
+  -- what is told of the store of a device: the state that its image stands for
+  abbrev pub TellsState : Version → Result Recovered StoreFault → D → D → Type 0
+  TellsState version result old new = Tells on (λ found. IsStanding (sectors_in (layout_of version)) (on.len old) found.state found.place)
+      (λ found. IsRepeated version (on.seen old) found.state found.place found.replayed) (StandsForNone version (on.seen old)) result old new

@@ -5,12 +5,12 @@ ghost use Rattle.command_core.specs.Runs.{AreAccepted, is_recorded, fits_record}
 ghost use Rattle.command_core.specs.declared.states.State.{State};
 ghost use Rattle.sector_disk.specs.Sectors.{more};
 ghost use Rattle.sector_disk.specs.Calls.{Calls};
-ghost use Rattle.checkpoint.specs.Layouts.{version_2, journal_room, last_sequence, sectors_in};
+ghost use Rattle.checkpoint.specs.Changes.{IsUnspent, HasRecordRoom};
 ghost use Rattle.checkpoint.specs.Places.{behind_record, behind_snapshot};
 ghost use Rattle.state_codec.specs.Limits.{IsRecorded};
 ghost use Rattle.state_codec.specs.declared.version.Version.TheVariants.{Two};
 ghost use Rattle.recover.specs.Applying.{is_snapshot_due, calls_of, place_after, spent};
-ghost use Rattle.recover.specs.Committing.{IsOfChange, CommitsStateFrom, LeavesDevice, cause, faults_after_commit};
+ghost use Rattle.recover.specs.Committing.{IsOfChange, CanCommit, CommitsStateFrom, LeavesDevice, cause, faults_after_commit};
 
 use checkpoint::{Place, RECORDS, StoreFault, commit_record, commit_snapshot};
 use command_core::{Command, State};
@@ -75,11 +75,7 @@ fn as_record<D: Sectors>(
     place: Place,
     command: &Command,
 ) -> Result<Place, CommitFault>
-    requires free { place.used < journal_room }
-    requires recorded { IsRecorded Two command.now }
-    requires room { sectors_in version_2 ≤ D.len device.old }
-    requires first { 1 ≤ place.sequence }
-    requires last { place.sequence ≤ last_sequence }
+    requires { HasRecordRoom (D.len device.old) place command.now }
 
     ensures left { IfErr result (λ fault. LeavesDevice fault device.old device.new) }
     ensures place { IfOk result (λ next. next ≡ behind_record place) }
@@ -102,9 +98,7 @@ fn as_snapshot<D: Sectors>(
     place: Place,
     next: &State,
 ) -> Result<Place, CommitFault>
-    requires room { sectors_in version_2 ≤ D.len device.old }
-    requires first { 1 ≤ place.sequence }
-    requires last { place.sequence < last_sequence }
+    requires { IsUnspent (D.len device.old) place }
 
     ensures left { IfErr result (λ fault. LeavesDevice fault device.old device.new) }
     ensures place { IfOk result (λ next. next ≡ behind_snapshot place) }
@@ -127,12 +121,7 @@ pub(crate) fn commit<D: Sectors>(
     command: &Command,
     next: &State,
 ) -> Result<Place, CommitFault>
-    requires fits { is_recorded command.now ≡ true → fits_record command.now ≡ true }
-    requires unspent { spent place command.now ≡ None }
-    requires room { sectors_in version_2 ≤ D.len device.old }
-    requires first { 1 ≤ place.sequence }
-    requires last { place.sequence ≤ last_sequence }
-    requires used { place.used ≤ journal_room }
+    requires { CanCommit (D.len device.old) place command.now }
 
     ensures left { IfErr result (λ fault. LeavesDevice fault device.old device.new) }
     ensures place { IfOk result (λ next. next ≡ place_after place command.now) }

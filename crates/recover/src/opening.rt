@@ -11,13 +11,13 @@ ghost use Rattle.sector_disk.specs.Calls.{Calls};
 ghost use Rattle.state_codec.specs.declared.version.Version.TheVariants.{Two};
 ghost use Rattle.checkpoint.specs.Reads.{IsStanding};
 ghost use Rattle.checkpoint.specs.Layouts.{least_sectors, sectors_in};
-ghost use Rattle.checkpoint.specs.Holds.{Holds, layout_of};
+ghost use Rattle.checkpoint.specs.Loads.{IsLoaded};
 ghost use Rattle.checkpoint.specs.Holdless.{HoldsNothing, IsOfLoad, UnlessUnread};
 ghost use Rattle.checkpoint.specs.Refused.{faults_after_reading};
 ghost use Rattle.recover.specs.StandsFor.{StandsFor};
 ghost use Rattle.recover.specs.Applying.{IsBetween};
 ghost use Rattle.recover.specs.Opening.{Opens, Settles, StandsForNone, IsReplayed, IsToRepeat, IsOnlyRead, ReadsAgain, outcome, device_after};
-ghost use Rattle.recover.specs.Repeating.{IsRepeated};
+ghost use Rattle.recover.specs.Repeating.{TellsState};
 
 use crate::repeating::{repeat, steps_among, steps_in};
 use crate::sessions::Session;
@@ -44,16 +44,7 @@ fn read_settled<D: Sectors>(
     device: &mut D,
     version: Version,
 ) -> Result<Loaded, StoreFault>
-    ensures small { D.len device.old < least_sectors
-        → (device.new ≡ device.old) × IsErrOf result StoreFault.NotFormatted }
-    ensures fails { IfErr result IsOfLoad }
-    ensures standing { IfOk result
-        (λ loaded. IsStanding (sectors_in (layout_of version)) (D.len device.old)
-        loaded.state loaded.place) }
-    ensures found { D.honest device.new
-        → MatchResult result (λ loaded.
-        Holds version (D.seen device.old) loaded.state loaded.commands.items loaded.place)
-        (UnlessUnread (HoldsNothing version (D.seen device.old))) }
+    ensures loaded { IsLoaded D.Sectors version result device.old device.new }
     ensures called { Calls D.Sectors (more result 1) (faults_after_reading result)
         device.old device.new }
     ensures settles { D.honest device.new → Settles D.Sectors result device.old device.new }
@@ -73,16 +64,7 @@ pub(crate) fn recover<D: Sectors>(
     device: &mut D,
     version: Version,
 ) -> Result<Recovered, StoreFault>
-    ensures small { D.len device.old < least_sectors
-        → (device.new ≡ device.old) × IsErrOf result StoreFault.NotFormatted }
-    ensures fails { IfErr result IsOfLoad }
-    ensures standing { IfOk result
-        (λ found. IsStanding (sectors_in (layout_of version)) (D.len device.old)
-        found.state found.place) }
-    ensures found { D.honest device.new
-        → MatchResult result (λ found.
-        IsRepeated version (D.seen device.old) found.state found.place found.replayed)
-        (UnlessUnread (StandsForNone version (D.seen device.old))) }
+    ensures recovered { TellsState D.Sectors version result device.old device.new }
     ensures called { Calls D.Sectors (more result 1) (faults_after_reading result)
         device.old device.new }
     ensures settles { D.honest device.new → Settles D.Sectors result device.old device.new }

@@ -1,5 +1,5 @@
 -- What each image stores is led to what it holds.
-use Rattle.std.proofs.Common.{List, [], ◌∷◌, ◌++◌}
+use Rattle.std.proofs.Common.{List, [], ◌∷◌, ◌++◌, rules}
 use Rattle.sector_disk.specs.Calls.{CommitsFrom}
 use Rattle.sector_disk.specs.CommitLaws.{commits_by}
 use Rattle.command_core.specs.declared.states.State.{State}
@@ -31,10 +31,16 @@ committed g c state commands honest held =
     (counted c.args.place command bytes is c.requires.recorded c.requires.last possible seen here state commands held)
     honest (λ image left. (held image left).stored))
 
-pub returns-in-Ok-clause-commits : goal.returns-in-Ok-clause-commits
-returns-in-Ok-clause-commits g c state commands honest held =
-    let all = committed g (goal.at.returns-in-Ok-clause-commits g c).After-extend state commands honest held in record { moments = all.moments; after = rw c.in-Ok.is at all.after }
+pub returns-in-Ok-clause-changes : goal.returns-in-Ok-clause-changes
+returns-in-Ok-clause-changes g c = record {
+  commits = λ state commands honest held.
+      let all = committed g (goal.at.returns-in-Ok-clause-changes g c).After-extend state commands honest held in record { moments = all.moments; after = rw c.in-Ok.is at all.after };
+  durable = search rules;
+}
 
-pub returns-in-Err-clause-commits : goal.returns-in-Err-clause-commits
-returns-in-Err-clause-commits g c state commands honest held =
-    let all = committed g (goal.at.returns-in-Err-clause-commits g c).After-extend state commands honest held in record { moments = all.moments; after = tt }
+pub returns-in-Err-clause-changes : goal.returns-in-Err-clause-changes
+returns-in-Err-clause-changes g c = record {
+  commits = λ state commands honest held.
+      let all = committed g (goal.at.returns-in-Err-clause-changes g c).After-extend state commands honest held in record { moments = all.moments; after = tt };
+  durable = search rules;
+}

@@ -40,7 +40,7 @@ returns-clause-moments g c honest =
     (in_zeros c.args.bytes.now c.args.size zeros (d.seen start) front (d.calls start) (d.possible start))
     (c.put.ensures.moments mid) in
     let second = weakened d.clock d.possible_since c.put.new.device c.put_snapshot.new.device (IsInSnapshot (first_header c.args.size) c.args.bytes.now (d.possible c.put.new.device) (d.seen c.put.new.device) (d.calls c.put.new.device)) all
-    (in_snapshot c.args.bytes.now c.args.size zeros (d.seen start) front (d.calls start) c.requires.whole c.requires.fits c.requires.some c.requires.length (omega (arith, long, size, c.requires.room))
+    (in_snapshot c.args.bytes.now c.args.size zeros (d.seen start) front (d.calls start) c.requires.saved.whole c.requires.saved.fits c.requires.saved.some c.requires.saved.long (omega (arith, long, size, c.requires.room))
     (d.possible c.put.new.device) (d.seen c.put.new.device) (d.calls c.put.new.device) c.in_ok-put.ensures.called.finished (c.in_ok-put.ensures.seen mid) (c.in_ok-put.ensures.durable mid))
     (c.put_snapshot.ensures.moments honest) in
     joined d.clock d.possible_since start c.put.new.device c.put_snapshot.new.device all first second

@@ -12,6 +12,6 @@ returns-clause-commits g c sequence state journal next honest stored =
     let from = c.put_snapshot.ensures.called.honest_before honest in
     commits d c.put_snapshot.result 4 2 _ _ start end (λ t image le left. g.met.D.Sectors.counts_now end t image honest le left) c.put_snapshot.ensures.called.finished
     (weakened d.clock d.possible_since start end (IsInSnapshot c.args.header c.args.bytes.now (d.possible start) (d.seen start) (d.calls start)) _
-    (in_commit c.args.header c.args.bytes.now sequence next c.requires.whole c.requires.fits state journal (d.possible start) (d.seen start) (g.met.D.Sectors.reads_possible start from) stored
-    c.requires.last c.requires.some c.requires.length (d.calls start))
+    (in_commit c.args.header c.args.bytes.now sequence next c.requires.saved.whole c.requires.saved.fits state journal (d.possible start) (d.seen start) (g.met.D.Sectors.reads_possible start from) stored
+    c.requires.last c.requires.saved.some c.requires.saved.long (d.calls start))
     (c.put_snapshot.ensures.moments honest))

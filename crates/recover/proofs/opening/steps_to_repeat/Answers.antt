@@ -9,6 +9,6 @@ use Rattle.recover.proofs.opening.steps_to_repeat.Goals as goal
 pub returns-clause-found : goal.returns-clause-found
 returns-clause-found g c honest =
     let loaded = c.in_ok-loaded.loaded in
-    to_repeat Two (g.D.Sectors.seen c.args.device.now) loaded.state loaded.commands.items loaded.place (c.in_ok-loaded.ensures.found honest) c.in_ok-loaded.ensures.standing.used
+    to_repeat Two (g.D.Sectors.seen c.args.device.now) loaded.state loaded.commands.items loaded.place (c.in_ok-loaded.ensures.loaded.found honest) c.in_ok-loaded.ensures.loaded.standing.used
     c.images_hold_one_thing.ensures.one c.steps_among.result
     (subst (λ (cs : List Command). sum_by steps_of cs < 2 ^ 64 → c.steps_among.result ≡ sum_by steps_of cs) c.deref.ensures.value c.steps_among.ensures)

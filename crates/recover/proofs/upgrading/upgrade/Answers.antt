@@ -11,7 +11,7 @@ returns-in-Ok-format_with-clause-makes g c =
     let made = c.in-Ok-format_with.ensures in
     record {
       state = found.state;
-      stood = λ honest. stands One (g.D.Sectors.seen c.args.old.now) found.state found.place found.replayed (c.in-Ok.ensures.found honest);
+      stood = λ honest. stands One (g.D.Sectors.seen c.args.old.now) found.state found.place found.replayed (c.in-Ok.ensures.recovered.found honest);
       place = made.place;
       moments = λ honest. (made.formats honest).moments;
       holds = λ honest. (made.formats honest).after;
@@ -22,5 +22,5 @@ pub returns-clause-makes : goal.returns-clause-makes
 returns-clause-makes g c =
     let found = c.in-Ok.found in
     is_made g.D.Sectors g.E.Sectors c.in-Err-format_with.fault c.args.old.now c.recover.new.device c.args.new.now c.format_with.new.device found.state
-    (λ honest. stands One (g.D.Sectors.seen c.args.old.now) found.state found.place found.replayed (c.in-Ok.ensures.found honest))
+    (λ honest. stands One (g.D.Sectors.seen c.args.old.now) found.state found.place found.replayed (c.in-Ok.ensures.recovered.found honest))
     (λ honest. (c.in-Err-format_with.ensures.formats honest).moments)

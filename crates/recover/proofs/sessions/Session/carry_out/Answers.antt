@@ -59,8 +59,17 @@ between g c =
 pub returns-in_default-clause-moments : goal.returns-in_default-clause-moments
 returns-in_default-clause-moments g c = stays g (goal.at.returns-in_default-clause-moments g c).After-change
 
-pub commit-requires-clause-fits : goal.commit-requires-clause-fits
-commit-requires-clause-fits g c recorded = c.accepted_commands_fit_records.ensures c.self.inside.planner c.args.command.now c.in-Ok.ensures.ok.accepted.1 recorded
+pub commit-requires : goal.commit-requires
+commit-requires g c =
+    let command = c.args.command.now in
+    let kept = c.self.invariant in record {
+      fits = λ recorded. c.accepted_commands_fit_records.ensures c.self.inside.planner command c.in-Ok.ensures.ok.accepted.1 recorded;
+      unspent = subst (λ (s : SessionValue _). spent s.place command ≡ None) (sym c.self.view_is) (undenied c.args.self.now command c.requires).1;
+      room = kept.room;
+      first = kept.first;
+      last = kept.last;
+      used = kept.used;
+    }
 
 pub invariant_of-self-in-Ok-commit : goal.invariant_of-self-in-Ok-commit
 invariant_of-self-in-Ok-commit g c =

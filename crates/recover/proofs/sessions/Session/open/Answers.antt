@@ -12,7 +12,7 @@ returns-in-Ok-clause-opens g c honest =
     let found = c.in-Ok.found in
     let read = subst (λ (s : SessionValue _). g.D.Sectors.honest s.device) c.over.ensures honest in
     opens Two c.images_hold_one_thing.ensures.one c.images_hold_one_thing.ensures.never_both image (Ok c.over.result.state)
-    (subst (λ (s : SessionValue _). StandsFor Two image s.state) (sym c.over.ensures) (stands Two image found.state found.place found.replayed (c.in-Ok.ensures.found read)))
+    (subst (λ (s : SessionValue _). StandsFor Two image s.state) (sym c.over.ensures) (stands Two image found.state found.place found.replayed (c.in-Ok.ensures.recovered.found read)))
 
 pub returns-in-Err-clause-opens : goal.returns-in-Err-clause-opens
-returns-in-Err-clause-opens g c honest = opens Two c.images_hold_one_thing.ensures.one c.images_hold_one_thing.ensures.never_both (g.D.Sectors.seen c.args.device) (Err c.in-Err.fault) (c.in-Err.ensures.found honest)
+returns-in-Err-clause-opens g c honest = opens Two c.images_hold_one_thing.ensures.one c.images_hold_one_thing.ensures.never_both (g.D.Sectors.seen c.args.device) (Err c.in-Err.fault) (c.in-Err.ensures.recovered.found honest)
