@@ -4,7 +4,6 @@ pub mod CauseLemmas
 pub mod CutLemmas
 pub mod InputLemmas
 pub mod LastLineLemmas
-pub mod QuestionLemmas
 pub mod ReplyLemmas
 pub mod ServingLemmas
 pub mod StoppedLemmas

@@ -9,16 +9,19 @@ use Rattle.command_core.specs.declared.commands.Command.TheVariants as command
 use Rattle.command_core.specs.declared.refusals.Refusal.TheVariants as core
 use Rattle.command_core.specs.declared.states.State.{State}
 use Rattle.command_core.specs.declared.states.State.TheVariants.{Empty, Loaded}
-use Rattle.command_text.specs.Answering.{Fate, Done, NoMemory, Failed, Reply, Serving, answered, by_fate, load, next_fate, next_stated, plain, printed, shown, stated, told, tried, unless_broken, with_text}
+use Rattle.command_text.specs.Answering.{Fate, Done, NoMemory, Failed, Reply, Serving, answered, by_fate, informed, load, next_fate, plain, printed, stated, told, told_unless, tried, unless_broken, with_text}
 use Rattle.command_text.specs.Answering.{Spent as SpentFate}
-use Rattle.command_text.specs.Answers.{answer_text, line, next_text}
+use Rattle.command_text.specs.Answers.{answer_text, line}
+use Rattle.command_text.specs.Questions.{question_refusal, question_text}
 use Rattle.command_text.specs.Readings.{IsUnlessMemory}
-use Rattle.command_text.specs.Showing.{print_text, show_text}
+use Rattle.command_text.specs.Showing.{print_text}
 use Rattle.route_sched.specs.Cost.{unplanned_count}
 use Rattle.sol_text.specs.declared.faults.WriteSolFault.{WriteSolFault}
 use Rattle.sol_text.specs.declared.faults.WriteSolFault.TheVariants as write
 use Rattle.std.specs.Prelude.{◌<◌, ◌==◌, IsErrOf, IsOkUnless}
 use Rattle.std.proofs.lemmas.Bool.{eqb-false, eqb-true}
+use Rattle.command_core.specs.declared.refusals.Refusal.{Refusal}
+use Rattle.command_text.specs.declared.questions.Question.{Question}
 use Rattle.command_text.specs.declared.answers.Answer.{Answer}
 use Rattle.command_text.specs.declared.answers.Answer.TheVariants as answer
 use Rattle.recover.specs.Sessions.{SessionValue}
@@ -153,35 +156,33 @@ pub tells_none : {D : Type 0} {on : sectors.Ghosts D} (g : Serving → State →
     → HasNoJob s.is_broken s.state a → Tells on s (λ t. unless_broken t (g t t.state)) (line (answer_text a)) s silent
 tells_none g s a empty none = tells_fate s (λ t. unless_broken t (g t t.state)) None a (λ later. no_job g (as_serving s later) a empty none)
 
-planned_is : (j : JobValue) (t : Serving) → (unplanned_count j.problem j.plan == 0) ≡ true → printed t (Loaded j) ≡ told (next_fate t.fates) (tried t) (print_text j)
-planned_is j t e = rw e refl
+module _ {D : Type 0} {on : sectors.Ghosts D} (g : Serving → State → Reply) (s : SessionValue D) (j : JobValue) (whole : s.is_broken ≡ false) (is : s.state ≡ Loaded j) where
+  abbrev says : Serving → Reply
+  says t = unless_broken t (g t t.state)
 
-unplanned_is : (j : JobValue) (t : Serving) → (unplanned_count j.problem j.plan == 0) ≡ false → printed t (Loaded j) ≡ answered t answer.Unplanned
-unplanned_is j t e = rw e refl
+  -- a text that is made, or wants memory
+  pub job_told : (text : List ℕ) → ((t : Serving) → g t (Loaded j) ≡ told (next_fate t.fates) (tried t) text) → Tells on s says (text ++ line (answer_text answer.Ok)) s silent
+  job_told text tells = tells_text s says text (λ later. with_job g (as_serving s (Done ∷ later)) j whole is ∙ tells (as_serving s (Done ∷ later)))
 
-module _ {D : Type 0} {on : sectors.Ghosts D} (s : SessionValue D) (j : JobValue) (whole : s.is_broken ≡ false) (is : s.state ≡ Loaded j) where
-  pub show_done : Tells on s (λ t. unless_broken t (shown t t.state)) (show_text j ++ line (answer_text answer.Ok)) s silent
-  show_done = tells_text s (λ t. unless_broken t (shown t t.state)) (show_text j) (λ later. with_job shown (as_serving s (Done ∷ later)) j whole is)
+  pub job_unmade : (text : List ℕ) → ((t : Serving) → g t (Loaded j) ≡ told (next_fate t.fates) (tried t) text) → Tells on s says (line (answer_text (answer.Refused core.OutOfMemory))) s silent
+  job_unmade text tells =
+      tells_fate s says (Some false) (answer.Refused core.OutOfMemory) (λ later. with_job g (as_serving s (NoMemory ∷ later)) j whole is ∙ tells (as_serving s (NoMemory ∷ later)))
 
-  pub show_unmade : Tells on s (λ t. unless_broken t (shown t t.state)) (line (answer_text (answer.Refused core.OutOfMemory))) s silent
-  show_unmade = tells_fate s (λ t. unless_broken t (shown t t.state)) (Some false) (answer.Refused core.OutOfMemory) (λ later. with_job shown (as_serving s (NoMemory ∷ later)) j whole is)
+  pub job_refuses : (a : Answer) → ((t : Serving) → g t (Loaded j) ≡ answered t a) → Tells on s says (line (answer_text a)) s silent
+  job_refuses a tells = tells_fate s says None a (λ later. with_job g (as_serving s later) j whole is ∙ tells (as_serving s later))
 
-  pub next_done : Tells on s (λ t. unless_broken t (next_stated t t.state)) (line (next_text j) ++ line (answer_text answer.Ok)) s silent
-  next_done = tells_stated s (λ t. unless_broken t (next_stated t t.state)) (next_text j) (λ later. with_job next_stated (as_serving s later) j whole is)
+  pub job_stated : (text : List ℕ) → ((t : Serving) → g t (Loaded j) ≡ stated t text) → Tells on s says (line text ++ line (answer_text answer.Ok)) s silent
+  job_stated text tells = tells_stated s says text (λ later. with_job g (as_serving s later) j whole is ∙ tells (as_serving s later))
 
-  pub print_done : (unplanned_count j.problem j.plan == 0) ≡ true → Tells on s (λ t. unless_broken t (printed t t.state)) (print_text j ++ line (answer_text answer.Ok)) s silent
-  print_done e =
-      tells_text s (λ t. unless_broken t (printed t t.state)) (print_text j)
-      (λ later. with_job printed (as_serving s (Done ∷ later)) j whole is ∙ planned_is j (as_serving s (Done ∷ later)) e)
+-- what `print` and a question tell of a job
+pub planned_is : (j : JobValue) → (unplanned_count j.problem j.plan == 0) ≡ true → (t : Serving) → printed t (Loaded j) ≡ told (next_fate t.fates) (tried t) (print_text j)
+planned_is j e t = rw e refl
 
-  pub print_unmade : (unplanned_count j.problem j.plan == 0) ≡ true → Tells on s (λ t. unless_broken t (printed t t.state)) (line (answer_text (answer.Refused core.OutOfMemory))) s silent
-  print_unmade e =
-      tells_fate s (λ t. unless_broken t (printed t t.state)) (Some false) (answer.Refused core.OutOfMemory)
-      (λ later. with_job printed (as_serving s (NoMemory ∷ later)) j whole is ∙ planned_is j (as_serving s (NoMemory ∷ later)) e)
+pub unplanned_is : (j : JobValue) → (unplanned_count j.problem j.plan == 0) ≡ false → (t : Serving) → printed t (Loaded j) ≡ answered t answer.Unplanned
+unplanned_is j e t = rw e refl
 
-  pub print_unplanned : (unplanned_count j.problem j.plan == 0) ≡ false → Tells on s (λ t. unless_broken t (printed t t.state)) (line (answer_text answer.Unplanned)) s silent
-  print_unplanned e =
-      tells_fate s (λ t. unless_broken t (printed t t.state)) None answer.Unplanned (λ later. with_job printed (as_serving s later) j whole is ∙ unplanned_is j (as_serving s later) e)
+pub by_refusal : (j : JobValue) (q : Question) (r : Option Refusal) → question_refusal j q ≡ r → (t : Serving) → informed q t (Loaded j) ≡ told_unless r t (question_text j q)
+by_refusal j q r e t = ap (λ o. told_unless o t (question_text j q)) e
 
 -- all are planned where the text was made or memory ran out, and some is not where that is told
 module _ {T : Type 0} (n : ℕ) (r : Result T WriteSolFault) (some : 0 < n → IsErrOf r (write.Unplanned n)) (none : n ≡ 0 → IsOkUnless r write.OutOfMemory) where

@@ -1,6 +1,7 @@
 -- What a session did and what was written, as replies say it.
-use Rattle.std.specs.Prelude.{◌≡◌, ◌≤◌, ◌++◌, ◌⊎◌, ℕ, Bool, true, false, if◌then◌else◌, List, [], length, Option, Some, None, Result, MatchResult, ⊤}
+use Rattle.std.specs.Prelude.{◌≡◌, ◌≤◌, ◌++◌, ◌⊎◌, ℕ, Bool, true, false, if◌then◌else◌, List, [], length, Option, Some, None, Result, Ok, Err, MatchResult, ⊤}
 use Rattle.command_text.specs.Answering.{Reply, Serving, at_line, answered, carried_all, load, next_fate, served, unless_broken}
+use Rattle.command_text.specs.Answers.{answer_text, line}
 use Rattle.command_text.specs.declared.answers.Answer.{Answer}
 use Rattle.command_text.specs.declared.answers.Answer.TheVariants as answer
 use Rattle.command_core.specs.declared.refusals.Refusal.TheVariants as refusal
@@ -85,6 +86,11 @@ denied (denial.Core r) = answer.Refused r
 denied denial.Spent = answer.Spent
 denied denial.OutOfMemory = answer.Refused refusal.OutOfMemory
 denied denial.DeviceFault = answer.DeviceFault
+
+-- a text that was made and `ok`, or the answer in its place
+abbrev pub made_text : Result (List ℕ) Answer → List ℕ
+made_text (Ok text) = text ++ line (answer_text answer.Ok)
+made_text (Err a) = line (answer_text a)
 
 -- how far the steps are, where that is told
 abbrev pub progress_of : {D : Type 0} → Bool → SessionValue D → List ℕ

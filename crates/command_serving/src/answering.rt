@@ -11,7 +11,7 @@ ghost use Rattle.command_serving.specs.Input.{Counts, left_of};
 ghost use Rattle.command_serving.specs.Knowing.{Fits, How};
 ghost use Rattle.command_serving.specs.Streams.{HandsOn};
 ghost use Rattle.command_serving.specs.Served.{EndsOrIsCut, HasCause, IsInputOf, IsTaken, Tells};
-ghost use Rattle.command_serving.specs.Serving.{Answers, GoesOn, HasNoJob, IsAppliedOn, IsCause, TakesBehind, denied, goes_behind, load_reply, load_told, progress_of, silent};
+ghost use Rattle.command_serving.specs.Serving.{Answers, GoesOn, HasNoJob, IsAppliedOn, IsCause, TakesBehind, denied, goes_behind, load_reply, load_told, made_text, progress_of, silent};
 ghost use Rattle.command_serving.specs.Stopped.{RunsLeave};
 ghost use Rattle.command_serving.specs.declared.answering.ServeFault.TheVariants.{WriteFault};
 
@@ -19,7 +19,7 @@ use crate::input::{Input, LoadText, Unread};
 use crate::streams::{Failed, Sink, Source};
 use command_core::{Command, Job, Refusal, State};
 use command_text::{
-    Answer, Asked, Goal, Question, Steps, at_line, help_lines, makes_steps, next_command,
+    Answer, Asked, Goal, Question, Steps, Text, at_line, help_lines, makes_steps, next_command,
     next_line, pieces_follow, print, question_refusal, question_text, read_instance, show,
     states_follow, steps_to_make,
 };
@@ -160,7 +160,8 @@ fn serve_asked<D: Sectors, R: Source, W: Sink>(
         Asked::Load { kind, seed, len } => {
             let text = input.load_text(reader, len as usize)?;
             let goes = goes_behind(&text);
-            once(serve_load(alloc, session, writer, kind, seed, text), goes)
+            let answer = load_answer(alloc, session, kind, seed, text);
+            once(tell(session, writer, answer), goes)
         }
         Asked::BadLoad => once(tell(session, writer, Answer::BadLine), Goes::ToEnd),
         Asked::LoadRange => once(
@@ -172,12 +173,19 @@ fn serve_asked<D: Sectors, R: Source, W: Sink>(
         Asked::Refused(refusal) => {
             once(tell(session, writer, refused(session, refusal)), Goes::On)
         }
-        Asked::Plain(command) => once(serve_plain(alloc, session, writer, command), Goes::On),
+        Asked::Plain(command) => {
+            let answer = applied(alloc, session, command);
+            once(tell(session, writer, answer), Goes::On)
+        }
         Asked::Steps(goal) => once(serve_steps(alloc, session, writer, goal), Goes::On),
-        Asked::Print => once(serve_print(alloc, session, writer), Goes::On),
-        Asked::Show => once(serve_show(alloc, session, writer), Goes::On),
+        Asked::Print => once(
+            tell_made(session, writer, printed(alloc, session)),
+            Goes::On,
+        ),
+        Asked::Show => once(tell_made(session, writer, shown(alloc, session)), Goes::On),
         Asked::Tell(question) => {
-            once(serve_question(alloc, session, writer, question), Goes::On)
+            let made = informed(alloc, session, question);
+            once(tell_made(session, writer, made), Goes::On)
         }
         Asked::Next => once(serve_next(session, writer), Goes::On),
         Asked::Help => once(tell_line(session, writer, help_lines()), Goes::On),
@@ -250,6 +258,23 @@ fn tell_text<D: Sectors, W: Sink>(
     tell(session, writer, Answer::Ok)
 }
 
+// Writes the text that was made, or the answer in its place.
+fn tell_made<D: Sectors, W: Sink>(
+    session: &Session<D>,
+    writer: &mut W,
+    made: Result<Text, Answer>,
+) -> Result<(), Failed>
+    ensures told { HandsOn (W.stream writer.old) (W.stream writer.new) result
+        (D.calls session.now.device) (made_text made) }
+    ensures failed { OnErr result (W.has_failed writer.new ≡ true) }
+    ensures origin { W.origin writer.new ≡ W.origin writer.old }
+{
+    match made {
+        Ok(text) => tell_text(session, writer, text.as_bytes()),
+        Err(answer) => tell(session, writer, answer),
+    }
+}
+
 // Writes a line, and `ok` behind it.
 fn tell_line<D: Sectors, W: Sink>(
     session: &Session<D>,
@@ -263,22 +288,6 @@ fn tell_line<D: Sectors, W: Sink>(
 {
     writer.put(session, text)?;
     tell_text(session, writer, b"\n")
-}
-
-// Carries the command out, and then answers it.
-fn serve_plain<D: Sectors, W: Sink>(
-    alloc: Global,
-    session: &mut Session<D>,
-    writer: &mut W,
-    command: Command,
-) -> Result<(), Failed>
-    ensures answers { Answers D.Sectors result session.old (λ s. plain s command)
-        (W.stream writer.old) (W.stream writer.new) session.new silent }
-    ensures failed { OnErr result (W.has_failed writer.new ≡ true) }
-    ensures origin { W.origin writer.new ≡ W.origin writer.old }
-{
-    let outcome = applied(alloc, session, command);
-    tell(session, writer, outcome)
 }
 
 // Carries the command out. `Ok` comes after its last sync.
@@ -350,27 +359,22 @@ fn goes_behind(text: &LoadText) -> Goes
     }
 }
 
-fn serve_load<D: Sectors, W: Sink>(
+// What is answered to a load whose bytes came so.
+fn load_answer<D: Sectors>(
     alloc: Global,
     session: &mut Session<D>,
-    writer: &mut W,
     kind: Kind,
     seed: u64,
     text: LoadText,
-) -> Result<(), Failed>
-    ensures answers { (reading : Reading) (bytes : List ℕ) → IsReading reading
-        → Answers D.Sectors result session.old (load_told text reading kind seed bytes)
-        (W.stream writer.old) (W.stream writer.new) session.new silent }
-    ensures failed { OnErr result (W.has_failed writer.new ≡ true) }
-    ensures origin { W.origin writer.new ≡ W.origin writer.old }
+) -> Answer
+    ensures { (reading : Reading) (bytes : List ℕ) → IsReading reading
+        → Tells D.Sectors session.old (load_told text reading kind seed bytes)
+        (line (answer_text result)) session.new silent }
 {
     match text {
-        LoadText::Short => tell(session, writer, Answer::Truncated),
-        LoadText::Dropped => tell(session, writer, dropped(session)),
-        LoadText::Whole(text) => {
-            let answer = loaded(alloc, session, kind, seed, &text);
-            tell(session, writer, answer)
-        }
+        LoadText::Short => Answer::Truncated,
+        LoadText::Dropped => dropped(session),
+        LoadText::Whole(text) => loaded(alloc, session, kind, seed, &text),
     }
 }
 
@@ -471,74 +475,44 @@ fn tell_progress<D: Sectors, W: Sink>(
     }
 }
 
-fn serve_print<D: Sectors, W: Sink>(
-    alloc: Global,
-    session: &Session<D>,
-    writer: &mut W,
-) -> Result<(), Failed>
-    ensures answers { Answers D.Sectors result session.now
-        (λ s. unless_broken s (printed s s.state))
-        (W.stream writer.old) (W.stream writer.new) session.now silent }
-    ensures failed { OnErr result (W.has_failed writer.new ≡ true) }
-    ensures origin { W.origin writer.new ≡ W.origin writer.old }
+fn printed<D: Sectors>(alloc: Global, session: &Session<D>) -> Result<Text, Answer>
+    ensures { Tells D.Sectors session.now (λ s. unless_broken s (printed s s.state))
+        (made_text result) session.now silent }
 {
-    let job = match job_of(session) {
-        Ok(job) => job,
-        Err(answer) => return tell(session, writer, answer),
-    };
+    let job = job_of(session)?;
     match print(alloc, job) {
-        Ok(text) => tell_text(session, writer, text.as_bytes()),
-        Err(WriteSolFault::Unplanned(_)) => tell(session, writer, Answer::Unplanned),
-        Err(WriteSolFault::OutOfMemory) => tell(
-            session,
-            writer,
-            Answer::Refused(Refusal::OutOfMemory),
-        ),
+        Ok(text) => Ok(text),
+        Err(WriteSolFault::Unplanned(_)) => Err(Answer::Unplanned),
+        Err(WriteSolFault::OutOfMemory) => Err(Answer::Refused(Refusal::OutOfMemory)),
     }
 }
 
-fn serve_show<D: Sectors, W: Sink>(
-    alloc: Global,
-    session: &Session<D>,
-    writer: &mut W,
-) -> Result<(), Failed>
-    ensures answers { Answers D.Sectors result session.now (λ s. unless_broken s (shown s s.state))
-        (W.stream writer.old) (W.stream writer.new) session.now silent }
-    ensures failed { OnErr result (W.has_failed writer.new ≡ true) }
-    ensures origin { W.origin writer.new ≡ W.origin writer.old }
+fn shown<D: Sectors>(alloc: Global, session: &Session<D>) -> Result<Text, Answer>
+    ensures { Tells D.Sectors session.now (λ s. unless_broken s (shown s s.state))
+        (made_text result) session.now silent }
 {
-    let job = match job_of(session) {
-        Ok(job) => job,
-        Err(answer) => return tell(session, writer, answer),
-    };
+    let job = job_of(session)?;
     match show(alloc, job) {
-        Ok(text) => tell_text(session, writer, text.as_bytes()),
-        Err(_) => tell(session, writer, Answer::Refused(Refusal::OutOfMemory)),
+        Ok(text) => Ok(text),
+        Err(_) => Err(Answer::Refused(Refusal::OutOfMemory)),
     }
 }
 
-// Tells what the job is asked, unless it refuses to.
-fn serve_question<D: Sectors, W: Sink>(
+// What the job is asked, unless it refuses to tell it.
+fn informed<D: Sectors>(
     alloc: Global,
     session: &Session<D>,
-    writer: &mut W,
     question: Question,
-) -> Result<(), Failed>
-    ensures answers { Answers D.Sectors result session.now
-        (λ s. unless_broken s (informed question s s.state))
-        (W.stream writer.old) (W.stream writer.new) session.now silent }
-    ensures failed { OnErr result (W.has_failed writer.new ≡ true) }
-    ensures origin { W.origin writer.new ≡ W.origin writer.old }
+) -> Result<Text, Answer>
+    ensures { Tells D.Sectors session.now (λ s. unless_broken s (informed question s s.state))
+        (made_text result) session.now silent }
 {
-    let job = match job_of(session) {
-        Ok(job) => job,
-        Err(answer) => return tell(session, writer, answer),
-    };
+    let job = job_of(session)?;
     match question_refusal(job, question) {
-        Some(refusal) => tell(session, writer, Answer::Refused(refusal)),
+        Some(refusal) => Err(Answer::Refused(refusal)),
         None => match question_text(alloc, job, question) {
-            Ok(text) => tell_text(session, writer, text.as_bytes()),
-            Err(_) => tell(session, writer, Answer::Refused(Refusal::OutOfMemory)),
+            Ok(text) => Ok(text),
+            Err(_) => Err(Answer::Refused(Refusal::OutOfMemory)),
         },
     }
 }

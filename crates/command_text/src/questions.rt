@@ -9,6 +9,7 @@ ghost use Rattle.move_ops.specs.Insertion.{of_vehicle, request_named};
 ghost use Rattle.seeded_search.specs.Steps.{unplanned_names};
 ghost use Rattle.command_text.specs.Questions.{name_refusal, question_refusal, question_text, vehicle_refusal};
 
+use crate::showing::Text;
 use command_core::{Job, Refusal, unplanned_names};
 use move_ops::of_vehicle;
 use plan_audit::{passes_are_local, plans_are_local};
@@ -59,7 +60,13 @@ fn name_refusal(problem: &Problem, name: u32) -> Option<Refusal>
 }
 
 /// What is told of a job, in whole lines for people.
-pub fn question_text(alloc: Global, job: &Job, question: Question) -> Result<String, OutOfMemory>
+pub fn question_text(alloc: Global, job: &Job, question: Question) -> Result<Text, OutOfMemory>
+    ensures { IfOk result (λ text. text ≡ question_text job.now question) }
+{
+    Ok(Text::from_string(told(alloc, job, question)?))
+}
+
+fn told(alloc: Global, job: &Job, question: Question) -> Result<String, OutOfMemory>
     ensures { IfOk result (λ text. string_bytes text ≡ question_text job.now question) }
 {
     passes_are_local();

@@ -1,5 +1,5 @@
 //! What `show` and `print` write.
-ghost use Rattle.std.specs.Prelude.{◌≡◌, ◌<◌, ◌≤◌, ◌*◌, ◌^◌, ◌++◌, [], IfOk, OnOk, IsErrOf, IsOkUnless, codes, decimal};
+ghost use Rattle.std.specs.Prelude.{◌≡◌, ◌<◌, ◌≤◌, ◌*◌, ◌^◌, ◌++◌, [], IfOk, OnOk, IsErrOf, IsOkUnless, codes, decimal, string_bytes};
 ghost use Rattle.route_sched.specs.Cost.{cost_of, unplanned_count};
 ghost use Rattle.sol_text.specs.Faults.{Spells};
 ghost use Rattle.sol_text.specs.Written.{customers_text};
@@ -38,6 +38,14 @@ impl Text {
     {
         Text {
             bytes: Vec::new(alloc),
+        }
+    }
+
+    pub(crate) fn from_string(text: String) -> Text
+        ensures { result ≡ string_bytes text }
+    {
+        Text {
+            bytes: text.into_bytes(),
         }
     }
 

@@ -19,7 +19,7 @@ use Rattle.command_serving.proofs.answering.serve_asked.Goals as goal
 
 pub returns-in-BadLoad-clause-serves : goal.returns-in-BadLoad-clause-serves
 returns-in-BadLoad-clause-serves g c = λ reading rest how is fits known.
-    line_ends g.D.Sectors c.args.session.now _ _ _ _ reading rest c.in-BadLoad.is c.tell.result c.once-in-BadLoad.ensures refl known (answers_told c.tell.result _ _ (tells_same c.args.session.now (λ s. answered s answer.BadLine) answer.BadLine (λ fates. refl)) c.tell.ensures.told)
+    line_ends g.D.Sectors c.args.session.now _ _ _ _ reading rest c.in-BadLoad.is c.tell-in-BadLoad.result c.once-in-BadLoad.ensures refl known (answers_told c.tell-in-BadLoad.result _ _ (tells_same c.args.session.now (λ s. answered s answer.BadLine) answer.BadLine (λ fates. refl)) c.tell-in-BadLoad.ensures.told)
 
 pub returns-in-LoadRange-clause-serves : goal.returns-in-LoadRange-clause-serves
 returns-in-LoadRange-clause-serves g c = λ reading rest how is fits known.
@@ -35,7 +35,7 @@ returns-in-Refused-clause-serves g c = λ reading rest how is fits known.
 
 pub returns-in-Plain-clause-serves : goal.returns-in-Plain-clause-serves
 returns-in-Plain-clause-serves g c = λ reading rest how is fits known.
-    line_on g.D.Sectors c.args.session.now _ _ _ _ reading rest c.in-Plain.is c.serve_plain.result c.once-in-Plain.ensures refl known c.serve_plain.ensures.answers
+    line_on g.D.Sectors c.args.session.now _ _ _ _ reading rest c.in-Plain.is c.tell-in-Plain.result c.once-in-Plain.ensures refl known (answers_told c.tell-in-Plain.result _ _ c.applied-answer.ensures c.tell-in-Plain.ensures.told)
 
 pub returns-in-Steps-clause-serves : goal.returns-in-Steps-clause-serves
 returns-in-Steps-clause-serves g c = λ reading rest how is fits known.
@@ -43,15 +43,15 @@ returns-in-Steps-clause-serves g c = λ reading rest how is fits known.
 
 pub returns-in-Print-clause-serves : goal.returns-in-Print-clause-serves
 returns-in-Print-clause-serves g c = λ reading rest how is fits known.
-    line_on g.D.Sectors c.args.session.now _ _ _ _ reading rest c.in-Print.is c.serve_print.result c.once-in-Print.ensures refl known c.serve_print.ensures.answers
+    line_on g.D.Sectors c.args.session.now _ _ _ _ reading rest c.in-Print.is c.tell_made.result c.once-in-Print.ensures refl known (answers_told c.tell_made.result _ _ c.printed.ensures c.tell_made.ensures.told)
 
 pub returns-in-Show-clause-serves : goal.returns-in-Show-clause-serves
 returns-in-Show-clause-serves g c = λ reading rest how is fits known.
-    line_on g.D.Sectors c.args.session.now _ _ _ _ reading rest c.in-Show.is c.serve_show.result c.once-in-Show.ensures refl known c.serve_show.ensures.answers
+    line_on g.D.Sectors c.args.session.now _ _ _ _ reading rest c.in-Show.is c.tell_made-in-Show.result c.once-in-Show.ensures refl known (answers_told c.tell_made-in-Show.result _ _ c.shown.ensures c.tell_made-in-Show.ensures.told)
 
 pub returns-in-Tell-clause-serves : goal.returns-in-Tell-clause-serves
 returns-in-Tell-clause-serves g c = λ reading rest how is fits known.
-    line_on g.D.Sectors c.args.session.now _ _ _ _ reading rest c.in-Tell.is c.serve_question.result c.once-in-Tell.ensures refl known c.serve_question.ensures.answers
+    line_on g.D.Sectors c.args.session.now _ _ _ _ reading rest c.in-Tell.is c.tell_made-in-Tell.result c.once-in-Tell.ensures refl known (answers_told c.tell_made-in-Tell.result _ _ c.informed-made.ensures c.tell_made-in-Tell.ensures.told)
 
 pub returns-in-Next-clause-serves : goal.returns-in-Next-clause-serves
 returns-in-Next-clause-serves g c = λ reading rest how is fits known.
@@ -83,17 +83,17 @@ returns-in_err-text-in-Load-clause-serves g c = λ reading rest how is fits know
 pub returns-in_ok-text-in-Load-clause-serves : goal.returns-in_ok-text-in-Load-clause-serves
 returns-in_ok-text-in-Load-clause-serves g c = λ reading rest how is fits known.
     let old = c.args.session.now in
-    let new = c.serve_load.new.session in
+    let new = c.load_answer-answer.new.session in
     let before = g.W.Sink.stream c.args.writer.now in
-    let after = g.W.Sink.stream c.serve_load.new.writer in
+    let after = g.W.Sink.stream c.tell.new.writer in
     let first = left_of g.R.Source how c.args.input.now c.args.reader.now in
     let left = left_of g.R.Source how c.load_text.new.self c.load_text.new.reader in
     subst (λ a. GoesOn g.D.Sectors c.once.result reading old (cut_at a rest) before after new left) (sym c.in-Load.is)
-    (load_on g.D.Sectors reading c.in-Load.kind c.in-Load.seed c.in-Load.len old new before after c.once.result c.serve_load.result rest c.in_ok-text-in-Load.text c.goes_behind-goes.result first left known (c.in_ok-text-in-Load.ensures.loads how fits)
-    c.goes_behind-goes.ensures c.once.ensures (λ bytes. c.serve_load.ensures.answers reading bytes is))
+    (load_on g.D.Sectors reading c.in-Load.kind c.in-Load.seed c.in-Load.len old new before after c.once.result c.tell.result rest c.in_ok-text-in-Load.text c.goes_behind-goes.result first left known (c.in_ok-text-in-Load.ensures.loads how fits)
+    c.goes_behind-goes.ensures c.once.ensures (λ bytes. answers_told c.tell.result before after (c.load_answer-answer.ensures reading bytes is) c.tell.ensures.told))
 
 pub returns-in-BadLoad-clause-taken : goal.returns-in-BadLoad-clause-taken
-returns-in-BadLoad-clause-taken g c = told_to_end g.R.Source _ c.args.input.now c.args.reader.now c.in-BadLoad.is c.tell.result c.once-in-BadLoad.ensures refl
+returns-in-BadLoad-clause-taken g c = told_to_end g.R.Source _ c.args.input.now c.args.reader.now c.in-BadLoad.is c.tell-in-BadLoad.result c.once-in-BadLoad.ensures refl
 
 pub returns-in-LoadRange-clause-taken : goal.returns-in-LoadRange-clause-taken
 returns-in-LoadRange-clause-taken g c = told_to_end g.R.Source _ c.args.input.now c.args.reader.now c.in-LoadRange.is c.tell-in-LoadRange.result c.once-in-LoadRange.ensures refl
@@ -105,19 +105,19 @@ pub returns-in-Refused-clause-taken : goal.returns-in-Refused-clause-taken
 returns-in-Refused-clause-taken g c = told_on g.R.Source _ c.args.input.now c.args.reader.now c.in-Refused.is c.tell-in-Refused.result c.once-in-Refused.ensures refl refl
 
 pub returns-in-Plain-clause-taken : goal.returns-in-Plain-clause-taken
-returns-in-Plain-clause-taken g c = told_on g.R.Source _ c.args.input.now c.args.reader.now c.in-Plain.is c.serve_plain.result c.once-in-Plain.ensures refl refl
+returns-in-Plain-clause-taken g c = told_on g.R.Source _ c.args.input.now c.args.reader.now c.in-Plain.is c.tell-in-Plain.result c.once-in-Plain.ensures refl refl
 
 pub returns-in-Steps-clause-taken : goal.returns-in-Steps-clause-taken
 returns-in-Steps-clause-taken g c = told_on g.R.Source _ c.args.input.now c.args.reader.now c.in-Steps.is c.serve_steps.result c.once-in-Steps.ensures refl refl
 
 pub returns-in-Print-clause-taken : goal.returns-in-Print-clause-taken
-returns-in-Print-clause-taken g c = told_on g.R.Source _ c.args.input.now c.args.reader.now c.in-Print.is c.serve_print.result c.once-in-Print.ensures refl refl
+returns-in-Print-clause-taken g c = told_on g.R.Source _ c.args.input.now c.args.reader.now c.in-Print.is c.tell_made.result c.once-in-Print.ensures refl refl
 
 pub returns-in-Show-clause-taken : goal.returns-in-Show-clause-taken
-returns-in-Show-clause-taken g c = told_on g.R.Source _ c.args.input.now c.args.reader.now c.in-Show.is c.serve_show.result c.once-in-Show.ensures refl refl
+returns-in-Show-clause-taken g c = told_on g.R.Source _ c.args.input.now c.args.reader.now c.in-Show.is c.tell_made-in-Show.result c.once-in-Show.ensures refl refl
 
 pub returns-in-Tell-clause-taken : goal.returns-in-Tell-clause-taken
-returns-in-Tell-clause-taken g c = told_on g.R.Source _ c.args.input.now c.args.reader.now c.in-Tell.is c.serve_question.result c.once-in-Tell.ensures refl refl
+returns-in-Tell-clause-taken g c = told_on g.R.Source _ c.args.input.now c.args.reader.now c.in-Tell.is c.tell_made-in-Tell.result c.once-in-Tell.ensures refl refl
 
 pub returns-in-Next-clause-taken : goal.returns-in-Next-clause-taken
 returns-in-Next-clause-taken g c = told_on g.R.Source _ c.args.input.now c.args.reader.now c.in-Next.is c.serve_next.result c.once-in-Next.ensures refl refl
@@ -130,5 +130,5 @@ returns-in-Nothing-clause-taken g c = line_takes g.R.Source c.args.asked c.args.
 
 pub returns-in_ok-text-in-Load-clause-taken : goal.returns-in_ok-text-in-Load-clause-taken
 returns-in_ok-text-in-Load-clause-taken g c =
-    told_load g.R.Source c.serve_load.result c.once.result c.in-Load.kind c.in-Load.seed c.in-Load.len c.in_ok-text-in-Load.text c.goes_behind-goes.result c.args.asked c.args.input.now c.load_text.new.self c.args.reader.now
+    told_load g.R.Source c.tell.result c.once.result c.in-Load.kind c.in-Load.seed c.in-Load.len c.in_ok-text-in-Load.text c.goes_behind-goes.result c.args.asked c.args.input.now c.load_text.new.self c.args.reader.now
     c.load_text.new.reader c.once.ensures c.goes_behind-goes.ensures c.in-Load.is c.load_text.ensures.less c.in_ok-text-in-Load.ensures.exact c.in_ok-text-in-Load.ensures.loads

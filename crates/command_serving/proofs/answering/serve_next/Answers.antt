@@ -4,7 +4,7 @@ use Rattle.command_text.specs.Answering.{next_stated}
 use Rattle.command_text.specs.Answers.{answer_text, line, next_text}
 use Rattle.command_text.specs.declared.answers.Answer.TheVariants as answer
 use Rattle.command_serving.specs.Streams.{HandsOn}
-use Rattle.command_serving.proofs.ReplyLemmas.{next_done, tells_none}
+use Rattle.command_serving.proofs.ReplyLemmas.{job_stated, tells_none}
 use Rattle.command_serving.proofs.ServingLemmas.{answers_told}
 use Rattle.command_serving.proofs.answering.serve_next.Goals as goal
 
@@ -19,4 +19,4 @@ returns-in-Ok-clause-answers g c =
     let after = g.W.Sink.stream c.tell_line.new.writer in
     let bytes : c.as_bytes.result.now ≡ next_text job = search rules in
     let told = subst (λ t. HandsOn before after c.tell_line.result (g.D.Sectors.calls session.device) (line t ++ line (answer_text answer.Ok))) bytes c.tell_line.ensures.told in
-    answers_told c.tell_line.result _ _ (next_done session job c.in-Ok.ensures.job.0 c.in-Ok.ensures.job.1) told
+    answers_told c.tell_line.result _ _ (job_stated next_stated session job c.in-Ok.ensures.job.0 c.in-Ok.ensures.job.1 (next_text job) (λ t. refl)) told

@@ -1,7 +1,7 @@
 -- A job's plan passes, so its routes have live stops, each once.
 use Rattle.std.proofs.Common.{sym, subst, All}
 use Rattle.route_sched.specs.Route.{AreLiveOnce}
-use Rattle.command_text.proofs.questions.question_text.Goals as goal
+use Rattle.command_text.proofs.questions.told.Goals as goal
 
 pub whole_timetable-requires : goal.whole_timetable-requires
 whole_timetable-requires c =
