@@ -156,23 +156,23 @@ pub tells_none : {D : Type 0} {on : sectors.Ghosts D} (g : Serving → State →
     → HasNoJob s.is_broken s.state a → Tells on s (λ t. unless_broken t (g t t.state)) (line (answer_text a)) s silent
 tells_none g s a empty none = tells_fate s (λ t. unless_broken t (g t t.state)) None a (λ later. no_job g (as_serving s later) a empty none)
 
+abbrev says : (Serving → State → Reply) → Serving → Reply
+says g t = unless_broken t (g t t.state)
+
 module _ {D : Type 0} {on : sectors.Ghosts D} (g : Serving → State → Reply) (s : SessionValue D) (j : JobValue) (whole : s.is_broken ≡ false) (is : s.state ≡ Loaded j) where
-  abbrev says : Serving → Reply
-  says t = unless_broken t (g t t.state)
-
   -- a text that is made, or wants memory
-  pub job_told : (text : List ℕ) → ((t : Serving) → g t (Loaded j) ≡ told (next_fate t.fates) (tried t) text) → Tells on s says (text ++ line (answer_text answer.Ok)) s silent
-  job_told text tells = tells_text s says text (λ later. with_job g (as_serving s (Done ∷ later)) j whole is ∙ tells (as_serving s (Done ∷ later)))
+  pub job_told : (text : List ℕ) → ((t : Serving) → g t (Loaded j) ≡ told (next_fate t.fates) (tried t) text) → Tells on s (says g) (text ++ line (answer_text answer.Ok)) s silent
+  job_told text tells = tells_text s (says g) text (λ later. with_job g (as_serving s (Done ∷ later)) j whole is ∙ tells (as_serving s (Done ∷ later)))
 
-  pub job_unmade : (text : List ℕ) → ((t : Serving) → g t (Loaded j) ≡ told (next_fate t.fates) (tried t) text) → Tells on s says (line (answer_text (answer.Refused core.OutOfMemory))) s silent
+  pub job_unmade : (text : List ℕ) → ((t : Serving) → g t (Loaded j) ≡ told (next_fate t.fates) (tried t) text) → Tells on s (says g) (line (answer_text (answer.Refused core.OutOfMemory))) s silent
   job_unmade text tells =
-      tells_fate s says (Some false) (answer.Refused core.OutOfMemory) (λ later. with_job g (as_serving s (NoMemory ∷ later)) j whole is ∙ tells (as_serving s (NoMemory ∷ later)))
+      tells_fate s (says g) (Some false) (answer.Refused core.OutOfMemory) (λ later. with_job g (as_serving s (NoMemory ∷ later)) j whole is ∙ tells (as_serving s (NoMemory ∷ later)))
 
-  pub job_refuses : (a : Answer) → ((t : Serving) → g t (Loaded j) ≡ answered t a) → Tells on s says (line (answer_text a)) s silent
-  job_refuses a tells = tells_fate s says None a (λ later. with_job g (as_serving s later) j whole is ∙ tells (as_serving s later))
+  pub job_refuses : (a : Answer) → ((t : Serving) → g t (Loaded j) ≡ answered t a) → Tells on s (says g) (line (answer_text a)) s silent
+  job_refuses a tells = tells_fate s (says g) None a (λ later. with_job g (as_serving s later) j whole is ∙ tells (as_serving s later))
 
-  pub job_stated : (text : List ℕ) → ((t : Serving) → g t (Loaded j) ≡ stated t text) → Tells on s says (line text ++ line (answer_text answer.Ok)) s silent
-  job_stated text tells = tells_stated s says text (λ later. with_job g (as_serving s later) j whole is ∙ tells (as_serving s later))
+  pub job_stated : (text : List ℕ) → ((t : Serving) → g t (Loaded j) ≡ stated t text) → Tells on s (says g) (line text ++ line (answer_text answer.Ok)) s silent
+  job_stated text tells = tells_stated s (says g) text (λ later. with_job g (as_serving s later) j whole is ∙ tells (as_serving s later))
 
 -- what `print` and a question tell of a job
 pub planned_is : (j : JobValue) → (unplanned_count j.problem j.plan == 0) ≡ true → (t : Serving) → printed t (Loaded j) ≡ told (next_fate t.fates) (tried t) (print_text j)
