@@ -3,10 +3,10 @@
 ghost use Rattle.std.specs.Prelude.{◌≡◌, ◌+◌, ◌<◌, ◌^◌, true};
 ghost use Rattle.plan_audit.specs.Passes.{passes};
 
-use crate::builders::{FOUR, Given, case_of, is_passing, problem_of};
+use crate::builders::{Case, FOUR, Given, case_of, problem_of};
 use crate::walks::{Example, Walk, both, found, is_found};
 use anneal_search::{anneal_step, draw, ordered};
-use plan_types::{Pins, Plan, Problem};
+use plan_types::Problem;
 use std::alloc::Global;
 use std::test::Fail;
 
@@ -242,6 +242,8 @@ type Order = (Given, u32, &'static [u32], &'static [u32]);
 
 const FOUR_NAMES: &[u32] = &[1, 2, 3, 4];
 
+const PAIRS: Given = Given::SixPairs(6);
+
 const PAIR_NAMES: &[u32] = &[1, 3, 5, 7, 9, 11];
 
 const ORDERS: [Order; 9] = [
@@ -253,30 +255,10 @@ const ORDERS: [Order; 9] = [
     (FOUR, 0x8fff_ffff, FOUR_NAMES, &[2, 1, 3, 4]),
     // The nearest, the most goods, the narrowest windows, the earliest pickup, the latest delivery.
     (FOUR, 0xa000_0000, FOUR_NAMES, &[4, 3, 1, 2]),
-    (
-        Given::SixPairs(6),
-        0x4000_0000,
-        PAIR_NAMES,
-        &[7, 3, 9, 1, 5, 11],
-    ),
-    (
-        Given::SixPairs(6),
-        0xb000_0000,
-        PAIR_NAMES,
-        &[5, 3, 1, 7, 11, 9],
-    ),
-    (
-        Given::SixPairs(6),
-        0xd000_0000,
-        PAIR_NAMES,
-        &[1, 5, 9, 7, 3, 11],
-    ),
-    (
-        Given::SixPairs(6),
-        0xf000_0000,
-        PAIR_NAMES,
-        &[11, 9, 3, 1, 7, 5],
-    ),
+    (PAIRS, 0x4000_0000, PAIR_NAMES, &[7, 3, 9, 1, 5, 11]),
+    (PAIRS, 0xb000_0000, PAIR_NAMES, &[5, 3, 1, 7, 11, 9]),
+    (PAIRS, 0xd000_0000, PAIR_NAMES, &[1, 5, 9, 7, 3, 11]),
+    (PAIRS, 0xf000_0000, PAIR_NAMES, &[11, 9, 3, 1, 7, 5]),
 ];
 
 // Whether the word picks the order; it is none where the problem has no first stop.
@@ -302,16 +284,15 @@ fn orders(rt: HostRuntime) -> Result<(), Fail> {
 }
 
 // The routes of both plans that two steps from this one on find, one by one.
-fn step_by_step(
-    alloc: Global,
-    problem: &Problem,
-    pins: &Pins,
-    plan: &Plan,
-    step: u64,
-) -> Result<Vec<u32>, Fail>
-    requires passing { passes problem.now pins.now.routes plan.now.routes ≡ true }
+fn step_by_step(alloc: Global, case: &Case, step: u64) -> Result<Vec<u32>, Fail>
+    requires passing { passes case.now.problem case.now.pins.routes case.now.plan.routes ≡ true }
     requires step { step + 1 < 2 ^ 60 }
 {
+    let Case {
+        problem,
+        pins,
+        plan,
+    } = case;
     let first = anneal_step(alloc, problem, pins, plan, plan, 40, 1, step)?;
     let second = anneal_step(
         alloc,
@@ -327,24 +308,17 @@ fn step_by_step(
 }
 
 // Whether two steps from this one on find what one does and then the next.
-fn goes_on(
-    alloc: Global,
-    problem: &Problem,
-    pins: &Pins,
-    plan: &Plan,
-    step: u64,
-) -> Result<bool, Fail> {
-    if step >= (1 << 60) - 1 || !is_passing(alloc, problem, pins, plan)? {
+fn goes_on(alloc: Global, case: &Case, step: u64) -> Result<bool, Fail> {
+    if step >= (1 << 60) - 1 || !case.is_passing(alloc)? {
         return Ok(false);
     }
-    let one_by_one = step_by_step(alloc, problem, pins, plan, step)?;
-    let at_once = found(alloc, problem, pins, plan, Walk::Anneal(40, 1, (step, 2)))?;
+    let one_by_one = step_by_step(alloc, case, step)?;
+    let at_once = found(alloc, case, Walk::Anneal(40, 1, (step, 2)))?;
     Ok(one_by_one == at_once)
 }
 
 fn goes_on_from(alloc: Global, step: u64) -> Result<bool, Fail> {
-    let case = case_of(alloc, CUSTOMERS, &[], BUILT)?;
-    goes_on(alloc, &case.problem, &case.pins, &case.plan, step)
+    goes_on(alloc, &case_of(alloc, CUSTOMERS, &[], BUILT)?, step)
 }
 
 #[test]

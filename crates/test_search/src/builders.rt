@@ -216,6 +216,15 @@ pub(crate) struct Case {
     pub plan: Plan,
 }
 
+impl Case {
+    pub(crate) fn is_passing(&self, alloc: Global) -> Result<bool, Fail>
+        ensures { IfOk result (λ b. IsTrue b
+            → passes self.now.problem self.now.pins.routes self.now.plan.routes ≡ true) }
+    {
+        is_passing(alloc, &self.problem, &self.pins, &self.plan)
+    }
+}
+
 /// The case of these pins and routes, each ended by a 0.
 pub(crate) fn case_of(
     alloc: Global,

@@ -1,7 +1,6 @@
 //! The words of the search's steps, and what steps find.
-use crate::builders::{FOUR, Given, case_of, is_passing};
+use crate::builders::{Case, FOUR, Given, case_of};
 use crate::walks::{Example, Walk, both, found_from, is_found};
-use plan_types::{Pins, Plan, Problem};
 use seeded_search::{pick, search_step, words};
 use std::alloc::Global;
 use std::test::Fail;
@@ -82,15 +81,15 @@ fn picks(rt: HostRuntime) {
 }
 
 // What the first step finds; nothing where the plan doesn't pass.
-fn first_found(
-    alloc: Global,
-    problem: &Problem,
-    pins: &Pins,
-    plan: &Plan,
-) -> Result<Vec<u32>, Fail> {
-    if !is_passing(alloc, problem, pins, plan)? {
+fn first_found(alloc: Global, case: &Case) -> Result<Vec<u32>, Fail> {
+    if !case.is_passing(alloc)? {
         return Ok(Vec::new(alloc));
     }
+    let Case {
+        problem,
+        pins,
+        plan,
+    } = case;
     both(
         alloc,
         &search_step(alloc, problem, pins, plan, plan, 0, 0, 0)?,
@@ -100,7 +99,7 @@ fn first_found(
 // Whether the first step finds the better plan, as incumbent and working plan.
 fn is_bettered(alloc: Global) -> Result<bool, Fail> {
     let case = case_of(alloc, FOUR, &[], &[1, 0, 2, 3, 0, 4, 0, 0])?;
-    let found = first_found(alloc, &case.problem, &case.pins, &case.plan)?;
+    let found = first_found(alloc, &case)?;
     let better = [1, 0, 0, 4, 2, 3, 0, 0, 1, 0, 0, 4, 2, 3, 0, 0];
     Ok(found.as_slice() == better.as_slice())
 }

@@ -2,9 +2,9 @@
 ghost use Rattle.std.specs.Prelude.{◌≡◌, true};
 ghost use Rattle.plan_audit.specs.Passes.{passes};
 
-use crate::builders::{Given, case_of, is_passing, stops_of};
+use crate::builders::{Case, Given, case_of, stops_of};
 use anneal_search::anneal_steps;
-use plan_types::{OutOfMemory, Pins, Plan, Problem};
+use plan_types::OutOfMemory;
 use seeded_search::{Found, search_steps};
 use std::alloc::Global;
 use std::test::Fail;
@@ -29,15 +29,14 @@ pub(crate) fn both(alloc: Global, found: &Found) -> Result<Vec<u32>, Fail> {
 }
 
 // What the steps find, if there may be so many.
-fn steps_of(
-    alloc: Global,
-    problem: &Problem,
-    pins: &Pins,
-    plan: &Plan,
-    walk: Walk,
-) -> Result<Option<Found>, OutOfMemory>
-    requires { passes problem.now pins.now.routes plan.now.routes ≡ true }
+fn steps_of(alloc: Global, case: &Case, walk: Walk) -> Result<Option<Found>, OutOfMemory>
+    requires { passes case.now.problem case.now.pins.routes case.now.plan.routes ≡ true }
 {
+    let Case {
+        problem,
+        pins,
+        plan,
+    } = case;
     let (step, count) = match walk {
         Walk::Search(_, steps) => steps,
         Walk::Anneal(_, _, steps) => steps,
@@ -59,17 +58,11 @@ fn steps_of(
 }
 
 /// What steps find from one plan as incumbent and working plan; nothing where it doesn't pass.
-pub(crate) fn found(
-    alloc: Global,
-    problem: &Problem,
-    pins: &Pins,
-    plan: &Plan,
-    walk: Walk,
-) -> Result<Vec<u32>, Fail> {
-    if !is_passing(alloc, problem, pins, plan)? {
+pub(crate) fn found(alloc: Global, case: &Case, walk: Walk) -> Result<Vec<u32>, Fail> {
+    if !case.is_passing(alloc)? {
         return Ok(Vec::new(alloc));
     }
-    match steps_of(alloc, problem, pins, plan, walk)? {
+    match steps_of(alloc, case, walk)? {
         Some(found) => both(alloc, &found),
         None => Ok(Vec::new(alloc)),
     }
@@ -83,8 +76,7 @@ pub(crate) fn found_from(
     plan: &[u32],
     walk: Walk,
 ) -> Result<Vec<u32>, Fail> {
-    let case = case_of(alloc, given, pins, plan)?;
-    found(alloc, &case.problem, &case.pins, &case.plan, walk)
+    found(alloc, &case_of(alloc, given, pins, plan)?, walk)
 }
 
 /// Whether the example's steps find its routes.

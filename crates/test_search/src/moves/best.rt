@@ -5,9 +5,9 @@ ghost use Rattle.route_sched.specs.Cost.{is_planned};
 ghost use Rattle.plan_audit.specs.Passes.{passes};
 ghost use Rattle.move_ops.specs.Insertion.{request_named};
 
-use crate::builders::{FOUR, FOUR_BY_ONE, Given, case_of, case_of_one_route, is_passing};
-use move_ops::{Draft, Tables, best_insertion, plans_pass_without_pins};
-use plan_types::{Kind, Pins, Plan, Problem};
+use crate::builders::{Case, FOUR, FOUR_BY_ONE, Given, case_of, case_of_one_route};
+use move_ops::{Draft, Tables, best_insertion, plans_pass_without_pins, request_named};
+use plan_types::Kind;
 use std::alloc::Global;
 use std::test::Fail;
 
@@ -17,55 +17,37 @@ type Insertion = (u64, u64, u64);
 const NOT_ASKED: Insertion = (0, 0, 0);
 
 // What `best_insertion` answers, and what the plan's tables do, if that is the same.
-fn best(
-    alloc: Global,
-    problem: &Problem,
-    pins: &Pins,
-    plan: &Plan,
-    name: u32,
-) -> Result<Option<Insertion>, Fail> {
-    if !is_passing(alloc, problem, pins, plan)? {
+fn best(alloc: Global, case: &Case, name: u32) -> Result<Option<Insertion>, Fail> {
+    if !case.is_passing(alloc)? {
         return Ok(Some(NOT_ASKED));
     }
-    let answer = best_insertion(alloc, problem, pins, plan, name)?;
-    if answer == best_by_tables(alloc, problem, pins, plan, name)? {
+    let answer = best_insertion(alloc, &case.problem, &case.pins, &case.plan, name)?;
+    if answer == best_by_tables(alloc, case, name)? {
         return Ok(answer);
     }
     Ok(Some(NOT_ASKED))
 }
 
-fn best_by_tables(
-    alloc: Global,
-    problem: &Problem,
-    pins: &Pins,
-    plan: &Plan,
-    name: u32,
-) -> Result<Option<Insertion>, Fail>
-    requires { passes problem.now pins.now.routes plan.now.routes ≡ true }
+fn best_by_tables(alloc: Global, case: &Case, name: u32) -> Result<Option<Insertion>, Fail>
+    requires { passes case.now.problem case.now.pins.routes case.now.plan.routes ≡ true }
 {
     plans_pass_without_pins();
-    if is_free(alloc, problem, pins, plan, name)? {
-        let tables = Tables::build(alloc, problem, plan)?;
-        return Ok(tables.best(problem, pins, name));
+    if is_free(alloc, case, name)? {
+        let tables = Tables::build(alloc, &case.problem, &case.plan)?;
+        return Ok(tables.best(&case.problem, &case.pins, name));
     }
     Ok(None)
 }
 
 // Whether the name is of a live and unplanned request.
-fn is_free(
-    alloc: Global,
-    problem: &Problem,
-    pins: &Pins,
-    plan: &Plan,
-    name: u32,
-) -> Result<bool, Fail>
-    requires { passes problem.now pins.now.routes plan.now.routes ≡ true }
-    ensures { IfOk result (λ b. IsTrue b → IsSomeAnd (request_named problem.now name)
-        (λ r. is_planned plan.now.routes r ≡ false)) }
+fn is_free(alloc: Global, case: &Case, name: u32) -> Result<bool, Fail>
+    requires { passes case.now.problem case.now.pins.routes case.now.plan.routes ≡ true }
+    ensures { IfOk result (λ b. IsTrue b → IsSomeAnd (request_named case.now.problem name)
+        (λ r. is_planned case.now.plan.routes r ≡ false)) }
 {
-    let draft = Draft::build(alloc, problem, pins, plan)?;
-    match problem.requests.get(&name) {
-        Some(request) => Ok(!draft.is_planned(request)),
+    let draft = Draft::build(alloc, &case.problem, &case.pins, &case.plan)?;
+    match request_named(&case.problem, name) {
+        Some(request) => Ok(!draft.is_planned(&request)),
         None => Ok(false),
     }
 }
@@ -78,6 +60,10 @@ type Example = (
     u32,
     Option<Insertion>,
 );
+
+const COUNTED: Given = Given::Opposite(Kind::LiLim);
+
+const UNCOUNTED: Given = Given::Opposite(Kind::Vrp);
 
 const EXAMPLES: [Example; 11] = [
     (FOUR, &[], &[1, 0, 2, 0, 4, 0, 0], 3, Some((2, 1, 1))),
@@ -98,41 +84,16 @@ const EXAMPLES: [Example; 11] = [
     // Right behind a pin.
     (Given::Pairs, &[1, 2, 0], &[1, 2, 0], 3, Some((1, 3, 4))),
     // A vehicle is opened only where none is counted.
-    (
-        Given::Opposite(Kind::LiLim),
-        &[],
-        &[0, 1, 0, 0],
-        2,
-        Some((2, 1, 1)),
-    ),
-    (
-        Given::Opposite(Kind::Vrp),
-        &[],
-        &[0, 1, 0, 0],
-        2,
-        Some((1, 1, 1)),
-    ),
-    (
-        Given::Opposite(Kind::LiLim),
-        &[],
-        &[1, 0, 0, 0],
-        2,
-        Some((1, 1, 1)),
-    ),
-    (
-        Given::Opposite(Kind::Vrp),
-        &[],
-        &[1, 0, 0, 0],
-        2,
-        Some((2, 1, 1)),
-    ),
+    (COUNTED, &[], &[0, 1, 0, 0], 2, Some((2, 1, 1))),
+    (UNCOUNTED, &[], &[0, 1, 0, 0], 2, Some((1, 1, 1))),
+    (COUNTED, &[], &[1, 0, 0, 0], 2, Some((1, 1, 1))),
+    (UNCOUNTED, &[], &[1, 0, 0, 0], 2, Some((2, 1, 1))),
 ];
 
 // Whether the example's place is the best.
 fn is_best(alloc: Global, example: &Example) -> Result<bool, Fail> {
     let (given, pins, plan, name, place) = *example;
-    let case = case_of(alloc, given, pins, plan)?;
-    Ok(best(alloc, &case.problem, &case.pins, &case.plan, name)? == place)
+    Ok(best(alloc, &case_of(alloc, given, pins, plan)?, name)? == place)
 }
 
 #[test]
@@ -150,8 +111,7 @@ fn best_in_one_route(
     stops: u32,
     name: u32,
 ) -> Result<Option<Insertion>, Fail> {
-    let case = case_of_one_route(alloc, given, stops)?;
-    best(alloc, &case.problem, &case.pins, &case.plan, name)
+    best(alloc, &case_of_one_route(alloc, given, stops)?, name)
 }
 
 #[test]

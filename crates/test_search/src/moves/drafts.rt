@@ -1,11 +1,10 @@
 //! A plan that is changed in its place.
-ghost use Rattle.std.specs.Prelude.{◌≡◌, true, OnOk};
-ghost use Rattle.plan_audit.specs.Passes.{passes};
+ghost use Rattle.std.specs.Prelude.{OnOk};
 ghost use Rattle.move_ops.specs.Drafts.{IsDraftOf};
 
-use crate::builders::{FOUR, Given, case_of, is_passing, stops_of};
+use crate::builders::{Case, FOUR, Given, case_of, stops_of};
 use move_ops::Draft;
-use plan_types::{OutOfMemory, Pins, Plan, Problem};
+use plan_types::{OutOfMemory, Pins, Problem};
 use std::alloc::Global;
 use std::test::Fail;
 
@@ -33,7 +32,22 @@ fn make(draft: &mut Draft, problem: &Problem, pins: &Pins, edit: Edit) -> Result
     }
 }
 
-// The draft's routes after the edit, whether it was made, and how far all drive then.
+// How far all would drive after the edit, where that is foreseen, else 0.
+fn foreseen(draft: &Draft, problem: &Problem, pins: &Pins, edit: Edit) -> u32
+    requires { IsDraftOf problem.now pins.now.routes draft.now }
+{
+    let cost = match edit {
+        Edit::Relocate(_) => None,
+        Edit::Exchange(a, b) => draft.cost_exchanged(problem, pins, a, b),
+        Edit::Cross(a, a_cut, b, b_cut) => { draft.cost_crossed(problem, pins, a, a_cut, b, b_cut) }
+    };
+    match cost {
+        Some(cost) => cost.distance.min(1_000) as u32,
+        None => 0,
+    }
+}
+
+// The draft's routes after the edit, whether it was made, how far all drive then, and how far it was foreseen that they would.
 fn edited(
     alloc: Global,
     draft: &mut Draft,
@@ -43,10 +57,11 @@ fn edited(
 ) -> Result<Vec<u32>, Fail>
     requires { IsDraftOf problem.now pins.now.routes draft.old }
 {
+    let foreseen = foreseen(draft, problem, pins, made);
     let is_made = make(draft, problem, pins, made)?;
     let distance = draft.cost(problem, pins).distance.min(1_000) as u32;
     let mut stops = stops_of_draft(alloc, draft)?;
-    stops.extend_from_slice(&[u32::from(is_made), distance])?;
+    stops.extend_from_slice(&[u32::from(is_made), distance, foreseen])?;
     Ok(stops)
 }
 
@@ -57,48 +72,80 @@ fn stops_of_draft(alloc: Global, draft: &Draft) -> Result<Vec<u32>, Fail> {
 /// A problem, a plan, an edit, whether it is taken then, and what is told.
 type Example = (Given, &'static [u32], Edit, bool, &'static [u32]);
 
-const EXAMPLES: [Example; 8] = [
+const EXAMPLES: [Example; 12] = [
     (
         FOUR,
         &[1, 0, 2, 3, 0, 4, 0, 0],
         Edit::Relocate(3),
         false,
-        &[1, 0, 3, 2, 0, 4, 0, 0, 1, 54, 1, 0, 2, 3, 0, 4, 0, 0],
+        &[1, 0, 3, 2, 0, 4, 0, 0, 1, 54, 0, 1, 0, 2, 3, 0, 4, 0, 0],
     ),
     (
         FOUR,
         &[1, 0, 2, 3, 0, 4, 0, 0],
         Edit::Exchange(1, 4),
         false,
-        &[4, 0, 2, 3, 0, 1, 0, 0, 1, 54, 1, 0, 2, 3, 0, 4, 0, 0],
+        &[4, 0, 2, 3, 0, 1, 0, 0, 1, 54, 54, 1, 0, 2, 3, 0, 4, 0, 0],
     ),
     (
         FOUR,
         &[1, 0, 2, 3, 0, 4, 0, 0],
         Edit::Exchange(1, 1),
         false,
-        &[1, 0, 2, 3, 0, 4, 0, 0, 0, 54, 1, 0, 2, 3, 0, 4, 0, 0],
+        &[1, 0, 2, 3, 0, 4, 0, 0, 0, 54, 0, 1, 0, 2, 3, 0, 4, 0, 0],
     ),
     (
         FOUR,
         &[1, 0, 2, 3, 0, 4, 0, 0],
         Edit::Cross(2, 0, 3, 1),
         false,
-        &[1, 0, 0, 4, 2, 3, 0, 0, 1, 44, 1, 0, 2, 3, 0, 4, 0, 0],
+        &[1, 0, 0, 4, 2, 3, 0, 0, 1, 44, 44, 1, 0, 2, 3, 0, 4, 0, 0],
     ),
     (
         FOUR,
         &[1, 0, 2, 3, 0, 4, 0, 0],
         Edit::Cross(2, 0, 3, 1),
         true,
-        &[1, 0, 0, 4, 2, 3, 0, 0, 1, 44, 1, 0, 0, 4, 2, 3, 0, 0],
+        &[1, 0, 0, 4, 2, 3, 0, 0, 1, 44, 44, 1, 0, 0, 4, 2, 3, 0, 0],
+    ),
+    // 3 and 1 in one another's routes: 6 + 6, and 10 + 6 + 10.
+    (
+        FOUR,
+        &[1, 0, 2, 3, 0, 4, 0, 0],
+        Edit::Exchange(1, 3),
+        false,
+        &[3, 0, 2, 1, 0, 4, 0, 0, 1, 48, 48, 1, 0, 2, 3, 0, 4, 0, 0],
+    ),
+    // Within one route nothing is foreseen.
+    (
+        FOUR,
+        &[1, 0, 2, 3, 0, 4, 0, 0],
+        Edit::Exchange(3, 2),
+        false,
+        &[1, 0, 3, 2, 0, 4, 0, 0, 1, 54, 0, 1, 0, 2, 3, 0, 4, 0, 0],
+    ),
+    // A vehicle more, for 3: 10 + 10, and 6 + 6.
+    (
+        FOUR,
+        &[1, 0, 2, 3, 0, 4, 0, 0],
+        Edit::Cross(2, 1, 4, 0),
+        false,
+        &[1, 0, 2, 0, 4, 0, 3, 0, 1, 62, 62, 1, 0, 2, 3, 0, 4, 0, 0],
+    ),
+    // A cut behind the end.
+    (
+        FOUR,
+        &[1, 0, 2, 3, 0, 4, 0, 0],
+        Edit::Cross(2, 3, 1, 0),
+        false,
+        &[1, 0, 2, 3, 0, 4, 0, 0, 0, 54, 0, 1, 0, 2, 3, 0, 4, 0, 0],
     ),
     (
         Given::Pairs,
         &[1, 3, 4, 2, 0],
         Edit::Relocate(3),
         false,
-        &[1, 3, 4, 2, 0, 1, 4, 1, 3, 4, 2, 0],
+        &[1, 3, 4, 2, 0, 1, 4, 0, 1, 3, 4, 2, 0],
     ),
     // The direct way to stop 3 is too long.
     (
@@ -106,14 +153,14 @@ const EXAMPLES: [Example; 8] = [
         &[1, 3, 4, 2, 0],
         Edit::Relocate(1),
         false,
-        &[1, 3, 4, 2, 0, 0, 4, 1, 3, 4, 2, 0],
+        &[1, 3, 4, 2, 0, 0, 4, 0, 1, 3, 4, 2, 0],
     ),
     (
         Given::Pairs,
         &[1, 3, 4, 2, 0],
         Edit::Exchange(1, 3),
         false,
-        &[1, 3, 4, 2, 0, 0, 4, 1, 3, 4, 2, 0],
+        &[1, 3, 4, 2, 0, 0, 4, 0, 1, 3, 4, 2, 0],
     ),
 ];
 
@@ -138,25 +185,22 @@ fn left(
 }
 
 // The same of a draft of the plan.
-fn told(
-    alloc: Global,
-    problem: &Problem,
-    pins: &Pins,
-    plan: &Plan,
-    made: Edit,
-    is_taken: bool,
-) -> Result<Vec<u32>, Fail> {
-    if !is_passing(alloc, problem, pins, plan)? {
+fn told(alloc: Global, case: &Case, made: Edit, is_taken: bool) -> Result<Vec<u32>, Fail> {
+    if !case.is_passing(alloc)? {
         return Ok(Vec::new(alloc));
     }
+    let Case {
+        problem,
+        pins,
+        plan,
+    } = case;
     let mut draft = Draft::build(alloc, problem, pins, plan)?;
     left(alloc, &mut draft, problem, pins, made, is_taken)
 }
 
 fn told_of(alloc: Global, example: &Example) -> Result<Vec<u32>, Fail> {
     let (given, plan, made, is_taken, _) = *example;
-    let case = case_of(alloc, given, &[], plan)?;
-    told(alloc, &case.problem, &case.pins, &case.plan, made, is_taken)
+    told(alloc, &case_of(alloc, given, &[], plan)?, made, is_taken)
 }
 
 // Whether the example's edit is told.
