@@ -1,28 +1,14 @@
 -- A text spells one problem at most, and none where it has a fault; it has one first fault.
-use Rattle.std.proofs.Common.{◌≡◌, ◌∙◌, inl, inr, ℕ, List, ◌∷◌, Result, Ok, Err, sym, ap, refl, arith, IfOk, IfErr, ◌==◌, if◌then◌else◌}
+use Rattle.std.proofs.Common.{◌≡◌, ◌∙◌, inl, inr, ℕ, List, Result, Ok, Err, sym, ap, refl, arith, IfOk, IfErr, ◌==◌, if◌then◌else◌}
 use Rattle.plan_types.specs.Instance.{Instance}
 use Rattle.plan_types.specs.declared.requests.Kind.{Kind}
-use Rattle.plan_types.specs.declared.requests.Kind.TheVariants.{LiLim, Vrp}
-use Rattle.instance_read.specs.Faults.{Class, IsFirstFault, IsNoLater, IsNoLaterPlace, HasNone, TellsFirstFault, rank}
+use Rattle.instance_read.specs.Faults.{Class, IsFirstFault, IsNoLater, IsNoLaterPlace, TellsFirstFault, rank}
 use Rattle.instance_read.specs.Faults.Class.{OfLine, OfText}
-use Rattle.instance_read.specs.Lilim.{problem_of}
 use Rattle.instance_read.specs.declared.faults.ReadFault.{ReadFault}
 use Rattle.instance_read.specs.declared.faults.ReadFaultKind.{ReadFaultKind}
 use Rattle.instance_read.specs.declared.faults.ReadFaultKind.TheVariants.{BadNumber, Range, FieldCount, TaskOrder, PairMismatch, EmptyWindow, TooManyStops, MissingKey, Unsupported, DepotNotFirst, NodeRepeated, Truncated, OutOfMemory}
 use Rattle.instance_read.specs.Readings.{InstanceFault, IsFound, IsUnlessMemory, SpellsInstance}
-
-problem_once : (kind : Kind) (text : List ℕ) (p q : Instance) → SpellsInstance kind text p → SpellsInstance kind text q → p ≡ q
-problem_once Vrp text p q a b = a.1 ∙ sym b.1
-problem_once LiLim text p q a b =
-    let rows : a.1 ∷ a.2 ∷ a.3 ≡ b.1 ∷ b.2 ∷ b.3 = sym a.4 ∙ b.4 in
-    let header : a.1 ≡ b.1 = cc in
-    let depot : a.2 ≡ b.2 = cc in
-    let customers : a.3 ≡ b.3 = cc in
-    a.5 ∙ (ap (λ h. problem_of h a.2 a.3) header ∙ (ap (λ d. problem_of b.1 d a.3) depot ∙ ap (λ c. problem_of b.1 b.2 c) customers)) ∙ sym b.5
-
-no_fault : (kind : Kind) (text : List ℕ) (p : Instance) → SpellsInstance kind text p → HasNone (InstanceFault kind text)
-no_fault LiLim text p spelled = spelled.0
-no_fault Vrp text p spelled = spelled.0
+use Rattle.instance_read.proofs.SpelledLemmas.{no_fault, problem_once}
 
 -- the kind with this rank
 kind_at : ℕ → ReadFaultKind

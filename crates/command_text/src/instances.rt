@@ -1,9 +1,7 @@
 //! The text of an instance, which follows a `load` line.
-ghost use Rattle.std.specs.Prelude.{◌≡◌, IfErr, IfOk};
-ghost use Rattle.instance_read.specs.Faults.{TellsFirstFault};
-ghost use Rattle.instance_read.specs.Readings.{InstanceFault, IsReading, IsUnlessMemory, Reading, SpellsInstance};
+ghost use Rattle.instance_read.specs.Readings.{IsReading, IsUnlessMemory, Reading};
 
-use instance_read::{ReadFault, read_lilim, read_vrp};
+use instance_read::ReadFault;
 use plan_types::{Kind, Problem};
 use std::alloc::Global;
 
@@ -12,15 +10,5 @@ pub fn read_instance(alloc: Global, kind: Kind, text: &[u8]) -> Result<Problem, 
     ensures { (reading : Reading) → IsReading reading
         → IsUnlessMemory result (reading kind text.now) }
 {
-    read(alloc, kind, text)
-}
-
-fn read(alloc: Global, kind: Kind, text: &[u8]) -> Result<Problem, ReadFault>
-    ensures value { IfOk result (SpellsInstance kind text.now) }
-    ensures fault { IfErr result (TellsFirstFault (InstanceFault kind text.now)) }
-{
-    match kind {
-        Kind::LiLim => read_lilim(alloc, text),
-        Kind::Vrp => read_vrp(alloc, text),
-    }
+    instance_read::read_instance(alloc, kind, text)
 }

@@ -1,6 +1,5 @@
 //! From an instance's text to a plan's.
 ghost use Rattle.std.specs.Prelude.{◌≡◌, ◌<◌, ◌^◌, IfErr, IfOk, MatchResult};
-ghost use Rattle.instance_read.specs.Faults.{TellsFirstFault};
 ghost use Rattle.command_text.specs.Readings.{InstanceFault, SpellsInstance};
 ghost use Rattle.plan_solve.specs.Solved.{Fails, IsSolved, begun, by_annealing, deviation_of, lines_from, solved_from};
 ghost use Rattle.plan_solve.specs.Staged.{first_stand};
@@ -13,7 +12,7 @@ use crate::searching::search_telling;
 use crate::staging::{Walk, first_told, stages_telling};
 use crate::trying::try_telling;
 use command_core::{Command, Job, MAX_DEVIATION, Planner, State};
-use instance_read::{ReadFault, ReadFaultKind, read_lilim, read_vrp};
+use instance_read::{ReadFault, ReadFaultKind, read_instance};
 use plan_types::{Kind, OutOfMemory, Problem};
 use std::alloc::Global;
 use std::io::Write;
@@ -66,7 +65,7 @@ fn begin(alloc: Global, kind: Kind, instance: &[u8], seed: u64) -> Result<Job, S
     ensures job { IfOk result (IsBegun kind instance.now seed) }
     ensures fault { IfErr result (IsOfText kind instance.now) }
 {
-    let problem = match read(alloc, kind, instance) {
+    let problem = match read_instance(alloc, kind, instance) {
         Ok(problem) => problem,
         Err(fault) => return Err(refused(fault)),
     };
@@ -81,16 +80,6 @@ fn build(alloc: Global, problem: Problem, seed: u64) -> Result<Job, OutOfMemory>
     carry_out(alloc, &mut planner, &Command::Load(problem, seed))?;
     carry_out(alloc, &mut planner, &Command::Build)?;
     into_job(planner)
-}
-
-fn read(alloc: Global, kind: Kind, text: &[u8]) -> Result<Problem, ReadFault>
-    ensures value { IfOk result (SpellsInstance kind text.now) }
-    ensures fault { IfErr result (TellsFirstFault (InstanceFault kind text.now)) }
-{
-    match kind {
-        Kind::LiLim => read_lilim(alloc, text),
-        Kind::Vrp => read_vrp(alloc, text),
-    }
 }
 
 fn refused(fault: ReadFault) -> SolveFault
