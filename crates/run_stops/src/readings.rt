@@ -1,9 +1,9 @@
 //! Stopped stores that are read twice, by `load_latest` and by a plain program that goes through the image as the format's table
 //! has it. The two have to agree on each image, and each row counts what the images hold.
 
-ghost use Rattle.std.specs.Prelude.{◌≡◌, ◌+◌, ◌<◌, ◌≤◌, ◌^◌, IfOk, OnOk};
-ghost use Rattle.state_codec.specs.declared.version.Version.TheVariants.{Two};
-ghost use Rattle.state_codec.specs.Limits.{IsRecorded};
+ghost use Rattle.std.specs.Prelude.{◌≡◌, ◌≤◌, IfOk, OnOk};
+ghost use Rattle.checkpoint.specs.Changes.{HasRecordRoom, IsUnspent};
+ghost use Rattle.checkpoint.specs.Places.{first_place, behind_record, behind_snapshot};
 
 use crate::examples::{Example, applied, commands_of, failed};
 use crate::images::held;
@@ -200,7 +200,7 @@ fn small_run<D: Sectors>(alloc: Global, device: &mut D) -> Result<Place, StoreFa
 
 // The place of a new store.
 fn formatted<D: Sectors>(alloc: Global, device: &mut D) -> Result<Place, StoreFault>
-    ensures place { IfOk result (λ place. place ≡ record { sequence = 1; used = 0 }) }
+    ensures place { IfOk result (λ place. place ≡ first_place) }
     ensures room { OnOk result (8450 ≤ D.len device.new) }
 {
     let Ok(place) = format(alloc, device) else {
@@ -215,13 +215,8 @@ fn recorded<D: Sectors>(
     place: Place,
     command: &Command,
 ) -> Result<Place, StoreFault>
-    requires room { 8450 ≤ D.len device.old }
-    requires free { place.used < 256 }
-    requires first { 1 ≤ place.sequence }
-    requires last { place.sequence ≤ 2 ^ 60 }
-    requires recorded { IsRecorded Two command.now }
-    ensures place { IfOk result (λ next. next
-        ≡ record { sequence = place.sequence; used = place.used + 1 }) }
+    requires { HasRecordRoom (D.len device.old) place command.now }
+    ensures place { IfOk result (λ next. next ≡ behind_record place) }
     ensures room { OnOk result (8450 ≤ D.len device.new) }
 {
     commit_record(device, place, command)
@@ -229,10 +224,8 @@ fn recorded<D: Sectors>(
 
 // The place behind a snapshot of the empty state.
 fn saved<D: Sectors>(alloc: Global, device: &mut D, place: Place) -> Result<Place, StoreFault>
-    requires room { 8450 ≤ D.len device.old }
-    requires first { 1 ≤ place.sequence }
-    requires last { place.sequence < 2 ^ 60 }
-    ensures place { IfOk result (λ next. next ≡ record { sequence = place.sequence + 1; used = 0 }) }
+    requires { IsUnspent (D.len device.old) place }
+    ensures place { IfOk result (λ next. next ≡ behind_snapshot place) }
     ensures room { OnOk result (8450 ≤ D.len device.new) }
 {
     commit_snapshot(alloc, device, place, &State::Empty)

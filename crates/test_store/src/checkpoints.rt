@@ -5,11 +5,12 @@ use crate::builders::{
 };
 use checkpoint::{
     FormatFault, Loaded, Place, StoreFault, commit_record, commit_snapshot, format, format_with,
-    load_latest, load_latest_v1,
+    load, load_latest, load_latest_v1,
 };
 use command_core::{Command, State};
 use sector_disk::{DeviceFault, MemDevice, Sectors};
 use state_codec::CodecFault;
+use state_codec::version::Version;
 use std::alloc::Global;
 use std::process::Abort;
 use std::test::Fail;
@@ -168,6 +169,49 @@ fn records_are_loaded(rt: HostRuntime) -> Result<(), Fail> {
     assert!(rt; loaded.place == place);
     let commands = loaded.commands.as_slice();
     assert!(rt; matches!(commands, [Command::Search(256), Command::Pin(1, 2)]));
+    Ok(())
+}
+
+// Where the store of a device stands that is read by this version, or why it holds none.
+fn place_in(alloc: Global, mut device: MemDevice, version: Version) -> Result<Place, StoreFault> {
+    let loaded = load(alloc, &mut device, version)?;
+    Ok(loaded.place)
+}
+
+#[test]
+fn zeros_are_no_store_of_either_version(rt: HostRuntime) -> Result<(), Fail> {
+    for version in [Version::One, Version::Two] {
+        let device = MemDevice::new(rt.alloc(), SECTORS)?;
+        assert!(rt; place_in(rt.alloc(), device, version).err() == NO_STORE);
+    }
+    Ok(())
+}
+
+#[test]
+fn a_new_store_is_loaded_by_its_own_version(rt: HostRuntime) -> Result<(), Fail> {
+    let place = place_in(rt.alloc(), empty_store(rt.alloc())?, Version::Two).ok();
+    assert!(rt; place == Some(FIRST));
+    let fault = place_in(rt.alloc(), empty_store(rt.alloc())?, Version::One).err();
+    assert!(rt; fault == Some(StoreFault::BadVersion));
+    Ok(())
+}
+
+// A store that stopped in its second record's write: sector 3 is as it was with 0, and as it was to be with 1.
+fn torn(rt: &(impl Abort + AllocGlobal), kept: u32) -> Result<MemDevice, Fail> {
+    let mut device = empty_store(rt.alloc())?;
+    let place = commit_search(rt, &mut device, FIRST)?;
+    device.fuse(0);
+    assert!(rt; commit_pin(rt, &mut device, place).is_err());
+    device.crash(&[0, 0, 0, kept]);
+    Ok(device)
+}
+
+#[test]
+fn a_torn_record_is_loaded_where_its_sector_was_written(rt: HostRuntime) -> Result<(), Fail> {
+    for kept in [0, 1] {
+        let place = place_in(rt.alloc(), torn(&rt, kept)?, Version::Two).ok();
+        assert!(rt; place.map(|place| (place.sequence, place.used)) == Some((1, 1 + kept)));
+    }
     Ok(())
 }
 
