@@ -42,8 +42,16 @@ impl Word {
             Word::Start => in_form(form, ", start ", "\t"),
             Word::Return => in_form(form, ", return ", "\t"),
             Word::Waiting => in_form(form, ", waiting ", "\t"),
-            Word::TimesHeading => in_form(form, " place  stop  kind      partner  arrival    start  waiting   latest     load\n", ""),
-            Word::LoadsHeading => in_form(form, " place  stop  kind      partner  arrival     load\n", ""),
+            Word::TimesHeading => in_form(
+                form,
+                " place  stop  kind      partner  arrival    start  waiting   latest     load\n",
+                "",
+            ),
+            Word::LoadsHeading => in_form(
+                form,
+                " place  stop  kind      partner  arrival     load\n",
+                "",
+            ),
             Word::Stop => in_form(form, "", "stop\t"),
             Word::Pickup => in_form(form, "  pickup  ", "\tpickup"),
             Word::Delivery => in_form(form, "  delivery", "\tdelivery"),
