@@ -1,8 +1,8 @@
 //! Stopped stores that are read twice, by `load_latest` and by a plain program that goes through the image as the format's table
 //! has it. The two have to agree on each image, and each row counts what the images hold.
 
-ghost use Rattle.std.specs.Prelude.{◌≡◌, ◌≤◌, IfOk, OnOk};
-ghost use Rattle.checkpoint.specs.Changes.{HasRecordRoom, IsUnspent};
+ghost use Rattle.std.specs.Prelude.{◌≡◌, ◌<◌, ◌≤◌, ◌^◌, IfOk, OnOk};
+ghost use Rattle.checkpoint.specs.Changes.{HasRecordRoom};
 ghost use Rattle.checkpoint.specs.Places.{first_place, behind_record, behind_snapshot};
 
 use crate::examples::{Example, applied, commands_of, failed};
@@ -108,10 +108,10 @@ fn stopped_format(alloc: Global, state: &State, calls: u64, choice: u32) -> io::
 // A store of this state, and a record.
 fn recorded_store(alloc: Global, state: &State) -> io::Result<MemDevice> {
     let mut device = MemDevice::new(alloc, SECTORS)?;
-    let Ok(place) = format_with(alloc, &mut device, state) else {
+    let Ok(place) = formatted(alloc, &mut device, state) else {
         return Err(failed());
     };
-    if commit_record(&mut device, place, &Command::Build).is_err() {
+    if recorded(&mut device, place, &Command::Build).is_err() {
         return Err(failed());
     }
     Ok(device)
@@ -120,11 +120,11 @@ fn recorded_store(alloc: Global, state: &State) -> io::Result<MemDevice> {
 // A snapshot over a store of the same state, stopped when so many calls have finished. Every second sector is kept.
 fn stopped_snapshot(alloc: Global, state: &State, calls: u64) -> io::Result<Held> {
     let mut device = MemDevice::new(alloc, SECTORS)?;
-    let Ok(place) = format_with(alloc, &mut device, state) else {
+    let Ok(place) = formatted(alloc, &mut device, state) else {
         return Err(failed());
     };
     device.fuse(calls);
-    if commit_snapshot(alloc, &mut device, place, state).is_ok() {
+    if saved(alloc, &mut device, place, state).is_ok() {
         return Err(failed());
     }
     device.crash(&every_second(alloc)?);
@@ -191,19 +191,19 @@ fn held_of(loaded: &Result<Loaded, StoreFault>) -> io::Result<Held> {
 
 // A format, two records, a snapshot of the empty state and one more record: 16 device calls.
 fn small_run<D: Sectors>(alloc: Global, device: &mut D) -> Result<Place, StoreFault> {
-    let place = formatted(alloc, device)?;
+    let place = formatted(alloc, device, &State::Empty)?;
     let place = recorded(device, place, &Command::Search(3))?;
     let place = recorded(device, place, &Command::Pin(1, 2))?;
-    let place = saved(alloc, device, place)?;
+    let place = saved(alloc, device, place, &State::Empty)?;
     recorded(device, place, &Command::Build)
 }
 
-// The place of a new store.
-fn formatted<D: Sectors>(alloc: Global, device: &mut D) -> Result<Place, StoreFault>
+// The place of a new store of this state.
+fn formatted<D: Sectors>(alloc: Global, device: &mut D, state: &State) -> Result<Place, StoreFault>
     ensures place { IfOk result (λ place. place ≡ first_place) }
     ensures room { OnOk result (8450 ≤ D.len device.new) }
 {
-    let Ok(place) = format(alloc, device) else {
+    let Ok(place) = format_with(alloc, device, state) else {
         return Err(StoreFault::DeviceFault);
     };
     Ok(place)
@@ -222,11 +222,18 @@ fn recorded<D: Sectors>(
     commit_record(device, place, command)
 }
 
-// The place behind a snapshot of the empty state.
-fn saved<D: Sectors>(alloc: Global, device: &mut D, place: Place) -> Result<Place, StoreFault>
-    requires { IsUnspent (D.len device.old) place }
+// The place behind a snapshot of this state.
+fn saved<D: Sectors>(
+    alloc: Global,
+    device: &mut D,
+    place: Place,
+    state: &State,
+) -> Result<Place, StoreFault>
+    requires room { 8450 ≤ D.len device.old }
+    requires first { 1 ≤ place.sequence }
+    requires last { place.sequence < 2 ^ 60 }
     ensures place { IfOk result (λ next. next ≡ behind_snapshot place) }
     ensures room { OnOk result (8450 ≤ D.len device.new) }
 {
-    commit_snapshot(alloc, device, place, &State::Empty)
+    commit_snapshot(alloc, device, place, state)
 }
