@@ -1,11 +1,13 @@
 -- What is told of a list of instances.
-use Rattle.std.proofs.Common.{◌≡◌, ℕ, List, [], ◌∷◌, Option, Some, None, refl, ap}
+use Rattle.std.proofs.Common.{◌≡◌, ℕ, List, [], ◌∷◌, Option, Some, None, Err, refl, ap, subst}
 use Rattle.std.specs.Io.KnownBytes.{Appends}
+use Rattle.std.specs.declared.io.ErrorKind.{ErrorKind}
 use Rattle.plan_types.specs.declared.requests.Kind.{Kind}
 use Rattle.command_text.specs.Answers.{line}
 use Rattle.auditor_cli.specs.Reads.{FileRead, FileWrite}
+use Rattle.auditor_cli.specs.Telling.{TellsUnwritten, unwritten_line}
 use Rattle.planner_cli.specs.Solving.{unplanned_line}
-use Rattle.planner_cli.specs.SolvedList.{FilesDone, IsAuditOf, IsToldPlan, TellsPlaced, with_read}
+use Rattle.planner_cli.specs.SolvedList.{FilesDone, IsAuditOf, IsToldPlan, IsUnwritten, TellsPlaced, with_read}
 use Rattle.auditor_cli.specs.declared.answer.AuditAnswer.{AuditAnswer}
 
 abbrev pub the_done : List FileRead → List FileWrite → FilesDone
@@ -22,3 +24,10 @@ placed_plan k x text [] (Some answer) before after status is told = (line answer
 placed_plan k x text [] None before after status is told = absurd is
 placed_plan k x text (name ∷ names) (Some answer) before after status is told = absurd is
 placed_plan k x text (name ∷ names) None before after status is told = (unplanned_line (name ∷ names), (refl, told.0), told.1)
+
+-- no file can be made under the path
+pub unwritten : (path : List ℕ) (error kind : ErrorKind) (made left : List FileWrite) (before after : Option (List ℕ)) (status : ℕ) → kind ≡ error → left ≡ (path, Err error) ∷ made → TellsUnwritten path kind before after status
+    → IsUnwritten path made left (unwritten_line path error) status × Appends before after (unwritten_line path error)
+unwritten path error kind made left before after status is noted told =
+    let so = subst (λ k. TellsUnwritten path k before after status) is told in
+    (record { error = error; noted = noted; line = refl; status_is = so.0 }, so.1)

@@ -5,10 +5,11 @@ ghost use Rattle.planner_cli.specs.Drawn.{DrawsDevice, DrawsState, DrawsStore, I
 ghost use Rattle.auditor_cli.specs.Files.{AreReadInTurn};
 
 use crate::opened::open_session;
-use crate::telling::{tell_cause, tell_file_fault, tell_store_fault};
-use auditor_cli::status::{DONE, OUT_OF_MEMORY, REFUSED};
+use crate::telling::{tell_cause, tell_refusal, tell_store_fault};
+use auditor_cli::status::{DONE, REFUSED};
 use auditor_cli::{
-    AuditAnswer, Examined, ReadFiles, answer_of, examine, read_both, tell_unread, write_line,
+    AuditAnswer, Examined, ReadFiles, answer_of, examine, read_both, tell_unread,
+    tell_want_of_memory, write_line,
 };
 use command_core::{Job, State};
 use command_line::Paths;
@@ -73,10 +74,7 @@ fn tell_drawn<W: Write, E: Write>(
 {
     match drawn {
         Ok(drawing) => tell_drawing(drawing, output, errors),
-        Err(_) => {
-            write_line(errors, b"out of memory")?;
-            Ok(OUT_OF_MEMORY)
-        }
+        Err(_) => tell_want_of_memory(errors),
     }
 }
 
@@ -191,10 +189,7 @@ where
             tell_cause(rt, store, device.cause());
             told
         }
-        Err(refusal) => {
-            tell_cause(rt, store, refusal.cause);
-            tell_file_fault(errors, store, refusal.fault)
-        }
+        Err(refusal) => tell_refusal(rt, errors, store, refusal),
     }
 }
 

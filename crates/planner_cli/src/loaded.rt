@@ -9,12 +9,13 @@ ghost use Rattle.planner_cli.specs.Loading.{BeginsDevice, BeginsFormatted, Begin
 ghost use Rattle.auditor_cli.specs.Reads.{IsRead};
 
 use crate::opened::open_session;
+use crate::stores::format_device;
 use crate::telling::{
-    tell_answer, tell_cause, tell_file_fault, tell_format, tell_instance_fault, tell_store_fault,
+    tell_answer, tell_cause, tell_format, tell_instance_fault, tell_refusal, tell_store_fault,
 };
 use auditor_cli::status::REFUSED;
 use auditor_cli::{ReadFiles, read_instance, tell_unread, write_line};
-use checkpoint::{SECTORS, StoreFault, format};
+use checkpoint::{SECTORS, StoreFault};
 use command_core::{Command, State};
 use command_line::Loading;
 use recover::Opened;
@@ -77,7 +78,8 @@ fn begin_store<R, T: Start, U: Start, W: Write, E: Write>(
 where
     R: Files<File = File> + Eprint + AllocGlobal,
     ensures status { IfOk result (λ status. status ≤ 4) }
-    ensures begins { IfOk result (BeginsStore ⟦<FileDevice<T> as Sectors>⟧ ⟦<FileDevice<U> as Sectors>⟧
+    ensures begins { IfOk result (BeginsStore
+        ⟦<FileDevice<T> as Sectors>⟧ ⟦<FileDevice<U> as Sectors>⟧
         (IsUnused ⟦<HostFile as FileCalls>⟧.entries) (IsUnused ⟦<HostFile as FileCalls>⟧.entries)
         store.now command (W.contents output.old) (W.contents output.new)) }
 {
@@ -91,8 +93,7 @@ where
             if is_absent(&refusal) {
                 return begin_new(rt, start_of_new, store, command, output, errors);
             }
-            tell_cause(rt, store, refusal.cause);
-            tell_file_fault(output, store, refusal.fault)
+            tell_refusal(rt, output, store, refusal)
         }
     }
 }
@@ -127,10 +128,7 @@ where
             tell_cause(rt, store, device.cause());
             told
         }
-        Err(refusal) => {
-            tell_cause(rt, store, refusal.cause);
-            tell_file_fault(output, store, refusal.fault)
-        }
+        Err(refusal) => tell_refusal(rt, output, store, refusal),
     }
 }
 
@@ -170,7 +168,7 @@ fn begin_formatted<D: Sectors + Drop, W: Write, E: Write>(
         (W.contents output.old) (W.contents output.new) result.1) }
 {
     let mut device = device;
-    match format(alloc, &mut device) {
+    match format_device(alloc, &mut device) {
         Ok(_) => begin_device(alloc, device, command, output, errors),
         Err(fault) => (tell_format(output, Some(fault)), device),
     }

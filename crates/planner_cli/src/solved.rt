@@ -1,15 +1,14 @@
 //! The solving of an instance in a file.
-ghost use Rattle.std.specs.Prelude.{◌≡◌, ◌≤◌, IfOk, OnOk, codes, string_bytes};
+ghost use Rattle.std.specs.Prelude.{◌≡◌, ◌≤◌, IfOk, OnOk, string_bytes};
 ghost use Rattle.std.specs.Io.KnownBytes.{Appends};
 ghost use Rattle.command_line.specs.Asked.{task_of};
-ghost use Rattle.command_text.specs.Answers.{line};
 ghost use Rattle.plan_why.specs.Why.{reason_text};
 ghost use Rattle.plan_why.specs.declared.leads.Lead.TheVariants.{Named};
 ghost use Rattle.planner_cli.specs.Solving.{IsToldFault, TellsPlan, TellsReasons, TellsSolved, TellsTask, unplanned_line};
 ghost use Rattle.auditor_cli.specs.Reads.{IsRead};
 
-use auditor_cli::status::{BROKEN, DONE, OUT_OF_MEMORY, REFUSED};
-use auditor_cli::{ReadFiles, tell_unread, write_line};
+use auditor_cli::status::{BROKEN, DONE, REFUSED};
+use auditor_cli::{ReadFiles, tell_unread, tell_want_of_memory};
 use command_core::Job;
 use command_line::Task;
 use plan_audit::{passes_are_local, plans_are_local};
@@ -106,19 +105,11 @@ fn tell_reasons<E: Write>(alloc: Global, job: &Job, names: &[u32], errors: &mut 
     for name in names {
         let told = match reason_of(alloc, job, *name) {
             Ok(text) => text,
-            Err(_) => return tell_want(errors),
+            Err(_) => return tell_want_of_memory(errors),
         };
         errors.write_all(told.as_bytes())?;
     }
     Ok(BROKEN)
-}
-
-fn tell_want<E: Write>(errors: &mut E) -> io::Result<u8>
-    ensures { IfOk result (λ status. (status ≡ 4)
-        × Appends (E.contents errors.old) (E.contents errors.new) (line (codes "out of memory"))) }
-{
-    write_line(errors, b"out of memory")?;
-    Ok(OUT_OF_MEMORY)
 }
 
 fn reason_of(alloc: Global, job: &Job, name: u32) -> Result<String, OutOfMemory>
@@ -157,9 +148,6 @@ pub(crate) fn tell_fault<E: Write>(fault: SolveFault, errors: &mut E) -> io::Res
             writeln!(errors, "instance {name} {line}")?;
             Ok(REFUSED)
         }
-        SolveFault::OutOfMemory => {
-            write_line(errors, b"out of memory")?;
-            Ok(OUT_OF_MEMORY)
-        }
+        SolveFault::OutOfMemory => tell_want_of_memory(errors),
     }
 }

@@ -2,24 +2,25 @@
 //!
 //! What the system said of a file that can't be opened or made, and of a device's call that failed, is told on standard
 //! error; no clause speaks of it.
-ghost use Rattle.std.specs.Prelude.{◌≡◌, ◌≢◌, ◌≤◌, Err, IfOk, OnOk, false, true};
+ghost use Rattle.std.specs.Prelude.{◌≡◌, ◌≢◌, ◌≤◌, ◌<◌, ◌↔◌, Err, IfOk, IsErrOf, OnOk, false, true};
 ghost use Rattle.std.specs.Io.KnownBytes.{Appends};
 ghost use Rattle.command_serving.specs.Held.{given_by, held};
 ghost use Rattle.command_serving.specs.Strict.{TellsLast};
 ghost use Rattle.command_serving.specs.declared.answering.ServeFault.TheVariants.{ReadFault};
 ghost use Rattle.sector_disk.specs.FileDevice.{IsUnused};
-ghost use Rattle.planner_cli.specs.Formatting.{FormatsStore};
+ghost use Rattle.checkpoint.specs.Layouts.{sectors_in, version_2};
+ghost use Rattle.planner_cli.specs.Formatting.{FormatsStore, IsFormatted};
 ghost use Rattle.planner_cli.specs.Statuses.{IsUpgradeStatus};
 ghost use Rattle.planner_cli.specs.Upgrading.{TellsSame, UpgradesOnto, UpgradesStore};
 ghost use Rattle.planner_cli.specs.Running.{IsEnded, RunsDevice, RunsSession, RunsStore, TellsEnded, TellsServed, opened_line, stop_unless};
 
 use crate::opened::open_session;
 use crate::telling::{
-    tell_cause, tell_file_fault, tell_format, tell_new_fault, tell_store_fault, tell_upgrade,
+    tell_cause, tell_format, tell_new_refusal, tell_refusal, tell_store_fault, tell_upgrade,
 };
 use auditor_cli::status::{BROKEN, DONE, FILE, USAGE};
 use auditor_cli::write_line;
-use checkpoint::{SECTORS, format};
+use checkpoint::{FormatFault, Place, SECTORS, format};
 use command_serving::{ServeFault, Stopped, Strict, Watched, serve_source};
 use recover::{Opened, Session, upgrade};
 use sector_disk::{FileCalls, FileDevice, HostFile, Sectors, Start};
@@ -46,15 +47,21 @@ where
 {
     match FileDevice::create_or_cause(rt, store, SECTORS, start) {
         Ok(mut device) => {
-            let made = format(rt.alloc(), &mut device);
+            let made = format_device(rt.alloc(), &mut device);
             tell_cause(rt, store, device.cause());
             tell_format(output, made.err())
         }
-        Err(refusal) => {
-            tell_cause(rt, store, refusal.cause);
-            tell_file_fault(output, store, refusal.fault)
-        }
+        Err(refusal) => tell_refusal(rt, output, store, refusal),
     }
+}
+
+/// Makes an empty store on the device.
+pub(crate) fn format_device<D: Sectors>(alloc: Global, device: &mut D) -> Result<Place, FormatFault>
+    ensures formatted { IsFormatted D.Sectors device.old device.new result }
+    ensures too_small { IsErrOf result FormatFault.TooSmall
+        ↔ D.len device.old < sectors_in version_2 }
+{
+    format(alloc, device)
 }
 
 /// Opens the store in the file, and serves the input over it, by `is_strict` up to the first answer that tells a refusal or a
@@ -73,7 +80,8 @@ where
     ensures status { IfOk result.0 (λ status. status ≤ 4) }
     ensures runs { IfOk result.0 (RunsStore ⟦<FileDevice<T> as Sectors>⟧
         (IsUnused ⟦<HostFile as FileCalls>⟧.entries) store.now is_strict
-        (given_by I.remaining input.old input.new) (held W.contents output) (held W.contents result.1)
+        (given_by I.remaining input.old input.new)
+        (held W.contents output) (held W.contents result.1)
         input.new.has_failed result.1.has_failed) }
 {
     match FileDevice::at_or_cause(rt, store, start) {
@@ -91,8 +99,7 @@ where
         }
         Err(refusal) => {
             let mut output = output;
-            tell_cause(rt, store, refusal.cause);
-            (tell_file_fault(&mut output, store, refusal.fault), output)
+            (tell_refusal(rt, &mut output, store, refusal), output)
         }
     }
 }
@@ -123,10 +130,7 @@ where
     }
     match FileDevice::at_or_cause(rt, old, start) {
         Ok(device) => upgrade_onto(rt, device, start_of_new, old, new, output),
-        Err(refusal) => {
-            tell_cause(rt, old, refusal.cause);
-            tell_file_fault(output, old, refusal.fault)
-        }
+        Err(refusal) => tell_refusal(rt, output, old, refusal),
     }
 }
 
@@ -171,10 +175,7 @@ where
             tell_cause(rt, new, made.cause());
             tell_upgrade(output, upgraded.err())
         }
-        Err(refusal) => {
-            tell_cause(rt, new, refusal.cause);
-            tell_new_fault(output, new, refusal.fault)
-        }
+        Err(refusal) => tell_new_refusal(rt, output, new, refusal),
     }
 }
 
@@ -189,7 +190,8 @@ fn run_device<D: Sectors + Drop, I: Read, W: Write, E: Write>(
 ) -> (io::Result<u8>, D, Watched<W>)
     ensures status { IfOk result.0 (λ status. status ≤ 4) }
     ensures runs { IfOk result.0 (RunsDevice D.Sectors device is_strict
-        (given_by I.remaining input.old input.new) (held W.contents output) (held W.contents result.2)
+        (given_by I.remaining input.old input.new)
+        (held W.contents output) (held W.contents result.2)
         input.new.has_failed result.2.has_failed) }
 {
     let opening = open_session(alloc, device, errors);
@@ -227,7 +229,8 @@ fn serve_opened<D: Sectors + Drop, I: Read, W: Write>(
 ) -> (io::Result<u8>, Watched<W>)
     ensures status { IfOk result.0 (λ status. status ≤ 4) }
     ensures runs { IfOk result.0 (RunsSession D.Sectors session.old replayed is_strict
-        (given_by I.remaining input.old input.new) (held W.contents output) (held W.contents result.1)
+        (given_by I.remaining input.old input.new)
+        (held W.contents output) (held W.contents result.1)
         input.new.has_failed result.1.has_failed) }
 {
     let (mut writer, noted) = output.apart();

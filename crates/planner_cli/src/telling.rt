@@ -5,20 +5,46 @@ ghost use Rattle.planner_cli.specs.Foretold.{repeating_line};
 ghost use Rattle.planner_cli.specs.Telling.{TellsAnswered, TellsInstanceFault, denial_line, denial_status, format_line, format_status, is_device_fault, new_line, open_line, open_status, store_line, store_status, unmade_line, upgrade_line, upgrade_status, wants_memory};
 
 use auditor_cli::status::{DONE, FILE, OUT_OF_MEMORY, REFUSED};
-use auditor_cli::write_line;
+use auditor_cli::{tell_want_of_memory, write_line};
 use checkpoint::{FormatFault, StoreFault};
 use instance_read::{ReadFault, ReadFaultKind};
 use recover::{Denial, UpgradeFault};
-use sector_disk::FileFault;
+use sector_disk::{FileFault, FileRefusal};
 use std::io;
 use std::io::Write;
 
-/// Tells a store's file that can't be opened or made.
-pub(crate) fn tell_file_fault<W: Write>(
+/// Tells a store's file that can't be opened or made, and on standard error what the system said of it.
+pub(crate) fn tell_refusal<R: Eprint, W: Write>(
+    rt: &R,
     output: &mut W,
     path: &str,
-    fault: FileFault,
+    refusal: FileRefusal,
 ) -> io::Result<u8>
+    ensures { IfOk result (λ status. (status ≡ open_status refusal.fault)
+        × Appends (W.contents output.old) (W.contents output.new)
+        (open_line path.now refusal.fault)) }
+{
+    tell_cause(rt, path, refusal.cause);
+    tell_file_fault(output, path, refusal.fault)
+}
+
+/// The same of a new store's file, where an old store's was opened.
+pub(crate) fn tell_new_refusal<R: Eprint, W: Write>(
+    rt: &R,
+    output: &mut W,
+    path: &str,
+    refusal: FileRefusal,
+) -> io::Result<u8>
+    ensures { IfOk result (λ status. (status ≡ open_status refusal.fault)
+        × Appends (W.contents output.old) (W.contents output.new)
+        (new_line path.now refusal.fault)) }
+{
+    tell_cause(rt, path, refusal.cause);
+    tell_new_fault(output, path, refusal.fault)
+}
+
+// Tells a store's file that can't be opened or made.
+fn tell_file_fault<W: Write>(output: &mut W, path: &str, fault: FileFault) -> io::Result<u8>
     ensures { IfOk result (λ status. (status ≡ open_status fault)
         × Appends (W.contents output.old) (W.contents output.new) (open_line path.now fault)) }
 {
@@ -42,12 +68,8 @@ pub(crate) fn tell_file_fault<W: Write>(
     }
 }
 
-/// Tells a new store's file that can't be opened or made, where an old store's was opened.
-pub(crate) fn tell_new_fault<W: Write>(
-    output: &mut W,
-    path: &str,
-    fault: FileFault,
-) -> io::Result<u8>
+// Tells a new store's file that can't be opened or made, where an old store's was opened.
+fn tell_new_fault<W: Write>(output: &mut W, path: &str, fault: FileFault) -> io::Result<u8>
     ensures { IfOk result (λ status. (status ≡ open_status fault)
         × Appends (W.contents output.old) (W.contents output.new) (new_line path.now fault)) }
 {
@@ -178,8 +200,7 @@ pub(crate) fn tell_instance_fault<W: Write>(output: &mut W, fault: ReadFault) ->
         (W.contents output.new)) }
 {
     if wants_memory(fault.kind) {
-        write_line(output, b"out of memory")?;
-        return Ok(OUT_OF_MEMORY);
+        return tell_want_of_memory(output);
     }
     let name = fault.name();
     let line = fault.line;

@@ -11,7 +11,7 @@ ghost use Rattle.auditor_cli.specs.Files.{AreReadInTurn};
 ghost use Rattle.planner_cli.specs.Timetabled.{IsPlanTold, IsTimetable, IsTimetableOf, TellsState, TellsTimetable, TimetablesDevice, TimetablesStore, form_of, plan_text, solution_text};
 
 use crate::opened::open_session;
-use crate::telling::{tell_cause, tell_file_fault, tell_store_fault};
+use crate::telling::{tell_cause, tell_refusal, tell_store_fault};
 use auditor_cli::status::{DONE, REFUSED};
 use auditor_cli::{
     AuditAnswer, Examined, Explanation, ReadFiles, answer_of, examine, pass_line, read_both,
@@ -132,10 +132,7 @@ where
             tell_cause(rt, store, device.cause());
             told
         }
-        Err(refusal) => {
-            tell_cause(rt, store, refusal.cause);
-            tell_file_fault(output, store, refusal.fault)
-        }
+        Err(refusal) => tell_refusal(rt, output, store, refusal),
     }
 }
 

@@ -10,4 +10,4 @@ returns-in-Ok-clause-told g c =
 
 pub returns-in-Err-clause-told : goal.returns-in-Err-clause-told
 returns-in-Err-clause-told g c =
-    IfOk-weaker c.tell_file_fault.result _ _ (λ status told. inr (c.in-Err.refusal.fault, told.0, told.1, Appends-nil (g.W.Write.contents c.args.output.now))) c.tell_file_fault.ensures
+    IfOk-weaker c.tell_refusal.result _ _ (λ status told. inr (c.in-Err.refusal.fault, told.0, told.1, Appends-nil (g.W.Write.contents c.args.output.now))) c.tell_refusal.ensures

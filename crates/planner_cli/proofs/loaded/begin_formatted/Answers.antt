@@ -5,38 +5,10 @@ use Rattle.planner_cli.proofs.loaded.begin_formatted.Goals as goal
 
 pub returns-in-Ok-clause-begins : goal.returns-in-Ok-clause-begins
 returns-in-Ok-clause-begins g c =
-    let given = c.format.ensures in
-    IfOk-weaker c.begin_device.result.0 _ _ (λ status begins. (
-      c.format.new.device,
-      c.format.result,
-      record {
-        holds = λ honest. (given.formats honest).after;
-        place = given.place;
-        moments = λ honest. (given.formats honest).moments;
-        kept = given.kept;
-        honest = given.called.honest_before;
-        finished = given.called.finished;
-        faults = given.called.fault;
-        same_len = given.called.same_len;
-      },
-      rw c.in-Ok.is begins,
-    )) c.begin_device.ensures.begins
+    let made = c.format_device in
+    IfOk-weaker c.begin_device.result.0 _ _ (λ status begins. (made.new.device, made.result, made.ensures.formatted, rw c.in-Ok.is begins)) c.begin_device.ensures.begins
 
 pub returns-in-Err-clause-begins : goal.returns-in-Err-clause-begins
 returns-in-Err-clause-begins g c =
-    let given = c.format.ensures in
-    IfOk-weaker c.tell_format.result _ _ (λ status told. (
-      c.format.new.device,
-      c.format.result,
-      record {
-        holds = λ honest. (given.formats honest).after;
-        place = given.place;
-        moments = λ honest. (given.formats honest).moments;
-        kept = given.kept;
-        honest = given.called.honest_before;
-        finished = given.called.finished;
-        faults = given.called.fault;
-        same_len = given.called.same_len;
-      },
-      rw c.in-Err.is (refl, told.0, told.1),
-    )) c.tell_format.ensures
+    let made = c.format_device in
+    IfOk-weaker c.tell_format.result _ _ (λ status told. (made.new.device, made.result, made.ensures.formatted, rw c.in-Err.is (refl, told.0, told.1))) c.tell_format.ensures

@@ -9,4 +9,4 @@ returns-in-Ok-clause-begins g c =
     (λ status begins. inl (c.in-Ok.device, c.begin_made-told.result.1, c.in-Ok.ensures.unused, c.in-Ok.ensures.len, begins)) c.begin_made-told.ensures.begins
 
 pub returns-in-Err-clause-begins : goal.returns-in-Err-clause-begins
-returns-in-Err-clause-begins g c = IfOk-weaker c.tell_file_fault.result _ _ (λ status told. inr (c.in-Err.refusal.fault, told.0, told.1)) c.tell_file_fault.ensures
+returns-in-Err-clause-begins g c = IfOk-weaker c.tell_refusal.result _ _ (λ status told. inr (c.in-Err.refusal.fault, told.0, told.1)) c.tell_refusal.ensures

@@ -1,21 +1,15 @@
 -- Words that ask for something are not read only for want of memory, and then nothing is told.
-use Rattle.std.proofs.Common.{◌≡◌, ℕ, inl, inr, Result, Ok, refl, ap, subst, arith}
-use Rattle.std.specs.Prelude.{MatchResult}
+use Rattle.std.proofs.Common.{◌≡◌, inl, inr, refl}
 use Rattle.clap.specs.Words.{kind_of}
-use Rattle.command_line.specs.Asked.{usage_status_of}
+use Rattle.auditor_cli.proofs.UsageLemmas.{no_memory_told}
 use Rattle.planner_cli.proofs.program.run_words.Goals as goal
-
--- what was told has this status
-status_is : {E : Type 0} (told : Result ℕ E) (result n : ℕ) → told ≡ Ok n → MatchResult told (λ s. result ≡ s) (λ e. result ≡ 3) → result ≡ n
-status_is told result n is told_so = subst (λ t. MatchResult t (λ s. result ≡ s) (λ e. result ≡ 3)) is told_so
 
 pub returns-in-Err-clause-does : goal.returns-in-Err-clause-does
 returns-in-Err-clause-does g c = λ a positional asks.
     elim (c.in-Err.ensures positional) [
       | inl memory ↦
-          let four : usage_status_of (kind_of c.in-Err.error) ≡ 4 = ap usage_status_of memory in
-          let output : c.tell_usage-told.new.output ≡ c.args.streams.output = c.tell_usage-told.ensures.output (λ e. absurd (omega (arith, four, e))) in
-          let errors : c.tell_usage-told.new.errors ≡ c.args.streams.errors = c.tell_usage-told.ensures.errors (λ e. absurd (omega (arith, four, e))) in
-          inr (status_is c.tell_usage-told.result c.status_of-in-Err.result 4 (c.tell_usage-told.ensures.memory memory) c.status_of-in-Err.ensures, rw (output, errors) refl)
+          let usage = c.tell_usage-told.ensures in
+          let told = no_memory_told (kind_of c.in-Err.error) c.tell_usage-told.result c.status_of-in-Err.result c.args.streams.output _ c.args.streams.errors _ memory usage.memory usage.output usage.errors c.status_of-in-Err.ensures in
+          inr (told.0, rw (told.1, told.2) refl)
       | inr none ↦ absurd (let both = none.0 in cc)
     ]

@@ -10,12 +10,12 @@ pub returns-in-Err-clause-told : goal.returns-in-Err-clause-told
 returns-in-Err-clause-told g c =
     let before = g.E.Write.contents c.args.errors.now in
     let now = g.E.Write.contents c.loop-name.errors in
-    let after = g.E.Write.contents c.tell_want.new.errors in
+    let after = g.E.Write.contents c.tell_want_of_memory.new.output in
     let k = c.loop-name.name-index in
     let told_so_far = reasons_text c.args.job.now (take k c.args.names.now) in
-    IfOk-weaker c.tell_want.result _ _
+    IfOk-weaker c.tell_want_of_memory.result _ _
     (λ status told. (
       told_so_far ++ line (codes "out of memory"),
       inr (k, told.0, refl),
       Appends-trans before now after told_so_far (line (codes "out of memory")) c.loop-name.invariant told.1,
-    )) c.tell_want.ensures
+    )) c.tell_want_of_memory.ensures

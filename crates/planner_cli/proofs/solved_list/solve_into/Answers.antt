@@ -5,8 +5,8 @@ use Rattle.std.proofs.lemmas.Result.{IfOk-weaker}
 use Rattle.command_line.specs.Asked.{tasks_of}
 use Rattle.auditor_cli.specs.Reads.{IsGrown}
 use Rattle.planner_cli.specs.SolvedList.{TellsOfTask, files_done}
-use Rattle.auditor_cli.specs.Telling.{TellsUnwritten, unwritten_line}
-use Rattle.planner_cli.proofs.SolvedListLemmas.{the_done}
+use Rattle.auditor_cli.specs.Telling.{unwritten_line}
+use Rattle.planner_cli.proofs.SolvedListLemmas.{the_done, unwritten}
 use Rattle.planner_cli.proofs.solved_list.solve_into.Goals as goal
 
 pub returns-in-Ok-clause-makes : goal.returns-in-Ok-clause-makes
@@ -30,12 +30,8 @@ returns-in-Err-clause-makes g c = ((c.args.path.now, Err (error_kind c.in-Err.er
 
 pub returns-in-Err-clause-told : goal.returns-in-Err-clause-told
 returns-in-Err-clause-told g c =
-    let path = c.args.path.now in
-    let error = error_kind c.in-Err.error in
-    let before = g.W.Write.contents c.args.output.now in
-    let after = g.W.Write.contents c.tell_unwritten.new.output in
     IfOk-weaker c.tell_unwritten.result _ _
     (λ status told.
-    let so = subst (λ kind. TellsUnwritten path kind before after status) c.kind.ensures told in
-    (unwritten_line path error, inl (record { same = refl; unwritten = record { error = error; noted = c.in-Err.ensures; line = refl; status_is = so.0 } }), so.1))
+    let so = unwritten c.args.path.now _ c.kind.result _ _ _ _ status c.kind.ensures c.in-Err.ensures told in
+    (unwritten_line c.args.path.now (error_kind c.in-Err.error), inl (record { same = refl; unwritten = so.0 }), so.1))
     c.tell_unwritten.ensures.told

@@ -1,11 +1,10 @@
 -- The two paths of the line with what is told of them, or that it names none.
-use Rattle.std.proofs.Common.{◌++◌, ◌∷◌, [], codes, inl, inr, refl, rules, subst}
+use Rattle.std.proofs.Common.{[], codes, inl, inr, refl, rules}
 use Rattle.std.specs.Io.KnownBytes.{Appends}
-use Rattle.std.proofs.KnownBytes.{Appends-trans}
 use Rattle.std.proofs.lemmas.Result.{IfOk-weaker}
 use Rattle.command_text.specs.Answers.{line}
 use Rattle.auditor_cli.specs.Listed.{pair_text}
-use Rattle.auditor_cli.proofs.ListLemmas.{tabs}
+use Rattle.auditor_cli.proofs.ListLemmas.{paths_text, told_of_pair}
 use Rattle.planner_cli.proofs.solved_list.solve_named.Goals as goal
 
 pub returns-in-None-clause-told : goal.returns-in-None-clause-told
@@ -23,11 +22,10 @@ returns-clause-told g c =
     let path = c.in-Some.pair.1.now in
     let before = g.W.Write.contents c.args.output.now in
     let mid = g.W.Write.contents c.write.new.self in
-    let after = g.W.Write.contents c.solve_into.new.output in
-    let wrote : Appends before mid (instance ++ 9 ∷ (path ++ 9 ∷ [])) = search rules in
+    let wrote : Appends before mid (paths_text instance path) = search rules in
     IfOk-weaker c.solve_into.result _ _
     (λ status told. (
       pair_text instance path told.0,
       inl (record { instance = instance; path = path; pair = c.in-Some.ensures; told = told.0; does = told.1; text_is = refl }),
-      subst (Appends before after) (tabs instance path told.0) (Appends-trans before mid after (instance ++ 9 ∷ (path ++ 9 ∷ [])) told.0 wrote told.2),
+      told_of_pair instance path told.0 before mid _ wrote told.2,
     )) c.solve_into.ensures.told

@@ -12,27 +12,18 @@ use Rattle.planner_cli.proofs.stores.format_store.Goals as goal
 
 pub returns-in-Ok-clause-formats : goal.returns-in-Ok-clause-formats
 returns-in-Ok-clause-formats g c =
-    let made = c.format-made.result in
+    let made = c.format_device-made.result in
     let before = g.W.Write.contents c.args.output.now in
     let after = g.W.Write.contents c.tell_format.new.output in
-    let given = c.format-made.ensures in
+    let given = c.format_device-made.ensures in
     IfOk-weaker c.tell_format.result (λ status. (status ≡ format_status (result_err made)) × Appends before after (format_line (result_err made))) _
     (λ status told. inl (
       c.in-Ok.device,
-      c.format-made.new.device,
+      c.format_device-made.new.device,
       made,
       c.in-Ok.ensures.unused,
       c.in-Ok.ensures.len,
-      record {
-        holds = λ honest. (given.formats honest).after;
-        place = given.place;
-        moments = λ honest. (given.formats honest).moments;
-        kept = given.kept;
-        honest = given.called.honest_before;
-        finished = given.called.finished;
-        faults = given.called.fault;
-        same_len = given.called.same_len;
-      },
+      given.formatted,
       not_too_small made TooSmall _ given.too_small c.in-Ok.ensures.len,
       told.0,
       told.1,
@@ -42,4 +33,4 @@ returns-in-Ok-clause-formats g c =
 pub returns-in-Err-clause-formats : goal.returns-in-Err-clause-formats
 returns-in-Err-clause-formats g c =
     let short : sectors_in version_2 < 2 ^ 54 = omega arith in
-    IfOk-weaker c.tell_file_fault.result _ _ (λ status told. inr (c.in-Err.refusal.fault, c.in-Err.ensures.not_too_long short, told.0, told.1)) c.tell_file_fault.ensures
+    IfOk-weaker c.tell_refusal.result _ _ (λ status told. inr (c.in-Err.refusal.fault, c.in-Err.ensures.not_too_long short, told.0, told.1)) c.tell_refusal.ensures

@@ -8,4 +8,4 @@ returns-in-Ok-clause-told g c =
     IfOk-weaker c.timetable_device-told.result.0 _ _ (λ status told. inl (c.in-Ok.device, c.timetable_device-told.result.1, c.in-Ok.ensures.unused, told)) c.timetable_device-told.ensures.told
 
 pub returns-in-Err-clause-told : goal.returns-in-Err-clause-told
-returns-in-Err-clause-told g c = IfOk-weaker c.tell_file_fault.result _ _ (λ status told. inr (c.in-Err.refusal.fault, told.0, told.1)) c.tell_file_fault.ensures
+returns-in-Err-clause-told g c = IfOk-weaker c.tell_refusal.result _ _ (λ status told. inr (c.in-Err.refusal.fault, told.0, told.1)) c.tell_refusal.ensures
