@@ -5,22 +5,7 @@
 //! move, where it gives a plan and where none; refusals that no line of the program meets; and moves and commands at the
 //! largest size. Proved is nothing beyond that no step fails. States after commands, and the other refusals, are asked of
 //! the built program by `tests/program.py`.
-//!
-//! In reading order: `builders` and `walks` (what the examples share), `moves`, `search`, `annealing`, `stages`,
-//! `commands`.
 #![tactic(auto)]
 
 #[cfg(test)]
-mod annealing;
-#[cfg(test)]
-mod builders;
-#[cfg(test)]
-mod commands;
-#[cfg(test)]
-mod moves;
-#[cfg(test)]
-mod search;
-#[cfg(test)]
-mod stages;
-#[cfg(test)]
-mod walks;
+mod tests;

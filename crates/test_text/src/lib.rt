@@ -4,22 +4,7 @@
 //!
 //! Answers were worked out by hand; faults are told with their lines; some texts have the most stops, 40,000. Proved is
 //! nothing beyond that no step fails.
-//!
-//! In reading order: `builders` (what the examples share), `lines`, `instances`, `solutions`, `explanations`,
-//! `timetables`, `pictures`.
 #![tactic(auto)]
 
 #[cfg(test)]
-mod builders;
-#[cfg(test)]
-mod explanations;
-#[cfg(test)]
-mod instances;
-#[cfg(test)]
-mod lines;
-#[cfg(test)]
-mod pictures;
-#[cfg(test)]
-mod solutions;
-#[cfg(test)]
-mod timetables;
+mod tests;

@@ -1,5 +1,0 @@
-use Rattle.test_plan.proofs.TableLemmas.{KeepTo}
-use Rattle.test_plan.proofs.tables.all_keep.Given as goal
-
-abbrev pub invariant-loop-visit : goal.invariant-loop-visit
-invariant-loop-visit l = KeepTo l.kind l.capacity l.visits l.visit-index

@@ -1,0 +1,10 @@
+//! In reading order: `builders` and `walks` (what the examples share), `moves`, `search`, `annealing`, `stages`,
+//! `commands`.
+
+mod annealing;
+mod builders;
+mod commands;
+mod moves;
+mod search;
+mod stages;
+mod walks;

@@ -1,0 +1,131 @@
+//! Large states, and copies of states.
+ghost use Rattle.std.specs.Prelude.{◌≡◌, true, IfOk};
+ghost use Rattle.plan_audit.specs.Passes.{passes};
+
+use super::{Step, after, applied, loaded};
+use crate::tests::builders::{Given, grid, is_passing, one_route};
+use command_core::{Command, Job, Refusal, State, unplanned_names};
+use plan_types::{Pins, Plan, Problem};
+use std::alloc::Global;
+use std::test::Fail;
+
+// The job with another plan and working plan.
+fn with_plans(job: Job, plan: Plan, work: Plan) -> Job
+    requires plan { passes job.problem job.pins plan.routes ≡ true }
+    requires work { passes job.problem job.pins work.routes ≡ true }
+{
+    let Job {
+        problem,
+        pins,
+        deviation,
+        seed,
+        steps,
+        ..
+    } = job;
+    Job::from_parts(problem, pins, plan, work, deviation, seed, steps)
+}
+
+// A copy of a plan that passes.
+fn passing_copy(alloc: Global, problem: &Problem, pins: &Pins, plan: &Plan) -> Result<Plan, Fail>
+    ensures plan { IfOk result (λ _. passes problem.now pins.now.routes plan.now.routes ≡ true) }
+    ensures copy { IfOk result (λ copy. passes problem.now pins.now.routes copy.routes ≡ true) }
+{
+    if !is_passing(alloc, problem, pins, plan)? {
+        return Err(Refusal::NoInstance.into());
+    }
+    Ok(plan.copy()?)
+}
+
+// The job with this plan, where it passes.
+fn with_plan(alloc: Global, job: Job, plan: Plan) -> Result<State, Fail> {
+    let work = passing_copy(alloc, &job.problem, &job.pins, &plan)?;
+    Ok(State::Loaded(with_plans(job, plan, work)))
+}
+
+// As many requests as there can be but one and as many vehicles, and one route of all stops.
+fn largest(alloc: Global) -> Result<State, Fail> {
+    let problem = grid(alloc, 39_999, 1_000_000, 40_000)?;
+    match applied(alloc, &State::Empty, Command::Load(problem, 0))? {
+        State::Loaded(job) => with_plan(alloc, job, one_route(alloc, 39_999, 40_000)?),
+        State::Empty => Ok(State::Empty),
+    }
+}
+
+// How many requests there are, the next number, and the steps made; zeros before the first Load.
+fn numbers(state: &State) -> (usize, u32, u64) {
+    match state {
+        State::Empty => (0, 0, 0),
+        State::Loaded(job) => (
+            job.problem.requests.len(),
+            job.problem.next_number,
+            job.steps,
+        ),
+    }
+}
+
+// The names of the unplanned requests.
+fn unplanned(alloc: Global, state: &State) -> Result<Vec<u32>, Fail> {
+    match state {
+        State::Empty => Ok(Vec::new(alloc)),
+        State::Loaded(job) => {
+            let routes = job.plan.routes.as_slice();
+            Ok(unplanned_names(alloc, &job.problem, routes)?)
+        }
+    }
+}
+
+const ON_THE_LARGEST: [Step; 4] = [
+    Step::Pin(1, 39_999),
+    Step::Unpin(1),
+    Step::AddOne,
+    Step::Withdraw(20_000),
+];
+
+// A second state like the largest.
+fn copied(alloc: Global) -> Result<State, Fail> {
+    let state = largest(alloc)?;
+    Ok(state.copy()?)
+}
+
+// Whether the commands on a copy of the largest state make what is wanted of it.
+fn is_changed(alloc: Global) -> Result<bool, Fail> {
+    let state = after(alloc, copied(alloc)?, &ON_THE_LARGEST)?;
+    let names = unplanned(alloc, &state)?;
+    Ok(numbers(&state) == (39_999, 40_001, 0) && names.as_slice() == [40_000].as_slice())
+}
+
+#[test]
+fn of_forty_thousand_stops(rt: HostRuntime) -> Result<(), Fail> {
+    assert!(rt; is_changed(rt.alloc())?);
+    Ok(())
+}
+
+// A state with a pinned plan.
+fn pinned(alloc: Global) -> Result<State, Fail> {
+    let begun = loaded(alloc, Given::Pairs)?;
+    after(alloc, begun, &[Step::Build, Step::Pin(1, 4)])
+}
+
+fn shown(alloc: Global, state: &State) -> Result<String, Fail> {
+    Ok(format!(in alloc; "{state:?}")?)
+}
+
+fn shown_of_a_copy(alloc: Global, state: &State) -> Result<String, Fail> {
+    shown(alloc, &state.copy()?)
+}
+
+// Whether a copy of the state shows what the state does.
+fn is_copied(alloc: Global, state: &State) -> Result<bool, Fail> {
+    let copied = shown_of_a_copy(alloc, state)?;
+    Ok(copied.as_str() == shown(alloc, state)?.as_str())
+}
+
+fn is_pinned_copied(alloc: Global) -> Result<bool, Fail> {
+    is_copied(alloc, &pinned(alloc)?)
+}
+
+#[test]
+fn of_a_copy(rt: HostRuntime) -> Result<(), Fail> {
+    assert!(rt; is_pinned_copied(rt.alloc())?);
+    Ok(())
+}

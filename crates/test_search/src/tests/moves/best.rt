@@ -1,0 +1,130 @@
+//! Where a request is put in best.
+ghost use Rattle.std.specs.Prelude.{◌≡◌, true, false, IfOk, IsTrue};
+ghost use Rattle.std.specs.Option.{IsSomeAnd};
+ghost use Rattle.route_sched.specs.Cost.{is_planned};
+ghost use Rattle.plan_audit.specs.Passes.{passes};
+ghost use Rattle.move_ops.specs.Insertion.{request_named};
+
+use crate::tests::builders::{Case, FOUR, FOUR_BY_ONE, Given, case_of, case_of_one_route};
+use move_ops::{Draft, Tables, best_insertion, plans_pass_without_pins, request_named};
+use plan_types::Kind;
+use std::alloc::Global;
+use std::test::Fail;
+
+type Insertion = (u64, u64, u64);
+
+/// No insertion has this place.
+const NOT_ASKED: Insertion = (0, 0, 0);
+
+// What `best_insertion` answers, and what the plan's tables do, if that is the same.
+fn best(alloc: Global, case: &Case, name: u32) -> Result<Option<Insertion>, Fail> {
+    if !case.is_passing(alloc)? {
+        return Ok(Some(NOT_ASKED));
+    }
+    let answer = best_insertion(alloc, &case.problem, &case.pins, &case.plan, name)?;
+    if answer == best_by_tables(alloc, case, name)? {
+        return Ok(answer);
+    }
+    Ok(Some(NOT_ASKED))
+}
+
+fn best_by_tables(alloc: Global, case: &Case, name: u32) -> Result<Option<Insertion>, Fail>
+    requires { passes case.now.problem case.now.pins.routes case.now.plan.routes ≡ true }
+{
+    plans_pass_without_pins();
+    if is_free(alloc, case, name)? {
+        let tables = Tables::build(alloc, &case.problem, &case.plan)?;
+        return Ok(tables.best(&case.problem, &case.pins, name));
+    }
+    Ok(None)
+}
+
+// Whether the name is of a live and unplanned request.
+fn is_free(alloc: Global, case: &Case, name: u32) -> Result<bool, Fail>
+    requires { passes case.now.problem case.now.pins.routes case.now.plan.routes ≡ true }
+    ensures { IfOk result (λ b. IsTrue b → IsSomeAnd (request_named case.now.problem name)
+        (λ r. is_planned case.now.plan.routes r ≡ false)) }
+{
+    let draft = Draft::build(alloc, &case.problem, &case.pins, &case.plan)?;
+    match request_named(&case.problem, name) {
+        Some(request) => Ok(!draft.is_planned(&request)),
+        None => Ok(false),
+    }
+}
+
+/// A problem, pins, a plan, an unplanned request, and its best place.
+type Example = (
+    Given,
+    &'static [u32],
+    &'static [u32],
+    u32,
+    Option<Insertion>,
+);
+
+const COUNTED: Given = Given::Opposite(Kind::LiLim);
+
+const UNCOUNTED: Given = Given::Opposite(Kind::Vrp);
+
+const EXAMPLES: [Example; 11] = [
+    (FOUR, &[], &[1, 0, 2, 0, 4, 0, 0], 3, Some((2, 1, 1))),
+    // Right behind a pin.
+    (
+        FOUR,
+        &[0, 2, 0, 0, 0],
+        &[1, 0, 2, 0, 4, 0, 0],
+        3,
+        Some((2, 2, 2)),
+    ),
+    // A planned request, and an unknown one.
+    (FOUR, &[], &[1, 0, 2, 0, 4, 0, 0], 2, None),
+    (FOUR, &[], &[1, 0, 2, 0, 4, 0, 0], 5, None),
+    // Vehicles that are full.
+    (FOUR_BY_ONE, &[], &[1, 0, 2, 0, 4, 0, 0], 3, Some((4, 1, 1))),
+    (Given::Pairs, &[], &[1, 2, 0], 3, Some((1, 2, 3))),
+    // Right behind a pin.
+    (Given::Pairs, &[1, 2, 0], &[1, 2, 0], 3, Some((1, 3, 4))),
+    // A vehicle is opened only where none is counted.
+    (COUNTED, &[], &[0, 1, 0, 0], 2, Some((2, 1, 1))),
+    (UNCOUNTED, &[], &[0, 1, 0, 0], 2, Some((1, 1, 1))),
+    (COUNTED, &[], &[1, 0, 0, 0], 2, Some((1, 1, 1))),
+    (UNCOUNTED, &[], &[1, 0, 0, 0], 2, Some((2, 1, 1))),
+];
+
+// Whether the example's place is the best.
+fn is_best(alloc: Global, example: &Example) -> Result<bool, Fail> {
+    let (given, pins, plan, name, place) = *example;
+    Ok(best(alloc, &case_of(alloc, given, pins, plan)?, name)? == place)
+}
+
+#[test]
+fn best_places(rt: HostRuntime) -> Result<(), Fail> {
+    for example in &EXAMPLES {
+        assert!(rt; is_best(rt.alloc(), example)?);
+    }
+    Ok(())
+}
+
+// The best places of a request in one route of so many stops.
+fn best_in_one_route(
+    alloc: Global,
+    given: Given,
+    stops: u32,
+    name: u32,
+) -> Result<Option<Insertion>, Fail> {
+    best(alloc, &case_of_one_route(alloc, given, stops)?, name)
+}
+
+#[test]
+fn a_place_in_the_largest_route(rt: HostRuntime) -> Result<(), Fail> {
+    // Between the last stops of the row before, (198, 198) and (199, 198).
+    let place = best_in_one_route(rt.alloc(), Given::Grid(40_000), 39_999, 40_000)?;
+    assert!(rt; place == Some((1, 39_800, 39_800)));
+    Ok(())
+}
+
+#[test]
+fn the_places_of_a_pair_in_a_long_route(rt: HostRuntime) -> Result<(), Fail> {
+    let place = best_in_one_route(rt.alloc(), Given::PairsAtTheDepot, 130, 131)?;
+    assert!(rt; place == Some((1, 129, 130)));
+    Ok(())
+}

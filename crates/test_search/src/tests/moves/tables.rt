@@ -1,0 +1,159 @@
+//! The tables of a plan's routes, built anew where routes change.
+ghost use Rattle.std.specs.Prelude.{◌≡◌, true, false, [], IsTrue};
+ghost use Rattle.plan_audit.specs.Passes.{has, passes};
+ghost use Rattle.move_ops.specs.Insertion.{of_vehicle};
+ghost use Rattle.move_ops.specs.Tables.{AreVehicles, DifferOnlyAt};
+
+use crate::tests::builders::{FOUR, Given, case_of, is_passing, plan_of};
+use move_ops::{Tables, plans_pass_without_pins};
+use plan_types::{Pins, Plan, Problem, Route};
+use std::alloc::Global;
+use std::test::Fail;
+
+// Whether the tables of one plan, with those of these vehicles built anew, are the tables of another one.
+fn is_refreshed(
+    alloc: Global,
+    problem: &Problem,
+    pins: &Pins,
+    before: &Plan,
+    after: &Plan,
+    vehicles: &[u32],
+) -> Result<bool, Fail> {
+    plans_pass_without_pins();
+    if !is_passing(alloc, problem, pins, before)? {
+        return Ok(false);
+    }
+    if !is_passing(alloc, problem, pins, after)? {
+        return Ok(false);
+    }
+    refreshes(alloc, problem, before, after, vehicles)
+}
+
+fn refreshes(
+    alloc: Global,
+    problem: &Problem,
+    before: &Plan,
+    after: &Plan,
+    vehicles: &[u32],
+) -> Result<bool, Fail>
+    requires before { passes problem.now [] before.now.routes ≡ true }
+    requires after { passes problem.now [] after.now.routes ≡ true }
+{
+    if !are_vehicles(problem, vehicles) {
+        return Ok(false);
+    }
+    if !differ_only_at(before, after, vehicles) {
+        return Ok(false);
+    }
+    let mut tables = Tables::build(alloc, problem, before)?;
+    tables.refresh(problem, after, vehicles)?;
+    let built = Tables::build(alloc, problem, after)?;
+    Ok(format!(in alloc; "{tables:?}")? == format!(in alloc; "{built:?}")?)
+}
+
+fn are_vehicles(problem: &Problem, vehicles: &[u32]) -> bool
+    ensures { IsTrue result → AreVehicles problem.now vehicles.now }
+{
+    for vehicle in vehicles {
+        if *vehicle < 1 || problem.fleet < *vehicle {
+            return false;
+        }
+    }
+    true
+}
+
+// Whether the plans have as many routes, and differ at these vehicles alone.
+fn differ_only_at(before: &Plan, after: &Plan, vehicles: &[u32]) -> bool
+    ensures { IsTrue result → DifferOnlyAt vehicles.now before.now.routes after.now.routes }
+{
+    let old = before.routes.as_slice();
+    let new = after.routes.as_slice();
+    if old.len() != new.len() {
+        return false;
+    }
+    if old.len() > 40_000 {
+        return false;
+    }
+    for vehicle in 0..old.len() as u32 + 1 {
+        if is_in(vehicles, vehicle) {
+            continue;
+        }
+        if !is_same(old, new, vehicle) {
+            return false;
+        }
+    }
+    true
+}
+
+fn is_in(vehicles: &[u32], vehicle: u32) -> bool
+    ensures { result ≡ has vehicles.now vehicle }
+{
+    vehicles.contains(&vehicle)
+}
+
+fn is_same(before: &[Route], after: &[Route], vehicle: u32) -> bool
+    ensures { IsTrue result → of_vehicle before.now vehicle ≡ of_vehicle after.now vehicle }
+{
+    of_vehicle(before, vehicle) == of_vehicle(after, vehicle)
+}
+
+fn of_vehicle(routes: &[Route], vehicle: u32) -> &[u32]
+    ensures { result.now ≡ of_vehicle routes.now vehicle }
+{
+    if vehicle == 0 {
+        return &[];
+    }
+    match routes.get((vehicle - 1) as usize) {
+        Some(route) => route.as_slice(),
+        None => &[],
+    }
+}
+
+/// A problem, a plan, another one, and the vehicles whose tables are built anew.
+type Example = (Given, &'static [u32], &'static [u32], &'static [u32]);
+
+const EXAMPLES: [Example; 5] = [
+    (
+        FOUR,
+        &[1, 0, 2, 3, 0, 4, 0, 0],
+        &[1, 0, 2, 3, 0, 4, 0, 0],
+        &[4, 4],
+    ),
+    (
+        FOUR,
+        &[1, 0, 2, 3, 0, 4, 0, 0],
+        &[1, 0, 3, 0, 4, 2, 0, 0],
+        &[3, 2],
+    ),
+    (
+        FOUR,
+        &[1, 0, 2, 3, 0, 4, 0, 0],
+        &[0, 1, 2, 3, 0, 4, 0, 0],
+        &[2, 1],
+    ),
+    (Given::Pairs, &[1, 2, 0], &[1, 3, 4, 2, 0], &[1]),
+    (Given::Pairs, &[1, 2, 0], &[1, 2, 0], &[]),
+];
+
+// Whether the example's tables are built anew.
+fn is_built_anew(alloc: Global, example: &Example) -> Result<bool, Fail> {
+    let (given, before, after, vehicles) = *example;
+    let after = plan_of(alloc, after)?;
+    let case = case_of(alloc, given, &[], before)?;
+    is_refreshed(
+        alloc,
+        &case.problem,
+        &case.pins,
+        &case.plan,
+        &after,
+        vehicles,
+    )
+}
+
+#[test]
+fn tables_built_anew(rt: HostRuntime) -> Result<(), Fail> {
+    for example in &EXAMPLES {
+        assert!(rt; is_built_anew(rt.alloc(), example)?);
+    }
+    Ok(())
+}

@@ -1,0 +1,75 @@
+//! The stages of annealing, by hand: `anneal_stages`.
+
+use crate::tests::builders::{Given, case_of, is_passing};
+use anneal_stages::{boundary, hundredths, share, stage_of};
+use plan_audit::passes_are_local;
+use plan_types::{Pins, Plan, Problem};
+use std::alloc::Global;
+use std::test::Fail;
+
+/// Two customers in one direction, with one vehicle: a way of 5 + 5 + 10, so a mean leg of 10.
+const TWO: Given = Given::Customers(10, 1, &[(3, 4, 1), (6, 8, 1)]);
+
+#[test]
+fn stages_begin_at_twentieths(rt: HostRuntime) {
+    assert_eq!(rt; boundary(0, 1000, 0), 0);
+    assert_eq!(rt; boundary(0, 1000, 19), 950);
+    assert_eq!(rt; boundary(0, 7, 2), 0);
+    assert_eq!(rt; boundary(0, 7, 3), 1);
+    assert_eq!(rt; boundary(5, 27, 10), 16);
+    assert_eq!(rt; boundary(9, 9, 7), 9);
+    assert_eq!(rt;
+        boundary(576_460_752_303_423_488, 1_152_921_504_606_846_976, 1),
+        605_283_789_918_594_662
+    );
+}
+
+#[test]
+fn shares_fall_from_stage_to_stage(rt: HostRuntime) {
+    assert_eq!(rt; hundredths(0), 150);
+    assert_eq!(rt; hundredths(1), 122);
+    assert_eq!(rt; hundredths(10), 19);
+    assert_eq!(rt; hundredths(19), 3);
+}
+
+#[test]
+fn steps_have_their_stage(rt: HostRuntime) {
+    assert!(rt; stage_of(0, 1000, 49) == Some(0));
+    assert!(rt; stage_of(0, 1000, 50) == Some(1));
+    assert!(rt; stage_of(0, 1000, 999) == Some(19));
+    assert!(rt; stage_of(0, 1000, 1000).is_none());
+    assert!(rt; stage_of(5, 27, 4).is_none());
+    assert!(rt; stage_of(0, 7, 0) == Some(2));
+}
+
+// The share of a plan's mean leg; none where the plan doesn't pass.
+fn share_of(
+    alloc: Global,
+    problem: &Problem,
+    pins: &Pins,
+    plan: &Plan,
+    hundredths: u32,
+) -> Result<Option<u32>, Fail> {
+    passes_are_local();
+    if !is_passing(alloc, problem, pins, plan)? {
+        return Ok(None);
+    }
+    Ok(Some(share(problem, plan, hundredths)))
+}
+
+// The share of the mean leg of the one route of both.
+fn share_of_two(alloc: Global, hundredths: u32) -> Result<Option<u32>, Fail> {
+    let case = case_of(alloc, TWO, &[], &[1, 2, 0])?;
+    share_of(alloc, &case.problem, &case.pins, &case.plan, hundredths)
+}
+
+/// Hundredths, and so many of the mean leg.
+const SHARES: [(u32, u32); 4] = [(100, 10), (122, 12), (3, 0), (4_000_000_000, 400_000_000)];
+
+#[test]
+fn shares_are_hundredths_of_the_mean_leg(rt: HostRuntime) -> Result<(), Fail> {
+    for (hundredths, share) in SHARES {
+        assert!(rt; share_of_two(rt.alloc(), hundredths)? == Some(share));
+    }
+    Ok(())
+}

@@ -1,0 +1,188 @@
+//! Rounds: a store that is opened, run, and stopped or closed, again and again.
+
+use crate::tests::builders::{SECTORS, empty_store};
+use checkpoint::StoreFault;
+use command_core::{Command, State, apply};
+use instance_read::read_vrp;
+use recover::{Denial, Halt, Round, Rounds, RoundsFault, Run, run_round, run_rounds};
+use sector_disk::{MemDevice, Sectors};
+use state_codec::encode_state;
+use std::alloc::Global;
+use std::test::Fail;
+use test_examples::THREE_CUSTOMERS;
+
+/// What a round does.
+#[derive(Clone, Copy)]
+enum Step {
+    Load,
+    Build,
+    Search(u16),
+}
+
+fn command_of(alloc: Global, step: Step) -> Result<Command, Fail> {
+    match step {
+        Step::Load => Ok(Command::Load(read_vrp(alloc, THREE_CUSTOMERS)?, 0)),
+        Step::Build => Ok(Command::Build),
+        Step::Search(count) => Ok(Command::Search(count)),
+    }
+}
+
+fn commands_of(alloc: Global, steps: &[Step]) -> Result<Vec<Command>, Fail> {
+    let mut commands = Vec::new(alloc);
+    for step in steps {
+        commands.push(command_of(alloc, *step)?)?;
+    }
+    Ok(commands)
+}
+
+/// What a round does, and after how many more finished calls every call fails. Each sector takes what is synced then.
+type Given = (&'static [Step], Option<u64>);
+
+const BEGIN: Given = (&[Step::Load, Step::Build], None);
+
+const IN_ROUNDS: [Given; 3] = [
+    BEGIN,
+    (&[Step::Search(256), Step::Search(44)], Some(2)),
+    (&[Step::Search(256), Step::Search(88)], None),
+];
+
+const AT_ONCE: [Step; 5] = [
+    Step::Load,
+    Step::Build,
+    Step::Search(256),
+    Step::Search(256),
+    Step::Search(88),
+];
+
+fn round_of(alloc: Global, given: Given) -> Result<Round, Fail> {
+    let commands = commands_of(alloc, given.0)?;
+    let choices = Vec::new(alloc);
+    let stop = match given.1 {
+        Some(calls) => Some(Halt { calls, choices }),
+        None => None,
+    };
+    Ok(Round { commands, stop })
+}
+
+fn rounds_of(alloc: Global, all: &[Given]) -> Result<Vec<Round>, Fail> {
+    let mut rounds = Vec::new(alloc);
+    for given in all {
+        rounds.push(round_of(alloc, *given)?)?;
+    }
+    Ok(rounds)
+}
+
+fn run_all(alloc: Global, device: MemDevice, rounds: Vec<Round>) -> Result<Rounds, Fail> {
+    match run_rounds(alloc, device, rounds) {
+        Ok(rounds) => Ok(rounds),
+        Err((fault, _)) => Err(fault.into()),
+    }
+}
+
+// Rounds over an empty store.
+fn run_over_none(alloc: Global, all: &[Given]) -> Result<Rounds, Fail> {
+    let rounds = rounds_of(alloc, all)?;
+    run_all(alloc, empty_store(alloc)?, rounds)
+}
+
+fn bytes_of(alloc: Global, state: &State) -> Result<Vec<u8>, Fail> {
+    Ok(encode_state(alloc, state)?)
+}
+
+// The state that the three rounds leave.
+fn cut(alloc: Global) -> Result<Vec<u8>, Fail> {
+    let rounds = run_over_none(alloc, &IN_ROUNDS)?;
+    bytes_of(alloc, rounds.session.state())
+}
+
+// The state after commands, without a store.
+fn state_after(alloc: Global, commands: &[Command]) -> Result<State, Fail> {
+    let mut state = State::Empty;
+    for command in commands {
+        state = apply(alloc, &state, command)?;
+    }
+    Ok(state)
+}
+
+// The state after as many steps at once.
+fn uncut(alloc: Global) -> Result<Vec<u8>, Fail> {
+    let commands = commands_of(alloc, &AT_ONCE)?;
+    bytes_of(alloc, &state_after(alloc, &commands)?)
+}
+
+// Whether both are the same.
+fn is_cut_alike(alloc: Global) -> Result<bool, Fail> {
+    let cut = cut(alloc)?;
+    Ok(cut == uncut(alloc)?)
+}
+
+#[test]
+fn rounds_cut_a_search(rt: HostRuntime) -> Result<(), Fail> {
+    assert!(rt; is_cut_alike(rt.alloc())?);
+    Ok(())
+}
+
+// Whether its two commands were answered so.
+fn are_answered(run: &Run, answers: [Result<(), Denial>; 2]) -> bool {
+    let [first, second] = run.replies.as_slice() else {
+        return false;
+    };
+    first.answer == answers[0] && second.answer == answers[1]
+}
+
+#[test]
+fn a_stop_breaks_a_round_off(rt: HostRuntime) -> Result<(), Fail> {
+    let rounds = run_over_none(rt.alloc(), &IN_ROUNDS)?;
+    assert_eq!(rt; rounds.runs.len(), 3);
+    let broken_off = Err(Denial::DeviceFault);
+    for (run, last) in rounds.runs.iter().zip([Ok(()), broken_off, Ok(())]) {
+        assert!(rt; are_answered(run, [Ok(()), last]));
+    }
+    Ok(())
+}
+
+#[test]
+fn a_round_alone(rt: HostRuntime) -> Result<(), Fail> {
+    let alloc = rt.alloc();
+    let only = round_of(alloc, BEGIN)?;
+    let (run, device) = run_one(alloc, empty_store(alloc)?, only)?;
+    assert_eq!(rt; run.replies.len(), 2);
+    // Six calls of the format, one of the opening, four of the load and two of the build.
+    assert_eq!(rt; device.calls(), 13);
+    Ok(())
+}
+
+#[test]
+fn no_rounds_leave_the_state(rt: HostRuntime) -> Result<(), Fail> {
+    let alloc = rt.alloc();
+    let rounds = run_over_none(alloc, &[])?;
+    assert!(rt; rounds.runs.is_empty());
+    assert!(rt; matches!(rounds.session.state(), State::Empty));
+    Ok(())
+}
+
+// Why rounds are refused, and how many calls have finished.
+fn refused(alloc: Global, device: MemDevice, rounds: Vec<Round>) -> Option<(RoundsFault, u64)> {
+    match run_rounds(alloc, device, rounds) {
+        Ok(_) => None,
+        Err((fault, device)) => Some((fault, device.calls())),
+    }
+}
+
+#[test]
+fn rounds_over_no_store(rt: HostRuntime) -> Result<(), Fail> {
+    let alloc = rt.alloc();
+    let rounds = rounds_of(alloc, &[(&[], Some(2))])?;
+    let not_formatted = RoundsFault::Open(StoreFault::NotFormatted);
+    let device = MemDevice::new(alloc, SECTORS)?;
+    assert!(rt; refused(alloc, device, rounds) == Some((not_formatted, 1)));
+    assert!(rt; not_formatted.name() == "NotFormatted");
+    Ok(())
+}
+
+fn run_one(alloc: Global, device: MemDevice, round: Round) -> Result<(Run, MemDevice), Fail> {
+    match run_round(alloc, device, round) {
+        Ok(done) => Ok(done),
+        Err((fault, _)) => Err(fault.into()),
+    }
+}

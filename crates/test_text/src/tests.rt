@@ -1,0 +1,10 @@
+//! In reading order: `builders` (what the examples share), `lines`, `instances`, `solutions`, `explanations`,
+//! `timetables`, `pictures`.
+
+mod builders;
+mod explanations;
+mod instances;
+mod lines;
+mod pictures;
+mod solutions;
+mod timetables;

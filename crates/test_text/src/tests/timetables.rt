@@ -1,0 +1,98 @@
+//! Timetables of plans that leave requests out, worked by hand from the instances' coordinates and windows. Those of other plans are
+//! compared by tests/texts.py.
+
+use crate::tests::builders::read_instance;
+use plan_audit::audit_solution;
+use plan_timetable::{Form, judged_timetable};
+use plan_types::{Kind, Problem};
+use sol_text::{Solution, read_sol};
+use std::alloc::Global;
+use std::test::Fail;
+
+/// Two pairs, each with both stops at one place.
+const TWO_PAIRS: &[u8] =
+    b"2 10 1\n0 0 0 0 0 100 0 0 0\n1 1 1 1 0 50 0 0 2\n2 1 1 -1 0 50 0 1 0\n3 2 2 1 0 50 0 0 4\n4 2 2 -1 0 50 0 3 0\n";
+
+/// The first vehicle stays at the depot.
+const SECOND_PAIR: &[u8] = b"Route #1:\nRoute #2: 3 4\nCost 6\n";
+
+/// A pair that is on time and one that no vehicle can serve: stop 3 lies 10 from the depot, and is due at 8.
+const ONE_TOO_FAR: &[u8] =
+    b"1 10 1\n0 0 0 0 0 100 0 0 0\n1 3 4 4 0 50 2 0 2\n2 6 8 -4 0 60 2 1 0\n3 0 10 1 0 8 0 0 4\n4 0 10 -1 0 50 0 3 0\n";
+
+/// Route 1 serves the pair that is on time.
+const BOTH: &[u8] = b"Route #1: 1 2\nCost 20\n";
+
+/// The vehicle is late by 2 already, and so it is with the other pair behind stop 3.
+const LATE: &[u8] = b"Route #1: 3 4\nCost 20\n";
+
+/// An instance, a solution, the request that it leaves out, how the timetable is written, and its text.
+const TOLD: [Row; 4] = [
+    (
+        TWO_PAIRS,
+        SECOND_PAIR,
+        1,
+        Form::Columns,
+        "\nvehicle 2: stops 2, distance 6, load 1, start 3, return 6, waiting 0\n place  stop  kind      partner  arrival    start  waiting   latest     load\n     1     3  pickup          4        3        3        0       50        1\n     2     4  delivery        3        3        3        0       50        0 pin\n     3     0  return          -        6        6        0      100        0\n\nunplanned 1\nwhy 1: alone: a vehicle can serve it\nwhy 1: vehicle 2: fits at places 1 and 4\nwhy 1: fleet: 1 of 2 vehicles are used\n",
+    ),
+    (
+        TWO_PAIRS,
+        SECOND_PAIR,
+        1,
+        Form::Tabs,
+        "vehicle\t2\t2\t6\t1\t3\t6\t0\nstop\t2\t1\t3\tpickup\t4\t3\t3\t0\t50\t1\t-\nstop\t2\t2\t4\tdelivery\t3\t3\t3\t0\t50\t0\tpin\nstop\t2\t3\t0\treturn\t-\t6\t6\t0\t100\t0\t-\nunplanned\t1\nwhy\t1\talone: a vehicle can serve it\nwhy\t1\tvehicle 2: fits at places 1 and 4\nwhy\t1\tfleet: 1 of 2 vehicles are used\n",
+    ),
+    (
+        ONE_TOO_FAR,
+        BOTH,
+        3,
+        Form::Tabs,
+        "vehicle\t1\t2\t20\t4\t5\t24\t0\nstop\t1\t1\t1\tpickup\t2\t5\t5\t0\t50\t4\t-\nstop\t1\t2\t2\tdelivery\t1\t12\t12\t0\t60\t0\tpin\nstop\t1\t3\t0\treturn\t-\t24\t24\t0\t100\t0\t-\nunplanned\t3\nwhy\t3\talone: stop 3 starts at 10, latest 8\n",
+    ),
+    (
+        ONE_TOO_FAR,
+        LATE,
+        1,
+        Form::Tabs,
+        "vehicle\t1\t2\t20\t1\t10\t20\t0\nstop\t1\t1\t3\tpickup\t4\t10\t10\t0\t-\t1\t-\nstop\t1\t2\t4\tdelivery\t3\t10\t10\t0\t-\t0\t-\nstop\t1\t3\t0\treturn\t-\t20\t20\t0\t-\t0\t-\nunplanned\t1\nwhy\t1\talone: a vehicle can serve it\nwhy\t1\tvehicle 1: stop 3 would start 2 late\nwhy\t1\tfleet: 1 of 1 vehicles are used\n",
+    ),
+];
+
+fn timetable(
+    alloc: Global,
+    problem: &Problem,
+    solution: &Solution,
+    unplanned: u32,
+    form: Form,
+) -> Result<String, Fail> {
+    let verdict = audit_solution(alloc, problem, solution)?;
+    Ok(judged_timetable(alloc, problem, solution, verdict, &[unplanned], form)?)
+}
+
+// The timetable of a solution that leaves this request out.
+fn told(
+    alloc: Global,
+    instance: &[u8],
+    solution: &Solution,
+    unplanned: u32,
+    form: Form,
+) -> Result<String, Fail> {
+    let problem = read_instance(alloc, Kind::LiLim, instance)?;
+    timetable(alloc, &problem, solution, unplanned, form)
+}
+
+type Row = (&'static [u8], &'static [u8], u32, Form, &'static str);
+
+fn is_told(alloc: Global, row: &Row) -> Result<bool, Fail> {
+    let (instance, solution, unplanned, form, want) = *row;
+    let solution = read_sol(alloc, solution)?;
+    Ok(told(alloc, instance, &solution, unplanned, form)?.as_str() == want)
+}
+
+#[test]
+fn tells_why_requests_are_left_out(rt: HostRuntime) -> Result<(), Fail> {
+    for row in &TOLD {
+        assert!(rt; is_told(rt.alloc(), row)?);
+    }
+    Ok(())
+}
