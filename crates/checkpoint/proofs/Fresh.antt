@@ -22,7 +22,7 @@ use Rattle.checkpoint.specs.Holds.{Holds, HoldsAt, journal}
 use Rattle.checkpoint.specs.Moments.{IsInFormat}
 use Rattle.checkpoint.specs.Refused.{OnCalls}
 use Rattle.checkpoint.specs.Places.{behind_snapshot}
-use Rattle.checkpoint.specs.Making.{Formats}
+use Rattle.checkpoint.specs.Making.{Formats, MakesStore}
 use Rattle.checkpoint.proofs.Journals.{holds_still}
 
 told : (state : State) → IsStateOf Two state
@@ -74,6 +74,16 @@ module _ {D : Type 0} (on : sectors.Ghosts D) where
     moments = on_calls result (weakened on.clock on.possible_since old new _ _ (formats_within Y Z by (on.calls old))) is.moments;
     after = on_ok_weaker result (λ each image left. by image (each image left)) is.after;
     durable = is.durable;
+  }
+
+  pub makes_by : (Y Z : List ℕ → Type 0) (written : List ℕ) (result : Result Place FormatFault) (old new : D) → ((image : List ℕ) → Y image → Z image)
+      → MakesStore on Y written result old new → MakesStore on Z written result old new
+  makes_by Y Z written result old new by is = record {
+    place = is.place;
+    too_small = is.too_small;
+    kept = is.kept;
+    called = is.called;
+    formats = λ honest. formats_by result Y Z written old new by (is.formats honest);
   }
 
 -- a commit, from what each image stores to what it holds

@@ -1,9 +1,9 @@
 -- What a stop may leave while a store is written, in bytes.
-use Rattle.std.specs.Prelude.{◌≡◌, ◌⊎◌, ℕ, ◌+◌, ◌*◌, ◌%◌, ◌≤◌, List, length, replicate}
+use Rattle.std.specs.Prelude.{◌≡◌, ◌⊎◌, ℕ, ◌+◌, ◌*◌, ◌%◌, ◌<◌, ◌≤◌, List, length, replicate}
 use Rattle.sector_disk.specs.Image.{written}
 use Rattle.sector_disk.specs.Sectors.{Reached}
 use Rattle.checkpoint.specs.declared.headers.Header.{Header}
-use Rattle.checkpoint.specs.Layouts.{version_2}
+use Rattle.checkpoint.specs.Layouts.{version_2, journal_room, last_sequence, sectors_in}
 use Rattle.checkpoint.specs.Written.{half_of, with_both}
 
 -- Within a write of these bytes and its sync, with m calls finished in all, and `calls` when it began.
@@ -27,6 +27,18 @@ pub record IsSaved (size : ℕ) (bytes : List ℕ) : Type 0 where
   pub long : size ≤ length bytes
   pub whole : length bytes % 512 ≡ 0
   pub fits : length bytes ≤ 512 * version_2.half
+
+-- They are to be written under this header, on a device of so many sectors;
+pub record IsSnapshotFor (sectors : ℕ) (header : Header) (bytes : List ℕ) : Type 0 where
+  pub saved : IsSaved header.length bytes
+  pub last : header.sequence ≤ last_sequence
+  pub room : sectors_in version_2 ≤ sectors
+
+-- and a sector is to be written behind so many records.
+pub record IsRecordFor (sectors used : ℕ) (bytes : List ℕ) : Type 0 where
+  pub free : used < journal_room
+  pub one : length bytes ≡ 512
+  pub room : sectors_in version_2 ≤ sectors
 
 -- n zeros
 pub record IsZeros (n : ℕ) (bytes : List ℕ) : Type 0 where

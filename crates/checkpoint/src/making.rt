@@ -1,17 +1,16 @@
 //! Making a store: zeros over the headers and records, a snapshot, its header, each with a sync.
 ghost use Rattle.command_core.specs.declared.states.State.TheVariants.{Empty};
 ghost use Rattle.checkpoint.specs.Holds.{HoldsAt};
-ghost use Rattle.std.specs.Prelude.{◌≡◌, ◌↔◌, ◌+◌, ◌*◌, ◌%◌, ◌<◌, ◌≤◌, ℕ, List, [], length, take, OnOk, IfOk, IfErr, IsErrOf};
+ghost use Rattle.std.specs.Prelude.{◌≡◌, ◌+◌, ◌*◌, ◌%◌, ◌<◌, ◌≤◌, ℕ, List, [], length, take, OnOk};
 ghost use Rattle.sector_disk.specs.Sectors.{Only, more, faults_after};
 ghost use Rattle.sector_disk.specs.Calls.{Calls, During};
-ghost use Rattle.checkpoint.specs.Layouts.{version_2, sectors_in};
+ghost use Rattle.checkpoint.specs.Layouts.{version_2};
 ghost use Rattle.checkpoint.specs.Places.{first_place};
-ghost use Rattle.checkpoint.specs.Making.{Formats, MakesStore};
+ghost use Rattle.checkpoint.specs.Making.{MakesStore};
 ghost use Rattle.checkpoint.specs.Stores.{HasStored, IsUnformatted};
 ghost use Rattle.checkpoint.specs.Moments.{IsInFormat};
-ghost use Rattle.checkpoint.specs.Puts.{IsSaved, IsZeros};
+ghost use Rattle.checkpoint.specs.Puts.{IsSaved, IsSnapshotFor, IsZeros};
 ghost use Rattle.checkpoint.specs.Written.{cleared, first_header, with_both, with_state};
-ghost use Rattle.checkpoint.specs.Refused.{faults_after_format, IsKeptByFormat};
 
 use crate::encoding::snapshot_of;
 use crate::faults::FormatFault;
@@ -32,8 +31,7 @@ fn put_all<D: Sectors>(
     bytes: &[u8],
 ) -> Result<(), DeviceFault>
     requires zeros { IsZeros FRONT zeros.now }
-    requires saved { IsSaved size bytes.now }
-    requires room { sectors_in version_2 ≤ D.len device.old }
+    requires snapshot { IsSnapshotFor (D.len device.old) (first_header size) bytes.now }
 
     ensures called { Calls D.Sectors (more result 6) (faults_after result) device.old device.new }
     ensures moments { D.honest device.new
@@ -62,17 +60,9 @@ pub(crate) fn make<D: Sectors>(
     bytes: &[u8],
 ) -> Result<Place, FormatFault>
     requires { IsSaved size bytes.now }
-
-    ensures place { IfOk result (λ place. place ≡ first_place) }
-    ensures too_small { IsErrOf result FormatFault.TooSmall
-        ↔ D.len device.old < sectors_in version_2 }
-    ensures kept { IfErr result (λ fault. IsKeptByFormat fault device.old device.new) }
-    ensures called { Calls D.Sectors (more result 6) (faults_after_format result)
-        device.old device.new }
-    ensures formats { D.honest device.new
-        → Formats D.Sectors result (HasStored 1 (take size bytes.now) [])
+    ensures { MakesStore D.Sectors (HasStored 1 (take size bytes.now) [])
         (with_both (first_header size) bytes.now (cleared (D.seen device.old)))
-        device.old device.new }
+        result device.old device.new }
 {
     if device.len() < SECTORS {
         return Err(FormatFault::TooSmall);

@@ -1,11 +1,10 @@
 //! Writes that are made durable.
 ghost use Rattle.std.specs.Prelude.{◌≡◌, ◌+◌, ◌*◌, ◌%◌, ◌<◌, ◌≤◌, ◌^◌, ℕ, List, [], ◌∷◌, ◌++◌, length, take, OnOk};
 ghost use Rattle.sector_disk.specs.Image.{written};
-ghost use Rattle.sector_disk.specs.Sectors.{IsWholeRun, Only, Reached, more, faults_after};
+ghost use Rattle.sector_disk.specs.Sectors.{IsWholeRun, Only, more, faults_after};
 ghost use Rattle.sector_disk.specs.Calls.{Calls, CommitsFrom, During};
-ghost use Rattle.checkpoint.specs.Layouts.{version_2, journal_room, last_sequence, sectors_in};
 ghost use Rattle.checkpoint.specs.Stores.{HasStored, begins_with};
-ghost use Rattle.checkpoint.specs.Puts.{IsInPut, IsInSnapshot, IsSaved};
+ghost use Rattle.checkpoint.specs.Puts.{IsInPut, IsInSnapshot, IsSnapshotFor, IsRecordFor};
 ghost use Rattle.checkpoint.specs.Written.{with_both};
 
 use crate::headers::{Header, header_sector};
@@ -21,8 +20,6 @@ pub(crate) fn put<D: Sectors>(device: &mut D, first: u64, bytes: &[u8]) -> Resul
         → OnOk result (D.seen device.new ≡ written first bytes.now (D.seen device.old)) }
     ensures durable { D.honest device.new
         → OnOk result (Only (written first bytes.now (D.seen device.old)) (D.possible device.new)) }
-    ensures left { D.honest device.new → (image : List ℕ) → D.possible device.new image
-        → Reached first bytes.now (D.possible device.old) image }
     ensures moments { D.honest device.new
         → During D.Sectors device.old device.new
         (IsInPut first bytes.now (D.possible device.old) (D.seen device.old)) }
@@ -37,8 +34,7 @@ pub(crate) fn put_snapshot<D: Sectors>(
     header: Header,
     bytes: &[u8],
 ) -> Result<(), DeviceFault>
-    requires saved { IsSaved header.length bytes.now }
-    requires room { sectors_in version_2 ≤ D.len device.old }
+    requires { IsSnapshotFor (D.len device.old) header bytes.now }
 
     ensures called { Calls D.Sectors (more result 4) (faults_after result) device.old device.new }
     ensures durable { D.honest device.new
@@ -62,9 +58,7 @@ pub(crate) fn advance<D: Sectors>(
     header: Header,
     bytes: &[u8],
 ) -> Result<(), DeviceFault>
-    requires saved { IsSaved header.length bytes.now }
-    requires last { header.sequence ≤ last_sequence }
-    requires room { sectors_in version_2 ≤ D.len device.old }
+    requires { IsSnapshotFor (D.len device.old) header bytes.now }
 
     ensures called { Calls D.Sectors (more result 4) (faults_after result) device.old device.new }
     ensures commits { (sequence : ℕ) (state : List ℕ) (journal : List (List ℕ))
@@ -80,9 +74,7 @@ pub(crate) fn advance<D: Sectors>(
 
 /// Commits a record behind the journal. Its bytes begin with the sequence.
 pub(crate) fn extend<D: Sectors>(device: &mut D, used: u32, bytes: &[u8]) -> Result<(), DeviceFault>
-    requires free { used < journal_room }
-    requires one { length bytes.now ≡ 512 }
-    requires room { sectors_in version_2 ≤ D.len device.old }
+    requires { IsRecordFor (D.len device.old) used bytes.now }
 
     ensures called { Calls D.Sectors (more result 2) (faults_after result) device.old device.new }
     ensures commits { (sequence : ℕ) (state : List ℕ) (journal : List (List ℕ))

@@ -10,7 +10,7 @@ use Rattle.checkpoint.specs.Written.{first_header, with_both}
 use Rattle.checkpoint.proofs.making.put_all.Goals as goal
 
 pub put-requires : goal.put-requires
-put-requires g c = record { some = omega (arith, c.requires.zeros.long); whole = omega (arith, c.requires.zeros.long); inside = omega (arith, c.requires.zeros.long, c.requires.room) }
+put-requires g c = record { some = omega (arith, c.requires.zeros.long); whole = omega (arith, c.requires.zeros.long); inside = omega (arith, c.requires.zeros.long, c.requires.snapshot.room) }
 
 pub returns-in_err-put-clause-moments : goal.returns-in_err-put-clause-moments
 returns-in_err-put-clause-moments g c honest =
@@ -21,7 +21,7 @@ returns-in_err-put-clause-moments g c honest =
     let zeros = c.args.zeros.now in
     let is = c.requires.zeros in
     weakened d.clock d.possible_since start c.put.new.device (IsInPut 0 zeros (d.possible start) (d.seen start) (d.calls start)) (IsMaking c.args.bytes.now c.args.size (d.calls start))
-    (in_zeros c.args.bytes.now c.args.size zeros (d.seen start) (clears 132096 zeros (d.seen start) is refl (omega (arith, size, c.requires.room))) (d.calls start) (d.possible start))
+    (in_zeros c.args.bytes.now c.args.size zeros (d.seen start) (clears 132096 zeros (d.seen start) is refl (omega (arith, size, c.requires.snapshot.room))) (d.calls start) (d.possible start))
     (c.put.ensures.moments honest)
 
 pub returns-clause-moments : goal.returns-clause-moments
@@ -33,14 +33,14 @@ returns-clause-moments g c honest =
     let size = g.met.D.Sectors.image_size start (d.seen start) from (g.met.D.Sectors.reads_possible start from) in
     let zeros = c.args.zeros.now in
     let is = c.requires.zeros in
-    let front = clears 132096 zeros (d.seen start) is refl (omega (arith, size, c.requires.room)) in
-    let long = length_cleared 132096 zeros (d.seen start) is refl (omega (arith, size, c.requires.room)) in
+    let front = clears 132096 zeros (d.seen start) is refl (omega (arith, size, c.requires.snapshot.room)) in
+    let long = length_cleared 132096 zeros (d.seen start) is refl (omega (arith, size, c.requires.snapshot.room)) in
     let all = IsMaking c.args.bytes.now c.args.size (d.calls start) in
     let first = weakened d.clock d.possible_since start c.put.new.device (IsInPut 0 zeros (d.possible start) (d.seen start) (d.calls start)) all
     (in_zeros c.args.bytes.now c.args.size zeros (d.seen start) front (d.calls start) (d.possible start))
     (c.put.ensures.moments mid) in
     let second = weakened d.clock d.possible_since c.put.new.device c.put_snapshot.new.device (IsInSnapshot (first_header c.args.size) c.args.bytes.now (d.possible c.put.new.device) (d.seen c.put.new.device) (d.calls c.put.new.device)) all
-    (in_snapshot c.args.bytes.now c.args.size zeros (d.seen start) front (d.calls start) c.requires.saved.whole c.requires.saved.fits c.requires.saved.some c.requires.saved.long (omega (arith, long, size, c.requires.room))
+    (in_snapshot c.args.bytes.now c.args.size zeros (d.seen start) front (d.calls start) c.requires.snapshot.saved.whole c.requires.snapshot.saved.fits c.requires.snapshot.saved.some c.requires.snapshot.saved.long (omega (arith, long, size, c.requires.snapshot.room))
     (d.possible c.put.new.device) (d.seen c.put.new.device) (d.calls c.put.new.device) c.in_ok-put.ensures.called.finished (c.in_ok-put.ensures.seen mid) (c.in_ok-put.ensures.durable mid))
     (c.put_snapshot.ensures.moments honest) in
     joined d.clock d.possible_since start c.put.new.device c.put_snapshot.new.device all first second
