@@ -3,14 +3,16 @@
 
 ghost use Rattle.std.specs.Prelude.{◌≡◌, ◌<◌, ◌≤◌, ◌^◌, IfOk, OnOk};
 ghost use Rattle.checkpoint.specs.Changes.{HasRecordRoom};
+ghost use Rattle.checkpoint.specs.Layouts.{version_2, last_sequence, sectors_in};
 ghost use Rattle.checkpoint.specs.Places.{first_place, behind_record, behind_snapshot};
 
 use crate::examples::{Example, applied, commands_of, failed};
 use crate::images::held;
-use crate::stops::{SECTORS, choices_of};
+use crate::stops::choices_of;
 use crate::tables::{count, print_row};
 use checkpoint::{
-    Loaded, Place, StoreFault, commit_record, commit_snapshot, format, format_with, load_latest,
+    Loaded, Place, SECTORS, StoreFault, commit_record, commit_snapshot, format, format_with,
+    load_latest,
 };
 use command_core::{Command, State};
 use sector_disk::{MemDevice, Sectors};
@@ -201,7 +203,7 @@ fn small_run<D: Sectors>(alloc: Global, device: &mut D) -> Result<Place, StoreFa
 // The place of a new store of this state.
 fn formatted<D: Sectors>(alloc: Global, device: &mut D, state: &State) -> Result<Place, StoreFault>
     ensures place { IfOk result (λ place. place ≡ first_place) }
-    ensures room { OnOk result (8450 ≤ D.len device.new) }
+    ensures room { OnOk result (sectors_in version_2 ≤ D.len device.new) }
 {
     let Ok(place) = format_with(alloc, device, state) else {
         return Err(StoreFault::DeviceFault);
@@ -217,7 +219,7 @@ fn recorded<D: Sectors>(
 ) -> Result<Place, StoreFault>
     requires { HasRecordRoom (D.len device.old) place command.now }
     ensures place { IfOk result (λ next. next ≡ behind_record place) }
-    ensures room { OnOk result (8450 ≤ D.len device.new) }
+    ensures room { OnOk result (sectors_in version_2 ≤ D.len device.new) }
 {
     commit_record(device, place, command)
 }
@@ -229,11 +231,11 @@ fn saved<D: Sectors>(
     place: Place,
     state: &State,
 ) -> Result<Place, StoreFault>
-    requires room { 8450 ≤ D.len device.old }
+    requires room { sectors_in version_2 ≤ D.len device.old }
     requires first { 1 ≤ place.sequence }
-    requires last { place.sequence < 2 ^ 60 }
+    requires last { place.sequence < last_sequence }
     ensures place { IfOk result (λ next. next ≡ behind_snapshot place) }
-    ensures room { OnOk result (8450 ≤ D.len device.new) }
+    ensures room { OnOk result (sectors_in version_2 ≤ D.len device.new) }
 {
     commit_snapshot(alloc, device, place, state)
 }

@@ -1,8 +1,9 @@
 //! Lists of rounds by a generator: what each round leaves is what the fold over rounds allows.
 
 use crate::examples::{advance, applied, bytes_of, failed, load_three};
-use crate::stops::{SECTORS, fresh, opened_state};
+use crate::stops::{fresh, opened_state};
 use crate::tables::{count, print_row};
+use checkpoint::SECTORS;
 use command_core::{Command, Spot, State, check};
 use recover::{Denial, Halt, Round, Run, run_round, run_rounds};
 use sector_disk::MemDevice;

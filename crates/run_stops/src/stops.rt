@@ -2,15 +2,12 @@
 
 use crate::examples::{Example, bytes_of, commands_of, failed, states_of};
 use crate::tables::print_row;
-use checkpoint::format;
+use checkpoint::{SECTORS, format};
 use command_core::Command;
 use recover::{Denial, Opened, Reply, Session};
 use sector_disk::MemDevice;
 use std::alloc::Global;
 use std::io;
-
-/// The sectors of a store.
-pub(crate) const SECTORS: u64 = 8450;
 
 /// A table of stops: those of an example by finished calls, with each choice of the sectors that it writes.
 #[derive(Clone, Copy)]

@@ -1,9 +1,9 @@
 //! A store of version 1 that is taken over: stopped at each call, and with each call failing once.
 
 use crate::examples::{Example, bytes_of, failed, load_three, states_of};
-use crate::stops::{SECTORS, built, choices_of, fresh};
+use crate::stops::{built, choices_of, fresh};
 use crate::tables::{count, print_row};
-use checkpoint::StoreFault;
+use checkpoint::{LEAST_SECTORS, SECTORS, StoreFault};
 use recover::{Opened, Session, UpgradeFault, upgrade};
 use sector_disk::{MemDevice, Sectors};
 use std::alloc::Global;
@@ -80,7 +80,7 @@ fn put(device: &mut MemDevice, sector: u64, front: &[u8]) -> io::Result<()> {
 
 // A device with the old store, none of which is synced.
 fn old_store(alloc: Global) -> io::Result<MemDevice> {
-    let mut device = MemDevice::new(alloc, 802)?;
+    let mut device = MemDevice::new(alloc, LEAST_SECTORS)?;
     for (sector, front) in &OLD_STORE {
         put(&mut device, *sector, front)?;
     }

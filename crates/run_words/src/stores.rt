@@ -1,13 +1,11 @@
 //! Sessions over stores in memory.
 
 use crate::ends::{Limited, Pieces, Reader};
-use checkpoint::format;
+use checkpoint::{SECTORS, format};
 use planner_cli::{ServeFault, serve};
 use recover::Session;
 use sector_disk::{MemDevice, Sectors};
 use std::alloc::Global;
-
-const SECTORS: u64 = 8450;
 
 /// What came of an input.
 #[derive(Drop)]

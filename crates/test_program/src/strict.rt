@@ -1,7 +1,7 @@
 //! What goes through a strict writer, in parts that no program writes, and a session over a device in memory that fails:
 //! `Strict` of `command_serving`.
 
-use checkpoint::format;
+use checkpoint::{SECTORS, format};
 use command_serving::{ServeFault, Sink, Stopped, Strict, Watched, serve_source};
 use recover::Session;
 use sector_disk::MemDevice;
@@ -64,8 +64,6 @@ fn tells_the_last_line(rt: HostRuntime) -> Result<(), Fail> {
     assert!(rt; first_wrong_put(rt.alloc())?.is_none());
     Ok(())
 }
-
-const SECTORS: u64 = 8450;
 
 fn new_device(alloc: Global) -> Result<MemDevice, Fail> {
     let mut device = MemDevice::new(alloc, SECTORS).ok().ok_or("a device")?;
