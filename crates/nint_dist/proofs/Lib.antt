@@ -1,3 +1,3 @@
 mod Distances
 mod Roots
-mod Triangle
+pub mod Triangle

@@ -12,7 +12,7 @@ use Rattle.nint_dist.proofs.Roots.{nearest}
 product-ordered : (u t : ℕ) → u * (u + t) + u * (u + t) ≤ u * u + (u + t) * (u + t)
 product-ordered u t = omega arith
 
-product-le : (u v : ℕ) → u * v + u * v ≤ u * u + v * v
+pub product-le : (u v : ℕ) → u * v + u * v ≤ u * u + v * v
 product-le u v = by (cases_lt u v)
   where
     by : (u < v) ⊎ (v ≤ u) → u * v + u * v ≤ u * u + v * v

@@ -9,6 +9,7 @@ use Rattle.std.proofs.lemmas.Int.{ints}
 use Rattle.std.proofs.lemmas.List.{get_or_past}
 use Rattle.plan_types.specs.declared.requests.Stop.{Stop}
 use Rattle.nint_dist.specs.Distance.{distance, DistancesAreNearestRoots}
+use Rattle.nint_dist.proofs.Triangle.{product-le}
 use Rattle.slack_tables.specs.Along.{stop_on}
 use Rattle.slack_tables.specs.Best.{IsFirstOf}
 use Rattle.slack_tables.specs.Course.{Course}
@@ -27,17 +28,6 @@ use Rattle.slack_tables.proofs.AlongLemmas.{load-next}
 use Rattle.slack_tables.proofs.DetourLemmas.{near-is, apart-is, served-price}
 use Rattle.slack_tables.proofs.SpliceLemmas.{int_le-true}
 use Rattle.slack_tables.proofs.WalkLemmas.{distance-back}
-
--- twice a product is at most the sum of the squares
-product-ordered : (u t : ℕ) → u * (u + t) + u * (u + t) ≤ u * u + (u + t) * (u + t)
-product-ordered u t = omega arith
-
-pub product-le : (u v : ℕ) → u * v + u * v ≤ u * u + v * v
-product-le u v = by (cases_lt u v)
-  where
-    by : (u < v) ⊎ (v ≤ u) → u * v + u * v ≤ u * u + v * v
-    by (inl less) = let far : u + (v - u) ≡ v = omega arith in subst (λ w. u * w + u * w ≤ u * u + w * w) far (product-ordered u (v - u))
-    by (inr more) = let far : v + (u - v) ≡ u = omega arith in let le = product-ordered v (u - v) in let there : v * u + v * u ≤ v * v + u * u = subst (λ w. v * w + v * w ≤ v * v + w * w) far le in omega arith
 
 -- the part of a way along a direction (a, b) of length 256 or less
 pub along-le : (a b x y c e : ℕ) → a * a + b * b ≤ 65536 → c * 256 ≤ a * x + b * y → x * x + y * y ≤ e * (e + 1) → c ≤ e
