@@ -3,6 +3,7 @@ use Rattle.std.proofs.Common.{◌≡◌, ◌≢◌, ℕ, ◌+◌, ◌≤◌, Boo
 use Rattle.std.specs.Prelude.{is_some, count_by}
 use Rattle.std.specs.List.{AllByRecursion, IsDistinct, list_any, concat}
 use Rattle.std.specs.Option.{option_map, option_or}
+use Rattle.std.proofs.Math.Bool.{or-false}
 use Rattle.std.proofs.lemmas.Bool.{eq-eqb, ne_eqb}
 use Rattle.std.proofs.lemmas.Bool.Decides.{eqb_tells}
 use Rattle.std.proofs.lemmas.List.{map-append}
@@ -150,14 +151,10 @@ owner_total n q (e ∷ es) distinct = from (stop_in n e.1) none_else (owner_tota
 total_single : (xs : List ℕ) (s : Stop) → IsDistinct eqb xs → total (λ n. bit (is_some (stop_in n (Single s)) && is_counted xs n s.number)) xs ≡ bit (list_any (eqb s.number) xs || false)
 unfolding member
 total_single xs s distinct =
-    total-same _ (λ n. bit (eqb s.number n)) xs (every each xs) ∙ (total_member s.number xs distinct ∙ ap bit (sym (or_false (list_any (eqb s.number) xs))))
+    total-same _ (λ n. bit (eqb s.number n)) xs (every each xs) ∙ (total_member s.number xs distinct ∙ ap bit (sym (or-false (list_any (eqb s.number) xs))))
   where
     each : (n : ℕ) → bit (is_some (cond (eqb s.number n) (Some s) None) && is_counted xs n s.number) ≡ bit (eqb s.number n)
     each n = elim (eqb_tells s.number n) [ inl t ↦ rw t.0 refl | inr t ↦ rw t.0 refl ]
-
-    or_false : (b : Bool) → (b || false) ≡ b
-    or_false true = refl
-    or_false false = refl
 
 -- the numbers of one list, where m does not hold
 total_unless : (b : ℕ) (m : Bool) (xs : List ℕ) → IsDistinct eqb xs → total (λ n. bit (eqb b n && not m)) xs ≡ bit (not m && list_any (eqb b) xs)

@@ -1,4 +1,4 @@
-use Rattle.std.proofs.Common.{◌≡◌, ◌+◌, ◌∙◌, [], length, get_or, take, ap, arith}
+use Rattle.std.proofs.Common.{◌≡◌, ◌∙◌, [], length, get_or, take, ap, arith}
 use Rattle.std.specs.List.{concat}
 use Rattle.std.proofs.lemmas.List.{get_or_read, length-append}
 use Rattle.std.proofs.lemmas.List.Sums.{sum_by_more}
