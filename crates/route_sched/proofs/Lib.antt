@@ -1,4 +1,5 @@
 pub mod Agreeing
+pub mod Chains
 pub mod Concats
 pub mod Counting
 pub mod LiveStops

@@ -1,5 +1,5 @@
 -- Start, load and length from one place to the next.
-use Rattle.std.proofs.Common.{◌≡◌, ℕ, zero, suc, ◌*◌, ◌+◌, ◌-◌, ◌≤◌, max, ℤ, pos, ◌+ℤ◌, ◌-ℤ◌, unsigned_abs, List, [], ◌∷◌, map, length, fold, sum, refl, sym, ap, ◌∙◌, arith, add-one, subst}
+use Rattle.std.proofs.Common.{◌≡◌, ℕ, zero, suc, ◌*◌, ◌+◌, ◌-◌, ◌≤◌, max, ℤ, pos, ◌+ℤ◌, ◌-ℤ◌, unsigned_abs, List, [], ◌∷◌, map, length, fold, sum, refl, sym, ap, ◌∙◌, arith}
 use Rattle.std.specs.List.{range_with_len}
 use Rattle.std.proofs.lemmas.List.Sums.{fold_push}
 use Rattle.std.proofs.lemmas.List.FromFn.{map-range_with_len_more, sum_by-map-range_with_len_more}
@@ -9,59 +9,24 @@ use Rattle.plan_types.specs.declared.requests.Stop.{Stop}
 use Rattle.nint_dist.specs.NearestRoot.{nearest_root, whole_root}
 use Rattle.nint_dist.specs.Distance.{distance}
 use Rattle.route_sched.specs.Route.{place}
-use Rattle.route_sched.specs.Schedule.{leg, greatest, start, load, route_length}
-
-greatest_upto : (ℕ → ℕ) → ℕ → ℕ
-greatest_upto f n = greatest (map f (range_with_len 0 n))
-
-greatest_upto-more : (f : ℕ → ℕ) (n : ℕ) → greatest_upto f (n + 1) ≡ max (greatest_upto f n) (f n)
-unfolding greatest_upto
-greatest_upto-more f n =
-    ap (λ xs. greatest xs) (map-range_with_len_more f 0 n n (omega arith)) ∙ fold_push max 0 (map f (range_with_len 0 n)) (f n)
-
--- where each number grows by c, so does the greatest
-greatest_upto-add : (f g : ℕ → ℕ) (c n : ℕ) → ((j : ℕ) → j ≤ n → g j ≡ f j + c) → greatest_upto g (n + 1) ≡ greatest_upto f (n + 1) + c
-unfolding greatest_upto
-greatest_upto-add f g c zero each = omega (arith, each 0 (omega arith))
-greatest_upto-add f g c (suc n) each =
-    let before : greatest_upto g (suc n) ≡ greatest_upto f (suc n) + c = subst (λ m. greatest_upto g m ≡ greatest_upto f m + c) (add-one n) (greatest_upto-add f g c n (λ j h. each j (omega arith))) in
-    omega (arith, greatest_upto-more f (suc n), greatest_upto-more g (suc n), each (suc n) (omega arith), before)
-
--- the sum over k = j..i-1
-sum_between : (ℕ → ℕ) → ℕ → ℕ → ℕ
-sum_between f j i = sum (map f (range_with_len j (i - j)))
-
-sum_between-more : (f : ℕ → ℕ) (j i : ℕ) → j ≤ i → sum_between f j (i + 1) ≡ sum_between f j i + f i
-unfolding sum_between
-sum_between-more f j i h =
-    let one_more : i + 1 - j ≡ (i - j) + 1 = omega arith in
-    rw one_more (sum_by-map-range_with_len_more (λ x. x) f j (i - j) i (omega arith))
-
-sum_between-none : (f : ℕ → ℕ) (i : ℕ) → sum_between f i i ≡ 0
-unfolding sum_between
-sum_between-none f i = let none : i - i ≡ 0 = omega arith in rw none refl
+use Rattle.route_sched.specs.Schedule.{leg, start, load, route_length}
+use Rattle.route_sched.specs.Chain.{sum_between, chain}
+use Rattle.route_sched.proofs.Chains.{chain-next}
 
 -- the first start is the depot's earliest time
 pub start-first : (p : Instance) (route : List ℕ) → start p route 0 ≡ p.depot.earliest
 unfolding start place
 start-first p route = omega arith
 
--- the greatest e j plus the sum from j to i, for one i and the next
-latest_chain : (e f : ℕ → ℕ) → ℕ → ℕ
-latest_chain e f i = greatest_upto (λ j. e j + sum_between f j i) (i + 1)
-
-latest_chain-next : (e f : ℕ → ℕ) (i : ℕ) → latest_chain e f (i + 1) ≡ max (e (i + 1)) (latest_chain e f i + f i)
-unfolding latest_chain
-latest_chain-next e f i =
-    let to_next : ℕ → ℕ = λ j. e j + sum_between f j (i + 1) in
-    let to_here : ℕ → ℕ = λ j. e j + sum_between f j i in
-    let none_between : sum_between f (i + 1) (i + 1) ≡ 0 = sum_between-none f (i + 1) in
-    omega (arith, greatest_upto-more to_next (i + 1), none_between, greatest_upto-add to_here to_next (f i) i (λ j h. omega (arith, sum_between-more f j i h)))
+-- by its definition a start is a chain of all places before it
+pub start-chain : (p : Instance) (route : List ℕ) (i : ℕ) → start p route i ≡ chain (λ j. (place p route j).earliest) (λ k. (place p route k).service + leg p route k) 0 i
+unfolding start chain sum_between
+start-chain p route i = let all : i + 1 - 0 ≡ i + 1 = omega arith in rw all refl
 
 -- Who arrives early waits.
 pub start-next : (p : Instance) (route : List ℕ) (i : ℕ) → start p route (i + 1) ≡ max (place p route (i + 1)).earliest (start p route i + ((place p route i).service + leg p route i))
-unfolding start latest_chain greatest_upto sum_between
-start-next p route i = latest_chain-next (λ j. (place p route j).earliest) (λ k. (place p route k).service + leg p route k) i
+start-next p route i =
+    rw (start-chain p route i, start-chain p route (i + 1)) (chain-next (λ j. (place p route j).earliest) (λ k. (place p route k).service + leg p route k) 0 i (omega arith))
 
 pub load-first : (p : Instance) (route : List ℕ) → load p route 0 ≡ pos 0
 unfolding load

@@ -6,5 +6,6 @@ pub mod Schedule
 pub mod Visiting
 pub mod Walk
 -- what those of private functions say
+pub mod Chain
 pub mod Counted
 pub mod Walking

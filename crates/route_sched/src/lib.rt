@@ -15,7 +15,7 @@
 //!
 //! Specs: `Route` (live stops, plans, places), `Schedule` (starts, loads, lengths), `Cost`; `Agree` has the
 //! law; `Counted` says how planned requests are counted; `Walk`, `Visiting` and `Walking` say what `Visits`
-//! is.
+//! is; `Chain` has the sums that a start is made of, for the lemmas here and those of tables.
 //!
 //! Source: the usual schedule of vehicle routing with time windows. A vehicle leaves the depot at its
 //! earliest time, drives a distance in as much time, and waits where it is early. All numbers are whole.

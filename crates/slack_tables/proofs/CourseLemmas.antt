@@ -1,5 +1,5 @@
 -- What `start`, `load` and the like say of a route is what is said of its stops by place.
-use Rattle.std.proofs.Common.{◌≡◌, ℕ, zero, suc, ◌+◌, ◌-◌, ◌<◌, ◌≤◌, ◌⊎◌, pos, ◌≤ℤ◌, List, length, refl, sym, ap, ◌∙◌, arith, subst, inl, inr}
+use Rattle.std.proofs.Common.{◌≡◌, ℕ, zero, suc, ◌+◌, ◌<◌, ◌≤◌, ◌⊎◌, pos, ◌≤ℤ◌, List, length, refl, sym, ap, ◌∙◌, arith, subst, inl, inr}
 use Rattle.std.proofs.Math.ListN.{get_or-map, length-map}
 use Rattle.std.proofs.lemmas.Bool.{cases_lt}
 use Rattle.std.proofs.lemmas.Int.{ints}
@@ -7,8 +7,10 @@ use Rattle.plan_types.specs.Instance.{Instance}
 use Rattle.plan_types.specs.declared.requests.Kind.TheVariants.{LiLim}
 use Rattle.route_sched.specs.Route.{place, stop_numbered}
 use Rattle.route_sched.specs.Schedule.{start, load, route_length}
+use Rattle.route_sched.specs.Chain.{sum_between, chain}
+use Rattle.route_sched.proofs.Steps.{start-chain}
 use Rattle.slack_tables.specs.Course.{Course, course_of}
-use Rattle.slack_tables.specs.Along.{sum_between, chain, stop_on, start_along, moved_along, load_along, length_along}
+use Rattle.slack_tables.specs.Along.{stop_on, start_along, moved_along, load_along, length_along}
 use Rattle.slack_tables.specs.Insertion.{KeepsLimits}
 use Rattle.slack_tables.specs.Latest.{moved_start}
 use Rattle.slack_tables.specs.Inside.{IsInLimits}
@@ -17,8 +19,7 @@ use Rattle.slack_tables.proofs.OpenLemmas.{place-return}
 
 -- ---- by place
 pub start-is : (p : Instance) (route : List ℕ) (k : ℕ) → start p route k ≡ start_along (place p route) k
-unfolding start chain sum_between
-start-is p route k = let all : k + 1 - 0 ≡ k + 1 = omega arith in rw all refl
+start-is p route k = start-chain p route k
 
 pub moved-is : (p : Instance) (route : List ℕ) (i t k : ℕ) → moved_start p route i t k ≡ moved_along (place p route) i t k
 unfolding moved_start chain sum_between

@@ -1,29 +1,22 @@
 -- The schedule of stops that are given by place: what `start`, `load` and the like say of a route, said of a function.
-use Rattle.std.specs.Prelude.{◌≡◌, ℕ, ◌+◌, ◌-◌, ◌<◌, ◌≤◌, ◌==◌, ℤ, pos, ◌+ℤ◌, ◌∷◌, map, sum, fold, slice_index_or, if◌then◌else◌}
+use Rattle.std.specs.Prelude.{◌≡◌, ℕ, ◌+◌, ◌<◌, ◌≤◌, ◌==◌, ℤ, pos, ◌+ℤ◌, ◌∷◌, map, sum, fold, slice_index_or, if◌then◌else◌}
 use Rattle.std.specs.List.{range_with_len}
 use Rattle.plan_types.specs.declared.requests.Stop.{Stop}
 use Rattle.plan_types.specs.declared.requests.Kind.{Kind}
 use Rattle.plan_types.specs.declared.requests.Kind.TheVariants.{LiLim}
 use Rattle.nint_dist.specs.Distance.{distance}
-use Rattle.route_sched.specs.Schedule.{greatest}
+use Rattle.route_sched.specs.Chain.{chain}
 use Rattle.slack_tables.specs.Course.{Course}
 
 -- the stop at a place of a course, the depot at place 0 and behind the last stop
 abbrev pub stop_on : Course → ℕ → Stop
 stop_on c k = slice_index_or (c.depot ∷ c.stops) k c.depot
 
--- the sum over k = j..i-1
-unfoldable pub sum_between : (ℕ → ℕ) → ℕ → ℕ → ℕ
-sum_between f j i = sum (map f (range_with_len j (i - j)))
-
 -- the service at a place and the way to the next one
 abbrev pub stay : (ℕ → Stop) → ℕ → ℕ
 stay at k = (at k).service + distance (at k) (at (k + 1))
 
--- the greatest, over j = i..k, of the earliest time at j and the sum from j to k
-unfoldable pub chain : (ℕ → ℕ) → (ℕ → ℕ) → ℕ → ℕ → ℕ
-chain e f i k = greatest (map (λ j. e j + sum_between f j k) (range_with_len i (k + 1 - i)))
-
+-- the greatest, over the places up to k, of the earliest time there and the way on from there to k
 abbrev pub start_along : (ℕ → Stop) → ℕ → ℕ
 start_along at k = chain (λ j. (at j).earliest) (stay at) 0 k
 
