@@ -1,11 +1,11 @@
 -- A vehicle that goes on along the places of a table with a pickup on board.
-use Rattle.std.specs.Prelude.{◌≡◌, ℕ, ◌+◌, ◌-◌, ◌*◌, ◌^◌, ◌≤◌, unsigned_abs, All, List, length, slice_index_or, Some}
+use Rattle.std.specs.Prelude.{◌≡◌, ℕ, ◌+◌, ◌-◌, ◌*◌, ◌^◌, ◌≤◌, ℤ, unsigned_abs, All, List, length, slice_index_or, Some}
 use Rattle.plan_types.specs.Limits.{IsVisit}
 use Rattle.plan_types.specs.declared.requests.Stop.{Stop}
 use Rattle.nint_dist.specs.Distance.{distance}
 use Rattle.slack_tables.specs.Closed.{AreTight}
 use Rattle.slack_tables.specs.Driven.{IsSmallRow}
-use Rattle.slack_tables.specs.Legs.{AreLinked, AreRising}
+use Rattle.slack_tables.specs.Legs.{AreLeast, AreLinked, AreRising}
 use Rattle.slack_tables.specs.Ride.{ride_at}
 use Rattle.slack_tables.specs.declared.progress.Limits.{Limits}
 use Rattle.slack_tables.specs.declared.progress.Row.{Row}
@@ -28,6 +28,11 @@ pub record IsScan (t : Trip) (places : List Row) : Type 0 where
   pub rising : AreRising places
   pub tight : AreTight t.limits.kind places
   pub few : length places ≤ 40003
+
+-- and for each place from the first one on the least detours to the delivery behind it are known
+pub record IsScanFrom (t : Trip) (places : List Row) (first : ℕ) (legs : List ℤ) : Type 0 where
+  pub over : IsScan t places
+  pub least : AreLeast first legs places t.delivery
 
 -- before place j - 1 of the table, with the pickup on board
 pub record IsUnderway (limits : Limits) (places : List Row) (p q : Stop) (i j : ℕ) (d : Row) (on : Underway) : Type 0 where

@@ -19,8 +19,8 @@ ghost use Rattle.slack_tables.specs.declared.progress.Row.{Row};
 ghost use Rattle.slack_tables.specs.Best.{IsFirstOf, BestIsOne};
 ghost use Rattle.slack_tables.specs.Closed.{AreTight};
 ghost use Rattle.slack_tables.specs.Driven.{IsSmall, IsSmallRow};
-ghost use Rattle.slack_tables.specs.Legs.{AreLeast, AreLinked, AreRising, IsNearBy};
-ghost use Rattle.slack_tables.specs.Walk.{IsTrip, IsScan, IsUnderway, IsNearWay};
+ghost use Rattle.slack_tables.specs.Legs.{AreLinked, AreRising, IsNearBy};
+ghost use Rattle.slack_tables.specs.Walk.{IsTrip, IsScan, IsScanFrom, IsUnderway, IsNearWay};
 ghost use Rattle.slack_tables.specs.Span.{IsSmallSpan, RulesOut};
 ghost use Rattle.slack_tables.specs.Ride.{IsSmallRide, IsNearRide};
 ghost use Rattle.slack_tables.specs.Scan.{AddsSingle, AddsPair, AddsDelivery, AreDear, IsNearUnderway, served_single, picked_up, gone_on, none_below, offered, accepted};
@@ -255,8 +255,7 @@ fn best_from(
     first: usize,
     below: i64,
 ) -> Option<Addition>
-    requires scan { IsScan trip.now places.now }
-    requires least { AreLeast first least.now places.now trip.now.delivery }
+    requires scan { IsScanFrom trip.now places.now first least.now }
     requires from_one { 1 ≤ first }
     requires within { first < length places.now }
     ensures { (d : Row) → IsFirstOf (AddsPair trip.now.limits places.now trip.now.pickup
@@ -287,8 +286,7 @@ fn best_at(
     near: Detour,
     below: i64,
 ) -> Option<Addition>
-    requires scan { IsScan trip.now places.now }
-    requires least { AreLeast i least.now places.now trip.now.delivery }
+    requires scan { IsScanFrom trip.now places.now i least.now }
     requires near { IsNearBy places.now trip.now.pickup i near }
     ensures { (d : Row) → IsFirstOf
         (AddsDelivery trip.now.limits places.now trip.now.pickup trip.now.delivery i below d)
@@ -312,8 +310,7 @@ fn best_at(
 // Whether prices from below show that each place of the delivery adds `below` or more, where the
 // pickup stands at place `i`.
 fn are_dear(trip: &Trip, places: &[Row], least: &[i64], i: usize, near: Detour, below: i64) -> bool
-    requires scan { IsScan trip.now places.now }
-    requires least { AreLeast i least.now places.now trip.now.delivery }
+    requires scan { IsScanFrom trip.now places.now i least.now }
     requires near { IsNearBy places.now trip.now.pickup i near }
     ensures { IsTrue result → AreDear trip.now.limits places.now trip.now.pickup
         trip.now.delivery i below }
@@ -417,8 +414,7 @@ fn best_delivery(
     first: Underway,
     below: i64,
 ) -> Option<Addition>
-    requires scan { IsScan trip.now places.now }
-    requires least { AreLeast i least.now places.now trip.now.delivery }
+    requires scan { IsScanFrom trip.now places.now i least.now }
     requires from_one { 1 ≤ i }
     requires within { i < length places.now }
     requires underway { (d : Row)

@@ -11,7 +11,7 @@ use Rattle.slack_tables.proofs.WalkLemmas.{underway-begin, not-begun}
 use Rattle.slack_tables.proofs.scan.best_at.Goals as goal
 
 pub best_delivery-requires-clause-underway : goal.best_delivery-requires-clause-underway
-best_delivery-requires-clause-underway c = λ d. underway-begin c.args.trip.now.limits c.args.places.now c.args.trip.now.pickup c.args.trip.now.delivery c.args.i d c.args.trip.now c.small_row-before.result.now c.leg_at-to.result c.leg_at-onward.result refl refl (c.small_row-before.ensures.place d) (c.leg_at-to.ensures.value d ∙ ap (λ (e : Row). distance e.at.stop c.args.trip.now.pickup) (sym (c.small_row-before.ensures.place d))) c.in-Some.first refl c.requires.scan.trip.across (c.leg_at-onward.ensures.value d) (sym c.in-Some.is ∙ c.pick_up.ensures.value)
+best_delivery-requires-clause-underway c = λ d. underway-begin c.args.trip.now.limits c.args.places.now c.args.trip.now.pickup c.args.trip.now.delivery c.args.i d c.args.trip.now c.small_row-before.result.now c.leg_at-to.result c.leg_at-onward.result refl refl (c.small_row-before.ensures.place d) (c.leg_at-to.ensures.value d ∙ ap (λ (e : Row). distance e.at.stop c.args.trip.now.pickup) (sym (c.small_row-before.ensures.place d))) c.in-Some.first refl c.requires.scan.over.trip.across (c.leg_at-onward.ensures.value d) (sym c.in-Some.is ∙ c.pick_up.ensures.value)
 
 pub returns-then-are_dear : goal.returns-then-are_dear
 returns-then-are_dear c = λ d.
