@@ -1,18 +1,14 @@
 -- All routes of a plan, joined.
-use Rattle.std.proofs.Common.{◌≡◌, ℕ, ◌+◌, ◌≤◌, ◌<◌, Bool, true, false, ◌||◌, eqb, List, [], ◌∷◌, ◌++◌, length, take, drop, get_or, refl, sym, ap, ◌∙◌, subst, arith, inl, inr}
+use Rattle.std.proofs.Common.{◌≡◌, ℕ, ◌+◌, ◌≤◌, ◌<◌, true, false, eqb, List, [], ◌∷◌, ◌++◌, length, take, drop, get_or, refl, sym, ap, ◌∙◌, subst, arith, inl, inr}
 use Rattle.std.specs.List.{All, AllByRecursion, IsDistinct, list_any, concat}
-use Rattle.std.proofs.lemmas.Bool.{false≢true, ne_eqb, eq-eqb}
+use Rattle.std.proofs.lemmas.Bool.{ne_eqb, eq-eqb, or_left, or_right}
 use Rattle.std.proofs.lemmas.Bool.Decides.{eqb_tells}
-use Rattle.std.proofs.lemmas.List.{append_assoc, append-nil, take_at, drop_at, take-append-drop, drop_more, take_more, length-append}
+use Rattle.std.proofs.lemmas.List.{append-nil, take_at, drop_at, take-append-drop, drop_more, take_more, length-append}
 use Rattle.std.proofs.lemmas.List.Elements.{All-drop, All-from_get_or, All-take}
-use Rattle.std.proofs.lemmas.List.Folds.{list_any-append}
+use Rattle.std.proofs.lemmas.List.Folds.{concat-append, list_any-append}
 use Rattle.plan_types.specs.Instance.{Instance}
 use Rattle.route_sched.specs.Route.{AreLiveOnce, IsLive, IsPlan}
 use Rattle.route_sched.proofs.Counting.{distinct_right}
-
-concat-append : (xs ys : List (List ℕ)) → concat (xs ++ ys) ≡ concat xs ++ concat ys
-concat-append [] ys = refl
-concat-append (x ∷ xs) ys = ap (λ zs. x ++ zs) (concat-append xs ys) ∙ sym (append_assoc x (concat xs) (concat ys))
 
 -- the routes before one, that one, and those after it
 concat_split : (routes : List (List ℕ)) (k : ℕ) → k < length routes → concat routes ≡ concat (take k routes) ++ (get_or routes k [] ++ concat (drop (k + 1) routes))
@@ -53,14 +49,6 @@ pub routes_of_plan : (p : Instance) (routes : List (List ℕ)) → IsPlan p rout
 routes_of_plan p routes plan = All-from_get_or (AreLiveOnce p) routes [] (λ k h. route_of_plan p routes k h plan)
 
 -- ---- stops by number
-or_right : (a b : Bool) → b ≡ true → (a || b) ≡ true
-or_right true b h = refl
-or_right false b h = h
-
-or_left : (a b : Bool) → a ≡ true → (a || b) ≡ true
-or_left true b h = refl
-or_left false b h = absurd (false≢true h)
-
 -- what stands in a route stands in the routes
 pub part_of_routes : (routes : List (List ℕ)) (k n : ℕ) → k < length routes → list_any (eqb n) (get_or routes k []) ≡ true → list_any (eqb n) (concat routes) ≡ true
 part_of_routes routes k n h there =
