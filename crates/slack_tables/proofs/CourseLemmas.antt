@@ -8,6 +8,7 @@ use Rattle.plan_types.specs.declared.requests.Kind.TheVariants.{LiLim}
 use Rattle.route_sched.specs.Route.{place, stop_numbered}
 use Rattle.route_sched.specs.Schedule.{start, load, route_length}
 use Rattle.route_sched.specs.Chain.{sum_between, chain}
+use Rattle.route_sched.proofs.LiveStops.{place-return}
 use Rattle.route_sched.proofs.Steps.{start-chain}
 use Rattle.slack_tables.specs.Course.{Course, course_of}
 use Rattle.slack_tables.specs.Along.{stop_on, start_along, moved_along, load_along, length_along}
@@ -15,7 +16,6 @@ use Rattle.slack_tables.specs.Insertion.{KeepsLimits}
 use Rattle.slack_tables.specs.Latest.{moved_start}
 use Rattle.slack_tables.specs.Inside.{IsInLimits}
 use Rattle.slack_tables.proofs.AlongLemmas.{load-first, load-next}
-use Rattle.slack_tables.proofs.OpenLemmas.{place-return}
 
 -- ---- by place
 pub start-is : (p : Instance) (route : List ℕ) (k : ℕ) → start p route k ≡ start_along (place p route) k

@@ -6,6 +6,7 @@ use Rattle.plan_types.specs.Limits.{IsVisit}
 use Rattle.plan_types.specs.declared.requests.Stop.{Stop}
 use Rattle.plan_types.specs.declared.requests.Kind.{Kind}
 use Rattle.route_sched.specs.Route.{place, stop_numbered}
+use Rattle.route_sched.proofs.LiveStops.{place-first}
 use Rattle.slack_tables.specs.Along.{stop_on}
 use Rattle.slack_tables.specs.Course.{Course, route_of, IsCourseIn}
 use Rattle.slack_tables.specs.Front.{IsFront, HasCome, KnowsFronts}
@@ -17,7 +18,7 @@ use Rattle.slack_tables.specs.declared.progress.Progress.{Progress}
 use Rattle.slack_tables.proofs.AlongLemmas.{same-start, same-load, same-length}
 use Rattle.slack_tables.proofs.CourseLemmas.{places-on}
 use Rattle.slack_tables.proofs.SpliceLemmas.{kept-fewer, kept-none}
-use Rattle.slack_tables.proofs.OpenLemmas.{at-begin, within-begin, place-first}
+use Rattle.slack_tables.proofs.OpenLemmas.{at-begin, within-begin}
 
 -- ---- two routes with the same stops up to place n
 module _ (a b : ℕ → Stop) (n : ℕ) (same : (k : ℕ) → k ≤ n → b k ≡ a k) where

@@ -1,15 +1,8 @@
 -- The places of a route, one after another on the way forward.
-use Rattle.std.proofs.Common.{◌≡◌, ℕ, ◌+◌, ◌^◌, ◌<◌, ◌≤◌, ◌⊎◌, true, eqb, List, get_or, length, refl, sym, ap, ◌∙◌, arith, add-one, subst, inl, inr, set, length-set, get_or-set_same, get_or-set_other}
-use Rattle.std.specs.List.{Any}
-use Rattle.std.proofs.lemmas.Bool.{cases_lt, eqb-true}
-use Rattle.std.proofs.lemmas.List.{get_or_past}
-use Rattle.std.proofs.lemmas.List.Folds.{Any-from_list_any}
-use Rattle.std.proofs.lemmas.Map.Steps.{length-le_from_distinct_below}
+use Rattle.std.proofs.Common.{◌≡◌, ℕ, ◌+◌, ◌^◌, ◌<◌, ◌≤◌, ◌⊎◌, List, get_or, length, refl, sym, ap, ◌∙◌, arith, subst, inl, inr, set, length-set, get_or-set_same, get_or-set_other}
+use Rattle.std.proofs.lemmas.Bool.{cases_lt}
 use Rattle.plan_types.specs.Limits.{IsVisit}
-use Rattle.plan_types.specs.Instance.{Instance, IsInstance}
-use Rattle.plan_types.specs.Laws.{StopsAreBelowNext}
 use Rattle.plan_types.specs.declared.requests.Stop.{Stop}
-use Rattle.route_sched.specs.Route.{AreLiveOnce, IsLive, place}
 use Rattle.slack_tables.specs.Driven.{driven_on, IsNear, IsSmall}
 use Rattle.slack_tables.specs.Places.{IsAt}
 use Rattle.slack_tables.specs.Opened.{leaving, open_row, IsWithin, IsOpen, AreOpenTo}
@@ -17,20 +10,6 @@ use Rattle.slack_tables.specs.declared.progress.Progress.{Progress}
 use Rattle.slack_tables.specs.declared.progress.Row.{Row}
 use Rattle.slack_tables.proofs.AlongLemmas.{start-first, load-first, length-first}
 use Rattle.slack_tables.proofs.SpliceLemmas.{at-next}
-
--- live stops, each once, are at most as many as there are numbers
-pub few_stops : (p : Instance) (numbers : List ℕ) → StopsAreBelowNext → IsInstance p → AreLiveOnce p numbers → length numbers ≤ 40001
-few_stops p numbers below valid once =
-    length-le_from_distinct_below numbers 40001 once.distinct (λ q there. by q (Any-from_list_any (eqb q) numbers there))
-  where
-    by : (q : ℕ) → Any (λ x. eqb q x ≡ true) numbers → q < 40001
-    by q any = let most = valid.next_to_most in let live : IsLive p q = rw (eqb-true q any.1 any.4, ← any.3) (once.live any.0 any.1 any.2) in let less = below p q valid live in omega arith
-
--- ---- the stop behind the last place
-pub place-return : (p : Instance) (route : List ℕ) (k : ℕ) → length route ≤ k → place p route (k + 1) ≡ p.depot
-unfolding place
-place-return p route k h =
-    let none : get_or route k 0 ≡ 0 = get_or_past route k 0 h in rw (add-one k, none) refl
 
 -- ---- the first place, and one more
 pub at-first : (stops : ℕ → Stop) (depot : Stop) → stops 0 ≡ depot → IsAt stops 0 (leaving depot)
@@ -78,10 +57,6 @@ open-to-more stops n places new a is few at within made = subst (AreOpenTo stops
         subst (λ i. IsOpen stops i (get_or (set places n (open_row a)) i d)) (omega arith) (subst (IsOpen stops n) (sym (get_or-set_same places n (open_row a) d (omega arith))) (open-is stops n a few at within))
 
 -- ---- the same, of what the code has
-pub place-first : (p : Instance) (route : List ℕ) → place p route 0 ≡ p.depot
-unfolding place
-place-first p route = refl
-
 pub at-begin : (stops : ℕ → Stop) (depot : Stop) (a : Progress) → stops 0 ≡ depot → a ≡ leaving depot → IsAt stops 0 a
 at-begin stops depot a is made = subst (IsAt stops 0) (sym made) (at-first stops depot is)
 

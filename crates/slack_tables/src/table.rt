@@ -29,10 +29,7 @@ use crate::scan::{Addition, best_pair, best_single, rules_out_single};
 use crate::slack::fill_slack;
 use crate::span::Span;
 use crate::ways::place_seen;
-use plan_types::{
-    Kind, OutOfMemory, Problem, Request, Stop, numbers_are_below_the_next,
-    requests_are_found_by_stop,
-};
+use plan_types::{Kind, OutOfMemory, Problem, Request, Stop, requests_are_found_by_stop};
 use route_sched::stop_behind;
 use std::alloc::Global;
 use std::marker::Model;
@@ -440,7 +437,6 @@ fn stops_are_few(problem: &Problem, route: &[u32])
     requires { AreLiveOnce problem.now route.now }
     ensures { length route.now ≤ 40001 }
 {
-    numbers_are_below_the_next();
     let _kind = problem.kind;
 }
 

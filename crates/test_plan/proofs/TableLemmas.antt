@@ -10,9 +10,9 @@ use Rattle.route_sched.specs.Route.{place}
 use Rattle.route_sched.specs.Schedule.{start, load}
 use Rattle.route_sched.specs.Visiting.{visits_from, visit_after}
 use Rattle.route_sched.specs.declared.visits.Visit.{Visit}
+use Rattle.route_sched.proofs.LiveStops.{place-return}
 use Rattle.slack_tables.specs.Course.{Course, course_of, route_of, IsCourseIn}
 use Rattle.slack_tables.specs.Insertion.{KeepsLimits}
-use Rattle.slack_tables.proofs.OpenLemmas.{place-return}
 
 -- the load and the start keep their limits at this place
 abbrev pub Keeps : Kind → ℕ → Visit → Type 0

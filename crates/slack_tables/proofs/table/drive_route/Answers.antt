@@ -1,10 +1,11 @@
 use Rattle.std.proofs.Common.{◌≡◌, ◌∙◌, ◌+◌, length, refl, sym, ap, subst, arith, rules, false}
 use Rattle.std.proofs.Math.ListN.{length-set}
 use Rattle.route_sched.specs.Route.{place}
+use Rattle.route_sched.proofs.LiveStops.{place-first}
 use Rattle.slack_tables.specs.Inside.{limits_of, IsInLimits}
 use Rattle.slack_tables.specs.Ride.{ride_of, is_kept}
 use Rattle.slack_tables.proofs.CourseLemmas.{limits-from, limits-to}
-use Rattle.slack_tables.proofs.OpenLemmas.{place-first, at-begin, at-more, within-begin, within-next, open-to-none, open-to-more}
+use Rattle.slack_tables.proofs.OpenLemmas.{at-begin, at-more, within-begin, within-next, open-to-none, open-to-more}
 use Rattle.slack_tables.proofs.SpliceLemmas.{keeps-false, kept-here, kept-more}
 use Rattle.slack_tables.proofs.table.drive_route.Goals as goal
 

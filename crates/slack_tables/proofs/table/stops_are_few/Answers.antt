@@ -1,9 +1,9 @@
 use Rattle.std.proofs.Common.{subst}
 use Rattle.plan_types.specs.Instance.{IsInstance}
-use Rattle.slack_tables.proofs.OpenLemmas.{few_stops}
+use Rattle.route_sched.proofs.LiveStops.{few_stops}
 use Rattle.slack_tables.proofs.table.stops_are_few.Goals as goal
 
 pub returns : goal.returns
 returns c =
     let valid : IsInstance c.args.problem.now = subst (λ q. IsInstance q) c.problem.view_is c.problem.invariant.valid in
-    few_stops c.args.problem.now c.args.route.now c.numbers_are_below_the_next.ensures.stops valid c.requires
+    few_stops c.args.problem.now c.args.route.now valid c.requires
