@@ -19,7 +19,7 @@
 //!   counts once; one that is placed is one less.
 //!
 //! Problem and pins are given in each call and tied to the draft by `IsDraftOf`, so the type borrows nothing.
-ghost use Rattle.std.specs.Prelude.{◌≡◌, ◌≤◌, ◌<◌, ◌-◌, ◌==◌, not, true, false, ℕ, List, Some, IfOk, MatchOption, IsTrue, length, slice_get, slice_set, slice_index_or, vec_capacity};
+ghost use Rattle.std.specs.Prelude.{◌≡◌, ◌≤◌, ◌<◌, ◌-◌, ◌==◌, not, true, false, ℕ, List, [], Some, IfOk, MatchOption, IsTrue, length, slice_get, slice_set, slice_index_or, vec_capacity};
 ghost use Rattle.std.specs.List.{remove};
 ghost use Rattle.slack_tables.specs.Course.{Course, route_of, IsCourseIn};
 ghost use Rattle.plan_types.specs.Instance.{Instance};
@@ -130,10 +130,7 @@ impl Draft {
         ensures is { (p : Instance) (pins : List (List ℕ)) → IsDraftOf p pins self.old
             → IsDraftOf p pins self.new }
     {
-        while self.is_changed() {
-            let newest = self.log.len() - 1;
-            self.forget(newest);
-        }
+        clear_log(&mut self.log, &mut self.spare);
         self.base_cost = self.cost;
         self.front = front_of(&self.tours, self.front);
     }
@@ -352,19 +349,6 @@ impl Draft {
         self.front = front_with(self.front, vehicle);
         keep(&mut self.spare, tried);
     }
-
-    // What the vehicle of an entry of the log had in the base is not needed any more.
-    fn forget(&mut self, entry: usize)
-        requires { entry < length self.old.log }
-        ensures tours { self.new.tours ≡ self.old.tours }
-        ensures log { length self.new.log ≡ length self.old.log - 1 }
-        ensures pinned { self.new.pinned ≡ self.old.pinned }
-        ensures cost { self.new.cost ≡ self.old.cost }
-        ensures base_cost { self.new.base_cost ≡ self.old.base_cost }
-    {
-        let (_, tour) = take_entry(&mut self.log, entry);
-        keep(&mut self.spare, tour);
-    }
 }
 
 // Takes an entry out of a log.
@@ -378,6 +362,16 @@ fn take_entry(log: &mut Vec<(u32, Tour)>, entry: usize) -> (u32, Tour)
         × ((1 ≤ result.0) × (result.0 ≤ n)) }
 {
     log.remove(entry)
+}
+
+// Forgets all entries of a log, and keeps the memory of their tours, where there is room for it.
+fn clear_log(log: &mut Vec<(u32, Tour)>, spare: &mut Vec<Tour>)
+    ensures none { log.new.items ≡ [] }
+    ensures room { vec_capacity log.new ≡ vec_capacity log.old }
+{
+    while let Some((_, tour)) = log.pop() {
+        keep(spare, tour);
+    }
 }
 
 // The front, where this vehicle has another route.
