@@ -1,6 +1,6 @@
 -- A draft with a request put in where it can be put.
 use Rattle.std.proofs.Common.{◌≡◌, ℕ, ◌+◌, ◌-◌, ◌≤◌, cond, Bool, true, false, List, length, set, Option, Some, None, refl, sym, ap, subst, ◌∙◌, arith, nat_eq}
-use Rattle.std.specs.Prelude.{MatchOption, []}
+use Rattle.std.specs.Prelude.{IfSome, MatchOption, []}
 use Rattle.std.specs.Map.{lookup}
 use Rattle.std.proofs.lemmas.List.{length-map}
 use Rattle.plan_types.specs.Instance.{Instance, IsInstance}
@@ -28,8 +28,9 @@ placed_none p pins routes name none = rw (sym none) refl
 -- the best insertion can be put in
 pub best_put : NamedAreFound → RequestsStandByName → PassesAreLocal → TestsSayFeasible → StopsAreBelowNext → BestInsertionsAreLeast
     → (p : Instance) (pins routes : List (List ℕ)) → IsInstance p → passes p pins routes ≡ true → (r : Request) → request_named p (request_name r) ≡ Some r
-    → (x : Insertion) → best_insertion p pins routes (request_name r) ≡ Some x → IsPut p pins routes r x
-best_put law stand local says below least p pins routes valid good r named x best =
+    → (o : Option Insertion) → best_insertion p pins routes (request_name r) ≡ o → IfSome o (IsPut p pins routes r)
+best_put law stand local says below least p pins routes valid good r named None best = tt
+best_put law stand local says below least p pins routes valid good r named (Some x) best =
     let is : IsBest p pins routes r x = subst (λ (o : Option Insertion). MatchOption o (insertions p pins routes (request_name r) ≡ []) (IsBest p pins routes r)) best (least p pins routes (request_name r) r named) in
     let told = listed p pins routes r x (within (insertions_of p pins routes r) x is.among) in
     is_put law stand local says below p pins routes valid good r named x told.0 told.1 told.2

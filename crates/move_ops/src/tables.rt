@@ -46,17 +46,17 @@ impl Model for Tables {
     ghost view = { λ t. t.tables.items };
 }
 
-/// The best insertion so far, and whether it uses one vehicle more.
+// The best insertion so far, and whether it uses one vehicle more.
 #[derive(Clone, Copy)]
-pub(crate) struct Found {
-    pub(crate) vehicle: u64,
-    pub(crate) opens: bool,
-    pub(crate) addition: Addition,
+struct Found {
+    vehicle: u64,
+    opens: bool,
+    addition: Addition,
 }
 
 impl Found {
-    /// The vehicle, the place of the pickup and that of the delivery.
-    pub(crate) fn place(&self) -> (u64, u64, u64)
+    // The vehicle, the place of the pickup and that of the delivery.
+    fn place(&self) -> (u64, u64, u64)
         ensures { result ≡ place_found self.now }
     {
         (self.vehicle, self.addition.pickup, self.addition.delivery)
@@ -92,18 +92,8 @@ impl Tables {
     {
         let request = live_request(problem, name);
         let tables = self.tables.as_slice();
-        match best_of(
-            problem,
-            pins.routes.as_slice(),
-            tables,
-            &[],
-            tables.len(),
-            &[],
-            request,
-        ) {
-            Some(found) => Some(found.place()),
-            None => None,
-        }
+        let pins = pins.routes.as_slice();
+        best_of(problem, pins, tables, &[], tables.len(), &[], request)
     }
 
     /// Builds the tables of these vehicles anew, for a plan whose other routes are those of the tables. Vehicles count from 1; the list
@@ -177,8 +167,7 @@ fn live_request(problem: &Problem, name: u32) -> &Request
     problem.requests.get(&name).unwrap()
 }
 
-/// The best insertion over all vehicles, where those of `first` are asked before the others. Empty ones are alike, so the first of them
-/// stands for all, and where no others stand behind `end`, the loop ends there.
+/// The best insertion over all vehicles, where those of `first` are asked before the others.
 pub(crate) fn best_of(
     problem: &Problem,
     pins: &[Route],
@@ -187,19 +176,24 @@ pub(crate) fn best_of(
     end: usize,
     first: &[(u32, Tour)],
     request: &Request,
-) -> Option<Found>
+) -> Option<(u64, u64, u64)>
     requires { IsAskedOver problem.now pins.now tables.now rooms.now end first.now request.now }
-    ensures { option_map place_found result
+    ensures { result
         ≡ best_insertion problem.now pins.now (plan_of tables.now) (request_name request.now) }
 {
-    match request {
+    let found = match request {
         Request::Single(_) => best_by_rooms(problem, pins, tables, rooms, end, first, request),
         Request::Pair(_, _) => best_by_rooms(problem, pins, tables, &[], end, first, request),
+    };
+    match found {
+        Some(found) => Some(found.place()),
+        None => None,
     }
 }
 
-// The same, with or without a list of rooms. It is written in its place twice, so that no loop over the vehicles asks again whether the
-// request is a single.
+// What is found there, with or without a list of rooms. It is written in its place twice, so that no loop over the vehicles asks again
+// whether the request is a single. Empty vehicles are alike, so the first of them stands for all, and where no others stand behind `end`,
+// the loop ends there.
 #[inline(always)]
 fn best_by_rooms(
     problem: &Problem,

@@ -101,7 +101,7 @@ impl Draft {
             return None;
         }
         let kept = pins.routes.as_slice();
-        match best_of(
+        best_of(
             problem,
             kept,
             &self.tours,
@@ -109,10 +109,7 @@ impl Draft {
             self.reach(),
             self.first_asked(),
             request,
-        ) {
-            Some(found) => Some(found.place()),
-            None => None,
-        }
+        )
     }
 
     // The vehicles that a best insertion asks first: those that were changed, as long as they are few.

@@ -16,8 +16,8 @@ best_of-requires c =
       first = search rules;
     }
 
-pub returns-in-Some-clause-put : goal.returns-in-Some-clause-put
-returns-in-Some-clause-put c =
+pub returns-clause-put : goal.returns-clause-put
+returns-clause-put c =
     let is = c.requires.is in
     best_put c.requests_are_found_by_stop.ensures c.requests_stand_by_name.ensures c.passes_are_local.ensures c.tests_say_feasible.ensures c.numbers_are_below_the_next.ensures.stops c.best_insertions_are_least.ensures
-    c.args.problem.now c.args.pins.now.routes (draft_of c.args.self.now) is.valid is.draft c.args.request.now c.requires.request c.place.result (search rules)
+    c.args.problem.now c.args.pins.now.routes (draft_of c.args.self.now) is.valid is.draft c.args.request.now c.requires.request c.best_of.result (search rules)
