@@ -1,8 +1,9 @@
 -- The same of the tables: a table of each vehicle's route.
-use Rattle.std.proofs.Common.{◌≡◌, ◌⊎◌, ℕ, zero, suc, ◌+◌, ◌-◌, ◌<◌, ◌≤◌, true, List, [], ◌∷◌, length, map, get_or, slice_get, Option, Some, add-one, refl, sym, ap, subst, ◌∙◌, inl, inr, arith}
+use Rattle.std.proofs.Common.{◌≡◌, ◌⊎◌, ℕ, zero, suc, ◌+◌, ◌-◌, ◌<◌, ◌≤◌, true, List, [], ◌∷◌, length, map, get_or, slice_get, Option, Some, add-one, sym, ap, subst, ◌∙◌, inl, inr, arith}
 use Rattle.std.specs.Prelude.{unwrap_or}
 use Rattle.std.specs.Option.{option_map}
 use Rattle.std.proofs.Math.ListN.{get_or-map, length-map}
+use Rattle.std.proofs.lemmas.List.{get_or_default}
 use Rattle.std.proofs.lemmas.List.Elements.{All-get_or}
 use Rattle.std.proofs.lemmas.Bool.{cases_lt}
 use Rattle.std.proofs.lemmas.Option.{slice_get-get_or, slice_get_within}
@@ -38,12 +39,7 @@ module _ (courses : List Course) (k : ℕ) (c : Course) (is : c ≡ get_or cours
       let there : get_or (map route_of courses) k (route_of c) ≡ route_of (get_or courses k c) = get_or-map route_of courses k c in
       let back : route_of (get_or courses k c) ≡ route_of c = ap route_of (sym is) in
       let within : k < length (map (course_of p) (map route_of courses)) = (let e = ap length tables in omega arith) in
-      sym (ap (course_of p) (there ∙ back)) ∙ (sym here ∙ (get_or_any (map (course_of p) (map route_of courses)) k (course_of p (route_of c)) c within ∙ (ap (λ (l : List Course). get_or l k c) tables ∙ sym is)))
-    where
-      get_or_any : (xs : List Course) (i : ℕ) (d e : Course) → i < length xs → get_or xs i d ≡ get_or xs i e
-      get_or_any [] i d e below = absurd (omega arith)
-      get_or_any (x ∷ xs) zero d e below = refl
-      get_or_any (x ∷ xs) (suc i) d e below = get_or_any xs i d e (omega arith)
+      sym (ap (course_of p) (there ∙ back)) ∙ (sym here ∙ (get_or_default (map (course_of p) (map route_of courses)) k (course_of p (route_of c)) c within ∙ (ap (λ (l : List Course). get_or l k c) tables ∙ sym is)))
 
   pub route_at : of_vehicle (plan_of courses) (k + 1) ≡ route_of c
   route_at =

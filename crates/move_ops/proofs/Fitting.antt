@@ -1,6 +1,6 @@
 -- A request put into a route that is feasible alone: the new route is feasible alone too exactly where it keeps the limits of load and time.
-use Rattle.std.proofs.Common.{◌≡◌, ℕ, zero, suc, ◌+◌, ◌-◌, ◌<◌, ◌≤◌, ◌≤ℤ◌, ◌<ℤ◌, ℤ, pos, ◌-ℤ◌, nat_le, nat_eq, eqb, ◌&&◌, Bool, true, false, not, int_lt, List, [], ◌∷◌, ◌++◌, length, length-append, take, drop, Option, Some, None, IsSome, refl, sym, ap, subst, ◌∙◌, inl, inr, arith, rules, T}
-use Rattle.std.specs.Prelude.{unsigned_abs, ◌↔◌}
+use Rattle.std.proofs.Common.{◌≡◌, ℕ, zero, suc, ◌+◌, ◌-◌, ◌<◌, ◌≤◌, ◌≤ℤ◌, ◌<ℤ◌, ℤ, pos, nat_le, nat_eq, eqb, ◌&&◌, Bool, true, false, not, int_lt, List, [], ◌∷◌, ◌++◌, length, length-append, take, drop, Option, Some, None, IsSome, refl, sym, ap, subst, ◌∙◌, inl, inr, arith, rules, T}
+use Rattle.std.specs.Prelude.{◌↔◌}
 use Rattle.std.specs.List.{list_all, insert}
 use Rattle.std.specs.Option.{option_map_or}
 use Rattle.std.specs.Map.{lookup}
@@ -10,18 +10,16 @@ use Rattle.std.proofs.lemmas.Int.{ints, by_lt_z}
 use Rattle.plan_types.specs.Instance.{Instance, IsInstance, request_with, partner_at, pickup_at}
 use Rattle.plan_types.specs.Laws.{NamedAreFound, RequestsStandByName}
 use Rattle.plan_types.specs.Request.{request_name, stop_in, partner_in, pickup_in}
-use Rattle.plan_types.specs.declared.requests.Stop.{Stop}
 use Rattle.plan_types.specs.declared.requests.Request.{Request}
 use Rattle.plan_types.specs.declared.requests.Request.TheVariants.{Single, Pair}
 use Rattle.plan_types.specs.declared.requests.Kind.{Kind}
 use Rattle.plan_types.specs.declared.requests.Kind.TheVariants.{LiLim, Vrp}
 use Rattle.route_sched.specs.Route.{place}
 use Rattle.route_sched.specs.Schedule.{start, load}
+use Rattle.route_sched.proofs.Steps.{distance-self}
 use Rattle.plan_audit.specs.Passes.{has, has_whole_pairs, picks_up_first, keeps_capacity, keeps_windows, is_back_in_time, keeps_times, feasible_alone}
 use Rattle.plan_audit.proofs.TestLemmas.{range_true, true_range}
 use Rattle.move_ops.specs.Pairing.{are_paired}
-use Rattle.nint_dist.specs.Distance.{distance}
-use Rattle.nint_dist.specs.NearestRoot.{nearest_root, whole_root}
 use Rattle.slack_tables.specs.Insertion.{KeepsLimits, ArePlaces, inserted}
 use Rattle.move_ops.proofs.Times.{none_some, some_same, times, one_here, none_here, times-append, times_split}
 use Rattle.move_ops.proofs.Inserting.{numbers_of, times_put, times_inserted, in_numbers}
@@ -296,16 +294,9 @@ kept_alone p route feasible =
     (and_parts (picks_up_first p route) (keeps_capacity p route && keeps_times p.kind p route) one.1).1
 
 -- ---- a vehicle that stays at the depot
-still : (x : ℤ) → unsigned_abs (x -ℤ x) ≡ 0
-still x = omega (arith, ints)
-
-no_way : (s : Stop) → distance s s ≡ 0
-unfolding distance nearest_root whole_root
-no_way s = rw (still s.x, still s.y) refl
-
 idle_start : (p : Instance) → p.depot.service ≡ 0 → start p [] 1 ≡ p.depot.earliest
 unfolding start place
-idle_start p none = let e = no_way p.depot in omega arith
+idle_start p none = let e = distance-self p.depot in omega arith
 
 pub idle_limits : (p : Instance) → IsInstance p → (route : List ℕ) → length route ≡ 0 → start p route (length route + 1) ≤ p.depot.latest
 idle_limits p valid [] none = let e = idle_start p (valid.depot.service) in let w = valid.depot.visit.window in omega arith

@@ -1,9 +1,9 @@
 -- Tables of which some were built anew.
-use Rattle.std.proofs.Common.{◌≡◌, ℕ, zero, suc, ◌+◌, ◌-◌, ◌<◌, ◌≤◌, ◌⊎◌, Bool, true, false, List, [], ◌∷◌, length, map, set, get_or, refl, sym, ap, subst, ◌∙◌, inl, inr, arith}
+use Rattle.std.proofs.Common.{◌≡◌, ℕ, ◌+◌, ◌-◌, ◌<◌, ◌≤◌, ◌⊎◌, Bool, true, false, List, [], ◌∷◌, length, map, set, get_or, refl, sym, ap, subst, ◌∙◌, inl, inr, arith}
 use Rattle.std.specs.List.{AllByRecursion}
 use Rattle.std.proofs.Math.ListN.{get_or-map, length-map}
 use Rattle.std.proofs.lemmas.Bool.Decides.{eqb_tells}
-use Rattle.std.proofs.lemmas.List.{length-set, same_lists, get_or-set_other}
+use Rattle.std.proofs.lemmas.List.{get_or_default, length-set, same_lists, get_or-set_other}
 use Rattle.std.proofs.lemmas.Grind.{get_or-set_at}
 use Rattle.std.proofs.lemmas.List.Elements.{recursion_from_All}
 use Rattle.std.proofs.lemmas.Option.{get_or_from_slice_get}
@@ -29,11 +29,6 @@ module _ (p : Instance) (valid : IsInstance p) where
   plan_kept local plans pins routes good = routes_kept routes (recursion_from_All (AreLiveOnce p) routes ((plans p routes).0 ((parts local p pins routes good).plan)).0)
 
 -- ---- tables that take the place of others
-any_default : (xs : List Course) (i : ℕ) (d e : Course) → i < length xs → get_or xs i d ≡ get_or xs i e
-any_default [] i d e below = absurd (omega arith)
-any_default (x ∷ xs) zero d e below = refl
-any_default (x ∷ xs) (suc i) d e below = any_default xs i d e (omega arith)
-
 at_index : (routes : List (List ℕ)) (i : ℕ) → i < length routes → get_or routes i [] ≡ of_vehicle routes (i + 1)
 at_index routes i below =
     let at : i + 1 - 1 ≡ i = omega arith in
@@ -100,7 +95,7 @@ module _ (p : Instance) (routes : List (List ℕ)) where
       in_range = subst (λ (n : ℕ). AllByRecursion (λ v. (1 ≤ v) × (v ≤ n)) vehicles) (sym fleet) (recursion_from_All (λ v. (1 ≤ v) × (v ≤ p.fleet)) vehicles within)
 
       there : (i : ℕ) (d : Course) → i < length routes → course_of p (get_or routes i []) ≡ get_or (tables_of p routes) i d
-      there i d below = sym (get_or-map (course_of p) routes i []) ∙ any_default (tables_of p routes) i (course_of p []) d (let f = length-map routes (course_of p) in omega arith)
+      there i d below = sym (get_or-map (course_of p) routes i []) ∙ get_or_default (tables_of p routes) i (course_of p []) d (let f = length-map routes (course_of p) in omega arith)
 
       due : IsDue vehicles tables
       due i d below = by (has vehicles (i + 1)) refl
@@ -111,7 +106,7 @@ module _ (p : Instance) (routes : List (List ℕ)) where
               let route : get_or routes i [] ≡ of_vehicle routes (i + 1) = at_index routes i below in
               let other : get_or (plan_of tables) i [] ≡ of_vehicle (plan_of tables) (i + 1) = at_index (plan_of tables) i (let e = differ.long in omega arith) in
               let listed : get_or (tables_of p (plan_of tables)) i (course_of p []) ≡ course_of p (get_or (plan_of tables) i []) = get_or-map (course_of p) (plan_of tables) i [] in
-              any_default tables i d (course_of p []) (let g = long in omega arith) ∙ (ap (λ (l : List Course). get_or l i (course_of p [])) (sym are) ∙ (listed ∙ ap (course_of p) (other ∙ (old ∙ sym route))))
+              get_or_default tables i d (course_of p []) (let g = long in omega arith) ∙ (ap (λ (l : List Course). get_or l i (course_of p [])) (sym are) ∙ (listed ∙ ap (course_of p) (other ∙ (old ∙ sym route))))
 
           by : (b : Bool) → has vehicles (i + 1) ≡ b → (has vehicles (i + 1) ≡ true) ⊎ (get_or tables i d ≡ course_of p (get_or routes i []))
           by true had = inl had

@@ -1,5 +1,5 @@
 -- How often a number stands in a list, and what that says of live stops that stand once.
-use Rattle.std.proofs.Common.{◌≡◌, ℕ, zero, suc, ◌+◌, ◌<◌, ◌≤◌, ◌||◌, true, false, cond, List, [], ◌∷◌, ◌++◌, length, take, drop, set, get_or, Some, None, slice_get, refl, sym, ap, subst, ◌∙◌, inl, inr, arith, eqb, nat_eq}
+use Rattle.std.proofs.Common.{◌≡◌, ℕ, zero, suc, ◌+◌, ◌<◌, ◌≤◌, ◌||◌, true, false, cond, List, [], ◌∷◌, ◌++◌, length, take, drop, set, get_or, Some, slice_get, refl, sym, ap, subst, ◌∙◌, inl, inr, arith, eqb, nat_eq}
 use Rattle.std.specs.List.{AllByRecursion, IsDistinct, list_any, concat}
 use Rattle.std.proofs.lemmas.Bool.{eq-eqb}
 use Rattle.std.proofs.lemmas.Bool.Decides.{eqb_tells}
@@ -10,12 +10,7 @@ use Rattle.plan_types.specs.Instance.{Instance}
 use Rattle.route_sched.specs.Cost.{has_stop}
 use Rattle.route_sched.specs.Route.{IsLive, AreLiveOnce}
 use Rattle.plan_audit.specs.Passes.{has}
-
-pub none_some : {X : Type 0} (x : X) → None ≡ Some x → ⊥
-none_some x h = cc
-
-pub some_same : {X : Type 0} (x y : X) → Some x ≡ Some y → x ≡ y
-some_same x y h = cc
+pub use Rattle.std.proofs.lemmas.Option.{none-some as none_some, same_Some as some_same}
 
 abbrev pub times : ℕ → List ℕ → ℕ
 times n [] = 0

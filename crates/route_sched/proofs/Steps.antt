@@ -55,7 +55,7 @@ unfolding length_before route_length
 route_length_is p route = refl
 
 -- a stop is at no distance from itself
-distance-self : (s : Stop) → distance s s ≡ 0
+pub distance-self : (s : Stop) → distance s s ≡ 0
 unfolding distance nearest_root whole_root
 distance-self s = rw (same s.x, same s.y) refl
   where
