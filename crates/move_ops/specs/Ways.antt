@@ -10,6 +10,7 @@ use Rattle.route_sched.specs.Route.{place}
 use Rattle.move_ops.specs.Insertion.{request_named, of_vehicle}
 use Rattle.move_ops.specs.declared.draft.foreseeing.Seat.{Seat}
 use Rattle.move_ops.specs.declared.draft.rearranging.Cut.{Cut}
+use Rattle.move_ops.specs.declared.draft.rearranging.Cuts.{Cuts}
 
 -- the vehicle has a route with so many stops and more
 pub record IsSeat (routes : List (List ℕ)) (s : Seat) : Type 0 where
@@ -23,6 +24,10 @@ pub record IsSeatOf (p : Instance) (routes : List (List ℕ)) (name : ℕ) (s : 
   pub visit : IsVisit s.stop
   pub seat : IsSeat routes s
   pub at : slice_get (of_vehicle routes s.vehicle) s.index ≡ Some s.stop.number
+
+-- a vehicle each, and behind how many stops its route is cut
+abbrev pub cuts_of : ℕ → ℕ → ℕ → ℕ → Cuts
+cuts_of a a_cut b b_cut = record { first = record { vehicle = a; stops = a_cut }; second = record { vehicle = b; stops = b_cut } }
 
 -- the vehicle has a route with so many stops at least
 pub record IsCutOf (routes : List (List ℕ)) (c : Cut) : Type 0 where

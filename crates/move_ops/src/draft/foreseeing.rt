@@ -13,7 +13,7 @@ ghost use Rattle.move_ops.specs.Insertion.{of_vehicle};
 ghost use Rattle.move_ops.specs.Moves.{exchanged, crossed};
 
 use super::Draft;
-use super::rearranging::Cut;
+use super::rearranging::{Cut, Cuts};
 use crate::naming::request_named;
 use nint_dist::dist;
 use plan_audit::passes_are_local;
@@ -106,17 +106,11 @@ impl Draft {
         if problem.kind != Kind::Vrp {
             return None;
         }
-        let first = Cut {
-            vehicle: a,
-            stops: a_cut,
-        };
-        let second = Cut {
-            vehicle: b,
-            stops: b_cut,
-        };
-        if !self.are_crossable(pins, first, second) {
+        let cuts = Cuts::of(a, a_cut, b, b_cut);
+        if !self.are_crossable(pins, cuts) {
             return None;
         }
+        let Cuts { first, second } = cuts;
         let before = self.way_across(problem, pins, first, first)
             + self.way_across(problem, pins, second, second);
         let after = self.way_across(problem, pins, first, second)

@@ -7,7 +7,7 @@ ghost use Rattle.std.specs.Prelude.{◌≡◌, ◌==◌, ◌&&◌, ◌≤◌, �
 ghost use Rattle.std.specs.List.{concat, IsDistinct};
 ghost use Rattle.plan_types.specs.Request.{stop_in};
 ghost use Rattle.move_ops.specs.Insertion.{of_vehicle};
-ghost use Rattle.move_ops.specs.Ways.{IsCutOf};
+ghost use Rattle.move_ops.specs.Ways.{cuts_of, IsCutOf};
 ghost use Rattle.move_ops.specs.Changes.{with_routes, AreChanges, AreIn, AreVehiclesOf, IsChange};
 ghost use Rattle.move_ops.specs.Moves.{counterpart, exchanged, crossed, joined, is_cut, are_exchangeable};
 ghost use Rattle.std.specs.Option.{option_map};
@@ -29,6 +29,30 @@ use plan_types::{
 pub(super) struct Cut {
     pub(super) vehicle: u64,
     pub(super) stops: u64,
+}
+
+/// The cuts of two routes whose ends are exchanged.
+#[derive(Clone, Copy)]
+pub(super) struct Cuts {
+    pub(super) first: Cut,
+    pub(super) second: Cut,
+}
+
+impl Cuts {
+    pub(super) fn of(a: u64, a_cut: u64, b: u64, b_cut: u64) -> Cuts
+        ensures { result ≡ cuts_of a a_cut b b_cut }
+    {
+        Cuts {
+            first: Cut {
+                vehicle: a,
+                stops: a_cut,
+            },
+            second: Cut {
+                vehicle: b,
+                stops: b_cut,
+            },
+        }
+    }
 }
 
 impl Draft {
@@ -167,15 +191,7 @@ impl Draft {
         ensures err { OnErr result (self.new ≡ self.old) }
     {
         let unplanned = self.cost.unplanned;
-        let first = Cut {
-            vehicle: a,
-            stops: a_cut,
-        };
-        let second = Cut {
-            vehicle: b,
-            stops: b_cut,
-        };
-        let changes = self.crossing(problem, pins, first, second)?;
+        let changes = self.crossing(problem, pins, Cuts::of(a, a_cut, b, b_cut))?;
         self.apply(problem, pins, changes, unplanned)
     }
 
@@ -184,23 +200,23 @@ impl Draft {
         &self,
         problem: &Problem,
         pins: &Pins,
-        first: Cut,
-        second: Cut,
+        cuts: Cuts,
     ) -> Result<Option<Vec<Change>>, OutOfMemory>
         requires { IsDraftOf problem.now pins.now.routes self.now }
         ensures routes { IfOk result
             (λ o. option_map (λ cs. with_routes (draft_of self.now) cs.items) o
             ≡ crossed problem.now pins.now.routes (draft_of self.now)
-            first.vehicle first.stops second.vehicle second.stops) }
+            cuts.first.vehicle cuts.first.stops cuts.second.vehicle cuts.second.stops) }
         ensures change { IfOk result
             (λ o. IfSome o (λ cs. IsChange problem.now pins.now.routes
             (draft_of self.now) cs.items self.now.cost.unplanned)) }
     {
         passes_are_local();
         tests_say_feasible();
-        if !self.are_crossable(pins, first, second) {
+        if !self.are_crossable(pins, cuts) {
             return Ok(None);
         }
+        let Cuts { first, second } = cuts;
         let first_route = self.joined(first, second)?;
         let second_route = self.joined(second, first)?;
         if !tour_of(&self.tours, first.vehicle).is_feasible(problem, first_route.as_slice()) {
@@ -222,12 +238,13 @@ impl Draft {
     }
 
     /// Whether these are cuts of two routes.
-    pub(super) fn are_crossable(&self, pins: &Pins, first: Cut, second: Cut) -> bool
-        ensures { result ≡ (not (first.vehicle == second.vehicle)
-            && (is_cut pins.now.routes (draft_of self.now) first.vehicle first.stops
-            && is_cut pins.now.routes (draft_of self.now) second.vehicle second.stops)) }
+    pub(super) fn are_crossable(&self, pins: &Pins, cuts: Cuts) -> bool
+        ensures { result ≡ (not (cuts.first.vehicle == cuts.second.vehicle)
+            && (is_cut pins.now.routes (draft_of self.now) cuts.first.vehicle cuts.first.stops
+            && is_cut pins.now.routes (draft_of self.now) cuts.second.vehicle cuts.second.stops)) }
     {
         let kept = pins.routes.as_slice();
+        let Cuts { first, second } = cuts;
         first.vehicle != second.vehicle && self.is_cut(kept, first) && self.is_cut(kept, second)
     }
 

@@ -9,30 +9,30 @@ use Rattle.move_ops.proofs.draft.Draft.crossing.Goals as goal
 
 pub is_feasible-requires : goal.is_feasible-requires
 is_feasible-requires c =
-    record { course = search rules; once = subst (AreLiveOnce c.args.problem.now) (sym c.as_slice.ensures) (once_first c.passes_are_local.ensures c.tests_say_feasible.ensures c.args.problem.now c.args.pins.now.routes c.args.self.now c.requires c.args.first.vehicle c.args.first.stops c.args.second.vehicle c.args.second.stops (sym (search rules) ∙ c.are_crossable.ensures) c.in_ok-first_route.first_route c.in_ok-second_route.second_route (search rules) (search rules)) }
+    record { course = search rules; once = subst (AreLiveOnce c.args.problem.now) (sym c.as_slice.ensures) (once_first c.passes_are_local.ensures c.tests_say_feasible.ensures c.args.problem.now c.args.pins.now.routes c.args.self.now c.requires c.args.cuts.first.vehicle c.args.cuts.first.stops c.args.cuts.second.vehicle c.args.cuts.second.stops (sym (search rules) ∙ c.are_crossable.ensures) c.in_ok-first_route.first_route c.in_ok-second_route.second_route (search rules) (search rules)) }
 
 pub returns-then-not-is_feasible-clause-routes : goal.returns-then-not-is_feasible-clause-routes
 returns-then-not-is_feasible-clause-routes c =
-    answer c.passes_are_local.ensures c.tests_say_feasible.ensures c.args.problem.now c.args.pins.now.routes c.args.self.now c.requires c.args.first.vehicle c.args.first.stops c.args.second.vehicle c.args.second.stops (sym (search rules) ∙ c.are_crossable.ensures) c.in_ok-first_route.first_route c.in_ok-second_route.second_route (search rules) (search rules) false (feasible_alone c.args.problem.now c.in_ok-second_route.second_route) (sym (search rules) ∙ (c.is_feasible.ensures ∙ ap (feasible_alone c.args.problem.now) c.as_slice.ensures)) refl
+    answer c.passes_are_local.ensures c.tests_say_feasible.ensures c.args.problem.now c.args.pins.now.routes c.args.self.now c.requires c.args.cuts.first.vehicle c.args.cuts.first.stops c.args.cuts.second.vehicle c.args.cuts.second.stops (sym (search rules) ∙ c.are_crossable.ensures) c.in_ok-first_route.first_route c.in_ok-second_route.second_route (search rules) (search rules) false (feasible_alone c.args.problem.now c.in_ok-second_route.second_route) (sym (search rules) ∙ (c.is_feasible.ensures ∙ ap (feasible_alone c.args.problem.now) c.as_slice.ensures)) refl
 
 pub is_feasible-requires-2 : goal.is_feasible-requires-2
 is_feasible-requires-2 c =
-    record { course = search rules; once = subst (AreLiveOnce c.args.problem.now) (sym c.as_slice-2.ensures) (once_second c.passes_are_local.ensures c.tests_say_feasible.ensures c.args.problem.now c.args.pins.now.routes c.args.self.now c.requires c.args.first.vehicle c.args.first.stops c.args.second.vehicle c.args.second.stops (sym (search rules) ∙ c.are_crossable.ensures) c.in_ok-first_route.first_route c.in_ok-second_route.second_route (search rules) (search rules)) }
+    record { course = search rules; once = subst (AreLiveOnce c.args.problem.now) (sym c.as_slice-2.ensures) (once_second c.passes_are_local.ensures c.tests_say_feasible.ensures c.args.problem.now c.args.pins.now.routes c.args.self.now c.requires c.args.cuts.first.vehicle c.args.cuts.first.stops c.args.cuts.second.vehicle c.args.cuts.second.stops (sym (search rules) ∙ c.are_crossable.ensures) c.in_ok-first_route.first_route c.in_ok-second_route.second_route (search rules) (search rules)) }
 
 pub returns-then-not-is_feasible-2-clause-routes : goal.returns-then-not-is_feasible-2-clause-routes
 returns-then-not-is_feasible-2-clause-routes c =
     let one : true ≡ feasible_alone c.args.problem.now c.in_ok-first_route.first_route = sym (search rules) ∙ (c.is_feasible.ensures ∙ ap (feasible_alone c.args.problem.now) c.as_slice.ensures) in
-    answer c.passes_are_local.ensures c.tests_say_feasible.ensures c.args.problem.now c.args.pins.now.routes c.args.self.now c.requires c.args.first.vehicle c.args.first.stops c.args.second.vehicle c.args.second.stops (sym (search rules) ∙ c.are_crossable.ensures) c.in_ok-first_route.first_route c.in_ok-second_route.second_route (search rules) (search rules) true false one (sym (search rules) ∙ (c.is_feasible-2.ensures ∙ ap (feasible_alone c.args.problem.now) c.as_slice-2.ensures))
+    answer c.passes_are_local.ensures c.tests_say_feasible.ensures c.args.problem.now c.args.pins.now.routes c.args.self.now c.requires c.args.cuts.first.vehicle c.args.cuts.first.stops c.args.cuts.second.vehicle c.args.cuts.second.stops (sym (search rules) ∙ c.are_crossable.ensures) c.in_ok-first_route.first_route c.in_ok-second_route.second_route (search rules) (search rules) true false one (sym (search rules) ∙ (c.is_feasible-2.ensures ∙ ap (feasible_alone c.args.problem.now) c.as_slice-2.ensures))
 
 pub returns-clause-routes : goal.returns-clause-routes
 returns-clause-routes c =
     let one : true ≡ feasible_alone c.args.problem.now c.in_ok-first_route.first_route = sym (search rules) ∙ (c.is_feasible.ensures ∙ ap (feasible_alone c.args.problem.now) c.as_slice.ensures) in
     let two : true ≡ feasible_alone c.args.problem.now c.in_ok-second_route.second_route = sym (search rules) ∙ (c.is_feasible-2.ensures ∙ ap (feasible_alone c.args.problem.now) c.as_slice-2.ensures) in
-    let changes : c.push-2.new.self.items ≡ record { vehicle = c.args.first.vehicle; route = c.in_ok-first_route.first_route } ∷ record { vehicle = c.args.second.vehicle; route = c.in_ok-second_route.second_route } ∷ [] = search rules in
-    ap (λ (l : List Change). Some (with_routes (draft_of c.args.self.now) l)) changes ∙ answer c.passes_are_local.ensures c.tests_say_feasible.ensures c.args.problem.now c.args.pins.now.routes c.args.self.now c.requires c.args.first.vehicle c.args.first.stops c.args.second.vehicle c.args.second.stops (sym (search rules) ∙ c.are_crossable.ensures) c.in_ok-first_route.first_route c.in_ok-second_route.second_route (search rules) (search rules) true true one two
+    let changes : c.push-2.new.self.items ≡ record { vehicle = c.args.cuts.first.vehicle; route = c.in_ok-first_route.first_route } ∷ record { vehicle = c.args.cuts.second.vehicle; route = c.in_ok-second_route.second_route } ∷ [] = search rules in
+    ap (λ (l : List Change). Some (with_routes (draft_of c.args.self.now) l)) changes ∙ answer c.passes_are_local.ensures c.tests_say_feasible.ensures c.args.problem.now c.args.pins.now.routes c.args.self.now c.requires c.args.cuts.first.vehicle c.args.cuts.first.stops c.args.cuts.second.vehicle c.args.cuts.second.stops (sym (search rules) ∙ c.are_crossable.ensures) c.in_ok-first_route.first_route c.in_ok-second_route.second_route (search rules) (search rules) true true one two
 
 pub returns-clause-change : goal.returns-clause-change
 returns-clause-change c =
     let one : true ≡ feasible_alone c.args.problem.now c.in_ok-first_route.first_route = sym (search rules) ∙ (c.is_feasible.ensures ∙ ap (feasible_alone c.args.problem.now) c.as_slice.ensures) in
     let two : true ≡ feasible_alone c.args.problem.now c.in_ok-second_route.second_route = sym (search rules) ∙ (c.is_feasible-2.ensures ∙ ap (feasible_alone c.args.problem.now) c.as_slice-2.ensures) in
-    crossed_change c.passes_are_local.ensures c.tests_say_feasible.ensures c.args.problem.now c.args.pins.now.routes c.args.self.now c.requires c.args.first.vehicle c.args.first.stops c.args.second.vehicle c.args.second.stops (sym (search rules) ∙ c.are_crossable.ensures) c.in_ok-first_route.first_route c.in_ok-second_route.second_route (search rules) (search rules) c.push-2.new.self.items (search rules) one two
+    crossed_change c.passes_are_local.ensures c.tests_say_feasible.ensures c.args.problem.now c.args.pins.now.routes c.args.self.now c.requires c.args.cuts.first.vehicle c.args.cuts.first.stops c.args.cuts.second.vehicle c.args.cuts.second.stops (sym (search rules) ∙ c.are_crossable.ensures) c.in_ok-first_route.first_route c.in_ok-second_route.second_route (search rules) (search rules) c.push-2.new.self.items (search rules) one two
