@@ -7,6 +7,7 @@
 //!
 //! Modules, in reading order:
 //! - `draws`: what a word draws, and what is left of it.
+//! - `sorting`: where an item goes in a list that is sorted by insertion.
 //! - `routes`: the routes nearest to a stop.
 //! - `strings`: the strings, and the requests that go with them.
 //! - `missing`: the requests that are unplanned once those are taken out.
@@ -49,6 +50,7 @@ mod missing;
 mod orders;
 mod routes;
 mod search;
+mod sorting;
 mod strings;
 
 pub use draws::{Drawn, draw};

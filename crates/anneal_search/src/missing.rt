@@ -1,8 +1,8 @@
 //! The requests that are unplanned once some are taken out of a plan, without a look at all others.
 ghost use Rattle.std.specs.Prelude.{◌≡◌, ◌≤◌, IfOk, OnOk, length, nat_le};
-ghost use Rattle.anneal_search.specs.Sorting.{first_place};
 ghost use Rattle.anneal_search.specs.Missing.{put_name, with_names};
 
+use crate::sorting::first_place;
 use plan_types::OutOfMemory;
 use std::alloc::Global;
 
@@ -26,23 +26,10 @@ pub(crate) fn with_names(
 fn put_name(all: &mut Vec<u32>, name: u32) -> Result<(), OutOfMemory>
     ensures { OnOk result (all.new.items ≡ put_name name all.old.items) }
 {
-    let index = place(all, name);
+    let index = first_place(all, |other| name <= other);
     if index < all.len() && all[index] == name {
         return Ok(());
     }
     all.insert(index, name)?;
     Ok(())
-}
-
-// The index of the first name that is not below.
-fn place(all: &[u32], name: u32) -> usize
-    ensures place { result ≡ first_place (nat_le name) all.now }
-    ensures within { result ≤ length all.now }
-{
-    for index in 0..all.len() {
-        if name <= all[index] {
-            return index;
-        }
-    }
-    all.len()
 }
