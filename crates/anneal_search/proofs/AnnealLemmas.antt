@@ -2,7 +2,7 @@
 use Rattle.std.proofs.Common.{◌≡◌, ℕ, ◌==◌, Bool, true, false, cond, List, length, slice_index, Option, Some, None, IsTrue, refl, sym, ap, subst, ◌∙◌, eqb}
 use Rattle.std.specs.Option.{option_map}
 use Rattle.std.proofs.lemmas.Bool.{both_ways, eq-eqb}
-use Rattle.plan_types.specs.Cost.{cost_at_most, CostsAreTotal, CostsAreTransitive}
+use Rattle.plan_types.specs.Cost.{cost_at_most, CostsAreTotal}
 use Rattle.plan_types.specs.Instance.{Instance}
 use Rattle.plan_types.specs.declared.plans.Cost.{Cost}
 use Rattle.plan_types.specs.declared.plans.Plan.{Plan}
@@ -15,11 +15,10 @@ use Rattle.seeded_search.specs.Steps.{unplanned_names, is_near}
 use Rattle.seeded_search.specs.StepLaws.{BothPass}
 use Rattle.seeded_search.specs.Working.{walked_by, HasTaken}
 use Rattle.seeded_search.specs.declared.walk.Walk.{Walk}
-use Rattle.seeded_search.proofs.WalkLemmas.{Passes, removed_passes, placed_all_passes, same_cost, many_add_up, many_keep, many_cost, noted_walk, taken_walk}
+use Rattle.seeded_search.proofs.WalkLemmas.{Passes, removed_passes, placed_all_passes, same_cost, noted_walk, taken_walk}
 use Rattle.anneal_search.specs.Orders.{ordered}
 use Rattle.anneal_search.specs.Strings.{ruined_names}
-use Rattle.anneal_search.specs.Annealing.{Walked, walked, recreated, candidate, annealed, annealed_by, anneal_step, anneal_steps}
-use Rattle.anneal_search.specs.AnnealLaws.{AnnealStepsAddUp, AnnealStepsKeepPassing, AnnealedNeverCostMore}
+use Rattle.anneal_search.specs.Annealing.{Walked, walked, recreated, candidate, annealed, annealed_by, anneal_step}
 use Rattle.anneal_search.specs.Going.{HasImproved, IsGoing}
 
 -- ---- the candidate
@@ -96,7 +95,7 @@ module _ (p : Instance) (pins : List (List ℕ)) (deviation seed : ℕ) where
       by true false = record { incumbent = both.incumbent; working = pass }
       by false less = both
 
-  step_passes : (n : ℕ) (s : Walked) → BothPass p pins s → BothPass p pins (anneal_step p pins deviation seed n s)
+  pub step_passes : (n : ℕ) (s : Walked) → BothPass p pins s → BothPass p pins (anneal_step p pins deviation seed n s)
   unfolding anneal_step
   step_passes n s both = by (candidate p pins s.working (step_words seed n)) refl
     where
@@ -104,7 +103,7 @@ module _ (p : Instance) (pins : List (List ℕ)) (deviation seed : ℕ) where
       by None e = both
       by (Some c) e = annealed_passes s c (candidate_passes s.working (step_words seed n) c e) both
 
-  step_cost : CostsAreTotal → (n : ℕ) (s : Walked) → IsTrue (cost_at_most (cost_of p (anneal_step p pins deviation seed n s).incumbent) (cost_of p s.incumbent))
+  pub step_cost : CostsAreTotal → (n : ℕ) (s : Walked) → IsTrue (cost_at_most (cost_of p (anneal_step p pins deviation seed n s).incumbent) (cost_of p s.incumbent))
   unfolding anneal_step
   step_cost total n s = by (candidate p pins s.working (step_words seed n))
     where
@@ -117,15 +116,3 @@ module _ (p : Instance) (pins : List (List ℕ)) (deviation seed : ℕ) where
       by : (o : Option (List (List ℕ))) → IsTrue (cost_at_most (cost_of p (annealed_by p deviation s o).incumbent) (cost_of p s.incumbent))
       by None = same_cost total (cost_of p s.incumbent)
       by (Some c) = either c (is_near deviation (cost_of p c) (cost_of p s.working)) (cost_at_most (cost_of p c) (cost_of p s.incumbent)) refl
-
-pub anneal_steps_add_up : AnnealStepsAddUp
-unfolding anneal_steps
-anneal_steps_add_up p pins deviation seed n a b s = many_add_up (anneal_step p pins deviation seed) b a n s
-
-pub anneal_steps_keep_passing : AnnealStepsKeepPassing
-unfolding anneal_steps
-anneal_steps_keep_passing p pins deviation seed n count s both = many_keep (anneal_step p pins deviation seed) (BothPass p pins) (step_passes p pins deviation seed) count n s both
-
-pub annealed_never_cost_more : CostsAreTotal → CostsAreTransitive → AnnealedNeverCostMore
-unfolding anneal_steps
-annealed_never_cost_more total transitive p pins deviation seed n count s = many_cost (anneal_step p pins deviation seed) p total transitive (step_cost p pins deviation seed total) count n s
