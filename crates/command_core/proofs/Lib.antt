@@ -1,4 +1,5 @@
 pub mod AddLemmas
+mod AskedLemmas
 pub mod CountLemmas
 pub mod Examples
 pub mod FactLemmas

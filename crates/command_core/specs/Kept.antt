@@ -8,6 +8,10 @@ use Rattle.command_core.specs.Job.{JobValue}
 use Rattle.command_core.specs.Changes.{job_with, with_change}
 use Rattle.command_core.specs.declared.states.State.{State}
 use Rattle.command_core.specs.declared.states.State.TheVariants.{Empty, Loaded}
+use Rattle.command_core.specs.declared.commands.Command.{Command}
+use Rattle.command_core.specs.declared.commands.Command.TheVariants as commands
+use Rattle.command_core.specs.declared.walking.Asked.{Asked}
+use Rattle.command_core.specs.declared.walking.Asked.TheVariants.{Search, Anneal}
 use Rattle.command_core.specs.declared.walking.Stepped.{Stepped}
 use Rattle.command_core.specs.declared.applying.Carried.{Carried}
 
@@ -28,6 +32,11 @@ IsKept state kept = IfSome kept (FitsState state)
 -- the job with the plans of a walk, after so many steps in all
 abbrev pub walked_on : JobValue → Walk → ℕ → JobValue
 walked_on j w steps = record j { plan = w.incumbent.routes; work = base_of w.draft; steps = steps }
+
+-- the command that asks for these steps
+abbrev pub asked_for : Asked → Command
+asked_for (Search count) = commands.Search count
+asked_for (Anneal count) = commands.Anneal count
 
 -- steps that lead from one job to another
 pub record IsStepped (old new : JobValue) (s : Stepped) : Type 0 where

@@ -16,7 +16,7 @@ use crate::pinning::{pin, unpin};
 use crate::planning::{build, deviate};
 use crate::refusals::Refusal;
 use crate::states::{Job, State};
-use crate::walking::{Stepped, anneal, search};
+use crate::walking::{Asked, Stepped, step};
 use crate::withdrawing::withdraw;
 use seeded_search::Walk;
 use std::alloc::Global;
@@ -128,12 +128,12 @@ fn carry_out_on(
     ensures err { IfErr result (λ r. r ≡ Refusal.OutOfMemory) }
 {
     match command {
-        Command::Search(count) => walked(search(alloc, job, kept, *count)),
+        Command::Search(count) => walked(step(alloc, job, kept, Asked::Search(*count))),
         Command::Checkpoint => Ok(Carried {
             change: Change::Within(JobChange::Nothing),
             walk: kept,
         }),
-        Command::Anneal(count) => walked(anneal(alloc, job, kept, *count)),
+        Command::Anneal(count) => walked(step(alloc, job, kept, Asked::Anneal(*count))),
         _ => carry_out_without(alloc, job, command),
     }
 }
@@ -157,10 +157,10 @@ fn carry_out_without(alloc: Global, job: &Job, command: &Command) -> Result<Carr
         Command::Pin(vehicle, stops) => within(pin(alloc, job, *vehicle, *stops)),
         Command::Unpin(vehicle) => within(unpin(alloc, job, *vehicle)),
         Command::Build => within(build(alloc, job)),
-        Command::Search(count) => walked(search(alloc, job, None, *count)),
+        Command::Search(count) => walked(step(alloc, job, None, Asked::Search(*count))),
         Command::Checkpoint => within(Ok(JobChange::Nothing)),
         Command::Deviation(deviation) => within(deviate(job, *deviation)),
-        Command::Anneal(count) => walked(anneal(alloc, job, None, *count)),
+        Command::Anneal(count) => walked(step(alloc, job, None, Asked::Anneal(*count))),
     }
 }
 

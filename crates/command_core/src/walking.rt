@@ -1,18 +1,36 @@
 //! Steps over a job's plans, by a walk that is kept from one command to the next.
-ghost use Rattle.std.specs.Prelude.{◌≡◌, None, IfSome, IfOk, IfErr};
+ghost use Rattle.std.specs.Prelude.{◌≡◌, ◌+◌, None, IfSome, IfOk, IfErr};
 ghost use Rattle.seeded_search.specs.Working.{IsWalk};
-ghost use Rattle.command_core.specs.Kept.{IsWalkOf, IsStepped, walked_on};
-ghost use Rattle.command_core.specs.Effects.{searched, annealed};
+ghost use Rattle.command_core.specs.Kept.{IsWalkOf, IsStepped, walked_on, asked_for};
+ghost use Rattle.command_core.specs.Effects.{job_after};
 ghost use Rattle.command_core.specs.Refusing.{job_refusal};
+ghost use Rattle.command_core.specs.Runs.{steps_of};
 
 use crate::changes::JobChange;
-use crate::commands::Command;
 use crate::refusals::Refusal;
 use crate::states::Job;
 use anneal_search::anneal_on;
 use plan_types::OutOfMemory;
 use seeded_search::{Found, Walk, walk_on};
 use std::alloc::Global;
+
+/// So many steps of the search, or of annealing.
+#[derive(Clone, Copy, Debug, PartialEq, Eq)]
+pub(crate) enum Asked {
+    Search(u16),
+    Anneal(u32),
+}
+
+impl Asked {
+    fn count(self) -> u64
+        ensures { result ≡ steps_of (asked_for self) }
+    {
+        match self {
+            Asked::Search(count) => u64::from(count),
+            Asked::Anneal(count) => u64::from(count),
+        }
+    }
+}
 
 /// What steps change of a job, and the walk that made them.
 #[derive(Drop)]
@@ -21,55 +39,57 @@ pub(crate) struct Stepped {
     pub walk: Walk,
 }
 
-/// So many steps of the search. Where a walk is kept, it goes on, and no table is built.
-pub(crate) fn search(
+/// The steps that are asked for. Where a walk is kept, it goes on, and no table is built.
+#[tactic(auto, using(crate::proofs::AskedLemmas::steps_fit))]
+pub(crate) fn step(
     alloc: Global,
     job: &Job,
     kept: Option<Walk>,
-    count: u16,
+    asked: Asked,
 ) -> Result<Stepped, Refusal>
-    requires accepted { job_refusal job.now (Command.Search count) ≡ None }
+    requires accepted { job_refusal job.now (asked_for asked) ≡ None }
     requires kept { IfSome kept (IsWalkOf job.now) }
-    ensures ok { IfOk result (IsStepped job.now (searched job.now count)) }
+    ensures ok { IfOk result (IsStepped job.now (job_after job.now (asked_for asked))) }
     ensures err { IfErr result (λ r. r ≡ Refusal.OutOfMemory) }
 {
-    let count = u64::from(count);
-    let walk = walk_on(
-        alloc,
-        &job.problem,
-        &job.pins,
-        walk_of(alloc, job, kept)?,
-        job.deviation,
-        job.seed,
-        job.steps,
-        count,
-    )?;
-    Ok(changed_by(alloc, job, walk, job.steps + count)?)
+    let walk = walk_of(alloc, job, kept)?;
+    let walk = step_on(alloc, job, walk, asked)?;
+    Ok(changed_by(alloc, job, walk, job.steps + asked.count())?)
 }
 
-/// So many annealing steps, in the same way.
-pub(crate) fn anneal(
-    alloc: Global,
-    job: &Job,
-    kept: Option<Walk>,
-    count: u32,
-) -> Result<Stepped, Refusal>
-    requires accepted { job_refusal job.now (Command.Anneal count) ≡ None }
-    requires kept { IfSome kept (IsWalkOf job.now) }
-    ensures ok { IfOk result (IsStepped job.now (annealed job.now count)) }
-    ensures err { IfErr result (λ r. r ≡ Refusal.OutOfMemory) }
+// The walk behind them.
+#[tactic(auto, using(crate::proofs::AskedLemmas::steps_fit))]
+fn step_on(alloc: Global, job: &Job, walk: Walk, asked: Asked) -> Result<Walk, OutOfMemory>
+    requires accepted { job_refusal job.now (asked_for asked) ≡ None }
+    requires walk { IsWalkOf job.now walk }
+    ensures walk { IfOk result (IsWalk job.now.problem job.now.pins) }
+    ensures job { IfOk result (λ on.
+        walked_on job.now on (job.now.steps + steps_of (asked_for asked))
+        ≡ job_after job.now (asked_for asked)) }
 {
-    let walk = anneal_on(
-        alloc,
-        &job.problem,
-        &job.pins,
-        walk_of(alloc, job, kept)?,
-        job.deviation,
-        job.seed,
-        job.steps,
-        u64::from(count),
-    )?;
-    Ok(changed_by(alloc, job, walk, job.steps + u64::from(count))?)
+    let count = asked.count();
+    match asked {
+        Asked::Search(_) => walk_on(
+            alloc,
+            &job.problem,
+            &job.pins,
+            walk,
+            job.deviation,
+            job.seed,
+            job.steps,
+            count,
+        ),
+        Asked::Anneal(_) => anneal_on(
+            alloc,
+            &job.problem,
+            &job.pins,
+            walk,
+            job.deviation,
+            job.seed,
+            job.steps,
+            count,
+        ),
+    }
 }
 
 // The walk that is kept, or a new one.
