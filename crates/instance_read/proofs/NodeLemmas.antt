@@ -1,15 +1,19 @@
 -- The faults of a node's line where its node is known to be taken or free.
 use Rattle.std.proofs.Common.{◌≡◌, ℕ, zero, suc, ◌-◌, ◌≤◌, Bool, true, false, ◌⊎◌, inl, inr, ⊎_elim, List, Option, Some, None, set, Result, Ok, Err, refl, sym, ap, subst, ◌∙◌, arith, ℤ, pos, negsuc, to_z, of_z, to_z-of_z, w32}
-use Rattle.std.specs.Prelude.{IfErr, IfOk, MatchResult, is_some, slice_index_or, unwrap_or}
+use Rattle.std.specs.Prelude.{All, IfSome, MatchResult, is_some, slice_index_or, unwrap_or}
 use Rattle.std.specs.Int.RustNames.{unsigned_abs}
 use Rattle.std.proofs.lemmas.Bool.{false≢true}
 use Rattle.std.proofs.lemmas.Int.{ints}
+use Rattle.std.proofs.lemmas.List.Elements.{All-set}
+use Rattle.text_lines.specs.Words.{words_of}
 use Rattle.plan_types.specs.Limits.{IsDemand}
 use Rattle.instance_read.specs.declared.faults.ReadFaultKind.{ReadFaultKind}
 use Rattle.instance_read.specs.declared.faults.ReadFaultKind.TheVariants.{BadNumber, Range, FieldCount, NodeRepeated}
-use Rattle.instance_read.specs.Drafts.{is_taken, node_index}
+use Rattle.instance_read.specs.declared.vrp_draft.Draft.{Draft}
+use Rattle.instance_read.specs.declared.vrp_lines.Section.TheVariants.{CoordinateLine, DemandLine}
+use Rattle.instance_read.specs.Drafts.{IsDraft, IsPoint, TakesLine, is_taken, node_index, unnumbered}
 use Rattle.instance_read.specs.Faults.{rank}
-use Rattle.instance_read.specs.Fields.{field, is_that}
+use Rattle.instance_read.specs.Fields.{field, is_that, value_at}
 use Rattle.instance_read.specs.Vrp.{node_fault}
 use Rattle.instance_read.specs.Walk.{HasNoKind, IsFirstKind}
 
@@ -58,16 +62,13 @@ module _ {T : Type 0} (count : ℕ) (given limits : List (ℤ × ℤ)) (same : g
   taken : (b : Bool) → is_some (slice_index_or table (node - 1) None) ≡ b → is_that (is_taken items) (field words 0) ≡ b
   taken b e = taken_is items words node one at ∙ ap (λ t. is_some (slice_index_or t (node - 1) None)) (sym is) ∙ e
 
-  pub put_ok : {X : Type 0} (result : Result X ReadFaultKind) → IsPut result → IfOk result (λ _. HasNoKind (node_fault count limits (is_taken items) words) × (new ≡ set items (node_index words) (Some value)))
-  put_ok (Ok x) h = (
-    node_none count given limits same words read (is_taken items) (taken false h.0),
-    h.1 ∙ ap (λ k. set table k (Some value)) (sym (index_is words node at)) ∙ ap (λ t. set t (node_index words) (Some value)) is,
-  )
-  put_ok (Err kind) h = tt
-
-  pub put_err : {X : Type 0} (result : Result X ReadFaultKind) → IsPut result → IfErr result (IsFirstKind (node_fault count limits (is_taken items) words))
-  put_err (Ok x) h = tt
-  put_err (Err kind) h = subst (IsFirstKind (node_fault count limits (is_taken items) words)) (sym h.1) (node_repeated count given limits same words read (is_taken items) (taken true h.0))
+  -- what follows from the new table holds behind the line, or the node was named before
+  pub put_is : {X P Q : Type 0} (result : Result X ReadFaultKind) → IsPut result → (new ≡ set items (node_index words) (Some value) → P × Q)
+      → MatchResult result (λ _. HasNoKind (node_fault count limits (is_taken items) words) × P × Q) (IsFirstKind (node_fault count limits (is_taken items) words))
+  put_is (Ok x) h follows =
+      let both = follows (h.1 ∙ ap (λ k. set table k (Some value)) (sym (index_is words node at)) ∙ ap (λ t. set t (node_index words) (Some value)) is) in
+      (node_none count given limits same words read (is_taken items) (taken false h.0), both.0, both.1)
+  put_is (Err kind) h follows = subst (IsFirstKind (node_fault count limits (is_taken items) words)) (sym h.1) (node_repeated count given limits same words read (is_taken items) (taken true h.0))
 
 -- a demand written and read back
 pub demand_kept : (z : ℤ) → IsDemand z → to_z w32 (of_z w32 z) ≡ z
@@ -75,3 +76,25 @@ demand_kept (pos n) h =
     let small : n ≤ 1000000 = grind (arith, ints, h.1) in
     to_z-of_z {w = w32} {z = pos n} (record { sfits = omega (arith, small) })
 demand_kept (negsuc n) h = absurd (grind (arith, ints, h.0))
+
+-- what the new table makes of the draft
+module _ (old new : Draft) (text : List ℕ) (valid : IsDraft old) where
+  pub takes_point : (point : ℤ × ℤ) → IsPoint point → point ≡ (value_at (words_of text) 1, value_at (words_of text) 2) → new ≡ record old { coordinates = new.coordinates }
+      → new.coordinates.items ≡ set old.coordinates.items (node_index (words_of text)) (Some point) → TakesLine old (unnumbered text) (CoordinateLine 0) new × IsDraft new
+  takes_point point within is other put =
+      let AreWithin = All (λ entry. IfSome entry IsPoint) in
+      let all : AreWithin new.coordinates.items = subst AreWithin (sym put) (All-set (λ entry. IfSome entry IsPoint) old.coordinates.items (node_index (words_of text)) (Some point) within valid.coordinates) in (
+        (other, put ∙ ap (λ p. set old.coordinates.items (node_index (words_of text)) (Some p)) is),
+        subst IsDraft (sym other) (record { keys = valid.keys; nodes = valid.nodes; capacity = valid.capacity; coordinates = all; demands = valid.demands }),
+      )
+
+  pub takes_demand : (demand : ℤ) → IsDemand demand → demand ≡ value_at (words_of text) 1 → new ≡ record old { demands = new.demands }
+      → new.demands.items ≡ set old.demands.items (node_index (words_of text)) (Some (to_z w32 (of_z w32 demand))) → TakesLine old (unnumbered text) (DemandLine 0) new × IsDraft new
+  takes_demand demand within is other put =
+      let set_to : ℤ → List (Option ℤ) = λ d. set old.demands.items (node_index (words_of text)) (Some d) in
+      let kept = put ∙ ap set_to (demand_kept demand within) in
+      let AreWithin = All (λ entry. IfSome entry IsDemand) in
+      let all : AreWithin new.demands.items = subst AreWithin (sym kept) (All-set (λ entry. IfSome entry IsDemand) old.demands.items (node_index (words_of text)) (Some demand) within valid.demands) in (
+        (other, kept ∙ ap set_to is),
+        subst IsDraft (sym other) (record { keys = valid.keys; nodes = valid.nodes; capacity = valid.capacity; coordinates = valid.coordinates; demands = all }),
+      )

@@ -1,5 +1,5 @@
 -- What a reader keeps of the lines of a `.vrp` text that it has read, and what one more line adds.
-use Rattle.std.specs.Prelude.{◌≡◌, ℕ, zero, suc, ◌-◌, ◌<◌, ◌≤◌, Bool, true, false, ◌⊎◌, is_some, All, IfSome, List, length, replicate, set, slice_index_or, unwrap_or, Option, Some, None, ℤ, pos, negsuc}
+use Rattle.std.specs.Prelude.{◌≡◌, ℕ, zero, suc, ◌-◌, ◌<◌, ◌≤◌, Bool, true, false, ◌⊎◌, is_some, All, IfSome, MatchResult, Result, List, length, replicate, set, slice_index_or, unwrap_or, Option, Some, None, ℤ, pos, negsuc}
 use Rattle.std.specs.Int.RustNames.{unsigned_abs}
 use Rattle.std.specs.Option.{option_or}
 use Rattle.text_lines.specs.Words.{words_of}
@@ -96,6 +96,10 @@ TakesKey old line value key stands new =
 -- a line whose number is not asked
 abbrev pub unnumbered : List ℕ → Row
 unnumbered text = record { line = 0; text = text }
+
+-- the line of a node was taken at this place, or its first fault is told
+abbrev pub TakesNode : {X : Type 0} → Draft → List ℕ → Section → Draft → Result X ReadFaultKind → Type 0
+TakesNode old text place new result = MatchResult result (λ _. Takes old (unnumbered text) place new) (IsFirstKind (line_fault old (unnumbered text) place))
 
 -- a line at this place finds what it needs
 abbrev pub FitsSection : Section → Draft → Type 0

@@ -33,7 +33,7 @@ pub struct Draft {
 
 impl Draft {
     ghost use Rattle.std.specs.Prelude.{◌≡◌};
-    ghost use Rattle.instance_read.specs.Drafts.{IsDraft, FitsSection, Takes, TakesKey, TakesTo, TellsKind, line_fault, has_seen, unnumbered, with_key, nodes_in, is_taken, node_index};
+    ghost use Rattle.instance_read.specs.Drafts.{IsDraft, FitsSection, TakesKey, TakesNode, TakesTo, TellsKind, line_fault, has_seen, with_key, nodes_in, is_taken, node_index};
     ghost use Rattle.std.specs.Prelude.{[]};
     ghost use Rattle.instance_read.specs.RowViews.{row_view};
     ghost use Rattle.instance_read.specs.VrpWalk.{Knows};
@@ -163,10 +163,7 @@ impl Draft {
     fn take_coordinates(&mut self, text: &[u8]) -> Result<(), ReadFaultKind>
         requires draft { IsDraft self.old }
         requires fits { length self.old.coordinates.items ≡ nodes_in self.old }
-        ensures ok { IfOk result
-            (λ _. Takes self.old (unnumbered text.now) (Section.CoordinateLine 0) self.new) }
-        ensures err { IfErr result
-            (IsFirstKind (line_fault self.old (unnumbered text.now) (Section.CoordinateLine 0))) }
+        ensures { TakesNode self.old text.now (Section.CoordinateLine 0) self.new result }
     {
         let (node, point) = read_coordinates(self.node_count(), text)?;
         put_once(&mut self.coordinates, node, point)
@@ -175,10 +172,7 @@ impl Draft {
     fn take_demand(&mut self, text: &[u8]) -> Result<(), ReadFaultKind>
         requires draft { IsDraft self.old }
         requires fits { length self.old.demands.items ≡ nodes_in self.old }
-        ensures ok { IfOk result
-            (λ _. Takes self.old (unnumbered text.now) (Section.DemandLine 0) self.new) }
-        ensures err { IfErr result
-            (IsFirstKind (line_fault self.old (unnumbered text.now) (Section.DemandLine 0))) }
+        ensures { TakesNode self.old text.now (Section.DemandLine 0) self.new result }
     {
         let (node, demand) = read_demand(self.node_count(), text)?;
         put_once(&mut self.demands, node, demand)
