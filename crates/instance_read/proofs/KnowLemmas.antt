@@ -92,6 +92,11 @@ entry_blank X n (pos zero) = refl
 entry_blank X n (pos (suc k)) = blank_entry X n k
 entry_blank X n (negsuc k) = refl
 
+-- a table has what the lines of its section say, and is empty before its key
+abbrev KnowsTable : {X : Type 0} → (Section → Bool) → (Placed → X) → Key → List Placed → List (Option X) → Type 0
+KnowsTable section value_in k lines items =
+    ((z : ℤ) → entry_at items z ≡ option_map value_in (find (is_node_line section z) lines)) × (any_key k lines ≡ false → items ≡ [])
+
 -- the line of the first EOF, with one line more
 end_more : (before : List Placed) (row : Row) → has_key End (placed row Outside) ≡ true → option_or (option_map (λ (r : Row). r.line) (first_key End before)) (Some row.line) ≡ option_map (λ (r : Row). r.line) (first_key End (before ++ placed row Outside ∷ []))
 end_more before row this =
@@ -126,6 +131,24 @@ module _ (before : List Placed) (row : Row) (key : Key) (key_is : key_of row ≡
       get_or-set_other old_seen (key_number key) (key_number k) true false (λ e. eqb-false (key_number key) (key_number k) other (sym e))
       ∙ known ∙ sym (any_same before (placed row Outside) (has_key k) (has_is k ∙ other))
 
+  -- a table of nodes, behind this line
+  module _ {X : Type 0} (section : Section → Bool) (value_in : Placed → X) (k : Key) (other : (z : ℤ) → is_node_line section z (placed row Outside) ≡ false) (items new : List (Option X)) (known : KnowsTable section value_in k before items) where
+    entries_stay : (z : ℤ) → entry_at items z ≡ option_map value_in (find (is_node_line section z) (before ++ placed row Outside ∷ []))
+    entries_stay z = known.0 z ∙ ap (option_map value_in) (sym (find_same before (placed row Outside) (is_node_line section z) (other z)))
+
+    none_before : any_key k (before ++ placed row Outside ∷ []) ≡ false → any_key k before ≡ false
+    none_before e = or_left (any_key k before) (has_key k (placed row Outside)) (sym (any_more before (placed row Outside) (has_key k)) ∙ e)
+
+    table_kept : new ≡ items → KnowsTable section value_in k (before ++ placed row Outside ∷ []) new
+    table_kept same = (λ z. ap (λ t. entry_at t z) same ∙ entries_stay z, λ e. same ∙ known.1 (none_before e))
+
+    -- its section begins
+    table_opened : (n : ℕ) → eqb (key_number key) (key_number k) ≡ true → any_key k before ≡ false → new ≡ blank X n → KnowsTable section value_in k (before ++ placed row Outside ∷ []) new
+    table_opened n this fresh is = (
+      λ z. ap (λ t. entry_at t z) is ∙ entry_blank X n z ∙ ap (λ t. entry_at t z) (sym (known.1 fresh)) ∙ entries_stay z,
+      λ e. absurd (false≢true (sym e ∙ new_any k this)),
+    )
+
   module _ (old new : Draft) (valid : IsDraft old) (known : Knows before old) where
     seen_kept : new.seen ≡ set old.seen (key_number key) true → (k : Key) → has_seen new k ≡ any_key k (before ++ placed row Outside ∷ [])
     seen_kept is k = ap (λ s. slice_index_or s (key_number k) false) is ∙ seen_cases old.seen valid.keys k (eqb (key_number key) (key_number k)) refl (known.seen k)
@@ -139,45 +162,42 @@ module _ (before : List Placed) (row : Row) (key : Key) (key_is : key_of row ≡
     end_kept : eqb (key_number key) 8 ≡ false → new.end ≡ old.end → new.end ≡ option_map (λ (r : Row). r.line) (first_key End (before ++ placed row Outside ∷ []))
     end_kept other same = same ∙ known.end ∙ ap (option_map (λ (r : Row). r.line)) (sym (other_first End other))
 
-    coordinates_kept : new.coordinates.items ≡ old.coordinates.items → (z : ℤ) → entry_at new.coordinates.items z ≡ option_map point_in (find (is_node_line in_coordinates z) (before ++ placed row Outside ∷ []))
-    coordinates_kept same z =
-        ap (λ t. entry_at t z) same ∙ known.coordinates z ∙ ap (option_map point_in) (sym (find_same before (placed row Outside) (is_node_line in_coordinates z) refl))
+    points_kept : new.coordinates.items ≡ old.coordinates.items → KnowsTable in_coordinates point_in Coordinates (before ++ placed row Outside ∷ []) new.coordinates.items
+    points_kept = table_kept in_coordinates point_in Coordinates (λ z. refl) old.coordinates.items new.coordinates.items (known.coordinates, known.no_coordinates)
 
-    demands_kept : new.demands.items ≡ old.demands.items → (z : ℤ) → entry_at new.demands.items z ≡ option_map demand_in (find (is_node_line in_demands z) (before ++ placed row Outside ∷ []))
-    demands_kept same z =
-        ap (λ t. entry_at t z) same ∙ known.demands z ∙ ap (option_map demand_in) (sym (find_same before (placed row Outside) (is_node_line in_demands z) refl))
+    demands_kept : new.demands.items ≡ old.demands.items → KnowsTable in_demands demand_in Demands (before ++ placed row Outside ∷ []) new.demands.items
+    demands_kept = table_kept in_demands demand_in Demands (λ z. refl) old.demands.items new.demands.items (known.demands, known.no_demands)
 
-    no_before : (k : Key) → any_key k (before ++ placed row Outside ∷ []) ≡ false → any_key k before ≡ false
-    no_before k e = or_left (any_key k before) (has_key k (placed row Outside)) (sym (any_more before (placed row Outside) (has_key k)) ∙ e)
-
-    no_coordinates_kept : new.coordinates.items ≡ old.coordinates.items → any_key Coordinates (before ++ placed row Outside ∷ []) ≡ false → new.coordinates.items ≡ []
-    no_coordinates_kept same e = same ∙ known.no_coordinates (no_before Coordinates e)
-
-    no_demands_kept : new.demands.items ≡ old.demands.items → any_key Demands (before ++ placed row Outside ∷ []) ≡ false → new.demands.items ≡ []
-    no_demands_kept same e = same ∙ known.no_demands (no_before Demands e)
-
-    -- a draft whose tables stay
-    tables_kept : new.seen ≡ set old.seen (key_number key) true → new.coordinates.items ≡ old.coordinates.items → new.demands.items ≡ old.demands.items → new.nodes ≡ option_map number_in (first_key Dimension (before ++ placed row Outside ∷ []))
-        → new.capacity ≡ option_map number_in (first_key Capacity (before ++ placed row Outside ∷ [])) → new.end ≡ option_map (λ (r : Row). r.line) (first_key End (before ++ placed row Outside ∷ [])) → Knows (before ++ placed row Outside ∷ []) new
-    tables_kept seen coordinates demands nodes capacity end =
+    parts_known : new.seen ≡ set old.seen (key_number key) true → KnowsTable in_coordinates point_in Coordinates (before ++ placed row Outside ∷ []) new.coordinates.items → KnowsTable in_demands demand_in Demands (before ++ placed row Outside ∷ []) new.demands.items
+        → new.nodes ≡ option_map number_in (first_key Dimension (before ++ placed row Outside ∷ [])) → new.capacity ≡ option_map number_in (first_key Capacity (before ++ placed row Outside ∷ [])) → new.end ≡ option_map (λ (r : Row). r.line) (first_key End (before ++ placed row Outside ∷ [])) → Knows (before ++ placed row Outside ∷ []) new
+    parts_known seen points demands nodes capacity end =
         record {
           seen = seen_kept seen;
           nodes = nodes;
           capacity = capacity;
           end = end;
-          coordinates = coordinates_kept coordinates;
-          demands = demands_kept demands;
-          no_coordinates = no_coordinates_kept coordinates;
-          no_demands = no_demands_kept demands;
+          coordinates = points.0;
+          demands = demands.0;
+          no_coordinates = points.1;
+          no_demands = demands.1;
         }
+
+    -- a draft whose tables stay
+    tables_kept : new.seen ≡ set old.seen (key_number key) true → new.coordinates.items ≡ old.coordinates.items → new.demands.items ≡ old.demands.items
+        → new.nodes ≡ option_map number_in (first_key Dimension (before ++ placed row Outside ∷ [])) → new.capacity ≡ option_map number_in (first_key Capacity (before ++ placed row Outside ∷ [])) → new.end ≡ option_map (λ (r : Row). r.line) (first_key End (before ++ placed row Outside ∷ [])) → Knows (before ++ placed row Outside ∷ []) new
+    tables_kept seen points demands = parts_known seen (points_kept points) (demands_kept demands)
+
+    -- where at most tables change beside the key
+    tables_known : eqb (key_number key) 0 ≡ false → eqb (key_number key) 1 ≡ false → eqb (key_number key) 8 ≡ false → new.seen ≡ set old.seen (key_number key) true → new.nodes ≡ old.nodes → new.capacity ≡ old.capacity → new.end ≡ old.end
+        → KnowsTable in_coordinates point_in Coordinates (before ++ placed row Outside ∷ []) new.coordinates.items → KnowsTable in_demands demand_in Demands (before ++ placed row Outside ∷ []) new.demands.items → Knows (before ++ placed row Outside ∷ []) new
+    tables_known dimension capacity end seen same_nodes same_capacity same_end points demands =
+        parts_known seen points demands (nodes_kept dimension same_nodes) (capacity_kept capacity same_capacity) (end_kept end same_end)
 
     -- where nothing but the key is kept
     all_kept : eqb (key_number key) 0 ≡ false → eqb (key_number key) 1 ≡ false → eqb (key_number key) 8 ≡ false → new ≡ with_key old key → Knows (before ++ placed row Outside ∷ []) new
     all_kept dimension capacity end is =
-        tables_kept (ap (λ (d : Draft). d.seen) is) (ap (λ (d : Draft). d.coordinates.items) is) (ap (λ (d : Draft). d.demands.items) is)
-        (nodes_kept dimension (ap (λ (d : Draft). d.nodes) is))
-        (capacity_kept capacity (ap (λ (d : Draft). d.capacity) is))
-        (end_kept end (ap (λ (d : Draft). d.end) is))
+        tables_known dimension capacity end (ap (λ (d : Draft). d.seen) is) (ap (λ (d : Draft). d.nodes) is) (ap (λ (d : Draft). d.capacity) is) (ap (λ (d : Draft). d.end) is)
+        (points_kept (ap (λ (d : Draft). d.coordinates.items) is)) (demands_kept (ap (λ (d : Draft). d.demands.items) is))
 
 -- what a line outside the sections adds
 pub knows_key : (before : List Placed) (row : Row) (old new : Draft) (key : Key) → key_of row ≡ key → IsDraft old → Knows before old
@@ -198,32 +218,14 @@ knows_key before row old new Capacity key_is valid known none is =
     (end_kept before row Capacity key_is old new valid known refl (ap (λ (d : Draft). d.end) is))
 knows_key before row old new Coordinates key_is valid known none is =
     let fresh = sym (known.seen Coordinates) ∙ none NodeRepeated in
-    let draft = is.0 in
-    record {
-      seen = seen_kept before row Coordinates key_is old new valid known (ap (λ (d : Draft). d.seen) draft);
-      nodes = nodes_kept before row Coordinates key_is old new valid known refl (ap (λ (d : Draft). d.nodes) draft);
-      capacity = capacity_kept before row Coordinates key_is old new valid known refl (ap (λ (d : Draft). d.capacity) draft);
-      end = end_kept before row Coordinates key_is old new valid known refl (ap (λ (d : Draft). d.end) draft);
-      coordinates = λ z. ap (λ t. entry_at t z) is.1 ∙ entry_blank (ℤ × ℤ) (nodes_in old) z ∙ ap (λ t. entry_at t z) (sym (known.no_coordinates fresh)) ∙ known.coordinates z
-          ∙ ap (option_map point_in) (sym (find_same before (placed row Outside) (is_node_line in_coordinates z) refl));
-      demands = demands_kept before row Coordinates key_is old new valid known (ap (λ (d : Draft). d.demands.items) draft);
-      no_coordinates = λ e. absurd (false≢true (sym e ∙ new_any before row Coordinates key_is Coordinates refl));
-      no_demands = no_demands_kept before row Coordinates key_is old new valid known (ap (λ (d : Draft). d.demands.items) draft);
-    }
+    tables_known before row Coordinates key_is old new valid known refl refl refl (ap (λ (d : Draft). d.seen) is.0) (ap (λ (d : Draft). d.nodes) is.0) (ap (λ (d : Draft). d.capacity) is.0) (ap (λ (d : Draft). d.end) is.0)
+    (table_opened before row Coordinates key_is in_coordinates point_in Coordinates (λ z. refl) old.coordinates.items new.coordinates.items (known.coordinates, known.no_coordinates) (nodes_in old) refl fresh is.1)
+    (demands_kept before row Coordinates key_is old new valid known (ap (λ (d : Draft). d.demands.items) is.0))
 knows_key before row old new Demands key_is valid known none is =
     let fresh = sym (known.seen Demands) ∙ none NodeRepeated in
-    let draft = is.0 in
-    record {
-      seen = seen_kept before row Demands key_is old new valid known (ap (λ (d : Draft). d.seen) draft);
-      nodes = nodes_kept before row Demands key_is old new valid known refl (ap (λ (d : Draft). d.nodes) draft);
-      capacity = capacity_kept before row Demands key_is old new valid known refl (ap (λ (d : Draft). d.capacity) draft);
-      end = end_kept before row Demands key_is old new valid known refl (ap (λ (d : Draft). d.end) draft);
-      coordinates = coordinates_kept before row Demands key_is old new valid known (ap (λ (d : Draft). d.coordinates.items) draft);
-      demands = λ z. ap (λ t. entry_at t z) is.1 ∙ entry_blank ℤ (nodes_in old) z ∙ ap (λ t. entry_at t z) (sym (known.no_demands fresh)) ∙ known.demands z
-          ∙ ap (option_map demand_in) (sym (find_same before (placed row Outside) (is_node_line in_demands z) refl));
-      no_coordinates = no_coordinates_kept before row Demands key_is old new valid known (ap (λ (d : Draft). d.coordinates.items) draft);
-      no_demands = λ e. absurd (false≢true (sym e ∙ new_any before row Demands key_is Demands refl));
-    }
+    tables_known before row Demands key_is old new valid known refl refl refl (ap (λ (d : Draft). d.seen) is.0) (ap (λ (d : Draft). d.nodes) is.0) (ap (λ (d : Draft). d.capacity) is.0) (ap (λ (d : Draft). d.end) is.0)
+    (points_kept before row Demands key_is old new valid known (ap (λ (d : Draft). d.coordinates.items) is.0))
+    (table_opened before row Demands key_is in_demands demand_in Demands (λ z. refl) old.demands.items new.demands.items (known.demands, known.no_demands) (nodes_in old) refl fresh is.1)
 knows_key before row old new End key_is valid known none is =
     tables_kept before row End key_is old new valid known
     (ap (λ (d : Draft). d.seen) is) (ap (λ (d : Draft). d.coordinates.items) is) (ap (λ (d : Draft). d.demands.items) is)
