@@ -24,7 +24,7 @@ use Rattle.std.proofs.lemmas.Slice.Eq.{bytes_eq-Decides}
 use Rattle.clap.proofs.WalkLemmas.{first_value-rows, list_any-map}
 use Rattle.clap.proofs.OnLiterals.{clap_on_literals}
 use Rattle.command_line.specs.declared.words.Invocation.{Invocation}
-use Rattle.command_line.specs.Asked.{ArePositional, Asked, IsRefusal, PathsAsked, ReadsWords, asked_by, asked_with, asks_help, audit, audits, deviation_or_none, draw_asked, draw_in, explain, format, is_positional_word, kind_named, list_asked, list_in, load, load_asked, load_from, load_in, paths_asked, paths_in, run, run_asked, run_in, seed_named, solve, solves, steps_named, store_asked, store_in, task_asked, task_from, task_in, tasks_asked, tasks_from, tasks_in, timetable_asked, timetable_in, told_by, told_by_other, told_of, told_of_store, upgrade, upgrade_asked, upgrade_in, usage_status_of, ◌>>=◌}
+use Rattle.command_line.specs.Asked.{ArePositional, Asked, IsRefusal, PathsAsked, ReadsWords, asked_by, asked_with, asks_help, audit, audits, deviation_or_none, draw_asked, draw_in, explain, format, is_positional_word, kind_named, list_asked, list_in, load, load_asked, load_from, load_in, paths_asked, paths_in, run, run_asked, run_in, seed_named, solve, solves, steps_named, store_asked, store_in, task_asked, task_from, task_in, tasks_asked, tasks_from, tasks_in, timetable_asked, timetable_in, told_by, told_by_other, told_of, told_of_store, upgrade_asked, upgrade_in, usage_status_of, ◌>>=◌}
 use Rattle.command_line.specs.CommandLine.{IsKindNames, IsModeNames, IsPlannerCommand, audits_app, draw_app, load_app, paths_app, planner_app, run_app, solve_app, solves_app, store_app, timetable_app, upgrade_app}
 
 -- ---- a word that does not begin with a hyphen is a value
