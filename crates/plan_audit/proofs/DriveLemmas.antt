@@ -1,5 +1,5 @@
 -- One drive along each route: how far it goes, and that the rules on loads and times are kept.
-use Rattle.std.proofs.Common.{◌≡◌, ℕ, suc, ◌+◌, ◌-◌, ◌<◌, ◌≤◌, true, false, ◌||◌, List, [], ◌∷◌, map, length, get_or, slice_get, Some, int_lt, pos, refl, sym, ap, subst, ◌∙◌, arith, add-one, T}
+use Rattle.std.proofs.Common.{◌≡◌, ℕ, suc, ◌+◌, ◌-◌, ◌<◌, ◌≤◌, true, false, List, [], ◌∷◌, map, length, get_or, slice_get, Some, int_lt, pos, refl, sym, ap, subst, ◌∙◌, arith, add-one, T}
 use Rattle.std.specs.List.{AllByRecursion, range_with_len, sum_by}
 use Rattle.std.proofs.lemmas.Bool.{lt-ltb, false≢true, or_parts}
 use Rattle.std.proofs.lemmas.List.Elements.{All-from_recursion}

@@ -10,7 +10,6 @@ use crate::fleet::first_beyond;
 use crate::pins::first_off_pin;
 use crate::rules::{Rule, Verdict};
 use crate::scan::Scan;
-use crate::seats::seats;
 use crate::timing::{first_late, first_late_return, first_overload, kept_cost};
 use plan_types::{Cost, Kind, OutOfMemory, Pins, Plan, Problem, Route, numbers_are_below_the_next};
 use route_sched::routes_cost;
@@ -30,12 +29,7 @@ pub fn audit(
     ensures { IfOk result (IsVerdict problem.now (planned plan.now.routes pins.now.routes)) }
 {
     let routes = plan.routes.as_slice();
-    let seats = seats(alloc, problem.next_number as usize, routes)?;
-    let scan = Scan {
-        problem,
-        routes,
-        seats: seats.as_slice(),
-    };
+    let scan = Scan::new(alloc, problem, routes)?;
     let cost = match judge_stops(&scan, None) {
         Ok(cost) => cost,
         Err(broken) => return Ok(broken),
@@ -59,12 +53,7 @@ pub fn audit_solution(
     ensures { IfOk result (IsVerdict problem.now (printed solution.now.routes solution.now.cost)) }
 {
     let routes = solution.routes.as_slice();
-    let seats = seats(alloc, problem.next_number as usize, routes)?;
-    let scan = Scan {
-        problem,
-        routes,
-        seats: seats.as_slice(),
-    };
+    let scan = Scan::new(alloc, problem, routes)?;
     let cost = match judge_stops(&scan, scan.first_unserved()) {
         Ok(cost) => cost,
         Err(broken) => return Ok(broken),

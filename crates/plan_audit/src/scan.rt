@@ -1,25 +1,47 @@
 //! The rules that speak of where stops stand, 1 to 5, by the first seat of each stop; and the requests
 //! without one.
-ghost use Rattle.std.specs.Prelude.{◌≡◌, ℕ, ◌^◌, ◌+◌, ◌<◌, ◌≤◌, length, List, None, Option, All, IfSome, slice_index_or, slice_get};
+ghost use Rattle.std.specs.Prelude.{◌≡◌, ℕ, ◌^◌, ◌+◌, ◌<◌, ◌≤◌, vec_len, List, None, Option, All, IfOk, IfSome, slice_index_or, slice_get};
 ghost use Rattle.std.specs.Option.{option_and_then};
 ghost use Rattle.plan_audit.specs.Finding.{first_place, IsFirstTold, told_by, first_unserved, unserved_in, seat_of, unknown_at, repeated_at, missing_at, split_at, delivered_at};
 ghost use Rattle.route_sched.specs.Cost.{has_stop, is_planned, unplanned_count};
+ghost use Rattle.plan_types.specs.Instance.{IsInstance};
 ghost use Rattle.plan_types.specs.Laws.{IsBelowNext};
 
 use crate::faults::{Fault, Told, first_fault, first_place};
 use crate::pairs::{early_delivery, missing_partner};
-use crate::seats::Seat;
-use plan_types::{Problem, Request, Route, numbers_are_below_the_next};
+use crate::seats::{Seat, seats};
+use plan_types::{OutOfMemory, Problem, Request, Route, numbers_are_below_the_next};
+use std::alloc::Global;
 
 /// A plan under audit, with the first seat of each stop number.
 #[derive(Drop)]
 pub(crate) struct Scan<'a> {
     pub problem: &'a Problem,
     pub routes: &'a [Route],
-    pub seats: &'a [Option<Seat>],
-    ghost sized: { problem.now.next_number ≤ length seats.now },
-    ghost seated: { (n : ℕ) → n < length seats.now
-        → slice_index_or seats.now n None ≡ seat_of routes.now n },
+    seats: Vec<Option<Seat>>,
+    ghost sized: { problem.now.next_number ≤ vec_len seats },
+    ghost seated: { (n : ℕ) → n < vec_len seats
+        → slice_index_or seats.items n None ≡ seat_of routes.now n },
+}
+
+impl<'a> Scan<'a> {
+    /// Of these routes, of which it finds the seats.
+    pub(crate) fn new(
+        alloc: Global,
+        problem: &'a Problem,
+        routes: &'a [Route],
+    ) -> Result<Scan<'a>, OutOfMemory>
+        ensures made { IfOk result (λ scan. (scan.problem.now ≡ problem.entry.now)
+            × (scan.routes.now ≡ routes.entry.now)) }
+        ensures valid { IfOk result (λ scan. IsInstance scan.problem.now) }
+    {
+        let seats = seats(alloc, problem.next_number as usize, routes)?;
+        Ok(Scan {
+            problem,
+            routes,
+            seats,
+        })
+    }
 }
 
 impl Scan<'_> {
@@ -28,7 +50,7 @@ impl Scan<'_> {
         ensures { stop < self.now.problem.now.next_number
             → result ≡ seat_of self.now.routes.now stop }
     {
-        self.seats.get(stop as usize).copied().flatten()
+        self.seats.as_slice().get(stop as usize).copied().flatten()
     }
 
     /// The first stop of the plan that is of no request.

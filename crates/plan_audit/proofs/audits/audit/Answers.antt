@@ -1,8 +1,8 @@
-use Rattle.std.proofs.Common.{◌≡◌, ℕ, List, Option, length, sym, ap, ◌∙◌, refl, arith}
+use Rattle.std.proofs.Common.{◌≡◌, ℕ, List, Option, length, sym, ap, subst, ◌∙◌, refl, arith}
 use Rattle.plan_types.specs.Instance.{Instance}
 use Rattle.plan_audit.specs.Finding.{first_off_pin}
 use Rattle.plan_audit.specs.declared.faults.Fault.{Fault}
-use Rattle.plan_audit.specs.Verdict.{planned, IsVerdictOver}
+use Rattle.plan_audit.specs.Verdict.{planned, IsBrokenOver, IsVerdictOver}
 use Rattle.plan_audit.specs.declared.rules.Verdict.TheVariants.{Pass}
 use Rattle.plan_audit.proofs.StepLemmas.{length_step, pin_step, planned_step}
 use Rattle.plan_audit.proofs.VerdictLemmas.{broken_wider, broken_verdict}
@@ -11,14 +11,17 @@ use Rattle.plan_audit.proofs.audits.audit.Goals.{In-Ok}
 
 -- what the routes cost where no stop is wrong
 judged : (c : In-Ok) → IsVerdictOver 1 8 c.args.problem.now (planned c.args.plan.now.routes c.args.pins.now.routes) (Pass c.in-Ok.cost)
-judged c = c.in-Ok.ensures.judged (planned c.args.plan.now.routes c.args.pins.now.routes) (sym c.as_slice-routes.ensures) refl
+judged c =
+    let s = planned c.args.plan.now.routes c.args.pins.now.routes in
+    subst (λ (p : Instance). IsVerdictOver 1 8 p s (Pass c.in-Ok.cost)) c.in_ok-scan.ensures.made.0 (c.in-Ok.ensures.judged s (sym (c.in_ok-scan.ensures.made.1 ∙ c.as_slice-routes.ensures)) refl)
 
 pub returns-in-Err : goal.returns-in-Err
 returns-in-Err c =
     let p = c.args.problem.now in
     let s = planned c.args.plan.now.routes c.args.pins.now.routes in
     broken_verdict p s 1 11 c.in-Err.broken
-    (broken_wider p s 1 8 11 c.in-Err.broken (omega arith) (c.in-Err.ensures.judged s (sym c.as_slice-routes.ensures) refl))
+    (broken_wider p s 1 8 11 c.in-Err.broken (omega arith)
+    (subst (λ (q : Instance). IsBrokenOver 1 8 q s c.in-Err.broken) c.in_ok-scan.ensures.made.0 (c.in-Err.ensures.judged s (sym (c.in_ok-scan.ensures.made.1 ∙ c.as_slice-routes.ensures)) refl)))
 
 -- the plan's length and the fleet, of the plan and the problem as they are given
 same_length : (fleet : ℕ) (routes given : List (List ℕ)) (p : Instance) → fleet ≡ p.fleet → routes ≡ given → length routes ≡ fleet → length given ≡ p.fleet
@@ -37,12 +40,12 @@ pub returns-in-Some : goal.returns-in-Some
 returns-in-Some c =
     pin_step c.args.problem.now c.args.plan.now.routes c.args.pins.now.routes (judged (goal.at.returns-in-Some c).In-Ok).0
     (same_length c.problem.inside.fleet c.as_slice-routes.result.now c.args.plan.now.routes c.args.problem.now (ap (λ (p : Instance). p.fleet) c.problem.view_is) c.as_slice-routes.ensures c.if-routes-problem.false)
-    c.in-Some.fault _ c.broken_at.ensures (same_pins c.as_slice-routes.result.now c.args.plan.now.routes c.as_slice-2.result.now c.args.pins.now.routes _ c.as_slice-routes.ensures c.as_slice-2.ensures c.in-Some.ensures.told)
+    c.in-Some.fault _ c.broken_at.ensures (same_pins c.as_slice-routes.result.now c.args.plan.now.routes c.as_slice.result.now c.args.pins.now.routes _ c.as_slice-routes.ensures c.as_slice.ensures c.in-Some.ensures.told)
 
 pub returns : goal.returns
 returns c = (
   planned_step c.args.problem.now c.args.plan.now.routes c.args.pins.now.routes (judged (goal.at.returns c).In-Ok).0
       (same_length c.problem.inside.fleet c.as_slice-routes.result.now c.args.plan.now.routes c.args.problem.now (ap (λ (p : Instance). p.fleet) c.problem.view_is) c.as_slice-routes.ensures c.if-routes-problem.false)
-      (same_pins c.as_slice-routes.result.now c.args.plan.now.routes c.as_slice-2.result.now c.args.pins.now.routes _ c.as_slice-routes.ensures c.as_slice-2.ensures c.in_default.ensures.told),
+      (same_pins c.as_slice-routes.result.now c.args.plan.now.routes c.as_slice.result.now c.args.pins.now.routes _ c.as_slice-routes.ensures c.as_slice.ensures c.in_default.ensures.told),
   (judged (goal.at.returns c).In-Ok).1,
 )

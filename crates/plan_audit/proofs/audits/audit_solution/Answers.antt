@@ -1,8 +1,8 @@
-use Rattle.std.proofs.Common.{◌≡◌, ℕ, List, Option, sym, ap, ◌∙◌, arith}
+use Rattle.std.proofs.Common.{◌≡◌, ℕ, List, Option, sym, ap, subst, ◌∙◌, arith}
 use Rattle.plan_types.specs.Instance.{Instance}
 use Rattle.plan_types.specs.declared.plans.Cost.{Cost}
 use Rattle.plan_audit.specs.Finding.{first_beyond, first_unserved}
-use Rattle.plan_audit.specs.Verdict.{printed, IsVerdictOver}
+use Rattle.plan_audit.specs.Verdict.{printed, IsBrokenOver, IsVerdictOver}
 use Rattle.plan_audit.specs.declared.rules.Verdict.TheVariants.{Pass}
 use Rattle.plan_audit.proofs.StepLemmas.{fleet_step, cost_step, pass_step}
 use Rattle.plan_audit.proofs.VerdictLemmas.{broken_wider, broken_verdict}
@@ -10,19 +10,24 @@ use Rattle.plan_audit.proofs.audits.audit_solution.Goals as goal
 use Rattle.plan_audit.proofs.audits.audit_solution.Goals.{After-first_unserved, In-Ok}
 
 -- the request that is found is the first that must be served and is not
-asked : (c : After-first_unserved) → c.first_unserved.result ≡ first_unserved c.args.solution.now.routes c.args.problem.now.requests
-asked c = c.first_unserved.ensures ∙ ap (λ (l : List (List ℕ)). first_unserved l c.args.problem.now.requests) c.as_slice-routes.ensures
+asked : (c : After-first_unserved) → c.first_unserved.result ≡ first_unserved c.args.solution.now.routes c.in_ok-scan.scan.problem.now.requests
+asked c = c.first_unserved.ensures ∙ ap (λ (l : List (List ℕ)). first_unserved l c.in_ok-scan.scan.problem.now.requests) (c.in_ok-scan.ensures.made.1 ∙ c.as_slice-routes.ensures)
 
 -- what the routes cost where no stop is wrong
 judged : (c : In-Ok) → IsVerdictOver 1 8 c.args.problem.now (printed c.args.solution.now.routes c.args.solution.now.cost) (Pass c.in-Ok.cost)
-judged c = c.in-Ok.ensures.judged (printed c.args.solution.now.routes c.args.solution.now.cost) (sym c.as_slice-routes.ensures) (asked (goal.at.In-Ok c).After-first_unserved)
+judged c =
+    let s = printed c.args.solution.now.routes c.args.solution.now.cost in
+    subst (λ (p : Instance). IsVerdictOver 1 8 p s (Pass c.in-Ok.cost)) c.in_ok-scan.ensures.made.0
+    (c.in-Ok.ensures.judged s (sym (c.in_ok-scan.ensures.made.1 ∙ c.as_slice-routes.ensures)) (asked (goal.at.In-Ok c).After-first_unserved))
 
 pub returns-in-Err : goal.returns-in-Err
 returns-in-Err c =
     let p = c.args.problem.now in
     let s = printed c.args.solution.now.routes c.args.solution.now.cost in
     broken_verdict p s 1 11 c.in-Err.broken
-    (broken_wider p s 1 8 11 c.in-Err.broken (omega arith) (c.in-Err.ensures.judged s (sym c.as_slice-routes.ensures) (asked (goal.at.returns-in-Err c).After-first_unserved)))
+    (broken_wider p s 1 8 11 c.in-Err.broken (omega arith)
+    (subst (λ (q : Instance). IsBrokenOver 1 8 q s c.in-Err.broken) c.in_ok-scan.ensures.made.0
+    (c.in-Err.ensures.judged s (sym (c.in_ok-scan.ensures.made.1 ∙ c.as_slice-routes.ensures)) (asked (goal.at.returns-in-Err c).After-first_unserved))))
 
 -- what is found beyond the fleet, of the problem and the solution as they are given
 beyond : (fleet : ℕ) (routes : List (List ℕ)) (p : Instance) (given : List (List ℕ)) (o : Option ℕ) → fleet ≡ p.fleet → routes ≡ given → o ≡ first_beyond fleet 0 routes → first_beyond p.fleet 0 given ≡ o
