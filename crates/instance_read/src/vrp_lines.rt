@@ -40,19 +40,7 @@ impl Key {
         ensures is { result ≡ key_number self }
         ensures below { result < 11 }
     {
-        match self {
-            Key::Dimension => 0,
-            Key::Capacity => 1,
-            Key::ProblemType => 2,
-            Key::WeightType => 3,
-            Key::Refused => 4,
-            Key::Coordinates => 5,
-            Key::Demands => 6,
-            Key::Depots => 7,
-            Key::End => 8,
-            Key::StrayNumber => 9,
-            Key::Ignored => 10,
-        }
+        self as usize
     }
 }
 
