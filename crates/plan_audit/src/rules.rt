@@ -9,7 +9,7 @@ use plan_types::Cost;
 #[derive(Clone, Copy, Debug, PartialEq, Eq)]
 pub(crate) enum Rule {
     /// 1: a stop is of no request (`Scan::first_unknown`).
-    UnknownStop,
+    UnknownStop = 1,
     /// 2: a stop stands at an earlier place too (`Scan::first_repeated`).
     Twice,
     /// 3: the other stop of a pair is in no route (`Scan::first_missing`); in a printed solution, a request is in none
@@ -55,19 +55,7 @@ impl Rule {
     pub(crate) fn number(self) -> u32
         ensures { result ≡ rule_number self }
     {
-        match self {
-            Rule::UnknownStop => 1,
-            Rule::Twice => 2,
-            Rule::Missing => 3,
-            Rule::SplitPair => 4,
-            Rule::DeliveryFirst => 5,
-            Rule::Load => 6,
-            Rule::Late => 7,
-            Rule::LateReturn => 8,
-            Rule::Fleet => 9,
-            Rule::Pin => 10,
-            Rule::PrintedCost => 11,
-        }
+        self as u32
     }
 
     /// The verdict that this rule is broken there.
