@@ -1,10 +1,10 @@
 -- What is told of the audit of a solution beside a best-known cost of its instance.
-use Rattle.std.specs.Prelude.{◌≡◌, ℕ, List, ◌++◌}
+use Rattle.std.specs.Prelude.{◌≡◌, ℕ, List, ◌++◌, Option, Some, None}
 use Rattle.best_known.specs.BestKnown.{BestCost, comparison_text}
 use Rattle.plan_types.specs.declared.requests.Kind.{Kind}
 use Rattle.plan_audit.specs.declared.rules.Verdict.{Verdict}
 use Rattle.plan_audit.specs.declared.rules.Verdict.TheVariants.{Broken, Pass}
-use Rattle.auditor_cli.specs.Answer.{verdict_answer}
+use Rattle.auditor_cli.specs.Answer.{IsAnswer, verdict_answer}
 use Rattle.auditor_cli.specs.AnswerText.{pass_text}
 use Rattle.auditor_cli.specs.Examined.{IsExamined, answer_of}
 use Rattle.auditor_cli.specs.declared.answer.AuditAnswer.{AuditAnswer}
@@ -27,3 +27,8 @@ pub record IsComparedAnswer (kind : Kind) (best : BestCost) (instance solution :
   pub examined : Examined
   pub is_examined : IsExamined kind instance solution examined
   pub answers : answer ≡ compared_answer best examined
+
+-- the answer for two texts of a list, which may have a best-known cost behind them
+abbrev pub IsListedAnswer : Kind → Option BestCost → List ℕ → List ℕ → AuditAnswer → Type 0
+IsListedAnswer kind None instance solution answer = IsAnswer kind instance solution answer
+IsListedAnswer kind (Some best) instance solution answer = IsComparedAnswer kind best instance solution answer

@@ -105,6 +105,11 @@ IsComparedPair k text instance solution best = (compared_parts k text ≡ Some (
 abbrev pub ComparesNone : Kind → List ℕ → Type 0
 ComparesNone k text = (instance solution : List ℕ) (best : BestCost) → IsComparedPair k text instance solution best → ⊥
 
+-- the line names these two, alone or before a best-known cost
+abbrev pub IsListedPair : Kind → List ℕ → List ℕ → List ℕ → Option BestCost → Type 0
+IsListedPair k text instance solution None = IsPair text instance solution
+IsListedPair k text instance solution (Some best) = NamesNone text × IsComparedPair k text instance solution best
+
 -- its two paths, and what is told of them beside the best-known cost
 pub record IsToldOfCompared (k : Kind) (l : List ℕ) (was now : List FileRead) (text : List ℕ) (status : ℕ) : Type 0 where
   pub instance : List ℕ

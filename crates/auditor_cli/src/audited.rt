@@ -79,24 +79,3 @@ pub fn audit_noted<F: ReadFiles, W: Write, E: Write>(
     tell_behind(paths.solution, &both.1, errors)?;
     Ok(status)
 }
-
-/// Reads the whole of both texts before it looks into either, and tells what comes of their audit.
-pub fn audit_read<F: ReadFiles, W: Write>(
-    alloc: Global,
-    paths: Paths,
-    files: &mut F,
-    output: &mut W,
-) -> io::Result<u8>
-    ensures status { IfOk result (λ status. status ≤ 4) }
-    ensures reads { AreReadInTurn paths.entry.instance.now paths.entry.solution.now
-        (F.reads files.old) (F.reads files.new) }
-    ensures told { IfOk result (TellsFiles paths.entry.kind paths.entry.instance.now
-        paths.entry.solution.now (F.reads files.old) (F.reads files.new)
-        (W.contents output.old) (W.contents output.new)) }
-{
-    let both = match read_both(paths, files) {
-        Ok(both) => both,
-        Err(unread) => return tell_unread(output, unread.path, unread.kind),
-    };
-    tell_audit(output, &audit_text(alloc, paths.kind, &both.0, &both.1))
-}

@@ -1,12 +1,12 @@
-//! The audit of two files beside a best-known cost of the instance.
+//! The audit of two files that a list names, beside a best-known cost of the instance.
 ghost use Rattle.std.specs.Prelude.{◌≡◌, ◌≤◌, ◌++◌, IfOk};
 ghost use Rattle.best_known.specs.BestKnown.{comparison_text};
 ghost use Rattle.auditor_cli.specs.AnswerText.{pass_text};
-ghost use Rattle.auditor_cli.specs.Compared.{IsComparedAnswer, compared_answer, compared_verdict};
+ghost use Rattle.auditor_cli.specs.Compared.{IsComparedAnswer, IsListedAnswer, compared_answer, compared_verdict};
 ghost use Rattle.auditor_cli.specs.Files.{AreReadInTurn, TellsFilesBy};
 
 use crate::answer::{AuditAnswer, Line, pass_line};
-use crate::audit::{Examined, answer_of, examine, verdict_told};
+use crate::audit::{Examined, answer_of, audit_text, examine, verdict_told};
 use crate::audited::read_both;
 use crate::files::ReadFiles;
 use crate::status::DONE;
@@ -19,32 +19,53 @@ use std::alloc::Global;
 use std::io;
 use std::io::Write;
 
-/// Reads both texts as `audit_read` does, and tells what comes of their audit; behind a pass, how its cost compares.
+/// Two files that a line of a list names, and the best-known cost of the instance that it has behind them.
+#[derive(Debug, Drop)]
+pub struct ListedPair<'a> {
+    pub paths: Paths<'a>,
+    pub best: Option<BestKnown>,
+}
+
+/// Reads the whole of both texts before it looks into either, and tells what comes of their audit; behind a pass, how its cost
+/// compares with the best-known one.
 pub fn compare_read<F: ReadFiles, W: Write>(
     alloc: Global,
-    paths: Paths,
-    best: &BestKnown,
+    pair: &ListedPair<'_>,
     files: &mut F,
     output: &mut W,
 ) -> io::Result<u8>
     ensures status { IfOk result (λ status. status ≤ 4) }
-    ensures reads { AreReadInTurn paths.entry.instance.now paths.entry.solution.now
+    ensures reads { AreReadInTurn pair.now.paths.instance.now pair.now.paths.solution.now
         (F.reads files.old) (F.reads files.new) }
-    ensures told { IfOk result (TellsFilesBy (IsComparedAnswer paths.entry.kind best.now)
-        paths.entry.instance.now paths.entry.solution.now (F.reads files.old) (F.reads files.new)
+    ensures told { IfOk result (TellsFilesBy (IsListedAnswer pair.now.paths.kind pair.now.best)
+        pair.now.paths.instance.now pair.now.paths.solution.now
+        (F.reads files.old) (F.reads files.new)
         (W.contents output.old) (W.contents output.new)) }
 {
-    let both = match read_both(paths, files) {
+    let both = match read_both(pair.paths, files) {
         Ok(both) => both,
         Err(unread) => return tell_unread(output, unread.path, unread.kind),
     };
-    tell_audit(
-        output,
-        &compare_text(alloc, paths.kind, best, &both.0, &both.1),
-    )
+    tell_audit(output, &listed_answer(alloc, pair, &both.0, &both.1))
 }
 
 // Audits a solution's text against an instance's text.
+fn listed_answer(
+    alloc: Global,
+    pair: &ListedPair<'_>,
+    instance: &[u8],
+    solution: &[u8],
+) -> Result<AuditAnswer, OutOfMemory>
+    ensures answer { IfOk result (IsListedAnswer pair.now.paths.kind pair.now.best
+        instance.now solution.now) }
+    ensures status { IfOk result (λ answer. answer.status ≤ 2) }
+{
+    match &pair.best {
+        Some(best) => compare_text(alloc, pair.paths.kind, best, instance, solution),
+        None => audit_text(alloc, pair.paths.kind, instance, solution),
+    }
+}
+
 fn compare_text(
     alloc: Global,
     kind: Kind,

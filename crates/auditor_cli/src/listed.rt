@@ -3,12 +3,11 @@ ghost use Rattle.std.specs.Prelude.{◌≡◌, ◌≤◌, IfOk, MatchOption, cod
 ghost use Rattle.std.specs.List.{position_or_len};
 ghost use Rattle.std.specs.Io.KnownBytes.{Appends};
 ghost use Rattle.text_lines.specs.Lines.{ended};
-ghost use Rattle.auditor_cli.specs.Listed.{ComparesNone, IsAudited, IsComparedLine, IsComparedPair, IsPair, NamesNone, TellsLine, TellsLines, TellsList, compared_parts, cut, ends_at_feed, is_path, is_tab, parts_of};
+ghost use Rattle.auditor_cli.specs.Listed.{ComparesNone, IsAudited, IsComparedPair, IsListedPair, IsPair, NamesNone, TellsLine, TellsLines, TellsList, compared_parts, cut, ends_at_feed, is_path, is_tab, parts_of};
 ghost use Rattle.auditor_cli.specs.Reads.{IsGrown, IsReadFirst};
 ghost use Rattle.auditor_cli.specs.Telling.{unread_line, unread_status};
 
-use crate::audited::audit_read;
-use crate::compared::compare_read;
+use crate::compared::{ListedPair, compare_read};
 use crate::files::ReadFiles;
 use crate::status::{DONE, REFUSED};
 use crate::telling::{tell_unread, write_line};
@@ -20,16 +19,7 @@ use std::io::{ErrorKind, Write};
 use std::{io, str};
 use text_lines::Lines;
 
-// An instance and a solution, by their paths, and a best-known cost of the instance.
-#[derive(Debug, Drop)]
-struct ComparedPair<'a> {
-    instance: &'a str,
-    solution: &'a str,
-    best: BestKnown,
-}
-
-/// Reads a list line by line, and audits the pair that each names, as `audit_read` does, before it reads the next one. Gives the
-/// greatest status.
+/// Reads a list line by line, and audits the pair that each names before it reads the next one. Gives the greatest status.
 pub fn audits_read<F: ReadFiles, W: Write>(
     alloc: Global,
     kind: Kind,
@@ -101,7 +91,7 @@ fn ends_at_feed(text: &[u8]) -> bool
     matches!(text, [.., b'\n'])
 }
 
-// Audits the pair that each line names, and tells it before it goes on.
+// Tells the audit of the pair that each line names, and flushes it before it goes on.
 fn audit_lines<F: ReadFiles, W: Write>(
     alloc: Global,
     kind: Kind,
@@ -118,6 +108,7 @@ fn audit_lines<F: ReadFiles, W: Write>(
     let mut greatest = DONE;
     for line in lines {
         let status = audit_line(alloc, kind, line, files, output)?;
+        output.flush()?;
         greatest = greater(greatest, status);
     }
     Ok(greatest)
@@ -132,7 +123,7 @@ pub fn greater(one: u8, other: u8) -> u8
     if one < other { other } else { one }
 }
 
-// Tells the audit of the pair that the line names, and flushes it.
+// Tells the audit of the pair that the line names.
 fn audit_line<F: ReadFiles, W: Write>(
     alloc: Global,
     kind: Kind,
@@ -146,67 +137,14 @@ fn audit_line<F: ReadFiles, W: Write>(
         (F.reads files.old) (F.reads files.new)
         (W.contents output.old) (W.contents output.new)) }
 {
-    let status = audit_named(alloc, kind, line, files, output)?;
-    output.flush()?;
-    Ok(status)
-}
-
-// Tells the audit of the pair that the line names.
-fn audit_named<F: ReadFiles, W: Write>(
-    alloc: Global,
-    kind: Kind,
-    line: &[u8],
-    files: &mut F,
-    output: &mut W,
-) -> io::Result<u8>
-    ensures status { IfOk result (λ status. status ≤ 4) }
-    ensures reads { IsGrown (F.reads files.old) (F.reads files.new) }
-    ensures told { IfOk result (TellsLine (IsAudited kind) line.now
-        (F.reads files.old) (F.reads files.new)
-        (W.contents output.old) (W.contents output.new)) }
-{
-    let (instance, solution) = match pair_of(line) {
+    let pair = match listed_pair(kind, line) {
         Some(pair) => pair,
-        None => return compare_named(alloc, kind, line, files, output),
-    };
-    write!(output, "{instance}\t{solution}\t")?;
-    let paths = Paths {
-        kind,
-        instance,
-        solution,
-    };
-    audit_read(alloc, paths, files, output)
-}
-
-// Tells the audit of the pair that the line names beside the best-known cost that it names.
-fn compare_named<F: ReadFiles, W: Write>(
-    alloc: Global,
-    kind: Kind,
-    line: &[u8],
-    files: &mut F,
-    output: &mut W,
-) -> io::Result<u8>
-    ensures status { IfOk result (λ status. status ≤ 4) }
-    ensures reads { IsGrown (F.reads files.old) (F.reads files.new) }
-    ensures told { IfOk result (TellsLine (IsComparedLine kind) line.now
-        (F.reads files.old) (F.reads files.new)
-        (W.contents output.old) (W.contents output.new)) }
-{
-    let ComparedPair {
-        instance,
-        solution,
-        best,
-    } = match compared_of(kind, line) {
-        Some(compared) => compared,
         None => return tell_bad_line(output),
     };
+    let instance = pair.paths.instance;
+    let solution = pair.paths.solution;
     write!(output, "{instance}\t{solution}\t")?;
-    let paths = Paths {
-        kind,
-        instance,
-        solution,
-    };
-    compare_read(alloc, paths, &best, files, output)
+    compare_read(alloc, &pair, files, output)
 }
 
 /// Tells a line that names no pair.
@@ -257,10 +195,36 @@ fn is_path(path: &[u8]) -> bool
     !path.is_empty() && tab_at(path) == path.len()
 }
 
+// The files that a line names, and the best-known cost that it has behind them, if any.
+fn listed_pair(kind: Kind, line: &[u8]) -> Option<ListedPair<'_>>
+    ensures { MatchOption result (NamesNone line.now × ComparesNone kind line.now)
+        (λ pair. (pair.paths.kind ≡ kind) × IsListedPair kind line.now
+        pair.paths.instance.now pair.paths.solution.now pair.best) }
+{
+    if let Some((instance, solution)) = pair_of(line) {
+        let paths = Paths {
+            kind,
+            instance,
+            solution,
+        };
+        return Some(ListedPair { paths, best: None });
+    }
+    let (instance, solution, best) = compared_of(kind, line)?;
+    let paths = Paths {
+        kind,
+        instance,
+        solution,
+    };
+    Some(ListedPair {
+        paths,
+        best: Some(best),
+    })
+}
+
 // The paths of an instance and a solution, and a best-known cost, with tabs between them.
-fn compared_of(kind: Kind, line: &[u8]) -> Option<ComparedPair<'_>>
+fn compared_of(kind: Kind, line: &[u8]) -> Option<(&str, &str, BestKnown)>
     ensures { MatchOption result (ComparesNone kind line.now)
-        (λ c. IsComparedPair kind line.now c.instance.now c.solution.now c.best) }
+        (λ p. IsComparedPair kind line.now p.0.now p.1.now p.2) }
 {
     let (instance, solution, best) = match compared_parts(kind, line) {
         Some(parts) => parts,
@@ -272,11 +236,7 @@ fn compared_of(kind: Kind, line: &[u8]) -> Option<ComparedPair<'_>>
     let Ok(solution) = str::from_utf8(solution) else {
         return None;
     };
-    Some(ComparedPair {
-        instance,
-        solution,
-        best,
-    })
+    Some((instance, solution, best))
 }
 
 // The columns of a line with two tabs, if neither path is empty and the last one is a best-known cost.

@@ -1,7 +1,7 @@
 -- Each line adds its own, and behind the last one all is told.
 use Rattle.std.proofs.Common.{◌≡◌, ◌∷◌, [], refl, rules, arith}
 use Rattle.auditor_cli.specs.Listed.{IsAudited}
-use Rattle.auditor_cli.proofs.ListLemmas.{all_told, grown_twice, left_as, line_told, nothing_told, status_as}
+use Rattle.auditor_cli.proofs.ListLemmas.{all_told, flushed, grown_twice, left_as, line_told, nothing_told, status_as}
 use Rattle.auditor_cli.proofs.listed.audit_lines.Goals as goal
 
 pub loop-line-init : goal.loop-line-init
@@ -15,7 +15,8 @@ pub loop-line-preserved : goal.loop-line-preserved
 loop-line-preserved g c =
     let before = g.W.Write.contents c.args.output.now in
     let now = g.W.Write.contents c.loop-line.output in
-    let after = g.W.Write.contents c.audit_line.new.output in
+    let mid = g.W.Write.contents c.audit_line.new.output in
+    let after = g.W.Write.contents c.flush.new.self in
     let was = g.F.ReadFiles.reads c.args.files.now in
     let next = g.F.ReadFiles.reads c.loop-line.files in
     let later = g.F.ReadFiles.reads c.audit_line.new.files in
@@ -23,17 +24,21 @@ loop-line-preserved g c =
     let line = c.in-Some.line.now in
     let status = c.in_ok-status.status in
     let greatest = c.loop-line.greatest in
+    let told = c.in_ok-status.ensures.told in
+    let kept = flushed now mid after told.0 told.2 c.in_ok-flush.ensures.bytes in
     let step : c.loop-line.line-iterator ≡ line ∷ rest = search rules in (
       status_as _ _ _ _ later after rest _ c.greater-greatest.result c.greater-greatest.ensures.value
           (line_told (IsAudited c.args.kind) c.args.lines was before next later now after line rest greatest status
-          (left_as _ _ _ _ next now c.loop-line.line-iterator (line ∷ rest) greatest step c.loop-line.invariant.0) c.in_ok-status.ensures.told),
+          (left_as _ _ _ _ next now c.loop-line.line-iterator (line ∷ rest) greatest step c.loop-line.invariant.0) (told.0, told.1, kept)),
       c.greater-greatest.ensures.bound,
       grown_twice was next later c.loop-line.invariant.2 c.audit_line.ensures.reads,
     )
 
 pub returns-in_err-status-clause-reads : goal.returns-in_err-status-clause-reads
-returns-in_err-status-clause-reads g c =
-    grown_twice (g.F.ReadFiles.reads c.args.files.now) (g.F.ReadFiles.reads c.loop-line.files) (g.F.ReadFiles.reads c.audit_line.new.files) c.loop-line.invariant.2 c.audit_line.ensures.reads
+returns-in_err-status-clause-reads g c = grown_twice _ _ _ c.loop-line.invariant.2 c.audit_line.ensures.reads
+
+pub returns-in_err-flush-clause-reads : goal.returns-in_err-flush-clause-reads
+returns-in_err-flush-clause-reads g c = grown_twice _ _ _ c.loop-line.invariant.2 c.audit_line.ensures.reads
 
 pub returns-clause-told : goal.returns-clause-told
 returns-clause-told g c =
