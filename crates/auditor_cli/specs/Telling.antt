@@ -18,6 +18,10 @@ abbrev pub is_memory : ErrorKind → Bool
 is_memory kind.OutOfMemory = true
 is_memory _ = false
 
+-- what can't be done with a file
+abbrev pub failed_line : List ℕ → List ℕ → ErrorKind → List ℕ
+failed_line verb path kind = if is_memory kind then ended (codes "out of memory") else ended (codes "cannot " ++ verb ++ codes " " ++ path)
+
 -- a file that can't be read
 abbrev pub unread_line : List ℕ → ErrorKind → List ℕ
 unread_line path kind = if is_memory kind then ended (codes "out of memory") else ended (codes "cannot read " ++ path)

@@ -1,7 +1,7 @@
 //! What is printed, and the status that goes with it.
 ghost use Rattle.std.specs.Prelude.{◌≡◌, ◌≤◌, ◌++◌, ◌∷◌, [], IfOk, MatchResult, OnOk};
 ghost use Rattle.std.specs.Io.KnownBytes.{Appends};
-ghost use Rattle.auditor_cli.specs.Telling.{TellsAnswer, TellsUnread, TellsUnwritten, TellsWant, is_memory, is_there};
+ghost use Rattle.auditor_cli.specs.Telling.{TellsAnswer, TellsUnread, TellsUnwritten, TellsWant, failed_line, is_memory, is_there, unread_status};
 
 use crate::answer::AuditAnswer;
 use crate::status::{FILE, OUT_OF_MEMORY};
@@ -38,21 +38,7 @@ pub fn tell_unread<W: Write>(output: &mut W, path: &str, kind: ErrorKind) -> io:
     ensures { IfOk result (TellsUnread path.now kind (W.contents output.old)
         (W.contents output.new)) }
 {
-    if is_want_of_memory(kind) {
-        return tell_want_of_memory(output);
-    }
-    writeln!(output, "cannot read {path}")?;
-    Ok(FILE)
-}
-
-// Whether it tells want of memory.
-fn is_want_of_memory(kind: ErrorKind) -> bool
-    ensures { result ≡ is_memory kind }
-{
-    match kind {
-        ErrorKind::OutOfMemory => true,
-        _ => false,
-    }
+    tell_failed(output, "read", path, kind)
 }
 
 /// Tells a file that can't be made.
@@ -65,21 +51,34 @@ pub fn tell_unwritten<W: Write>(output: &mut W, path: &str, kind: ErrorKind) -> 
         write_line(output, b"there already")?;
         return Ok(FILE);
     }
-    if is_want_of_memory(kind) {
-        return tell_want_of_memory(output);
-    }
-    writeln!(output, "cannot write {path}")?;
-    Ok(FILE)
+    tell_failed(output, "write", path, kind)
 }
 
 // Whether it tells that something stands under the path.
 fn is_there(kind: ErrorKind) -> bool
     ensures { result ≡ is_there kind }
 {
-    match kind {
-        ErrorKind::AlreadyExists => true,
-        _ => false,
+    matches!(kind, ErrorKind::AlreadyExists)
+}
+
+// Tells what can't be done with a file, or want of memory.
+fn tell_failed<W: Write>(output: &mut W, verb: &str, path: &str, kind: ErrorKind) -> io::Result<u8>
+    ensures { IfOk result (λ status. (status ≡ unread_status kind)
+        × Appends (W.contents output.old) (W.contents output.new)
+        (failed_line verb.now path.now kind)) }
+{
+    if is_want_of_memory(kind) {
+        return tell_want_of_memory(output);
     }
+    writeln!(output, "cannot {verb} {path}")?;
+    Ok(FILE)
+}
+
+// Whether it tells want of memory.
+fn is_want_of_memory(kind: ErrorKind) -> bool
+    ensures { result ≡ is_memory kind }
+{
+    matches!(kind, ErrorKind::OutOfMemory)
 }
 
 /// Tells the answer of an audit.
