@@ -14,9 +14,7 @@ returns-in-Err-clause-told g c =
     let path = c.args.list.now in
     let before = g.W.Write.contents c.args.output.now in
     let after = g.W.Write.contents c.tell_unread.new.output in
-    let was = g.F.ReadFiles.reads c.args.files.now in
-    let now = g.F.ReadFiles.reads c.open.new.self in
     IfOk-weaker c.tell_unread.result _ _
-    (λ status told. unopened c.args.kind path was now before after (error_kind c.in-Err.error) status c.in-Err.ensures
+    (λ status told. unopened c.args.kind path _ _ before after (error_kind c.in-Err.error) status c.in-Err.ensures
     (subst (λ kind. TellsUnread path kind before after status) c.kind.ensures told))
     c.tell_unread.ensures
