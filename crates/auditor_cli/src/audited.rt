@@ -53,7 +53,8 @@ fn not_read<'a>(path: &'a str, error: &io::Error) -> Unread<'a>
     }
 }
 
-/// Tells the audit of two files as `audit_read` does, and on `errors` what stands behind the cost line of the solution.
+/// Reads the whole of both texts before it looks into either, and tells their audit; on `errors` what stands behind the cost line of
+/// the solution.
 pub fn audit_noted<F: ReadFiles, W: Write, E: Write>(
     alloc: Global,
     paths: Paths,

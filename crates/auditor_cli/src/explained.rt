@@ -26,7 +26,7 @@ pub struct Explanation {
     pub text: String,
 }
 
-/// Reads both texts as `audit_read` does, and tells the audit's answer and what it rests on; on `errors` what stands behind the cost line
+/// Reads both texts as `audit_noted` does, and tells the audit's answer and what it rests on; on `errors` what stands behind the cost line
 /// of the solution.
 pub fn explain_read<F: ReadFiles, W: Write, E: Write>(
     alloc: Global,

@@ -39,7 +39,7 @@ pub(crate) fn form_of(is_tabbed: bool) -> Form
     if is_tabbed { Form::Tabs } else { Form::Columns }
 }
 
-/// Reads both texts as `audit_read` does, and tells the audit's answer and the timetable of the solution.
+/// Reads both texts as `audit_noted` does, and tells the audit's answer and the timetable of the solution.
 pub(crate) fn timetable_read<F: ReadFiles, W: Write>(
     alloc: Global,
     paths: Paths,
