@@ -1,5 +1,5 @@
 -- The pair of the line with what is told of it, or that it names none.
-use Rattle.std.proofs.Common.{codes, inr, refl, rules, subst}
+use Rattle.std.proofs.Common.{codes, inr, refl, rules}
 use Rattle.std.specs.Io.KnownBytes.{Appends}
 use Rattle.std.proofs.lemmas.Result.{IfOk-weaker}
 use Rattle.text_lines.specs.Lines.{ended}
