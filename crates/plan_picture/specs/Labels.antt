@@ -13,52 +13,42 @@ use Rattle.plan_picture.specs.declared.labels.Extent.{Extent}
 use Rattle.plan_picture.specs.declared.labels.Label.{Label}
 use Rattle.plan_picture.specs.declared.labels.LabelKind.{LabelKind}
 use Rattle.plan_picture.specs.declared.labels.LabelKind.TheVariants.{Mark, Badge, Number}
+use Rattle.plan_picture.specs.declared.labels.Span.{Span}
 
 -- quarters of the unit
 abbrev pub quarters : Frame → ℕ → ℕ
 quarters f k = k * f.unit / 4
 
+-- as far before a place as behind it
+abbrev pub around : Frame → ℕ → ℕ → Span
+around f k at = record { first = at - quarters f k; last = at + quarters f k }
+
+-- before or behind a place and a gap, twice half long
+abbrev pub before : Frame → ℕ → ℕ → ℕ → Span
+before f gap half at = record { first = at - quarters f (gap + 2 * half); last = at - quarters f gap }
+
+abbrev pub behind : Frame → ℕ → ℕ → ℕ → Span
+behind f gap half at = record { first = at + quarters f gap; last = at + quarters f (gap + 2 * half) }
+
+abbrev pub area_of : Span → Span → Area
+area_of across down = record { left = across.first; right = across.last; top = down.first; bottom = down.last }
+
 -- the area of a mark
 abbrev pub area_on : Frame → ℕ → Stop → Area
-area_on f k s = record {
-  left = (point_of f s).x - quarters f k;
-  right = (point_of f s).x + quarters f k;
-  top = (point_of f s).y - quarters f k;
-  bottom = (point_of f s).y + quarters f k;
-}
+area_on f k s = area_of (around f k (point_of f s).x) (around f k (point_of f s).y)
 
 -- the areas above, to the right, below and to the left of a mark
 abbrev pub area_above : Frame → Extent → Stop → Area
-area_above f e s = record {
-  left = (point_of f s).x - quarters f e.across;
-  right = (point_of f s).x + quarters f e.across;
-  top = (point_of f s).y - quarters f (e.gap + 2 * e.down);
-  bottom = (point_of f s).y - quarters f e.gap;
-}
+area_above f e s = area_of (around f e.across (point_of f s).x) (before f e.gap e.down (point_of f s).y)
 
 abbrev pub area_right : Frame → Extent → Stop → Area
-area_right f e s = record {
-  left = (point_of f s).x + quarters f e.gap;
-  right = (point_of f s).x + quarters f (e.gap + 2 * e.across);
-  top = (point_of f s).y - quarters f e.down;
-  bottom = (point_of f s).y + quarters f e.down;
-}
+area_right f e s = area_of (behind f e.gap e.across (point_of f s).x) (around f e.down (point_of f s).y)
 
 abbrev pub area_below : Frame → Extent → Stop → Area
-area_below f e s = record {
-  left = (point_of f s).x - quarters f e.across;
-  right = (point_of f s).x + quarters f e.across;
-  top = (point_of f s).y + quarters f e.gap;
-  bottom = (point_of f s).y + quarters f (e.gap + 2 * e.down);
-}
+area_below f e s = area_of (around f e.across (point_of f s).x) (behind f e.gap e.down (point_of f s).y)
 
 abbrev pub area_left : Frame → Extent → Stop → Area
-area_left f e s = record {
-  left = (point_of f s).x - quarters f (e.gap + 2 * e.across);
-  right = (point_of f s).x - quarters f e.gap;
-  top = (point_of f s).y - quarters f e.down;
-  bottom = (point_of f s).y + quarters f e.down;
-}
+area_left f e s = area_of (before f e.gap e.across (point_of f s).x) (around f e.down (point_of f s).y)
 
 -- two areas have a place in common
 abbrev pub overlaps : Area → Area → Bool

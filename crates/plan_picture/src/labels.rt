@@ -3,13 +3,20 @@
 //! The routes' numbers take their places first, then the stops' by rising number: each above its mark, to the right, below or
 //! to the left, where that is free.
 ghost use Rattle.std.specs.Prelude.{◌≡◌, ◌≤◌, ◌^◌, [], IfOk, OnOk, Some};
-ghost use Rattle.plan_picture.specs.Labels.{area_above, area_below, area_left, area_on, area_right, badge_area, badge_extent, covers, free_along, free_area, is_free, is_within, labels_of, marked, noted, number_extent, overlaps, quarters, with_badges, with_marks, with_numbers};
+ghost use Rattle.plan_picture.specs.Labels.{area_of, area_on, around, badge_area, badge_extent, before, behind, covers, free_along, free_area, is_free, is_within, labels_of, marked, noted, number_extent, overlaps, quarters, with_badges, with_marks, with_numbers};
 
 use crate::frame::Frame;
 use crate::known::stops_along;
 use crate::svg::digits;
 use plan_types::{OutOfMemory, Problem, Route, Stop};
 use std::alloc::Global;
+
+/// A part of the map's width or of its height.
+#[derive(Clone, Copy)]
+pub(crate) struct Span {
+    pub first: u128,
+    pub last: u128,
+}
 
 /// A part of the map.
 #[derive(Clone, Copy)]
@@ -163,6 +170,17 @@ fn badge_extent(number: u64) -> Extent
     }
 }
 
+fn area_of(across: Span, down: Span) -> Area
+    ensures { result ≡ area_of across down }
+{
+    Area {
+        left: across.first,
+        right: across.last,
+        top: down.first,
+        bottom: down.last,
+    }
+}
+
 impl Area {
     // Whether two areas have a place in common.
     fn overlaps(&self, other: &Area) -> bool
@@ -196,77 +214,48 @@ impl Frame {
         u128::from(k) * u128::from(self.unit) / 4
     }
 
+    // As far before a place as behind it.
+    fn around(&self, k: u32, at: u128) -> Span
+        requires { at ≤ 2 ^ 70 }
+        ensures { result ≡ around self.now k at }
+    {
+        Span {
+            first: at.saturating_sub(self.quarters(k)),
+            last: at + self.quarters(k),
+        }
+    }
+
+    // Before a place and a gap, twice `half` long.
+    fn before(&self, gap: u32, half: u32, at: u128) -> Span
+        requires gap { gap ≤ 400 }
+        requires half { half ≤ 400 }
+        ensures { result ≡ before self.now gap half at }
+    {
+        Span {
+            first: at.saturating_sub(self.quarters(gap + 2 * half)),
+            last: at.saturating_sub(self.quarters(gap)),
+        }
+    }
+
+    // Behind a place and a gap, twice `half` long.
+    fn behind(&self, gap: u32, half: u32, at: u128) -> Span
+        requires gap { gap ≤ 400 }
+        requires half { half ≤ 400 }
+        requires at { at ≤ 2 ^ 70 }
+        ensures { result ≡ behind self.now gap half at }
+    {
+        Span {
+            first: at + self.quarters(gap),
+            last: at + self.quarters(gap + 2 * half),
+        }
+    }
+
     // The area of a mark.
     fn area_on(&self, k: u32, stop: &Stop) -> Area
         ensures { result ≡ area_on self.now k stop.now }
     {
         let point = self.point(stop);
-        Area {
-            left: point.x.saturating_sub(self.quarters(k)),
-            right: point.x + self.quarters(k),
-            top: point.y.saturating_sub(self.quarters(k)),
-            bottom: point.y + self.quarters(k),
-        }
-    }
-
-    fn area_above(&self, extent: &Extent, stop: &Stop) -> Area
-        requires down { extent.now.down ≤ 400 }
-        requires gap { extent.now.gap ≤ 400 }
-        ensures { result ≡ area_above self.now extent.now stop.now }
-    {
-        let point = self.point(stop);
-        Area {
-            left: point.x.saturating_sub(self.quarters(extent.across)),
-            right: point.x + self.quarters(extent.across),
-            top: point
-                .y
-                .saturating_sub(self.quarters(extent.gap + 2 * extent.down)),
-            bottom: point.y.saturating_sub(self.quarters(extent.gap)),
-        }
-    }
-
-    fn area_right(&self, extent: &Extent, stop: &Stop) -> Area
-        requires across { extent.now.across ≤ 400 }
-        requires gap { extent.now.gap ≤ 400 }
-        ensures { result ≡ area_right self.now extent.now stop.now }
-    {
-        let point = self.point(stop);
-        Area {
-            left: point.x + self.quarters(extent.gap),
-            right: point.x + self.quarters(extent.gap + 2 * extent.across),
-            top: point.y.saturating_sub(self.quarters(extent.down)),
-            bottom: point.y + self.quarters(extent.down),
-        }
-    }
-
-    fn area_below(&self, extent: &Extent, stop: &Stop) -> Area
-        requires down { extent.now.down ≤ 400 }
-        requires gap { extent.now.gap ≤ 400 }
-        ensures { result ≡ area_below self.now extent.now stop.now }
-    {
-        let point = self.point(stop);
-        Area {
-            left: point.x.saturating_sub(self.quarters(extent.across)),
-            right: point.x + self.quarters(extent.across),
-            top: point.y + self.quarters(extent.gap),
-            bottom: point.y + self.quarters(extent.gap + 2 * extent.down),
-        }
-    }
-
-    fn area_left(&self, extent: &Extent, stop: &Stop) -> Area
-        requires across { extent.now.across ≤ 400 }
-        requires gap { extent.now.gap ≤ 400 }
-        ensures { result ≡ area_left self.now extent.now stop.now }
-    {
-        let point = self.point(stop);
-        Area {
-            left: point
-                .x
-                .saturating_sub(self.quarters(extent.gap + 2 * extent.across)),
-            right: point.x.saturating_sub(self.quarters(extent.gap)),
-            top: point.y.saturating_sub(self.quarters(extent.down)),
-            bottom: point.y + self.quarters(extent.down),
-        }
+        area_of(self.around(k, point.x), self.around(k, point.y))
     }
 
     fn is_within(&self, area: &Area) -> bool
@@ -291,19 +280,22 @@ impl Frame {
         requires gap { extent.now.gap ≤ 400 }
         ensures { result ≡ free_area self.now labels.now extent.now stop.now }
     {
-        let above = self.area_above(extent, stop);
+        let point = self.point(stop);
+        let across = self.around(extent.across, point.x);
+        let down = self.around(extent.down, point.y);
+        let above = area_of(across, self.before(extent.gap, extent.down, point.y));
         if self.is_free(labels, &above) {
             return Some(above);
         }
-        let right = self.area_right(extent, stop);
+        let right = area_of(self.behind(extent.gap, extent.across, point.x), down);
         if self.is_free(labels, &right) {
             return Some(right);
         }
-        let below = self.area_below(extent, stop);
+        let below = area_of(across, self.behind(extent.gap, extent.down, point.y));
         if self.is_free(labels, &below) {
             return Some(below);
         }
-        let left = self.area_left(extent, stop);
+        let left = area_of(self.before(extent.gap, extent.across, point.x), down);
         if self.is_free(labels, &left) {
             return Some(left);
         }
