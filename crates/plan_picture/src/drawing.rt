@@ -5,7 +5,7 @@ ghost use Rattle.route_sched.specs.Route.{AreLiveOnce};
 ghost use Rattle.plan_picture.specs.Picture.{broken_route, broken_stop, drawn_text, picture, route_picture, route_text, sized_head, whole_text};
 
 use crate::known::{kept_routes, known_stops, stops_along, unserved};
-use crate::map::Broken;
+use crate::scene::{Broken, Scene};
 use crate::svg::Svg;
 use crate::table::grid_of;
 use crate::texts::Text;
@@ -144,10 +144,15 @@ impl Svg {
         ensures { OnOk result (self.new ≡ self.old
             ++ drawn_text problem.now stops.now first routes.now verdict) }
     {
-        let broken = broken_at(verdict);
-        let grid = grid_of(problem.kind, routes.len());
-        self.put_map(alloc, problem, stops, first, routes, broken)?;
-        self.put_rows(problem, grid, broken.route, first, routes);
+        let scene = Scene {
+            problem,
+            stops,
+            first,
+            routes,
+            broken: broken_at(verdict),
+        };
+        self.put_map(alloc, &scene)?;
+        self.put_rows(grid_of(problem.kind, routes.len()), &scene);
         self.put_days(problem, routes);
         Ok(())
     }

@@ -7,8 +7,9 @@ ghost use Rattle.plan_picture.specs.Labels.{area_of, area_on, around, badge_area
 
 use crate::frame::Frame;
 use crate::known::stops_along;
+use crate::scene::Scene;
 use crate::svg::digits;
-use plan_types::{OutOfMemory, Problem, Route, Stop};
+use plan_types::{OutOfMemory, Stop};
 use std::alloc::Global;
 
 /// A part of the map's width or of its height.
@@ -54,23 +55,16 @@ pub(crate) struct Label {
     pub area: Area,
 }
 
-/// The marks, and the numbers of routes and stops that found a place. The first route has the number `first`.
-pub(crate) fn labels(
-    alloc: Global,
-    problem: &Problem,
-    frame: &Frame,
-    first: u64,
-    routes: &[Route],
-    stops: &[Stop],
-) -> Result<Vec<Label>, OutOfMemory>
-    requires { first ≤ 2 ^ 63 }
-    ensures { IfOk result (λ labels. labels.items
-        ≡ labels_of problem.now frame.now first routes.now stops.now) }
+/// The marks, and the numbers of routes and stops that found a place.
+pub(crate) fn labels(alloc: Global, frame: &Frame, scene: &Scene) -> Result<Vec<Label>, OutOfMemory>
+    ensures { let s = scene.now in IfOk result (λ labels. labels.items
+        ≡ labels_of s.problem.now frame.now s.first s.routes.now s.stops.now) }
 {
+    let problem = scene.problem;
     let mut labels = Vec::new(alloc);
-    note_marks(&mut labels, frame, &problem.depot, stops)?;
-    note_badges(alloc, &mut labels, problem, frame, first, routes)?;
-    note_numbers(&mut labels, frame, stops)?;
+    note_marks(&mut labels, frame, &problem.depot, scene.stops)?;
+    note_badges(alloc, &mut labels, frame, scene)?;
+    note_numbers(&mut labels, frame, scene.stops)?;
     Ok(labels)
 }
 
@@ -115,18 +109,15 @@ fn note_each_mark(labels: &mut Vec<Label>, frame: &Frame, stops: &[Stop]) -> Res
 fn note_badges(
     alloc: Global,
     labels: &mut Vec<Label>,
-    problem: &Problem,
     frame: &Frame,
-    first: u64,
-    routes: &[Route],
+    scene: &Scene,
 ) -> Result<(), OutOfMemory>
-    requires { first ≤ 2 ^ 63 }
-    ensures { OnOk result (labels.new.items
-        ≡ with_badges problem.now frame.now labels.old.items first routes.now) }
+    ensures { let s = scene.now in OnOk result (labels.new.items
+        ≡ with_badges s.problem.now frame.now labels.old.items s.first s.routes.now) }
 {
-    for (index, route) in routes.iter().enumerate() {
-        let number = first + index as u64;
-        let stops = stops_along(alloc, problem, route.as_slice())?;
+    for (index, route) in scene.routes.iter().enumerate() {
+        let number = scene.first + index as u64;
+        let stops = stops_along(alloc, scene.problem, route.as_slice())?;
         let area = frame.badge_area(labels.as_slice(), number, &stops);
         note(labels, LabelKind::Badge, number, area)?;
     }

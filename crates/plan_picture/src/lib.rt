@@ -16,6 +16,7 @@
 //! - `svg`: the text of a picture, piece by piece
 //! - `frame`: where the stops stand
 //! - `known`: the stops that are drawn, and what is drawn of a route
+//! - `scene`: what a picture shows
 //! - `labels`: where numbers stand
 //! - `map`: pairs, legs, marks and numbers
 //! - `table`: a row of figures for each route
@@ -42,6 +43,7 @@ mod known;
 mod labels;
 mod laws;
 mod map;
+mod scene;
 mod svg;
 mod table;
 mod texts;

@@ -1,5 +1,5 @@
 //! The map: pairs, legs, marks, rings and numbers.
-ghost use Rattle.std.specs.Prelude.{◌≡◌, ◌≤◌, ◌^◌, ◌++◌, All, OnOk, is_some};
+ghost use Rattle.std.specs.Prelude.{◌≡◌, ◌≤◌, ◌^◌, ◌++◌, OnOk, is_some};
 ghost use Rattle.std.specs.List.{flat_map};
 ghost use Rattle.route_sched.specs.Route.{AreLiveOnce};
 ghost use Rattle.plan_picture.specs.Known.{visits_of};
@@ -9,100 +9,57 @@ ghost use Rattle.plan_picture.specs.Svg.{each};
 use crate::frame::{Frame, Point, apart, stop_bounds};
 use crate::known::{stop_among, unserved};
 use crate::labels::{Area, Label, LabelKind, labels};
+use crate::scene::Scene;
 use crate::svg::Svg;
 use crate::texts::Text;
-use plan_types::{OutOfMemory, Problem, Route, Stop};
+use plan_types::{OutOfMemory, Problem, Stop};
 use route_sched::Visits;
 use std::alloc::Global;
 
-/// What is broken: the number of a route and that of a stop, 0 for none.
-#[derive(Clone, Copy)]
-pub(crate) struct Broken {
-    pub route: u64,
-    pub stop: u32,
-}
-
 impl Svg {
-    /// Appends the map of these stops and routes, the first of which has the number `first`: an element `svg`.
-    pub(crate) fn put_map(
-        &mut self,
-        alloc: Global,
-        problem: &Problem,
-        stops: &[Stop],
-        first: u64,
-        routes: &[Route],
-        broken: Broken,
-    ) -> Result<(), OutOfMemory>
-        requires first { first ≤ 2 ^ 63 }
-        requires routes { All (AreLiveOnce problem.now) routes.now }
-        ensures { OnOk result (self.new ≡ self.old ++ map_text problem.now stops.now first
-            routes.now broken.route broken.stop) }
+    /// Appends the map: an element `svg`.
+    pub(crate) fn put_map(&mut self, alloc: Global, scene: &Scene) -> Result<(), OutOfMemory>
+        ensures { let s = scene.now in OnOk result (self.new ≡ self.old
+            ++ map_text s.problem.now s.stops.now s.first s.routes.now
+            s.broken.route s.broken.stop) }
     {
-        let frame = stop_bounds(&problem.depot, stops).frame();
-        self.put_map_in(alloc, &frame, problem, stops, first, routes, broken)
+        let problem = scene.problem;
+        let frame = stop_bounds(&problem.depot, scene.stops).frame();
+        self.put_map_in(alloc, &frame, scene)
     }
 
     #[tactic(auto, unfolding(crate::specs::Map::map_in))]
-    fn put_map_in(
-        &mut self,
-        alloc: Global,
-        frame: &Frame,
-        problem: &Problem,
-        stops: &[Stop],
-        first: u64,
-        routes: &[Route],
-        broken: Broken,
-    ) -> Result<(), OutOfMemory>
-        requires first { first ≤ 2 ^ 63 }
-        requires routes { All (AreLiveOnce problem.now) routes.now }
-        ensures { OnOk result (self.new ≡ self.old ++ map_in frame.now problem.now stops.now first
-            routes.now broken.route broken.stop) }
+    fn put_map_in(&mut self, alloc: Global, frame: &Frame, scene: &Scene) -> Result<(), OutOfMemory>
+        ensures { let s = scene.now in OnOk result (self.new ≡ self.old
+            ++ map_in frame.now s.problem.now s.stops.now s.first s.routes.now
+            s.broken.route s.broken.stop) }
     {
-        self.put_under(problem, frame, stops, first, routes, broken.route);
-        self.put_over(alloc, problem, frame, stops, first, routes, broken.stop)
+        self.put_under(frame, scene);
+        self.put_over(alloc, frame, scene)
     }
 
     // The lines.
     #[tactic(auto, unfolding(crate::specs::Map::under_text))]
-    fn put_under(
-        &mut self,
-        problem: &Problem,
-        frame: &Frame,
-        stops: &[Stop],
-        first: u64,
-        routes: &[Route],
-        broken: u64,
-    )
-        requires first { first ≤ 2 ^ 63 }
-        requires routes { All (AreLiveOnce problem.now) routes.now }
-        ensures { self.new ≡ self.old
-            ++ under_text problem.now frame.now stops.now first routes.now broken }
+    fn put_under(&mut self, frame: &Frame, scene: &Scene)
+        ensures { let s = scene.now in self.new ≡ self.old
+            ++ under_text s.problem.now frame.now s.stops.now s.first s.routes.now s.broken.route }
     {
         self.put_opening(frame);
-        self.put_pairs(problem, frame, stops);
-        self.put_lines(problem, frame, broken, first, routes);
+        self.put_pairs(scene.problem, frame, scene.stops);
+        self.put_lines(frame, scene);
     }
 
     // What lies above the lines.
     #[tactic(auto, unfolding(crate::specs::Map::over_text))]
-    fn put_over(
-        &mut self,
-        alloc: Global,
-        problem: &Problem,
-        frame: &Frame,
-        stops: &[Stop],
-        first: u64,
-        routes: &[Route],
-        broken: u32,
-    ) -> Result<(), OutOfMemory>
-        requires { first ≤ 2 ^ 63 }
-        ensures { OnOk result (self.new ≡ self.old
-            ++ over_text problem.now frame.now stops.now first routes.now broken) }
+    fn put_over(&mut self, alloc: Global, frame: &Frame, scene: &Scene) -> Result<(), OutOfMemory>
+        ensures { let s = scene.now in OnOk result (self.new ≡ self.old
+            ++ over_text s.problem.now frame.now s.stops.now s.first s.routes.now s.broken.stop) }
     {
-        let left = unserved(alloc, routes, stops)?;
-        let labels = labels(alloc, problem, frame, first, routes, stops)?;
-        self.put_marks(problem, frame, stops);
-        self.put_rings(frame, stops, &left, broken);
+        let stops = scene.stops;
+        let left = unserved(alloc, scene.routes, stops)?;
+        let labels = labels(alloc, frame, scene)?;
+        self.put_marks(scene.problem, frame, stops);
+        self.put_rings(frame, stops, &left, scene.broken.stop);
         self.put_labels(frame, &labels);
         Ok(())
     }
@@ -159,56 +116,33 @@ impl Svg {
     }
 
     #[tactic(auto, unfolding(crate::specs::Map::lines_text))]
-    fn put_lines(
-        &mut self,
-        problem: &Problem,
-        frame: &Frame,
-        broken: u64,
-        first: u64,
-        routes: &[Route],
-    )
-        requires first { first ≤ 2 ^ 63 }
-        requires routes { All (AreLiveOnce problem.now) routes.now }
-        ensures { self.new ≡ self.old ++ lines_text problem.now frame.now broken first routes.now }
+    fn put_lines(&mut self, frame: &Frame, scene: &Scene)
+        ensures { let s = scene.now in self.new ≡ self.old
+            ++ lines_text s.problem.now frame.now s.broken.route s.first s.routes.now }
     {
         self.put(Text::Legs);
-        self.put_each_line(problem, frame, broken, first, routes);
+        self.put_each_line(frame, scene);
         self.put(Text::GroupEnd);
     }
 
-    fn put_each_line(
-        &mut self,
-        problem: &Problem,
-        frame: &Frame,
-        broken: u64,
-        first: u64,
-        routes: &[Route],
-    )
-        requires first { first ≤ 2 ^ 63 }
-        requires routes { All (AreLiveOnce problem.now) routes.now }
-        ensures { self.new ≡ self.old
-            ++ each (line_text problem.now frame.now broken) first routes.now }
+    fn put_each_line(&mut self, frame: &Frame, scene: &Scene)
+        ensures { let s = scene.now in self.new ≡ self.old
+            ++ each (line_text s.problem.now frame.now s.broken.route) s.first s.routes.now }
     {
-        for (index, route) in routes.iter().enumerate() {
-            let number = first + index as u64;
-            self.put_line(problem, frame, broken, number, route.as_slice());
+        for (index, route) in scene.routes.iter().enumerate() {
+            self.put_line(frame, scene, scene.first + index as u64, route.as_slice());
         }
     }
 
     // The legs of a route.
     #[tactic(auto, unfolding(crate::specs::Map::line_text))]
-    fn put_line(
-        &mut self,
-        problem: &Problem,
-        frame: &Frame,
-        broken: u64,
-        number: u64,
-        route: &[u32],
-    )
-        requires { AreLiveOnce problem.now route.now }
-        ensures { self.new ≡ self.old ++ line_text problem.now frame.now broken number route.now }
+    fn put_line(&mut self, frame: &Frame, scene: &Scene, number: u64, route: &[u32])
+        requires { AreLiveOnce scene.now.problem.now route.now }
+        ensures { let s = scene.now in self.new ≡ self.old
+            ++ line_text s.problem.now frame.now s.broken.route number route.now }
     {
-        self.put_line_head(broken, number);
+        let problem = scene.problem;
+        self.put_line_head(scene.broken.route, number);
         self.put_legs(frame, &problem.depot, problem, route);
         self.put(Text::GroupEnd);
     }

@@ -1,15 +1,16 @@
 //! The table under the map: a row for each route, with its colour and its figures in columns. Where windows count, the day of
 //! its vehicle stands beside it, else the rows stand in three blocks.
-ghost use Rattle.std.specs.Prelude.{◌≡◌, ◌+◌, ◌<◌, ◌≤◌, ◌^◌, ◌++◌, All};
+ghost use Rattle.std.specs.Prelude.{◌≡◌, ◌+◌, ◌<◌, ◌^◌, ◌++◌};
 ghost use Rattle.std.specs.Int.{int_max};
 ghost use Rattle.route_sched.specs.Route.{AreLiveOnce};
 ghost use Rattle.plan_picture.specs.Known.{visits_of};
 ghost use Rattle.plan_picture.specs.Svg.{each};
 ghost use Rattle.plan_picture.specs.Table.{figures_text, grid_of, heading_text, load_text, row_end, row_head, row_place, row_text, rows_text, top_load};
 
+use crate::scene::Scene;
 use crate::svg::Svg;
 use crate::texts::Text;
-use plan_types::{Kind, Problem, Route};
+use plan_types::{Kind, Problem};
 use route_sched::{Visit, Visits, route_distance};
 
 /// How many rows stand in a block of the table, and how far they are apart.
@@ -38,64 +39,40 @@ pub(crate) fn grid_of(kind: Kind, rows: usize) -> Grid
 }
 
 impl Svg {
-    /// Appends a row of figures for each route, the first of which has the number `first`.
+    /// Appends a row of figures for each route.
     #[tactic(auto, unfolding(crate::specs::Table::rows_text))]
-    pub(crate) fn put_rows(
-        &mut self,
-        problem: &Problem,
-        grid: Grid,
-        broken: u64,
-        first: u64,
-        routes: &[Route],
-    )
-        requires grid { 0 < grid.rows }
-        requires first { first ≤ 2 ^ 63 }
-        requires routes { All (AreLiveOnce problem.now) routes.now }
-        ensures { self.new ≡ self.old ++ rows_text problem.now grid broken first routes.now }
+    pub(crate) fn put_rows(&mut self, grid: Grid, scene: &Scene)
+        requires { 0 < grid.rows }
+        ensures { let s = scene.now in self.new ≡ self.old
+            ++ rows_text s.problem.now grid s.broken.route s.first s.routes.now }
     {
         self.put(Text::Table);
-        self.put_each_row(problem, grid, broken, first, routes);
+        self.put_each_row(grid, scene);
         self.put(Text::GroupEnd);
     }
 
-    fn put_each_row(
-        &mut self,
-        problem: &Problem,
-        grid: Grid,
-        broken: u64,
-        first: u64,
-        routes: &[Route],
-    )
-        requires grid { 0 < grid.rows }
-        requires first { first ≤ 2 ^ 63 }
-        requires routes { All (AreLiveOnce problem.now) routes.now }
-        ensures { self.new ≡ self.old
-            ++ each (row_text problem.now grid broken first) 0 routes.now }
+    fn put_each_row(&mut self, grid: Grid, scene: &Scene)
+        requires { 0 < grid.rows }
+        ensures { let s = scene.now in self.new ≡ self.old
+            ++ each (row_text s.problem.now grid s.broken.route s.first) 0 s.routes.now }
     {
-        for (index, route) in routes.iter().enumerate() {
-            self.put_row(problem, grid, broken, first, index, route.as_slice());
+        for (index, route) in scene.routes.iter().enumerate() {
+            self.put_row(grid, scene, index, route.as_slice());
         }
     }
 
     #[tactic(auto, unfolding(crate::specs::Table::row_text))]
-    fn put_row(
-        &mut self,
-        problem: &Problem,
-        grid: Grid,
-        broken: u64,
-        first: u64,
-        index: usize,
-        route: &[u32],
-    )
+    fn put_row(&mut self, grid: Grid, scene: &Scene, index: usize, route: &[u32])
         requires grid { 0 < grid.rows }
-        requires number { first + index < 2 ^ 64 }
-        requires route { AreLiveOnce problem.now route.now }
-        ensures { self.new ≡ self.old ++ row_text problem.now grid broken first index route.now }
+        requires number { scene.now.first + index < 2 ^ 64 }
+        requires route { AreLiveOnce scene.now.problem.now route.now }
+        ensures { let s = scene.now in self.new ≡ self.old
+            ++ row_text s.problem.now grid s.broken.route s.first index route.now }
     {
-        let number = first + index as u64;
+        let number = scene.first + index as u64;
         self.put_row_place(grid, index);
-        self.put_row_head(broken, number);
-        self.put_figures(problem, number, route);
+        self.put_row_head(scene.broken.route, number);
+        self.put_figures(scene.problem, number, route);
         self.put_row_end(grid, index);
     }
 

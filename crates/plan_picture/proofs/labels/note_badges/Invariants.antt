@@ -4,4 +4,6 @@ use Rattle.plan_picture.proofs.labels.note_badges.Given as goal
 
 -- what the routes to come leave
 abbrev pub invariant-loop-index : goal.invariant-loop-index
-invariant-loop-index l = with_badges l.problem l.frame l.labels.items (l.first + l.index) (drop l.index l.routes) ≡ with_badges l.problem l.frame l.fn.labels.items l.first l.routes
+invariant-loop-index l =
+    let s = l.scene in
+    with_badges s.problem.now l.frame l.labels.items (s.first + l.index) (drop l.index s.routes.now) ≡ with_badges s.problem.now l.frame l.fn.labels.items s.first s.routes.now

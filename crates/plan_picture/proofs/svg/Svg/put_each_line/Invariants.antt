@@ -5,4 +5,7 @@ use Rattle.plan_picture.proofs.svg.Svg.put_each_line.Given as goal
 
 -- the text so far and that of the routes to come
 abbrev pub invariant-loop-index : goal.invariant-loop-index
-invariant-loop-index l = l.self ++ each (line_text l.problem l.frame l.broken) (l.first + l.index) (drop l.index l.routes) ≡ l.fn.self ++ each (line_text l.problem l.frame l.broken) l.first l.routes
+invariant-loop-index l =
+    let s = l.scene in
+    let line = line_text s.problem.now l.frame s.broken.route in
+    l.self ++ each line (s.first + l.index) (drop l.index s.routes.now) ≡ l.fn.self ++ each line s.first s.routes.now

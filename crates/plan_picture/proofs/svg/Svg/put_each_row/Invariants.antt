@@ -5,4 +5,7 @@ use Rattle.plan_picture.proofs.svg.Svg.put_each_row.Given as goal
 
 -- the text so far and that of the routes to come
 abbrev pub invariant-loop-index : goal.invariant-loop-index
-invariant-loop-index l = l.self ++ each (row_text l.problem l.grid l.broken l.first) (l.index) (drop l.index l.routes) ≡ l.fn.self ++ each (row_text l.problem l.grid l.broken l.first) 0 l.routes
+invariant-loop-index l =
+    let s = l.scene in
+    let row = row_text s.problem.now l.grid s.broken.route s.first in
+    l.self ++ each row l.index (drop l.index s.routes.now) ≡ l.fn.self ++ each row 0 s.routes.now
