@@ -1,6 +1,7 @@
 -- A request that no route has may be tried in each.
-use Rattle.std.proofs.Common.{◌≡◌, ℕ, zero, suc, ◌<◌, ◌≤◌, false, List, [], ◌∷◌, length, All, Some, inl, inr, refl, sym, subst, arith, nat_eq, slice_index_or}
+use Rattle.std.proofs.Common.{◌≡◌, ℕ, zero, suc, ◌<◌, ◌≤◌, false, List, [], ◌∷◌, length, All, Option, Some, None, IfSome, Bor, inl, inr, refl, sym, subst, arith, nat_eq, slice_index_or}
 use Rattle.std.specs.Map.{lookup}
+use Rattle.std.specs.Option.{option_copied}
 use Rattle.std.proofs.lemmas.Bool.{cases_lt}
 use Rattle.plan_types.specs.Instance.{Instance, IsInstance}
 use Rattle.plan_types.specs.Laws.{NamedAreFound}
@@ -8,11 +9,12 @@ use Rattle.plan_types.specs.declared.requests.Request.{Request}
 use Rattle.plan_types.specs.declared.requests.Request.TheVariants.{Pair, Single}
 use Rattle.route_sched.specs.Cost.{is_planned}
 use Rattle.route_sched.specs.Route.{AreLiveOnce, IsLive}
-use Rattle.move_ops.specs.Insertion.{inserted, of_vehicle}
+use Rattle.move_ops.specs.Insertion.{inserted, of_vehicle, request_named}
 use Rattle.move_ops.proofs.Inserting.{few_numbers, found_live, in_numbers, nowhere, numbers_of, times_inserted, valid_request}
 use Rattle.move_ops.proofs.Replacing.{times_in_vehicle}
 use Rattle.move_ops.proofs.Times.{once_few, once_from, once_live, times}
 use Rattle.plan_why.specs.Trials.{MayTake}
+use Rattle.plan_why.specs.Tried.{MayBeTried}
 use Rattle.plan_why.specs.Why.{alone_route}
 
 alone_is : (r : Request) → alone_route r ≡ numbers_of r
@@ -57,10 +59,15 @@ module _ (found : NamedAreFound) (p : Instance) (valid : IsInstance p) (name : �
             | inr free ↦ once_live p route once n (omega arith)
           ]
 
-  pub may_take : (routes : List (List ℕ)) → All (AreLiveOnce p) routes → is_planned routes r ≡ false → All (MayTake p r) routes
+  may_take : (routes : List (List ℕ)) → All (AreLiveOnce p) routes → is_planned routes r ≡ false → All (MayTake p r) routes
   may_take routes once free = λ k d below. record {
     once = λ i j.
         subst (λ route. AreLiveOnce p (inserted r i j route)) (vehicle_at routes k d below)
         (put_once (of_vehicle routes (suc k)) (subst (AreLiveOnce p) (sym (vehicle_at routes k d below)) (once k d below))
         (λ n some. let e = nowhere routes r free n some in let f = times_in_vehicle n routes (suc k) (omega arith) (omega arith) in omega arith) i j);
   }
+
+-- of a live request, by what a look-up gives
+pub looked_up : NamedAreFound → (p : Instance) → IsInstance p → (name : ℕ) (found : Option (Bor Request)) → option_copied found ≡ request_named p name → IfSome found (λ r. MayBeTried p r.now)
+looked_up found p valid name None is = tt
+looked_up found p valid name (Some r) is = record { alone = alone_once found p valid name r.now (sym is); among = may_take found p valid name r.now (sym is) }

@@ -5,3 +5,5 @@ pub mod Missed
 pub mod Trials
 pub mod Why
 pub mod Words
+-- what those of private functions say
+pub mod Tried

@@ -1,10 +1,12 @@
 //! The whole answer.
-ghost use Rattle.std.specs.Prelude.{◌≡◌, ◌++◌, ◌+◌, true, All, IfOk, OnOk, length, string_bytes};
-ghost use Rattle.std.specs.Option.{option_map};
+ghost use Rattle.std.specs.Prelude.{◌≡◌, ◌++◌, ◌+◌, true, false, All, IfOk, IfSome, OnOk, length, string_bytes};
+ghost use Rattle.std.specs.Option.{option_copied, option_map};
 ghost use Rattle.route_sched.specs.Cost.{is_planned};
 ghost use Rattle.route_sched.specs.Route.{AreLiveOnce};
 ghost use Rattle.plan_audit.specs.Passes.{passes};
+ghost use Rattle.move_ops.specs.Insertion.{request_named};
 ghost use Rattle.plan_why.specs.Missed.{miss_of};
+ghost use Rattle.plan_why.specs.Tried.{MayBeTried};
 ghost use Rattle.plan_why.specs.Trials.{MayTake};
 ghost use Rattle.plan_why.specs.Why.{alone_route, alone_text, is_stop_of, reason_text, services_from, services_in, services_text, tried_text, unplanned_text, used_trial, vehicles_from, why_named};
 
@@ -36,13 +38,10 @@ pub fn why(
     ensures { IfOk result (λ text. option_map string_bytes text
         ≡ why_named problem.now pins.now.routes plan.now.routes name) }
 {
-    requests_are_found_by_stop();
-    passes_are_local();
-    plans_are_local();
-    let Some(request) = problem.requests.get(&name) else {
+    let Some(request) = live_request(problem, name) else {
         return Ok(None);
     };
-    let routes = plan.routes.as_slice();
+    let routes = passing_routes(problem, pins, plan);
     if is_planned(routes, request) {
         return Ok(Some(planned_text(alloc, problem, request, routes)?));
     }
@@ -66,8 +65,7 @@ pub fn reason(
     ensures { IfOk result (λ text. string_bytes text
         ≡ reason_text lead problem.now pins.now routes.now name) }
 {
-    requests_are_found_by_stop();
-    let Some(request) = problem.requests.get(&name) else {
+    let Some(request) = live_request(problem, name) else {
         return Ok(String::new(alloc));
     };
     if is_planned(routes, request) {
@@ -75,6 +73,26 @@ pub fn reason(
     }
     let lead = lead.text(alloc, name)?;
     unplanned_text(alloc, lead.as_str(), problem, pins, routes, request)
+}
+
+// The routes of a plan that passes. Their stops are live, and stand once in each.
+fn passing_routes<'a>(problem: &Problem, pins: &Pins, plan: &'a Plan) -> &'a [Route]
+    requires { passes problem.now pins.now.routes plan.now.routes ≡ true }
+    ensures same { result.now ≡ plan.now.routes }
+    ensures once { All (AreLiveOnce problem.now) result.now }
+{
+    passes_are_local();
+    plans_are_local();
+    plan.routes.as_slice()
+}
+
+// The live request of this name. It may be served alone, and tried in each route that has none of its stops.
+fn live_request(problem: &Problem, name: u32) -> Option<&Request>
+    ensures named { option_copied result ≡ request_named problem.now name }
+    ensures tried { IfSome result (λ request. MayBeTried problem.now request.now) }
+{
+    requests_are_found_by_stop();
+    problem.requests.get(&name)
 }
 
 // Where a planned request is served, and when.
@@ -102,8 +120,9 @@ fn unplanned_text(
     routes: &[Route],
     request: &Request,
 ) -> Result<String, OutOfMemory>
-    requires alone { AreLiveOnce problem.now (alone_route request.now) }
-    requires tried { All (MayTake problem.now request.now) routes.now }
+    requires request { MayBeTried problem.now request.now }
+    requires routes { All (AreLiveOnce problem.now) routes.now }
+    requires free { is_planned routes.now request.now ≡ false }
     ensures { IfOk result (λ text. string_bytes text
         ≡ unplanned_text lead.now problem.now pins.now routes.now request.now) }
 {

@@ -96,7 +96,8 @@ fn put_places(text: &mut String, pickup: u64, delivery: u64) -> Result<(), OutOf
 }
 
 fn put_miss(text: &mut String, limit: Limit, miss: &Miss) -> Result<(), OutOfMemory>
-    ensures { OnOk result (string_bytes text.new ≡ string_bytes text.old ++ miss_by limit miss.now) }
+    ensures { OnOk result (string_bytes text.new
+        ≡ string_bytes text.old ++ miss_by limit miss.now) }
 {
     match limit {
         Limit::Capacity => {

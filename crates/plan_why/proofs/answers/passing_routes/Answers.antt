@@ -1,0 +1,9 @@
+use Rattle.std.proofs.Common.{All, sym, subst}
+use Rattle.route_sched.specs.Route.{AreLiveOnce}
+use Rattle.plan_why.proofs.answers.passing_routes.Goals as goal
+
+pub returns-clause-once : goal.returns-clause-once
+returns-clause-once c =
+    let p = c.args.problem.now in
+    let passing = (c.passes_are_local.ensures p c.args.pins.now.routes c.args.plan.now.routes).0 c.requires in
+    subst (All (AreLiveOnce p)) (sym c.as_slice.ensures) (((c.plans_are_local.ensures p c.args.plan.now.routes).0 passing.plan).0)
