@@ -22,25 +22,12 @@ pub(crate) fn put_entries(
         ≡ string_bytes text.old ++ flat_map (entry_text form kind vehicle) entries.now) }
 {
     for entry in entries {
-        put_entry(text, form, kind, vehicle, entry)?;
+        put_where(text, form, vehicle, entry)?;
+        put_what(text, form, entry)?;
+        put_when(text, form, kind, entry)?;
+        put_load_and_pin(text, form, entry)?;
     }
     Ok(())
-}
-
-fn put_entry(
-    text: &mut String,
-    form: Form,
-    kind: Kind,
-    vehicle: u64,
-    entry: &Entry,
-) -> Result<(), OutOfMemory>
-    ensures { OnOk result (string_bytes text.new
-        ≡ string_bytes text.old ++ entry_text form kind vehicle entry.now) }
-{
-    put_where(text, form, vehicle, entry)?;
-    put_what(text, form, entry)?;
-    put_when(text, form, kind, entry)?;
-    put_load_and_pin(text, form, entry)
 }
 
 fn put_where(text: &mut String, form: Form, vehicle: u64, entry: &Entry) -> Result<(), OutOfMemory>
