@@ -1,5 +1,5 @@
 //! What numbers a line has: their names and limits.
-ghost use Rattle.std.specs.Prelude.{◌≡◌, length, pos, slice_get, slice_index_or};
+ghost use Rattle.std.specs.Prelude.{◌≡◌, slice_get};
 ghost use Rattle.plan_explain.specs.Layouts.{layout_limits, layout_names, name_at};
 
 use crate::names::Name;

@@ -1,5 +1,5 @@
 //! The sentence on a broken rule.
-ghost use Rattle.std.specs.Prelude.{◌≡◌, ◌++◌, All, decimal};
+ghost use Rattle.std.specs.Prelude.{◌≡◌, ◌++◌, All};
 ghost use Rattle.std.specs.Fmt.{signed_decimal};
 ghost use Rattle.std.specs.Option.{option_copied};
 ghost use Rattle.route_sched.specs.Route.{AreLiveOnce};

@@ -1,9 +1,8 @@
 //! What is said of a verdict.
 ghost use Rattle.std.specs.Prelude.{◌≡◌, ◌<◌, ◌++◌, All, IfOk, OnOk, string_bytes};
 ghost use Rattle.route_sched.specs.Route.{AreLiveOnce};
-ghost use Rattle.text_lines.specs.Lines.{ended};
 ghost use Rattle.plan_audit.specs.Verdict.{IsVerdict, printed};
-ghost use Rattle.plan_explain.specs.Explained.{places_shown, shown_text, verdict_text};
+ghost use Rattle.plan_explain.specs.Explained.{shown_text, verdict_text};
 ghost use Rattle.plan_explain.specs.Sentences.{route_told, row_told, sentence};
 ghost use Rattle.plan_audit.specs.declared.rules.Verdict.TheVariants.{Broken};
 

@@ -1,7 +1,6 @@
 //! What is said of a fault of a `.vrp` text behind its kind.
 ghost use Rattle.std.specs.Prelude.{◌≡◌, ◌++◌};
 ghost use Rattle.std.specs.List.{flat_map};
-ghost use Rattle.text_lines.specs.Words.{words_of};
 ghost use Rattle.plan_explain.specs.VrpFaults.{count_text, key_count_text, key_layout, lacked_text, lacking_text, left_text, missing_text, node_count_text, numbers_of, only_text, repeated_text, stray_text, supported_text, unsupported_text, vrp_detail, vrp_layout};
 
 use crate::layouts::Layout;

@@ -1,6 +1,5 @@
 //! Which section of a `.vrp` text a line stands in.
-ghost use Rattle.std.specs.Prelude.{◌≡◌, ◌+◌, ◌-◌, length};
-ghost use Rattle.text_lines.specs.Lines.{lines_of};
+ghost use Rattle.std.specs.Prelude.{◌≡◌, ◌-◌};
 ghost use Rattle.text_lines.specs.Words.{words_of};
 ghost use Rattle.plan_explain.specs.VrpWalk.{after_key, coordinates_left, demands_left, depots_after, section_of, walk_after, walk_before};
 

@@ -1,6 +1,5 @@
 //! What is said of the words of a line: how many there are, which is no number, which is outside its limits.
-ghost use Rattle.std.specs.Prelude.{◌≡◌, ◌++◌, ℤ, None, decimal, length};
-ghost use Rattle.std.specs.Fmt.{signed_decimal};
+ghost use Rattle.std.specs.Prelude.{◌≡◌, ◌++◌, None, length};
 ghost use Rattle.std.specs.List.{position_from};
 ghost use Rattle.text_lines.specs.Words.{words_of};
 ghost use Rattle.instance_read.specs.Fields.{is_no_number};

@@ -1,6 +1,5 @@
 //! Numbers in their columns, or behind tabs.
-ghost use Rattle.std.specs.Prelude.{◌≡◌, ◌<◌, ◌++◌, OnOk, decimal, string_bytes};
-ghost use Rattle.std.specs.Fmt.{signed_decimal};
+ghost use Rattle.std.specs.Prelude.{◌≡◌, ◌<◌, ◌++◌, OnOk, string_bytes};
 ghost use Rattle.plan_timetable.specs.Cells.{load_cell, named, number, number_or_nothing};
 ghost use Rattle.plan_timetable.specs.Words.{word};
 

@@ -1,7 +1,7 @@
 //! The whole timetable.
 ghost use Rattle.std.specs.Prelude.{◌≡◌, ◌++◌, All, IfOk, OnOk, string_bytes};
 ghost use Rattle.route_sched.specs.Route.{AreLiveOnce};
-ghost use Rattle.plan_timetable.specs.Timetable.{gap, lead_of, timetable_text, unplanned_block, unplanned_line, unplanned_text, vehicle_text};
+ghost use Rattle.plan_timetable.specs.Timetable.{gap, lead_of, timetable_text, unplanned_line, unplanned_text, vehicle_text};
 
 use crate::cells::{put_named, put_word};
 use crate::forms::Form;

@@ -1,5 +1,5 @@
 //! The words between the figures.
-ghost use Rattle.std.specs.Prelude.{◌≡◌, ◌++◌, OnOk, decimal, string_bytes};
+ghost use Rattle.std.specs.Prelude.{◌≡◌, ◌++◌, OnOk, string_bytes};
 ghost use Rattle.plan_why.specs.Words.{named, word};
 
 use plan_types::OutOfMemory;

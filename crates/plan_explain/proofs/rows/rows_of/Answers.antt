@@ -27,7 +27,7 @@ pub row_of-requires-clause-time : goal.row_of-requires-clause-time
 row_of-requires-clause-time c =
     let is = c.loop-place.invariant in
     let met = visit_is c.args.problem.now c.args.route.now c.loop-place.place c.in-Some.visit _ _ (omega arith) is.rest c.in-Some.ensures.steps in
-    omega (arith, in_time c.args.problem.now c.args.route.now c.loop-place.place c.loop-place.last c.in-Some.visit is.stop is.begun met, c.type_inv)
+    omega (arith, in_time c.args.problem.now c.args.route.now c.loop-place.place c.loop-place.last c.in-Some.visit is.stop is.begun met)
 
 pub loop-place-preserved : goal.loop-place-preserved
 loop-place-preserved c =
