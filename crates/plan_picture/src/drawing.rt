@@ -1,5 +1,5 @@
 //! The whole picture: the verdict, the map, the table and the days; and that of one route.
-ghost use Rattle.std.specs.Prelude.{◌≡◌, ◌≤◌, ◌^◌, [], ◌∷◌, ◌++◌, All, IfOk, OnOk};
+ghost use Rattle.std.specs.Prelude.{◌≡◌, ◌≤◌, ◌^◌, ◌++◌, All, IfOk, OnOk};
 ghost use Rattle.std.specs.Option.{option_map};
 ghost use Rattle.route_sched.specs.Route.{AreLiveOnce};
 ghost use Rattle.plan_picture.specs.Picture.{broken_route, broken_stop, drawn_text, picture, route_picture, route_text, sized_head, whole_text};
