@@ -1,5 +1,6 @@
 -- Reading the tables of a state, each the inverse of what `Bytes` writes. Each rule is judged at the field that it names.
 use Rattle.std.specs.Prelude.{ℕ, zero, suc, ◌+◌, ◌^◌, ℤ, pos, length, Bool, not, ◌&&◌, ◌==◌, nat_lt, nat_le, List, [], ◌∷◌, ◌++◌, take, Option, Some, None, Result, Ok, Err, is_some, if◌then◌else◌, neg_ℤ}
+use Rattle.std.specs.Borrow.{Bor}
 use Rattle.std.specs.List.{list_all}
 use Rattle.plan_types.specs.Instance.{Instance, first_some}
 use Rattle.plan_types.specs.Request.{request_name, stop_in}
@@ -16,7 +17,7 @@ use Rattle.state_codec.specs.declared.head.Head.{Head}
 use Rattle.state_codec.specs.declared.fault.CodecFault.TheVariants.{BadField}
 use Rattle.state_codec.specs.Bytes.{width}
 use Rattle.state_codec.specs.Limits.{most}
-use Rattle.state_codec.specs.Fields.{◌>>=◌, Field, only, byte_at, number_at, signed_at, point_at, window_at, is_demand, is_service, int_eq}
+use Rattle.state_codec.specs.Fields.{◌>>=◌, Field, Gives, only, byte_at, number_at, signed_at, point_at, window_at, is_demand, is_service, int_eq}
 
 -- no request so far has a stop with this number
 abbrev pub is_free : List (ℕ × Request) → ℕ → Bool
@@ -79,6 +80,10 @@ times more zero before bytes = Ok (before, bytes)
 times more (suc count) before bytes = do
   one ← more before bytes
   times more count one.0 one.1
+
+-- what a function answers is what `more` reads, unless memory ran out
+abbrev pub ReadsMore : {A : Type 0} → (A → Bor (List ℕ) → Result (A × Bor (List ℕ)) CodecFault → Type 0) → (A → List ℕ → Field A) → Type 0
+ReadsMore {A} answers more = (before : A) (bytes : Bor (List ℕ)) (read : Result (A × Bor (List ℕ)) CodecFault) → answers before bytes read → Gives (λ x. (x.0, x.1.now)) read (more before bytes.now)
 
 -- one request more
 abbrev pub next_request : Version → ℕ → List (ℕ × Request) → List ℕ → Field (List (ℕ × Request))

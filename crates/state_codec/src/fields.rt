@@ -3,15 +3,19 @@ ghost use Rattle.std.specs.Prelude.{◌≡◌, ◌&&◌, List, ℕ, nat_le, Ok, 
 ghost use Rattle.command_core.specs.Wishes.{is_coordinate};
 ghost use Rattle.state_codec.specs.Bytes.{width};
 ghost use Rattle.state_codec.specs.declared.fault.CodecFault.TheVariants.{BadField};
-ghost use Rattle.state_codec.specs.Fields.{Reads, only, byte_at, number_at, signed_at, point_at, window_at, is_time};
+ghost use Rattle.state_codec.specs.Reading.{ReadsMore, times};
+ghost use Rattle.state_codec.specs.Fields.{Field, Reads, Gives, only, byte_at, number_at, signed_at, point_at, window_at, is_time};
 
 use crate::fault::CodecFault;
 use crate::version::Version;
 use command_core::is_coordinate;
 use plan_types::limits::MAX_TIME;
 
+/// A field's value and the bytes behind it, or why there is none.
+pub(crate) type Field<'a, X> = Result<(X, &'a [u8]), CodecFault>;
+
 #[tactic(auto, unfolding(crate::specs::Fields::byte_at))]
-pub(crate) fn u8_at(bytes: &[u8]) -> Result<(u8, &[u8]), CodecFault>
+pub(crate) fn u8_at(bytes: &[u8]) -> Field<'_, u8>
     ensures { Reads (λ x. (x.0, x.1.now)) result (byte_at bytes.now) }
 {
     match bytes {
@@ -21,7 +25,7 @@ pub(crate) fn u8_at(bytes: &[u8]) -> Result<(u8, &[u8]), CodecFault>
 }
 
 #[tactic(auto, unfolding(crate::specs::Fields::number_at))]
-pub(crate) fn u16_at(bytes: &[u8]) -> Result<(u16, &[u8]), CodecFault>
+pub(crate) fn u16_at(bytes: &[u8]) -> Field<'_, u16>
     ensures { Reads (λ x. (x.0, x.1.now)) result (number_at 2 bytes.now) }
 {
     if bytes.len() < 2 {
@@ -32,7 +36,7 @@ pub(crate) fn u16_at(bytes: &[u8]) -> Result<(u16, &[u8]), CodecFault>
 }
 
 #[tactic(auto, unfolding(crate::specs::Fields::number_at))]
-pub(crate) fn u32_at(bytes: &[u8]) -> Result<(u32, &[u8]), CodecFault>
+pub(crate) fn u32_at(bytes: &[u8]) -> Field<'_, u32>
     ensures { Reads (λ x. (x.0, x.1.now)) result (number_at 4 bytes.now) }
 {
     if bytes.len() < 4 {
@@ -43,7 +47,7 @@ pub(crate) fn u32_at(bytes: &[u8]) -> Result<(u32, &[u8]), CodecFault>
 }
 
 #[tactic(auto, unfolding(crate::specs::Fields::number_at))]
-pub(crate) fn u64_at(bytes: &[u8]) -> Result<(u64, &[u8]), CodecFault>
+pub(crate) fn u64_at(bytes: &[u8]) -> Field<'_, u64>
     ensures { Reads (λ x. (x.0, x.1.now)) result (number_at 8 bytes.now) }
 {
     if bytes.len() < 8 {
@@ -56,7 +60,7 @@ pub(crate) fn u64_at(bytes: &[u8]) -> Result<(u64, &[u8]), CodecFault>
 }
 
 #[tactic(auto, unfolding(crate::specs::Fields::signed_at))]
-pub(crate) fn i32_at(bytes: &[u8]) -> Result<(i32, &[u8]), CodecFault>
+pub(crate) fn i32_at(bytes: &[u8]) -> Field<'_, i32>
     ensures { Reads (λ x. (x.0, x.1.now)) result (signed_at bytes.now) }
 {
     if bytes.len() < 4 {
@@ -67,7 +71,7 @@ pub(crate) fn i32_at(bytes: &[u8]) -> Result<(i32, &[u8]), CodecFault>
 }
 
 /// A stop number, a count or a length.
-pub(crate) fn number_at(version: Version, bytes: &[u8]) -> Result<(u32, &[u8]), CodecFault>
+pub(crate) fn number_at(version: Version, bytes: &[u8]) -> Field<'_, u32>
     ensures { Reads (λ x. (x.0, x.1.now)) result (number_at (width version) bytes.now) }
 {
     match version {
@@ -80,7 +84,7 @@ pub(crate) fn number_at(version: Version, bytes: &[u8]) -> Result<(u32, &[u8]), 
 }
 
 /// A value that was read, where its rule takes it, and what stands behind it.
-pub(crate) fn only<T: Drop>(is_taken: bool, value: T, rest: &[u8]) -> Result<(T, &[u8]), CodecFault>
+pub(crate) fn only<T: Drop>(is_taken: bool, value: T, rest: &[u8]) -> Field<'_, T>
     ensures { let read : T × List ℕ = (value, rest.now) in
         Reads (λ x. (x.0, x.1.now)) result (if is_taken then Ok read else Err BadField) }
 {
@@ -91,7 +95,7 @@ pub(crate) fn only<T: Drop>(is_taken: bool, value: T, rest: &[u8]) -> Result<(T,
     }
 }
 
-fn coordinate_at(bytes: &[u8]) -> Result<(i32, &[u8]), CodecFault>
+fn coordinate_at(bytes: &[u8]) -> Field<'_, i32>
     ensures { Reads (λ x. (x.0, x.1.now)) result (only is_coordinate (signed_at bytes.now)) }
 {
     let (x, rest) = i32_at(bytes)?;
@@ -100,7 +104,7 @@ fn coordinate_at(bytes: &[u8]) -> Result<(i32, &[u8]), CodecFault>
 
 /// An x and a y.
 #[tactic(auto, unfolding(crate::specs::Fields::point_at))]
-pub(crate) fn point_at(bytes: &[u8]) -> Result<((i32, i32), &[u8]), CodecFault>
+pub(crate) fn point_at(bytes: &[u8]) -> Field<'_, (i32, i32)>
     ensures { Reads (λ x. (x.0, x.1.now)) result (point_at bytes.now) }
 {
     let (x, rest) = coordinate_at(bytes)?;
@@ -108,14 +112,14 @@ pub(crate) fn point_at(bytes: &[u8]) -> Result<((i32, i32), &[u8]), CodecFault>
     Ok(((x, y), rest))
 }
 
-fn earliest_at(bytes: &[u8]) -> Result<(u32, &[u8]), CodecFault>
+fn earliest_at(bytes: &[u8]) -> Field<'_, u32>
     ensures { Reads (λ x. (x.0, x.1.now)) result (only is_time (number_at 4 bytes.now)) }
 {
     let (earliest, rest) = u32_at(bytes)?;
     only(earliest <= MAX_TIME, earliest, rest)
 }
 
-fn latest_at(earliest: u32, bytes: &[u8]) -> Result<(u32, &[u8]), CodecFault>
+fn latest_at(earliest: u32, bytes: &[u8]) -> Field<'_, u32>
     ensures { Reads (λ x. (x.0, x.1.now)) result
         (only (λ t. nat_le earliest t && is_time t) (number_at 4 bytes.now)) }
 {
@@ -125,10 +129,29 @@ fn latest_at(earliest: u32, bytes: &[u8]) -> Result<(u32, &[u8]), CodecFault>
 
 /// When a window begins and ends.
 #[tactic(auto, unfolding(crate::specs::Fields::window_at))]
-pub(crate) fn window_at(bytes: &[u8]) -> Result<((u32, u32), &[u8]), CodecFault>
+pub(crate) fn window_at(bytes: &[u8]) -> Field<'_, (u32, u32)>
     ensures { Reads (λ x. (x.0, x.1.now)) result (window_at bytes.now) }
 {
     let (earliest, rest) = earliest_at(bytes)?;
     let (latest, rest) = latest_at(earliest, rest)?;
     Ok(((earliest, latest), rest))
+}
+
+/// So many times: each time something is read and added to what was read before. No room is made for it by the count alone.
+pub(crate) fn times<'a, A: Drop, F: Fn(A, &'a [u8]) -> Field<'a, A>>(
+    count: u32,
+    before: A,
+    bytes: &'a [u8],
+    more: F,
+) -> Field<'a, A>
+    requires { F.IsAlwaysCallable more }
+    ensures { (next : A → List ℕ → Field A) → ReadsMore (F.post more) next
+        → Gives (λ x. (x.0, x.1.now)) result (times next count before bytes.now) }
+{
+    let mut all = before;
+    let mut rest = bytes;
+    for _ in 0..count {
+        (all, rest) = more(all, rest)?;
+    }
+    Ok((all, rest))
 }

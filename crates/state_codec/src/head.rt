@@ -6,7 +6,7 @@ ghost use Rattle.state_codec.specs.Limits.{most};
 ghost use Rattle.state_codec.specs.Reading.{kind_at, is_steps, is_capacity, is_fleet, is_next, depot_at, allowance_at, head_at};
 
 use crate::fault::CodecFault;
-use crate::fields::{number_at, only, point_at, u8_at, u32_at, u64_at, window_at};
+use crate::fields::{Field, number_at, only, point_at, u8_at, u32_at, u64_at, window_at};
 use crate::version::Version;
 use command_core::{MAX_DEVIATION, MAX_STEPS};
 use plan_types::limits::MAX_CAPACITY;
@@ -34,7 +34,7 @@ fn most(version: Version) -> u32
     }
 }
 
-fn kind_at(bytes: &[u8]) -> Result<(Kind, &[u8]), CodecFault>
+fn kind_at(bytes: &[u8]) -> Field<'_, Kind>
     ensures { Reads (λ x. (x.0, x.1.now)) result (kind_at bytes.now) }
 {
     let (code, rest) = u8_at(bytes)?;
@@ -45,21 +45,21 @@ fn kind_at(bytes: &[u8]) -> Result<(Kind, &[u8]), CodecFault>
     }
 }
 
-fn steps_at(bytes: &[u8]) -> Result<(u64, &[u8]), CodecFault>
+fn steps_at(bytes: &[u8]) -> Field<'_, u64>
     ensures { Reads (λ x. (x.0, x.1.now)) result (only is_steps (number_at 8 bytes.now)) }
 {
     let (steps, rest) = u64_at(bytes)?;
     only(steps <= MAX_STEPS, steps, rest)
 }
 
-fn capacity_at(bytes: &[u8]) -> Result<(u32, &[u8]), CodecFault>
+fn capacity_at(bytes: &[u8]) -> Field<'_, u32>
     ensures { Reads (λ x. (x.0, x.1.now)) result (only is_capacity (number_at 4 bytes.now)) }
 {
     let (capacity, rest) = u32_at(bytes)?;
     only(capacity <= MAX_CAPACITY, capacity, rest)
 }
 
-fn fleet_at(version: Version, bytes: &[u8]) -> Result<(u32, &[u8]), CodecFault>
+fn fleet_at(version: Version, bytes: &[u8]) -> Field<'_, u32>
     ensures { Reads (λ x. (x.0, x.1.now)) result
         (only (is_fleet version) (number_at (width version) bytes.now)) }
 {
@@ -67,7 +67,7 @@ fn fleet_at(version: Version, bytes: &[u8]) -> Result<(u32, &[u8]), CodecFault>
     only(1 <= fleet && fleet <= most(version), fleet, rest)
 }
 
-fn next_number_at(version: Version, bytes: &[u8]) -> Result<(u32, &[u8]), CodecFault>
+fn next_number_at(version: Version, bytes: &[u8]) -> Field<'_, u32>
     ensures { Reads (λ x. (x.0, x.1.now)) result
         (only (is_next version) (number_at (width version) bytes.now)) }
 {
@@ -77,7 +77,7 @@ fn next_number_at(version: Version, bytes: &[u8]) -> Result<(u32, &[u8]), CodecF
 
 // The depot's place and window.
 #[tactic(auto, unfolding(crate::specs::Reading::depot_at))]
-fn depot_at(bytes: &[u8]) -> Result<(Stop, &[u8]), CodecFault>
+fn depot_at(bytes: &[u8]) -> Field<'_, Stop>
     ensures { Reads (λ x. (x.0, x.1.now)) result (depot_at bytes.now) }
 {
     let ((x, y), rest) = point_at(bytes)?;
@@ -95,7 +95,7 @@ fn depot_at(bytes: &[u8]) -> Result<(Stop, &[u8]), CodecFault>
 }
 
 // How much longer the working plan may be.
-fn allowance_at(version: Version, bytes: &[u8]) -> Result<(u32, &[u8]), CodecFault>
+fn allowance_at(version: Version, bytes: &[u8]) -> Field<'_, u32>
     ensures { Reads (λ x. (x.0, x.1.now)) result (allowance_at version bytes.now) }
 {
     match version {
@@ -107,7 +107,7 @@ fn allowance_at(version: Version, bytes: &[u8]) -> Result<(u32, &[u8]), CodecFau
 }
 
 #[tactic(auto, unfolding(crate::specs::Reading::head_at))]
-pub(crate) fn head_at(version: Version, bytes: &[u8]) -> Result<(Head, &[u8]), CodecFault>
+pub(crate) fn head_at(version: Version, bytes: &[u8]) -> Field<'_, Head>
     ensures { Reads (λ x. (x.0, x.1.now)) result (head_at version bytes.now) }
 {
     let (kind, rest) = kind_at(bytes)?;

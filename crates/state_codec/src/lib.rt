@@ -6,7 +6,7 @@
 //! Modules, in reading order:
 //! - `version`: which of the two forms; `fault`: why bytes are no state
 //! - `writing`: a state as bytes
-//! - `fields`: numbers at the front of bytes
+//! - `fields`: numbers at the front of bytes, and one thing read after the other
 //! - `head`, `requests`, `routes`: what stands in a state, in its order
 //! - `parts`, `judging`, `states`: a state as it is read, what the auditor says of it, and both together
 //! - `sector`, `records`: a sector that is written from its front, and commands as such, both ways

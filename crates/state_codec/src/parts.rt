@@ -8,7 +8,7 @@ ghost use Rattle.state_codec.specs.Parts.{job_in, IsHead};
 ghost use Rattle.state_codec.specs.Reading.{problem_at, work_at, job_at, state_at, whole_at};
 
 use crate::fault::CodecFault;
-use crate::fields::{number_at, u8_at};
+use crate::fields::{Field, number_at, u8_at};
 use crate::head::{Head, head_at};
 use crate::requests::requests_at;
 use crate::routes::{routes_at, vehicles_at};
@@ -46,7 +46,7 @@ fn problem_at<'a>(
     version: Version,
     head: &Head,
     bytes: &'a [u8],
-) -> Result<(Problem, &'a [u8]), CodecFault>
+) -> Field<'a, Problem>
     requires { IsHead head.now }
     ensures { Gives (λ x. (x.0, x.1.now)) result (problem_at version head.now bytes.now) }
 {
@@ -65,7 +65,7 @@ fn work_at<'a>(
     fleet: u32,
     plan: &Routes,
     bytes: &'a [u8],
-) -> Result<(Routes, &'a [u8]), CodecFault>
+) -> Field<'a, Routes>
     ensures { Gives (λ x. (x.0, x.1.now)) result (work_at version fleet plan.now bytes.now) }
 {
     match version {
@@ -75,7 +75,7 @@ fn work_at<'a>(
 }
 
 #[tactic(auto, unfolding(crate::specs::Reading::job_at))]
-fn job_at(alloc: Global, version: Version, bytes: &[u8]) -> Result<(Parts, &[u8]), CodecFault>
+fn job_at(alloc: Global, version: Version, bytes: &[u8]) -> Field<'_, Parts>
     ensures { Gives (λ x. (job_in x.0, x.1.now)) result (job_at version bytes.now) }
 {
     let (head, rest) = head_at(version, bytes)?;
@@ -95,11 +95,7 @@ fn job_at(alloc: Global, version: Version, bytes: &[u8]) -> Result<(Parts, &[u8]
 }
 
 #[tactic(auto, unfolding(crate::specs::Reading::state_at))]
-fn state_at(
-    alloc: Global,
-    version: Version,
-    bytes: &[u8],
-) -> Result<(Option<Parts>, &[u8]), CodecFault>
+fn state_at(alloc: Global, version: Version, bytes: &[u8]) -> Field<'_, Option<Parts>>
     ensures { Gives (λ x. (option_map job_in x.0, x.1.now)) result (state_at version bytes.now) }
 {
     let (loaded, rest) = u8_at(bytes)?;

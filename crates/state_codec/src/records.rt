@@ -10,7 +10,7 @@ ghost use Rattle.state_codec.specs.Limits.{HasRoom, IsDeviationOf, IsRecorded};
 ghost use Rattle.state_codec.specs.Records.{spot_at, add_at, add1_at, withdraw_at, pin_at, unpin_at, search_at, deviation_at, fields_at, command_at};
 
 use crate::fault::CodecFault;
-use crate::fields::{i32_at, number_at, u8_at, u16_at, u32_at};
+use crate::fields::{Field, i32_at, number_at, u8_at, u16_at, u32_at};
 use crate::sector::Sector;
 use crate::version::Version;
 use command_core::{Command, MAX_COUNT, MAX_DEVIATION, Spot, is_demand, is_spot};
@@ -172,7 +172,7 @@ fn is_recorded(version: Version, command: &Command) -> bool
 }
 
 #[tactic(auto, unfolding(crate::specs::Records::spot_at))]
-fn spot_at(bytes: &[u8]) -> Result<(Spot, &[u8]), CodecFault>
+fn spot_at(bytes: &[u8]) -> Field<'_, Spot>
     ensures { Reads (λ x. (x.0, x.1.now)) result (spot_at bytes.now) }
 {
     let (x, rest) = i32_at(bytes)?;
@@ -191,7 +191,7 @@ fn spot_at(bytes: &[u8]) -> Result<(Spot, &[u8]), CodecFault>
 }
 
 #[tactic(auto, unfolding(crate::specs::Records::add_at))]
-fn add_at(bytes: &[u8]) -> Result<(Command, &[u8]), CodecFault>
+fn add_at(bytes: &[u8]) -> Field<'_, Command>
     ensures { Reads (λ x. (x.0, x.1.now)) result (add_at bytes.now) }
 {
     let (demand, rest) = u32_at(bytes)?;
@@ -206,7 +206,7 @@ fn add_at(bytes: &[u8]) -> Result<(Command, &[u8]), CodecFault>
 }
 
 #[tactic(auto, unfolding(crate::specs::Records::add1_at))]
-fn add1_at(bytes: &[u8]) -> Result<(Command, &[u8]), CodecFault>
+fn add1_at(bytes: &[u8]) -> Field<'_, Command>
     ensures { Reads (λ x. (x.0, x.1.now)) result (add1_at bytes.now) }
 {
     let (demand, rest) = u32_at(bytes)?;
@@ -215,7 +215,7 @@ fn add1_at(bytes: &[u8]) -> Result<(Command, &[u8]), CodecFault>
 }
 
 #[tactic(auto, unfolding(crate::specs::Records::withdraw_at))]
-fn withdraw_at(version: Version, bytes: &[u8]) -> Result<(Command, &[u8]), CodecFault>
+fn withdraw_at(version: Version, bytes: &[u8]) -> Field<'_, Command>
     ensures { Reads (λ x. (x.0, x.1.now)) result (withdraw_at version bytes.now) }
 {
     let (name, rest) = number_at(version, bytes)?;
@@ -223,7 +223,7 @@ fn withdraw_at(version: Version, bytes: &[u8]) -> Result<(Command, &[u8]), Codec
 }
 
 #[tactic(auto, unfolding(crate::specs::Records::pin_at))]
-fn pin_at(version: Version, bytes: &[u8]) -> Result<(Command, &[u8]), CodecFault>
+fn pin_at(version: Version, bytes: &[u8]) -> Field<'_, Command>
     ensures { Reads (λ x. (x.0, x.1.now)) result (pin_at version bytes.now) }
 {
     let (vehicle, rest) = number_at(version, bytes)?;
@@ -232,7 +232,7 @@ fn pin_at(version: Version, bytes: &[u8]) -> Result<(Command, &[u8]), CodecFault
 }
 
 #[tactic(auto, unfolding(crate::specs::Records::unpin_at))]
-fn unpin_at(version: Version, bytes: &[u8]) -> Result<(Command, &[u8]), CodecFault>
+fn unpin_at(version: Version, bytes: &[u8]) -> Field<'_, Command>
     ensures { Reads (λ x. (x.0, x.1.now)) result (unpin_at version bytes.now) }
 {
     let (vehicle, rest) = number_at(version, bytes)?;
@@ -240,7 +240,7 @@ fn unpin_at(version: Version, bytes: &[u8]) -> Result<(Command, &[u8]), CodecFau
 }
 
 #[tactic(auto, unfolding(crate::specs::Records::search_at))]
-fn search_at(bytes: &[u8]) -> Result<(Command, &[u8]), CodecFault>
+fn search_at(bytes: &[u8]) -> Field<'_, Command>
     ensures { Reads (λ x. (x.0, x.1.now)) result (search_at bytes.now) }
 {
     let (count, rest) = u16_at(bytes)?;
@@ -248,7 +248,7 @@ fn search_at(bytes: &[u8]) -> Result<(Command, &[u8]), CodecFault>
 }
 
 #[tactic(auto, unfolding(crate::specs::Records::deviation_at))]
-fn deviation_at(bytes: &[u8]) -> Result<(Command, &[u8]), CodecFault>
+fn deviation_at(bytes: &[u8]) -> Field<'_, Command>
     ensures { Reads (λ x. (x.0, x.1.now)) result (deviation_at bytes.now) }
 {
     let (deviation, rest) = u32_at(bytes)?;
@@ -256,7 +256,7 @@ fn deviation_at(bytes: &[u8]) -> Result<(Command, &[u8]), CodecFault>
 }
 
 #[tactic(auto, unfolding(crate::specs::Records::command_at))]
-fn command_at(version: Version, bytes: &[u8]) -> Result<(Command, &[u8]), CodecFault>
+fn command_at(version: Version, bytes: &[u8]) -> Field<'_, Command>
     ensures { Reads (λ x. (x.0, x.1.now)) result (command_at version bytes.now) }
 {
     let (kind, rest) = u8_at(bytes)?;

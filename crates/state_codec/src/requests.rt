@@ -9,7 +9,7 @@ ghost use Rattle.state_codec.specs.Fields.{Reads, Gives, only, number_at, signed
 ghost use Rattle.state_codec.specs.Reading.{is_free, is_name, is_delivery, is_wanted, visit_at, first_at, delivery_at, single_at, pair_at, request_at, times, next_request};
 
 use crate::fault::CodecFault;
-use crate::fields::{i32_at, number_at, only, point_at, u8_at, u32_at, window_at};
+use crate::fields::{Field, i32_at, number_at, only, point_at, u8_at, u32_at, window_at};
 use crate::version::Version;
 use plan_types::limits::{MAX_DEMAND, MAX_SERVICE};
 use plan_types::{Problem, Request, Stop};
@@ -52,14 +52,14 @@ fn is_wanted(wanted: Option<i32>, demand: i32) -> bool
     }
 }
 
-fn demand_at(wanted: Option<i32>, bytes: &[u8]) -> Result<(i32, &[u8]), CodecFault>
+fn demand_at(wanted: Option<i32>, bytes: &[u8]) -> Field<'_, i32>
     ensures { Reads (λ x. (x.0, x.1.now)) result (only (is_wanted wanted) (signed_at bytes.now)) }
 {
     let (demand, rest) = i32_at(bytes)?;
     only(is_wanted(wanted, demand), demand, rest)
 }
 
-fn service_at(bytes: &[u8]) -> Result<(u32, &[u8]), CodecFault>
+fn service_at(bytes: &[u8]) -> Field<'_, u32>
     ensures { Reads (λ x. (x.0, x.1.now)) result (only is_service (number_at 4 bytes.now)) }
 {
     let (service, rest) = u32_at(bytes)?;
@@ -67,7 +67,7 @@ fn service_at(bytes: &[u8]) -> Result<(u32, &[u8]), CodecFault>
 }
 
 #[tactic(auto, unfolding(crate::specs::Reading::visit_at))]
-fn visit_at(number: u32, wanted: Option<i32>, bytes: &[u8]) -> Result<(Stop, &[u8]), CodecFault>
+fn visit_at(number: u32, wanted: Option<i32>, bytes: &[u8]) -> Field<'_, Stop>
     ensures { Reads (λ x. (x.0, x.1.now)) result (visit_at number wanted bytes.now) }
 {
     let ((x, y), rest) = point_at(bytes)?;
@@ -87,12 +87,7 @@ fn visit_at(number: u32, wanted: Option<i32>, bytes: &[u8]) -> Result<(Stop, &[u
 }
 
 #[tactic(auto, unfolding(crate::specs::Reading::first_at))]
-fn first_at<'a>(
-    version: Version,
-    problem: &Problem,
-    next: u32,
-    bytes: &'a [u8],
-) -> Result<(Stop, &'a [u8]), CodecFault>
+fn first_at<'a>(version: Version, problem: &Problem, next: u32, bytes: &'a [u8]) -> Field<'a, Stop>
     ensures { Reads (λ x. (x.0, x.1.now)) result
         (first_at version next problem.now.requests bytes.now) }
 {
@@ -108,7 +103,7 @@ fn delivery_at<'a>(
     next: u32,
     pickup: &Stop,
     bytes: &'a [u8],
-) -> Result<(Stop, &'a [u8]), CodecFault>
+) -> Field<'a, Stop>
     requires { IsDemand pickup.now.demand }
     ensures { Reads (λ x. (x.0, x.1.now)) result
         (delivery_at version next problem.now.requests pickup.now bytes.now) }
@@ -125,7 +120,7 @@ fn single_at<'a>(
     problem: &Problem,
     next: u32,
     bytes: &'a [u8],
-) -> Result<(Request, &'a [u8]), CodecFault>
+) -> Field<'a, Request>
     ensures { Reads (λ x. (x.0, x.1.now)) result
         (single_at version next problem.now.requests bytes.now) }
 {
@@ -139,7 +134,7 @@ fn pair_at<'a>(
     problem: &Problem,
     next: u32,
     bytes: &'a [u8],
-) -> Result<(Request, &'a [u8]), CodecFault>
+) -> Field<'a, Request>
     ensures { Reads (λ x. (x.0, x.1.now)) result
         (pair_at version next problem.now.requests bytes.now) }
 {
@@ -154,7 +149,7 @@ fn request_at<'a>(
     problem: &Problem,
     next: u32,
     bytes: &'a [u8],
-) -> Result<(Request, &'a [u8]), CodecFault>
+) -> Field<'a, Request>
     ensures { Reads (λ x. (x.0, x.1.now)) result
         (request_at version next problem.now.requests bytes.now) }
 {
@@ -188,7 +183,7 @@ pub(crate) fn requests_at<'a>(
     next: u32,
     count: u32,
     bytes: &'a [u8],
-) -> Result<(Problem, &'a [u8]), CodecFault>
+) -> Field<'a, Problem>
     requires empty { problem.requests ≡ [] }
     requires next { next ≤ 40001 }
     ensures read { Gives (λ x. (x.0.requests, x.1.now)) result

@@ -4,34 +4,35 @@ ghost use Rattle.state_codec.specs.Bytes.{width};
 ghost use Rattle.state_codec.specs.Fields.{Reads, Gives, only, number_at};
 ghost use Rattle.state_codec.specs.Reading.{times, next_stop, vehicle_at, next_vehicle, route_at, next_route};
 
-use crate::fault::CodecFault;
-use crate::fields::{number_at, only};
+use crate::fields::{Field, number_at, only, times};
 use crate::version::Version;
 use plan_types::{OutOfMemory, Route, Routes};
 use std::alloc::Global;
 
-// So many stop numbers. No room is made for them by their count alone.
-fn stops_at(
-    alloc: Global,
-    version: Version,
-    count: u32,
-    bytes: &[u8],
-) -> Result<(Route, &[u8]), CodecFault>
-    ensures { Gives (λ x. (x.0, x.1.now)) result
-        (times (next_stop version) count [] bytes.now) }
+// One stop number more.
+fn next_stop<'a>(version: Version, stops: Route, bytes: &'a [u8]) -> Field<'a, Route>
+    ensures { Gives (λ x. (x.0, x.1.now)) result (next_stop version stops bytes.now) }
 {
-    let mut stops = Route::new(alloc);
-    let mut rest = bytes;
-    for _ in 0..count {
-        let (stop, after) = number_at(version, rest)?;
-        stops.push(stop)?;
-        rest = after;
-    }
+    let (stop, rest) = number_at(version, bytes)?;
+    let mut stops = stops;
+    stops.push(stop)?;
     Ok((stops, rest))
 }
 
+fn stops_at(alloc: Global, version: Version, count: u32, bytes: &[u8]) -> Field<'_, Route>
+    ensures { Gives (λ x. (x.0, x.1.now)) result
+        (times (next_stop version) count [] bytes.now) }
+{
+    times(
+        count,
+        Route::new(alloc),
+        bytes,
+        |stops, rest| next_stop(version, stops, rest),
+    )
+}
+
 // A length that is no less than that of the pin.
-fn route_len_at(version: Version, pin: u32, bytes: &[u8]) -> Result<(u32, &[u8]), CodecFault>
+fn route_len_at(version: Version, pin: u32, bytes: &[u8]) -> Field<'_, u32>
     ensures { Reads (λ x. (x.0, x.1.now)) result
         (only (nat_le pin) (number_at (width version) bytes.now)) }
 {
@@ -49,11 +50,7 @@ fn front(alloc: Global, stops: &[u32], len: u32) -> Result<Route, OutOfMemory>
 }
 
 #[tactic(auto, unfolding(crate::specs::Reading::vehicle_at))]
-fn vehicle_at(
-    alloc: Global,
-    version: Version,
-    bytes: &[u8],
-) -> Result<((Route, Route), &[u8]), CodecFault>
+fn vehicle_at(alloc: Global, version: Version, bytes: &[u8]) -> Field<'_, (Route, Route)>
     ensures { Gives (λ x. (x.0, x.1.now)) result (vehicle_at version bytes.now) }
 {
     let (pin, rest) = number_at(version, bytes)?;
@@ -64,11 +61,27 @@ fn vehicle_at(
 }
 
 #[tactic(auto, unfolding(crate::specs::Reading::route_at))]
-fn route_at(alloc: Global, version: Version, bytes: &[u8]) -> Result<(Route, &[u8]), CodecFault>
+fn route_at(alloc: Global, version: Version, bytes: &[u8]) -> Field<'_, Route>
     ensures { Gives (λ x. (x.0, x.1.now)) result (route_at version bytes.now) }
 {
     let (len, rest) = number_at(version, bytes)?;
     stops_at(alloc, version, len, rest)
+}
+
+// One vehicle more: its pin and its route.
+fn next_vehicle<'a>(
+    alloc: Global,
+    version: Version,
+    before: (Routes, Routes),
+    bytes: &'a [u8],
+) -> Field<'a, (Routes, Routes)>
+    ensures { Gives (λ x. (x.0, x.1.now)) result (next_vehicle version before bytes.now) }
+{
+    let ((pin, route), rest) = vehicle_at(alloc, version, bytes)?;
+    let (mut pins, mut routes) = before;
+    pins.push(pin)?;
+    routes.push(route)?;
+    Ok(((pins, routes), rest))
 }
 
 /// The pins and the routes of so many vehicles.
@@ -77,20 +90,32 @@ pub(crate) fn vehicles_at(
     version: Version,
     count: u32,
     bytes: &[u8],
-) -> Result<((Routes, Routes), &[u8]), CodecFault>
+) -> Field<'_, (Routes, Routes)>
     ensures { Gives (λ x. (x.0, x.1.now)) result
         (times (next_vehicle version) count ([], []) bytes.now) }
 {
-    let mut pins = Routes::new(alloc);
-    let mut routes = Routes::new(alloc);
-    let mut rest = bytes;
-    for _ in 0..count {
-        let ((pin, route), after) = vehicle_at(alloc, version, rest)?;
-        pins.push(pin)?;
-        routes.push(route)?;
-        rest = after;
-    }
-    Ok(((pins, routes), rest))
+    let none = (Routes::new(alloc), Routes::new(alloc));
+    times(
+        count,
+        none,
+        bytes,
+        |before, rest| next_vehicle(alloc, version, before, rest),
+    )
+}
+
+// One route more.
+fn next_route<'a>(
+    alloc: Global,
+    version: Version,
+    routes: Routes,
+    bytes: &'a [u8],
+) -> Field<'a, Routes>
+    ensures { Gives (λ x. (x.0, x.1.now)) result (next_route version routes bytes.now) }
+{
+    let (route, rest) = route_at(alloc, version, bytes)?;
+    let mut routes = routes;
+    routes.push(route)?;
+    Ok((routes, rest))
 }
 
 /// So many routes without pins.
@@ -99,16 +124,14 @@ pub(crate) fn routes_at(
     version: Version,
     count: u32,
     bytes: &[u8],
-) -> Result<(Routes, &[u8]), CodecFault>
+) -> Field<'_, Routes>
     ensures { Gives (λ x. (x.0, x.1.now)) result
         (times (next_route version) count [] bytes.now) }
 {
-    let mut routes = Routes::new(alloc);
-    let mut rest = bytes;
-    for _ in 0..count {
-        let (route, after) = route_at(alloc, version, rest)?;
-        routes.push(route)?;
-        rest = after;
-    }
-    Ok((routes, rest))
+    times(
+        count,
+        Routes::new(alloc),
+        bytes,
+        |routes, rest| next_route(alloc, version, routes, rest),
+    )
 }
