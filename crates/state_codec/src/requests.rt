@@ -6,7 +6,7 @@ ghost use Rattle.state_codec.specs.Filled.{IsFilledBelow};
 ghost use Rattle.plan_types.specs.Limits.{IsDemand};
 ghost use Rattle.std.specs.List.{list_all};
 ghost use Rattle.state_codec.specs.Fields.{Reads, Gives, only, number_at, signed_at, is_service};
-ghost use Rattle.state_codec.specs.Reading.{is_free, is_name, is_delivery, is_wanted, visit_at, first_at, delivery_at, single_at, pair_at, request_at, times, next_request};
+ghost use Rattle.state_codec.specs.Reading.{is_free, is_name, is_delivery, is_wanted, visit_at, first_at, delivery_at, request_at, times, next_request};
 
 use crate::fault::CodecFault;
 use crate::fields::{Field, i32_at, number_at, only, point_at, u8_at, u32_at, window_at};
@@ -114,36 +114,7 @@ fn delivery_at<'a>(
     visit_at(number, Some(-pickup.demand), rest)
 }
 
-#[tactic(auto, unfolding(crate::specs::Reading::single_at))]
-fn single_at<'a>(
-    version: Version,
-    problem: &Problem,
-    next: u32,
-    bytes: &'a [u8],
-) -> Field<'a, Request>
-    ensures { Reads (λ x. (x.0, x.1.now)) result
-        (single_at version next problem.now.requests bytes.now) }
-{
-    let (stop, rest) = first_at(version, problem, next, bytes)?;
-    Ok((Request::Single(stop), rest))
-}
-
-#[tactic(auto, unfolding(crate::specs::Reading::pair_at))]
-fn pair_at<'a>(
-    version: Version,
-    problem: &Problem,
-    next: u32,
-    bytes: &'a [u8],
-) -> Field<'a, Request>
-    ensures { Reads (λ x. (x.0, x.1.now)) result
-        (pair_at version next problem.now.requests bytes.now) }
-{
-    let (pickup, rest) = first_at(version, problem, next, bytes)?;
-    let (delivery, rest) = delivery_at(version, problem, next, &pickup, rest)?;
-    Ok((Request::Pair(pickup, delivery), rest))
-}
-
-#[tactic(auto, unfolding(crate::specs::Reading::request_at))]
+#[tactic(auto, unfolding(crate::specs::Reading::request_at, crate::specs::Reading::single_at, crate::specs::Reading::pair_at))]
 fn request_at<'a>(
     version: Version,
     problem: &Problem,
@@ -155,8 +126,15 @@ fn request_at<'a>(
 {
     let (form, rest) = u8_at(bytes)?;
     match form {
-        1 => single_at(version, problem, next, rest),
-        2 => pair_at(version, problem, next, rest),
+        1 => {
+            let (stop, rest) = first_at(version, problem, next, rest)?;
+            Ok((Request::Single(stop), rest))
+        }
+        2 => {
+            let (pickup, rest) = first_at(version, problem, next, rest)?;
+            let (delivery, rest) = delivery_at(version, problem, next, &pickup, rest)?;
+            Ok((Request::Pair(pickup, delivery), rest))
+        }
         _ => Err(CodecFault::BadField),
     }
 }
