@@ -19,10 +19,9 @@ one_written pins routes k out old new pin route same below is p r e =
     e ∙ ap (λ q. out ++ (count_bytes Two (length q) ++ (count_bytes Two (length route) ++ stops_bytes Two route))) p ∙ ap (λ q. out ++ (count_bytes Two (length (get_or pins k [])) ++ (count_bytes Two (length q) ++ stops_bytes Two q))) r
     ∙ one_more pins routes k out old same below is
 
--- the fields of a stop, written in four calls
-pub in_four : (out n x y d t one two three four : List ℕ) → one ≡ out ++ n → two ≡ one ++ (x ++ y) → three ≡ two ++ d → four ≡ three ++ t → four ≡ out ++ (n ++ (x ++ (y ++ (d ++ t))))
-in_four out n x y d t one two three four e f g h =
-    h ∙ ap (λ z. z ++ t) (g ∙ ap (λ z. z ++ d) (f ∙ ap (λ z. z ++ (x ++ y)) e)) ∙ simp append_assoc
+-- the fields of a stop, written one behind the other
+pub in_six : (out n x y d e l s : List ℕ) → (((((out ++ n) ++ (x ++ y)) ++ d) ++ e) ++ l) ++ s ≡ out ++ (n ++ (x ++ (y ++ (d ++ (e ++ (l ++ s))))))
+in_six out n x y d e l s = simp append_assoc
 
 -- the parts of a job, written in five calls
 pub in_five : (out h n r v w one two three four five : List ℕ) → one ≡ out ++ h → two ≡ one ++ n → three ≡ two ++ r → four ≡ three ++ v → five ≡ four ++ w → five ≡ out ++ (h ++ (n ++ (r ++ (v ++ w))))

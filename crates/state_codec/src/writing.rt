@@ -43,24 +43,15 @@ fn put_demand(out: &mut Vec<u8>, stop: &Stop) -> Result<(), OutOfMemory>
     put_i32(out, stop.demand)
 }
 
-// When and how long it is served.
-fn put_times(out: &mut Vec<u8>, stop: &Stop) -> Result<(), OutOfMemory>
-    ensures { OnOk result (out.new.items ≡ out.old.items
-        ++ (number_bytes 4 stop.now.earliest
-        ++ (number_bytes 4 stop.now.latest ++ number_bytes 4 stop.now.service))) }
-{
-    put_u32(out, stop.earliest)?;
-    put_u32(out, stop.latest)?;
-    put_u32(out, stop.service)
-}
-
 fn put_stop(out: &mut Vec<u8>, stop: &Stop) -> Result<(), OutOfMemory>
     ensures { OnOk result (out.new.items ≡ out.old.items ++ stop_bytes Two stop.now) }
 {
     put_u32(out, stop.number)?;
     put_point(out, stop)?;
     put_demand(out, stop)?;
-    put_times(out, stop)?;
+    put_u32(out, stop.earliest)?;
+    put_u32(out, stop.latest)?;
+    put_u32(out, stop.service)?;
     Ok(())
 }
 
