@@ -1,9 +1,8 @@
 -- The parts of a solving: how it begins, what is still to be told, what comes of a try, and how it ends.
-use Rattle.std.specs.Prelude.{◌≡◌, ℕ, ◌+◌, ◌-◌, ◌<◌, ◌≤◌, not, Bool, true, false, List, map, Option, ⊤}
+use Rattle.std.specs.Prelude.{◌≡◌, ℕ, ◌+◌, ◌-◌, ◌<◌, ◌≤◌, not, Bool, true, false, List, map, Option}
 use Rattle.std.specs.List.{flat_map, range_with_len}
 use Rattle.std.specs.Io.KnownBytes.{Appends}
-use Rattle.plan_types.specs.Instance.{Instance, IsInstance}
-use Rattle.plan_types.specs.declared.requests.Kind.{Kind}
+use Rattle.plan_types.specs.Instance.{Instance}
 use Rattle.instance_read.specs.declared.faults.ReadFault.{ReadFault}
 use Rattle.instance_read.specs.declared.faults.ReadFaultKind.{ReadFaultKind}
 use Rattle.instance_read.specs.declared.faults.ReadFaultKind.TheVariants as read_fault
@@ -12,28 +11,21 @@ use Rattle.command_core.specs.Job.{JobValue}
 use Rattle.command_core.specs.declared.states.State.{State}
 use Rattle.command_core.specs.declared.states.State.TheVariants.{Empty, Loaded}
 use Rattle.command_text.specs.Answers.{at_text, line}
-use Rattle.command_text.specs.Readings.{SpellsInstance}
 use Rattle.fleet_tries.specs.Fleets.{with_fleet}
-use Rattle.plan_solve.specs.Solved.{IsFirst, above, begun, twentieths}
+use Rattle.plan_solve.specs.Solved.{TellsPlan, above, progress, solved, twentieths}
 use Rattle.plan_solve.specs.Staged.{Stand}
 use Rattle.plan_solve.specs.Tried.{after_try, fewer_after, is_whole, tried, vehicles_of}
 use Rattle.plan_solve.specs.declared.faults.SolveFault.{SolveFault}
 use Rattle.plan_solve.specs.declared.faults.SolveFault.TheVariants as fault
+use Rattle.plan_solve.specs.declared.solving.Solved.{Solved}
 use Rattle.plan_solve.specs.declared.staging.Walk.{Walk}
 use Rattle.plan_solve.specs.declared.trying.Outcome.{Outcome}
 use Rattle.plan_solve.specs.declared.trying.Tries.{Tries}
 
--- the plan is built of the problem that the text spells
-pub record IsBegun (kind : Kind) (text : List ℕ) (seed : ℕ) (job : JobValue) : Type 0 where
-  pub problem : Instance
-  pub spelled : SpellsInstance kind text problem
-  pub kept : IsInstance problem
-  pub job_is : job ≡ begun problem seed
-
--- the text is refused, or memory is
-abbrev pub IsOfText : Kind → List ℕ → SolveFault → Type 0
-IsOfText kind text (fault.Refused first) = IsFirst kind text first
-IsOfText kind text fault.OutOfMemory = ⊤
+-- the answer tells the plan that is found of a problem, and what is told on the way is written unless a line could not be
+pub record IsFound (before now : Option (List ℕ)) (p : Instance) (seed steps : ℕ) (deviation : Option ℕ) (found : Solved) : Type 0 where
+  pub plan : TellsPlan (solved p seed steps deviation) found
+  pub told : found.is_told ≡ true → Appends before now (progress p seed steps deviation)
 
 -- what is told of a fault of the text; want of memory is in no line
 abbrev pub refused_by : ReadFaultKind → ReadFault → SolveFault

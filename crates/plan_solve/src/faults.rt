@@ -1,6 +1,5 @@
 //! Why there is no plan.
 use instance_read::ReadFault;
-use std::alloc::AllocError;
 use thiserror::Error;
 
 /// Why there is no plan.
@@ -10,15 +9,4 @@ pub enum SolveFault {
     Refused(ReadFault),
     #[error("out of memory")]
     OutOfMemory,
-}
-
-impl From<AllocError> for SolveFault {
-    ghost use Rattle.std.specs.Prelude.{◌≡◌};
-    ghost use Rattle.plan_solve.specs.declared.faults.SolveFault.TheVariants.{OutOfMemory};
-
-    ghost from_gives = { λ _ fault. fault ≡ OutOfMemory };
-
-    fn from(_: AllocError) -> SolveFault {
-        SolveFault::OutOfMemory
-    }
 }

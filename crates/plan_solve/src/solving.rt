@@ -3,7 +3,7 @@ ghost use Rattle.std.specs.Prelude.{◌≡◌, ◌<◌, ◌^◌, IfErr, IfOk, Ma
 ghost use Rattle.command_text.specs.Readings.{InstanceFault, SpellsInstance};
 ghost use Rattle.plan_solve.specs.Solved.{Fails, IsSolved, begun, by_annealing, deviation_of, lines_from, solved_from};
 ghost use Rattle.plan_solve.specs.Staged.{first_stand};
-ghost use Rattle.plan_solve.specs.Telling.{HasWalked, IsBegun, IsOfText, Leads, refused};
+ghost use Rattle.plan_solve.specs.Telling.{HasWalked, IsFound, Leads, refused};
 
 use crate::carrying::{carry_out, into_job};
 use crate::faults::SolveFault;
@@ -55,21 +55,31 @@ pub fn solve<W: Write>(
         MatchResult result (IsSolved kind instance.now seed steps deviation before after)
         (Fails kind instance.now before after) }
 {
-    let begun = begin(alloc, kind, instance, seed)?;
-    let walk = walk(alloc, begun, steps, deviation, progress)?;
-    Ok(answer(alloc, walk)?)
-}
-
-// Loads the instance and builds a plan.
-fn begin(alloc: Global, kind: Kind, instance: &[u8], seed: u64) -> Result<Job, SolveFault>
-    ensures job { IfOk result (IsBegun kind instance.now seed) }
-    ensures fault { IfErr result (IsOfText kind instance.now) }
-{
     let problem = match read_instance(alloc, kind, instance) {
         Ok(problem) => problem,
         Err(fault) => return Err(refused(fault)),
     };
-    Ok(build(alloc, problem, seed)?)
+    match found(alloc, problem, seed, steps, deviation, progress) {
+        Ok(solved) => Ok(solved),
+        Err(_) => Err(SolveFault::OutOfMemory),
+    }
+}
+
+// What is found of a problem.
+fn found<W: Write>(
+    alloc: Global,
+    problem: Problem,
+    seed: u64,
+    steps: u32,
+    deviation: Option<u32>,
+    progress: &mut W,
+) -> Result<Solved, OutOfMemory>
+    ensures { IfOk result
+        (IsFound (W.contents progress.old) (W.contents progress.new) problem seed steps deviation) }
+{
+    let begun = build(alloc, problem, seed)?;
+    let walk = walk(alloc, begun, steps, deviation, progress)?;
+    answer(alloc, walk)
 }
 
 // The plan that is built of a problem.
@@ -133,7 +143,7 @@ fn annealed<W: Write>(
 {
     let kind = kind_of(&begun);
     let walk = first_told(begun, progress);
-    annealed_from(alloc, kind, walk, u64::from(steps), progress)
+    annealed_from(alloc, kind, walk, steps, progress)
 }
 
 fn kind_of(job: &Job) -> Kind
@@ -147,14 +157,14 @@ fn annealed_from<W: Write>(
     alloc: Global,
     kind: Kind,
     walk: Walk,
-    to: u64,
+    steps: u32,
     progress: &mut W,
 ) -> Result<Walk, OutOfMemory>
-    requires few { to < 2 ^ 32 }
-    requires none { walk.job.steps ≡ 0 }
+    requires { walk.job.steps ≡ 0 }
     ensures { IfOk result
-        (Leads (W.contents progress.old) (W.contents progress.new) (by_annealing kind to) walk) }
+        (Leads (W.contents progress.old) (W.contents progress.new) (by_annealing kind steps) walk) }
 {
+    let to = u64::from(steps);
     match kind {
         Kind::LiLim => try_telling(alloc, walk, to, progress),
         Kind::Vrp => stages_telling(alloc, walk, to, progress),

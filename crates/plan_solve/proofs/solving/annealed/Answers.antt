@@ -7,8 +7,8 @@ use Rattle.plan_solve.specs.Staged.{first_stand}
 use Rattle.plan_solve.specs.Telling.{HasWalked}
 use Rattle.plan_solve.proofs.solving.annealed.Goals as goal
 
-pub annealed_from-requires-clause-none : goal.annealed_from-requires-clause-none
-annealed_from-requires-clause-none g c = ap (λ (j : JobValue). j.steps) c.first_told-walk.ensures.walked.made ∙ c.requires
+pub annealed_from-requires : goal.annealed_from-requires
+annealed_from-requires g c = ap (λ (j : JobValue). j.steps) c.first_told-walk.ensures.walked.made ∙ c.requires
 
 pub returns : goal.returns
 returns g c =
@@ -18,6 +18,5 @@ returns g c =
     IfOk-weaker c.annealed_from.result _ _
     (λ walk leads.
     subst (λ k. HasWalked before now (by_annealing k c.args.steps s).job (by_annealing k c.args.steps s).lines walk) c.kind_of-kind.ensures
-    (subst (λ n. HasWalked before now (by_annealing c.kind_of-kind.result n s).job (by_annealing c.kind_of-kind.result n s).lines walk) c.from.ensures
-    (leads before s c.first_told-walk.ensures).walked))
+    (leads before s c.first_told-walk.ensures).walked)
     c.annealed_from.ensures
