@@ -1,4 +1,4 @@
--- The parts of a solving: how it begins, what is still to be told, what comes of a try, and how it ends.
+-- The parts of a solving: what is found of a problem, what is still to be told, and what comes of a try.
 use Rattle.std.specs.Prelude.{◌≡◌, ℕ, ◌+◌, ◌-◌, ◌<◌, ◌≤◌, not, Bool, true, false, List, map, Option}
 use Rattle.std.specs.List.{flat_map, range_with_len}
 use Rattle.std.specs.Io.KnownBytes.{Appends}

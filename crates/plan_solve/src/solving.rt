@@ -1,6 +1,5 @@
 //! From an instance's text to a plan's.
-ghost use Rattle.std.specs.Prelude.{◌≡◌, ◌<◌, ◌^◌, IfErr, IfOk, MatchResult};
-ghost use Rattle.command_text.specs.Readings.{InstanceFault, SpellsInstance};
+ghost use Rattle.std.specs.Prelude.{◌≡◌, IfOk, MatchResult};
 ghost use Rattle.plan_solve.specs.Solved.{Fails, IsSolved, begun, by_annealing, deviation_of, lines_from, solved_from};
 ghost use Rattle.plan_solve.specs.Staged.{first_stand};
 ghost use Rattle.plan_solve.specs.Telling.{HasWalked, IsFound, Leads, refused};
