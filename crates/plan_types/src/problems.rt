@@ -33,17 +33,6 @@ pub enum PutFault {
     OutOfMemory,
 }
 
-impl From<AllocError> for PutFault {
-    ghost use Rattle.std.specs.Prelude.{◌≡◌};
-    ghost use Rattle.plan_types.specs.declared.problems.PutFault.TheVariants.{OutOfMemory};
-
-    ghost from_gives = { λ _ fault. fault ≡ OutOfMemory };
-
-    fn from(_: AllocError) -> PutFault {
-        PutFault::OutOfMemory
-    }
-}
-
 /// A stop, the name of its request, and the other stop of its pair.
 #[derive(Clone, Copy, Debug)]
 pub(crate) struct Located {
@@ -181,6 +170,17 @@ impl Problem {
         if self.is_taken(&request) {
             return Err(PutFault::Taken);
         }
+        self.add(request).map_err(|_| PutFault::OutOfMemory)
+    }
+
+    // Adds a request that is within its limits and whose numbers are free.
+    #[inline(always)]
+    fn add(&mut self, request: Request) -> Result<(), AllocError>
+        requires valid { IsRequest request }
+        requires free { ¬ IsTaken self.old request }
+        ensures ok { OnOk result (self.new ≡ with_request self.old request) }
+        ensures err { OnErr result (self.new ≡ self.old) }
+    {
         let after = request.number_after();
         make_room(&mut self.located, after as usize)?;
         insert_by_name(&mut self.requests, request)?;

@@ -7,7 +7,7 @@ use Rattle.plan_types.proofs.InsertLemmas.{splits_free}
 use Rattle.plan_types.proofs.LookupLemmas.{lookup-name-free, located-asks, found-with_entry, take-overwritten}
 use Rattle.std.specs.Option.{option_or}
 use Rattle.plan_types.specs.declared.problems.Located.{Located}
-use Rattle.plan_types.proofs.problems.Problem.put.Goals as goal
+use Rattle.plan_types.proofs.problems.Problem.add.Goals as goal
 
 pub insert_by_name-requires-clause-absent : goal.insert_by_name-requires-clause-absent
 insert_by_name-requires-clause-absent c =
