@@ -3,6 +3,7 @@ use Rattle.std.specs.Prelude.{None, Result, Ok, Err}
 use Rattle.sector_disk.specs.Sectors.{Throughout}
 use Rattle.sector_disk.specs.Throughout.{weakened}
 use Rattle.command_core.specs.declared.states.State.{State}
+use Rattle.checkpoint.specs.Layouts.{version_2, sectors_in}
 use Rattle.checkpoint.specs.declared.places.Place.{Place}
 use Rattle.recover.specs.declared.denials.Denial.{Denial}
 use Rattle.recover.specs.declared.denials.Denial.TheVariants.{OutOfMemory, DeviceFault}
@@ -80,7 +81,7 @@ invariant_of-self-in-Ok-commit g c =
     let fits = place_fits i.place command unspent c.self.invariant.first c.self.invariant.last c.self.invariant.used in
     subst (λ (p : Place). IsSession d.len d.honest d.possible (record { device = c.commit.new.device; state = c.change.new.self; place = p; is_broken = i.is_broken })) (sym c.in-Ok-commit.ensures.place) (record {
       state = c.in-Ok.ensures.ok.facts;
-      room = subst (λ (n : ℕ). 8450 ≤ n) (sym c.commit.ensures.called.same_len) c.self.invariant.room;
+      room = subst (λ (n : ℕ). sectors_in version_2 ≤ n) (sym c.commit.ensures.called.same_len) c.self.invariant.room;
       first = fits.0;
       last = fits.1;
       used = fits.2;
