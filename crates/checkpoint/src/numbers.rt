@@ -2,33 +2,13 @@
 //! stops each record adds, without applying a command.
 ghost use Rattle.std.specs.Prelude.{◌≡◌, ◌≤◌, ◌*◌, ◌↔◌, length, IsTrue};
 ghost use Rattle.checkpoint.specs.Layouts.{journal_room};
-ghost use Rattle.checkpoint.specs.Numbers.{stops_added, all_added, next_number_of, HaveNumbers};
+ghost use Rattle.checkpoint.specs.Numbers.{all_added, next_number_of, HaveNumbers};
 
 use command_core::{Command, State};
 use state_codec::version::Version;
 
 /// The last stop number of version 1.
 const LAST_NUMBER: u32 = 4000;
-
-// How many stops a command adds.
-fn stops_added(command: &Command) -> u32
-    ensures added { result ≡ stops_added command.now }
-    ensures few { result ≤ 2 }
-{
-    match command {
-        Command::Add { .. } => 2,
-        Command::Add1 { .. } => 1,
-        Command::Load(..)
-        | Command::Withdraw(_)
-        | Command::Pin(..)
-        | Command::Unpin(_)
-        | Command::Build
-        | Command::Search(_)
-        | Command::Checkpoint
-        | Command::Deviation(_)
-        | Command::Anneal(_) => 0,
-    }
-}
 
 // How many stops the commands of a journal add.
 fn all_added(commands: &[Command]) -> u32
@@ -38,7 +18,7 @@ fn all_added(commands: &[Command]) -> u32
 {
     let mut added = 0;
     for command in commands {
-        added += stops_added(command);
+        added += command.stops_added();
     }
     added
 }

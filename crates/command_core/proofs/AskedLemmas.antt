@@ -5,7 +5,7 @@ use Rattle.move_ops.proofs.Times.{none_some}
 use Rattle.command_core.specs.Job.{JobValue}
 use Rattle.command_core.specs.Kept.{asked_for}
 use Rattle.command_core.specs.Refusing.{job_refusal, steps_refusal}
-use Rattle.command_core.specs.Runs.{steps_of}
+use Rattle.command_core.specs.Commands.{steps_of}
 use Rattle.command_core.specs.declared.refusals.Refusal.TheVariants.{Range, StepsSpent}
 use Rattle.command_core.specs.declared.walking.Asked.{Asked}
 use Rattle.command_core.specs.declared.walking.Asked.TheVariants.{Search, Anneal}

@@ -19,13 +19,13 @@ use Rattle.command_core.specs.Job.{JobValue, IsJob}
 use Rattle.command_core.specs.Wishes.{is_spot, is_demand, single_at, pair_at}
 use Rattle.command_core.specs.Effects.{loaded, added, withdrawn, searched, annealed, job_after}
 use Rattle.command_core.specs.Refusing.{is_vehicle, pinned_refusal, job_refusal}
-use Rattle.command_core.specs.Runs.{IsCommand}
+use Rattle.command_core.specs.Commands.{IsCommand}
 use Rattle.command_core.specs.RunLaws.{EffectsKeepFacts}
 use Rattle.command_core.specs.declared.states.State.TheVariants.{Empty, Loaded}
 use Rattle.command_core.specs.declared.refusals.Refusal.{Refusal}
 use Rattle.command_core.specs.declared.refusals.Refusal.TheVariants.{NoSuchRequest, Pinned}
 use Rattle.command_core.specs.declared.commands.Command.{Command}
-use Rattle.command_core.specs.declared.commands.Command.TheVariants.{Load, Add, Add1, Withdraw, Pin, Unpin, Build, Search, Checkpoint, Deviation, Anneal}
+use Rattle.command_core.specs.declared.commands.Command.TheVariants.{Load, Add, Add1, Withdraw, Pin, Unpin, Build, Search, Deviation, Anneal}
 use Rattle.command_core.proofs.AddLemmas.{single_is_request, pair_is_request, IsNext, new_problem, same_at_live}
 use Rattle.command_core.proofs.PassLemmas.{passes_same, all_feasible_same, numbers_live, routes_live, pins_live}
 use Rattle.command_core.proofs.PinLemmas.{none_feasible, none_all_feasible, none_passes, set_all, unpinned_passes, pinned_passes}
@@ -191,7 +191,6 @@ module _ (laws : LowerLaws) (j : JobValue) (is : IsJob j) where
       let good = placed_all_passes j.problem j.pins (unplanned_names j.problem j.plan) j.plan (is.plan) in
       with_plans j is _ _ good good j.steps (is.steps)
   job_keeps_facts (Search count) command none = let t = asked _ _ _ none in searched_job count (leb-true (j.steps + count) (2 ^ 60) (asked_last _ _ t.1))
-  job_keeps_facts Checkpoint command none = is
   job_keeps_facts (Deviation d) command none = record {
     problem = is.problem;
     fleet = is.fleet;
@@ -203,17 +202,9 @@ module _ (laws : LowerLaws) (j : JobValue) (is : IsJob j) where
     steps = is.steps;
   }
   job_keeps_facts (Anneal count) command none = let t = asked _ _ _ none in annealed_job count (leb-true (j.steps + count) (2 ^ 60) (asked_last _ _ t.1))
+  job_keeps_facts c command none = is
 
 pub effects_keep_facts : LowerLaws → EffectsKeepFacts
 effects_keep_facts laws (Loaded j) c is command none = job_keeps_facts laws j is c command none
 effects_keep_facts laws Empty (Load p seed) is command none = loaded_job p seed command.0 command.1
-effects_keep_facts laws Empty (Add q a b) is command none = tt
-effects_keep_facts laws Empty (Add1 q s) is command none = tt
-effects_keep_facts laws Empty (Withdraw name) is command none = tt
-effects_keep_facts laws Empty (Pin v k) is command none = tt
-effects_keep_facts laws Empty (Unpin v) is command none = tt
-effects_keep_facts laws Empty Build is command none = tt
-effects_keep_facts laws Empty (Search count) is command none = tt
-effects_keep_facts laws Empty Checkpoint is command none = tt
-effects_keep_facts laws Empty (Deviation d) is command none = tt
-effects_keep_facts laws Empty (Anneal count) is command none = tt
+effects_keep_facts laws Empty c is command none = tt

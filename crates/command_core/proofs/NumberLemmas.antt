@@ -1,29 +1,21 @@
--- Next numbers rise, and what an accepted command asks fits a record.
-use Rattle.std.proofs.Common.{◌≡◌, ℕ, ◌≤◌, Bool, true, false, not, cond, List, [], ◌∷◌, ◌++◌, Option, Some, None, refl, arith}
+-- Next numbers rise, what an accepted command asks fits a record, and its steps are counted.
+use Rattle.std.proofs.Common.{◌≡◌, ℕ, ◌+◌, ◌≤◌, nat_le, Bool, true, false, not, cond, List, [], ◌∷◌, ◌++◌, Option, Some, None, refl, arith}
 use Rattle.std.specs.List.{list_all}
-use Rattle.std.proofs.lemmas.Bool.{and_parts}
+use Rattle.std.proofs.lemmas.Bool.{and_parts, leb-true}
 use Rattle.command_core.specs.Job.{JobValue}
 use Rattle.command_core.specs.Effects.{job_after}
-use Rattle.command_core.specs.Runs.{is_load, given_by, given_by_all}
+use Rattle.command_core.specs.Commands.{is_load, given_by, steps_of, is_recorded, fits_record}
+use Rattle.command_core.specs.Runs.{given_by_all}
 use Rattle.command_core.specs.RunLaws.{NextNumbersRise, RiseFrom, GivenNumbersAreNew, AcceptedFitRecords}
 use Rattle.command_core.specs.declared.states.State.TheVariants.{Empty, Loaded}
 use Rattle.command_core.specs.declared.refusals.Refusal.{Refusal}
 use Rattle.command_core.specs.declared.refusals.Refusal.TheVariants.{Range}
 use Rattle.command_core.specs.declared.commands.Command.{Command}
-use Rattle.command_core.specs.declared.commands.Command.TheVariants.{Load, Add, Add1, Withdraw, Pin, Unpin, Build, Search, Checkpoint, Deviation, Anneal}
+use Rattle.command_core.specs.declared.commands.Command.TheVariants.{Load, Add, Add1, Withdraw, Pin, Unpin, Build, Search, Deviation, Anneal}
 
 pub next_numbers_rise : NextNumbersRise
 next_numbers_rise j (Load p seed) not_load = absurd (let h : true ≡ false = not_load in cc)
-next_numbers_rise j (Add q a b) not_load = omega arith
-next_numbers_rise j (Add1 q s) not_load = omega arith
-next_numbers_rise j (Withdraw name) not_load = omega arith
-next_numbers_rise j (Pin v k) not_load = omega arith
-next_numbers_rise j (Unpin v) not_load = omega arith
-next_numbers_rise j Build not_load = omega arith
-next_numbers_rise j (Search count) not_load = omega arith
-next_numbers_rise j Checkpoint not_load = omega arith
-next_numbers_rise j (Deviation d) not_load = omega arith
-next_numbers_rise j (Anneal count) not_load = omega arith
+next_numbers_rise j c not_load = omega arith
 
 rise_from_less : (n m : ℕ) (xs : List ℕ) → n ≤ m → RiseFrom m xs → RiseFrom n xs
 rise_from_less n m [] less rise = tt
@@ -34,14 +26,7 @@ given_first : (j : JobValue) (c : Command) (xs : List ℕ) → is_load c ≡ fal
 given_first j (Load p seed) xs not_load rise = absurd (let h : true ≡ false = not_load in cc)
 given_first j (Add q a b) xs not_load rise = (omega arith, (omega arith, rise_from_less _ _ xs (omega arith) rise))
 given_first j (Add1 q s) xs not_load rise = (omega arith, rise_from_less _ _ xs (omega arith) rise)
-given_first j (Withdraw name) xs not_load rise = rise
-given_first j (Pin v k) xs not_load rise = rise
-given_first j (Unpin v) xs not_load rise = rise
-given_first j Build xs not_load rise = rise
-given_first j (Search count) xs not_load rise = rise
-given_first j Checkpoint xs not_load rise = rise
-given_first j (Deviation d) xs not_load rise = rise
-given_first j (Anneal count) xs not_load rise = rise
+given_first j c xs not_load rise = rise
 
 falls : (b : Bool) → not b ≡ true → b ≡ false
 falls false is = refl
@@ -63,7 +48,6 @@ asked_alone true none = refl
 asked_alone false none = absurd (let h : Some Range ≡ None = none in cc)
 
 pub accepted_fit_records : AcceptedFitRecords
-accepted_fit_records (Loaded j) (Load p seed) none recorded = absurd (let h : false ≡ true = recorded in cc)
 accepted_fit_records (Loaded j) (Add q a b) none recorded = asked_first _ _ none
 accepted_fit_records (Loaded j) (Add1 q s) none recorded = asked_first _ _ none
 accepted_fit_records (Loaded j) (Withdraw name) none recorded = refl
@@ -71,17 +55,26 @@ accepted_fit_records (Loaded j) (Pin v k) none recorded = refl
 accepted_fit_records (Loaded j) (Unpin v) none recorded = refl
 accepted_fit_records (Loaded j) Build none recorded = refl
 accepted_fit_records (Loaded j) (Search count) none recorded = asked_first _ _ none
-accepted_fit_records (Loaded j) Checkpoint none recorded = absurd (let h : false ≡ true = recorded in cc)
 accepted_fit_records (Loaded j) (Deviation d) none recorded = asked_alone _ none
-accepted_fit_records (Loaded j) (Anneal count) none recorded = absurd (let h : false ≡ true = recorded in cc)
+accepted_fit_records (Loaded j) c none recorded = absurd (let h : false ≡ true = recorded in cc)
 accepted_fit_records Empty (Load p seed) none recorded = absurd (let h : false ≡ true = recorded in cc)
-accepted_fit_records Empty (Add q a b) none recorded = absurd (let h = none in cc)
-accepted_fit_records Empty (Add1 q s) none recorded = absurd (let h = none in cc)
-accepted_fit_records Empty (Withdraw name) none recorded = refl
-accepted_fit_records Empty (Pin v k) none recorded = refl
-accepted_fit_records Empty (Unpin v) none recorded = refl
-accepted_fit_records Empty Build none recorded = refl
-accepted_fit_records Empty (Search count) none recorded = absurd (let h = none in cc)
-accepted_fit_records Empty Checkpoint none recorded = absurd (let h : false ≡ true = recorded in cc)
-accepted_fit_records Empty (Deviation d) none recorded = absurd (let h = none in cc)
-accepted_fit_records Empty (Anneal count) none recorded = absurd (let h : false ≡ true = recorded in cc)
+accepted_fit_records Empty c none recorded = absurd (let h = none in cc)
+
+-- ---- steps
+
+-- a command but Load adds its steps to those made
+pub steps_counted : (j : JobValue) (c : Command) → is_load c ≡ false → (job_after j c).steps ≡ j.steps + steps_of c
+steps_counted j (Load p seed) not_load = absurd (let h : true ≡ false = not_load in cc)
+steps_counted j (Search count) not_load = refl
+steps_counted j (Anneal count) not_load = refl
+steps_counted j c not_load = omega arith
+
+pub recorded_no_load : (c : Command) → is_recorded c ≡ true → is_load c ≡ false
+recorded_no_load (Load p seed) recorded = absurd (let h : false ≡ true = recorded in cc)
+recorded_no_load c recorded = refl
+
+-- one that has a record makes 256 at most
+pub few_recorded : (c : Command) → is_recorded c ≡ true → fits_record c ≡ true → steps_of c ≤ 256
+few_recorded (Search count) recorded fits = leb-true count 256 (and_parts (nat_le 1 count) (nat_le count 256) fits).1
+few_recorded (Anneal count) recorded fits = absurd (let h : false ≡ true = recorded in cc)
+few_recorded c recorded fits = omega arith

@@ -8,13 +8,14 @@ use Rattle.seeded_search.specs.StepLaws.{IncumbentsNeverCostMore}
 use Rattle.anneal_search.specs.AnnealLaws.{AnnealedNeverCostMore}
 use Rattle.command_core.specs.Effects.{effect}
 use Rattle.command_core.specs.Refusing.{refusal}
-use Rattle.command_core.specs.Runs.{after, AreAccepted, changes_requests, changes_pins, is_change, last_change}
+use Rattle.command_core.specs.Commands.{changes_requests, changes_pins, is_change}
+use Rattle.command_core.specs.Runs.{after, AreAccepted, last_change}
 use Rattle.command_core.specs.RunLaws.{EffectsKeepFacts, RunsKeepFacts, IsNoWorse, CostsNeverRise, HaveSamePins, PlansNeverCostMore}
 use Rattle.command_core.specs.declared.states.State.{State}
 use Rattle.command_core.specs.declared.states.State.TheVariants.{Empty, Loaded}
 use Rattle.command_core.specs.declared.refusals.Refusal.{Refusal}
 use Rattle.command_core.specs.declared.commands.Command.{Command}
-use Rattle.command_core.specs.declared.commands.Command.TheVariants.{Load, Add, Add1, Withdraw, Pin, Unpin, Build, Search, Checkpoint, Deviation, Anneal}
+use Rattle.command_core.specs.declared.commands.Command.TheVariants.{Load, Add, Add1, Withdraw, Pin, Unpin, Build, Search, Anneal}
 use Rattle.command_core.proofs.PlacedLemmas.{same_cost, placed_all_cost}
 
 pub runs_keep_facts : EffectsKeepFacts → RunsKeepFacts
@@ -30,16 +31,7 @@ refused r h = absurd (let g = h in cc)
 -- before the first Load no other command is accepted
 not_loaded : {X : Type 0} (c : Command) → refusal Empty c ≡ None → changes_requests c ≡ false → X
 not_loaded (Load p seed) none kept = clash kept
-not_loaded (Add q a b) none kept = refused _ none
-not_loaded (Add1 q s) none kept = refused _ none
-not_loaded (Withdraw name) none kept = refused _ none
-not_loaded (Pin v k) none kept = refused _ none
-not_loaded (Unpin v) none kept = refused _ none
-not_loaded Build none kept = refused _ none
-not_loaded (Search count) none kept = refused _ none
-not_loaded Checkpoint none kept = refused _ none
-not_loaded (Deviation d) none kept = refused _ none
-not_loaded (Anneal count) none kept = refused _ none
+not_loaded c none kept = refused _ none
 
 module _ (total : CostsAreTotal) (transitive : CostsAreTransitive) (below : BelowIsAtMost) (search : IncumbentsNeverCostMore) (anneal : AnnealedNeverCostMore) where
   pub costs_never_rise : CostsNeverRise
@@ -47,15 +39,12 @@ module _ (total : CostsAreTotal) (transitive : CostsAreTransitive) (below : Belo
   costs_never_rise (Loaded j) (Add q a b) none kept = clash kept
   costs_never_rise (Loaded j) (Add1 q s) none kept = clash kept
   costs_never_rise (Loaded j) (Withdraw name) none kept = clash kept
-  costs_never_rise (Loaded j) (Pin v k) none kept = record { problem = refl; cost = same_cost total transitive below j.problem j.pins j.plan }
-  costs_never_rise (Loaded j) (Unpin v) none kept = record { problem = refl; cost = same_cost total transitive below j.problem j.pins j.plan }
   costs_never_rise (Loaded j) Build none kept = record { problem = refl; cost = placed_all_cost total transitive below j.problem j.pins (unplanned_names j.problem j.plan) j.plan }
   costs_never_rise (Loaded j) (Search count) none kept =
       record { problem = refl; cost = search j.problem j.pins j.deviation j.seed j.steps count (record { incumbent = j.plan; working = j.work }) }
-  costs_never_rise (Loaded j) Checkpoint none kept = record { problem = refl; cost = same_cost total transitive below j.problem j.pins j.plan }
-  costs_never_rise (Loaded j) (Deviation d) none kept = record { problem = refl; cost = same_cost total transitive below j.problem j.pins j.plan }
   costs_never_rise (Loaded j) (Anneal count) none kept =
       record { problem = refl; cost = anneal j.problem j.pins j.deviation j.seed j.steps count (record { incumbent = j.plan; working = j.work }) }
+  costs_never_rise (Loaded j) c none kept = record { problem = refl; cost = same_cost total transitive below j.problem j.pins j.plan }
   costs_never_rise Empty c none kept = not_loaded c none kept
 
   -- as good, with the same pins
@@ -93,11 +82,7 @@ module _ (total : CostsAreTotal) (transitive : CostsAreTransitive) (below : Belo
   pins_kept (Loaded j) (Withdraw name) none kept = clash kept
   pins_kept (Loaded j) (Pin v k) none kept = clash kept
   pins_kept (Loaded j) (Unpin v) none kept = clash kept
-  pins_kept (Loaded j) Build none kept = refl
-  pins_kept (Loaded j) (Search count) none kept = refl
-  pins_kept (Loaded j) Checkpoint none kept = refl
-  pins_kept (Loaded j) (Deviation d) none kept = refl
-  pins_kept (Loaded j) (Anneal count) none kept = refl
+  pins_kept (Loaded j) c none kept = refl
   pins_kept Empty c none kept = not_loaded c none (neither (changes_requests c) (changes_pins c) kept).0
 
   one_kept : (s : State) (c : Command) → refusal s c ≡ None → is_change c ≡ false → IsAsGood s (effect s c)

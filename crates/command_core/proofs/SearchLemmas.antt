@@ -10,11 +10,12 @@ use Rattle.anneal_search.specs.AnnealLaws.{AnnealStepsAddUp}
 use Rattle.anneal_search.specs.Annealing.{anneal_steps}
 use Rattle.command_core.specs.Job.{JobValue}
 use Rattle.command_core.specs.Effects.{searched, annealed, job_after}
-use Rattle.command_core.specs.Runs.{after, is_annealing, is_searching, steps_of}
+use Rattle.command_core.specs.Commands.{is_annealing, is_searching, steps_of}
+use Rattle.command_core.specs.Runs.{after}
 use Rattle.command_core.specs.RunLaws.{SearchesAddUp, RunsAreOneSearch, AnnealingsAddUp, RunsAreOneAnnealing}
 use Rattle.command_core.specs.declared.states.State.TheVariants.{Loaded}
 use Rattle.command_core.specs.declared.commands.Command.{Command}
-use Rattle.command_core.specs.declared.commands.Command.TheVariants.{Load, Add, Add1, Withdraw, Pin, Unpin, Build, Search, Checkpoint, Deviation, Anneal}
+use Rattle.command_core.specs.declared.commands.Command.TheVariants.{Search, Checkpoint, Anneal}
 
 -- a job with other plans and another number of steps
 abbrev walked_on : JobValue → Walked → ℕ → JobValue
@@ -55,17 +56,10 @@ abbrev Makes : Command → (Command → Bool) → (JobValue → ℕ → JobValue
 Makes c is_one made = is_one c ≡ true → (j : JobValue) → job_after j c ≡ made j (steps_of c)
 
 makes : (c : Command) → Makes c is_searching searched × Makes c is_annealing annealed
-makes (Load p seed) = (λ no. clash no, λ no. clash no)
-makes (Add q a b) = (λ no. clash no, λ no. clash no)
-makes (Add1 q s) = (λ no. clash no, λ no. clash no)
-makes (Withdraw name) = (λ no. clash no, λ no. clash no)
-makes (Pin v k) = (λ no. clash no, λ no. clash no)
-makes (Unpin v) = (λ no. clash no, λ no. clash no)
-makes Build = (λ no. clash no, λ no. clash no)
 makes (Search count) = (λ yes j. refl, λ no. clash no)
 makes Checkpoint = (λ yes j. sym (no_search j), λ yes j. sym (no_annealing j))
-makes (Deviation d) = (λ no. clash no, λ no. clash no)
 makes (Anneal count) = (λ no. clash no, λ yes j. refl)
+makes c = (λ no. clash no, λ no. clash no)
 
 module _ (is_one : Command → Bool) (made : JobValue → ℕ → JobValue) (one : (c : Command) → Makes c is_one made) (none : (j : JobValue) → made j 0 ≡ j)
     (add_up : (j : JobValue) (a b : ℕ) → made (made j a) b ≡ made j (a + b)) where

@@ -1,5 +1,6 @@
 -- what public contracts reach
 pub mod Changes
+pub mod Commands
 pub mod Effects
 pub mod Job
 pub mod Names

@@ -6,7 +6,8 @@ use Rattle.route_sched.specs.Cost.{cost_of}
 use Rattle.command_core.specs.Job.{JobValue}
 use Rattle.command_core.specs.Effects.{searched, annealed, job_after, effect}
 use Rattle.command_core.specs.Refusing.{refusal}
-use Rattle.command_core.specs.Runs.{IsState, IsCommand, after, AreAccepted, changes_requests, last_change, is_load, given_by_all, is_searching, is_annealing, steps_of, is_recorded, fits_record}
+use Rattle.command_core.specs.Commands.{IsCommand, changes_requests, is_load, is_searching, is_annealing, steps_of, is_recorded, fits_record}
+use Rattle.command_core.specs.Runs.{IsState, after, AreAccepted, last_change, given_by_all}
 use Rattle.command_core.specs.declared.states.State.{State}
 use Rattle.command_core.specs.declared.states.State.TheVariants.{Empty, Loaded}
 use Rattle.command_core.specs.declared.commands.Command.{Command}

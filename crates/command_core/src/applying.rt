@@ -4,7 +4,8 @@ ghost use Rattle.command_core.specs.Kept.{IsKept, IsWalkOf, IsStepped, IsCarried
 ghost use Rattle.command_core.specs.Changes.{with_change};
 ghost use Rattle.command_core.specs.Effects.{job_after, effect};
 ghost use Rattle.command_core.specs.Refusing.{job_refusal, refusal};
-ghost use Rattle.command_core.specs.Runs.{IsState, IsCommand};
+ghost use Rattle.command_core.specs.Commands.{IsCommand};
+ghost use Rattle.command_core.specs.Runs.{IsState};
 
 use crate::adding::{add, add_single};
 use crate::changes::{Change, JobChange};

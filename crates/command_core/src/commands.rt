@@ -1,4 +1,7 @@
-//! What a planner is asked to do.
+//! What a planner is asked to do, and what is said of a command whatever the state.
+ghost use Rattle.std.specs.Prelude.{◌≡◌, ◌≤◌};
+ghost use Rattle.command_core.specs.Commands.{is_recorded, makes_steps, steps_of, stops_added};
+
 use plan_types::Problem;
 
 /// Where a new stop lies, and when and how long it is served: a stop but for its number and demand. To drive a distance
@@ -48,4 +51,54 @@ pub enum Command {
     Deviation(u32),
     /// So many annealing steps, 1..=65,536. A store writes the whole state.
     Anneal(u32),
+}
+
+impl Command {
+    /// Whether a store writes the command down as it is, in a record of its journal. Of any other command it writes the state that it
+    /// leaves, a snapshot.
+    pub fn is_recorded(&self) -> bool
+        ensures { result ≡ is_recorded self.now }
+    {
+        match self {
+            Command::Load(..) | Command::Checkpoint | Command::Anneal(_) => false,
+            Command::Add { .. }
+            | Command::Add1 { .. }
+            | Command::Withdraw(_)
+            | Command::Pin(..)
+            | Command::Unpin(_)
+            | Command::Build
+            | Command::Search(_)
+            | Command::Deviation(_) => true,
+        }
+    }
+
+    /// How many steps it makes, of the search or of annealing.
+    pub fn steps(&self) -> u64
+        ensures { result ≡ steps_of self.now }
+    {
+        match self {
+            Command::Search(count) => u64::from(*count),
+            Command::Anneal(count) => u64::from(*count),
+            _ => 0,
+        }
+    }
+
+    /// Whether it makes steps, so that a line tells how far they are.
+    pub fn makes_steps(&self) -> bool
+        ensures { result ≡ makes_steps self.now }
+    {
+        matches!(self, Command::Search(_) | Command::Anneal(_))
+    }
+
+    /// How many stops it adds.
+    pub fn stops_added(&self) -> u32
+        ensures added { result ≡ stops_added self.now }
+        ensures few { result ≤ 2 }
+    {
+        match self {
+            Command::Add { .. } => 2,
+            Command::Add1 { .. } => 1,
+            _ => 0,
+        }
+    }
 }

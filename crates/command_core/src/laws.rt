@@ -68,7 +68,7 @@ pub fn given_numbers_are_new()
     ensures given { GivenNumbersAreNew }
 {}
 
-/// An accepted command other than Load, Checkpoint and Anneal has fields that a record holds.
+/// An accepted command that a store writes down as it is has fields that a record holds.
 pub fn accepted_commands_fit_records()
     ensures { AcceptedFitRecords }
 {}

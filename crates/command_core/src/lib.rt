@@ -15,7 +15,7 @@
 //!
 //! Modules, in reading order:
 //! - `limits`: the limits of commands and states
-//! - `commands`: `Command`, and where a new stop lies
+//! - `commands`: `Command`, what is said of each whatever the state, and where a new stop lies
 //! - `states`: `State`, and the `Job` that a loaded state holds
 //! - `refusals`: why a command is refused
 //! - `lists`: routes and pins of vehicles
@@ -28,12 +28,15 @@
 //! - `placing`, `planning`, `walking`: `Build` and `Deviation`, `Search` and `Anneal`
 //! - `laws`: what commands keep
 //!
-//! Said by `specs/Job.antt`, `Effects.antt`, `Refusing.antt`, `Runs.antt`, `RunLaws.antt` and `Changes.antt`. Proved:
+//! Said by `specs/Job.antt`, `Commands.antt`, `Effects.antt`, `Refusing.antt`, `Runs.antt`, `RunLaws.antt` and `Changes.antt`.
+//! Proved:
 //! - `Job` (its type's invariant): plan and working plan pass with the pins, each pin alone is a feasible route,
 //!   deviation and steps keep their limits
+//! - `is_recorded`, `steps`, `makes_steps`, `stops_added` of a `Command`: what its definition says
 //! - `check`: the first cause for a refusal (`refusal`), without memory
 //! - `apply`: `ok`, the state that the command makes (`effect`); `err`, that refusal, or want of memory
 //! - `Planner::change`: the same in its place, and what leads back (`IsChanged`); refused, the state stays (`kept`).
+//!   `change_accepted`: of a command that `check` has accepted, which is not judged again
 //!   `put_back`: what stood before. A walk that is kept is one of the state's plans (its type's invariant)
 //! - `unplanned_names`: the names of the requests without a stop in any route, rising
 //! - `effects_keep_facts`: what accepted commands make of a state keeps the facts of a `Job`
@@ -42,8 +45,7 @@
 //! - `searches_add_up`, `annealings_add_up`: searches, however cut, are one search of all their steps, annealings one
 //!   annealing
 //! - `given_numbers_are_new`: no stop number is given twice, unless a `Load` begins anew
-//! - `accepted_commands_fit_records`: an accepted command but `Load`, `Checkpoint` and `Anneal` fits a record of a
-//!   journal
+//! - `accepted_commands_fit_records`: an accepted command that has a record (`is_recorded`) fits it
 #![tactic(auto)]
 
 mod adding;

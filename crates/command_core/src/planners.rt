@@ -69,9 +69,23 @@ impl Planner {
             ⊎ ((refusal self.old command.now ≡ None) × (r ≡ Refusal.OutOfMemory))) }
         ensures kept { IfErr result (λ _. self.new ≡ self.old) }
     {
+        check(&self.state, command)?;
+        self.change_accepted(alloc, command)
+    }
+
+    /// The same of a command that `check` accepts, which is not judged again.
+    ///
+    /// # Errors
+    ///
+    /// `OutOfMemory`. The state is then as it was.
+    pub fn change_accepted(&mut self, alloc: Global, command: &Command) -> Result<Change, Refusal>
+        requires { refusal self.old command.now ≡ None }
+        ensures ok { IfOk result (λ before. IsChanged self.old command.now before self.new) }
+        ensures err { IfErr result (λ r. r ≡ Refusal.OutOfMemory) }
+        ensures kept { IfErr result (λ _. self.new ≡ self.old) }
+    {
         effects_keep_facts();
         know(&self.state, command);
-        check(&self.state, command)?;
         let kept = mem::replace(&mut self.walk, None);
         let Carried { change, walk } = carry_out(alloc, &self.state, kept, command)?;
         self.walk = walk;

@@ -4,7 +4,7 @@ ghost use Rattle.seeded_search.specs.Working.{IsWalk};
 ghost use Rattle.command_core.specs.Kept.{IsWalkOf, IsStepped, walked_on, asked_for};
 ghost use Rattle.command_core.specs.Effects.{job_after};
 ghost use Rattle.command_core.specs.Refusing.{job_refusal};
-ghost use Rattle.command_core.specs.Runs.{steps_of};
+ghost use Rattle.command_core.specs.Commands.{steps_of};
 
 use crate::changes::JobChange;
 use crate::refusals::Refusal;

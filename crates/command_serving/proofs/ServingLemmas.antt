@@ -2,12 +2,13 @@
 use Rattle.std.proofs.Common.{◌≡◌, ◌∙◌, ℕ, Bool, true, false, List, [], ◌∷◌, ◌++◌, ◌⊎◌, inl, inr, Option, Some, None, Result, Ok, Err, refl, sym, ap, ap₂, subst, arith, append_assoc, append-nil}
 use Rattle.std.specs.Prelude.{if◌then◌else◌}
 use Rattle.std.specs.Option.{option_map, option_or}
+use Rattle.command_core.specs.Commands.{makes_steps}
 use Rattle.command_core.specs.Effects.{effect}
 use Rattle.command_core.specs.Refusing.{refusal}
 use Rattle.command_core.specs.declared.commands.Command.{Command}
 use Rattle.command_core.specs.declared.refusals.Refusal.{Refusal}
 use Rattle.command_core.specs.declared.refusals.Refusal.TheVariants as core
-use Rattle.command_text.specs.Answering.{Fate, Done, NoMemory, Failed, Reply, Serving, answered, at_line, by_fate, carried, carried_all, commands_of, made_or, makes_steps, next_fate, plain, steps_to_make, told_behind, tried, unless_broken, with_command, with_text}
+use Rattle.command_text.specs.Answering.{Fate, Done, NoMemory, Failed, Reply, Serving, answered, at_line, by_fate, carried, carried_all, commands_of, made_or, next_fate, plain, steps_to_make, told_behind, tried, unless_broken, with_command, with_text}
 use Rattle.command_core.specs.declared.states.State.{State}
 use Rattle.command_text.specs.Answering.{Spent as SpentFate}
 use Rattle.command_text.specs.Answers.{answer_text, line}

@@ -19,9 +19,9 @@ use crate::input::{Input, LoadText, Unread};
 use crate::streams::{Failed, Sink, Source};
 use command_core::{Command, Job, Refusal, State};
 use command_text::{
-    Answer, Asked, Goal, Question, Steps, Text, at_line, help_lines, makes_steps, next_command,
-    next_line, pieces_follow, print, question_refusal, question_text, read_instance, show,
-    states_follow, steps_to_make,
+    Answer, Asked, Goal, Question, Steps, Text, at_line, help_lines, next_command, next_line,
+    pieces_follow, print, question_refusal, question_text, read_instance, show, states_follow,
+    steps_to_make,
 };
 use plan_types::Kind;
 use recover::{Denial, Reply, Session, runs_add_up};
@@ -448,7 +448,7 @@ fn make_steps<D: Sectors, W: Sink>(
 {
     let mut left = steps;
     while let Some((command, rest)) = next_command(left, session.state()) {
-        let is_told = makes_steps(&command);
+        let is_told = command.makes_steps();
         if let Err(denial) = apply(alloc, session, command).answer {
             return tell(session, writer, denied(denial));
         }

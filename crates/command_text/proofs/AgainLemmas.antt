@@ -12,7 +12,7 @@ use Rattle.command_core.specs.Job.{JobValue}
 use Rattle.command_core.specs.Refusing.{refusal}
 use Rattle.command_core.specs.Runs.{AreAccepted, after}
 use Rattle.command_core.specs.declared.commands.Command.{Command}
-use Rattle.command_core.specs.declared.commands.Command.TheVariants.{Load, Add, Add1, Withdraw, Pin, Unpin, Build, Search, Checkpoint, Deviation, Anneal}
+use Rattle.command_core.specs.declared.commands.Command.TheVariants.{Deviation, Anneal}
 use Rattle.command_core.specs.declared.refusals.Refusal.{Refusal}
 use Rattle.command_core.specs.declared.refusals.Refusal.TheVariants.{Range}
 use Rattle.command_core.specs.declared.states.State.{State}
@@ -91,15 +91,7 @@ grown zero cs j all = record { job = j; is = refl; steps = omega arith }
 grown (suc count) [] j all = record { job = j; is = refl; steps = omega arith }
 grown (suc count) (Deviation d ∷ cs) j all = let r = grown count cs (with_deviation j d) all in record { job = r.job; is = r.is; steps = r.steps }
 grown (suc count) (Anneal n ∷ cs) j all = let r = grown count cs (annealed j n) all in let more = r.steps in record { job = r.job; is = r.is; steps = omega (arith, more) }
-grown (suc count) (Load p seed ∷ cs) j all = never all
-grown (suc count) (Add q a b ∷ cs) j all = never all
-grown (suc count) (Add1 q s ∷ cs) j all = never all
-grown (suc count) (Withdraw name ∷ cs) j all = never all
-grown (suc count) (Pin v k ∷ cs) j all = never all
-grown (suc count) (Unpin v ∷ cs) j all = never all
-grown (suc count) (Build ∷ cs) j all = never all
-grown (suc count) (Search n ∷ cs) j all = never all
-grown (suc count) (Checkpoint ∷ cs) j all = never all
+grown (suc count) (c ∷ cs) j all = never all
 
 share_most : (p : Instance) (routes : List (List ℕ)) (c : ℕ) → share p routes c ≤ 1000000000
 share_most p routes c = at (length (numbers_among p.requests) == 0)

@@ -3,6 +3,7 @@ use Rattle.std.specs.Prelude.{ℕ, ◌+◌, ◌-◌, ◌/◌, ◌%◌, ◌^◌, 
 use Rattle.plan_types.specs.Instance.{Instance}
 use Rattle.route_sched.specs.Cost.{unplanned_count}
 use Rattle.instance_read.specs.declared.faults.ReadFault.{ReadFault}
+use Rattle.command_core.specs.Commands.{makes_steps}
 use Rattle.command_core.specs.Effects.{effect}
 use Rattle.command_core.specs.Job.{JobValue}
 use Rattle.command_core.specs.Refusing.{refusal}
@@ -98,11 +99,6 @@ plain s c = carried s c (λ t. answered t answer.Ok)
 abbrev pub at_line : State → List ℕ
 at_line Empty = []
 at_line (Loaded j) = line (at_text j)
-
-abbrev pub makes_steps : Command → Bool
-makes_steps (command.Search n) = true
-makes_steps (command.Anneal n) = true
-makes_steps _ = false
 
 -- behind a command that makes steps, a line tells how far they are
 abbrev pub told_behind : Command → State → List ℕ

@@ -3,13 +3,16 @@ ghost use Rattle.std.specs.Prelude.{◌≡◌};
 ghost use Rattle.std.specs.Option.{option_map_or};
 ghost use Rattle.text_lines.specs.Words.{words_of};
 ghost use Rattle.text_lines.specs.Numbers.{below};
-ghost use Rattle.command_text.specs.Asking.{add1_of, add_of, anneal_of, asked, bare_asked, begins_load, count_of, double_asked, fields_of, load_asked, load_of, load_within, numbers_asked, pin_of, plain_or, reach_of, search_of, single_asked, spot_asked, spot_of, spots_asked, stages_of, steps_or, verb_asked, words_asked};
+ghost use Rattle.command_text.specs.Asking.{asked, begins_load, fields_of, load_asked, load_of, load_within, numbers_asked, verb_asked, words_asked};
 
 use crate::fields::{Field, Fields, integers};
 use crate::questions::Question;
 use crate::steps::Goal;
-use crate::verbs::{Verb, is_word, kind_named, verb_named};
-use command_core::{Command, MAX_STEPS, Refusal, Spot};
+use crate::verbs::{
+    Verb, bare_asked, double_asked, is_word, kind_named, single_asked, spot_asked, spot_of,
+    spots_asked, verb_named,
+};
+use command_core::{Command, Refusal};
 use plan_types::Kind;
 use text_lines::Words;
 
@@ -119,174 +122,6 @@ fn numbers_asked(verb: Verb, fields: &[Field]) -> Asked
             spot_of(x2, y2, e2, l2, s2),
         ),
         _ => Asked::BadLine,
-    }
-}
-
-fn bare_asked(verb: Verb) -> Asked
-    ensures { result ≡ bare_asked verb }
-{
-    match verb {
-        Verb::Build => Asked::Plain(Command::Build),
-        Verb::Checkpoint => Asked::Plain(Command::Checkpoint),
-        Verb::Print => Asked::Print,
-        Verb::Show => Asked::Show,
-        Verb::Timetable => Asked::Tell(Question::Timetable),
-        Verb::Next => Asked::Next,
-        Verb::Help => Asked::Help,
-        _ => Asked::BadLine,
-    }
-}
-
-fn single_asked(verb: Verb, number: &Field) -> Asked
-    ensures { result ≡ single_asked verb number.now }
-{
-    match verb {
-        Verb::Withdraw => match number.as_u32() {
-            Some(name) => Asked::Plain(Command::Withdraw(name)),
-            None => Asked::Refused(Refusal::NoSuchRequest),
-        },
-        Verb::Unpin => match number.as_u32() {
-            Some(vehicle) => Asked::Plain(Command::Unpin(vehicle)),
-            None => Asked::Refused(Refusal::NoSuchPlace),
-        },
-        Verb::Timetable => match number.as_u32() {
-            Some(vehicle) => Asked::Tell(Question::VehicleTimetable(vehicle)),
-            None => Asked::Refused(Refusal::Range),
-        },
-        Verb::Why => match number.as_u32() {
-            Some(name) => Asked::Tell(Question::Why(name)),
-            None => Asked::Refused(Refusal::NoSuchRequest),
-        },
-        Verb::Search => steps_or(search_of(number.unsigned)),
-        Verb::Reach => steps_or(reach_of(number.unsigned)),
-        Verb::Anneal => steps_or(anneal_of(number.unsigned)),
-        Verb::Deviation => match number.as_u32() {
-            Some(deviation) => Asked::Plain(Command::Deviation(deviation)),
-            None => Asked::Refused(Refusal::Range),
-        },
-        _ => Asked::BadLine,
-    }
-}
-
-fn double_asked(verb: Verb, first: &Field, second: &Field) -> Asked
-    ensures { result ≡ double_asked verb first.now second.now }
-{
-    match verb {
-        Verb::Pin => plain_or(Refusal::NoSuchPlace, pin_of(first, second)),
-        Verb::Anneal => steps_or(stages_of(first.unsigned, second.unsigned)),
-        _ => Asked::BadLine,
-    }
-}
-
-fn spot_asked(verb: Verb, demand: &Field, spot: Option<Spot>) -> Asked
-    ensures { result ≡ spot_asked verb demand.now spot }
-{
-    match verb {
-        Verb::Add1 => plain_or(Refusal::Range, add1_of(demand, spot)),
-        _ => Asked::BadLine,
-    }
-}
-
-fn spots_asked(verb: Verb, demand: &Field, pickup: Option<Spot>, delivery: Option<Spot>) -> Asked
-    ensures { result ≡ spots_asked verb demand.now pickup delivery }
-{
-    match verb {
-        Verb::Add => plain_or(Refusal::Range, add_of(demand, pickup, delivery)),
-        _ => Asked::BadLine,
-    }
-}
-
-fn plain_or(refusal: Refusal, command: Option<Command>) -> Asked
-    ensures { result ≡ plain_or refusal command }
-{
-    match command {
-        Some(command) => Asked::Plain(command),
-        None => Asked::Refused(refusal),
-    }
-}
-
-fn spot_of(x: &Field, y: &Field, earliest: &Field, latest: &Field, service: &Field) -> Option<Spot>
-    ensures { result ≡ spot_of x.now y.now earliest.now latest.now service.now }
-{
-    Some(Spot {
-        x: x.signed?,
-        y: y.signed?,
-        earliest: earliest.as_u32()?,
-        latest: latest.as_u32()?,
-        service: service.as_u32()?,
-    })
-}
-
-fn add_of(demand: &Field, pickup: Option<Spot>, delivery: Option<Spot>) -> Option<Command>
-    ensures { result ≡ add_of demand.now pickup delivery }
-{
-    Some(Command::Add {
-        demand: demand.as_u32()?,
-        pickup: pickup?,
-        delivery: delivery?,
-    })
-}
-
-fn add1_of(demand: &Field, spot: Option<Spot>) -> Option<Command>
-    ensures { result ≡ add1_of demand.now spot }
-{
-    Some(Command::Add1 {
-        demand: demand.as_u32()?,
-        spot: spot?,
-    })
-}
-
-fn pin_of(vehicle: &Field, stops: &Field) -> Option<Command>
-    ensures { result ≡ pin_of vehicle.now stops.now }
-{
-    Some(Command::Pin(vehicle.as_u32()?, stops.as_u32()?))
-}
-
-fn steps_or(goal: Option<Goal>) -> Asked
-    ensures { result ≡ steps_or goal }
-{
-    match goal {
-        Some(goal) => Asked::Steps(goal),
-        None => Asked::Refused(Refusal::Range),
-    }
-}
-
-fn search_of(steps: Option<u64>) -> Option<Goal>
-    ensures { result ≡ search_of steps }
-{
-    Some(Goal::Search(count_of(steps)?))
-}
-
-fn anneal_of(steps: Option<u64>) -> Option<Goal>
-    ensures { result ≡ anneal_of steps }
-{
-    Some(Goal::Anneal(count_of(steps)?))
-}
-
-fn reach_of(goal: Option<u64>) -> Option<Goal>
-    ensures { result ≡ reach_of goal }
-{
-    match goal {
-        Some(goal) if goal <= MAX_STEPS => Some(Goal::Reach(goal)),
-        _ => None,
-    }
-}
-
-fn stages_of(from: Option<u64>, to: Option<u64>) -> Option<Goal>
-    ensures { result ≡ stages_of from to }
-{
-    match (from, to) {
-        (Some(from), Some(to)) if from <= to && to <= MAX_STEPS => Some(Goal::Stages { from, to }),
-        _ => None,
-    }
-}
-
-fn count_of(steps: Option<u64>) -> Option<u32>
-    ensures { result ≡ count_of steps }
-{
-    match steps {
-        Some(steps) if 1 <= steps && steps <= MAX_SEARCH => Some(steps as u32),
-        _ => None,
     }
 }
 

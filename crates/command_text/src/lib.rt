@@ -16,9 +16,9 @@
 //! given (`Reading`), with the premise that it tells each text's problem or first fault; there is one.
 //!
 //! Modules, in reading order:
-//! - `verbs`: the names of commands
 //! - `fields`: the numbers of a line
 //! - `asked`: what a line asks for
+//! - `verbs`: the lines but `load`, by their names and numbers
 //! - `first_word`: the first word of a line that comes in parts
 //! - `steps`: how many steps a line makes, and by which commands; `staging`: those of annealing by stages
 //! - `instances`: the text behind a `load` line
@@ -63,4 +63,4 @@ pub use instances::read_instance;
 pub use laws::{pieces_follow, stages_may_be_cut, states_follow, texts_have_a_reading};
 pub use questions::{Question, question_refusal, question_text};
 pub use showing::{Text, print, show};
-pub use steps::{Goal, Steps, makes_steps, next_command, next_count, steps_to_make};
+pub use steps::{Goal, Steps, next_command, next_count, steps_to_make};

@@ -2,7 +2,7 @@
 ghost use Rattle.std.specs.Prelude.{◌≡◌, ◌-◌, ◌≤◌, ◌<◌, [], ◌∷◌, ◌^◌, MatchOption};
 ghost use Rattle.command_core.specs.Effects.{effect};
 ghost use Rattle.command_core.specs.declared.states.State.TheVariants.{Empty, Loaded};
-ghost use Rattle.command_text.specs.Answering.{commands_of, counts_of, makes_steps, stages_to_go, steps_from, steps_to_make, steps_to_reach, unless_spent};
+ghost use Rattle.command_text.specs.Answering.{commands_of, counts_of, stages_to_go, steps_from, steps_to_make, steps_to_reach, unless_spent};
 
 use crate::asked::MAX_SEARCH;
 use crate::staging::{next_in_stage, next_staged};
@@ -126,13 +126,6 @@ fn job_in(state: &State) -> Option<&Job>
         State::Empty => None,
         State::Loaded(job) => Some(job),
     }
-}
-
-/// Whether a command makes steps, so that a line tells how far they are.
-pub fn makes_steps(command: &Command) -> bool
-    ensures { result ≡ makes_steps command.now }
-{
-    matches!(command, Command::Search(_) | Command::Anneal(_))
 }
 
 /// How many steps the next command of a search makes that has so many left: at most 256.

@@ -1,7 +1,12 @@
-//! The names of commands.
+//! The lines but `load`: their names, and what each asks for with its numbers.
 ghost use Rattle.std.specs.Prelude.{◌≡◌, bytes_eq};
-ghost use Rattle.command_text.specs.Asking.{kind_named, verb_named};
+ghost use Rattle.command_text.specs.Asking.{add1_of, add_of, anneal_of, bare_asked, count_of, double_asked, kind_named, pin_of, plain_or, reach_of, search_of, single_asked, spot_asked, spot_of, spots_asked, stages_of, steps_or, verb_named};
 
+use crate::asked::{Asked, MAX_SEARCH};
+use crate::fields::Field;
+use crate::questions::Question;
+use crate::steps::Goal;
+use command_core::{Command, MAX_STEPS, Refusal, Spot};
 use plan_types::Kind;
 
 /// What the first word of a line names.
@@ -103,6 +108,191 @@ pub(crate) fn kind_named(word: &[u8]) -> Option<Kind>
     match word {
         b"lilim" => Some(Kind::LiLim),
         b"vrp" => Some(Kind::Vrp),
+        _ => None,
+    }
+}
+
+/// What a name alone asks for.
+pub(crate) fn bare_asked(verb: Verb) -> Asked
+    ensures { result ≡ bare_asked verb }
+{
+    match verb {
+        Verb::Build => Asked::Plain(Command::Build),
+        Verb::Checkpoint => Asked::Plain(Command::Checkpoint),
+        Verb::Print => Asked::Print,
+        Verb::Show => Asked::Show,
+        Verb::Timetable => Asked::Tell(Question::Timetable),
+        Verb::Next => Asked::Next,
+        Verb::Help => Asked::Help,
+        _ => Asked::BadLine,
+    }
+}
+
+/// With one number: R, V, N or D.
+pub(crate) fn single_asked(verb: Verb, number: &Field) -> Asked
+    ensures { result ≡ single_asked verb number.now }
+{
+    match verb {
+        Verb::Withdraw => match number.as_u32() {
+            Some(name) => Asked::Plain(Command::Withdraw(name)),
+            None => Asked::Refused(Refusal::NoSuchRequest),
+        },
+        Verb::Unpin => match number.as_u32() {
+            Some(vehicle) => Asked::Plain(Command::Unpin(vehicle)),
+            None => Asked::Refused(Refusal::NoSuchPlace),
+        },
+        Verb::Timetable => match number.as_u32() {
+            Some(vehicle) => Asked::Tell(Question::VehicleTimetable(vehicle)),
+            None => Asked::Refused(Refusal::Range),
+        },
+        Verb::Why => match number.as_u32() {
+            Some(name) => Asked::Tell(Question::Why(name)),
+            None => Asked::Refused(Refusal::NoSuchRequest),
+        },
+        Verb::Search => steps_or(search_of(number.unsigned)),
+        Verb::Reach => steps_or(reach_of(number.unsigned)),
+        Verb::Anneal => steps_or(anneal_of(number.unsigned)),
+        Verb::Deviation => match number.as_u32() {
+            Some(deviation) => Asked::Plain(Command::Deviation(deviation)),
+            None => Asked::Refused(Refusal::Range),
+        },
+        _ => Asked::BadLine,
+    }
+}
+
+/// With two: V K, or FROM TO.
+pub(crate) fn double_asked(verb: Verb, first: &Field, second: &Field) -> Asked
+    ensures { result ≡ double_asked verb first.now second.now }
+{
+    match verb {
+        Verb::Pin => plain_or(Refusal::NoSuchPlace, pin_of(first, second)),
+        Verb::Anneal => steps_or(stages_of(first.unsigned, second.unsigned)),
+        _ => Asked::BadLine,
+    }
+}
+
+/// With a demand and one spot: Q X Y E L S.
+pub(crate) fn spot_asked(verb: Verb, demand: &Field, spot: Option<Spot>) -> Asked
+    ensures { result ≡ spot_asked verb demand.now spot }
+{
+    match verb {
+        Verb::Add1 => plain_or(Refusal::Range, add1_of(demand, spot)),
+        _ => Asked::BadLine,
+    }
+}
+
+/// With a demand and two spots: Q X Y E L S X Y E L S.
+pub(crate) fn spots_asked(
+    verb: Verb,
+    demand: &Field,
+    pickup: Option<Spot>,
+    delivery: Option<Spot>,
+) -> Asked
+    ensures { result ≡ spots_asked verb demand.now pickup delivery }
+{
+    match verb {
+        Verb::Add => plain_or(Refusal::Range, add_of(demand, pickup, delivery)),
+        _ => Asked::BadLine,
+    }
+}
+
+fn plain_or(refusal: Refusal, command: Option<Command>) -> Asked
+    ensures { result ≡ plain_or refusal command }
+{
+    match command {
+        Some(command) => Asked::Plain(command),
+        None => Asked::Refused(refusal),
+    }
+}
+
+/// X Y E L S.
+pub(crate) fn spot_of(
+    x: &Field,
+    y: &Field,
+    earliest: &Field,
+    latest: &Field,
+    service: &Field,
+) -> Option<Spot>
+    ensures { result ≡ spot_of x.now y.now earliest.now latest.now service.now }
+{
+    Some(Spot {
+        x: x.signed?,
+        y: y.signed?,
+        earliest: earliest.as_u32()?,
+        latest: latest.as_u32()?,
+        service: service.as_u32()?,
+    })
+}
+
+fn add_of(demand: &Field, pickup: Option<Spot>, delivery: Option<Spot>) -> Option<Command>
+    ensures { result ≡ add_of demand.now pickup delivery }
+{
+    Some(Command::Add {
+        demand: demand.as_u32()?,
+        pickup: pickup?,
+        delivery: delivery?,
+    })
+}
+
+fn add1_of(demand: &Field, spot: Option<Spot>) -> Option<Command>
+    ensures { result ≡ add1_of demand.now spot }
+{
+    Some(Command::Add1 {
+        demand: demand.as_u32()?,
+        spot: spot?,
+    })
+}
+
+fn pin_of(vehicle: &Field, stops: &Field) -> Option<Command>
+    ensures { result ≡ pin_of vehicle.now stops.now }
+{
+    Some(Command::Pin(vehicle.as_u32()?, stops.as_u32()?))
+}
+
+fn steps_or(goal: Option<Goal>) -> Asked
+    ensures { result ≡ steps_or goal }
+{
+    match goal {
+        Some(goal) => Asked::Steps(goal),
+        None => Asked::Refused(Refusal::Range),
+    }
+}
+
+fn search_of(steps: Option<u64>) -> Option<Goal>
+    ensures { result ≡ search_of steps }
+{
+    Some(Goal::Search(count_of(steps)?))
+}
+
+fn anneal_of(steps: Option<u64>) -> Option<Goal>
+    ensures { result ≡ anneal_of steps }
+{
+    Some(Goal::Anneal(count_of(steps)?))
+}
+
+fn reach_of(goal: Option<u64>) -> Option<Goal>
+    ensures { result ≡ reach_of goal }
+{
+    match goal {
+        Some(goal) if goal <= MAX_STEPS => Some(Goal::Reach(goal)),
+        _ => None,
+    }
+}
+
+fn stages_of(from: Option<u64>, to: Option<u64>) -> Option<Goal>
+    ensures { result ≡ stages_of from to }
+{
+    match (from, to) {
+        (Some(from), Some(to)) if from <= to && to <= MAX_STEPS => Some(Goal::Stages { from, to }),
+        _ => None,
+    }
+}
+
+fn count_of(steps: Option<u64>) -> Option<u32>
+    ensures { result ≡ count_of steps }
+{
+    match steps {
+        Some(steps) if 1 <= steps && steps <= MAX_SEARCH => Some(steps as u32),
         _ => None,
     }
 }

@@ -13,7 +13,8 @@ use Rattle.sol_text.specs.Written.{routes_text, used_routes}
 use Rattle.seeded_search.specs.Steps.{unplanned_names}
 use Rattle.command_core.specs.Effects.{built, loaded, searched, with_deviation}
 use Rattle.command_core.specs.Job.{JobValue}
-use Rattle.command_core.specs.Runs.{after, is_searching, steps_of}
+use Rattle.command_core.specs.Commands.{is_searching, steps_of}
+use Rattle.command_core.specs.Runs.{after}
 use Rattle.command_core.specs.declared.commands.Command.{Command}
 use Rattle.command_core.specs.declared.commands.Command.TheVariants.{Build, Deviation, Load}
 use Rattle.command_core.specs.declared.states.State.TheVariants.{Empty, Loaded}

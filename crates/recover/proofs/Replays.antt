@@ -6,50 +6,31 @@ use Rattle.std.proofs.lemmas.List.Sums.{sum_by-cons}
 use Rattle.std.specs.List.{AllByRecursion}
 use Rattle.command_core.specs.Effects.{effect}
 use Rattle.command_core.specs.Refusing.{refusal}
-use Rattle.command_core.specs.Runs.{after, AreAccepted, steps_of}
+use Rattle.command_core.specs.Commands.{steps_of}
+use Rattle.command_core.specs.Runs.{after, AreAccepted}
 use Rattle.command_core.specs.declared.states.State.{State}
 use Rattle.command_core.specs.declared.states.State.TheVariants.{Empty, Loaded}
 use Rattle.command_core.specs.declared.commands.Command.{Command}
-use Rattle.command_core.specs.declared.commands.Command.TheVariants.{Load, Add, Add1, Withdraw, Pin, Unpin, Build, Search, Checkpoint, Deviation, Anneal}
+use Rattle.command_core.specs.declared.commands.Command.TheVariants.{Load}
+use Rattle.command_core.proofs.NumberLemmas.{few_recorded, recorded_no_load, steps_counted}
 use Rattle.state_codec.specs.declared.version.Version.{Version}
 use Rattle.state_codec.specs.Limits.{IsRecorded}
+use Rattle.state_codec.proofs.RecordLaws.{recorded_fits}
 use Rattle.checkpoint.specs.declared.places.Place.{Place}
 use Rattle.checkpoint.specs.Holds.{Holds}
 use Rattle.checkpoint.specs.Laws.{HoldAtMostOne}
 use Rattle.recover.specs.Opening.{steps_in, IsToRepeat}
 use Rattle.recover.specs.Repeating.{IsRepeated}
 
-none : (old new : State) → steps_in new ≡ steps_in old → steps_in new ≡ steps_in old + 0
-none old new same = omega (arith, same)
-
 module _ (version : Version) where
   -- what an accepted command that has a record adds to the steps of a state
   adds_one : (s : State) (c : Command) → IsRecorded version c → refusal s c ≡ None → steps_in (effect s c) ≡ steps_in s + steps_of c
   adds_one Empty (Load p seed) recorded accepted = elim recorded [ ]
-  adds_one Empty (Add q a b) recorded accepted = cc accepted
-  adds_one Empty (Add1 q a) recorded accepted = cc accepted
-  adds_one Empty (Withdraw name) recorded accepted = cc accepted
-  adds_one Empty (Pin v k) recorded accepted = cc accepted
-  adds_one Empty (Unpin v) recorded accepted = cc accepted
-  adds_one Empty Build recorded accepted = cc accepted
-  adds_one Empty (Search count) recorded accepted = cc accepted
-  adds_one Empty Checkpoint recorded accepted = cc accepted
-  adds_one Empty (Deviation d) recorded accepted = cc accepted
-  adds_one Empty (Anneal count) recorded accepted = cc accepted
-  adds_one (Loaded j) (Load p seed) recorded accepted = elim recorded [ ]
-  adds_one (Loaded j) (Add q a b) recorded accepted = none (Loaded j) (effect (Loaded j) (Add q a b)) refl
-  adds_one (Loaded j) (Add1 q a) recorded accepted = none (Loaded j) (effect (Loaded j) (Add1 q a)) refl
-  adds_one (Loaded j) (Withdraw name) recorded accepted = none (Loaded j) (effect (Loaded j) (Withdraw name)) refl
-  adds_one (Loaded j) (Pin v k) recorded accepted = none (Loaded j) (effect (Loaded j) (Pin v k)) refl
-  adds_one (Loaded j) (Unpin v) recorded accepted = none (Loaded j) (effect (Loaded j) (Unpin v)) refl
-  adds_one (Loaded j) Build recorded accepted = none (Loaded j) (effect (Loaded j) Build) refl
-  adds_one (Loaded j) (Search count) recorded accepted = refl
-  adds_one (Loaded j) Checkpoint recorded accepted = elim recorded [ ]
-  adds_one (Loaded j) (Deviation d) recorded accepted = none (Loaded j) (effect (Loaded j) (Deviation d)) refl
-  adds_one (Loaded j) (Anneal count) recorded accepted = elim recorded [ ]
+  adds_one Empty c recorded accepted = cc accepted
+  adds_one (Loaded j) c recorded accepted = steps_counted j c (recorded_no_load c (recorded_fits version c recorded).0)
 
   adds : (s : State) (cs : List Command) → AllByRecursion (IsRecorded version) cs → AreAccepted s cs → steps_in (after s cs) ≡ steps_in s + sum_by steps_of cs
-  adds s [] recorded accepted = none s s refl
+  adds s [] recorded accepted = omega arith
   adds s (c ∷ cs) recorded accepted =
       let first = adds_one s c recorded.0 accepted.1 in
       let rest = adds (effect s c) cs recorded.1 accepted.2 in
@@ -57,17 +38,7 @@ module _ (version : Version) where
 
   -- a record has at most 256 steps
   few_of : (c : Command) → IsRecorded version c → steps_of c ≤ 256
-  few_of (Load p seed) recorded = elim recorded [ ]
-  few_of (Add q a b) recorded = omega arith
-  few_of (Add1 q a) recorded = omega arith
-  few_of (Withdraw name) recorded = omega arith
-  few_of (Pin v k) recorded = omega arith
-  few_of (Unpin v) recorded = omega arith
-  few_of Build recorded = omega arith
-  few_of (Search count) recorded = recorded.1
-  few_of Checkpoint recorded = elim recorded [ ]
-  few_of (Deviation d) recorded = omega arith
-  few_of (Anneal count) recorded = elim recorded [ ]
+  few_of c recorded = let both = recorded_fits version c recorded in few_recorded c both.0 both.1
 
   few : (cs : List Command) → AllByRecursion (IsRecorded version) cs → sum_by steps_of cs ≤ 256 * length cs
   few [] recorded = omega arith

@@ -8,7 +8,8 @@ use Rattle.sector_disk.specs.Sectors.{Throughout}
 use Rattle.sector_disk.specs.Throughout as through
 use Rattle.command_core.specs.Effects.{effect}
 use Rattle.command_core.specs.Refusing.{refusal}
-use Rattle.command_core.specs.Runs.{AreAccepted, is_recorded}
+use Rattle.command_core.specs.Commands.{is_recorded}
+use Rattle.command_core.specs.Runs.{AreAccepted}
 use Rattle.command_core.specs.declared.refusals.Refusal.{Refusal}
 use Rattle.command_core.specs.declared.states.State.{State}
 use Rattle.command_core.specs.declared.commands.Command.{Command}

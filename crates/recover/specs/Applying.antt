@@ -4,7 +4,8 @@ use Rattle.std.specs.Option.{option_map, option_or}
 use Rattle.sector_disk.specs.Sectors.{IsCalled, Throughout, more}
 use Rattle.command_core.specs.Effects.{effect}
 use Rattle.command_core.specs.Refusing.{refusal}
-use Rattle.command_core.specs.Runs.{AreAccepted, is_recorded}
+use Rattle.command_core.specs.Commands.{is_recorded}
+use Rattle.command_core.specs.Runs.{AreAccepted}
 use Rattle.command_core.specs.declared.commands.Command.{Command}
 use Rattle.state_codec.specs.declared.version.Version.TheVariants.{Two}
 use Rattle.checkpoint.specs.declared.places.Place.{Place}
@@ -18,7 +19,7 @@ use Rattle.recover.specs.StandsFor.{StandsFor}
 use Rattle.recover.specs.Moments.{RunLeaves}
 use Rattle.recover.specs.Sessions.{SessionValue}
 
--- A snapshot is due: for Load, Checkpoint and Anneal, and where 256 records stand.
+-- A snapshot is due: for a command without a record, and where 256 records stand.
 abbrev pub is_snapshot_due : Place → Command → Bool
 is_snapshot_due place command = not (is_recorded command) || (place.used == journal_room)
 

@@ -3,7 +3,7 @@ use Rattle.std.specs.Prelude.{◌≡◌, ℕ, ◌≤◌, true, List, None, Resul
 use Rattle.sector_disk.specs.declared.sectors.Sectors as sectors
 use Rattle.sector_disk.specs.Sectors.{Throughout}
 use Rattle.sector_disk.specs.Calls.{IsInCommit}
-use Rattle.command_core.specs.Runs.{is_recorded, fits_record}
+use Rattle.command_core.specs.Commands.{is_recorded, fits_record}
 use Rattle.command_core.specs.declared.commands.Command.{Command}
 use Rattle.command_core.specs.declared.states.State.{State}
 use Rattle.state_codec.specs.declared.version.Version.TheVariants.{Two}

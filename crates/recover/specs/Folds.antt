@@ -3,7 +3,8 @@ use Rattle.std.specs.Prelude.{◌≡◌, ℕ, ◌+◌, ◌≤◌, true, List, []
 use Rattle.std.specs.List.{list_all}
 use Rattle.command_core.specs.Job.{JobValue}
 use Rattle.command_core.specs.Effects.{searched, annealed}
-use Rattle.command_core.specs.Runs.{after, AreAccepted, last_change, is_searching, is_annealing, steps_of}
+use Rattle.command_core.specs.Commands.{is_searching, is_annealing, steps_of}
+use Rattle.command_core.specs.Runs.{after, AreAccepted, last_change}
 use Rattle.command_core.specs.RunLaws.{IsNoWorse}
 use Rattle.command_core.specs.declared.states.State.{State}
 use Rattle.command_core.specs.declared.states.State.TheVariants.{Loaded}

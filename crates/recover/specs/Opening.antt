@@ -2,7 +2,8 @@
 use Rattle.std.specs.Prelude.{◌≡◌, ◌⊎◌, ℕ, ◌+◌, ◌<◌, ◌≤◌, List, sum_by, Result, Ok, Err, OnOk, IsErrOf, ⊤}
 use Rattle.sector_disk.specs.declared.sectors.Sectors as sectors
 use Rattle.sector_disk.specs.Sectors.{Only, Throughout}
-use Rattle.command_core.specs.Runs.{AreAccepted, steps_of}
+use Rattle.command_core.specs.Commands.{steps_of}
+use Rattle.command_core.specs.Runs.{AreAccepted}
 use Rattle.command_core.specs.declared.states.State.{State}
 use Rattle.command_core.specs.declared.states.State.TheVariants.{Empty, Loaded}
 use Rattle.command_core.specs.declared.commands.Command.{Command}

@@ -1,7 +1,8 @@
 -- What repeating the commands of a store gives.
 use Rattle.std.specs.Prelude.{◌≡◌, ℕ, ◌+◌, ◌≤◌, List, sum_by, Result, ⊤}
 use Rattle.sector_disk.specs.declared.sectors.Sectors as sectors
-use Rattle.command_core.specs.Runs.{after, AreAccepted, steps_of}
+use Rattle.command_core.specs.Commands.{steps_of}
+use Rattle.command_core.specs.Runs.{after, AreAccepted}
 use Rattle.command_core.specs.declared.states.State.{State}
 use Rattle.command_core.specs.declared.commands.Command.{Command}
 use Rattle.command_core.specs.declared.refusals.Refusal.{Refusal}
@@ -21,14 +22,7 @@ use Rattle.recover.specs.Opening.{steps_in, StandsForNone}
 -- a record that the state refuses does not belong to its store
 abbrev pub fault_of : Refusal → StoreFault
 fault_of refusals.OutOfMemory = store.OutOfMemory
-fault_of refusals.NoInstance = store.Codec BadField
-fault_of refusals.Range = store.Codec BadField
-fault_of refusals.NoSuchRequest = store.Codec BadField
-fault_of refusals.Pinned = store.Codec BadField
-fault_of refusals.NoSuchPlace = store.Codec BadField
-fault_of refusals.NotARoute = store.Codec BadField
-fault_of refusals.NumbersSpent = store.Codec BadField
-fault_of refusals.StepsSpent = store.Codec BadField
+fault_of _ = store.Codec BadField
 
 -- BadField where the commands are not all accepted, or want of memory
 abbrev pub IsOfRepeating : State → List Command → StoreFault → Type 0

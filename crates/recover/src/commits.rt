@@ -1,7 +1,8 @@
 //! A command is committed: as a record, or by a snapshot of the state after it.
 ghost use Rattle.std.specs.Prelude.{◌≡◌, ◌+◌, ◌<◌, ◌≤◌, ◌^◌, ℕ, List, [], ◌∷◌, true, None, OnOk, IfOk, IfErr};
 ghost use Rattle.command_core.specs.Effects.{effect};
-ghost use Rattle.command_core.specs.Runs.{AreAccepted, is_recorded, fits_record};
+ghost use Rattle.command_core.specs.Commands.{is_recorded, fits_record};
+ghost use Rattle.command_core.specs.Runs.{AreAccepted};
 ghost use Rattle.command_core.specs.declared.states.State.{State};
 ghost use Rattle.sector_disk.specs.Sectors.{more};
 ghost use Rattle.sector_disk.specs.Calls.{Calls};
@@ -15,6 +16,7 @@ ghost use Rattle.recover.specs.Committing.{IsOfChange, CanCommit, CommitsStateFr
 use checkpoint::{Place, RECORDS, StoreFault, commit_record, commit_snapshot};
 use command_core::{Command, State};
 use sector_disk::Sectors;
+use state_codec::recorded_fields_have_room;
 use std::alloc::Global;
 
 /// Why a command was not committed, where the store had a place for it.
@@ -39,34 +41,11 @@ fn cause(fault: StoreFault) -> CommitFault
     }
 }
 
-// Whether a store writes a record of the command, and not the state after it.
-fn has_record(command: &Command) -> bool
-    ensures is { result ≡ is_recorded command.now }
-    ensures fits { result ≡ true → fits_record command.now ≡ true → IsRecorded Two command.now }
-{
-    match command {
-        Command::Load(_, _) | Command::Checkpoint | Command::Anneal(_) => false,
-        Command::Withdraw(number) | Command::Unpin(number) => {
-            let _fits = *number;
-            true
-        }
-        Command::Pin(vehicle, stops) => {
-            let _fit = (*vehicle, *stops);
-            true
-        }
-        Command::Add { .. }
-        | Command::Add1 { .. }
-        | Command::Build
-        | Command::Search(_)
-        | Command::Deviation(_) => true,
-    }
-}
-
-/// Whether a snapshot is due: for Load, Checkpoint and Anneal, and where 256 records stand.
+/// Whether a snapshot is due: for a command without a record, and where 256 records stand.
 pub(crate) fn is_snapshot_due(place: Place, command: &Command) -> bool
     ensures { result ≡ is_snapshot_due place command.now }
 {
-    !has_record(command) || place.used == RECORDS
+    !command.is_recorded() || place.used == RECORDS
 }
 
 // Commits a command as a record.
@@ -132,7 +111,8 @@ pub(crate) fn commit<D: Sectors>(
         → CommitsStateFrom D.Sectors result (calls_of place command.now) state next.now
         place (place_after place command.now) device.old device.new }
 {
-    if has_record(command) && place.used < RECORDS {
+    recorded_fields_have_room(command);
+    if command.is_recorded() && place.used < RECORDS {
         return as_record(device, place, command);
     }
     as_snapshot(alloc, device, place, next)

@@ -4,7 +4,7 @@
 //! `steps_to_repeat` tells beforehand how long opening takes. `upgrade` takes a store of version 1 over. `command_serving` serves a session by lines of text, `planner_cli` opens it.
 //!
 //! A command is checked and carried out in its place (`Planner` of `command_core`), and then committed: as one record, or
-//! for `Load`, `Checkpoint` and `Anneal` and where 256 records stand by a snapshot of that state. Only then is it answered;
+//! for a command without one and where 256 records stand by a snapshot of that state. Only then is it answered;
 //! where the commit fails, what stood before is put back. Opening syncs once, since reads may give what is not durable yet;
 //! then it reads alone: the snapshot, and the records, whose commands are carried out again by one planner. So a search is
 //! stored as its number of steps, and is made once more; annealing is stored as what it leaves, and is not.

@@ -1,6 +1,7 @@
 //! The commands of a store's records, repeated.
 ghost use Rattle.std.specs.Prelude.{◌≡◌, ◌⊎◌, ◌-◌, ◌<◌, ◌^◌, sum_by, Some, None, IfOk, IfErr};
-ghost use Rattle.command_core.specs.Runs.{IsState, AreAccepted, after, steps_of};
+ghost use Rattle.command_core.specs.Commands.{steps_of};
+ghost use Rattle.command_core.specs.Runs.{IsState, AreAccepted, after};
 ghost use Rattle.recover.specs.Opening.{steps_in};
 ghost use Rattle.recover.specs.Repeating.{fault_of, IsOfRepeating};
 
@@ -15,14 +16,7 @@ fn fault_of(refusal: Refusal) -> StoreFault
 {
     match refusal {
         Refusal::OutOfMemory => StoreFault::OutOfMemory,
-        Refusal::NoInstance
-        | Refusal::Range
-        | Refusal::NoSuchRequest
-        | Refusal::Pinned
-        | Refusal::NoSuchPlace
-        | Refusal::NotARoute
-        | Refusal::NumbersSpent
-        | Refusal::StepsSpent => StoreFault::Codec(CodecFault::BadField),
+        _ => StoreFault::Codec(CodecFault::BadField),
     }
 }
 
@@ -36,32 +30,13 @@ pub(crate) fn steps_in(state: &State) -> u64
     }
 }
 
-// The steps that a command makes.
-fn steps_of(command: &Command) -> u64
-    ensures { result ≡ steps_of command.now }
-{
-    match command {
-        Command::Search(count) => u64::from(*count),
-        Command::Anneal(count) => u64::from(*count),
-        Command::Load(_, _)
-        | Command::Add { .. }
-        | Command::Add1 { .. }
-        | Command::Withdraw(_)
-        | Command::Pin(_, _)
-        | Command::Unpin(_)
-        | Command::Build
-        | Command::Checkpoint
-        | Command::Deviation(_) => 0,
-    }
-}
-
 /// The steps that these commands make, where a `u64` holds them.
 pub(crate) fn steps_among(commands: &[Command]) -> u64
     ensures { sum_by steps_of commands.now < 2 ^ 64 → result ≡ sum_by steps_of commands.now }
 {
     let mut steps = 0u64;
     for command in commands {
-        steps = steps.saturating_add(steps_of(command));
+        steps = steps.saturating_add(command.steps());
     }
     steps
 }

@@ -70,8 +70,8 @@ impl<D: Sectors> Session<D> {
 
     /// Carries a command out and makes it durable. `Ok` comes after the last sync; from then on no stop loses the command.
     ///
-    /// `Load`, `Checkpoint` and `Anneal` write a snapshot, with four calls of the device. Any other command writes a record, with two, or
-    /// a snapshot where 256 records stand. Every denial but `DeviceFault` leaves all as it was. After `DeviceFault` the session is broken:
+    /// A command without a record (`is_recorded`) writes a snapshot, with four calls of the device. Any other one writes a record, with
+    /// two, or a snapshot where 256 records stand. Every denial but `DeviceFault` leaves all as it was. After `DeviceFault` the session is broken:
     /// each image that a stop may leave stands for the state before the command or for the one after it, and opening the device tells which.
     pub fn apply(&mut self, alloc: Global, command: Command) -> Reply
         ensures { IsApplied D.len D.calls D.faults D.honest D.clock D.possible_since D.possible
@@ -140,7 +140,7 @@ impl<D: Sectors> Session<D> {
             (D.calls self.old.device + calls_of self.old.place command.now)) }
     {
         accepted_commands_fit_records();
-        let Ok(before) = self.planner.change(alloc, command) else {
+        let Ok(before) = self.planner.change_accepted(alloc, command) else {
             return Err(Denial::OutOfMemory);
         };
         match commit(

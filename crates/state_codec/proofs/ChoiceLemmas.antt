@@ -5,7 +5,7 @@ use Rattle.std.proofs.lemmas.Bool.{cases_lt}
 use Rattle.std.proofs.lemmas.Bool.Decides.{eqb_tells}
 use Rattle.command_core.specs.Wishes.{is_spot, is_demand}
 use Rattle.command_core.specs.declared.commands.Command.{Command}
-use Rattle.command_core.specs.declared.commands.Command.TheVariants.{Load, Add, Add1, Withdraw, Pin, Unpin, Build, Search, Checkpoint, Deviation, Anneal}
+use Rattle.command_core.specs.declared.commands.Command.TheVariants.{Add, Add1, Withdraw, Pin, Unpin, Build, Search, Deviation}
 use Rattle.state_codec.specs.declared.version.Version.{Version}
 use Rattle.state_codec.specs.declared.version.Version.TheVariants.{One, Two}
 use Rattle.state_codec.specs.Bytes.{record_bytes, width}
@@ -49,7 +49,6 @@ deviation One d = inr (λ h. h)
 deviation Two d = at_most d 1000000000
 
 recorded : (v : Version) (c : Command) → Settled (IsRecorded v c)
-recorded v (Load problem seed) = inr (λ h. h)
 recorded v (Add demand pickup delivery) = holds (is_demand demand && (is_spot pickup && is_spot delivery))
 recorded v (Add1 demand spot) = holds (is_demand demand && is_spot spot)
 recorded v (Withdraw name) = below name (256 ^ width v)
@@ -57,9 +56,8 @@ recorded v (Pin vehicle k) = settled_both (below vehicle (256 ^ width v)) (below
 recorded v (Unpin vehicle) = below vehicle (256 ^ width v)
 recorded v Build = inl tt
 recorded v (Search count) = settled_both (at_most 1 count) (at_most count 256)
-recorded v Checkpoint = inr (λ h. h)
 recorded v (Deviation d) = deviation v d
-recorded v (Anneal count) = inr (λ h. h)
+recorded v c = inr (λ h. h)
 
 same_numbers : (xs ys : List ℕ) → Settled (xs ≡ ys)
 same_numbers [] [] = inl refl

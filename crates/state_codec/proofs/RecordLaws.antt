@@ -1,13 +1,14 @@
 -- A command that is written is read again.
 use Rattle.std.proofs.Common.{◌≡◌, ℕ, ◌-◌, ◌^◌, ◌<◌, List, ◌++◌, length, drop, Ok, refl, sym, ap, ◌∙◌, append_assoc, arith, length-append}
 use Rattle.std.specs.Prelude.{◌&&◌, true, pos, replicate}
-use Rattle.std.proofs.lemmas.Bool.{and_parts, leb-true}
+use Rattle.std.proofs.lemmas.Bool.{and_parts, le-leb, leb-true}
 use Rattle.std.proofs.lemmas.List.{drop_at}
 use Rattle.plan_types.specs.Limits.{IsVisit}
+use Rattle.command_core.specs.Commands.{is_recorded, fits_record}
 use Rattle.command_core.specs.Wishes.{is_demand, is_spot, stop_on}
 use Rattle.command_core.specs.declared.commands.Spot.{Spot}
 use Rattle.command_core.specs.declared.commands.Command.{Command}
-use Rattle.command_core.specs.declared.commands.Command.TheVariants.{Load, Add, Add1, Withdraw, Pin, Unpin, Build, Search, Checkpoint, Deviation, Anneal}
+use Rattle.command_core.specs.declared.commands.Command.TheVariants.{Add, Add1, Withdraw, Pin, Unpin, Build, Search, Deviation}
 use Rattle.command_core.proofs.AddLemmas.{visit}
 use Rattle.state_codec.specs.declared.version.Version.{Version}
 use Rattle.state_codec.specs.declared.version.Version.TheVariants.{One, Two}
@@ -50,7 +51,6 @@ pin_again v vehicle k rest p q =
 
 command_again : (v : Version) (c : Command) (rest : List ℕ) → IsRecorded v c → command_at v (command_bytes v c ++ rest) ≡ Ok (c, rest)
 unfolding command_at byte_at withdraw_at unpin_at search_at deviation_at
-command_again v (Load problem seed) rest is = absurd is
 command_again v (Add demand pickup delivery) rest is =
     let goods = and_parts (is_demand demand) (is_spot pickup && is_spot delivery) is in
     let spots = and_parts (is_spot pickup) (is_spot delivery) goods.1 in
@@ -63,10 +63,22 @@ command_again v (Pin vehicle k) rest is = pin_again v vehicle k rest is.0 is.1
 command_again v (Unpin vehicle) rest is = rw (number_again (width v) vehicle rest is) refl
 command_again v Build rest is = refl
 command_again v (Search count) rest is = rw (number_again 2 count rest (omega (arith, is.1))) refl
-command_again v Checkpoint rest is = absurd is
 command_again One (Deviation deviation) rest is = absurd is
 command_again Two (Deviation deviation) rest is = rw (number_again 4 deviation rest (omega (arith, is))) refl
-command_again v (Anneal count) rest is = absurd is
+command_again v c rest is = absurd is
+
+-- a command that has a record is one that a store writes down as it is, and its fields fit
+pub recorded_fits : (v : Version) (c : Command) → IsRecorded v c → (is_recorded c ≡ true) × (fits_record c ≡ true)
+recorded_fits v (Add demand pickup delivery) is = (refl, is)
+recorded_fits v (Add1 demand spot) is = (refl, is)
+recorded_fits v (Withdraw name) is = (refl, refl)
+recorded_fits v (Pin vehicle k) is = (refl, refl)
+recorded_fits v (Unpin vehicle) is = (refl, refl)
+recorded_fits v Build is = (refl, refl)
+recorded_fits v (Search count) is = (refl, rw (le-leb 1 count is.0, le-leb count 256 is.1) refl)
+recorded_fits One (Deviation deviation) is = absurd is
+recorded_fits Two (Deviation deviation) is = (refl, le-leb deviation 1000000000 is)
+recorded_fits v c is = absurd is
 
 -- the command of a record, behind its sequence and index
 pub record_again : (v : Version) (sector : List ℕ) (sequence index : ℕ) (c : Command) → IsRecorded v c → sector ≡ record_bytes v sequence index c → (rest : List ℕ) × (command_at v (drop 12 sector) ≡ Ok (c, rest))

@@ -13,7 +13,7 @@ use Rattle.command_core.specs.declared.states.State.{State}
 use Rattle.command_core.specs.declared.states.State.TheVariants.{Empty, Loaded}
 use Rattle.command_core.specs.declared.commands.Spot.{Spot}
 use Rattle.command_core.specs.declared.commands.Command.{Command}
-use Rattle.command_core.specs.declared.commands.Command.TheVariants.{Load, Add, Add1, Withdraw, Pin, Unpin, Build, Search, Checkpoint, Deviation, Anneal}
+use Rattle.command_core.specs.declared.commands.Command.TheVariants.{Add, Add1, Withdraw, Pin, Unpin, Build, Search, Deviation}
 use Rattle.state_codec.specs.declared.version.Version.{Version}
 use Rattle.state_codec.specs.declared.version.Version.TheVariants.{One, Two}
 
@@ -101,9 +101,8 @@ state_bytes v (Loaded j) = 1 ∷ job_bytes v j
 abbrev pub spot_bytes : Spot → List ℕ
 spot_bytes s = signed_bytes s.x ++ (signed_bytes s.y ++ (number_bytes 4 s.earliest ++ (number_bytes 4 s.latest ++ number_bytes 4 s.service)))
 
--- the command's kind and fields; Load, Checkpoint and Anneal have none
+-- the command's kind and fields; those without a record have none
 abbrev pub command_bytes : Version → Command → List ℕ
-command_bytes v (Load problem seed) = []
 command_bytes v (Add demand pickup delivery) = 1 ∷ number_bytes 4 demand ++ (spot_bytes pickup ++ spot_bytes delivery)
 command_bytes v (Add1 demand spot) = 2 ∷ number_bytes 4 demand ++ spot_bytes spot
 command_bytes v (Withdraw name) = 3 ∷ count_bytes v name
@@ -111,9 +110,8 @@ command_bytes v (Pin vehicle k) = 4 ∷ count_bytes v vehicle ++ count_bytes v k
 command_bytes v (Unpin vehicle) = 5 ∷ count_bytes v vehicle
 command_bytes v Build = 6 ∷ []
 command_bytes v (Search count) = 7 ∷ number_bytes 2 count
-command_bytes v Checkpoint = []
 command_bytes v (Deviation deviation) = 8 ∷ number_bytes 4 deviation
-command_bytes v (Anneal count) = []
+command_bytes v _ = []
 
 -- sequence, index, kind and fields
 abbrev pub fields_bytes : Version → ℕ → ℕ → Command → List ℕ

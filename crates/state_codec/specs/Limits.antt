@@ -5,7 +5,7 @@ use Rattle.command_core.specs.Wishes.{is_spot, is_demand}
 use Rattle.command_core.specs.declared.states.State.{State}
 use Rattle.command_core.specs.declared.states.State.TheVariants.{Empty, Loaded}
 use Rattle.command_core.specs.declared.commands.Command.{Command}
-use Rattle.command_core.specs.declared.commands.Command.TheVariants.{Load, Add, Add1, Withdraw, Pin, Unpin, Build, Search, Checkpoint, Deviation, Anneal}
+use Rattle.command_core.specs.declared.commands.Command.TheVariants.{Add, Add1, Withdraw, Pin, Unpin, Build, Search, Deviation}
 use Rattle.state_codec.specs.declared.version.Version.{Version}
 use Rattle.state_codec.specs.declared.version.Version.TheVariants.{One, Two}
 use Rattle.state_codec.specs.Bytes.{width}
@@ -39,10 +39,9 @@ abbrev pub IsDeviationOf : Version → ℕ → Type 0
 IsDeviationOf One d = ⊥
 IsDeviationOf Two d = d ≤ 1000000000
 
--- The commands that have a record: all but Load, Checkpoint and Anneal, with fields within their limits. Numbers of requests, vehicles and
--- places may be any.
+-- The commands that have a record, with fields within their limits: the others are written as the states that they leave. Numbers of
+-- requests, vehicles and places may be any.
 abbrev pub IsRecorded : Version → Command → Type 0
-IsRecorded v (Load problem seed) = ⊥
 IsRecorded v (Add demand pickup delivery) = (is_demand demand && (is_spot pickup && is_spot delivery)) ≡ true
 IsRecorded v (Add1 demand spot) = (is_demand demand && is_spot spot) ≡ true
 IsRecorded v (Withdraw name) = HasRoom v name
@@ -50,6 +49,5 @@ IsRecorded v (Pin vehicle k) = HasRoom v vehicle × HasRoom v k
 IsRecorded v (Unpin vehicle) = HasRoom v vehicle
 IsRecorded v Build = Unit {0}
 IsRecorded v (Search count) = (1 ≤ count) × (count ≤ 256)
-IsRecorded v Checkpoint = ⊥
 IsRecorded v (Deviation deviation) = IsDeviationOf v deviation
-IsRecorded v (Anneal count) = ⊥
+IsRecorded v _ = ⊥

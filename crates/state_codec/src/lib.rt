@@ -23,6 +23,7 @@
 //!   rule that its plan, a pin or its working plan breaks (`decodes`, `only`).
 //! - `decode_record` answers a command exactly where the sector is its record with this sequence and index, without memory.
 //! - Both hold of version 1 too.
+//! - `recorded_fields_have_room`: a command that a store writes down as it is, with fields within their limits, has a record.
 //! - An encoding has at most 1,960,054 bytes (`encodings_fit`); states and records with the same bytes are one
 //!   (`encodings_tell_values_apart`); bytes are those of a state or have one fault (`bytes_have_one_answer`).
 //! - Of faults, by encodings alone: a bad field stays one whatever follows, a byte behind an encoding is a bad field, and
@@ -47,6 +48,6 @@ pub use fault::CodecFault;
 pub use laws::{
     bytes_have_one_answer, encodings_fit, encodings_tell_values_apart, faults_go_by_encodings,
 };
-pub use records::{decode_record, decode_record_v1, encode_record};
+pub use records::{decode_record, decode_record_v1, encode_record, recorded_fields_have_room};
 pub use states::{decode_state, decode_state_v1};
 pub use writing::encode_state;

@@ -2,7 +2,8 @@
 //!
 //! A record is decoded by reading a command, testing its limits, and comparing its record with the sector: so the bytes
 //! behind the fields need no rule of their own.
-ghost use Rattle.std.specs.Prelude.{◌≡◌, ◌≢◌, ◌≤◌, ◌+◌, ◌++◌, ◌∷◌, ◌↔◌, IsTrue, length, MatchOption};
+ghost use Rattle.std.specs.Prelude.{◌≡◌, ◌≢◌, ◌≤◌, ◌+◌, ◌++◌, ◌∷◌, ◌↔◌, true, IsTrue, length, MatchOption};
+ghost use Rattle.command_core.specs.Commands.{is_recorded, fits_record};
 ghost use Rattle.state_codec.specs.declared.version.Version.TheVariants.{One, Two};
 ghost use Rattle.state_codec.specs.Bytes.{spot_bytes, command_bytes, record_bytes};
 ghost use Rattle.state_codec.specs.Fields.{Reads};
@@ -15,8 +16,8 @@ use crate::sector::Sector;
 use crate::version::Version;
 use command_core::{Command, MAX_COUNT, MAX_DEVIATION, Spot, is_demand, is_spot};
 
-/// The sector of a record: the command as the one of this index in the journal of this sequence. The command is none of Load,
-/// Checkpoint and Anneal, and its fields keep their limits. Takes no memory.
+/// The sector of a record: the command as the one of this index in the journal of this sequence. The command is one that has
+/// a record, and its fields keep their limits. Takes no memory.
 pub fn encode_record(sequence: u64, index: u32, command: &Command) -> [u8; 512]
     requires { IsRecorded Two command.now }
     ensures { result ≡ record_bytes Two sequence index command.now }
@@ -79,7 +80,6 @@ fn put_command(version: Version, sector: &mut Sector, command: &Command)
     ensures { sector.new ≡ sector.old ++ command_bytes version command.now }
 {
     match command {
-        Command::Load(..) | Command::Checkpoint | Command::Anneal(_) => {}
         Command::Add {
             demand,
             pickup,
@@ -117,6 +117,8 @@ fn put_command(version: Version, sector: &mut Sector, command: &Command)
             sector.put_u8(8);
             sector.put_u32(*deviation);
         }
+        // The others have no record.
+        _ => {}
     }
 }
 
@@ -155,7 +157,6 @@ fn is_recorded(version: Version, command: &Command) -> bool
     ensures { IsTrue result ↔ IsRecorded version command.now }
 {
     match command {
-        Command::Load(..) | Command::Checkpoint | Command::Anneal(_) => false,
         Command::Build => true,
         Command::Add {
             demand,
@@ -168,6 +169,24 @@ fn is_recorded(version: Version, command: &Command) -> bool
         Command::Unpin(vehicle) => has_room(version, *vehicle),
         Command::Search(count) => 1 <= *count && *count <= MAX_COUNT,
         Command::Deviation(deviation) => is_deviation(version, *deviation),
+        _ => false,
+    }
+}
+
+/// A command that a store writes down as it is, with fields that keep the limits of a record, has a record: its numbers have
+/// room in their bytes.
+pub fn recorded_fields_have_room(command: &Command)
+    ensures { is_recorded command.now ≡ true → fits_record command.now ≡ true
+        → IsRecorded Two command.now }
+{
+    match command {
+        Command::Withdraw(number) | Command::Unpin(number) => {
+            let _has_room = *number;
+        }
+        Command::Pin(vehicle, stops) => {
+            let _have_room = (*vehicle, *stops);
+        }
+        _ => {}
     }
 }
 

@@ -1,6 +1,6 @@
 use Rattle.std.proofs.Common.{◌≡◌, ◌^◌, ◌<◌, List, subst}
 use Rattle.std.specs.Prelude.{sum_by}
-use Rattle.command_core.specs.Runs.{steps_of}
+use Rattle.command_core.specs.Commands.{steps_of}
 use Rattle.command_core.specs.declared.commands.Command.{Command}
 use Rattle.state_codec.specs.declared.version.Version.TheVariants.{Two}
 use Rattle.recover.proofs.Replays.{to_repeat}

@@ -1,7 +1,7 @@
 use Rattle.std.proofs.Common.{◌≡◌, ◌∙◌, ◌+◌, get_or, ap, arith}
 use Rattle.std.proofs.lemmas.List.{get_or_read}
 use Rattle.std.proofs.lemmas.List.Sums.{sum_by_more, sum_by-take-le}
-use Rattle.command_core.specs.Runs.{steps_of}
+use Rattle.command_core.specs.Commands.{steps_of}
 use Rattle.command_core.specs.declared.commands.Command.TheVariants.{Build}
 use Rattle.recover.proofs.repeating.steps_among.Goals as goal
 
@@ -10,5 +10,5 @@ loop-command-preserved c small =
     let i = c.loop-command.command-index in
     let commands = c.args.commands.now in
     let here = sum_by_more steps_of commands i Build c.loop-command-test.true in
-    let made : c.steps_of.result ≡ steps_of (get_or commands i Build) = c.steps_of.ensures ∙ ap steps_of (get_or_read commands i c.command-item.result c.loop-command-test.true c.command-item.is Build) in
+    let made : c.steps.result ≡ steps_of (get_or commands i Build) = c.steps.ensures ∙ ap steps_of (get_or_read commands i c.command-item.result c.loop-command-test.true c.command-item.is Build) in
     omega (arith, c.saturating_add-steps.ensures, c.loop-command.invariant small, here, made, sum_by-take-le steps_of commands (i + 1), small)

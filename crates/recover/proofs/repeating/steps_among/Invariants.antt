@@ -1,6 +1,6 @@
 use Rattle.std.proofs.Common.{◌≡◌, ◌<◌, ◌^◌, take}
 use Rattle.std.specs.Prelude.{sum_by}
-use Rattle.command_core.specs.Runs.{steps_of}
+use Rattle.command_core.specs.Commands.{steps_of}
 use Rattle.recover.proofs.repeating.steps_among.Given as goal
 
 abbrev pub invariant-loop-command : goal.invariant-loop-command

@@ -12,16 +12,16 @@ use Rattle.recover.specs.Sessions.{SessionValue, AllHold, IsSession}
 use Rattle.recover.specs.Applying.{calls_of, place_after, spent, IsDone, IsBetween}
 use Rattle.recover.specs.Committing.{IsInStep, CommitsState, LeavesDevice}
 use Rattle.recover.proofs.SessionLemmas.{undenied, place_fits, stands_of, leaves_ok, leaves_fault, still}
-use Rattle.recover.proofs.sessions.Session.carry_out.Goals.{After-change, After-commit, in-Whole+in-Loaded-1, in-Whole+in-Empty-1, in-Within+in-Pinned-1, in-Within+in-Working-1, in-Within+in-Plans-1, in-Within+in-Nothing-1}
+use Rattle.recover.proofs.sessions.Session.carry_out.Goals.{After-change_accepted, After-commit, in-Whole+in-Loaded-1, in-Whole+in-Empty-1, in-Within+in-Pinned-1, in-Within+in-Working-1, in-Within+in-Plans-1, in-Within+in-Nothing-1}
 use Rattle.recover.proofs.sessions.Session.carry_out.Goals as goal
 use Rattle.recover.proofs.sessions.Session.carry_out.Given as given
 
 -- the session that is not denied
-whole : (g : given.Over) (c : After-change g) → c.self.inside.is_broken ≡ false
+whole : (g : given.Over) (c : After-change_accepted g) → c.self.inside.is_broken ≡ false
 whole g c = ap (λ (s : SessionValue _). s.is_broken) c.self.view_is ∙ (undenied c.args.self.now c.args.command.now c.requires).0
 
 -- want of memory leaves what was there
-stays : (g : given.Over) (c : After-change g) → (let d = g.D.Sectors in let i = c.self.inside in d.honest i.device
+stays : (g : given.Over) (c : After-change_accepted g) → (let d = g.D.Sectors in let i = c.self.inside in d.honest i.device
     → Throughout d.clock d.possible_since c.args.self.now.device i.device (RunLeaves c.args.self.now.state (c.args.command.now ∷ []) (record { answer = Err OutOfMemory; calls = d.calls i.device } ∷ [])))
 stays g c =
     let d = g.D.Sectors in
@@ -35,7 +35,7 @@ stays g c =
 steps : (g : given.Over) (c : After-commit g) → g.D.Sectors.honest c.commit.new.device
     → CommitsState g.D.Sectors c.commit.result (calls_of c.self.inside.place c.args.command.now) c.self.inside.planner c.state.result.now (place_after c.self.inside.place c.args.command.now) c.self.inside.device c.commit.new.device
 steps g c honest = c.commit.ensures.leads c.self.inside.planner c.in-Ok.ensures.ok.accepted (c.state.ensures ∙ c.in-Ok.ensures.ok.effect) honest
-    (c.self.invariant.durable (whole g (goal.at.After-commit g c).After-change) (c.commit.ensures.called.honest_before honest))
+    (c.self.invariant.durable (whole g (goal.at.After-commit g c).After-change_accepted) (c.commit.ensures.called.honest_before honest))
 
 leaves : (g : given.Over) (c : After-commit g) (answer : Result (Unit {0}) Denial) → (let d = g.D.Sectors in let i = c.self.inside in let end = c.commit.new.device in let command = c.args.command.now in
     ((m : ℕ) (image : List ℕ) → IsInStep i.planner c.state.result.now (d.calls i.device) (calls_of i.place command) m image → RunLeaves i.planner (command ∷ []) (record { answer = answer; calls = d.calls end } ∷ []) m image) → d.honest end
@@ -58,7 +58,7 @@ between g c =
     (λ honest. weakened d.clock d.possible_since c.self.inside.device end _ _ (λ m image step. (step.from, step.to)) (steps g c honest).moments)
 
 pub returns-in_default-clause-moments : goal.returns-in_default-clause-moments
-returns-in_default-clause-moments g c = stays g (goal.at.returns-in_default-clause-moments g c).After-change
+returns-in_default-clause-moments g c = stays g (goal.at.returns-in_default-clause-moments g c).After-change_accepted
 
 pub commit-requires : goal.commit-requires
 commit-requires g c =
@@ -79,7 +79,7 @@ invariant_of-self-in-Ok-commit g c =
     let command = c.args.command.now in
     let unspent : spent i.place command ≡ None = subst (λ (s : SessionValue _). spent s.place command ≡ None) (sym c.self.view_is) (undenied c.args.self.now command c.requires).1 in
     let fits = place_fits i.place command unspent c.self.invariant.first c.self.invariant.last c.self.invariant.used in
-    subst (λ (p : Place). IsSession d.len d.honest d.possible (record { device = c.commit.new.device; state = c.change.new.self; place = p; is_broken = i.is_broken })) (sym c.in-Ok-commit.ensures.place) (record {
+    subst (λ (p : Place). IsSession d.len d.honest d.possible (record { device = c.commit.new.device; state = c.change_accepted.new.self; place = p; is_broken = i.is_broken })) (sym c.in-Ok-commit.ensures.place) (record {
       state = c.in-Ok.ensures.ok.facts;
       room = subst (λ (n : ℕ). sectors_in version_2 ≤ n) (sym c.commit.ensures.called.same_len) c.self.invariant.room;
       first = fits.0;
@@ -89,7 +89,7 @@ invariant_of-self-in-Ok-commit g c =
     })
 
 -- the session after a commit, whatever the change was that is dropped then
-committed : (g : given.Over) (c : goal.Joined-before g) → c.match-before.self ≡ record { device = c.commit.new.device; state = c.change.new.self; place = c.in-Ok-commit.place; is_broken = c.self.inside.is_broken }
+committed : (g : given.Over) (c : goal.Joined-before g) → c.match-before.self ≡ record { device = c.commit.new.device; state = c.change_accepted.new.self; place = c.in-Ok-commit.place; is_broken = c.self.inside.is_broken }
 committed g c = elim c.match-before.branch [
   | in-Whole+in-Loaded-1 w ↦ w.self-is
   | in-Whole+in-Empty-1 w ↦ w.self-is
@@ -103,11 +103,11 @@ pub returns-in-Ok-commit-clause-makes : goal.returns-in-Ok-commit-clause-makes
 returns-in-Ok-commit-clause-makes g c =
     let command = c.args.command.now in
     subst (λ (new : SessionValue _). IsDone c.args.self.now command new) (sym (committed g c))
-    (subst (λ (old : SessionValue _). IsDone old command (record { device = c.commit.new.device; state = c.change.new.self; place = c.in-Ok-commit.place; is_broken = c.self.inside.is_broken })) c.self.view_is (record {
+    (subst (λ (old : SessionValue _). IsDone old command (record { device = c.commit.new.device; state = c.change_accepted.new.self; place = c.in-Ok-commit.place; is_broken = c.self.inside.is_broken })) c.self.view_is (record {
       accepted = c.in-Ok.ensures.ok.accepted;
       state = c.in-Ok.ensures.ok.effect;
       place = c.in-Ok-commit.ensures.place;
-      is_broken = whole g (goal.at.returns-in-Ok-commit-clause-makes g c).After-change;
+      is_broken = whole g (goal.at.returns-in-Ok-commit-clause-makes g c).After-change_accepted;
     }))
 
 pub returns-in-Ok-commit-clause-moments : goal.returns-in-Ok-commit-clause-moments
@@ -132,7 +132,7 @@ returns-in-Err-OutOfMemory-clause-moments g c =
     let d = g.D.Sectors in
     let same : c.commit.new.device ≡ c.self.inside.device = subst (λ fault. LeavesDevice fault c.self.inside.device c.commit.new.device) c.in-Err-OutOfMemory.field-0-is c.in-Err-OutOfMemory.ensures.left in
     subst (λ device. d.honest device → Throughout d.clock d.possible_since c.args.self.now.device device (RunLeaves c.args.self.now.state (c.args.command.now ∷ []) (record { answer = Err OutOfMemory; calls = d.calls device } ∷ []))) (sym same)
-    (stays g (goal.at.returns-in-Err-OutOfMemory-clause-moments g c).After-change)
+    (stays g (goal.at.returns-in-Err-OutOfMemory-clause-moments g c).After-change_accepted)
 
 pub returns-in-Err-OutOfMemory-clause-counts : goal.returns-in-Err-OutOfMemory-clause-counts
 returns-in-Err-OutOfMemory-clause-counts g c = between g (goal.at.returns-in-Err-OutOfMemory-clause-counts g c).After-commit
