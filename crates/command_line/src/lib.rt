@@ -10,6 +10,8 @@
 //!
 //! Modules, in reading order:
 //! - `words`: `Invocation`, what words ask for, and `read_words`
+//! - `commands`: what `clap` is told of the words
+//! - `matches`: what the words that it matched ask for
 //! - `help`: what the program says of itself
 //!
 //! Said by `specs/Asked.antt`. Proved of `read_words`, where no word but `-` begins with a hyphen
@@ -20,7 +22,9 @@
 //! then done.
 #![tactic(auto)]
 
+mod commands;
 mod help;
+mod matches;
 mod words;
 
 pub use words::{Invocation, Loading, Paths, Task, Tasks, read_words};

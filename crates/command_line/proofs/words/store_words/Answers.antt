@@ -1,8 +1,0 @@
--- The name is none but `run`'s.
-use Rattle.std.proofs.Common.{◌∙◌, sym}
-use Rattle.clap.specs.Words.{found_of, rows_of}
-use Rattle.command_line.proofs.CommandLemmas.{told_run}
-use Rattle.command_line.proofs.words.store_words.Goals as goal
-
-pub returns-in_default : goal.returns-in_default
-returns-in_default c = c.run_words.ensures ∙ sym (told_run c.args.name.now (rows_of (found_of c.args.words.now)) c.in_default.not-format c.in_default.not-load c.in_default.not-upgrade)
