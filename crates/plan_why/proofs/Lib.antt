@@ -2,4 +2,5 @@ pub mod AloneLemmas
 pub mod BestLemmas
 pub mod FaultLemmas
 pub mod MayTake
+pub mod PutLemmas
 pub mod TrialLemmas

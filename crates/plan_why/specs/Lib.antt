@@ -6,4 +6,5 @@ pub mod Trials
 pub mod Why
 pub mod Words
 -- what those of private functions say
+pub mod Puts
 pub mod Tried

@@ -32,6 +32,7 @@ mod answers;
 mod laws;
 mod leads;
 mod missed;
+mod puts;
 mod sentences;
 mod trials;
 mod words;

@@ -72,7 +72,8 @@ fn miss_in(problem: &Problem, rows: &[Row]) -> Option<Miss>
     }
 }
 
-fn overload_in(capacity: u32, rows: &[Row]) -> Option<Miss>
+/// The first load that a vehicle can't carry.
+pub(crate) fn overload_in(capacity: u32, rows: &[Row]) -> Option<Miss>
     ensures { result ≡ overload_in capacity rows.now }
 {
     for row in rows {
@@ -83,13 +84,15 @@ fn overload_in(capacity: u32, rows: &[Row]) -> Option<Miss>
     None
 }
 
-fn is_heavy(capacity: u32, row: &Row) -> bool
+/// Whether a vehicle carries more than it can behind a stop.
+pub(crate) fn is_heavy(capacity: u32, row: &Row) -> bool
     ensures { result ≡ is_heavy capacity row.now }
 {
     row.stop != 0 && row.load > i64::from(capacity)
 }
 
-fn overload_at(capacity: u32, row: &Row) -> Miss
+/// That load in figures.
+pub(crate) fn overload_at(capacity: u32, row: &Row) -> Miss
     ensures { result ≡ overload_at capacity row.now }
 {
     Miss {
@@ -100,8 +103,8 @@ fn overload_at(capacity: u32, row: &Row) -> Miss
     }
 }
 
-// A problem of kind `Vrp` asks for no times.
-fn lateness_in(kind: Kind, rows: &[Row]) -> Option<Miss>
+/// The first time that is exceeded. A problem of kind `Vrp` asks for no times.
+pub(crate) fn lateness_in(kind: Kind, rows: &[Row]) -> Option<Miss>
     ensures { result ≡ lateness_in kind rows.now }
 {
     match kind {
@@ -138,7 +141,8 @@ fn lateness_at(row: &Row) -> Miss
     }
 }
 
-fn time_limit(stop: u32) -> Limit
+/// What is exceeded where a stop starts too late; 0 is the depot.
+pub(crate) fn time_limit(stop: u32) -> Limit
     ensures { result ≡ time_limit stop }
 {
     if stop == 0 {

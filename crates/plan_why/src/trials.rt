@@ -1,14 +1,17 @@
 //! A request tried at each place of a route, and which of these trials misses least.
-ghost use Rattle.std.specs.Prelude.{◌≡◌, ◌≤◌, ◌<◌, ◌+◌, ◌-◌, IfOk, Some, length, map};
+ghost use Rattle.std.specs.Prelude.{◌≡◌, ◌≤◌, ◌<◌, ◌+◌, ◌-◌, ℕ, IfOk, IfSome, Some, length, map, take, true};
 ghost use Rattle.std.specs.List.{range_with_len};
 ghost use Rattle.route_sched.specs.Route.{AreLiveOnce};
 ghost use Rattle.plan_types.specs.declared.requests.Request.TheVariants.{Pair, Single};
 ghost use Rattle.move_ops.specs.Insertion.{inserted};
+ghost use Rattle.plan_why.specs.Puts.{IsLight, IsNumberOf, IsTour, found_in, route_with};
 ghost use Rattle.plan_why.specs.Trials.{MayTake, best_from, best_trial, better, is_better, judged, trial_at};
 
 use crate::missed::{Miss, excess_of, miss_of};
+use crate::puts::{Detour, Found, Tour, are_light, distance_with, found_at, found_in, miss_with};
+use plan_explain::rows_of;
 use plan_types::{OutOfMemory, Problem, Request, Stop};
-use route_sched::route_distance;
+use route_sched::{route_distance, stop_behind};
 use std::alloc::Global;
 
 /// What comes of a request at a place of a route.
@@ -97,12 +100,86 @@ fn best_delivery(
         (map (trial_at problem.now route.now (Pair pickup.now delivery.now))
         (map (λ j. (place, j)) (range_with_len (place + 1) (length route.now + 2 - place))))) }
 {
+    // The delivery at the end, so that the front is the route with the pickup alone.
+    let whole = with_pair(alloc, route, pickup, delivery, place, route.len() + 2)?;
+    let stop = stop_behind(problem, whole.as_slice(), route.len() + 1);
+    let picked = &whole.as_slice()[..route.len() + 1];
+    let rows = rows_of(alloc, problem, picked)?;
+    let tour = Tour {
+        route: picked,
+        rows: rows.as_slice(),
+        distance: route_distance(problem, picked),
+        stop,
+    };
+    best_behind(
+        alloc, problem, route, pickup, delivery, &tour, place, so_far,
+    )
+}
+
+// The same, where this is known of the route with the pickup at that place.
+fn best_behind(
+    alloc: Global,
+    problem: &Problem,
+    route: &[u32],
+    pickup: &Stop,
+    delivery: &Stop,
+    tour: &Tour<'_>,
+    place: usize,
+    so_far: Option<Trial>,
+) -> Result<Option<Trial>, OutOfMemory>
+    requires once { MayTake problem.now (Pair pickup.now delivery.now) route.now }
+    requires within { (1 ≤ place) × (place ≤ length route.now + 1) }
+    requires tour { IsTour problem.now tour.now }
+    requires picked { tour.now.route.now ≡ inserted (Single pickup.now) place place route.now }
+    requires number { IsNumberOf problem.now tour.now delivery.now.number }
+    ensures { IfOk result (λ best. best ≡ best_from so_far
+        (map (trial_at problem.now route.now (Pair pickup.now delivery.now))
+        (map (λ j. (place, j)) (range_with_len (place + 1) (length route.now + 2 - place))))) }
+{
+    let are_light = are_light(problem.capacity, tour.rows, place, tour.stop);
+    let mut front = found_in(problem, &tour.rows[..place]);
     let mut best = so_far;
     for behind in place + 1..route.len() + 3 {
-        let trial = pair_trial(alloc, problem, route, pickup, delivery, place, behind)?;
-        best = better(best, trial);
+        best = match better_with(problem, tour, front, place, behind - 1, are_light, best) {
+            Some(best) => best,
+            None => {
+                let trial = pair_trial(alloc, problem, route, pickup, delivery, place, behind)?;
+                better(best, trial)
+            }
+        };
+        front = front.then(found_at(problem, &tour.rows[behind - 1]));
     }
     Ok(best)
+}
+
+// The better of the best so far and what comes of the tour with its stop behind the first `at` stops; `None` says nothing.
+fn better_with(
+    problem: &Problem,
+    tour: &Tour<'_>,
+    front: Found,
+    pickup: usize,
+    at: usize,
+    are_light: bool,
+    best: Option<Trial>,
+) -> Option<Option<Trial>>
+    requires tour { IsTour problem.now tour.now }
+    requires within { (1 ≤ at) × (at ≤ length tour.now.route.now) }
+    requires front { front ≡ found_in problem.now (take at tour.now.rows.now) }
+    requires light { are_light ≡ true → IsLight problem.now tour.now at }
+    ensures { IfSome result (λ new. (number : ℕ) → IsNumberOf problem.now tour.now number
+        → new ≡ better best (judged problem.now (route_with tour.now at number) pickup (at + 1))) }
+{
+    let detour = Detour::of(problem, tour, at);
+    let miss = miss_with(problem, tour, front, &detour, at, are_light)?;
+    let distance = distance_with(tour.distance, &detour)?;
+    let trial = Trial {
+        miss,
+        distance,
+        pickup: pickup as u64,
+        delivery: at as u64 + 1,
+    };
+    let new = better(best, trial);
+    Some(new)
 }
 
 fn single_trial(

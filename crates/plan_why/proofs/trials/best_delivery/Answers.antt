@@ -1,14 +1,47 @@
-use Rattle.std.proofs.Common.{◌∙◌, ◌+◌, ap, sym, arith}
-use Rattle.plan_why.specs.Trials.{best_from, better}
-use Rattle.plan_why.proofs.TrialLemmas.{delivery_next, deliveries}
+use Rattle.std.proofs.Common.{◌≡◌, ◌∙◌, ◌+◌, ◌-◌, ap, sym, subst, arith, take, length}
+use Rattle.std.specs.List.{insert}
+use Rattle.std.proofs.lemmas.List.Edits.{length-insert}
+use Rattle.std.proofs.lemmas.List.FromFn.{length-map-range_with_len}
+use Rattle.route_sched.specs.Route.{AreLiveOnce, place}
+use Rattle.route_sched.proofs.LiveStops.{front_once}
+use Rattle.plan_explain.specs.Tables.{row_behind}
+use Rattle.plan_why.proofs.PutLemmas.{place_put}
 use Rattle.plan_why.proofs.trials.best_delivery.Goals as goal
 
-pub loop-behind-preserved : goal.loop-behind-preserved
-loop-behind-preserved c =
+pub rows_of-requires : goal.rows_of-requires
+rows_of-requires c =
+    let p = c.args.problem.now in
+    let end = length c.args.route.now + 1 in
+    front_once p c.as_slice-2.result.now end (subst (AreLiveOnce p) (sym (c.as_slice-2.ensures.value ∙ c.in_ok-whole.ensures)) (c.requires.once.once c.args.place (length c.args.route.now + 2)))
+
+pub route_distance-requires : goal.route_distance-requires
+route_distance-requires c =
+    let p = c.args.problem.now in
+    let end = length c.args.route.now + 1 in
+    front_once p c.as_slice-2.result.now end (subst (AreLiveOnce p) (sym (c.as_slice-2.ensures.value ∙ c.in_ok-whole.ensures)) (c.requires.once.once c.args.place (length c.args.route.now + 2)))
+
+pub best_behind-requires-clause-tour : goal.best_behind-requires-clause-tour
+best_behind-requires-clause-tour c =
+    let p = c.args.problem.now in
+    let end = length c.args.route.now + 1 in
+    let picked = take end c.as_slice-2.result.now in
+    let is = c.as_slice-3.ensures.value ∙ c.in_ok-rows.ensures in
+    record {
+      once = front_once p c.as_slice-2.result.now end (subst (AreLiveOnce p) (sym (c.as_slice-2.ensures.value ∙ c.in_ok-whole.ensures)) (c.requires.once.once c.args.place (length c.args.route.now + 2)));
+      rows = is;
+      long = ap length is ∙ length-map-range_with_len (row_behind p picked) 0 (length picked + 1);
+      distance = c.route_distance.ensures.value;
+      visit = c.stop_behind-stop.ensures.visit;
+    }
+
+pub best_behind-requires-clause-number : goal.best_behind-requires-clause-number
+best_behind-requires-clause-number c =
     let p = c.args.problem.now in
     let route = c.args.route.now in
-    let pickup = c.args.pickup.now in
-    let delivery = c.args.delivery.now in
-    let behind = c.loop-behind.behind in
-    ap (λ b. best_from b (deliveries p route pickup delivery c.args.place (behind + 1))) (c.better-best.ensures ∙ ap (better c.loop-behind.best) c.in_ok-trial.ensures)
-    ∙ sym (delivery_next p route pickup delivery c.loop-behind.best c.args.place behind (omega (arith, c.loop-behind-test.true))) ∙ c.loop-behind.invariant
+    let end = length route + 1 in
+    let number = c.args.delivery.now.number in
+    let picked = insert route (c.args.place - 1) c.args.pickup.now.number in
+    let longer = length-insert route (c.args.place - 1) c.args.pickup.now.number (omega (arith, c.requires.from, c.requires.within)) in
+    let last : length route + 2 - 1 ≡ end = omega arith in
+    let whole = c.as_slice.ensures.value ∙ c.in_ok-whole.ensures in
+    sym (c.stop_behind-stop.ensures.value ∙ ap (λ r. place p r (end + 1)) whole ∙ ap (λ m. place p (insert picked m number) (end + 1)) last ∙ place_put p picked end number (omega (arith, longer)))

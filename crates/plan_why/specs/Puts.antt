@@ -1,0 +1,91 @@
+-- One stop more in a route whose rows are known: those before it stay, it gets a row of its own, and those behind it are moved.
+use Rattle.std.specs.Prelude.{◌≡◌, ℕ, ◌+◌, ◌-◌, max, ℤ, pos, ◌+ℤ◌, List, [], ◌∷◌, map, length, drop, Option, None}
+use Rattle.std.specs.List.{insert}
+use Rattle.std.specs.Option.{option_or}
+use Rattle.plan_types.specs.Instance.{Instance}
+use Rattle.plan_types.specs.Limits.{IsVisit}
+use Rattle.plan_types.specs.declared.requests.Stop.{Stop}
+use Rattle.nint_dist.specs.Distance.{distance}
+use Rattle.route_sched.specs.Route.{AreLiveOnce, place, stop_numbered}
+use Rattle.route_sched.specs.Schedule.{leg, route_length}
+use Rattle.plan_explain.specs.Tables.{rows_of}
+use Rattle.plan_explain.specs.declared.rows.Row.{Row}
+use Rattle.plan_why.specs.Missed.{lateness_in, overload_in}
+use Rattle.plan_why.specs.declared.missed.Miss.{Miss}
+use Rattle.plan_why.specs.declared.puts.Detour.{Detour}
+use Rattle.plan_why.specs.declared.puts.Found.{Found}
+use Rattle.plan_why.specs.declared.puts.Tour.{Tour}
+
+-- the first load and the first time that rows exceed
+abbrev pub found_in : Instance → List Row → Found
+found_in p rows = record { over = overload_in p.capacity rows; late = lateness_in p.kind rows }
+
+-- of some rows and then of others
+abbrev pub found_then : Found → Found → Found
+found_then f g = record { over = option_or f.over g.over; late = option_or f.late g.late }
+
+-- the row of a stop behind this one, after this service and way
+abbrev pub put_row : Row → ℕ → ℕ → Stop → Row
+put_row here service way s = record {
+  place = here.place + 1;
+  stop = s.number;
+  arrival = here.start + service + way;
+  start = max (here.start + service + way) s.earliest;
+  earliest = s.earliest;
+  latest = s.latest;
+  load = here.load +ℤ s.demand;
+}
+
+-- rows with another load
+abbrev pub laden : ℤ → List Row → List Row
+laden change rows = map (λ (r : Row). record r { load = r.load +ℤ change }) rows
+
+-- a row one place later, with another arrival and load
+abbrev pub moved_row : ℕ → ℤ → Row → Row
+moved_row arrival change r = record {
+  place = r.place + 1;
+  stop = r.stop;
+  arrival = arrival;
+  start = max arrival r.earliest;
+  earliest = r.earliest;
+  latest = r.latest;
+  load = r.load +ℤ change;
+}
+
+-- so with each of some rows, where the vehicle begins at one time in place of another
+abbrev pub moved_from : ℕ → ℕ → ℤ → List Row → List Row
+moved_from now before change [] = []
+moved_from now before change (r ∷ rows) =
+    moved_row (now + (r.arrival - before)) change r ∷ moved_from (max (now + (r.arrival - before)) r.earliest) r.start change rows
+
+-- the first limit that is exceeded, where this was found before these rows
+abbrev pub miss_behind : Instance → Found → ℕ → ℕ → ℤ → List Row → Option Miss
+miss_behind p found now before change rows =
+    option_or (option_or found.over (overload_in p.capacity (laden change rows))) (option_or found.late (lateness_in p.kind (moved_from now before (pos 0) rows)))
+
+-- what is known of a route and of a stop that it may get
+pub record IsTour (p : Instance) (tour : Tour) : Type 0 where
+  pub once : AreLiveOnce p tour.route.now
+  pub rows : tour.rows.now ≡ rows_of p tour.route.now
+  pub long : length tour.rows.now ≡ length tour.route.now + 1
+  pub distance : tour.distance ≡ route_length p tour.route.now
+  pub visit : IsVisit tour.stop.now
+
+-- the ways to the stop and on behind the first `at` stops, and the one that is there
+pub record IsDetour (p : Instance) (tour : Tour) (at : ℕ) (detour : Detour) : Type 0 where
+  pub service : detour.service ≡ (place p tour.route.now at).service
+  pub to : detour.to ≡ distance (place p tour.route.now at) tour.stop.now
+  pub from : detour.from ≡ distance tour.stop.now (place p tour.route.now (at + 1))
+  pub way : detour.way ≡ leg p tour.route.now at
+
+-- the number of the stop
+abbrev pub IsNumberOf : Instance → Tour → ℕ → Type 0
+IsNumberOf p tour number = stop_numbered p number ≡ tour.stop.now
+
+-- the route with it put in behind the first so many stops
+abbrev pub route_with : Tour → ℕ → ℕ → List ℕ
+route_with tour at number = insert tour.route.now at number
+
+-- the loads behind these stops stay within the capacity with it
+abbrev pub IsLight : Instance → Tour → ℕ → Type 0
+IsLight p tour at = overload_in p.capacity (laden tour.stop.now.demand (drop at tour.rows.now)) ≡ None
