@@ -1,7 +1,7 @@
 #!/bin/sh
 # Checks how ./planner builds its programs for the first time, with an `rt` of its own in place of the kit's: crates side by side,
 # each behind those below it, again after a refusal or an interrupt; and the trial's answer on standard error, the program's on
-# standard output, and no word of a trial that failed or was not asked for.
+# standard output, and no word of a trial that failed or was not asked for. Also what waits for no build, and what ./install takes.
 set -u
 
 top=$(CDPATH='' cd -- "$(dirname -- "$0")/.." && pwd -P)
@@ -14,12 +14,14 @@ fail() {
     failures=$((failures + 1))
 }
 
-# As the kit's, it wants the sources of each crate that crates.txt names. A library that does not stand takes a second, at whose
-# ends the file `done` names it, and the one that the file `refused` names is refused. A build takes one more and leaves a program that
-# answers `pass 1`. A trial answers what the file `tried` holds.
-mkdir -p "$folder/tree/tools" "$folder/bin" "$folder/tmp"
-cp -- "$top/planner" "$folder/tree/planner"
-cp -- "$top/tools/build_program.py" "$folder/tree/tools"
+# As the kit's, it wants the sources of each crate that crates.txt names. A library that does not stand takes half a second, at whose
+# ends the file `done` names it, and the one that the file `refused` names is refused. A build takes as long, and leaves a program that
+# answers `pass 1` and notes by which name it was called. A trial answers what the file `tried` holds. The file `slow` tells other
+# seconds for libraries and trials.
+mkdir -p "$folder/tree/tools" "$folder/tree/crates/run_words" "$folder/bin" "$folder/tmp"
+cp -R -- "$top/planner" "$top/install" "$top/clean" "$top/man" "$top/examples" "$folder/tree"
+cp -- "$top/tools/build_program.py" "$top/tools/answer_words.sh" "$folder/tree/tools"
+cp -- "$top/crates/run_words/stdout" "$folder/tree/crates/run_words"
 for it in low left right auditor planner apart; do
     mkdir -p "$folder/tree/crates/$it/src"
     : >"$folder/tree/crates/$it/src/main.rt"
@@ -41,7 +43,7 @@ case $1 in
         echo "begun $name" >>"$FAKE/done"
         mkdir -p out/rlib out/incremental
         echo "$name" >>out/incremental/kept
-        sleep 1
+        sleep "$(cat -- "$FAKE/slow" 2>/dev/null || echo 0.5)"
         if grep -qsx "$name" "$FAKE/refused"; then
             echo "$name is refused"
             exit 1
@@ -50,12 +52,14 @@ case $1 in
         echo "ended $name" >>"$FAKE/done"
         ;;
     run)
-        sleep 1
+        sleep 0.5
         mkdir -p out
-        printf '#!/bin/sh\necho pass 1\nexit 1\n' >"out/$name"
+        printf '#!/bin/sh\nbasename "$0" >"$FAKE/called"\necho pass 1\nexit 1\n' >"out/$name"
         chmod 755 "out/$name"
         ;;
     try)
+        sleep "$(cat -- "$FAKE/slow" 2>/dev/null || echo 0)"
+        echo tried >>"$FAKE/done"
         cat -- "$FAKE/tried"
         cat -- "$FAKE/told" >&2
         ;;
@@ -65,6 +69,16 @@ chmod 755 "$folder/bin/rt"
 : >"$folder/a.txt"
 : >"$folder/a.sol"
 
+# ask WORDS..: as a user asks ./planner.
+ask() {
+    (cd -- "$folder" && FAKE="$folder" TMPDIR="$folder/tmp" PATH="$folder/bin:$PATH" exec tree/planner "$@")
+}
+
+# Nothing is built, and nothing was done.
+forget() {
+    rm -rf -- "$folder/done" "$folder/called" "$folder"/tree/crates/*/out
+}
+
 # expect TRIED TOLD ERRORS WORDS..: standard error has these lines, beside those of the build.
 expect() {
     printf '%s' "$1" >"$folder/tried"
@@ -72,7 +86,7 @@ expect() {
     wanted=$3
     shift 3
     rm -f -- "$folder/tree/crates/planner/out/planner" "$folder/tree/crates/auditor/out/auditor"
-    got=$(cd -- "$folder" && FAKE="$folder" TMPDIR="$folder/tmp" PATH="$folder/bin:$PATH" tree/planner "$@" 2>errors)
+    got=$(ask "$@" 2>"$folder/errors")
     status=$?
     [ "$status, $got" = '1, pass 1' ] || fail "planner $*: status $status, '$got'"
     errors=$(sed 1d "$folder/errors" | grep -v -e '^planner: proving ' -e '^planner: built; ')
@@ -95,20 +109,21 @@ expect 'pass 1
 ' "$ended" '' solve lilim a.txt 1
 
 # An audit waits for the auditor alone, and is answered by the whole program where that is built.
-rm -rf -- "$folder/done" "$folder"/tree/crates/*/out
-(cd -- "$folder" && FAKE="$folder" TMPDIR="$folder/tmp" PATH="$folder/bin:$PATH" tree/planner audits lilim a.txt >/dev/null 2>errors)
+forget
+ask audits lilim a.txt >/dev/null 2>"$folder/errors"
 told=$(grep '^planner: proving [a-z]* (' "$folder/errors" | tr '\n' ' ')
 [ "$told" = 'planner: proving low (1 of 3) planner: proving left (2 of 3) planner: proving auditor (3 of 3) ' ] ||
     fail "of an audit it tells '$told'"
 [ ! -e "$folder/tree/crates/planner/out/planner" ] || fail 'an audit waits for the whole program'
+[ "$(cat -- "$folder/called")" = planner ] || fail "the auditor is called $(cat -- "$folder/called")"
 mkdir -p "$folder/tree/crates/planner/out"
 printf '#!/bin/sh\necho whole\n' >"$folder/tree/crates/planner/out/planner"
 chmod 755 "$folder/tree/crates/planner/out/planner"
 [ "$("$folder/tree/planner" audit lilim a.txt a.sol)" = whole ] || fail 'the whole program is passed over'
 
 # Libraries are proved once those below them stand, side by side, and only those of the program.
-rm -rf -- "$folder/done" "$folder"/tree/crates/*/out
-(cd -- "$folder" && FAKE="$folder" TMPDIR="$folder/tmp" PATH="$folder/bin:$PATH" tree/planner solve >/dev/null 2>errors)
+forget
+ask solve lilim a.txt 1 >/dev/null 2>"$folder/errors"
 told=$(grep '^planner: proving [a-z]* (' "$folder/errors" | tr '\n' ' ')
 [ "$told" = 'planner: proving low (1 of 4) planner: proving left (2 of 4) planner: proving right (3 of 4) planner: proving planner (4 of 4) ' ] ||
     fail "it tells '$told'"
@@ -119,31 +134,113 @@ fi
 [ -z "$(find "$folder/tree" -name lanes)" ] || fail 'lanes are left'
 
 # A library that is refused is told, and what stands is kept.
-rm -rf -- "$folder"/tree/crates/*/out
+forget
 echo right >"$folder/refused"
-(cd -- "$folder" && FAKE="$folder" TMPDIR="$folder/tmp" PATH="$folder/bin:$PATH" tree/planner solve >/dev/null 2>errors)
+ask solve lilim a.txt 1 >/dev/null 2>"$folder/errors"
 status=$?
-[ "$status" = 3 ] && grep -qx 'right is refused' "$folder/errors" || fail "a refusal ends with $status: $(cat "$folder/errors")"
+[ "$status" = 3 ] || fail "a refusal ends with $status: $(cat "$folder/errors")"
+grep -qx 'right is refused' "$folder/errors" || fail "a refusal is told as $(cat "$folder/errors")"
 [ -e "$folder/tree/crates/low/out/rlib/stamp" ] || fail 'what was proved before a refusal is lost'
 rm -- "$folder/refused"
 
-# A build that is interrupted keeps what its provers kept.
-rm -rf -- "$folder/done" "$folder"/tree/crates/*/out
-(cd -- "$folder" && FAKE="$folder" TMPDIR="$folder/tmp" PATH="$folder/bin:$PATH" exec tree/planner solve >/dev/null 2>errors) &
-# The first library takes a second from here on.
-until [ -e "$folder/done" ]; do sleep 0.1; done
-sleep 0.3
-kill "$!"
+# Two that want the program at once build it once.
+forget
+ask audits lilim a.txt >"$folder/first" 2>/dev/null &
+ask audits lilim a.txt >"$folder/second" 2>/dev/null
 wait "$!"
-[ "$(cat -- "$folder/tree/crates/low/out/incremental/kept")" = low ] || fail 'an interrupt loses what was kept'
-[ -z "$(find "$folder/tree" -name lanes)" ] || fail 'lanes are left by an interrupt'
+[ "$(cat -- "$folder/first" "$folder/second" | tr '\n' ' ')" = 'pass 1 pass 1 ' ] || fail 'two builds at once disturb one another'
+[ "$(grep -c '^begun' "$folder/done")" = 2 ] || fail "two builds at once do $(cat -- "$folder/done")"
+
+# A build that is interrupted ends at once with all that it began, as by the signal, and keeps what its provers kept. A terminal
+# sends the signal to all processes, `kill` to one.
+cat >"$folder/interrupt.py" <<'END'
+import os, pathlib, signal, subprocess, sys, time
+number, is_sent_to_all, done = int(sys.argv[1]), sys.argv[2] == "all", pathlib.Path(sys.argv[3])
+signal.signal(signal.SIGINT, signal.SIG_DFL)
+process = subprocess.Popen(sys.argv[4:], start_new_session=True)
+while not done.exists():
+    time.sleep(0.05)
+# The first library and the trial have begun.
+time.sleep(0.3)
+begun = time.monotonic()
+(os.killpg if is_sent_to_all else os.kill)(process.pid, number)
+status = process.wait()
+print(status == -number, time.monotonic() - begun < 1.5)
+END
+echo 2 >"$folder/slow"
+for way in '2 all' '1 all' '15 one'; do
+    forget
+    # shellcheck disable=SC2086 # two words
+    got=$(cd -- "$folder" && FAKE="$folder" TMPDIR="$folder/tmp" PATH="$folder/bin:$PATH" \
+        python3 interrupt.py $way "$folder/done" tree/planner audit lilim a.txt a.sol 2>errors)
+    [ "$got" = 'True True' ] || fail "signal $way: whether it ends by it, and at once: $got"
+    [ "$(cat -- "$folder/tree/crates/low/out/incremental/kept")" = low ] || fail "signal $way loses what was kept"
+    [ -z "$(find "$folder/tree" -name lanes)" ] || fail "signal $way leaves lanes"
+    [ -z "$(ls -A "$folder/tmp")" ] || fail "signal $way leaves a folder"
+done
+sleep 2
+[ "$(cat -- "$folder/done")" = 'begun low' ] || fail "signal $way lets go on $(cat -- "$folder/done")"
+[ -z "$(find "$folder/tree" -name 'lanes*')" ] || fail "lanes are not removed"
+rm -- "$folder/slow"
+
+# plain STATUS WORDS..: an answer without a build. What it prints is given on standard input.
+plain() {
+    wanted=$1
+    shift
+    ask "$@" >"$folder/output" 2>"$folder/errors"
+    status=$?
+    [ "$status" = "$wanted" ] || fail "planner $*: status $status; wanted $wanted"
+    cmp -s -- - "$folder/output" || fail "planner $*: it prints $(cat -- "$folder/output")"
+}
+
+# What the gate compares with the program's answer.
+text_of() {
+    awk -v key="> $1" 'index($0, "= ") == 1 { on = 0 } on { print } $0 == key { on = 1 }' "$top/crates/run_words/stdout"
+}
+
+# Help, the version and words that ask for nothing wait for no build.
+forget
+for words in --help -h help 'help help'; do
+    # shellcheck disable=SC2086 # several words
+    text_of help | plain 0 $words
+done
+for word in audit audits explain timetable draw solve solves format load run upgrade; do
+    [ -n "$(text_of "help|$word")" ] || fail "no help of $word"
+    text_of "help|$word" | plain 0 help "$word"
+    text_of "help|$word" | plain 0 "$word" --help
+    text_of "help|$word" | plain 0 "$word" one -h
+done
+echo 'planner 0.1.0' | plain 0 --version
+echo 'planner 0.1.0' | plain 0 -V
+for words in check 'help check' --frob audit 'audit lilim a.txt' 'audit lilim a.txt a.sol more' 'audit lilm a.txt a.sol' 'audit --frob' \
+    'run a.store careful' 'draw a b c d e' '- a.txt'; do
+    # shellcheck disable=SC2086 # several words
+    plain 64 $words </dev/null
+    grep -q '^error: ' "$folder/errors" || fail "planner $words: it tells $(cat -- "$folder/errors")"
+done
+ln -s tree/planner "$folder/linked"
+[ "$(cd -- "$folder/tmp" && ../linked --version)" = 'planner 0.1.0' ] || fail 'it does not follow a link'
+[ -z "$(find "$folder/done" "$folder"/tree/crates/*/out 2>/dev/null)" ] || fail 'it builds for help or a slip'
+
+# What is installed is what is built, and the whole program where nothing is.
+mkdir -p "$folder/tree/crates/auditor/out"
+printf '#!/bin/sh\necho pass 0 1 20\n' >"$folder/tree/crates/auditor/out/auditor"
+chmod 755 "$folder/tree/crates/auditor/out/auditor"
+"$folder/tree/install" "$folder/prefix" >"$folder/output" || fail 'the auditor is not installed'
+[ -x "$folder/prefix/bin/auditor" ] || fail 'install leaves the auditor out'
+[ ! -e "$folder/prefix/bin/planner" ] || fail 'the auditor is installed as the whole program'
+mkdir -p "$folder/tree/crates/planner/out"
+cp -- "$folder/tree/crates/auditor/out/auditor" "$folder/tree/crates/planner/out/planner"
+"$folder/tree/install" "$folder/prefix" >"$folder/output" || fail 'the program is not installed'
+for it in bin/planner share/man/man1/planner.1; do
+    [ -e "$folder/prefix/$it" ] || fail "install leaves out $it"
+done
 
 # Cleaning leaves the programs alone.
-rm -rf -- "$folder"/tree/crates/*/out
+forget
 mkdir -p "$folder/tree/crates/planner/out" "$folder/tree/crates/auditor/out"
 printf '#!/bin/sh\n' >"$folder/tree/crates/planner/out/planner"
 : >"$folder/tree/crates/auditor/out/auditor"
-cp -- "$top/clean" "$folder/tree/clean"
 mkdir -p "$folder/tree/crates/low/out/rlib"
 : >"$folder/tree/crates/low/out/rlib/low"
 : >"$folder/tree/crates/planner/out/planner.o"

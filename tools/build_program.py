@@ -3,9 +3,11 @@
 
 Its libraries are proved side by side, each once those below it stand, the one with most crates above it first, as many at once as
 cores and memory allow. `rt` holds the crates below the one that it works on, so two runs in one tree wait for each other: here each
-lane has a tree of its own, which shares by hard links what is proved already. A run that was interrupted is gone on from. What the
-prover says where it refuses a crate goes to standard output; the status is 1 then.
+lane has a tree of its own, which shares by hard links what is proved already. A run that was interrupted is gone on from. A second
+run waits for the first. What the prover says where it refuses a crate goes to standard output; the status is 1 then.
 """
+import contextlib
+import fcntl
 import os
 import pathlib
 import re
@@ -21,13 +23,19 @@ LANES = TOP / ".git" / "lanes" if (TOP / ".git").is_dir() else TOP / "lanes"
 SOURCES = ("src", "specs", "proofs")
 MEMORY = 4_000_000_000
 MOST_JOBS = 4
+SIGNALS = (signal.SIGTERM, signal.SIGINT, signal.SIGHUP)
+
+
+def listed_crates():
+    """The lines of crates.txt, by the names of their crates."""
+    lines = [line.split("#")[0] for line in (TOP / "crates.txt").read_text().splitlines()]
+    return {line.split(":")[0].split()[0]: line for line in lines if line.strip()}
 
 
 def read_crates():
     """The crates of the repository, each with those of them that it stands on."""
-    lines = [line.split("#")[0] for line in (TOP / "crates.txt").read_text().splitlines()]
-    listed = dict(line.split(":") for line in lines if line.strip())
-    return {name.split()[0]: [it for it in uses.split() if it in listed] for name, uses in listed.items()}
+    listed = listed_crates()
+    return {name: [it for it in line.split(":")[1].split() if it in listed] for name, line in listed.items()}
 
 
 def below(crates, name):
@@ -44,6 +52,20 @@ def lane_count():
     return max(1, min(len(os.sched_getaffinity(0)), free // MEMORY))
 
 
+def begin(words, folder, log):
+    """Begins a command in a session of its own, so that it can be ended with all that it begins."""
+    return subprocess.Popen(
+        words, cwd=folder, stdin=subprocess.DEVNULL, stdout=log, stderr=subprocess.STDOUT, start_new_session=True
+    )
+
+
+def stop(process):
+    """Ends the command, with all that it began."""
+    with contextlib.suppress(ProcessLookupError):
+        os.killpg(process.pid, signal.SIGTERM)
+    process.wait()
+
+
 def link(source, target):
     """Gives the target the files of the source, in place of its own. Both folders are apart, and the disk holds the files once."""
     shutil.rmtree(target, ignore_errors=True)
@@ -52,7 +74,7 @@ def link(source, target):
 
 
 class Lane:
-    """A tree with the sources of all crates, as `rt` wants it, in which one crate at a time is proved."""
+    """A tree with the sources of these crates and its list of them, as `rt` wants it, in which one crate at a time is proved."""
 
     def __init__(self, folder, names):
         self.crates = folder / "crates"
@@ -62,8 +84,9 @@ class Lane:
             for part in SOURCES:
                 if (TOP / "crates" / name / part).is_dir():
                     shutil.copytree(TOP / "crates" / name / part, self.crates / name / part)
-        for name in ("crates.txt", "HANDLES"):
-            shutil.copy(TOP / name, folder)
+        listed = listed_crates()
+        (folder / "crates.txt").write_text("".join(f"{listed[it]}\n" for it in names))
+        shutil.copy(TOP / "HANDLES", folder)
 
     def begin(self, name, libraries, jobs):
         """Begins to prove the crate over the libraries, which stand."""
@@ -72,20 +95,7 @@ class Lane:
             link(TOP / "crates" / it / "out" / "rlib", self.crates / it / "out" / "rlib")
         link(TOP / "crates" / name / "out", self.crates / name / "out")
         with open(self.log, "w", encoding="utf-8") as log:
-            self.process = subprocess.Popen(
-                ["rt", "lib", "--jobs", str(jobs)],
-                cwd=self.crates / name,
-                stdin=subprocess.DEVNULL,
-                stdout=log,
-                stderr=log,
-                start_new_session=True,
-            )
-
-    def stop(self):
-        """Ends the prover, with all that it began."""
-        if self.process:
-            os.killpg(self.process.pid, signal.SIGTERM)
-            self.process.wait()
+            self.process = begin(["rt", "lib", "--jobs", str(jobs)], self.crates / name, log)
 
     def end(self):
         """Takes home what is kept of the crate. Gives its name, and whether it is proved."""
@@ -96,12 +106,16 @@ class Lane:
 
 
 def take_home():
-    """Takes home what lanes of a run that was killed have kept, and removes them."""
+    """Takes home what lanes have kept, and removes them, on which nobody waits: they hold tens of thousands of files."""
     for kept in LANES.glob("*/crates/*/out/incremental"):
         home = TOP / "crates" / kept.parent.parent.name / "out"
         if not (home / "rlib" / "stamp").exists():
             link(kept.parent, home)
-    shutil.rmtree(LANES, ignore_errors=True)
+    if LANES.exists():
+        LANES.rename(LANES.with_name(f"{LANES.name}-{os.getpid()}-{time.monotonic_ns()}"))
+    gone = list(LANES.parent.glob(f"{LANES.name}-*"))
+    if gone:
+        begin(["rm", "-rf", "--", *gone], TOP, subprocess.DEVNULL)
 
 
 def tell(name, number, count):
@@ -138,13 +152,45 @@ def prove(crates, program, lanes):
 def prove_libraries(crates, program):
     """Proves the libraries of the program in lanes, which are removed behind that, however it ends."""
     take_home()
-    lanes = [Lane(LANES / str(number), crates) for number in range(lane_count())]
+    names = sorted(below(crates, program), key=list(crates).index)
+    lanes = []
     try:
+        lanes += [Lane(LANES / str(number), names) for number in range(lane_count())]
         return prove(crates, program, lanes)
     finally:
         for lane in lanes:
-            lane.stop()
+            if lane.process:
+                stop(lane.process)
         take_home()
+
+
+def build(crates, program):
+    """Builds the program over its libraries, which stand."""
+    count = len(below(crates, program)) + 1
+    tell(program, count, count)
+    process = begin(["rt", "run"], TOP / "crates" / program, None)
+    try:
+        return process.wait()
+    finally:
+        stop(process)
+
+
+def end(*_):
+    """Ends the run, once: what has begun to be taken home is."""
+    for it in SIGNALS:
+        signal.signal(it, signal.SIG_IGN)
+    sys.exit(3)
+
+
+def wait_for_others():
+    """Waits for another run in this tree, and gives what keeps further ones waiting while it is open."""
+    held = open(TOP / "crates.txt", encoding="utf-8")
+    try:
+        fcntl.flock(held, fcntl.LOCK_EX | fcntl.LOCK_NB)
+    except BlockingIOError:
+        print("planner: another build runs here and is waited for", file=sys.stderr, flush=True)
+        fcntl.flock(held, fcntl.LOCK_EX)
+    return held
 
 
 def main():
@@ -152,15 +198,13 @@ def main():
     if len(sys.argv) != 2 or sys.argv[1] not in crates:
         print(__doc__, file=sys.stderr)
         return 64
-    for it in (signal.SIGTERM, signal.SIGINT):
-        signal.signal(it, lambda *_: sys.exit(3))
+    for it in SIGNALS:
+        # What calls this may have it pass over one, as `nohup` does.
+        if signal.getsignal(it) != signal.SIG_IGN:
+            signal.signal(it, end)
     program = sys.argv[1]
-    status = prove_libraries(crates, program)
-    if status == 0:
-        count = len(below(crates, program)) + 1
-        tell(program, count, count)
-        status = subprocess.run(["rt", "run"], cwd=TOP / "crates" / program, stderr=subprocess.STDOUT).returncode
-    return status
+    with wait_for_others():
+        return prove_libraries(crates, program) or build(crates, program)
 
 
 sys.exit(main())

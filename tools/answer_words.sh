@@ -1,0 +1,91 @@
+#!/bin/sh
+# Answers words that want no program, as the program would: help, the version, and words that ask for nothing. The status is that of
+# the answer, 0 or 64, and 1 where the words want the program. What each word has behind it is read off its help.
+set -u
+
+top=$(CDPATH='' cd -- "$(dirname -- "$0")/.." && pwd -P)
+
+# What the program prints of these words, with bars between them. It stands in the list with which the gate compares its answers.
+text_of() {
+    sed -n "/^> $1\$/,/^= /p" "$top/crates/run_words/stdout" | sed '1d;$d'
+}
+
+# Prints this text, and ends.
+print_text() {
+    text_of "$1"
+    exit 0
+}
+
+# Tells why the words are refused, with a line of usage where there is one, and ends.
+refuse() {
+    printf 'error: %s\n\n' "$1" >&2
+    [ -z "$2" ] || printf '%s\n\n' "$2" >&2
+    echo "For more information, try '--help'." >&2
+    exit 64
+}
+
+# Whether the program has this command.
+is_command() {
+    for command in $(text_of help | sed -n '/^Commands:/,/^$/s/^  \([a-z]*\) .*/\1/p'); do
+        [ "$command" != "$1" ] || return 0
+    done
+    return 1
+}
+
+# Refuses a word that is none of the values that the command ($1) has for it ($2).
+check_value() {
+    values=$(text_of "help|$1" | awk -v name="$2" '$1 == name && match($0, /\[possible values: .*\]/) { print substr($0, RSTART, RLENGTH) }')
+    allowed=${values#"[possible values: "}
+    case ", ${allowed%]}, " in
+        ", , " | *", $3, "*) ;;
+        *) refuse "invalid value '$3' for '$2'
+  $values" '' ;;
+    esac
+}
+
+# Answers the words behind a command, where they ask for its help or are not as its usage has them.
+check_words() {
+    name=$1
+    shift
+    usage=$(text_of "help|$name" | grep '^Usage: ')
+    for word in "$@"; do
+        case $word in
+            --) return ;;
+            -h | --help) print_text "help|$name" ;;
+            -?*) refuse "unexpected argument '$word' found" "$usage" ;;
+        esac
+    done
+    missing=
+    # The usage has brackets.
+    set -f
+    for place in ${usage#"Usage: planner $name"}; do
+        if [ $# -gt 0 ]; then
+            check_value "$name" "$place" "$1"
+            shift
+        elif [ "${place#<}" != "$place" ]; then
+            missing="$missing
+  $place"
+        fi
+    done
+    [ $# -eq 0 ] || refuse "unexpected argument '$1' found" "$usage"
+    [ -z "$missing" ] || refuse "the following required arguments were not provided:$missing" "$usage"
+}
+
+[ $# -gt 0 ] || exit 1
+usage=$(text_of help | grep '^Usage: ') || exit 1
+case $1 in
+    -h | --help) print_text help ;;
+    -V | --version) print_text --version ;;
+    --) exit 1 ;;
+    -?*) refuse "unexpected argument '$1' found" "$usage" ;;
+    help)
+        case ${2-help} in
+            help | -h | --help) print_text help ;;
+        esac
+        is_command "$2" || refuse "unrecognized subcommand '$2'" "$usage"
+        print_text "help|$2"
+        ;;
+esac
+is_command "$1" || refuse "unrecognized subcommand '$1'" "$usage"
+check_words "$@"
+exit 1
