@@ -41,6 +41,8 @@ case $1 in
     lib)
         [ ! -e out/rlib/stamp ] || exit 0
         echo "begun $name" >>"$FAKE/done"
+        # It takes a moment to end.
+        trap 'sleep 0.2; exit 1' TERM
         mkdir -p out/rlib out/incremental
         echo "$name" >>out/incremental/kept
         sleep "$(cat -- "$FAKE/slow" 2>/dev/null || echo 0.5)"
@@ -165,7 +167,7 @@ time.sleep(0.3)
 begun = time.monotonic()
 (os.killpg if is_sent_to_all else os.kill)(process.pid, number)
 status = process.wait()
-print(status == -number, time.monotonic() - begun < 1.5)
+print(status == -number, time.monotonic() - begun < 1.5, pathlib.Path("tree/crates/low/out/incremental/kept").exists())
 END
 echo 2 >"$folder/slow"
 for way in '2 all' '1 all' '15 one'; do
@@ -173,8 +175,7 @@ for way in '2 all' '1 all' '15 one'; do
     # shellcheck disable=SC2086 # two words
     got=$(cd -- "$folder" && FAKE="$folder" TMPDIR="$folder/tmp" PATH="$folder/bin:$PATH" \
         python3 interrupt.py $way "$folder/done" tree/planner audit lilim a.txt a.sol 2>errors)
-    [ "$got" = 'True True' ] || fail "signal $way: whether it ends by it, and at once: $got"
-    [ "$(cat -- "$folder/tree/crates/low/out/incremental/kept")" = low ] || fail "signal $way loses what was kept"
+    [ "$got" = 'True True True' ] || fail "signal $way: whether it ends by it, at once, and keeps what was kept: $got"
     [ -z "$(find "$folder/tree" -name lanes)" ] || fail "signal $way leaves lanes"
     [ -z "$(ls -A "$folder/tmp")" ] || fail "signal $way leaves a folder"
 done

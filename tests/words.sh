@@ -55,6 +55,33 @@ expect 64 '' "error: invalid value 'LILIM' for '<KIND>'" audit LILIM one-pair.tx
 expect 64 '' "error: unrecognized subcommand 'check'" check one-pair.txt one-pair.sol
 expect 0 'planner 0.1.0' '' --version
 
+# What ./planner answers where nothing is built, as here, is what the program answers.
+mkdir -p -- "$folder/bare/tools" "$folder/bare/crates/run_words" || exit 1
+cp -- "$top/planner" "$folder/bare"
+cp -- "$top/tools/answer_words.sh" "$folder/bare/tools"
+cp -- "$top/crates/run_words/stdout" "$folder/bare/crates/run_words"
+alike() {
+    "$program" "$@" >"$folder/output" 2>"$folder/error"
+    wanted=$?
+    "$folder/bare/planner" "$@" >"$folder/bare/output" 2>"$folder/bare/error" </dev/null
+    got=$?
+    [ "$got" = "$wanted" ] || fail "planner $*, not built: status $got, wanted $wanted"
+    for part in output error; do
+        cmp -s -- "$folder/$part" "$folder/bare/$part" || fail "planner $*, not built: other $part"
+    done
+}
+for word in $("$program" help | sed -n '/^Commands:/,/^$/s/^  \([a-z]*\) .*/\1/p' | grep -vx help); do
+    alike help "$word"
+    alike "$word" --help
+    alike "$word" -h
+done
+for words in -h --help help -V --version check 'help check' --frob audit 'audit --frob' 'audit lilim one-pair.txt' \
+    'audit lilim one-pair.txt one-pair.sol more' 'audit LILIM one-pair.txt one-pair.sol' audits 'solve lilim one-pair.txt' load upgrade \
+    'run day.store careful' timetable 'draw lilim a b 1 more'; do
+    # shellcheck disable=SC2086 # several words
+    alike $words
+done
+
 # An explanation stands behind the audit's line; a picture that can't be drawn is told on standard error.
 expect 0 'pass 0 10 829' '' explain lilim lc101.txt lc101.sol
 expect 1 'broken 5 route 1 place 1 stop 2' '' explain lilim one-pair.txt one-pair-reversed.sol

@@ -52,7 +52,9 @@ check_words() {
         case $word in
             --) return ;;
             -h | --help) print_text "help|$name" ;;
-            -?*) refuse "unexpected argument '$word' found" "$usage" ;;
+            -?*) refuse "unexpected argument '$word' found
+
+  tip: to pass '$word' as a value, use '-- $word'" "$usage" ;;
         esac
     done
     missing=
