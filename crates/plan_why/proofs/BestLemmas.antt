@@ -72,7 +72,7 @@ joined e d f g x y (inr a) (inr b) = inr (a.0 ∙ b.0, omega (arith, a.1, b.1))
 abbrev no_worse : (t u : Trial) → Type 0
 no_worse t u = AtMost (excess_of t.miss) t.distance (excess_of u.miss) u.distance
 
-not_better : (t u : Trial) → no_worse u t → is_better t u ≡ false
+pub not_better : (t u : Trial) → no_worse u t → is_better t u ≡ false
 not_better t u most = is_not_before (excess_of t.miss) t.distance (excess_of u.miss) u.distance most
 
 -- the best of what was best so far and these is no worse than each of them

@@ -4,7 +4,7 @@ use Rattle.std.specs.List.{find, insert, range_with_len}
 use Rattle.std.specs.Option.{option_map, option_or}
 use Rattle.std.proofs.lemmas.Bool.{cases_Bool}
 use Rattle.std.proofs.lemmas.Int.{ints}
-use Rattle.std.proofs.lemmas.List.{drop-drop, take_more}
+use Rattle.std.proofs.lemmas.List.{drop-drop, take-append-drop, take-take, take_more}
 use Rattle.std.proofs.lemmas.List.Edits.{get_or-insert_at, get_or-insert_below, get_or-insert_above, length-insert}
 use Rattle.std.proofs.lemmas.List.Folds.{find-append}
 use Rattle.std.proofs.lemmas.List.FromFn.{get_or-map-range_with_len, take-map-range_with_len}
@@ -300,3 +300,21 @@ light_later p t a b most light =
 
 pub found_more : (p : Instance) (rows : List Row) (k : ℕ) (d : Row) → k < length rows → found_then (found_in p (take k rows)) (found_in p (get_or rows k d ∷ [])) ≡ found_in p (take (k + 1) rows)
 found_more p rows k d below = sym (ap (found_in p) (take_more rows k d below) ∙ found_both p (take k rows) (get_or rows k d ∷ []))
+
+-- ---- what is settled before the stop
+module _ (p : Instance) (t : Tour) (tour : IsTour p t) (number : ℕ) (is : IsNumberOf p t number) where
+  -- a load that was found exceeded stays the first limit
+  pub over_stays : (at later : ℕ) (m : Miss) → 1 ≤ at → at ≤ later → later ≤ length t.route.now → overload_in p.capacity (take at t.rows.now) ≡ Some m → miss_of p (route_with t later number) ≡ Some m
+  over_stays at later m one most within found =
+      let route = t.route.now in
+      let new = route_with t later number in
+      let behind = row_behind p new later ∷ moved_from (arrival p new (later + 1)) (arrival p route later) t.stop.now.demand (map (row_behind p route) (range_with_len later (length route + 1 - later))) in
+      let taken : take later t.rows.now ≡ map (row_behind p route) (range_with_len 0 later) = ap (take later) tour.rows ∙ take-map-range_with_len (row_behind p route) 0 (length route + 1) later (omega arith) in
+      let first : take at (take later t.rows.now) ≡ take at t.rows.now = take-take at later t.rows.now most in
+      let parts : take later t.rows.now ≡ take at t.rows.now ++ drop at (take later t.rows.now) = sym (take-append-drop at (take later t.rows.now)) ∙ ap (λ l. l ++ drop at (take later t.rows.now)) first in
+      let front : overload_in p.capacity (take later t.rows.now) ≡ Some m =
+      ap (overload_in p.capacity) parts ∙ over_both p.capacity (take at t.rows.now) (drop at (take later t.rows.now)) ∙ ap (λ o. option_or o (overload_in p.capacity (drop at (take later t.rows.now)))) found in
+      let all : overload_in p.capacity (rows_of p new) ≡ Some m =
+      ap (overload_in p.capacity) (rows_are p route number later t.stop.now (omega arith) within is (arrival p new (later + 1)) refl ∙ ap (λ l. l ++ behind) (sym taken))
+      ∙ over_both p.capacity (take later t.rows.now) behind ∙ ap (λ o. option_or o (overload_in p.capacity behind)) front in
+      ap (λ o. option_or o (lateness_in p.kind (rows_of p new))) all

@@ -1,13 +1,18 @@
 -- Trials place by place.
-use Rattle.std.proofs.Common.{◌≡◌, ◌∙◌, ℕ, suc, ◌+◌, ◌-◌, ◌<◌, List, [], ◌∷◌, ◌++◌, map, length, ◌≤◌, Option, refl, sym, ap, arith}
+use Rattle.std.proofs.Common.{◌≡◌, ◌∙◌, ℕ, suc, ◌+◌, ◌-◌, ◌<◌, List, [], ◌∷◌, ◌++◌, map, length, ◌≤◌, zero, ◌⊎◌, inl, Bool, true, false, take, subst, Option, Some, None, refl, sym, ap, arith}
 use Rattle.std.specs.List.{flat_map, insert, range_with_len}
+use Rattle.std.proofs.lemmas.Bool.{leb-true}
 use Rattle.plan_types.specs.Instance.{Instance}
 use Rattle.plan_types.specs.declared.requests.Request.TheVariants.{Pair, Single}
 use Rattle.plan_types.specs.declared.requests.Stop.{Stop}
 use Rattle.route_sched.specs.Schedule.{route_length}
-use Rattle.plan_why.specs.Missed.{miss_of}
+use Rattle.plan_why.specs.Missed.{excess, excess_of, miss_of, overload_in}
+use Rattle.plan_why.specs.Puts.{IsNumberOf, IsTour, is_settled}
+use Rattle.plan_why.specs.declared.puts.Tour.{Tour}
+use Rattle.plan_why.proofs.BestLemmas.{not_better}
+use Rattle.plan_why.proofs.PutLemmas.{over_stays}
 use Rattle.move_ops.specs.Insertion.{inserted}
-use Rattle.plan_why.specs.Trials.{best_from, better, judged, trial_at}
+use Rattle.plan_why.specs.Trials.{best_from, better, is_better, judged, trial_at}
 use Rattle.plan_why.specs.declared.missed.Miss.{Miss}
 use Rattle.plan_why.specs.declared.trials.Trial.{Trial}
 
@@ -58,6 +63,30 @@ module _ (p : Instance) (route : List ℕ) where
     trial_with picked i behind from is =
         let same : behind - 1 + 1 ≡ behind = omega arith in
         ap (λ r. judged p (insert r (behind - 1) b.number) i (behind - 1 + 1)) is ∙ ap (judged p (inserted (Pair a b) i behind route) i) same
+
+    -- where none of these is better than the best so far, that stays
+    none_better : (best : Trial) (i behind n : ℕ) → ((j : ℕ) → behind ≤ j → j < behind + n → is_better (trial_at p route (Pair a b) (i, j)) best ≡ false) → best_from (Some best) (map (trial_at p route (Pair a b)) (map (λ j. (i, j)) (range_with_len behind n))) ≡ Some best
+    none_better best i behind zero worse = refl
+    none_better best i behind (suc n) worse =
+        ap (λ o. best_from o (map (trial_at p route (Pair a b)) (map (λ j. (i, j)) (range_with_len (behind + 1) n)))) (kept (is_better (trial_at p route (Pair a b) (i, behind)) best) refl (worse behind (omega arith) (omega arith)))
+        ∙ none_better best i (behind + 1) n (λ j from to. worse j (omega arith) (omega arith))
+      where
+        kept : (t : Bool) → is_better (trial_at p route (Pair a b) (i, behind)) best ≡ t → is_better (trial_at p route (Pair a b) (i, behind)) best ≡ false → better (Some best) (trial_at p route (Pair a b) (i, behind)) ≡ Some best
+        kept t is fails = rw fails refl
+
+    -- a limit that is exceeded by more than the best so far, and comes first wherever the delivery is put in
+    pub settled : (tour : Tour) (over : Option Miss) (best all : Option Trial) (i behind : ℕ) → IsTour p tour → IsNumberOf p tour b.number → tour.route.now ≡ inserted (Single a) i i route → over ≡ overload_in p.capacity (take (behind - 1) tour.rows.now) →
+      2 ≤ behind → length tour.route.now ≡ length route + 1 → is_settled over best ≡ true → best_from best (deliveries i behind) ≡ all → best ≡ all
+    settled tour over None all i behind is number picked found from long worse so_far = absurd (let e : false ≡ true = worse in cc)
+    settled tour None (Some best) all i behind is number picked found from long worse so_far = absurd (let e : false ≡ true = worse in cc)
+    settled tour (Some m) (Some best) all i behind is number picked found from long worse so_far =
+        let less : excess_of best.miss < excess m = leb-true _ _ worse in
+        let over : overload_in p.capacity (take (behind - 1) tour.rows.now) ≡ Some m = sym found in
+        sym (none_better best i behind (length route + 3 - behind) (λ j at within.
+            let same : trial_at p route (Pair a b) (i, j) ≡ judged p (insert tour.route.now (j - 1) b.number) i (j - 1 + 1) = sym (trial_with tour.route.now i j (omega arith) picked) in
+            let misses : miss_of p (insert tour.route.now (j - 1) b.number) ≡ Some m = over_stays p tour is b.number number (behind - 1) (j - 1) m (omega arith) (omega arith) (omega arith) over in
+            let more : excess_of best.miss < excess_of (judged p (insert tour.route.now (j - 1) b.number) i (j - 1 + 1)).miss = subst (λ o. excess_of best.miss < excess_of o) (sym misses) less in
+            ap (λ t. is_better t best) same ∙ not_better (judged p (insert tour.route.now (j - 1) b.number) i (j - 1 + 1)) best (inl more))) ∙ so_far
 
     -- the places with the pickup at this one
     abbrev pub places_at : ℕ → List (ℕ × ℕ)

@@ -1,5 +1,5 @@
 -- One stop more in a route whose rows are known: those before it stay, it gets a row of its own, and those behind it are moved.
-use Rattle.std.specs.Prelude.{◌≡◌, ℕ, ◌+◌, ◌-◌, max, ℤ, pos, ◌+ℤ◌, List, [], ◌∷◌, map, length, drop, Option, None}
+use Rattle.std.specs.Prelude.{◌≡◌, ℕ, ◌+◌, ◌-◌, max, ℤ, pos, ◌+ℤ◌, List, [], ◌∷◌, map, length, drop, Option, None, Some, Bool, false, nat_lt}
 use Rattle.std.specs.List.{insert}
 use Rattle.std.specs.Option.{option_or}
 use Rattle.plan_types.specs.Instance.{Instance}
@@ -10,11 +10,12 @@ use Rattle.route_sched.specs.Route.{AreLiveOnce, place, stop_numbered}
 use Rattle.route_sched.specs.Schedule.{leg, route_length}
 use Rattle.plan_explain.specs.Tables.{rows_of}
 use Rattle.plan_explain.specs.declared.rows.Row.{Row}
-use Rattle.plan_why.specs.Missed.{lateness_in, overload_in}
+use Rattle.plan_why.specs.Missed.{excess, excess_of, lateness_in, overload_in}
 use Rattle.plan_why.specs.declared.missed.Miss.{Miss}
 use Rattle.plan_why.specs.declared.puts.Detour.{Detour}
 use Rattle.plan_why.specs.declared.puts.Found.{Found}
 use Rattle.plan_why.specs.declared.puts.Tour.{Tour}
+use Rattle.plan_why.specs.declared.trials.Trial.{Trial}
 
 -- the first load and the first time that rows exceed
 abbrev pub found_in : Instance → List Row → Found
@@ -89,3 +90,9 @@ route_with tour at number = insert tour.route.now at number
 -- the loads behind these stops stay within the capacity with it
 abbrev pub IsLight : Instance → Tour → ℕ → Type 0
 IsLight p tour at = overload_in p.capacity (laden tour.stop.now.demand (drop at tour.rows.now)) ≡ None
+
+-- what was found exceeds a limit by more than the best trial so far
+abbrev pub is_settled : Option Miss → Option Trial → Bool
+is_settled over None = false
+is_settled None (Some best) = false
+is_settled (Some m) (Some best) = nat_lt (excess_of best.miss) (excess m)

@@ -4,7 +4,7 @@ ghost use Rattle.std.specs.List.{range_with_len};
 ghost use Rattle.route_sched.specs.Route.{AreLiveOnce};
 ghost use Rattle.plan_types.specs.declared.requests.Request.TheVariants.{Pair, Single};
 ghost use Rattle.move_ops.specs.Insertion.{inserted};
-ghost use Rattle.plan_why.specs.Puts.{IsLight, IsNumberOf, IsTour, found_in, route_with};
+ghost use Rattle.plan_why.specs.Puts.{IsLight, IsNumberOf, IsTour, found_in, is_settled, route_with};
 ghost use Rattle.plan_why.specs.Trials.{MayTake, best_from, best_trial, better, is_better, judged, trial_at};
 
 use crate::missed::{Miss, excess_of, miss_of};
@@ -140,6 +140,9 @@ fn best_behind(
     let mut front = found_in(problem, &tour.rows[..place]);
     let mut best = so_far;
     for behind in place + 1..route.len() + 3 {
+        if is_settled(&front, &best) {
+            return Ok(best);
+        }
         best = match better_with(problem, tour, front, place, behind - 1, are_light, best) {
             Some(best) => best,
             None => {
@@ -150,6 +153,16 @@ fn best_behind(
         front = front.then(found_at(problem, &tour.rows[behind - 1]));
     }
     Ok(best)
+}
+
+// Whether what was found exceeds a limit by more than the best so far does, and comes first wherever the delivery is put in behind it.
+fn is_settled(front: &Found, best: &Option<Trial>) -> bool
+    ensures { result ≡ is_settled front.now.over best.now }
+{
+    match (&front.over, best) {
+        (Some(over), Some(best)) => excess_of(&best.miss) < over.excess(),
+        _ => false,
+    }
 }
 
 // The better of the best so far and what comes of the tour with its stop behind the first `at` stops; `None` says nothing.

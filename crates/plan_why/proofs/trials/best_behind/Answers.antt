@@ -1,11 +1,14 @@
-use Rattle.std.proofs.Common.{◌≡◌, ◌∙◌, ◌<◌, ◌+◌, ◌-◌, ap, subst, arith, pos, take, drop, length, None}
+use Rattle.std.proofs.Common.{◌≡◌, ◌∙◌, ◌<◌, ◌+◌, ◌-◌, ap, subst, arith, pos, map, sym, take, drop, length, None}
+use Rattle.std.specs.List.{range_with_len}
 use Rattle.std.proofs.lemmas.List.Edits.{length-insert}
 use Rattle.plan_explain.specs.declared.rows.Row.{Row}
 use Rattle.plan_why.specs.Missed.{overload_in}
 use Rattle.plan_why.specs.Puts.{found_in, found_then, laden}
-use Rattle.plan_why.specs.Trials.{better}
+use Rattle.plan_types.specs.declared.requests.Request.TheVariants.{Pair}
+use Rattle.plan_why.specs.Trials.{best_from, better, trial_at}
+use Rattle.plan_why.specs.declared.puts.Found.{Found}
 use Rattle.plan_why.proofs.PutLemmas.{found_more, light_later}
-use Rattle.plan_why.proofs.TrialLemmas.{delivery_more, trial_with}
+use Rattle.plan_why.proofs.TrialLemmas.{delivery_more, settled, trial_with}
 use Rattle.plan_why.proofs.trials.best_behind.Goals as goal
 use Rattle.plan_why.proofs.trials.best_behind.Goals.{in-Some, in-None+in_ok-trial-in-None}
 
@@ -14,6 +17,22 @@ better_with-requires-clause-light c = λ light.
     let tour = c.args.tour.now in
     light_later c.args.problem.now tour c.args.place (c.loop-behind.behind - 1) (omega (arith, c.loop-behind.auto.behind))
     (subst (λ q. overload_in q.capacity (laden tour.stop.now.demand (drop c.args.place tour.rows.now)) ≡ None) c.problem.view_is (c.are_light-are_light.ensures light))
+
+pub returns-then-is_settled : goal.returns-then-is_settled
+returns-then-is_settled c =
+    let p = c.args.problem.now in
+    let route = c.args.route.now in
+    let a = c.args.pickup.now in
+    let b = c.args.delivery.now in
+    let place = c.args.place in
+    let behind = c.loop-behind.behind in
+    let picked = c.requires.picked in
+    let longer = length-insert route (place - 1) a.number (omega (arith, c.requires.within.0, c.requires.within.1)) in
+    let long = ap length picked ∙ longer in
+    let count : length route + 3 - (place + 1) ≡ length route + 2 - place = omega arith in
+    settled p route a b c.args.tour.now c.loop-behind.front.over c.loop-behind.best _ place behind c.requires.tour c.requires.number picked
+    (ap (λ (f : Found). f.over) c.loop-behind.invariant.0) (omega (arith, c.loop-behind.auto.behind, c.requires.within.0)) long (sym c.is_settled.ensures ∙ c.if-is_settled.true) c.loop-behind.invariant.1
+    ∙ ap (λ n. best_from c.args.so_far (map (trial_at p route (Pair a b)) (map (λ j. (place, j)) (range_with_len (place + 1) n)))) count
 
 pub loop-behind-preserved : goal.loop-behind-preserved
 loop-behind-preserved c =
