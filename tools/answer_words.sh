@@ -34,7 +34,8 @@ is_command() {
 
 # Refuses a word that is none of the values that the command ($1) has for it ($2).
 check_value() {
-    values=$(text_of "help|$1" | awk -v name="$2" '$1 == name && match($0, /\[possible values: .*\]/) { print substr($0, RSTART, RLENGTH) }')
+    values=$(text_of "help|$1" |
+        awk -v name="$2" '$1 == name && match($0, /\[possible values: .*\]/) { print substr($0, RSTART, RLENGTH) }')
     allowed=${values#"[possible values: "}
     case ", ${allowed%]}, " in
         ", , " | *", $3, "*) ;;
