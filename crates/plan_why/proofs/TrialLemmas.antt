@@ -76,17 +76,17 @@ module _ (p : Instance) (route : List ℕ) where
 
     -- a limit that is exceeded by more than the best so far, and comes first wherever the delivery is put in
     pub settled : (tour : Tour) (over : Option Miss) (best all : Option Trial) (i behind : ℕ) → IsTour p tour → IsNumberOf p tour b.number → tour.route.now ≡ inserted (Single a) i i route → over ≡ overload_in p.capacity (take (behind - 1) tour.rows.now) →
-      2 ≤ behind → length tour.route.now ≡ length route + 1 → is_settled over best ≡ true → best_from best (deliveries i behind) ≡ all → best ≡ all
+        2 ≤ behind → length tour.route.now ≡ length route + 1 → is_settled over best ≡ true → best_from best (deliveries i behind) ≡ all → best ≡ all
     settled tour over None all i behind is number picked found from long worse so_far = absurd (let e : false ≡ true = worse in cc)
     settled tour None (Some best) all i behind is number picked found from long worse so_far = absurd (let e : false ≡ true = worse in cc)
     settled tour (Some m) (Some best) all i behind is number picked found from long worse so_far =
         let less : excess_of best.miss < excess m = leb-true _ _ worse in
         let over : overload_in p.capacity (take (behind - 1) tour.rows.now) ≡ Some m = sym found in
         sym (none_better best i behind (length route + 3 - behind) (λ j at within.
-            let same : trial_at p route (Pair a b) (i, j) ≡ judged p (insert tour.route.now (j - 1) b.number) i (j - 1 + 1) = sym (trial_with tour.route.now i j (omega arith) picked) in
-            let misses : miss_of p (insert tour.route.now (j - 1) b.number) ≡ Some m = over_stays p tour is b.number number (behind - 1) (j - 1) m (omega arith) (omega arith) (omega arith) over in
-            let more : excess_of best.miss < excess_of (judged p (insert tour.route.now (j - 1) b.number) i (j - 1 + 1)).miss = subst (λ o. excess_of best.miss < excess_of o) (sym misses) less in
-            ap (λ t. is_better t best) same ∙ not_better (judged p (insert tour.route.now (j - 1) b.number) i (j - 1 + 1)) best (inl more))) ∙ so_far
+        let same : trial_at p route (Pair a b) (i, j) ≡ judged p (insert tour.route.now (j - 1) b.number) i (j - 1 + 1) = sym (trial_with tour.route.now i j (omega arith) picked) in
+        let misses : miss_of p (insert tour.route.now (j - 1) b.number) ≡ Some m = over_stays p tour is b.number number (behind - 1) (j - 1) m (omega arith) (omega arith) (omega arith) over in
+        let more : excess_of best.miss < excess_of (judged p (insert tour.route.now (j - 1) b.number) i (j - 1 + 1)).miss = subst (λ o. excess_of best.miss < excess_of o) (sym misses) less in
+        ap (λ t. is_better t best) same ∙ not_better (judged p (insert tour.route.now (j - 1) b.number) i (j - 1 + 1)) best (inl more))) ∙ so_far
 
     -- the places with the pickup at this one
     abbrev pub places_at : ℕ → List (ℕ × ℕ)
