@@ -75,7 +75,7 @@ for word in $("$program" help | sed -n '/^Commands:/,/^$/s/^  \([a-z]*\) .*/\1/p
     alike "$word" --help
     alike "$word" -h
 done
-for words in -h --help help -V --version check 'help check' --frob audit 'audit --frob' 'audit lilim one-pair.txt' \
+for words in -h --help help -V --version check 'help check' 'help --help' 'help audit more' --frob audit 'audit --frob' 'audit lilim one-pair.txt' \
     'audit lilim one-pair.txt one-pair.sol more' 'audit LILIM one-pair.txt one-pair.sol' audits 'solve lilim one-pair.txt' load upgrade \
     'run day.store careful' timetable 'draw lilim a b 1 more'; do
     # shellcheck disable=SC2086 # several words

@@ -82,10 +82,9 @@ case $1 in
     --) exit 1 ;;
     -?*) refuse "unexpected argument '$1' found" "$usage" ;;
     help)
-        case ${2-help} in
-            help | -h | --help) print_text help ;;
-        esac
+        [ "${2-help}" != help ] || print_text help
         is_command "$2" || refuse "unrecognized subcommand '$2'" "$usage"
+        [ $# -eq 2 ] || refuse "unrecognized subcommand '$3'" "$(text_of "help|$2" | grep '^Usage: ')"
         print_text "help|$2"
         ;;
 esac
