@@ -16,8 +16,7 @@ fail() {
 
 # As the kit's, it wants the sources of each crate that crates.txt names. A library that does not stand takes half a second, at whose
 # ends the file `done` names it, and the one that the file `refused` names is refused. A build takes as long, and leaves a program that
-# answers `pass 1` and notes by which name it was called. A trial answers what the file `tried` holds. The file `slow` tells other
-# seconds for libraries and trials.
+# answers `pass 1`. A trial answers what the file `tried` holds. The file `slow` tells other seconds for libraries and trials.
 mkdir -p "$folder/tree/tools" "$folder/tree/crates/run_words" "$folder/bin" "$folder/tmp"
 cp -R -- "$top/planner" "$top/install" "$top/clean" "$top/man" "$top/examples" "$folder/tree"
 cp -- "$top/tools/build_program.py" "$top/tools/answer_words.sh" "$folder/tree/tools"
@@ -56,7 +55,7 @@ case $1 in
     run)
         sleep 0.5
         mkdir -p out
-        printf '#!/bin/sh\nbasename "$0" >"$FAKE/called"\necho pass 1\nexit 1\n' >"out/$name"
+        printf '#!/bin/sh\necho pass 1\nexit 1\n' >"out/$name"
         chmod 755 "out/$name"
         ;;
     try)
@@ -78,7 +77,7 @@ ask() {
 
 # Nothing is built, and nothing was done.
 forget() {
-    rm -rf -- "$folder/done" "$folder/called" "$folder"/tree/crates/*/out
+    rm -rf -- "$folder/done" "$folder"/tree/crates/*/out
 }
 
 # expect TRIED TOLD ERRORS WORDS..: standard error has these lines, beside those of the build.
@@ -117,7 +116,6 @@ told=$(grep '^planner: proving [a-z]* (' "$folder/errors" | tr '\n' ' ')
 [ "$told" = 'planner: proving low (1 of 3) planner: proving left (2 of 3) planner: proving auditor (3 of 3) ' ] ||
     fail "of an audit it tells '$told'"
 [ ! -e "$folder/tree/crates/planner/out/planner" ] || fail 'an audit waits for the whole program'
-[ "$(cat -- "$folder/called")" = planner ] || fail "the auditor is called $(cat -- "$folder/called")"
 mkdir -p "$folder/tree/crates/planner/out"
 printf '#!/bin/sh\necho whole\n' >"$folder/tree/crates/planner/out/planner"
 chmod 755 "$folder/tree/crates/planner/out/planner"
