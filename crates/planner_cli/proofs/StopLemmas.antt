@@ -3,6 +3,7 @@ use Rattle.std.proofs.Common.{◌≡◌, ◌∙◌, ℕ, ◌+◌, ◌≤◌, ◌
 use Rattle.std.specs.Prelude.{Result, Ok, Err, Option, Some, is_ok, nat_le, if◌then◌else◌}
 use Rattle.std.proofs.lemmas.Bool.{lt-leb}
 use Rattle.std.proofs.lemmas.List.Sums.{sum_by-cons}
+use Rattle.checkpoint.specs.declared.faults.StoreFault.{StoreFault}
 use Rattle.checkpoint.specs.declared.places.Place.{Place}
 use Rattle.command_core.specs.declared.commands.Command.{Command}
 use Rattle.command_core.specs.declared.states.State.{State}
@@ -14,10 +15,10 @@ use Rattle.command_serving.proofs.ActLemmas.{honest_before}
 use Rattle.command_serving.proofs.StoppedLemmas.{recovered_of, weaker}
 use Rattle.command_text.specs.Cutting.{pieces_of}
 use Rattle.command_text.specs.Readings.{IsReading, Reading}
-use Rattle.planner_cli.specs.Recovering.{HoldsWhatWasTold, RunHeadline, RunKeepsAnswers, ServedRunHeadline, acts_in}
+use Rattle.planner_cli.specs.Recovering.{GivesFirstPart, HoldsWhatWasTold, KeepsAnswersSince, Run, RunHeadline, RunKeepsAnswers, RunsOver, ServedRunHeadline, ServedRunKeepsAnswers, acts_in}
 use Rattle.planner_cli.specs.Running.{IsOpened}
 use Rattle.recover.specs.Applying.{IsAnswer, IsBetween, Makes, calls_of, denial, is_snapshot_due}
-use Rattle.recover.specs.Headline.{Headline, IsRecovered, LeavesFirstPart}
+use Rattle.recover.specs.Headline.{GivesWhatStands, Headline, IsRecovered, LeavesFirstPart}
 use Rattle.recover.specs.Joining.{IsRunOn}
 use Rattle.recover.specs.Moments.{RunLeaves, StandsForSome}
 use Rattle.recover.specs.Replies.{acked, is_acknowledged, kept}
@@ -109,7 +110,7 @@ pub run_headline : {D E : Type 0} (on : sectors.Ghosts D) (again : sectors.Ghost
 run_headline on again reading reads law runs run device m image other left outcome is honest stood stop given settled opens =
     let acts : List Act = acts_in on reading reads run device is in
     let session = is.session in
-    let new = is.runs.new in
+    let new = is.new in
     let done : IsRunOfInput on reading session run.input acts new =
     runs reading session new run.input is.runs.opened is.runs.answered is.runs.served ((is.runs.ends.serves run.input is.is_input).serves reading reads) in
     let asked = asked_by reading session (pieces_of run.input) acts in
@@ -120,17 +121,35 @@ run_headline on again reading reads law runs run device m image other left outco
 
 pub served_run_headline : {D E : Type 0} (on : sectors.Ghosts D) (again : sectors.Ghosts E) (reading : Reading) (reads : IsReading reading) → ServedHeadline on again → ServedRunHeadline on again reading reads
 served_run_headline on again reading reads law run device m image other left outcome is honest stop given settled opens =
-    law reading is.session is.runs.new run.input is.runs.opened is.runs.answered is.runs.served m image other left outcome ((is.runs.ends.serves run.input is.is_input).serves reading reads)
+    law reading is.session is.new run.input is.runs.opened is.runs.answered is.runs.served m image other left outcome ((is.runs.ends.serves run.input is.is_input).serves reading reads)
     is.opened.whole honest is.runs.ends.moments stop given settled opens
 
-pub run_keeps_answers : {D E : Type 0} (on : sectors.Ghosts D) (again : sectors.Ghosts E) (reading : Reading) (reads : IsReading reading) → AnswersComeAfter on → RunHeadline on again reading reads → RunKeepsAnswers on again reading reads
-run_keeps_answers on again reading reads told_law law run device m image other left outcome events others is honest stood stop done timely given settled opens =
+-- what a stop at a moment since this one gives
+abbrev GivesFirstPartSince : {D E : Type 0} (on : sectors.Ghosts D) (again : sectors.Ghosts E) (reading : Reading) (reads : IsReading reading) → ℕ → (run : Run) (device : D) → RunsOver on run device → Type 0
+GivesFirstPartSince {D} {E} on again reading reads since run device is = (m : ℕ) (image : List ℕ) (other left : E) (outcome : Result State StoreFault)
+    → on.possible_since is.new.device since m image → again.seen other ≡ image → again.honest left → GivesWhatStands again other outcome left
+    → GivesFirstPart on again reading reads run device is m outcome
+
+keeps_answers : {D E : Type 0} (on : sectors.Ghosts D) (again : sectors.Ghosts E) (reading : Reading) (reads : IsReading reading) → AnswersComeAfter on
+    → (since : ℕ) (run : Run) (device : D) (is : RunsOver on run device) → GivesFirstPartSince on again reading reads since run device is
+    → KeepsAnswersSince on again reading reads since run device is
+keeps_answers on again reading reads told_law since run device is law m image other left outcome events others stop done timely given settled opens =
     let acts : List Act = acts_in on reading reads run device is in
     let runs = is.runs in
     let noted : runs.answered.events ≡ runs.opened.events ++ (events ++ others) =
     sym runs.noted ∙ done ∙ ap (λ l. l ++ (events ++ others)) (sym (append-nil run.before.events) ∙ sym runs.tells_opened.noted) in
     let told : TellsAcknowledged reading is.session run.input acts m (put_by events) =
-    told_law reading is.session runs.new run.input runs.opened runs.answered runs.served m events others ((runs.ends.serves run.input is.is_input).serves reading reads) noted timely in
+    told_law reading is.session is.new run.input runs.opened runs.answered runs.served m events others ((runs.ends.serves run.input is.is_input).serves reading reads) noted timely in
     weaker (IsRecovered is.session.state (asked_by reading is.session (pieces_of run.input) acts) (acked m (replies_of acts))) (HoldsWhatWasTold on again reading reads run device is m (put_by events))
     (λ given found. record { told = told; recovered = found; holds = omega (arith, told.acknowledged, found.all_acknowledged) }) outcome
-    (law run device m image other left outcome is honest stood stop given settled opens)
+    (law m image other left outcome stop given settled opens)
+
+pub run_keeps_answers : {D E : Type 0} (on : sectors.Ghosts D) (again : sectors.Ghosts E) (reading : Reading) (reads : IsReading reading) → AnswersComeAfter on → RunHeadline on again reading reads → RunKeepsAnswers on again reading reads
+run_keeps_answers on again reading reads told_law law run device is honest stood =
+    keeps_answers on again reading reads told_law (on.clock device) run device is
+    (λ m image other left outcome stop given settled opens. law run device m image other left outcome is honest stood stop given settled opens)
+
+pub served_run_keeps_answers : {D E : Type 0} (on : sectors.Ghosts D) (again : sectors.Ghosts E) (reading : Reading) (reads : IsReading reading) → AnswersComeAfter on → ServedRunHeadline on again reading reads → ServedRunKeepsAnswers on again reading reads
+served_run_keeps_answers on again reading reads told_law law run device is honest =
+    keeps_answers on again reading reads told_law (on.clock is.session.device) run device is
+    (λ m image other left outcome stop given settled opens. law run device m image other left outcome is honest stop given settled opens)

@@ -14,7 +14,7 @@ use Rattle.planner_cli.specs.Formatting.{FormatsStore}
 use Rattle.auditor_cli.specs.Listed.{TellsList}
 use Rattle.planner_cli.specs.Loading.{TellsLoad}
 use Rattle.auditor_cli.specs.Reads.{FileRead, FileWrite, IsGrown, IsRead, IsReadFirst}
-use Rattle.planner_cli.specs.Running.{RunsStore}
+use Rattle.planner_cli.specs.Running.{RunsStore, ServesStore}
 use Rattle.planner_cli.specs.SolvedList.{FilesDone, SolvesList}
 use Rattle.planner_cli.specs.Solving.{TellsTask}
 use Rattle.planner_cli.specs.Statuses.{CanEndWith}
@@ -97,6 +97,11 @@ AreErrorsKept (run store is_strict) old new = Unit {0}
 AreErrorsKept (store_timetable store is_tabbed) old new = Unit {0}
 AreErrorsKept _ old new = new.errors ≡ old.errors
 
+-- Whatever came of it, also where an answer could not be printed, and in a run that is killed: only `run` serves an input.
+abbrev pub ServesFor : {D : Type 0} → sectors.Ghosts D → (D → Type 0) → Asked → World → World → Type 0
+ServesFor on IsOld (run store is_strict) old new = ServesStore on IsOld is_strict (given_in old new) old.output new.output new.input_failed new.output_failed
+ServesFor on IsOld _ old new = Unit {0}
+
 module _ {D N : Type 0} (on_old : sectors.Ghosts D) (on_new : sectors.Ghosts N) (IsOld : D → Type 0) (IsNew : N → Type 0) where
   -- What was asked for was done and told, and this is the status that goes with it. `IsOld` is what is known of the device over a file that
   -- is opened, `IsNew` of one over a file that is made beside it.
@@ -125,6 +130,7 @@ module _ {D N : Type 0} (on_old : sectors.Ghosts D) (on_new : sectors.Ghosts N) 
   -- The words were read. Where an answer could not be printed, the status is 3.
   pub record Works (asked : Asked) (old new : World) (status : ℕ) : Type 0 where
     pub does : Does asked old new status ⊎ (status ≡ 3)
+    pub serves : ServesFor on_old IsOld asked old new
     pub reads : AreReadFor asked old.files new.files
     pub makes : AreMadeFor asked old.new_files new.new_files
     pub input : IsInputKept asked old new

@@ -11,7 +11,7 @@ use Rattle.command_serving.specs.Streams.{Event, Given, IsInput, Stream}
 use Rattle.command_serving.specs.Timely.{TellsAcknowledged, calls_at, put_by}
 use Rattle.command_text.specs.Cutting.{pieces_of}
 use Rattle.command_text.specs.Readings.{IsReading, Reading}
-use Rattle.planner_cli.specs.Running.{IsOpened, RunsSession}
+use Rattle.planner_cli.specs.Running.{IsOpened, ServesSession}
 use Rattle.recover.specs.Headline.{GivesWhatStands, IsRecovered}
 use Rattle.recover.specs.Opening.{GivesUnlessFailed}
 use Rattle.recover.specs.Replies.{acked}
@@ -20,7 +20,7 @@ use Rattle.recover.specs.StandsFor.{StandsFor}
 use Rattle.sector_disk.specs.declared.sectors.Sectors as sectors
 use Rattle.state_codec.specs.declared.version.Version.TheVariants.{Two}
 
--- What was run: the words, the bytes of the input, and what came of the streams.
+-- What was run: the words, the bytes of the input, and what came of the streams. A run that is killed is one whose later calls all fail.
 pub record Run : Type 0 where
   pub is_strict : Bool
   pub input : List ℕ
@@ -28,26 +28,27 @@ pub record Run : Type 0 where
   pub after : Stream
   pub reader_failed : Bool
   pub writer_failed : Bool
-  pub status : ℕ
 
 -- There is a function that tells of each text what it spells, and of that one this is said. No other does (`ReadingsAgree`).
 abbrev pub OfTheReading : ((reading : Reading) → IsReading reading → Type 0) → Type 0
 OfTheReading Says = (reading : Reading) × (reads : IsReading reading) × Says reading reads
 
 module _ {D : Type 0} (on : sectors.Ghosts D) where
-  -- the store on the device was opened, and the input served over it
+  -- The store on the device was opened, and the input served over it, as far as it was: so it is of each run that has put or read anything,
+  -- whatever its status (`ServesStore`).
   pub record RunsOver (run : Run) (device : D) : Type 0 where
     pub session : SessionValue D
     pub replayed : ℕ
     pub opened : IsOpened on device session replayed
     pub given : Given
     pub is_input : IsInput given run.input
-    pub runs : RunsSession on session replayed run.is_strict given run.before run.after run.reader_failed run.writer_failed run.status
+    pub new : SessionValue D
+    pub runs : ServesSession on session replayed run.is_strict given run.before run.after run.reader_failed run.writer_failed new
 
   -- the acts by which it was
   abbrev pub acts_in : (reading : Reading) → IsReading reading → (run : Run) (device : D) → RunsOver run device → List Act
   acts_in reading reads run device is =
-      acts_of on is.runs.served reading is.session run.input is.runs.opened is.runs.answered is.runs.new
+      acts_of on is.runs.served reading is.session run.input is.runs.opened is.runs.answered is.new
       ((is.runs.ends.serves run.input is.is_input).serves reading reads)
 
 module _ {D E : Type 0} (on : sectors.Ghosts D) (again : sectors.Ghosts E) (reading : Reading) (reads : IsReading reading) where
@@ -61,9 +62,9 @@ module _ {D E : Type 0} (on : sectors.Ghosts D) (again : sectors.Ghosts E) (read
   abbrev pub ServedRunHeadline : Type 0
   ServedRunHeadline = (run : Run) (device : D) (m : ℕ) (image : List ℕ) (other left : E) (outcome : Result State StoreFault)
       -- a run over a device that has answered as the model says
-      → (is : RunsOver on run device) → on.honest is.runs.new.device
+      → (is : RunsOver on run device) → on.honest is.new.device
       -- a stop at a moment since the store was opened, when m calls had finished, which left this image
-      → on.possible_since is.runs.new.device (on.clock is.session.device) m image
+      → on.possible_since is.new.device (on.clock is.session.device) m image
       -- an opening of a device whose reads give it, and that has answered as the model says
       → again.seen other ≡ image → again.honest left → GivesWhatStands again other outcome left
       → GivesFirstPart run device is m outcome
@@ -72,10 +73,10 @@ module _ {D E : Type 0} (on : sectors.Ghosts D) (again : sectors.Ghosts E) (read
   -- stop leave it
   abbrev pub RunHeadline : Type 0
   RunHeadline = (run : Run) (device : D) (m : ℕ) (image : List ℕ) (other left : E) (outcome : Result State StoreFault)
-      → (is : RunsOver on run device) → on.honest is.runs.new.device
+      → (is : RunsOver on run device) → on.honest is.new.device
       → ((before : List ℕ) → on.possible device before → StandsFor Two before is.session.state)
       -- a stop at a moment since the device was handed over
-      → on.possible_since is.runs.new.device (on.clock device) m image
+      → on.possible_since is.new.device (on.clock device) m image
       → again.seen other ≡ image → again.honest left → GivesWhatStands again other outcome left
       → GivesFirstPart run device is m outcome
 
@@ -86,13 +87,22 @@ module _ {D E : Type 0} (on : sectors.Ghosts D) (again : sectors.Ghosts E) (read
     pub recovered : IsRecovered is.session.state (asked_by reading is.session (pieces_of run.input) (acts_in on reading reads run device is)) (acked m (replies_of (acts_in on reading reads run device is))) given
     pub holds : length (carried_of told.first) ≤ recovered.count
 
-  -- Law: so it is of what was put to the output, and may have been handed on, by the time of the stop.
-  abbrev pub RunKeepsAnswers : Type 0
-  RunKeepsAnswers = (run : Run) (device : D) (m : ℕ) (image : List ℕ) (other left : E) (outcome : Result State StoreFault) (events others : List Event)
-      → (is : RunsOver on run device) → on.honest is.runs.new.device
-      → ((before : List ℕ) → on.possible device before → StandsFor Two before is.session.state)
-      -- a stop at a moment since the device was handed over, when m calls had finished, and what was done to the output by then
-      → on.possible_since is.runs.new.device (on.clock device) m image
+  -- So it is of what was put to the output, and may have been handed on, by the time of a stop at a moment since this one, when m calls had finished.
+  abbrev pub KeepsAnswersSince : ℕ → (run : Run) (device : D) → RunsOver on run device → Type 0
+  KeepsAnswersSince since run device is = (m : ℕ) (image : List ℕ) (other left : E) (outcome : Result State StoreFault) (events others : List Event)
+      → on.possible_since is.new.device since m image
       → run.after.events ≡ run.before.events ++ (events ++ others) → AllByRecursion (λ event. calls_at event ≤ m) events
       → again.seen other ≡ image → again.honest left → GivesWhatStands again other outcome left
       → GivesUnlessFailed (HoldsWhatWasTold run device is m (put_by events)) outcome
+
+  -- Law: since the device was handed over, where each image that a stop might have left before stands for the state that was opened.
+  abbrev pub RunKeepsAnswers : Type 0
+  RunKeepsAnswers = (run : Run) (device : D) → (is : RunsOver on run device) → on.honest is.new.device
+      → ((before : List ℕ) → on.possible device before → StandsFor Two before is.session.state)
+      → KeepsAnswersSince (on.clock device) run device is
+
+  -- Law: since the store was opened, whatever images a stop might have left before. So it is of a run that follows a kill within a commit, behind
+  -- which the state before the command is possible and the one after it. Within the opening each image is one of those before.
+  abbrev pub ServedRunKeepsAnswers : Type 0
+  ServedRunKeepsAnswers = (run : Run) (device : D) → (is : RunsOver on run device) → on.honest is.new.device
+      → KeepsAnswersSince (on.clock is.session.device) run device is

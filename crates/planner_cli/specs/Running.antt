@@ -75,18 +75,27 @@ TellsEnded served None before after status = TellsServed served before after sta
 TellsEnded served (Some stop.Refused) before after status = (status ≡ 1) × Appends before after []
 TellsEnded served (Some stop.DeviceFault) before after status = (status ≡ 3) × Appends before after []
 
--- Over a session that was opened: first it is told how many steps were repeated, then stand the answers to the input, and behind them that
--- the input can't be read, if so it was. Nothing else is done to the output as a sink.
-pub record RunsSession {D : Type 0} (on : sectors.Ghosts D) (old : SessionValue D) (replayed : ℕ) (is_strict : Bool) (given : Given) (before after : Stream) (reader_failed writer_failed : Bool) (status : ℕ) : Type 0 where
+-- An input was served over a session that was opened, as far as it was: first it was told how many steps were repeated, then stand the answers.
+-- Nothing else is done to the output as a sink.
+pub record ServesSession {D : Type 0} (on : sectors.Ghosts D) (old : SessionValue D) (replayed : ℕ) (is_strict : Bool) (given : Given) (before after : Stream) (reader_failed writer_failed : Bool) (new : SessionValue D) : Type 0 where
   pub opened : Stream
   pub tells_opened : Extends before opened [] (opened_line replayed)
   pub served : Result ⊤ ServeFault
   pub stopped : Option Stopped
   pub answered : Stream
-  pub new : SessionValue D
   pub ends : IsEnded on old is_strict given opened served stopped answered reader_failed writer_failed new
-  pub tells : TellsEnded served stopped answered.contents after.contents status
   pub noted : after.events ≡ answered.events
+
+-- .. and behind the answers it is told that the input can't be read, if so it was.
+pub record RunsSession {D : Type 0} (on : sectors.Ghosts D) (old : SessionValue D) (replayed : ℕ) (is_strict : Bool) (given : Given) (before after : Stream) (reader_failed writer_failed : Bool) (status : ℕ) : Type 0 where
+  pub new : SessionValue D
+  pub serves : ServesSession on old replayed is_strict given before after reader_failed writer_failed new
+  pub tells : TellsEnded serves.served serves.stopped serves.answered.contents after.contents status
+
+-- nothing was read, and nothing put
+pub record IsUntouched (given : Given) (before after : Stream) : Type 0 where
+  pub reads : given.after ≡ given.before
+  pub events : after.events ≡ before.events
 
 module _ {D : Type 0} (on : sectors.Ghosts D) where
   -- Opening the device gave this session: it has the state that the image stands for which reads gave, and is whole.
@@ -131,3 +140,19 @@ module _ {D : Type 0} (on : sectors.Ghosts D) where
   RunsStore IsNew path is_strict given before after reader_failed writer_failed status =
       ((device : D) × IsNew device × RunsDevice device is_strict given before after reader_failed writer_failed status)
       ⊎ ((fault : FileFault) × (status ≡ open_status fault) × Appends before.contents after.contents (open_line path fault))
+
+  -- Whatever came of it: the input was served over the session, or nothing was done to either, and this is the session then.
+  abbrev pub ServesOver : SessionValue D → ℕ → Bool → Given → Stream → Stream → Bool → Bool → SessionValue D → Type 0
+  ServesOver session replayed is_strict given before after reader_failed writer_failed new =
+      ServesSession on session replayed is_strict given before after reader_failed writer_failed new ⊎ ((new ≡ session) × IsUntouched given before after)
+
+  -- Whatever came of it, the device was opened, and this is the device then.
+  abbrev pub ServesDevice : D → Bool → Given → Stream → Stream → Bool → Bool → D → Type 0
+  ServesDevice device is_strict given before after reader_failed writer_failed left =
+      OpensDevice device (λ session replayed. (new : SessionValue D) × (left ≡ new.device) × ServesOver session replayed is_strict given before after reader_failed writer_failed new)
+      (λ later fault. (left ≡ later) × IsUntouched given before after)
+
+  -- Whatever came of it, the same for the device over a file; or there was none, and nothing was read and put.
+  abbrev pub ServesStore : (D → Type 0) → Bool → Given → Stream → Stream → Bool → Bool → Type 0
+  ServesStore IsNew is_strict given before after reader_failed writer_failed =
+      ((device : D) × (left : D) × IsNew device × ServesDevice device is_strict given before after reader_failed writer_failed left) ⊎ IsUntouched given before after

@@ -1,5 +1,5 @@
 //! What is known of stops within the word `run`, from its promises and those of `open` alone.
-ghost use Rattle.planner_cli.specs.Recovering.{OfTheReading, RunHeadline, RunKeepsAnswers, ServedRunHeadline};
+ghost use Rattle.planner_cli.specs.Recovering.{OfTheReading, RunHeadline, RunKeepsAnswers, ServedRunHeadline, ServedRunKeepsAnswers};
 
 use command_serving::stopped_servings_recover;
 use command_text::texts_have_a_reading;
@@ -9,12 +9,14 @@ use sector_disk::Sectors;
 /// Stopped at any moment of `run` over a device, with any choice that the device allows, opening it gives the state after a
 /// first part of the commands of its input, which holds every acknowledged one, and at most one more. Of stops within the
 /// opening it is so where each image that a stop might have left before stands for the state that is opened. Each command whose
-/// answer was put to the output by then, and so each whose `ok` or `at` was handed on, is among them. What the texts of instances
-/// spell is told by the one function that there is.
+/// answer was put to the output by then, and so each whose `ok` or `at` was handed on, is among them; behind the opening this is so
+/// whatever images were possible before, as behind a kill within a commit. What the texts of instances spell is told by the one
+/// function that there is.
 pub fn stopped_runs_recover<D: Sectors, E: Sectors>()
     ensures behind { OfTheReading (ServedRunHeadline D.Sectors E.Sectors) }
     ensures whole { OfTheReading (RunHeadline D.Sectors E.Sectors) }
     ensures told { OfTheReading (RunKeepsAnswers D.Sectors E.Sectors) }
+    ensures told_behind { OfTheReading (ServedRunKeepsAnswers D.Sectors E.Sectors) }
 {
     texts_have_a_reading();
     recovery_keeps_every_acknowledged_command::<D, E>();

@@ -37,8 +37,8 @@
 //!   those of the plan in the store that opening the device gives, which is left as opening leaves it
 //! - `run_store` (`RunsStore`): the device that `FileDevice::at_or_cause` gives is opened, and what `serve_source` writes over that
 //!   session stands behind `opened N`; 3 where the reader or the writer failed, with `cannot read input` for the
-//!   reader
-//! - `stopped_runs_recover` (`ServedRunHeadline`, `RunHeadline`, `RunKeepsAnswers` in `specs/Recovering.antt`): stopped at any
+//!   reader. Whatever the status (`ServesStore`): what it read and put is of that serving, as far as it came
+//! - `stopped_runs_recover` (`ServedRunHeadline`, `RunHeadline`, `RunKeepsAnswers`, `ServedRunKeepsAnswers`): stopped at any
 //!   moment of `run` over a device, opening it gives the state after a first part of the commands of its input, with every one
 //!   acknowledged by then, so with every one whose `ok` or `at` was handed on, and at most one more
 //! - `open_session` (`IsForetold`), by which `run` and `load` open: before a search step is repeated, the line of how many are

@@ -7,8 +7,8 @@ ghost use Rattle.command_line.specs.Asked.{ArePositional, Asked, asked_by, asked
 ghost use Rattle.plan_types.specs.declared.requests.Kind.TheVariants.{LiLim};
 ghost use Rattle.command_serving.specs.Held.{given_by, held};
 ghost use Rattle.sector_disk.specs.FileDevice.{IsUnused};
-ghost use Rattle.planner_cli.specs.Program.{AreErrorsKept, AreMadeFor, AreReadFor, Does, EndsWith, IsInputKept, TellsUsage, seen};
-ghost use Rattle.planner_cli.specs.Running.{RunsStore};
+ghost use Rattle.planner_cli.specs.Program.{AreErrorsKept, AreMadeFor, AreReadFor, Does, EndsWith, IsInputKept, ServesFor, TellsUsage, seen};
+ghost use Rattle.planner_cli.specs.Running.{RunsStore, ServesStore};
 ghost use Rattle.planner_cli.specs.Statuses.{CanEndWith};
 ghost use Rattle.auditor_cli.specs.Telling.{TellsAudit, example_instance, example_solution};
 
@@ -129,6 +129,11 @@ where
         (seen F.reads N.writes I.remaining W.contents E.contents files.old new_files.old streams)
         (seen F.reads N.writes I.remaining W.contents E.contents files.new new_files.new
         result.1)) }
+    ensures serves { ServesFor ⟦<FileDevice<T> as Sectors>⟧
+        (IsUnused ⟦<HostFile as FileCalls>⟧.entries) (asked_of invocation.entry)
+        (seen F.reads N.writes I.remaining W.contents E.contents files.old new_files.old streams)
+        (seen F.reads N.writes I.remaining W.contents E.contents files.new new_files.new
+        result.1) }
 {
     let mut streams = streams;
     let alloc = rt.alloc();
@@ -213,6 +218,11 @@ where
         (given_by I.remaining streams.input result.1.input) (held W.contents streams.output)
         (held W.contents result.1.output) result.1.input.has_failed
         result.1.output.has_failed) }
+    ensures serves { ServesStore ⟦<FileDevice<T> as Sectors>⟧
+        (IsUnused ⟦<HostFile as FileCalls>⟧.entries) is_strict
+        (given_by I.remaining streams.input result.1.input) (held W.contents streams.output)
+        (held W.contents result.1.output) result.1.input.has_failed
+        result.1.output.has_failed }
 {
     let Streams {
         mut input,

@@ -12,7 +12,7 @@ ghost use Rattle.checkpoint.specs.Layouts.{sectors_in, version_2};
 ghost use Rattle.planner_cli.specs.Formatting.{FormatsStore, IsFormatted};
 ghost use Rattle.planner_cli.specs.Statuses.{IsUpgradeStatus};
 ghost use Rattle.planner_cli.specs.Upgrading.{TellsSame, UpgradesOnto, UpgradesStore};
-ghost use Rattle.planner_cli.specs.Running.{IsEnded, RunsDevice, RunsSession, RunsStore, TellsEnded, TellsServed, opened_line, stop_unless};
+ghost use Rattle.planner_cli.specs.Running.{IsEnded, RunsDevice, RunsSession, RunsStore, ServesDevice, ServesOver, ServesStore, TellsEnded, TellsServed, opened_line, stop_unless};
 
 use crate::opened::open_session;
 use crate::telling::{
@@ -83,6 +83,11 @@ where
         (given_by I.remaining input.old input.new)
         (held W.contents output) (held W.contents result.1)
         input.new.has_failed result.1.has_failed) }
+    ensures serves { ServesStore ⟦<FileDevice<T> as Sectors>⟧
+        (IsUnused ⟦<HostFile as FileCalls>⟧.entries) is_strict
+        (given_by I.remaining input.old input.new)
+        (held W.contents output) (held W.contents result.1)
+        input.new.has_failed result.1.has_failed }
 {
     match FileDevice::at_or_cause(rt, store, start) {
         Ok(device) => {
@@ -98,8 +103,9 @@ where
             (told, output)
         }
         Err(refusal) => {
-            let mut output = output;
-            (tell_refusal(rt, &mut output, store, refusal), output)
+            let (mut writer, noted) = output.apart();
+            let told = tell_refusal(rt, &mut writer, store, refusal);
+            (told, Watched::again(writer, noted))
         }
     }
 }
@@ -193,6 +199,10 @@ fn run_device<D: Sectors + Drop, I: Read, W: Write, E: Write>(
         (given_by I.remaining input.old input.new)
         (held W.contents output) (held W.contents result.2)
         input.new.has_failed result.2.has_failed) }
+    ensures serves { ServesDevice D.Sectors device is_strict
+        (given_by I.remaining input.old input.new)
+        (held W.contents output) (held W.contents result.2)
+        input.new.has_failed result.2.has_failed result.1 }
 {
     let opening = open_session(alloc, device, errors);
     match opening.into_opened() {
@@ -212,8 +222,9 @@ fn run_device<D: Sectors + Drop, I: Read, W: Write, E: Write>(
             (told, session.close(), output)
         }
         Err((fault, device)) => {
-            let mut output = output;
-            (tell_store_fault(&mut output, fault), device, output)
+            let (mut writer, noted) = output.apart();
+            let told = tell_store_fault(&mut writer, fault);
+            (told, device, Watched::again(writer, noted))
         }
     }
 }
@@ -232,6 +243,10 @@ fn serve_opened<D: Sectors + Drop, I: Read, W: Write>(
         (given_by I.remaining input.old input.new)
         (held W.contents output) (held W.contents result.1)
         input.new.has_failed result.1.has_failed) }
+    ensures serves { ServesOver D.Sectors session.old replayed is_strict
+        (given_by I.remaining input.old input.new)
+        (held W.contents output) (held W.contents result.1)
+        input.new.has_failed result.1.has_failed session.new }
 {
     let (mut writer, noted) = output.apart();
     let opened = tell_opened(replayed, &mut writer);

@@ -7,6 +7,9 @@ returns-in-Audits-clause-does g c = rw c.in-Audits.is c.audits_read-told.ensures
 pub returns-in-Run-clause-does : goal.returns-in-Run-clause-does
 returns-in-Run-clause-does g c = rw c.in-Run.is c.run_over.ensures.runs
 
+pub returns-in-Run-clause-serves : goal.returns-in-Run-clause-serves
+returns-in-Run-clause-serves g c = rw c.in-Run.is c.run_over.ensures.serves
+
 pub returns-in-Upgrade-clause-does : goal.returns-in-Upgrade-clause-does
 returns-in-Upgrade-clause-does g c = rw c.in-Upgrade.is c.upgrade_store-told.ensures.upgrades
 
