@@ -4,10 +4,11 @@ use Rattle.std.specs.Io.KnownBytes.{Appends}
 use Rattle.std.specs.declared.io.ErrorKind.{ErrorKind}
 use Rattle.plan_types.specs.declared.requests.Kind.{Kind}
 use Rattle.command_text.specs.Answers.{line}
+use Rattle.auditor_cli.proofs.ListLemmas.{grown_twice}
 use Rattle.auditor_cli.specs.Reads.{FileRead, FileWrite}
 use Rattle.auditor_cli.specs.Telling.{TellsUnwritten, unwritten_line}
 use Rattle.planner_cli.specs.Solving.{unplanned_line}
-use Rattle.planner_cli.specs.SolvedList.{FilesDone, IsAuditOf, IsToldPlan, IsUnwritten, TellsPlaced, with_read}
+use Rattle.planner_cli.specs.SolvedList.{AreGrown, FilesDone, IsAuditOf, IsToldPlan, IsUnwritten, TellsPlaced, with_read}
 use Rattle.auditor_cli.specs.declared.answer.AuditAnswer.{AuditAnswer}
 
 abbrev pub the_done : List FileRead → List FileWrite → FilesDone
@@ -16,6 +17,9 @@ the_done reads writes = record { reads = reads; writes = writes }
 pub done_as : (was now : List FileRead) (made : List FileWrite) (read : FileRead) → now ≡ read ∷ was
     → the_done now made ≡ with_read read (the_done was made)
 done_as was now made read e = ap (λ (reads : List FileRead). the_done reads made) e
+
+pub all_grown : (was next now : FilesDone) → AreGrown was next → AreGrown next now → AreGrown was now
+all_grown was next now a b = (grown_twice was.reads next.reads now.reads a.0 b.0, grown_twice was.writes next.writes now.writes a.1 b.1)
 
 -- What is told of a plan is told of its text, by whether it leaves requests out.
 pub placed_plan : (k : Kind) (x text names : List ℕ) (audited : Option AuditAnswer) (before after : Option (List ℕ)) (status : ℕ) → IsAuditOf k x text names audited → TellsPlaced audited names before after status

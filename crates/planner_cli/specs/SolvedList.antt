@@ -1,6 +1,6 @@
 -- What is told of a list of instances, each solved into a file of its own. `was` is what was read and written before, and `now` behind it;
 -- `made` is what was written before, and `left` behind it.
-use Rattle.std.specs.Prelude.{◌≡◌, ◌≤◌, ◌⊎◌, ℕ, List, [], ◌∷◌, Option, None, Some, Result, Ok, Err, MatchResult}
+use Rattle.std.specs.Prelude.{◌≡◌, ◌≤◌, ◌⊎◌, ℕ, List, [], ◌∷◌, Option, None, Some, Result, Ok, Err, IfOk, MatchResult}
 use Rattle.std.specs.Io.KnownBytes.{Appends}
 use Rattle.std.specs.declared.io.ErrorKind.{ErrorKind}
 use Rattle.plan_types.specs.declared.requests.Kind.{Kind}
@@ -12,7 +12,7 @@ use Rattle.command_line.specs.Asked.{TasksAsked}
 use Rattle.command_text.specs.Answers.{line}
 use Rattle.auditor_cli.specs.Answer.{IsAnswer}
 use Rattle.auditor_cli.specs.Listed.{IsBadLine, IsPair, TellsListBy, pair_text}
-use Rattle.auditor_cli.specs.Reads.{FileRead, FileWrite}
+use Rattle.auditor_cli.specs.Reads.{FileRead, FileWrite, IsGrown}
 use Rattle.planner_cli.specs.Solving.{fault_line, fault_status, unplanned_line}
 use Rattle.auditor_cli.specs.Telling.{unread_line, unread_status, unwritten_line, unwritten_status}
 use Rattle.auditor_cli.specs.declared.answer.AuditAnswer.{AuditAnswer}
@@ -110,7 +110,16 @@ IsSolvedLine tasks l was now text status = IsToldOfNamed tasks l was now text st
 abbrev pub SolvesList : TasksAsked → FilesDone → FilesDone → Option (List ℕ) → Option (List ℕ) → ℕ → Type 0
 SolvesList tasks was now before after status = TellsListBy (IsSolvedLine tasks) with_read tasks.list was now before after status
 
--- ---- what functions tell
+-- ---- what functions promise
+
+-- nothing is taken away
+abbrev pub AreGrown : FilesDone → FilesDone → Type 0
+AreGrown was now = IsGrown was.reads now.reads × IsGrown was.writes now.writes
+
+-- What a function does: it keeps what was done before, which is what was read and made or what was made alone, and tells this.
+pub record Ends {S E : Type 0} (AreKept : S → S → Type 0) (Tells : S → S → Option (List ℕ) → Option (List ℕ) → ℕ → Type 0) (was now : S) (before after : Option (List ℕ)) (result : Result ℕ E) : Type 0 where
+  pub kept : AreKept was now
+  pub told : IfOk result (Tells was now before after)
 
 -- the audit of a plan's text, where it leaves no request out
 abbrev pub IsAuditOf : Kind → List ℕ → List ℕ → List ℕ → Option AuditAnswer → Type 0

@@ -6,7 +6,7 @@ ghost use Rattle.std.specs.Prelude.{◌≤◌, IfOk};
 ghost use Rattle.command_line.specs.Asked.{tasks_of};
 ghost use Rattle.auditor_cli.specs.Listed.{TellsLine, TellsLines};
 ghost use Rattle.auditor_cli.specs.Reads.{IsGrown, IsReadFirst};
-ghost use Rattle.planner_cli.specs.SolvedList.{Finds, HasStatus, IsAuditOf, IsSolvedLine, Places, PlacesAudited, SolvesList, TellsOfTask, TellsPlaced, files_done};
+ghost use Rattle.planner_cli.specs.SolvedList.{AreGrown, Ends, Finds, HasStatus, IsAuditOf, IsSolvedLine, Places, PlacesAudited, SolvesList, TellsOfTask, TellsPlaced, files_done};
 
 use crate::solved::{tell_fault, tell_unplanned};
 use auditor_cli::status::{BROKEN, DONE};
@@ -16,7 +16,7 @@ use auditor_cli::{
 };
 use command_line::Tasks;
 use plan_solve::{SolveFault, Solved, solve};
-use plan_types::{Kind, OutOfMemory};
+use plan_types::OutOfMemory;
 use std::alloc::Global;
 use std::io;
 use std::io::Write;
@@ -40,190 +40,200 @@ pub(crate) fn solves_read<F: ReadFiles, N: WriteFiles, W: Write>(
         (W.contents output.old) (W.contents output.new)) }
 {
     match files.read(tasks.list) {
-        Ok(text) => solve_lines(alloc, tasks, Lines::new(&text), files, new_files, output),
+        Ok(text) => {
+            let solver = Solver { alloc, tasks };
+            solver.solve_lines(Lines::new(&text), files, new_files, output)
+        }
         Err(error) => tell_unread(output, tasks.list, error.kind()),
     }
 }
 
-// Solves the instance that each line names, and tells what came of it before it goes on.
-fn solve_lines<F: ReadFiles, N: WriteFiles, W: Write>(
+// What stays the same from line to line.
+#[derive(Clone, Copy)]
+struct Solver<'a> {
     alloc: Global,
-    tasks: Tasks,
-    lines: Lines<'_>,
-    files: &mut F,
-    new_files: &mut N,
-    output: &mut W,
-) -> io::Result<u8>
-    ensures status { IfOk result (λ status. status ≤ 4) }
-    ensures reads { IsGrown (F.reads files.old) (F.reads files.new) }
-    ensures makes { IsGrown (N.writes new_files.old) (N.writes new_files.new) }
-    ensures told { IfOk result (TellsLines (IsSolvedLine (tasks_of tasks.entry)) lines.entry
-        (files_done F.reads N.writes files.old new_files.old)
-        (files_done F.reads N.writes files.new new_files.new)
-        (W.contents output.old) (W.contents output.new)) }
-{
-    let mut greatest = DONE;
-    for line in lines {
-        let status = solve_line(alloc, tasks, line, files, new_files, output)?;
-        greatest = greater(greatest, status);
+    tasks: Tasks<'a>,
+}
+
+impl Solver<'_> {
+    // Solves the instance that each line names, and tells what came of it before it goes on.
+    fn solve_lines<F: ReadFiles, N: WriteFiles, W: Write>(
+        &self,
+        lines: Lines<'_>,
+        files: &mut F,
+        new_files: &mut N,
+        output: &mut W,
+    ) -> io::Result<u8>
+        ensures status { IfOk result (λ status. status ≤ 4) }
+        ensures does { Ends AreGrown (TellsLines (IsSolvedLine (tasks_of self.now.tasks)) lines.entry)
+            (files_done F.reads N.writes files.old new_files.old)
+            (files_done F.reads N.writes files.new new_files.new)
+            (W.contents output.old) (W.contents output.new) result }
+    {
+        let mut greatest = DONE;
+        for line in lines {
+            let status = self.solve_line(line, files, new_files, output)?;
+            greatest = greater(greatest, status);
+        }
+        Ok(greatest)
     }
-    Ok(greatest)
-}
 
-// Tells what came of the instance that the line names, and flushes it.
-fn solve_line<F: ReadFiles, N: WriteFiles, W: Write>(
-    alloc: Global,
-    tasks: Tasks,
-    line: &[u8],
-    files: &mut F,
-    new_files: &mut N,
-    output: &mut W,
-) -> io::Result<u8>
-    ensures status { IfOk result (λ status. status ≤ 4) }
-    ensures reads { IsGrown (F.reads files.old) (F.reads files.new) }
-    ensures makes { IsGrown (N.writes new_files.old) (N.writes new_files.new) }
-    ensures told { IfOk result (TellsLine (IsSolvedLine (tasks_of tasks.entry)) line.now
-        (files_done F.reads N.writes files.old new_files.old)
-        (files_done F.reads N.writes files.new new_files.new)
-        (W.contents output.old) (W.contents output.new)) }
-{
-    let status = solve_named(alloc, tasks, line, files, new_files, output)?;
-    output.flush()?;
-    Ok(status)
-}
-
-// Tells what came of the instance that the line names.
-fn solve_named<F: ReadFiles, N: WriteFiles, W: Write>(
-    alloc: Global,
-    tasks: Tasks,
-    line: &[u8],
-    files: &mut F,
-    new_files: &mut N,
-    output: &mut W,
-) -> io::Result<u8>
-    ensures status { IfOk result (λ status. status ≤ 4) }
-    ensures reads { IsGrown (F.reads files.old) (F.reads files.new) }
-    ensures makes { IsGrown (N.writes new_files.old) (N.writes new_files.new) }
-    ensures told { IfOk result (TellsLine (IsSolvedLine (tasks_of tasks.entry)) line.now
-        (files_done F.reads N.writes files.old new_files.old)
-        (files_done F.reads N.writes files.new new_files.new)
-        (W.contents output.old) (W.contents output.new)) }
-{
-    let (instance, path) = match pair_of(line) {
-        Some(pair) => pair,
-        None => return tell_bad_line(output),
-    };
-    write!(output, "{instance}\t{path}\t")?;
-    solve_into(alloc, tasks, instance, path, files, new_files, output)
-}
-
-// Solves the instance into a new file under the path.
-fn solve_into<F: ReadFiles, N: WriteFiles, W: Write>(
-    alloc: Global,
-    tasks: Tasks,
-    instance: &str,
-    path: &str,
-    files: &mut F,
-    new_files: &mut N,
-    output: &mut W,
-) -> io::Result<u8>
-    ensures status { IfOk result (λ status. status ≤ 4) }
-    ensures reads { IsGrown (F.reads files.old) (F.reads files.new) }
-    ensures makes { IsGrown (N.writes new_files.old) (N.writes new_files.new) }
-    ensures told { IfOk result (TellsOfTask (tasks_of tasks.entry) instance.now path.now
-        (files_done F.reads N.writes files.old new_files.old)
-        (files_done F.reads N.writes files.new new_files.new)
-        (W.contents output.old) (W.contents output.new)) }
-{
-    match new_files.look(path) {
-        Ok(()) => solve_file(alloc, tasks, instance, path, files, new_files, output),
-        Err(error) => tell_unwritten(output, path, error.kind()),
+    // Tells what came of the instance that the line names, and flushes it.
+    fn solve_line<F: ReadFiles, N: WriteFiles, W: Write>(
+        &self,
+        line: &[u8],
+        files: &mut F,
+        new_files: &mut N,
+        output: &mut W,
+    ) -> io::Result<u8>
+        ensures status { IfOk result (λ status. status ≤ 4) }
+        ensures does { Ends AreGrown (TellsLine (IsSolvedLine (tasks_of self.now.tasks)) line.now)
+            (files_done F.reads N.writes files.old new_files.old)
+            (files_done F.reads N.writes files.new new_files.new)
+            (W.contents output.old) (W.contents output.new) result }
+    {
+        let status = self.solve_named(line, files, new_files, output)?;
+        output.flush()?;
+        Ok(status)
     }
-}
 
-// Reads the instance, solves it, and places what is found under the path.
-fn solve_file<F: ReadFiles, N: WriteFiles, W: Write>(
-    alloc: Global,
-    tasks: Tasks,
-    instance: &str,
-    path: &str,
-    files: &mut F,
-    new_files: &mut N,
-    output: &mut W,
-) -> io::Result<u8>
-    ensures status { IfOk result (λ status. status ≤ 4) }
-    ensures reads { IsGrown (F.reads files.old) (F.reads files.new) }
-    ensures makes { IsGrown (N.writes new_files.old) (N.writes new_files.new) }
-    ensures told { IfOk result (TellsOfTask (tasks_of tasks.entry) instance.now path.now
-        (files_done F.reads N.writes files.old new_files.old)
-        (files_done F.reads N.writes files.new new_files.new)
-        (W.contents output.old) (W.contents output.new)) }
-{
-    let text = match files.read(instance) {
-        Ok(text) => text,
-        Err(error) => return tell_unread(output, instance, error.kind()),
-    };
-    let found = find(alloc, tasks, &text);
-    place(alloc, tasks.kind, &text, path, &found, new_files, output)
-}
-
-// Solves the instance's text. How far it is is told nowhere.
-fn find(alloc: Global, tasks: Tasks, text: &[u8]) -> Result<Solved, SolveFault>
-    ensures { Finds (tasks_of tasks.entry) text.now result }
-{
-    let mut progress = io::sink();
-    solve(
-        alloc,
-        tasks.kind,
-        text,
-        tasks.seed,
-        tasks.steps,
-        None,
-        &mut progress,
-    )
-}
-
-// Writes the plan that was found, and tells it; or tells why none is written.
-fn place<N: WriteFiles, W: Write>(
-    alloc: Global,
-    kind: Kind,
-    instance: &[u8],
-    path: &str,
-    found: &Result<Solved, SolveFault>,
-    new_files: &mut N,
-    output: &mut W,
-) -> io::Result<u8>
-    ensures status { IfOk result (λ status. status ≤ 4) }
-    ensures makes { IsGrown (N.writes new_files.old) (N.writes new_files.new) }
-    ensures told { IfOk result (Places kind instance.now path.now found.now
-        (N.writes new_files.old) (N.writes new_files.new)
-        (W.contents output.old) (W.contents output.new)) }
-{
-    match found {
-        Ok(solved) => place_plan(alloc, kind, instance, path, solved, new_files, output),
-        Err(fault) => tell_fault(*fault, output),
+    // Tells what came of the instance that the line names.
+    fn solve_named<F: ReadFiles, N: WriteFiles, W: Write>(
+        &self,
+        line: &[u8],
+        files: &mut F,
+        new_files: &mut N,
+        output: &mut W,
+    ) -> io::Result<u8>
+        ensures status { IfOk result (λ status. status ≤ 4) }
+        ensures does { Ends AreGrown (TellsLine (IsSolvedLine (tasks_of self.now.tasks)) line.now)
+            (files_done F.reads N.writes files.old new_files.old)
+            (files_done F.reads N.writes files.new new_files.new)
+            (W.contents output.old) (W.contents output.new) result }
+    {
+        let (instance, path) = match pair_of(line) {
+            Some(pair) => pair,
+            None => return tell_bad_line(output),
+        };
+        write!(output, "{instance}\t{path}\t")?;
+        self.solve_into(instance, path, files, new_files, output)
     }
-}
 
-// Writes the plan, and tells its audit, or what it leaves out.
-fn place_plan<N: WriteFiles, W: Write>(
-    alloc: Global,
-    kind: Kind,
-    instance: &[u8],
-    path: &str,
-    solved: &Solved,
-    new_files: &mut N,
-    output: &mut W,
-) -> io::Result<u8>
-    ensures status { IfOk result (λ status. status ≤ 4) }
-    ensures makes { IsGrown (N.writes new_files.old) (N.writes new_files.new) }
-    ensures told { IfOk result (Places kind instance.now path.now (Ok solved.now)
-        (N.writes new_files.old) (N.writes new_files.new)
-        (W.contents output.old) (W.contents output.new)) }
-{
-    match audit_found(alloc, kind, instance, solved) {
-        Ok(audited) => write_plan(path, solved, &audited, new_files, output),
-        Err(_) => tell_fault(SolveFault::OutOfMemory, output),
+    // Solves the instance into a new file under the path.
+    fn solve_into<F: ReadFiles, N: WriteFiles, W: Write>(
+        &self,
+        instance: &str,
+        path: &str,
+        files: &mut F,
+        new_files: &mut N,
+        output: &mut W,
+    ) -> io::Result<u8>
+        ensures status { IfOk result (λ status. status ≤ 4) }
+        ensures does { Ends AreGrown (TellsOfTask (tasks_of self.now.tasks) instance.now path.now)
+            (files_done F.reads N.writes files.old new_files.old)
+            (files_done F.reads N.writes files.new new_files.new)
+            (W.contents output.old) (W.contents output.new) result }
+    {
+        match new_files.look(path) {
+            Ok(()) => self.solve_file(instance, path, files, new_files, output),
+            Err(error) => tell_unwritten(output, path, error.kind()),
+        }
+    }
+
+    // Reads the instance, solves it, and places what is found under the path.
+    fn solve_file<F: ReadFiles, N: WriteFiles, W: Write>(
+        &self,
+        instance: &str,
+        path: &str,
+        files: &mut F,
+        new_files: &mut N,
+        output: &mut W,
+    ) -> io::Result<u8>
+        ensures status { IfOk result (λ status. status ≤ 4) }
+        ensures does { Ends AreGrown (TellsOfTask (tasks_of self.now.tasks) instance.now path.now)
+            (files_done F.reads N.writes files.old new_files.old)
+            (files_done F.reads N.writes files.new new_files.new)
+            (W.contents output.old) (W.contents output.new) result }
+    {
+        let text = match files.read(instance) {
+            Ok(text) => text,
+            Err(error) => return tell_unread(output, instance, error.kind()),
+        };
+        let found = self.find(&text);
+        self.place(&text, path, &found, new_files, output)
+    }
+
+    // Solves the instance's text. How far it is is told nowhere.
+    fn find(&self, text: &[u8]) -> Result<Solved, SolveFault>
+        ensures { Finds (tasks_of self.now.tasks) text.now result }
+    {
+        let mut progress = io::sink();
+        solve(
+            self.alloc,
+            self.tasks.kind,
+            text,
+            self.tasks.seed,
+            self.tasks.steps,
+            None,
+            &mut progress,
+        )
+    }
+
+    // Writes the plan that was found, and tells it; or tells why none is written.
+    fn place<N: WriteFiles, W: Write>(
+        &self,
+        instance: &[u8],
+        path: &str,
+        found: &Result<Solved, SolveFault>,
+        new_files: &mut N,
+        output: &mut W,
+    ) -> io::Result<u8>
+        ensures status { IfOk result (λ status. status ≤ 4) }
+        ensures does { Ends IsGrown (Places self.now.tasks.kind instance.now path.now found.now)
+            (N.writes new_files.old) (N.writes new_files.new)
+            (W.contents output.old) (W.contents output.new) result }
+    {
+        match found {
+            Ok(solved) => self.place_plan(instance, path, solved, new_files, output),
+            Err(fault) => tell_fault(*fault, output),
+        }
+    }
+
+    // Writes the plan, and tells its audit, or what it leaves out.
+    fn place_plan<N: WriteFiles, W: Write>(
+        &self,
+        instance: &[u8],
+        path: &str,
+        solved: &Solved,
+        new_files: &mut N,
+        output: &mut W,
+    ) -> io::Result<u8>
+        ensures status { IfOk result (λ status. status ≤ 4) }
+        ensures does { Ends IsGrown (Places self.now.tasks.kind instance.now path.now (Ok solved.now))
+            (N.writes new_files.old) (N.writes new_files.new)
+            (W.contents output.old) (W.contents output.new) result }
+    {
+        match self.audit_found(instance, solved) {
+            Ok(audited) => write_plan(path, solved, &audited, new_files, output),
+            Err(_) => tell_fault(SolveFault::OutOfMemory, output),
+        }
+    }
+
+    // The audit of a plan that leaves no request out.
+    fn audit_found(
+        &self,
+        instance: &[u8],
+        solved: &Solved,
+    ) -> Result<Option<AuditAnswer>, OutOfMemory>
+        ensures status { IfOk result HasStatus }
+        ensures audited { IfOk result (IsAuditOf self.now.tasks.kind instance.now
+            solved.now.text.items solved.now.unplanned.items) }
+    {
+        if !solved.unplanned.is_empty() {
+            return Ok(None);
+        }
+        let answer = audit_text(self.alloc, self.tasks.kind, instance, &solved.text)?;
+        Ok(Some(answer))
     }
 }
 
@@ -237,33 +247,14 @@ fn write_plan<N: WriteFiles, W: Write>(
 ) -> io::Result<u8>
     requires { HasStatus audited.now }
     ensures status { IfOk result (λ status. status ≤ 4) }
-    ensures makes { IsGrown (N.writes new_files.old) (N.writes new_files.new) }
-    ensures told { IfOk result (PlacesAudited path.now solved.now audited.now
+    ensures does { Ends IsGrown (PlacesAudited path.now solved.now audited.now)
         (N.writes new_files.old) (N.writes new_files.new)
-        (W.contents output.old) (W.contents output.new)) }
+        (W.contents output.old) (W.contents output.new) result }
 {
     match new_files.write_new(path, &solved.text) {
         Ok(()) => tell_placed(audited, &solved.unplanned, output),
         Err(error) => tell_unwritten(output, path, error.kind()),
     }
-}
-
-// The audit of a plan that leaves no request out.
-fn audit_found(
-    alloc: Global,
-    kind: Kind,
-    instance: &[u8],
-    solved: &Solved,
-) -> Result<Option<AuditAnswer>, OutOfMemory>
-    ensures status { IfOk result HasStatus }
-    ensures audited { IfOk result (IsAuditOf kind instance.now
-        solved.now.text.items solved.now.unplanned.items) }
-{
-    if !solved.unplanned.is_empty() {
-        return Ok(None);
-    }
-    let answer = audit_text(alloc, kind, instance, &solved.text)?;
-    Ok(Some(answer))
 }
 
 // Tells the audit of a plan, or what it leaves out.

@@ -14,7 +14,7 @@ use Rattle.planner_cli.proofs.solved_list.solves_read.Goals as goal
 pub returns-in-Ok-clause-reads : goal.returns-in-Ok-clause-reads
 returns-in-Ok-clause-reads g c =
     let now = g.F.ReadFiles.reads c.solve_lines.new.files in
-    (Ok c.in-Ok.text.items, subst (λ x. IsGrown x now) c.in-Ok.ensures c.solve_lines.ensures.reads)
+    (Ok c.in-Ok.text.items, subst (λ x. IsGrown x now) c.in-Ok.ensures c.solve_lines.ensures.does.kept.0)
 
 pub returns-in-Ok-clause-told : goal.returns-in-Ok-clause-told
 returns-in-Ok-clause-told g c =
@@ -34,7 +34,7 @@ returns-in-Ok-clause-told g c =
       read_as (IsSolvedLine tasks) (lines_of text) (the_done mid made) _ now before after status e
           (lines_as (IsSolvedLine tasks) c.new.result (lines_of text) (the_done mid made) now before after status are told),
     ))
-    c.solve_lines.ensures.told
+    c.solve_lines.ensures.does.told
 
 pub returns-in-Err-clause-reads : goal.returns-in-Err-clause-reads
 returns-in-Err-clause-reads g c = (Err (error_kind c.in-Err.error), ([], c.in-Err.ensures))

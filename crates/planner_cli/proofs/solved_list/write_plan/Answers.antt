@@ -7,30 +7,34 @@ use Rattle.auditor_cli.specs.Telling.{unwritten_line}
 use Rattle.planner_cli.proofs.SolvedListLemmas.{placed_plan, unwritten}
 use Rattle.planner_cli.proofs.solved_list.write_plan.Goals as goal
 
-pub returns-in-Ok-clause-makes : goal.returns-in-Ok-clause-makes
-returns-in-Ok-clause-makes g c = ((c.args.path.now, Ok c.deref.result.now) ∷ [], c.in-Ok.ensures)
-
-pub returns-in-Ok-clause-told : goal.returns-in-Ok-clause-told
-returns-in-Ok-clause-told g c =
+pub returns-in-Ok-clause-does : goal.returns-in-Ok-clause-does
+returns-in-Ok-clause-does g c =
+    let path = c.args.path.now in
     let solved = c.args.solved.now in
     let before = g.W.Write.contents c.args.output.now in
     let after = g.W.Write.contents c.tell_placed.new.output in
     let made = g.N.WriteFiles.writes c.args.new_files.now in
     let left = g.N.WriteFiles.writes c.write_new.new.self in
-    IfOk-weaker c.tell_placed.result _ _
-    (λ status told k x is.
-    let so = placed_plan k x solved.text.items solved.unplanned.items c.args.audited.now before after status is
-    (subst (λ names. TellsPlaced c.args.audited.now names before after status) c.deref-in-Ok.ensures.value told) in
-    (so.0, inl (record { noted = subst (λ text. left ≡ (c.args.path.now, Ok text) ∷ made) c.deref.ensures.value c.in-Ok.ensures; plan = so.1 }), so.2))
-    c.tell_placed.ensures.told
+    let noted = subst (λ text. left ≡ (path, Ok text) ∷ made) c.deref.ensures.value c.in-Ok.ensures in
+    record {
+      kept = ((path, Ok c.deref.result.now) ∷ [], c.in-Ok.ensures);
+      told = IfOk-weaker c.tell_placed.result _ _
+          (λ status told k x is.
+          let so = placed_plan k x solved.text.items solved.unplanned.items c.args.audited.now before after status is
+          (subst (λ names. TellsPlaced c.args.audited.now names before after status) c.deref-in-Ok.ensures.value told) in
+          (so.0, inl (record { noted = noted; plan = so.1 }), so.2))
+          c.tell_placed.ensures.told;
+    }
 
-pub returns-in-Err-clause-makes : goal.returns-in-Err-clause-makes
-returns-in-Err-clause-makes g c = ((c.args.path.now, Err (error_kind c.in-Err.error)) ∷ [], c.in-Err.ensures)
-
-pub returns-in-Err-clause-told : goal.returns-in-Err-clause-told
-returns-in-Err-clause-told g c =
-    IfOk-weaker c.tell_unwritten.result _ _
-    (λ status told k x is.
-    let so = unwritten c.args.path.now _ c.kind.result _ _ _ _ status c.kind.ensures c.in-Err.ensures told in
-    (unwritten_line c.args.path.now (error_kind c.in-Err.error), inr (inl so.0), so.1))
-    c.tell_unwritten.ensures.told
+pub returns-in-Err-clause-does : goal.returns-in-Err-clause-does
+returns-in-Err-clause-does g c =
+    let path = c.args.path.now in
+    let error = error_kind c.in-Err.error in
+    record {
+      kept = ((path, Err error) ∷ [], c.in-Err.ensures);
+      told = IfOk-weaker c.tell_unwritten.result _ _
+          (λ status told k x is.
+          let so = unwritten path _ c.kind.result _ _ _ _ status c.kind.ensures c.in-Err.ensures told in
+          (unwritten_line path error, inr (inl so.0), so.1))
+          c.tell_unwritten.ensures.told;
+    }

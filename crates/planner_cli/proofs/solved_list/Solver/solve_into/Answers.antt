@@ -1,0 +1,37 @@
+-- Nothing stands under the path, or no file can be made there.
+use Rattle.std.proofs.Common.{[], ◌∷◌, Err, inl, refl, subst}
+use Rattle.std.specs.IoError.{error_kind}
+use Rattle.std.proofs.lemmas.Result.{IfOk-weaker}
+use Rattle.command_line.specs.Asked.{tasks_of}
+use Rattle.auditor_cli.specs.Reads.{IsGrown}
+use Rattle.planner_cli.specs.SolvedList.{TellsOfTask, files_done}
+use Rattle.auditor_cli.specs.Telling.{unwritten_line}
+use Rattle.planner_cli.proofs.SolvedListLemmas.{the_done, unwritten}
+use Rattle.planner_cli.proofs.solved_list.Solver.solve_into.Goals as goal
+
+pub returns-in-Ok-clause-does : goal.returns-in-Ok-clause-does
+returns-in-Ok-clause-does g c =
+    let tasks = tasks_of c.args.self.now.tasks in
+    let reads = g.F.ReadFiles.reads c.args.files.now in
+    let now = files_done g.F.ReadFiles.reads g.N.WriteFiles.writes c.solve_file.new.files c.solve_file.new.new_files in
+    let before = g.W.Write.contents c.args.output.now in
+    let after = g.W.Write.contents c.solve_file.new.output in
+    let does = c.solve_file.ensures.does in
+    record {
+      kept = (does.kept.0, subst (λ made. IsGrown made (g.N.WriteFiles.writes c.solve_file.new.new_files)) c.in-Ok.ensures does.kept.1);
+      told = IfOk-weaker c.solve_file.result _ _
+          (λ status told. subst (λ made. TellsOfTask tasks c.args.instance.now c.args.path.now (the_done reads made) now before after status) c.in-Ok.ensures told) does.told;
+    }
+
+pub returns-in-Err-clause-does : goal.returns-in-Err-clause-does
+returns-in-Err-clause-does g c =
+    let path = c.args.path.now in
+    let error = error_kind c.in-Err.error in
+    record {
+      kept = (([], refl), ((path, Err error) ∷ [], c.in-Err.ensures));
+      told = IfOk-weaker c.tell_unwritten.result _ _
+          (λ status told.
+          let so = unwritten path _ c.kind.result _ _ _ _ status c.kind.ensures c.in-Err.ensures told in
+          (unwritten_line path error, inl (record { same = refl; unwritten = so.0 }), so.1))
+          c.tell_unwritten.ensures.told;
+    }

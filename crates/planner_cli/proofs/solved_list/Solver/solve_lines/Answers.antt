@@ -1,0 +1,57 @@
+-- Each line adds its own, and behind the last one all is told.
+use Rattle.std.proofs.Common.{◌≡◌, ◌∷◌, [], refl, rules, arith}
+use Rattle.command_line.specs.Asked.{tasks_of}
+use Rattle.planner_cli.specs.SolvedList.{IsSolvedLine, files_done}
+use Rattle.auditor_cli.proofs.ListLemmas.{all_told, left_as, line_told, nothing_told, status_as}
+use Rattle.planner_cli.proofs.SolvedListLemmas.{all_grown}
+use Rattle.planner_cli.proofs.solved_list.Solver.solve_lines.Goals as goal
+
+pub loop-line-init : goal.loop-line-init
+loop-line-init g c =
+    let before = g.W.Write.contents c.args.output.now in
+    let was = files_done g.F.ReadFiles.reads g.N.WriteFiles.writes c.args.files.now c.args.new_files.now in
+    let same : c.args.lines ≡ c.into_iter-line-iterator.result = search rules in (
+      left_as _ _ _ _ was before c.args.lines c.into_iter-line-iterator.result 0 same (nothing_told (IsSolvedLine (tasks_of c.args.self.now.tasks)) c.args.lines was before),
+      omega arith,
+      (([], refl), ([], refl)),
+    )
+
+pub loop-line-preserved : goal.loop-line-preserved
+loop-line-preserved g c =
+    let does = IsSolvedLine (tasks_of c.args.self.now.tasks) in
+    let at = files_done g.F.ReadFiles.reads g.N.WriteFiles.writes in
+    let before = g.W.Write.contents c.args.output.now in
+    let now = g.W.Write.contents c.loop-line.output in
+    let after = g.W.Write.contents c.solve_line.new.output in
+    let was = at c.args.files.now c.args.new_files.now in
+    let next = at c.loop-line.files c.loop-line.new_files in
+    let later = at c.solve_line.new.files c.solve_line.new.new_files in
+    let rest = c.next.new.self in
+    let line = c.in-Some.line.now in
+    let status = c.in_ok-status.status in
+    let greatest = c.loop-line.greatest in
+    let step : c.loop-line.line-iterator ≡ line ∷ rest = search rules in (
+      status_as _ _ _ _ later after rest _ c.greater-greatest.result c.greater-greatest.ensures.value
+          (line_told does c.args.lines was before next later now after line rest greatest status
+          (left_as _ _ _ _ next now c.loop-line.line-iterator (line ∷ rest) greatest step c.loop-line.invariant.0) c.in_ok-status.ensures.does.told),
+      c.greater-greatest.ensures.bound,
+      all_grown was next later c.loop-line.invariant.2 c.solve_line.ensures.does.kept,
+    )
+
+pub returns-in_err-status-clause-does : goal.returns-in_err-status-clause-does
+returns-in_err-status-clause-does g c =
+    let at = files_done g.F.ReadFiles.reads g.N.WriteFiles.writes in
+    record {
+      kept = all_grown (at c.args.files.now c.args.new_files.now) (at c.loop-line.files c.loop-line.new_files) (at c.solve_line.new.files c.solve_line.new.new_files) c.loop-line.invariant.2 c.solve_line.ensures.does.kept;
+      told = search rules;
+    }
+
+pub returns-clause-does : goal.returns-clause-does
+returns-clause-does g c =
+    let now = g.W.Write.contents c.loop-line.output in
+    let next = files_done g.F.ReadFiles.reads g.N.WriteFiles.writes c.loop-line.files c.loop-line.new_files in
+    let none_left : c.loop-line.line-iterator ≡ [] = search rules in
+    record {
+      kept = c.loop-line.invariant.2;
+      told = all_told _ _ _ _ next now c.loop-line.greatest (left_as _ _ _ _ next now c.loop-line.line-iterator [] c.loop-line.greatest none_left c.loop-line.invariant.0);
+    }

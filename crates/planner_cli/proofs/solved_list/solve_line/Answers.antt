@@ -1,8 +1,0 @@
--- A flush leaves what is written.
-use Rattle.auditor_cli.proofs.ListLemmas.{flushed}
-use Rattle.planner_cli.proofs.solved_list.solve_line.Goals as goal
-
-pub returns-clause-told : goal.returns-clause-told
-returns-clause-told g c =
-    let told = c.in_ok-status.ensures.told in
-    (told.0, told.1, flushed (g.W.Write.contents c.args.output.now) (g.W.Write.contents c.solve_named.new.output) (g.W.Write.contents c.flush.new.self) told.0 told.2 c.in_ok-flush.ensures.bytes)
