@@ -1,4 +1,5 @@
 pub mod OpenLemmas
 pub mod SolvedListLemmas
 pub mod StopLemmas
+pub mod StoreLemmas
 pub mod TellLemmas

@@ -16,14 +16,12 @@ use Rattle.auditor_cli.specs.Examined.{IsExamined, answer_of}
 use Rattle.auditor_cli.specs.Files.{AreBothRead, IsUnread}
 use Rattle.auditor_cli.specs.Reads.{FileRead}
 use Rattle.command_text.specs.Answers.{line}
-use Rattle.planner_cli.specs.Running.{OpensDevice, TellsFault}
-use Rattle.planner_cli.specs.Telling.{open_line, open_status}
+use Rattle.planner_cli.specs.Opened.{IsForetoldBefore, OpensStore, TellsUnopened}
 use Rattle.auditor_cli.specs.Telling.{TellsUnread}
 use Rattle.auditor_cli.specs.declared.audit.Examined.{Examined}
 use Rattle.auditor_cli.specs.declared.audit.Examined.TheVariants.{BadInstance, BadSolution, Judged}
 use Rattle.planner_cli.specs.declared.drawn.Drawing.{Drawing}
 use Rattle.planner_cli.specs.declared.drawn.Drawing.TheVariants.{NoSuchRoute, Picture, Refused}
-use Rattle.sector_disk.specs.declared.file_device.FileFault.{FileFault}
 use Rattle.sector_disk.specs.declared.sectors.Sectors as sectors
 
 -- the picture of these routes with a verdict; or of the one with this number, counted from 1, if there is one
@@ -94,17 +92,11 @@ abbrev pub DrawsState : State → Option (List ℕ) → Option (List ℕ) → Op
 DrawsState Empty output after errors later status = (status ≡ 2) × Appends errors later (line (codes "no NoInstance")) × Appends output after []
 DrawsState (Loaded job) output after errors later status = (drawn : Result Drawing AllocError) × IfOk drawn (IsPlanDrawn job) × TellsResult drawn output after errors later status
 
-module _ {D : Type 0} (on : sectors.Ghosts D) where
-  -- The store on the device is opened, and its plan drawn; or it is told on the errors why there is no picture. `errors` is what they hold
-  -- behind the line of how many search steps are repeated. `left` is the device as it is left: as opening left it.
-  abbrev pub DrawsDevice : D → Option (List ℕ) → Option (List ℕ) → Option (List ℕ) → D → ℕ → Type 0
-  DrawsDevice device output after later left status =
-      (errors : Option (List ℕ))
-      × OpensDevice on device (λ session replayed. (left ≡ session.device) × DrawsState session.state output after errors later status)
-      (λ refused fault. (left ≡ refused) × TellsFault fault errors later status × Appends output after [])
-
-  -- the same for the device over a file, or it is told why there is none
-  abbrev pub DrawsStore : (D → Type 0) → List ℕ → Option (List ℕ) → Option (List ℕ) → Option (List ℕ) → Option (List ℕ) → ℕ → Type 0
-  DrawsStore IsNew path output after errors later status =
-      ((device : D) × (left : D) × IsNew device × DrawsDevice device output after later left status)
-      ⊎ ((fault : FileFault) × (status ≡ open_status fault) × Appends errors later (open_line path fault) × Appends output after [])
+-- The store in the file is opened, and its plan drawn; or it is told on the errors why there is no picture. `IsOld` is what is known of the
+-- device over the file, and `foretold` is what the errors hold behind the line of how many search steps are repeated. `left` is the device as it
+-- is left: as opening left it.
+abbrev pub DrawsStore : {D : Type 0} → sectors.Ghosts D → (D → Type 0) → List ℕ → Option (List ℕ) → Option (List ℕ) → Option (List ℕ) → Option (List ℕ) → ℕ → Type 0
+DrawsStore {D} on IsOld path output after errors later status =
+    (foretold : Option (List ℕ))
+    × OpensStore on IsOld (λ opened. (left : D) × (left ≡ opened.session.device) × DrawsState opened.session.state output after foretold later status)
+    (λ unopened. IsForetoldBefore unopened errors foretold × TellsUnopened path unopened foretold later status × Appends output after [])

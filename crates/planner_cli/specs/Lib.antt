@@ -2,6 +2,7 @@
 pub mod Drawn
 pub mod Formatting
 pub mod Loading
+pub mod Opened
 pub mod Program
 pub mod Recovering
 pub mod Running

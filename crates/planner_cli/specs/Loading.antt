@@ -5,10 +5,6 @@ use Rattle.std.specs.declared.io.ErrorKind.{ErrorKind}
 use Rattle.plan_types.specs.Instance.{Instance}
 use Rattle.instance_read.specs.Faults.{TellsFirstFault}
 use Rattle.instance_read.specs.declared.faults.ReadFault.{ReadFault}
-use Rattle.checkpoint.specs.Layouts.{version_2, sectors_in}
-use Rattle.checkpoint.specs.declared.faults.FormatFault.{FormatFault}
-use Rattle.checkpoint.specs.declared.faults.StoreFault.TheVariants.{NotFormatted}
-use Rattle.checkpoint.specs.declared.places.Place.{Place}
 use Rattle.command_core.specs.Effects.{effect}
 use Rattle.command_core.specs.declared.commands.Command.{Command}
 use Rattle.command_core.specs.declared.commands.Command.TheVariants.{Load}
@@ -18,15 +14,15 @@ use Rattle.command_line.specs.Asked.{LoadAsked}
 use Rattle.command_text.specs.Answers.{line}
 use Rattle.command_text.specs.Readings.{InstanceFault, SpellsInstance}
 use Rattle.auditor_cli.specs.Reads.{FileRead}
-use Rattle.planner_cli.specs.Formatting.{IsFormatted}
-use Rattle.planner_cli.specs.Running.{OpensDevice, TellsFault}
-use Rattle.planner_cli.specs.Telling.{TellsAnswered, TellsInstanceFault, format_line, format_status, open_line, open_status}
+use Rattle.planner_cli.specs.Opened.{OpensNew, OpensStore, TellsUnopened}
+use Rattle.planner_cli.specs.Telling.{TellsAnswered, TellsInstanceFault}
+use Rattle.planner_cli.specs.declared.opened.Unopened.{Unopened}
 use Rattle.auditor_cli.specs.Telling.{TellsUnread}
 use Rattle.recover.specs.Applying.{IsApplied}
 use Rattle.recover.specs.Sessions.{SessionValue}
 use Rattle.recover.specs.StandsFor.{StandsFor}
+use Rattle.recover.specs.declared.opening.Opened.{Opened}
 use Rattle.recover.specs.declared.replies.Reply.{Reply}
-use Rattle.sector_disk.specs.declared.file_device.FileFault.{FileFault}
 use Rattle.sector_disk.specs.declared.sectors.Sectors as sectors
 use Rattle.state_codec.specs.declared.version.Version.TheVariants.{Two}
 
@@ -60,36 +56,20 @@ module _ {D : Type 0} (on : sectors.Ghosts D) where
   abbrev pub BeginsSession : SessionValue D → Command → Option (List ℕ) → Option (List ℕ) → D → ℕ → Type 0
   BeginsSession session command before after left status = IsHeld session before after left status ⊎ IsBegun session command before after left status
 
-  -- the store on the device is opened and begun, or it is told why it can't be opened
-  abbrev pub BeginsDevice : D → Command → Option (List ℕ) → Option (List ℕ) → D → ℕ → Type 0
-  BeginsDevice device command before after left status =
-      OpensDevice on device (λ session replayed. BeginsSession session command before after left status) (λ later fault. (left ≡ later) × TellsFault fault before after status)
+  abbrev pub BeginsOpened : Command → Option (List ℕ) → Option (List ℕ) → ℕ → Opened D → Type 0
+  BeginsOpened command before after status opened = (left : D) × BeginsSession opened.session command before after left status
 
-  -- an empty store is made on the device and begun, or it is told why it is not made
-  abbrev pub BeginsFormatted : D → Command → Option (List ℕ) → Option (List ℕ) → D → ℕ → Type 0
-  BeginsFormatted device command before after left status =
-      (new : D) × (made : Result Place FormatFault) × IsFormatted on device new made
-      × MatchResult made (λ place. BeginsDevice new command before after left status)
-      (λ fault. (left ≡ new) × (status ≡ format_status (Some fault)) × Appends before after (format_line (Some fault)))
-
-  -- The same on a device over a file that was just made. It is formatted only where it holds no store.
-  abbrev pub BeginsMade : D → Command → Option (List ℕ) → Option (List ℕ) → D → ℕ → Type 0
-  BeginsMade device command before after left status =
-      OpensDevice on device (λ session replayed. BeginsSession session command before after left status)
-      (λ later fault. ((fault ≡ NotFormatted) × BeginsFormatted later command before after left status) ⊎ ((left ≡ later) × TellsFault fault before after status))
-
-  -- A file of 8,450 sectors is made, and a store in it begun, or it is told why there is none. `IsNew` is what is known of the device over it.
-  abbrev pub BeginsNew : (D → Type 0) → List ℕ → Command → Option (List ℕ) → Option (List ℕ) → ℕ → Type 0
-  BeginsNew IsNew path command before after status =
-      ((device : D) × (left : D) × IsNew device × (on.len device ≡ sectors_in version_2) × BeginsMade device command before after left status)
-      ⊎ ((fault : FileFault) × (status ≡ open_status fault) × Appends before after (open_line path fault))
+  -- what was opened is begun, or it is told why it was not opened
+  abbrev pub BeginsOpening : Result (Opened D) (Unopened D) → List ℕ → Command → Option (List ℕ) → Option (List ℕ) → ℕ → Type 0
+  BeginsOpening opening path command before after status =
+      MatchResult opening (BeginsOpened command before after status) (λ unopened. TellsUnopened path unopened before after status)
 
 module _ {D E : Type 0} (on_old : sectors.Ghosts D) (on_new : sectors.Ghosts E) (IsOld : D → Type 0) (IsNew : E → Type 0) where
-  -- the store in the file is begun, or one in a new file, or it is told why neither is opened
+  -- The store in the file is begun, or one in a file that is made. `IsOld` and `IsNew` are what is known of the devices over them.
   abbrev pub BeginsStore : List ℕ → Command → Option (List ℕ) → Option (List ℕ) → ℕ → Type 0
   BeginsStore path command before after status =
-      ((device : D) × (left : D) × IsOld device × BeginsDevice on_old device command before after left status)
-      ⊎ (BeginsNew on_new IsNew path command before after status ⊎ ((fault : FileFault) × (status ≡ open_status fault) × Appends before after (open_line path fault)))
+      OpensStore on_old IsOld (BeginsOpened on_old command before after status) (λ unopened. TellsUnopened path unopened before after status)
+      ⊎ OpensNew on_new IsNew (BeginsOpened on_new command before after status) (λ unopened. TellsUnopened path unopened before after status)
 
   -- a text is read, and the store begun with the instance that it spells, or its first fault told
   abbrev pub LoadsText : LoadAsked → List ℕ → Option (List ℕ) → Option (List ℕ) → ℕ → Type 0

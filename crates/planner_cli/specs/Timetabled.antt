@@ -20,12 +20,10 @@ use Rattle.auditor_cli.specs.Examined.{IsExamined, answer_of}
 use Rattle.auditor_cli.specs.Explained.{TellsExplanation, TellsNotRead}
 use Rattle.auditor_cli.specs.Files.{AreBothRead}
 use Rattle.auditor_cli.specs.Reads.{FileRead}
-use Rattle.planner_cli.specs.Running.{OpensDevice, TellsFault}
-use Rattle.planner_cli.specs.Telling.{open_line, open_status}
+use Rattle.planner_cli.specs.Opened.{OpensStore, TellsUnopened}
 use Rattle.auditor_cli.specs.declared.audit.Examined.{Examined}
 use Rattle.auditor_cli.specs.declared.audit.Examined.TheVariants.{BadInstance, BadSolution, Judged}
 use Rattle.auditor_cli.specs.declared.explained.Explanation.{Explanation}
-use Rattle.sector_disk.specs.declared.file_device.FileFault.{FileFault}
 use Rattle.sector_disk.specs.declared.sectors.Sectors as sectors
 
 -- how it is laid out
@@ -78,15 +76,9 @@ abbrev pub TellsState : Form → State → Option (List ℕ) → Option (List �
 TellsState form Empty before after status = (status ≡ 2) × Appends before after (line (codes "no NoInstance"))
 TellsState form (Loaded job) before after status = (made : Result Explanation AllocError) × IfOk made (IsPlanTold form job) × TellsExplanation made before after status
 
-module _ {D : Type 0} (on : sectors.Ghosts D) where
-  -- The store on the device is opened, and the timetable of its plan told, or why it can't be opened. `left` is the device as it is left: as
-  -- opening left it.
-  abbrev pub TimetablesDevice : D → Form → Option (List ℕ) → Option (List ℕ) → D → ℕ → Type 0
-  TimetablesDevice device form before after left status =
-      OpensDevice on device (λ session replayed. (left ≡ session.device) × TellsState form session.state before after status) (λ later fault. (left ≡ later) × TellsFault fault before after status)
-
-  -- the same for the device over a file, or it is told why there is none
-  abbrev pub TimetablesStore : (D → Type 0) → List ℕ → Form → Option (List ℕ) → Option (List ℕ) → ℕ → Type 0
-  TimetablesStore IsNew path form before after status =
-      ((device : D) × (left : D) × IsNew device × TimetablesDevice device form before after left status)
-      ⊎ ((fault : FileFault) × (status ≡ open_status fault) × Appends before after (open_line path fault))
+-- The store in the file is opened, and the timetable of its plan told, or why it can't be opened. `IsOld` is what is known of the device over
+-- the file. `left` is the device as it is left: as opening left it.
+abbrev pub TimetablesStore : {D : Type 0} → sectors.Ghosts D → (D → Type 0) → List ℕ → Form → Option (List ℕ) → Option (List ℕ) → ℕ → Type 0
+TimetablesStore {D} on IsOld path form before after status =
+    OpensStore on IsOld (λ opened. (left : D) × (left ≡ opened.session.device) × TellsState form opened.session.state before after status)
+    (λ unopened. TellsUnopened path unopened before after status)

@@ -1,11 +1,10 @@
 //! The picture of a solution in a file, or of the plan in a store, which is opened as for its timetable.
 ghost use Rattle.std.specs.Prelude.{◌≡◌, ◌≤◌, IfOk, None, Some, length};
 ghost use Rattle.sector_disk.specs.FileDevice.{IsUnused};
-ghost use Rattle.planner_cli.specs.Drawn.{DrawsDevice, DrawsState, DrawsStore, IsDrawing, IsDrawingOf, IsPictureOf, IsPlanDrawn, TellsDrawing, TellsDrawn, TellsResult, busy_after, busy_front};
+ghost use Rattle.planner_cli.specs.Drawn.{DrawsState, DrawsStore, IsDrawing, IsDrawingOf, IsPictureOf, IsPlanDrawn, TellsDrawing, TellsDrawn, TellsResult, busy_after, busy_front};
 ghost use Rattle.auditor_cli.specs.Files.{AreReadInTurn};
 
-use crate::opened::open_session;
-use crate::telling::{tell_cause, tell_refusal, tell_store_fault};
+use crate::opened::{close_store, open_store, tell_unopened};
 use auditor_cli::status::{DONE, REFUSED};
 use auditor_cli::{
     AuditAnswer, Examined, ReadFiles, answer_of, examine, read_both, tell_unread,
@@ -16,7 +15,6 @@ use command_line::Paths;
 use plan_audit::{Verdict, passes_are_local, plans_are_local};
 use plan_picture::{draw, draw_route};
 use plan_types::{Kind, OutOfMemory, Problem, Route};
-use recover::Opened;
 use route_sched::plan_cost;
 use sector_disk::{FileCalls, FileDevice, HostFile, Sectors, Start};
 use std::alloc::Global;
@@ -183,50 +181,14 @@ where
         (W.contents output.old) (W.contents output.new)
         (E.contents errors.old) (E.contents errors.new)) }
 {
-    match FileDevice::at_or_cause(rt, store, start) {
-        Ok(device) => {
-            let (told, device) = draw_device(rt.alloc(), device, output, errors);
-            tell_cause(rt, store, device.cause());
+    match open_store(rt, start, store, errors) {
+        Ok(opened) => {
+            let told = draw_state(rt.alloc(), opened.session.state(), output, errors);
+            close_store(rt, store, opened.session);
             told
         }
-        Err(refusal) => tell_refusal(rt, errors, store, refusal),
+        Err(unopened) => tell_unopened(rt, errors, store, unopened),
     }
-}
-
-// Opens the store on the device, draws its plan, and gives the device back.
-fn draw_device<D: Sectors + Drop, W: Write, E: Write>(
-    alloc: Global,
-    device: D,
-    output: &mut W,
-    errors: &mut E,
-) -> (io::Result<u8>, D)
-    ensures status { IfOk result.0 (λ status. status ≤ 4) }
-    ensures told { IfOk result.0 (DrawsDevice D.Sectors device
-        (W.contents output.old) (W.contents output.new) (E.contents errors.new) result.1) }
-{
-    let opening = open_session(alloc, device, errors);
-    match opening.into_opened() {
-        Ok(opened) => draw_opened(alloc, opened, output, errors),
-        Err((fault, device)) => (tell_store_fault(errors, fault), device),
-    }
-}
-
-// Draws a session's plan, and gives the device back.
-fn draw_opened<D: Sectors + Drop, W: Write, E: Write>(
-    alloc: Global,
-    opened: Opened<D>,
-    output: &mut W,
-    errors: &mut E,
-) -> (io::Result<u8>, D)
-    ensures status { IfOk result.0 (λ status. status ≤ 4) }
-    ensures told { IfOk result.0 (DrawsState opened.session.state
-        (W.contents output.old) (W.contents output.new)
-        (E.contents errors.old) (E.contents errors.new)) }
-    ensures kept { result.1 ≡ opened.session.device }
-{
-    let session = opened.session;
-    let told = draw_state(alloc, session.state(), output, errors);
-    (told, session.close())
 }
 
 // Draws a state's plan, or tells that nothing was loaded.

@@ -12,17 +12,18 @@
 //!
 //! Modules, in reading order:
 //! - `telling`: lines for stores that can't be opened or made, and for what commands answer
-//! - `opened`: the opening of a store
+//! - `opened`: the opening of a store, and why there is none, for the words that open one
 //! - `drawn`, `timetabled`: the words `draw` and `timetable`
 //! - `solved`, `solved_list`: the words `solve` and `solves`
 //! - `laws`: what stops leave of the word `run`
 //! - `stores`: the words `format`, `run` and `upgrade`
+//! - `made`: the opening of a store in a file that is made for it
 //! - `loaded`: the word `load`
 //! - `program`: `run_words`
 //!
 //! Said by `specs/Program.antt`, and word by word by `Drawn.antt`, `Solving.antt`, `SolvedList.antt`, `Formatting.antt`, `Foretold.antt`,
-//! `Loading.antt`, `Running.antt`, `Timetabled.antt` and `Upgrading.antt`, which statuses by `Statuses.antt`; of the words of an audit
-//! by the files of `auditor_cli`. Proved:
+//! `Loading.antt`, `Running.antt`, `Timetabled.antt` and `Upgrading.antt`, which statuses by `Statuses.antt`, the opening of a store in a
+//! file by `Opened.antt`; of the words of an audit by the files of `auditor_cli`. Proved:
 //! - `run_words`, of words without hyphen that ask for something (`EndsWith`): which files were read, and in which order, of a
 //!   list the list first (`AreReadFor`); that none but `solves` makes a file beside a store (`AreMadeFor`); what was written to
 //!   the output and to the errors, and the status that goes with it, from what these files gave (`Does`), but for an answer that
@@ -47,7 +48,7 @@
 //! - `load_read` (`TellsLoad`): the instance's first fault, before any store is opened; else a store that was found or made is
 //!   opened, left as it is where it holds an instance, and begun with `Load` where it is empty: after `ok` each image that a
 //!   stop may leave stands for the state that `Load` makes of the empty one. A device over a file that was just made is
-//!   formatted only where opening told that it holds no store
+//!   formatted only where opening told that it holds no store (`IsMadeReady` of `open_new`)
 //! - `upgrade_store` (`UpgradesStore`): `same store` where the words are the same; a device over the old file, then one of
 //!   8,450 sectors over the new one, and what `upgrade` of `recover` made of both
 #![tactic(auto)]
@@ -55,6 +56,7 @@
 mod drawn;
 mod laws;
 mod loaded;
+mod made;
 mod opened;
 mod program;
 mod solved;

@@ -1,25 +1,21 @@
 //! The loading of the instance in a file into a store in another one.
 //!
-//! The instance is read first, so that a text that is refused leaves no store behind. A file that was just made is opened before
-//! it is formatted, since another process may have made a store in it meanwhile: only what holds no store is formatted.
+//! The instance is read first, so that a text that is refused leaves no store behind.
 ghost use Rattle.std.specs.Prelude.{◌≡◌, ◌≤◌, IfOk};
 ghost use Rattle.command_line.specs.Asked.{load_of};
 ghost use Rattle.sector_disk.specs.FileDevice.{IsUnused};
-ghost use Rattle.planner_cli.specs.Loading.{BeginsDevice, BeginsFormatted, BeginsMade, BeginsNew, BeginsSession, BeginsStore, TellsHeld, TellsLoad, holds_instance};
+ghost use Rattle.planner_cli.specs.Loading.{BeginsOpening, BeginsSession, BeginsStore, TellsHeld, TellsLoad, holds_instance};
 ghost use Rattle.auditor_cli.specs.Reads.{IsRead};
 
-use crate::opened::open_session;
-use crate::stores::format_device;
-use crate::telling::{
-    tell_answer, tell_cause, tell_format, tell_instance_fault, tell_refusal, tell_store_fault,
-};
+use crate::made::open_new;
+use crate::opened::{Unopened, open_store, tell_unopened};
+use crate::telling::{tell_answer, tell_cause, tell_instance_fault};
 use auditor_cli::status::REFUSED;
 use auditor_cli::{ReadFiles, read_instance, tell_unread, write_line};
-use checkpoint::{SECTORS, StoreFault};
 use command_core::{Command, State};
 use command_line::Loading;
 use recover::Opened;
-use sector_disk::{FileCalls, FileDevice, FileRefusal, HostFile, Sectors, Start};
+use sector_disk::{FileCalls, FileDevice, HostFile, Sectors, Start};
 use std::alloc::Global;
 use std::fs::File;
 use std::io;
@@ -65,7 +61,7 @@ where
     )
 }
 
-// Begins the store in the file with the command.
+// Begins the store in the file with the command, or one in a new file where the system said that there is none.
 fn begin_store<R, T: Start, U: Start, W: Write, E: Write>(
     rt: &R,
     start: T,
@@ -83,113 +79,44 @@ where
         (IsUnused ⟦<HostFile as FileCalls>⟧.entries) (IsUnused ⟦<HostFile as FileCalls>⟧.entries)
         store.now command (W.contents output.old) (W.contents output.new)) }
 {
-    match FileDevice::at_or_cause(rt, store, start) {
-        Ok(device) => {
-            let (told, device) = begin_device(rt.alloc(), device, command, output, errors);
-            tell_cause(rt, store, device.cause());
-            told
-        }
-        Err(refusal) => {
-            if is_absent(&refusal) {
-                return begin_new(rt, start_of_new, store, command, output, errors);
-            }
-            tell_refusal(rt, output, store, refusal)
-        }
+    let opening = open_store(rt, start, store, errors);
+    if is_absent(&opening) {
+        let opening = open_new(rt, start_of_new, store, errors);
+        return begin_opening(rt, store, opening, command, output);
     }
+    begin_opening(rt, store, opening, command, output)
 }
 
 // Whether the system said that there is no such file.
-fn is_absent(refusal: &FileRefusal) -> bool {
-    match refusal.cause {
-        Some(error) => error.kind() == ErrorKind::NotFound,
-        None => false,
+fn is_absent<O, D>(opening: &Result<O, Unopened<D>>) -> bool {
+    match opening {
+        Err(Unopened::File(refusal)) => match refusal.cause {
+            Some(error) => error.kind() == ErrorKind::NotFound,
+            None => false,
+        },
+        _ => false,
     }
 }
 
-// Makes the file, and begins a store in it with the command.
-fn begin_new<R, U: Start, W: Write, E: Write>(
+// Begins the store that was opened with the command, or tells why it was not opened.
+fn begin_opening<R: Eprint + AllocGlobal, T: Start, W: Write>(
     rt: &R,
-    start: U,
     store: &str,
+    opening: Result<Opened<FileDevice<T>>, Unopened<FileDevice<T>>>,
     command: Command,
     output: &mut W,
-    errors: &mut E,
 ) -> io::Result<u8>
-where
-    R: Files<File = File> + Eprint + AllocGlobal,
     ensures status { IfOk result (λ status. status ≤ 4) }
-    ensures begins { IfOk result (BeginsNew ⟦<FileDevice<U> as Sectors>⟧
-        (IsUnused ⟦<HostFile as FileCalls>⟧.entries) store.now command
-        (W.contents output.old) (W.contents output.new)) }
+    ensures begins { IfOk result (BeginsOpening ⟦<FileDevice<T> as Sectors>⟧ opening store.now
+        command (W.contents output.old) (W.contents output.new)) }
 {
-    match FileDevice::create_or_cause(rt, store, SECTORS, start) {
-        Ok(device) => {
-            let (told, device) = begin_made(rt.alloc(), device, command, output, errors);
+    match opening {
+        Ok(opened) => {
+            let (told, device) = begin_opened(rt.alloc(), opened, command, output);
             tell_cause(rt, store, device.cause());
             told
         }
-        Err(refusal) => tell_refusal(rt, output, store, refusal),
-    }
-}
-
-// Opens the store on a device over a file that was just made, or formats it where it holds none, and begins it with the
-// command.
-fn begin_made<D: Sectors + Drop, W: Write, E: Write>(
-    alloc: Global,
-    device: D,
-    command: Command,
-    output: &mut W,
-    errors: &mut E,
-) -> (io::Result<u8>, D)
-    ensures status { IfOk result.0 (λ status. status ≤ 4) }
-    ensures begins { IfOk result.0 (BeginsMade D.Sectors device command
-        (W.contents output.old) (W.contents output.new) result.1) }
-{
-    let opening = open_session(alloc, device, errors);
-    match opening.into_opened() {
-        Ok(opened) => begin_opened(alloc, opened, command, output),
-        Err((StoreFault::NotFormatted, device)) => begin_formatted(
-            alloc, device, command, output, errors,
-        ),
-        Err((fault, device)) => (tell_store_fault(output, fault), device),
-    }
-}
-
-// Makes an empty store on the device, and begins it with the command.
-fn begin_formatted<D: Sectors + Drop, W: Write, E: Write>(
-    alloc: Global,
-    device: D,
-    command: Command,
-    output: &mut W,
-    errors: &mut E,
-) -> (io::Result<u8>, D)
-    ensures status { IfOk result.0 (λ status. status ≤ 4) }
-    ensures begins { IfOk result.0 (BeginsFormatted D.Sectors device command
-        (W.contents output.old) (W.contents output.new) result.1) }
-{
-    let mut device = device;
-    match format_device(alloc, &mut device) {
-        Ok(_) => begin_device(alloc, device, command, output, errors),
-        Err(fault) => (tell_format(output, Some(fault)), device),
-    }
-}
-
-// Opens the store on the device, and begins it with the command.
-fn begin_device<D: Sectors + Drop, W: Write, E: Write>(
-    alloc: Global,
-    device: D,
-    command: Command,
-    output: &mut W,
-    errors: &mut E,
-) -> (io::Result<u8>, D)
-    ensures status { IfOk result.0 (λ status. status ≤ 4) }
-    ensures begins { IfOk result.0 (BeginsDevice D.Sectors device command
-        (W.contents output.old) (W.contents output.new) result.1) }
-{
-    let opening = open_session(alloc, device, errors);
-    match opening.into_opened() {
-        Ok(opened) => begin_opened(alloc, opened, command, output),
-        Err((fault, device)) => (tell_store_fault(output, fault), device),
+        Err(unopened) => tell_unopened(rt, output, store, unopened),
     }
 }
 

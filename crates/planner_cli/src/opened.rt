@@ -1,19 +1,34 @@
-//! The opening of a store on a device.
+//! The opening of a store, on a device and in a file.
 //!
 //! Repeating the searches of a store can take long, so how many steps that is stands on standard error first. It is found by
 //! reading alone. Where reading is refused, opening is refused for the same cause: else one fault of the device would be
 //! counted twice.
-ghost use Rattle.std.specs.Prelude.{◌≡◌, MatchResult, OnOk};
+ghost use Rattle.std.specs.Prelude.{◌≡◌, ◌≤◌, IfErr, IfOk, MatchResult, OnOk};
+ghost use Rattle.sector_disk.specs.FileDevice.{IsUnused};
 ghost use Rattle.planner_cli.specs.Foretold.{IsForetold, IsOfImage};
+ghost use Rattle.planner_cli.specs.Opened.{IsForetoldBefore, IsOpening, IsStoreOpening, TellsUnopened};
 ghost use Rattle.planner_cli.specs.Running.{IsOpened, IsRefused};
 
-use crate::telling::tell_repeating;
-use checkpoint::{StoreFault, images_hold_one_thing};
+use crate::telling::{tell_cause, tell_format, tell_refusal, tell_repeating, tell_store_fault};
+use checkpoint::{FormatFault, StoreFault, images_hold_one_thing};
 use recover::{Opened, Session, steps_to_repeat};
-use sector_disk::Sectors;
+use sector_disk::{FileCalls, FileDevice, FileRefusal, HostFile, Sectors, Start};
 use std::alloc::Global;
+use std::fs::File;
 use std::io;
 use std::io::Write;
+use std::rt::Files;
+
+/// Why a store was not opened.
+#[derive(Drop)]
+pub(crate) enum Unopened<D> {
+    /// There is no device over the file.
+    File(FileRefusal),
+    /// The store on this device can't be opened.
+    Store(StoreFault, D),
+    /// This device held no store, and none could be made on it.
+    Unformatted(FormatFault, D),
+}
 
 /// What came of opening a store.
 #[derive(Drop)]
@@ -74,5 +89,76 @@ fn open_silently<D: Sectors>(alloc: Global, device: D) -> Result<Opened<D>, (Sto
     match Session::open(alloc, device) {
         Ok(opened) => Ok(opened),
         Err((fault, device)) => Err((fault, device)),
+    }
+}
+
+/// Opens the store on the device. Before a search step is repeated it is told on `errors` how many are.
+pub(crate) fn open_device<D: Sectors, E: Write>(
+    alloc: Global,
+    device: D,
+    errors: &mut E,
+) -> Result<Opened<D>, Unopened<D>>
+    ensures { IsOpening D.Sectors device result }
+{
+    let opening = open_session(alloc, device, errors);
+    match opening.into_opened() {
+        Ok(opened) => Ok(opened),
+        Err((fault, device)) => Err(Unopened::Store(fault, device)),
+    }
+}
+
+/// Opens the store in the file, as `open_device` does.
+pub(crate) fn open_store<R, T: Start, E: Write>(
+    rt: &R,
+    start: T,
+    store: &str,
+    errors: &mut E,
+) -> Result<Opened<FileDevice<T>>, Unopened<FileDevice<T>>>
+where
+    R: Files<File = File> + Eprint + AllocGlobal,
+    ensures opens { IsStoreOpening ⟦<FileDevice<T> as Sectors>⟧
+        (IsUnused ⟦<HostFile as FileCalls>⟧.entries) result }
+    ensures foretold { IfErr result (λ unopened. IsForetoldBefore unopened
+        (E.contents errors.old) (E.contents errors.new)) }
+{
+    match FileDevice::at_or_cause(rt, store, start) {
+        Ok(device) => open_device(rt.alloc(), device, errors),
+        Err(refusal) => Err(Unopened::File(refusal)),
+    }
+}
+
+/// Closes the store, and tells on standard error what the system said of the call of its device that failed last.
+pub(crate) fn close_store<R: Eprint, T: Start>(
+    rt: &R,
+    store: &str,
+    session: Session<FileDevice<T>>,
+) {
+    let device = session.close();
+    tell_cause(rt, store, device.cause());
+}
+
+/// Tells why the store was not opened, and on standard error what the system said.
+pub(crate) fn tell_unopened<R: Eprint, T: Start, W: Write>(
+    rt: &R,
+    output: &mut W,
+    store: &str,
+    unopened: Unopened<FileDevice<T>>,
+) -> io::Result<u8>
+    ensures status { IfOk result (λ status. status ≤ 4) }
+    ensures told { IfOk result (TellsUnopened store.now unopened
+        (W.contents output.old) (W.contents output.new)) }
+{
+    match unopened {
+        Unopened::File(refusal) => tell_refusal(rt, output, store, refusal),
+        Unopened::Store(fault, device) => {
+            let told = tell_store_fault(output, fault);
+            tell_cause(rt, store, device.cause());
+            told
+        }
+        Unopened::Unformatted(fault, device) => {
+            let told = tell_format(output, Some(fault));
+            tell_cause(rt, store, device.cause());
+            told
+        }
     }
 }

@@ -8,10 +8,9 @@ ghost use Rattle.sector_disk.specs.FileDevice.{IsUnused};
 ghost use Rattle.auditor_cli.specs.Answer.{IsAnswer, IsSolutionVerdict};
 ghost use Rattle.auditor_cli.specs.Examined.{HasVerdict};
 ghost use Rattle.auditor_cli.specs.Files.{AreReadInTurn};
-ghost use Rattle.planner_cli.specs.Timetabled.{IsPlanTold, IsTimetable, IsTimetableOf, TellsState, TellsTimetable, TimetablesDevice, TimetablesStore, form_of, plan_text, solution_text};
+ghost use Rattle.planner_cli.specs.Timetabled.{IsPlanTold, IsTimetable, IsTimetableOf, TellsState, TellsTimetable, TimetablesStore, form_of, plan_text, solution_text};
 
-use crate::opened::open_session;
-use crate::telling::{tell_cause, tell_refusal, tell_store_fault};
+use crate::opened::{close_store, open_store, tell_unopened};
 use auditor_cli::status::{DONE, REFUSED};
 use auditor_cli::{
     AuditAnswer, Examined, Explanation, ReadFiles, answer_of, examine, pass_line, read_both,
@@ -22,7 +21,6 @@ use command_line::Paths;
 use plan_audit::{Verdict, passes_are_local, plans_are_local};
 use plan_timetable::{Form, judged_timetable, timetable};
 use plan_types::{Kind, OutOfMemory, Problem, Route};
-use recover::Opened;
 use route_sched::plan_cost;
 use sector_disk::{FileCalls, FileDevice, HostFile, Sectors, Start};
 use sol_text::Solution;
@@ -126,50 +124,14 @@ where
         (IsUnused ⟦<HostFile as FileCalls>⟧.entries) store.now form
         (W.contents output.old) (W.contents output.new)) }
 {
-    match FileDevice::at_or_cause(rt, store, start) {
-        Ok(device) => {
-            let (told, device) = timetable_device(rt.alloc(), device, form, output, errors);
-            tell_cause(rt, store, device.cause());
+    match open_store(rt, start, store, errors) {
+        Ok(opened) => {
+            let told = tell_state(rt.alloc(), opened.session.state(), form, output);
+            close_store(rt, store, opened.session);
             told
         }
-        Err(refusal) => tell_refusal(rt, output, store, refusal),
+        Err(unopened) => tell_unopened(rt, output, store, unopened),
     }
-}
-
-// Opens the store on the device, tells the timetable of its plan, and gives the device back.
-fn timetable_device<D: Sectors + Drop, W: Write, E: Write>(
-    alloc: Global,
-    device: D,
-    form: Form,
-    output: &mut W,
-    errors: &mut E,
-) -> (io::Result<u8>, D)
-    ensures status { IfOk result.0 (λ status. status ≤ 4) }
-    ensures told { IfOk result.0 (TimetablesDevice D.Sectors device form
-        (W.contents output.old) (W.contents output.new) result.1) }
-{
-    let opening = open_session(alloc, device, errors);
-    match opening.into_opened() {
-        Ok(opened) => timetable_opened(alloc, opened, form, output),
-        Err((fault, device)) => (tell_store_fault(output, fault), device),
-    }
-}
-
-// Tells the timetable of a session's plan, and gives the device back.
-fn timetable_opened<D: Sectors + Drop, W: Write>(
-    alloc: Global,
-    opened: Opened<D>,
-    form: Form,
-    output: &mut W,
-) -> (io::Result<u8>, D)
-    ensures status { IfOk result.0 (λ status. status ≤ 4) }
-    ensures told { IfOk result.0 (TellsState form opened.session.state
-        (W.contents output.old) (W.contents output.new)) }
-    ensures kept { result.1 ≡ opened.session.device }
-{
-    let session = opened.session;
-    let told = tell_state(alloc, session.state(), form, output);
-    (told, session.close())
 }
 
 // Tells the timetable of a state's plan, or that nothing was loaded.

@@ -1,8 +1,10 @@
--- The device over the file that is there.
-use Rattle.std.proofs.Common.{inl}
+-- The store in the file is begun, or one in a new file.
+use Rattle.std.proofs.Common.{inl, inr}
 use Rattle.std.proofs.lemmas.Result.{IfOk-weaker}
 use Rattle.planner_cli.proofs.loaded.begin_store.Goals as goal
 
-pub returns-in-Ok-clause-begins : goal.returns-in-Ok-clause-begins
-returns-in-Ok-clause-begins g c =
-    IfOk-weaker c.begin_device-told.result.0 _ _ (λ status begins. inl (c.in-Ok.device, c.begin_device-told.result.1, c.in-Ok.ensures.unused, begins)) c.begin_device-told.ensures.begins
+pub returns-then-is_absent-clause-begins : goal.returns-then-is_absent-clause-begins
+returns-then-is_absent-clause-begins g c = IfOk-weaker c.begin_opening.result _ _ (λ status begins. inr (c.open_new-opening.result, c.open_new-opening.ensures, begins)) c.begin_opening.ensures.begins
+
+pub returns-clause-begins : goal.returns-clause-begins
+returns-clause-begins g c = IfOk-weaker c.begin_opening-2.result _ _ (λ status begins. inl (c.open_store-opening.result, c.open_store-opening.ensures.opens, begins)) c.begin_opening-2.ensures.begins

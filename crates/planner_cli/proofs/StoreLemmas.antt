@@ -1,0 +1,37 @@
+-- What came of the opening of a store, by what is known of its device.
+use Rattle.std.proofs.Common.{◌≡◌, inr, List, ℕ, Option, Result, Ok, Err, subst}
+use Rattle.std.specs.Prelude.{IfErr}
+use Rattle.checkpoint.specs.declared.faults.FormatFault.{FormatFault}
+use Rattle.checkpoint.specs.declared.faults.StoreFault.{StoreFault}
+use Rattle.checkpoint.specs.declared.faults.StoreFault.TheVariants.{NotFormatted}
+use Rattle.checkpoint.specs.declared.places.Place.{Place}
+use Rattle.planner_cli.specs.Formatting.{IsFormatted}
+use Rattle.planner_cli.specs.Opened.{IsForetoldBefore, IsFoundBare, IsMade, IsMadeReady, IsNewOpening, IsOpening, IsOpeningOf}
+use Rattle.planner_cli.specs.Running.{IsRefused}
+use Rattle.planner_cli.specs.declared.opened.Unopened.{Unopened}
+use Rattle.planner_cli.specs.declared.opened.Unopened.TheVariants.{File, Store, Unformatted}
+use Rattle.recover.specs.declared.opening.Opened.{Opened}
+use Rattle.sector_disk.specs.declared.sectors.Sectors as sectors
+
+module _ {D : Type 0} (on : sectors.Ghosts D) where
+  pub opening_of : (IsReady IsBare : D → Type 0) (device : D) → IsReady device → (opening : Result (Opened D) (Unopened D)) → IsOpening on device opening → IsOpeningOf on IsReady IsBare opening
+  opening_of IsReady IsBare device ready (Ok opened) is = record { device = device; ready = ready; opens = is }
+  opening_of IsReady IsBare device ready (Err (Store fault left)) is = record { device = device; ready = ready; refuses = is }
+  opening_of IsReady IsBare device ready (Err (File refusal)) is = absurd is
+  opening_of IsReady IsBare device ready (Err (Unformatted fault left)) is = absurd is
+
+  -- there is a device, so something may have been told beforehand
+  pub foretold_of : (device : D) (opening : Result (Opened D) (Unopened D)) (before after : Option (List ℕ)) → IsOpening on device opening → IfErr opening (λ unopened. IsForetoldBefore unopened before after)
+  foretold_of device (Ok opened) before after is = tt
+  foretold_of device (Err (Store fault left)) before after is = tt
+  foretold_of device (Err (File refusal)) before after is = absurd is
+  foretold_of device (Err (Unformatted fault left)) before after is = absurd is
+
+  pub found_bare : (IsNew : D → Type 0) (device bare : D) (fault : StoreFault) → IsMade on IsNew device → fault ≡ NotFormatted → IsRefused on device bare fault → IsFoundBare on IsNew bare
+  found_bare IsNew device bare fault made is refuses = record { device = device; made = made; refuses = subst (IsRefused on device bare) is refuses }
+
+  -- what held no store was formatted, and then opened
+  pub opening_of_formatted : (IsNew : D → Type 0) (bare ready : D) (made : Result Place FormatFault) (place : Place) → IsFoundBare on IsNew bare → made ≡ Ok place → IsFormatted on bare ready made
+      → (opening : Result (Opened D) (Unopened D)) → IsOpening on ready opening → IsNewOpening on IsNew opening
+  opening_of_formatted IsNew bare ready made place found is formatted opening opens =
+      opening_of (IsMadeReady on IsNew) (IsFoundBare on IsNew) ready (inr (bare, place, found, subst (IsFormatted on bare ready) is formatted)) opening opens

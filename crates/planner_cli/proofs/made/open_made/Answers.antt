@@ -1,0 +1,25 @@
+-- What opening the device gave: the store that was made in it meanwhile, that it holds none, or why it can't be opened.
+use Rattle.std.proofs.Common.{◌∙◌, inl, sym}
+use Rattle.std.proofs.lemmas.Result.{MatchResult-at_err, MatchResult-at_ok}
+use Rattle.planner_cli.proofs.StoreLemmas.{found_bare}
+use Rattle.planner_cli.proofs.made.open_made.Goals as goal
+
+pub returns-in-Ok : goal.returns-in-Ok
+returns-in-Ok g c = record {
+  device = c.args.device;
+  ready = inl c.requires;
+  opens = MatchResult-at_ok _ _ c.in-Ok.opened (sym c.in-Ok.ensures) c.open_session-opening.ensures.opens;
+}
+
+pub open_formatted-requires : goal.open_formatted-requires
+open_formatted-requires g c =
+    let refused = c.in-Err-NotFormatted-default in
+    found_bare _ _ c.args.device refused.device refused.field-0-0 c.requires refused.field-0-0-is
+    (MatchResult-at_err _ _ (refused.field-0-0, refused.device) (sym c.into_opened.ensures ∙ refused.is) c.open_session-opening.ensures.opens)
+
+pub returns-in-Err : goal.returns-in-Err
+returns-in-Err g c = record {
+  device = c.args.device;
+  ready = inl c.requires;
+  refuses = MatchResult-at_err _ _ (c.in-Err.fault, c.in-Err.device) (sym c.into_opened.ensures ∙ c.in-Err.is) c.open_session-opening.ensures.opens;
+}
