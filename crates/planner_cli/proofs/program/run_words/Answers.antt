@@ -1,5 +1,5 @@
 -- Words that ask for something are not read only for want of memory, and then nothing is told.
-use Rattle.std.proofs.Common.{◌≡◌, inl, inr, refl}
+use Rattle.std.proofs.Common.{inl, inr, refl}
 use Rattle.clap.specs.Words.{kind_of}
 use Rattle.auditor_cli.proofs.UsageLemmas.{no_memory_told}
 use Rattle.planner_cli.proofs.program.run_words.Goals as goal

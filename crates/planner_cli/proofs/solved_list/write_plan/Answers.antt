@@ -1,5 +1,5 @@
 -- The plan is written and told, or it is told why it is not written.
-use Rattle.std.proofs.Common.{◌≡◌, [], ◌∷◌, Ok, Err, inl, inr, refl, subst}
+use Rattle.std.proofs.Common.{◌≡◌, [], ◌∷◌, Ok, Err, inl, inr, subst}
 use Rattle.std.specs.IoError.{error_kind}
 use Rattle.std.proofs.lemmas.Result.{IfOk-weaker}
 use Rattle.planner_cli.specs.SolvedList.{TellsPlaced}
