@@ -5,7 +5,8 @@ use Rattle.std.specs.Option.{option_map, option_or}
 use Rattle.std.proofs.lemmas.Bool.{cases_Bool}
 use Rattle.std.proofs.lemmas.Int.{ints}
 use Rattle.std.proofs.lemmas.List.{drop-drop, take-append-drop, take-take, take_more}
-use Rattle.std.proofs.lemmas.List.Edits.{get_or-insert_at, get_or-insert_below, get_or-insert_above, length-insert}
+use Rattle.std.proofs.lemmas.List.Edits.{get_or-insert_at, get_or-insert_below, get_or-insert_above, insert_end, length-insert}
+use Rattle.std.proofs.Math.Seq.{take-append_seam}
 use Rattle.std.proofs.lemmas.List.Folds.{find-append}
 use Rattle.std.proofs.lemmas.List.FromFn.{get_or-map-range_with_len, take-map-range_with_len}
 use Rattle.plan_types.specs.Instance.{Instance}
@@ -13,7 +14,8 @@ use Rattle.plan_types.specs.declared.requests.Kind.{Kind}
 use Rattle.plan_types.specs.declared.requests.Kind.TheVariants.{LiLim, Vrp}
 use Rattle.plan_types.specs.declared.requests.Stop.{Stop}
 use Rattle.nint_dist.specs.Distance.{distance}
-use Rattle.route_sched.specs.Route.{place, stop_numbered}
+use Rattle.route_sched.specs.Route.{AreLiveOnce, place, stop_numbered}
+use Rattle.route_sched.proofs.LiveStops.{front_once}
 use Rattle.route_sched.specs.Schedule.{leg, load, route_length, start}
 use Rattle.route_sched.proofs.Steps.{load-next, start-next}
 use Rattle.slack_tables.specs.Along.{length_along}
@@ -108,14 +110,17 @@ pub place_put : (p : Instance) (route : List ℕ) (m number : ℕ) → m ≤ len
 unfolding place
 place_put p route m number within = rw (add-one m) (ap (stop_numbered p) (get_or-insert_at route m number 0 within))
 
+pub place_before_put : (p : Instance) (route : List ℕ) (m number k : ℕ) → m ≤ length route → k ≤ m → place p (insert route m number) k ≡ place p route k
+unfolding place
+place_before_put p route m number zero within h = refl
+place_before_put p route m number (suc k) within h = ap (stop_numbered p) (get_or-insert_below route m number 0 k (omega arith) within)
+
 module _ (p : Instance) (route : List ℕ) (number m : ℕ) (s : Stop) (one : 1 ≤ m) (within : m ≤ length route) (stands : stop_numbered p number ≡ s) where
   abbrev new : List ℕ
   new = insert route m number
 
   place_before : (k : ℕ) → k ≤ m → place p new k ≡ place p route k
-  unfolding place
-  place_before zero h = refl
-  place_before (suc k) h = ap (stop_numbered p) (get_or-insert_below route m number 0 k (omega arith) within)
+  place_before k h = place_before_put p route m number k within h
 
   place_here : place p new (m + 1) ≡ s
   place_here = place_put p route m number within ∙ stands
@@ -248,13 +253,11 @@ module _ (p : Instance) (t : Tour) (at : ℕ) (tour : IsTour p t) (one : 1 ≤ a
   row_at : (k : ℕ) (d : Row) → k ≤ length t.route.now → get_or t.rows.now k d ≡ row_behind p t.route.now k
   row_at k d below = ap (λ rs. get_or rs k d) tour.rows ∙ get_or-map-range_with_len (row_behind p t.route.now) 0 (length t.route.now + 1) k k d (omega arith) (omega arith)
 
-  pub miss_told : (front found : Found) (d e row : Row) (comes : ℕ) (miss : Option Miss) → front ≡ found_in p (take at t.rows.now) →
-      row ≡ put_row (get_or t.rows.now (at - 1) d) detour.service detour.to t.stop.now → comes ≡ row.start + t.stop.now.service + detour.from → found ≡ found_then front (found_in p (row ∷ [])) →
-      miss ≡ miss_behind p found comes (get_or t.rows.now at e).arrival t.stop.now.demand (drop at t.rows.now) → miss ≡ miss_of p (route_with t at number)
-  miss_told front found d e row comes miss front_is row_is comes_is found_is miss_is =
+  pub rows_told : (d e row : Row) (comes : ℕ) → row ≡ put_row (get_or t.rows.now (at - 1) d) detour.service detour.to t.stop.now → comes ≡ row.start + t.stop.now.service + detour.from →
+      take at t.rows.now ++ (row ∷ moved_from comes (get_or t.rows.now at e).arrival t.stop.now.demand (drop at t.rows.now)) ≡ rows_of p (route_with t at number)
+  rows_told d e row comes row_is comes_is =
       let route = t.route.now in
       let s = t.stop.now in
-      let here = get_or t.rows.now (at - 1) d in
       let same_at : at - 1 + 1 ≡ at = omega arith in
       let known : get_or t.rows.now (at - 1) d ≡ row_behind p t.route.now (at - 1) = row_at (at - 1) d (omega arith) in
       let made : put_row (get_or t.rows.now (at - 1) d) (place p route at).service (distance (place p route at) s) s ≡ row_behind p tried at =
@@ -272,15 +275,19 @@ module _ (p : Instance) (t : Tour) (at : ℕ) (tour : IsTour p t) (one : 1 ≤ a
       ap (drop at) tour.rows ∙ drop_range (row_behind p route) 0 (length route + 1) at (omega arith) ∙ ap (λ a. map (row_behind p route) (range_with_len a (length route + 1 - at))) begin in
       let moved : moved_from comes (get_or t.rows.now at e).arrival s.demand (drop at t.rows.now) ≡ moved_from comes (arrival p route at) s.demand (map (row_behind p route) (range_with_len at (length route + 1 - at))) =
       ap (λ h. moved_from comes h s.demand (drop at t.rows.now)) had ∙ ap (moved_from comes (arrival p route at) s.demand) dropped in
-      let all : take at t.rows.now ++ (row ∷ moved_from comes (get_or t.rows.now at e).arrival s.demand (drop at t.rows.now)) ≡ rows_of p tried =
       ap (λ l. l ++ (row ∷ moved_from comes (get_or t.rows.now at e).arrival s.demand (drop at t.rows.now))) taken
       ∙ ap (λ r. map (row_behind p route) (range_with_len 0 at) ++ (r ∷ moved_from comes (get_or t.rows.now at e).arrival s.demand (drop at t.rows.now))) is_row
       ∙ ap (λ l. map (row_behind p route) (range_with_len 0 at) ++ (row_behind p tried at ∷ l)) moved
-      ∙ sym (rows_are p route number at s one within is comes reached) in
+      ∙ sym (rows_are p route number at s one within is comes reached)
+
+  pub miss_told : (front found : Found) (d e row : Row) (comes : ℕ) (miss : Option Miss) → front ≡ found_in p (take at t.rows.now) →
+      row ≡ put_row (get_or t.rows.now (at - 1) d) detour.service detour.to t.stop.now → comes ≡ row.start + t.stop.now.service + detour.from → found ≡ found_then front (found_in p (row ∷ [])) →
+      miss ≡ miss_behind p found comes (get_or t.rows.now at e).arrival t.stop.now.demand (drop at t.rows.now) → miss ≡ miss_of p (route_with t at number)
+  miss_told front found d e row comes miss front_is row_is comes_is found_is miss_is =
       miss_is
-      ∙ ap (λ f. miss_behind p f comes (get_or t.rows.now at e).arrival s.demand (drop at t.rows.now)) (found_is ∙ ap (λ f. found_then f (found_in p (row ∷ []))) front_is)
-      ∙ miss_joined p (take at t.rows.now) row comes (get_or t.rows.now at e).arrival s.demand (drop at t.rows.now)
-      ∙ ap (miss_in p) all
+      ∙ ap (λ f. miss_behind p f comes (get_or t.rows.now at e).arrival t.stop.now.demand (drop at t.rows.now)) (found_is ∙ ap (λ f. found_then f (found_in p (row ∷ []))) front_is)
+      ∙ miss_joined p (take at t.rows.now) row comes (get_or t.rows.now at e).arrival t.stop.now.demand (drop at t.rows.now)
+      ∙ ap (miss_in p) (rows_told d e row comes row_is comes_is)
 
 -- ---- from place to place
 -- what is light stays so further on
@@ -318,3 +325,14 @@ module _ (p : Instance) (t : Tour) (tour : IsTour p t) (number : ℕ) (is : IsNu
       ap (overload_in p.capacity) (rows_are p route number later t.stop.now (omega arith) within is (arrival p new (later + 1)) refl ∙ ap (λ l. l ++ behind) (sym taken))
       ∙ over_both p.capacity (take later t.rows.now) behind ∙ ap (λ o. option_or o (overload_in p.capacity behind)) front in
       ap (λ o. option_or o (lateness_in p.kind (rows_of p new))) all
+
+-- ---- a stop at the end
+pub take_last : (xs : List ℕ) (n m y : ℕ) → n ≡ length xs → m ≡ length xs → take n (insert xs m y) ≡ xs
+take_last xs n m y is at = ap (λ k. take k (insert xs m y)) is ∙ ap (λ k. take (length xs) (insert xs k y)) at ∙ ap (take (length xs)) (insert_end xs y) ∙ take-append_seam xs (y ∷ [])
+
+-- a route that has two stops at its end has live stops without them
+pub live_without : (p : Instance) (route : List ℕ) (a b i j : ℕ) → i ≡ length route → j ≡ length route + 1 → AreLiveOnce p (insert (insert route i a) j b) → AreLiveOnce p route
+live_without p route a b i j one two once =
+    let longer : length (insert route i a) ≡ length route + 1 = length-insert route i a (omega arith) in
+    let first = subst (AreLiveOnce p) (take_last (insert route i a) j j b (omega arith) (omega arith)) (front_once p (insert (insert route i a) j b) j once) in
+    subst (AreLiveOnce p) (take_last route i i a one one) (front_once p (insert route i a) i first)

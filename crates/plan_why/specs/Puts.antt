@@ -87,6 +87,18 @@ IsNumberOf p tour number = stop_numbered p number ≡ tour.stop.now
 abbrev pub route_with : Tour → ℕ → ℕ → List ℕ
 route_with tour at number = insert tour.route.now at number
 
+-- what is known of a route without a stop that it may get
+pub record IsBase (p : Instance) (route : List ℕ) (s : Stop) (base : Tour) : Type 0 where
+  pub tour : IsTour p base
+  pub same : base.route.now ≡ route
+  pub number : IsNumberOf p base s.number
+
+-- the route with its stop at this place
+pub record IsPicked (p : Instance) (base : Tour) (place : ℕ) (picked : List ℕ) : Type 0 where
+  pub number : ℕ
+  pub is : IsNumberOf p base number
+  pub put : picked ≡ route_with base (place - 1) number
+
 -- the loads behind these stops stay within the capacity with it
 abbrev pub IsLight : Instance → Tour → ℕ → Type 0
 IsLight p tour at = overload_in p.capacity (laden tour.stop.now.demand (drop at tour.rows.now)) ≡ None

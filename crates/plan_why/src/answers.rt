@@ -26,7 +26,8 @@ use std::alloc::Global;
 /// one: where its vehicle serves it, and when. Of an unplanned one: the first limit that a vehicle of its own exceeds; where there is
 /// none, the place with each vehicle that is used where it misses least, and how many vehicles are used.
 ///
-/// Vehicles and places count from 1. Times are in the problem's unit, loads in that of its demands. The time is cubic in a route's length.
+/// Vehicles and places count from 1. Times are in the problem's unit, loads in that of its demands. For each pair of places in a route the
+/// time goes with the places behind it up to the first limit that is exceeded.
 pub fn why(
     alloc: Global,
     problem: &Problem,

@@ -11,10 +11,15 @@
 //! the trial whose first limit is exceeded by least; among such the one with the shortest way, and then the one at the earliest places.
 //! A trial that exceeds no limit comes before all others: there the request fits.
 //!
+//! How a pair is tried: for each place of the pickup the route's rows are moved as far as it delays them, and for each place of the
+//! delivery what was found before it is handed on. The rows behind are moved only up to the first limit that is exceeded, and the places
+//! left are passed over once a load is exceeded by more than the best trial misses. So no place copies or drives a route.
+//!
 //! Modules, in reading order:
 //! - `words`: the words between the figures
 //! - `leads`: what stands before each line, where lines of several requests stand together
 //! - `missed`: the first limit that a route exceeds
+//! - `puts`: one stop more in a route whose rows are known
 //! - `trials`: a request at each place of a route
 //! - `sentences`: the lines
 //! - `answers`: the whole answer

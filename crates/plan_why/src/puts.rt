@@ -2,17 +2,19 @@
 //!
 //! What was found before the stop is handed on from place to place. Behind it the rows are moved, up to the first limit that is
 //! exceeded. No sum is known to fit here, so a quick way gives `None` where one did not, which says nothing.
-ghost use Rattle.std.specs.Prelude.{◌≡◌, ◌<◌, ◌≤◌, ◌+◌, ◌+ℤ◌, ◌∷◌, [], ℕ, IfSome, None, drop, length, pos, slice_index_or, take, true};
+ghost use Rattle.std.specs.Prelude.{◌≡◌, ◌<◌, ◌≤◌, ◌+◌, ◌-◌, ◌+ℤ◌, ◌∷◌, ◌++◌, [], ℕ, IfOk, IfSome, None, drop, length, pos, slice_index_or, take, true};
 ghost use Rattle.plan_types.specs.declared.requests.Kind.TheVariants.{LiLim};
+ghost use Rattle.plan_explain.specs.Tables.{rows_of};
 ghost use Rattle.plan_explain.specs.declared.rows.Row.{Row};
 ghost use Rattle.plan_why.specs.Missed.{lateness_in, miss_of, overload_in};
-ghost use Rattle.plan_why.specs.Puts.{IsDetour, IsLight, IsNumberOf, IsTour, found_in, found_then, laden, miss_behind, moved_from, put_row, route_with};
+ghost use Rattle.plan_why.specs.Puts.{IsDetour, IsLight, IsNumberOf, IsTour, found_in, found_then, laden, miss_behind, moved_from, moved_row, put_row, route_with};
 
 use crate::missed::{Limit, Miss, is_heavy, lateness_in, overload_at, overload_in, time_limit};
 use nint_dist::dist;
 use plan_explain::Row;
-use plan_types::{Kind, Problem, Stop};
+use plan_types::{Kind, OutOfMemory, Problem, Stop};
 use route_sched::{load_behind, stop_behind};
+use std::alloc::Global;
 
 // No load is greater that is added to.
 const MOST_LOAD: u64 = 1 << 60;
@@ -220,8 +222,7 @@ pub(crate) fn miss_with(
 {
     let Tour { rows, stop, .. } = *tour;
     let row = put_row(&rows[at - 1], detour.service, detour.to, stop)?;
-    let left = row.start.checked_add(u64::from(stop.service))?;
-    let arrival = left.checked_add(u64::from(detour.from))?;
+    let arrival = arrival_behind(&row, stop, detour)?;
     let found = front.then(found_in(problem, &[row]));
     let miss = miss_behind(problem, found, rows, at, arrival, stop, are_light)?;
     Some(miss)
@@ -235,4 +236,87 @@ pub(crate) fn distance_with(distance: u64, detour: &Detour) -> Option<u64>
     let to = distance.checked_add(u64::from(detour.to))?;
     let from = to.checked_add(u64::from(detour.from))?;
     from.checked_sub(u64::from(detour.way))
+}
+
+// When the vehicle comes to what is behind the stop of this row.
+fn arrival_behind(row: &Row, stop: &Stop, detour: &Detour) -> Option<u64>
+    ensures { IfSome result (λ arrival. arrival
+        ≡ row.now.start + stop.now.service + detour.now.from) }
+{
+    let left = row.start.checked_add(u64::from(stop.service))?;
+    left.checked_add(u64::from(detour.from))
+}
+
+/// The rows of the route with the stop put in behind its first `at` stops; `None` says nothing.
+pub(crate) fn rows_with(
+    alloc: Global,
+    problem: &Problem,
+    tour: &Tour<'_>,
+    detour: &Detour,
+    at: usize,
+) -> Result<Option<Vec<Row>>, OutOfMemory>
+    requires tour { IsTour problem.now tour.now }
+    requires within { (1 ≤ at) × (at ≤ length tour.now.route.now) }
+    requires detour { IsDetour problem.now tour.now at detour.now }
+    ensures { IfOk result (λ o. IfSome o (λ rows. (number : ℕ) → IsNumberOf problem.now tour.now number
+        → rows.items ≡ rows_of problem.now (route_with tour.now at number))) }
+{
+    let Tour { rows, stop, .. } = *tour;
+    let Some(row) = put_row(&rows[at - 1], detour.service, detour.to, stop) else {
+        return Ok(None);
+    };
+    let Some(arrival) = arrival_behind(&row, stop, detour) else {
+        return Ok(None);
+    };
+    let moved = moved_rows(alloc, rows, at, row, arrival, rows[at].arrival, stop)?;
+    let Some(new) = moved else {
+        return Ok(None);
+    };
+    Ok(Some(new))
+}
+
+// The first `at` rows, a further one, and the others as they are moved by its stop, if the vehicle comes there at one time in place of
+// another.
+fn moved_rows(
+    alloc: Global,
+    rows: &[Row],
+    at: usize,
+    row: Row,
+    now: u64,
+    before: u64,
+    stop: &Stop,
+) -> Result<Option<Vec<Row>>, OutOfMemory>
+    requires { at < length rows.now }
+    ensures { IfOk result (λ o. IfSome o (λ new. new.items ≡ take at rows.now
+        ++ (row ∷ moved_from now before stop.now.demand (drop at rows.now)))) }
+{
+    let mut new = Vec::from_slice(alloc, &rows[..at])?;
+    new.push(row)?;
+    let mut left = now;
+    let mut had_left = before;
+    for index in at..rows.len() {
+        let Some(row) = moved_row(&rows[index], left, had_left, stop) else {
+            return Ok(None);
+        };
+        left = row.start;
+        had_left = rows[index].start;
+        new.push(row)?;
+    }
+    Ok(Some(new))
+}
+
+fn moved_row(row: &Row, now: u64, before: u64, stop: &Stop) -> Option<Row>
+    ensures { IfSome result (λ new. new
+        ≡ moved_row (now + (row.now.arrival - before)) stop.now.demand row.now) }
+{
+    let arrival = now.checked_add(row.arrival.saturating_sub(before))?;
+    Some(Row {
+        place: row.place.checked_add(1)?,
+        stop: row.stop,
+        arrival,
+        start: arrival.max(u64::from(row.earliest)),
+        earliest: row.earliest,
+        latest: row.latest,
+        load: changed(row.load, stop.demand)?,
+    })
 }

@@ -2,14 +2,18 @@
 ghost use Rattle.std.specs.Prelude.{◌≡◌, ◌≤◌, ◌<◌, ◌+◌, ◌-◌, ℕ, IfOk, IfSome, Some, length, map, take, true};
 ghost use Rattle.std.specs.List.{range_with_len};
 ghost use Rattle.route_sched.specs.Route.{AreLiveOnce};
+ghost use Rattle.route_sched.specs.Schedule.{route_length};
+ghost use Rattle.plan_explain.specs.Tables.{rows_of};
 ghost use Rattle.plan_types.specs.declared.requests.Request.TheVariants.{Pair, Single};
 ghost use Rattle.move_ops.specs.Insertion.{inserted};
-ghost use Rattle.plan_why.specs.Puts.{IsLight, IsNumberOf, IsTour, found_in, is_settled, route_with};
+ghost use Rattle.plan_why.specs.Puts.{IsBase, IsLight, IsNumberOf, IsPicked, IsTour, found_in, is_settled, route_with};
 ghost use Rattle.plan_why.specs.Trials.{MayTake, best_from, best_trial, better, is_better, judged, trial_at};
 
 use crate::missed::{Miss, excess_of, miss_of};
-use crate::puts::{Detour, Found, Tour, are_light, distance_with, found_at, found_in, miss_with};
-use plan_explain::rows_of;
+use crate::puts::{
+    Detour, Found, Tour, are_light, distance_with, found_at, found_in, miss_with, rows_with,
+};
+use plan_explain::{Row, rows_of};
 use plan_types::{OutOfMemory, Problem, Request, Stop};
 use route_sched::{route_distance, stop_behind};
 use std::alloc::Global;
@@ -75,10 +79,39 @@ fn best_pair(
     ensures { IfOk result (λ best. best
         ≡ best_trial problem.now route.now (Pair pickup.now delivery.now) kept) }
 {
+    // Both stops at the end, so that the front is the route.
+    let last = route.len() + 1;
+    let whole = with_pair(alloc, route, pickup, delivery, last, last + 1)?;
+    let stop = stop_behind(problem, whole.as_slice(), route.len());
+    let rows = rows_of(alloc, problem, route)?;
+    let base = Tour {
+        route,
+        rows: rows.as_slice(),
+        distance: route_distance(problem, route),
+        stop,
+    };
+    best_pickup(alloc, problem, route, pickup, delivery, &base, kept)
+}
+
+// The same, where this is known of the route without the pickup.
+fn best_pickup(
+    alloc: Global,
+    problem: &Problem,
+    route: &[u32],
+    pickup: &Stop,
+    delivery: &Stop,
+    base: &Tour<'_>,
+    kept: usize,
+) -> Result<Option<Trial>, OutOfMemory>
+    requires once { MayTake problem.now (Pair pickup.now delivery.now) route.now }
+    requires base { IsBase problem.now route.now pickup.now base.now }
+    ensures { IfOk result (λ best. best
+        ≡ best_trial problem.now route.now (Pair pickup.now delivery.now) kept) }
+{
     let mut best = None;
     for front in kept..route.len() + 1 {
         let place = front + 1;
-        best = best_delivery(alloc, problem, route, pickup, delivery, place, best)?;
+        best = best_delivery(alloc, problem, route, pickup, delivery, base, place, best)?;
     }
     Ok(best)
 }
@@ -90,10 +123,12 @@ fn best_delivery(
     route: &[u32],
     pickup: &Stop,
     delivery: &Stop,
+    base: &Tour<'_>,
     place: usize,
     so_far: Option<Trial>,
 ) -> Result<Option<Trial>, OutOfMemory>
     requires once { MayTake problem.now (Pair pickup.now delivery.now) route.now }
+    requires base { IsBase problem.now route.now pickup.now base.now }
     requires from { 1 ≤ place }
     requires within { place ≤ length route.now + 1 }
     ensures { IfOk result (λ best. best ≡ best_from so_far
@@ -104,16 +139,56 @@ fn best_delivery(
     let whole = with_pair(alloc, route, pickup, delivery, place, route.len() + 2)?;
     let stop = stop_behind(problem, whole.as_slice(), route.len() + 1);
     let picked = &whole.as_slice()[..route.len() + 1];
-    let rows = rows_of(alloc, problem, picked)?;
+    let rows = picked_rows(alloc, problem, base, picked, place)?;
     let tour = Tour {
         route: picked,
         rows: rows.as_slice(),
-        distance: route_distance(problem, picked),
+        distance: picked_distance(problem, base, picked, place),
         stop,
     };
     best_behind(
         alloc, problem, route, pickup, delivery, &tour, place, so_far,
     )
+}
+
+// The rows of the route with the pickup at this place.
+fn picked_rows(
+    alloc: Global,
+    problem: &Problem,
+    base: &Tour<'_>,
+    picked: &[u32],
+    place: usize,
+) -> Result<Vec<Row>, OutOfMemory>
+    requires base { IsTour problem.now base.now }
+    requires once { AreLiveOnce problem.now picked.now }
+    requires within { (1 ≤ place) × (place ≤ length base.now.route.now + 1) }
+    requires picked { IsPicked problem.now base.now place picked.now }
+    ensures { IfOk result (λ rows. rows.items ≡ rows_of problem.now picked.now) }
+{
+    if place > 1 {
+        let detour = Detour::of(problem, base, place - 1);
+        if let Some(rows) = rows_with(alloc, problem, base, &detour, place - 1)? {
+            return Ok(rows);
+        }
+    }
+    rows_of(alloc, problem, picked)
+}
+
+// How far the vehicle drives then.
+fn picked_distance(problem: &Problem, base: &Tour<'_>, picked: &[u32], place: usize) -> u64
+    requires base { IsTour problem.now base.now }
+    requires once { AreLiveOnce problem.now picked.now }
+    requires within { (1 ≤ place) × (place ≤ length base.now.route.now + 1) }
+    requires picked { IsPicked problem.now base.now place picked.now }
+    ensures { result ≡ route_length problem.now picked.now }
+{
+    if place > 1 {
+        let detour = Detour::of(problem, base, place - 1);
+        if let Some(distance) = distance_with(base.distance, &detour) {
+            return distance;
+        }
+    }
+    route_distance(problem, picked)
 }
 
 // The same, where this is known of the route with the pickup at that place.

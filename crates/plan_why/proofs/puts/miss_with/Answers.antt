@@ -9,5 +9,5 @@ returns c = λ number is.
     let none : Row = record { place = 0; stop = 0; arrival = 0; start = 0; earliest = 0; latest = 0; load = pos 0 } in
     miss_told c.args.problem.now c.args.tour.now c.args.at c.requires.tour c.requires.within.0 c.requires.within.1 c.args.detour.now c.requires.detour number is
     c.args.front c.then-found.result none none c.in_ok-row.row c.in_ok-arrival.arrival c.in_ok-miss.miss
-    c.requires.front c.in_ok-row.ensures (omega (arith, c.in_ok-arrival.ensures.1, c.in_ok-left.ensures.1, c.from.ensures, c.from-2.ensures))
+    c.requires.front c.in_ok-row.ensures c.in_ok-arrival.ensures
     (c.then-found.ensures ∙ ap (found_then c.args.front) c.found_in.ensures) (c.in_ok-miss.ensures none)

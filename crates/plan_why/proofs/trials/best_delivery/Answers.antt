@@ -5,20 +5,38 @@ use Rattle.std.proofs.lemmas.List.FromFn.{length-map-range_with_len}
 use Rattle.route_sched.specs.Route.{AreLiveOnce, place}
 use Rattle.route_sched.proofs.LiveStops.{front_once}
 use Rattle.plan_explain.specs.Tables.{row_behind}
-use Rattle.plan_why.proofs.PutLemmas.{place_put}
+use Rattle.plan_why.proofs.PutLemmas.{place_put, take_last}
 use Rattle.plan_why.proofs.trials.best_delivery.Goals as goal
 
-pub rows_of-requires : goal.rows_of-requires
-rows_of-requires c =
+pub picked_rows-requires-clause-once : goal.picked_rows-requires-clause-once
+picked_rows-requires-clause-once c =
     let p = c.args.problem.now in
     let end = length c.args.route.now + 1 in
     front_once p c.as_slice-2.result.now end (subst (AreLiveOnce p) (sym (c.as_slice-2.ensures.value ∙ c.in_ok-whole.ensures)) (c.requires.once.once c.args.place (length c.args.route.now + 2)))
 
-pub route_distance-requires : goal.route_distance-requires
-route_distance-requires c =
+pub picked_rows-requires-clause-picked : goal.picked_rows-requires-clause-picked
+picked_rows-requires-clause-picked c =
+    let route = c.args.route.now in
+    let at = c.args.place - 1 in
+    let number = c.args.pickup.now.number in
+    let longer = length-insert route at number (omega (arith, c.requires.from, c.requires.within)) in
+    let front = ap (take (length route + 1)) (c.as_slice-2.ensures.value ∙ c.in_ok-whole.ensures) ∙ take_last (insert route at number) (length route + 1) (length route + 2 - 1) c.args.delivery.now.number (omega (arith, longer)) (omega (arith, longer)) in
+    record { number = number; is = c.requires.base.number; put = front ∙ ap (λ r. insert r at number) (sym c.requires.base.same) }
+
+pub picked_distance-requires-clause-once : goal.picked_distance-requires-clause-once
+picked_distance-requires-clause-once c =
     let p = c.args.problem.now in
     let end = length c.args.route.now + 1 in
     front_once p c.as_slice-2.result.now end (subst (AreLiveOnce p) (sym (c.as_slice-2.ensures.value ∙ c.in_ok-whole.ensures)) (c.requires.once.once c.args.place (length c.args.route.now + 2)))
+
+pub picked_distance-requires-clause-picked : goal.picked_distance-requires-clause-picked
+picked_distance-requires-clause-picked c =
+    let route = c.args.route.now in
+    let at = c.args.place - 1 in
+    let number = c.args.pickup.now.number in
+    let longer = length-insert route at number (omega (arith, c.requires.from, c.requires.within)) in
+    let front = ap (take (length route + 1)) (c.as_slice-2.ensures.value ∙ c.in_ok-whole.ensures) ∙ take_last (insert route at number) (length route + 1) (length route + 2 - 1) c.args.delivery.now.number (omega (arith, longer)) (omega (arith, longer)) in
+    record { number = number; is = c.requires.base.number; put = front ∙ ap (λ r. insert r at number) (sym c.requires.base.same) }
 
 pub best_behind-requires-clause-tour : goal.best_behind-requires-clause-tour
 best_behind-requires-clause-tour c =
@@ -30,7 +48,7 @@ best_behind-requires-clause-tour c =
       once = front_once p c.as_slice-2.result.now end (subst (AreLiveOnce p) (sym (c.as_slice-2.ensures.value ∙ c.in_ok-whole.ensures)) (c.requires.once.once c.args.place (length c.args.route.now + 2)));
       rows = is;
       long = ap length is ∙ length-map-range_with_len (row_behind p picked) 0 (length picked + 1);
-      distance = c.route_distance.ensures.value;
+      distance = c.picked_distance.ensures;
       visit = c.stop_behind-stop.ensures.visit;
     }
 

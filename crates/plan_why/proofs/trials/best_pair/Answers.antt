@@ -1,14 +1,42 @@
-use Rattle.std.proofs.Common.{◌∙◌, ◌+◌, ap, sym, arith}
-use Rattle.plan_why.specs.Trials.{best_from}
-use Rattle.plan_why.proofs.TrialLemmas.{pair_next, pairs}
+use Rattle.std.proofs.Common.{◌≡◌, ◌∙◌, ◌+◌, ◌-◌, refl, ap, sym, arith, length}
+use Rattle.std.specs.List.{insert}
+use Rattle.std.proofs.lemmas.List.Edits.{length-insert}
+use Rattle.std.proofs.lemmas.List.FromFn.{length-map-range_with_len}
+use Rattle.route_sched.specs.Route.{place}
+use Rattle.plan_explain.specs.Tables.{row_behind}
+use Rattle.plan_why.proofs.PutLemmas.{live_without, place_before_put, place_put}
 use Rattle.plan_why.proofs.trials.best_pair.Goals as goal
 
-pub loop-front-preserved : goal.loop-front-preserved
-loop-front-preserved c =
+pub rows_of-requires : goal.rows_of-requires
+rows_of-requires c =
+    let n = length c.args.route.now in
+    live_without c.args.problem.now c.args.route.now c.args.pickup.now.number c.args.delivery.now.number (n + 1 - 1) (n + 1 + 1 - 1) (omega arith) (omega arith) (c.requires.once (n + 1) (n + 1 + 1))
+
+pub route_distance-requires : goal.route_distance-requires
+route_distance-requires c =
+    let n = length c.args.route.now in
+    live_without c.args.problem.now c.args.route.now c.args.pickup.now.number c.args.delivery.now.number (n + 1 - 1) (n + 1 + 1 - 1) (omega arith) (omega arith) (c.requires.once (n + 1) (n + 1 + 1))
+
+pub best_pickup-requires-clause-base : goal.best_pickup-requires-clause-base
+best_pickup-requires-clause-base c =
     let p = c.args.problem.now in
     let route = c.args.route.now in
-    let pickup = c.args.pickup.now in
-    let delivery = c.args.delivery.now in
-    let place = c.loop-front.front + 1 in
-    ap (λ b. best_from b (pairs p route pickup delivery (place + 1))) c.in_ok-best.ensures
-    ∙ sym (pair_next p route pickup delivery c.loop-front.best place (omega (arith, c.loop-front-test.true))) ∙ c.loop-front.invariant
+    let n = length route in
+    let a = c.args.pickup.now.number in
+    let b = c.args.delivery.now.number in
+    let is = c.as_slice-2.ensures.value ∙ c.in_ok-rows.ensures in
+    let whole = c.as_slice.ensures.value ∙ c.in_ok-whole.ensures in
+    let last : n + 1 - 1 ≡ n = omega arith in
+    let longer : length (insert route (n + 1 - 1) a) ≡ n + 1 = length-insert route (n + 1 - 1) a (omega arith) in
+    let stands = c.stop_behind-stop.ensures.value ∙ ap (λ r. place p r (n + 1)) whole ∙ place_before_put p (insert route (n + 1 - 1) a) (n + 1 + 1 - 1) b (n + 1) (omega (arith, longer)) (omega arith) ∙ ap (λ m. place p (insert route m a) (n + 1)) last ∙ place_put p route n a (omega arith) in
+    record {
+      tour = record {
+        once = live_without p route a b (n + 1 - 1) (n + 1 + 1 - 1) (omega arith) (omega arith) (c.requires.once (n + 1) (n + 1 + 1));
+        rows = is;
+        long = ap length is ∙ length-map-range_with_len (row_behind p route) 0 (n + 1);
+        distance = c.route_distance.ensures.value;
+        visit = c.stop_behind-stop.ensures.visit;
+      };
+      same = refl;
+      number = sym stands;
+    }

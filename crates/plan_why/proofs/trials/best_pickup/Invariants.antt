@@ -2,7 +2,7 @@ use Rattle.std.proofs.Common.{◌≡◌, ◌+◌}
 use Rattle.plan_types.specs.declared.requests.Request.TheVariants.{Pair}
 use Rattle.plan_why.specs.Trials.{best_from, best_trial}
 use Rattle.plan_why.proofs.TrialLemmas.{pairs}
-use Rattle.plan_why.proofs.trials.best_pair.Given as goal
+use Rattle.plan_why.proofs.trials.best_pickup.Given as goal
 
 -- the best so far and the places to come give the best of all
 abbrev pub invariant-loop-front : goal.invariant-loop-front

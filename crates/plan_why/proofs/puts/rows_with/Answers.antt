@@ -1,0 +1,16 @@
+use Rattle.std.proofs.Common.{◌≡◌, ◌∙◌, ◌∷◌, ◌++◌, Option, Vec, Global, IfSome, get_or, take, drop, subst, pos}
+use Rattle.plan_explain.specs.declared.rows.Row.{Row}
+use Rattle.plan_why.specs.Puts.{moved_from}
+use Rattle.plan_why.proofs.PutLemmas.{rows_told}
+use Rattle.plan_why.proofs.puts.rows_with.Goals as goal
+
+pub returns : goal.returns
+returns c = λ number is.
+    let none : Row = record { place = 0; stop = 0; arrival = 0; start = 0; earliest = 0; latest = 0; load = pos 0 } in
+    let made = rows_told c.args.problem.now c.args.tour.now c.args.at c.requires.tour c.requires.within.0 c.requires.within.1 c.args.detour.now c.requires.detour number is
+    none none c.in-Some.row c.in-Some-arrival_behind.arrival c.in-Some.ensures c.in-Some-arrival_behind.ensures in
+    let rows = c.args.tour.now.rows.now in
+    let moved = subst
+    (λ (o : Option (Vec Row Global)). IfSome o (λ v. v.items ≡ take c.args.at rows ++ (c.in-Some.row ∷ moved_from c.in-Some-arrival_behind.arrival (get_or rows c.args.at none).arrival c.args.tour.now.stop.now.demand (drop c.args.at rows))))
+    c.in-Some-moved.is c.in_ok-moved.ensures in
+    moved ∙ made
