@@ -1,0 +1,100 @@
+#!/usr/bin/env python3
+"""How long the program takes to tell why requests are in no route: `timetable` of a plan of pairs with a hundred further pairs beside it.
+
+The problem and its plan are made here. A vehicle drives from stop to stop of its route, two pickups and then their deliveries, and each window lies
+round the time when it comes: a minute at `tight`, the whole day at `loose`. The further pairs stand anywhere, with a window of a few minutes. The
+time is that of a table with them, less that of one without, by the program that `./planner` builds.
+
+    bench/why_speed.py [STOPS ROUTES]..
+"""
+
+import math
+import pathlib
+import subprocess
+import sys
+import tempfile
+import time
+
+TOP = pathlib.Path(__file__).resolve().parent.parent
+PROGRAM = TOP / "crates" / "planner" / "out" / "planner"
+SIZES = [(1_000, 50), (1_000, 10), (1_000, 1)]
+PAIRS, SIDE, SERVICE, CAPACITY, SPARE = 100, 1_000, 10, 40, 200
+
+
+class Sequence:
+    """A fixed sequence of words."""
+
+    def __init__(self):
+        self.state = 1
+
+    def below(self, bound):
+        self.state = self.state % 2**31 * 1_103_515_245 + 12_345
+        return (self.state >> 16) % bound
+
+
+def distance(a, b):
+    return int(math.dist(a, b) + 0.5)
+
+
+def planned(words, stops, routes):
+    """Of each stop in the order of the routes: where it stands, when it is served, its partner, and the goods; the last return and the cost."""
+    depot, rows, end, cost = (SIDE // 2, SIDE // 2), [], 0, 0
+    for first in range(1, stops, stops // routes):
+        here, now = depot, 0
+        for place in range(0, stops // routes, 4):
+            goods = [words.below(15) + 5, words.below(15) + 5]
+            for step in range(4):
+                there = tuple(min(SIDE, max(0, at + words.below(201) - 100)) for at in here)
+                now, cost = now + distance(here, there), cost + distance(here, there)
+                partner = first + place + (step + 2) % 4
+                rows.append((there, now, partner, goods[step % 2] if step < 2 else -goods[step % 2]))
+                here, now = there, now + SERVICE
+        end, cost = max(end, now + distance(here, depot)), cost + distance(here, depot)
+    return depot, rows, end, cost
+
+
+def problem(kind, stops, routes, pairs):
+    """The text of an instance and that of its plan."""
+    words = Sequence()
+    depot, rows, end, cost = planned(words, stops, routes)
+    day = end + SPARE
+    lines = [f"{routes + pairs} {CAPACITY} 1", f"0 {depot[0]} {depot[1]} 0 0 {day} 0 0 0"]
+    for number, (there, now, partner, goods) in enumerate(rows, 1):
+        earliest, latest = (max(0, now - 30), min(day, now + 30)) if kind == "tight" else (0, day)
+        ends = f"0 {partner}" if goods > 0 else f"{partner} 0"
+        lines.append(f"{number} {there[0]} {there[1]} {goods} {earliest} {latest} {SERVICE} {ends}")
+    for number in range(stops + 1, stops + 2 * pairs, 2):
+        a, b = [(words.below(SIDE), words.below(SIDE)) for _ in range(2)]
+        goods, begin = words.below(30) + 5, distance(depot, a)
+        latest = begin + 300 + SERVICE + distance(a, b)
+        lines.append(f"{number} {a[0]} {a[1]} {goods} {begin} {begin + 300} {SERVICE} 0 {number + 1}")
+        lines.append(f"{number + 1} {b[0]} {b[1]} {-goods} {begin} {latest + 300} {SERVICE} {number} 0")
+    long = stops // routes
+    plan = [f"Route #{k + 1}: " + " ".join(str(k * long + n) for n in range(1, long + 1)) for k in range(routes)]
+    return "\n".join(lines) + "\n", "\n".join(plan) + f"\nCost {cost}\n"
+
+
+def seconds(folder, texts):
+    """How long the table takes, and how many lines it has."""
+    paths = [folder / "instance", folder / "plan"]
+    for path, text in zip(paths, texts):
+        path.write_text(text)
+    began = time.monotonic()
+    got = subprocess.run([PROGRAM, "timetable", "lilim", *paths], check=False, capture_output=True, text=True)
+    return time.monotonic() - began, got.stdout.count("\n")
+
+
+def main(words):
+    sizes = list(zip(map(int, words[::2]), map(int, words[1::2]))) or SIZES
+    with tempfile.TemporaryDirectory() as name:
+        folder = pathlib.Path(name)
+        for kind in ("tight", "loose"):
+            for stops, routes in sizes:
+                without, few = seconds(folder, problem(kind, stops, routes, 0))
+                whole, many = seconds(folder, problem(kind, stops, routes, PAIRS))
+                print(f"{kind}, {stops} stops in {routes}: {whole - without:.3f} s for {PAIRS} pairs, {many - few} lines", flush=True)
+    return 0
+
+
+if __name__ == "__main__":
+    sys.exit(main(sys.argv[1:]))
