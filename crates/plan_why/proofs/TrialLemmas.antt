@@ -1,5 +1,5 @@
 -- Trials place by place.
-use Rattle.std.proofs.Common.{◌≡◌, ◌∙◌, ℕ, suc, ◌+◌, ◌-◌, ◌<◌, List, [], ◌∷◌, ◌++◌, map, length, ◌≤◌, zero, ◌⊎◌, inl, Bool, true, false, take, subst, Option, Some, None, refl, sym, ap, arith}
+use Rattle.std.proofs.Common.{◌≡◌, ◌∙◌, ℕ, suc, ◌+◌, ◌-◌, ◌<◌, List, [], ◌∷◌, ◌++◌, map, length, ◌≤◌, zero, inl, Bool, true, false, take, subst, Option, Some, None, refl, sym, ap, arith}
 use Rattle.std.specs.List.{flat_map, insert, range_with_len}
 use Rattle.std.proofs.lemmas.Bool.{leb-true}
 use Rattle.plan_types.specs.Instance.{Instance}

@@ -58,7 +58,8 @@ pub(crate) fn found_at(problem: &Problem, row: &Row) -> Found
 /// Whether a look tells that no vehicle carries too much behind the first `at` rows with the goods of this stop.
 pub(crate) fn are_light(capacity: u32, rows: &[Row], at: usize, stop: &Stop) -> bool
     requires { at ≤ length rows.now }
-    ensures { result ≡ true → overload_in capacity (laden stop.now.demand (drop at rows.now)) ≡ None }
+    ensures { result ≡ true
+        → overload_in capacity (laden stop.now.demand (drop at rows.now)) ≡ None }
 {
     match heavy_behind(capacity, &rows[at..], stop.demand) {
         Some(None) => true,
@@ -258,7 +259,8 @@ pub(crate) fn rows_with(
     requires tour { IsTour problem.now tour.now }
     requires within { (1 ≤ at) × (at ≤ length tour.now.route.now) }
     requires detour { IsDetour problem.now tour.now at detour.now }
-    ensures { IfOk result (λ o. IfSome o (λ rows. (number : ℕ) → IsNumberOf problem.now tour.now number
+    ensures { IfOk result (λ o. IfSome o (λ rows.
+        (number : ℕ) → IsNumberOf problem.now tour.now number
         → rows.items ≡ rows_of problem.now (route_with tour.now at number))) }
 {
     let Tour { rows, stop, .. } = *tour;

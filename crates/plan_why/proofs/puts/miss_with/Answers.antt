@@ -1,4 +1,4 @@
-use Rattle.std.proofs.Common.{◌∙◌, ap, arith, pos}
+use Rattle.std.proofs.Common.{◌∙◌, ap, pos}
 use Rattle.plan_explain.specs.declared.rows.Row.{Row}
 use Rattle.plan_why.specs.Puts.{found_then}
 use Rattle.plan_why.proofs.PutLemmas.{miss_told}
