@@ -1,13 +1,14 @@
 -- What came of the opening of a store, by what is known of its device.
-use Rattle.std.proofs.Common.{◌≡◌, inr, List, ℕ, Option, Result, Ok, Err, subst}
+use Rattle.std.proofs.Common.{◌≡◌, inl, inr, refl, Bool, List, ℕ, Option, Result, Ok, Err, subst}
 use Rattle.std.specs.Prelude.{IfErr}
 use Rattle.checkpoint.specs.declared.faults.FormatFault.{FormatFault}
 use Rattle.checkpoint.specs.declared.faults.StoreFault.{StoreFault}
 use Rattle.checkpoint.specs.declared.faults.StoreFault.TheVariants.{NotFormatted}
 use Rattle.checkpoint.specs.declared.places.Place.{Place}
+use Rattle.command_serving.specs.Streams.{Given, Stream}
 use Rattle.planner_cli.specs.Formatting.{IsFormatted}
-use Rattle.planner_cli.specs.Opened.{IsForetoldBefore, IsFoundBare, IsMade, IsMadeReady, IsNewOpening, IsOpening, IsOpeningOf}
-use Rattle.planner_cli.specs.Running.{IsRefused}
+use Rattle.planner_cli.specs.Opened.{IsForetoldBefore, IsFoundBare, IsMade, IsMadeReady, IsNewOpening, IsOpening, IsOpeningOf, IsUnopened, TellsUnopened}
+use Rattle.planner_cli.specs.Running.{IsRefused, IsUntouched, RunsStore, ServesStore}
 use Rattle.planner_cli.specs.declared.opened.Unopened.{Unopened}
 use Rattle.planner_cli.specs.declared.opened.Unopened.TheVariants.{File, Store, Unformatted}
 use Rattle.recover.specs.declared.opening.Opened.{Opened}
@@ -35,3 +36,18 @@ module _ {D : Type 0} (on : sectors.Ghosts D) where
       → (opening : Result (Opened D) (Unopened D)) → IsOpening on ready opening → IsNewOpening on IsNew opening
   opening_of_formatted IsNew bare ready made place found is formatted opening opens =
       opening_of (IsMadeReady on IsNew) (IsFoundBare on IsNew) ready (inr (bare, place, found, subst (IsFormatted on bare ready) is formatted)) opening opens
+
+-- ---- the word `run`, of a store that was not opened
+
+module _ {D : Type 0} (on : sectors.Ghosts D) (IsOld : D → Type 0) (path : List ℕ) (is_strict : Bool) (given : Given) (before after : Stream) (reader_failed writer_failed : Bool) where
+  pub unopened_runs : (status : ℕ) (unopened : Unopened D) → IsUnopened on IsOld (λ device. ⊥) unopened → TellsUnopened path unopened before.contents after.contents status
+      → RunsStore on IsOld path is_strict given before after reader_failed writer_failed status
+  unopened_runs status (File refusal) is told = inr (refusal.fault, told.0, told.1)
+  unopened_runs status (Store fault left) is told = inl (is.device, is.ready, inr (fault, left, is.refuses, told))
+  unopened_runs status (Unformatted fault left) is told = absurd is.bare
+
+  pub unopened_serves : (unopened : Unopened D) → IsUnopened on IsOld (λ device. ⊥) unopened → IsUntouched given before after
+      → ServesStore on IsOld is_strict given before after reader_failed writer_failed
+  unopened_serves (File refusal) is untouched = inr untouched
+  unopened_serves (Store fault left) is untouched = inl (is.device, left, is.ready, inr (fault, left, is.refuses, (refl, untouched)))
+  unopened_serves (Unformatted fault left) is untouched = absurd is.bare

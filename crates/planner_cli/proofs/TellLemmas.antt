@@ -1,7 +1,6 @@
 -- What is told line by line.
 use Rattle.std.proofs.Common.{◌≡◌, ◌∙◌, ◌<◌, ◌||◌, ℕ, Bool, true, false, true≢false, List, Option, Some, None, Result, Ok, Err, refl, sym, ap, subst, arith}
 use Rattle.std.specs.Prelude.{◌≢◌, ◌↔◌, IfErr, IsErrOf, OnOk}
-use Rattle.std.specs.Io.KnownBytes.{Appends}
 use Rattle.std.specs.Result.{result_err}
 use Rattle.checkpoint.specs.Layouts.{version_2, sectors_in}
 use Rattle.command_core.specs.Effects.{effect}
@@ -76,7 +75,7 @@ pub begun : {T D : Type 0} (answer : Result T Denial) (old new : SessionValue D)
 begun (Ok done) old new command Holds empty makes stands = subst Holds (makes.state ∙ ap (λ s. effect s command) empty) (stands makes.is_broken)
 begun (Err denial) old new command Holds empty makes stands = tt
 
--- a writer that was taken out of what watches it, told a text, and put back
-pub told_apart : {W : Type 0} (contents : W → Option (List ℕ)) (a b c d : W) (text : List ℕ) → b ≡ a → d ≡ c → Appends (contents b) (contents c) text → Appends (contents a) (contents d) text
-told_apart contents a b c d text first last told =
-    subst (λ x. Appends x (contents d) text) (ap contents first) (subst (λ x. Appends (contents b) x text) (sym (ap contents last)) told)
+-- a writer that was taken out of what watches it, written to, and put back
+pub told_apart : {W : Type 0} (contents : W → Option (List ℕ)) (Tells : Option (List ℕ) → Option (List ℕ) → Type 0) (a b c d : W) → b ≡ a → d ≡ c → Tells (contents b) (contents c) → Tells (contents a) (contents d)
+told_apart contents Tells a b c d first last told =
+    subst (λ x. Tells x (contents d)) (ap contents first) (subst (λ x. Tells (contents b) x) (sym (ap contents last)) told)

@@ -12,12 +12,10 @@ ghost use Rattle.checkpoint.specs.Layouts.{sectors_in, version_2};
 ghost use Rattle.planner_cli.specs.Formatting.{FormatsStore, IsFormatted};
 ghost use Rattle.planner_cli.specs.Statuses.{IsUpgradeStatus};
 ghost use Rattle.planner_cli.specs.Upgrading.{TellsSame, UpgradesOnto, UpgradesStore};
-ghost use Rattle.planner_cli.specs.Running.{IsEnded, RunsDevice, RunsSession, RunsStore, ServesDevice, ServesOver, ServesStore, TellsEnded, TellsServed, opened_line, stop_unless};
+ghost use Rattle.planner_cli.specs.Running.{IsEnded, RunsSession, RunsStore, ServesOver, ServesStore, TellsEnded, TellsServed, opened_line, stop_unless};
 
-use crate::opened::open_session;
-use crate::telling::{
-    tell_cause, tell_format, tell_new_refusal, tell_refusal, tell_store_fault, tell_upgrade,
-};
+use crate::opened::{close_store, open_store, tell_unopened};
+use crate::telling::{tell_cause, tell_format, tell_new_refusal, tell_refusal, tell_upgrade};
 use auditor_cli::status::{BROKEN, DONE, FILE, USAGE};
 use auditor_cli::write_line;
 use checkpoint::{FormatFault, Place, SECTORS, format};
@@ -89,22 +87,26 @@ where
         (held W.contents output) (held W.contents result.1)
         input.new.has_failed result.1.has_failed }
 {
-    match FileDevice::at_or_cause(rt, store, start) {
-        Ok(device) => {
-            let (told, device, output) = run_device(
+    match open_store(rt, start, store, errors) {
+        Ok(opened) => {
+            let Opened {
+                mut session,
+                replayed,
+            } = opened;
+            let (told, output) = serve_opened(
                 rt.alloc(),
-                device,
+                &mut session,
+                replayed,
                 is_strict,
                 input,
                 output,
-                errors,
             );
-            tell_cause(rt, store, device.cause());
+            close_store(rt, store, session);
             (told, output)
         }
-        Err(refusal) => {
+        Err(unopened) => {
             let (mut writer, noted) = output.apart();
-            let told = tell_refusal(rt, &mut writer, store, refusal);
+            let told = tell_unopened(rt, &mut writer, store, unopened);
             (told, Watched::again(writer, noted))
         }
     }
@@ -182,50 +184,6 @@ where
             tell_upgrade(output, upgraded.err())
         }
         Err(refusal) => tell_new_refusal(rt, output, new, refusal),
-    }
-}
-
-// Opens the store on the device, serves the input over it, and gives the device and the output back.
-fn run_device<D: Sectors + Drop, I: Read, W: Write, E: Write>(
-    alloc: Global,
-    device: D,
-    is_strict: bool,
-    input: &mut Watched<I>,
-    output: Watched<W>,
-    errors: &mut E,
-) -> (io::Result<u8>, D, Watched<W>)
-    ensures status { IfOk result.0 (λ status. status ≤ 4) }
-    ensures runs { IfOk result.0 (RunsDevice D.Sectors device is_strict
-        (given_by I.remaining input.old input.new)
-        (held W.contents output) (held W.contents result.2)
-        input.new.has_failed result.2.has_failed) }
-    ensures serves { ServesDevice D.Sectors device is_strict
-        (given_by I.remaining input.old input.new)
-        (held W.contents output) (held W.contents result.2)
-        input.new.has_failed result.2.has_failed result.1 }
-{
-    let opening = open_session(alloc, device, errors);
-    match opening.into_opened() {
-        Ok(opened) => {
-            let Opened {
-                mut session,
-                replayed,
-            } = opened;
-            let (told, output) = serve_opened(
-                alloc,
-                &mut session,
-                replayed,
-                is_strict,
-                input,
-                output,
-            );
-            (told, session.close(), output)
-        }
-        Err((fault, device)) => {
-            let (mut writer, noted) = output.apart();
-            let told = tell_store_fault(&mut writer, fault);
-            (told, device, Watched::again(writer, noted))
-        }
     }
 }
 

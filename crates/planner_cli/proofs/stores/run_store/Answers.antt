@@ -1,18 +1,31 @@
--- The device over the file, or why there is none.
-use Rattle.std.proofs.Common.{◌∙◌, inl, inr, refl}
+-- What was served over the store in the file, or why it was not opened.
+use Rattle.std.proofs.Common.{◌∙◌, inl, refl}
 use Rattle.std.proofs.lemmas.Result.{IfOk-weaker}
+use Rattle.planner_cli.specs.Opened.{TellsUnopened}
+use Rattle.planner_cli.proofs.StoreLemmas.{unopened_runs, unopened_serves}
 use Rattle.planner_cli.proofs.TellLemmas.{told_apart}
 use Rattle.planner_cli.proofs.stores.run_store.Goals as goal
 
 pub returns-in-Ok-clause-runs : goal.returns-in-Ok-clause-runs
-returns-in-Ok-clause-runs g c = IfOk-weaker c.run_device-told.result.0 _ _ (λ status runs. inl (c.in-Ok.device, c.in-Ok.ensures.unused, runs)) c.run_device-told.ensures.runs
+returns-in-Ok-clause-runs g c =
+    let o = c.in-Ok.opened in
+    let is = c.in-Ok.ensures.opens in
+    IfOk-weaker c.serve_opened-told.result.0 _ _ (λ status runs. inl (is.device, is.ready, inl (o.session, o.replayed, is.opens, runs))) c.serve_opened-told.ensures.runs
+
+pub returns-in-Ok-clause-serves : goal.returns-in-Ok-clause-serves
+returns-in-Ok-clause-serves g c =
+    let o = c.in-Ok.opened in
+    let is = c.in-Ok.ensures.opens in
+    let new = c.serve_opened-told.new.session in
+    inl (is.device, new.device, is.ready, inl (o.session, o.replayed, is.opens, (new, refl, c.serve_opened-told.ensures.serves)))
 
 pub returns-in-Err-clause-runs : goal.returns-in-Err-clause-runs
 returns-in-Err-clause-runs g c =
-    IfOk-weaker c.tell_refusal-told.result _ _ (λ status told. inr (c.in-Err.refusal.fault, told.0, told_apart g.W.Write.contents _ _ _ _ _ c.apart-writer.ensures.inner c.again.ensures.inner told.1)) c.tell_refusal-told.ensures
-
-pub returns-in-Ok-clause-serves : goal.returns-in-Ok-clause-serves
-returns-in-Ok-clause-serves g c = inl (c.in-Ok.device, c.run_device-told.result.1, c.in-Ok.ensures.unused, c.run_device-told.ensures.serves)
+    let unopened = c.in-Err.unopened in
+    IfOk-weaker c.tell_unopened-told.result _ _
+    (λ status told. unopened_runs _ _ _ _ _ _ _ _ _ status unopened c.in-Err.ensures.opens
+    (told_apart g.W.Write.contents (λ x y. TellsUnopened c.args.store.now unopened x y status) _ _ _ _ c.apart-writer.ensures.inner c.again.ensures.inner told)) c.tell_unopened-told.ensures.told
 
 pub returns-in-Err-clause-serves : goal.returns-in-Err-clause-serves
-returns-in-Err-clause-serves g c = inr (record { reads = refl; events = c.again.ensures.log ∙ c.apart-writer.ensures.log })
+returns-in-Err-clause-serves g c =
+    unopened_serves _ _ c.args.store.now _ _ _ _ _ _ c.in-Err.unopened c.in-Err.ensures.opens (record { reads = refl; events = c.again.ensures.log ∙ c.apart-writer.ensures.log })

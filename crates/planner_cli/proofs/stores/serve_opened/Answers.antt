@@ -1,5 +1,6 @@
 -- The line of the opening, then the answers, and behind them what became of the input.
-use Rattle.std.proofs.Common.{◌∙◌, ap, inl, inr, refl, subst, sym, append-nil}
+use Rattle.std.proofs.Common.{◌∙◌, inl, inr, refl, subst, sym, append-nil}
+use Rattle.std.specs.Io.KnownBytes.{Appends}
 use Rattle.std.proofs.lemmas.Result.{IfOk-weaker}
 use Rattle.command_serving.specs.Held.{given_by, held}
 use Rattle.planner_cli.specs.Running.{IsEnded, ServesSession, TellsEnded, opened_line}
@@ -18,7 +19,7 @@ served g c =
     let answered = held contents ended.output in
     let failed = c.again.ensures.has_failed ∙ c.apart-writer-in-Ok.ensures.has_failed in
     let line = opened_line c.args.replayed in
-    let written = told_apart contents _ _ _ _ line c.apart-writer.ensures.inner c.again-output.ensures.inner c.in-Ok.ensures in
+    let written = told_apart contents (λ x y. Appends x y line) _ _ _ _ c.apart-writer.ensures.inner c.again-output.ensures.inner c.in-Ok.ensures in
     record {
       opened = opened;
       tells_opened = record { written = written; noted = c.again-output.ensures.log ∙ c.apart-writer.ensures.log ∙ sym (append-nil c.args.output.log.events) };
@@ -34,13 +35,11 @@ pub returns-in-Ok-clause-runs : goal.returns-in-Ok-clause-runs
 returns-in-Ok-clause-runs g c =
     let ended = c.serve_input-ended.result in
     let contents = g.W.Write.contents in
-    let after = contents c.again.result.inner in
     IfOk-weaker c.tell_ended-told.result _ _
     (λ status tells. record {
       new = c.serve_input-ended.new.session;
       serves = served g c;
-      tells = subst (λ x. TellsEnded ended.served ended.stopped x after status) (ap contents c.apart-writer-in-Ok.ensures.inner)
-          (subst (λ x. TellsEnded ended.served ended.stopped (contents c.apart-writer-in-Ok.result.0) x status) (sym (ap contents c.again.ensures.inner)) tells);
+      tells = told_apart contents (λ x y. TellsEnded ended.served ended.stopped x y status) _ _ _ _ c.apart-writer-in-Ok.ensures.inner c.again.ensures.inner tells;
     }) c.tell_ended-told.ensures.told
 
 pub returns-in-Ok-clause-serves : goal.returns-in-Ok-clause-serves
