@@ -157,6 +157,8 @@ def check_failed_call(store, name, number, error):
         if (status, store.shown()) != (3, store.states[0]):
             fail(f"{what}, in opening: status {status}")
         return "opening"
+    if "planner: the store failed: go on with a copy" not in errors:
+        fail(f"{what}: no cure in {errors!r}")
     answers, found, behind = output.partition("fault device\n")
     acknowledged = answers.count("ok\n")
     if not found or not store.output.startswith(answers):

@@ -41,6 +41,10 @@ def fail(text):
     sys.exit(1)
 
 
+# What `run` tells on standard error behind the system's words, where the device failed.
+CURE = b"planner: the store failed: go on with a copy on a sound disk, or begin the next run with `checkpoint`\n"
+
+
 def load_lines(seed=7):
     with open(INSTANCE, "rb") as file:
         text = file.read()
@@ -158,6 +162,17 @@ def check_load(folder):
     load(store, 2, b"store Loaded", seed="8")
     if contents(store) != made:
         fail("load changed a store that holds an instance")
+    # As a load leaves it that found the disk full.
+    open(store, "wb").close()
+    load(store, 0, b"ok")
+    if contents(store) != made:
+        fail("load in place of an empty file made another store")
+    for begun in (empty[:512], empty[:-512], b"a"):
+        with open(store, "wb") as file:
+            file.write(begun)
+        got = subprocess.run([PROGRAM, "load", store, "lilim", INSTANCE], capture_output=True)
+        if got.returncode == 0 or contents(store) != begun:
+            fail(f"load over a file of {len(begun)} bytes: status {got.returncode}, {got.stdout!r}")
     with open(store, "wb") as file:
         file.write(empty)
     load(store, 0, b"ok", seed="8")
@@ -409,7 +424,7 @@ def check_full_disk(store, other):
         os.truncate(store, 0)
         fill(other + "-more")
         told, errors = process.communicate(b"checkpoint\nshow\n")
-    if (process.returncode, told, errors) != (0, b"fault device\nno Broken\n", words):
+    if (process.returncode, told, errors) != (0, b"fault device\nno Broken\n", words + CURE):
         fail(f"full: run: status {process.returncode}, {told!r}, {errors!r}")
 
 

@@ -12,6 +12,7 @@ use crate::opened::{Unopened, open_store, tell_unopened};
 use crate::telling::{tell_answer, tell_cause, tell_instance_fault};
 use auditor_cli::status::REFUSED;
 use auditor_cli::{ReadFiles, read_instance, tell_unread, write_line};
+use checkpoint::StoreFault;
 use command_core::{Command, State};
 use command_line::Loading;
 use recover::Opened;
@@ -61,7 +62,7 @@ where
     )
 }
 
-// Begins the store in the file with the command, or one in a new file where the system said that there is none.
+// Begins the store in the file with the command, or one in a new file where there is none or an empty one.
 fn begin_store<R, T: Start, U: Start, W: Write, E: Write>(
     rt: &R,
     start: T,
@@ -80,7 +81,9 @@ where
         store.now command (W.contents output.old) (W.contents output.new)) }
 {
     let opening = open_store(rt, start, store, errors);
-    if is_absent(&opening) {
+    if is_absent(&opening) || is_empty(&opening) {
+        // Its lock is the next one's.
+        drop(opening);
         let opening = open_new(rt, start_of_new, store, errors);
         return begin_opening(rt, store, opening, command, output);
     }
@@ -94,6 +97,14 @@ fn is_absent<O, D>(opening: &Result<O, Unopened<D>>) -> bool {
             Some(error) => error.kind() == ErrorKind::NotFound,
             None => false,
         },
+        _ => false,
+    }
+}
+
+// Whether the file has no byte, as a load leaves it that found the disk full.
+fn is_empty<O, D: Sectors>(opening: &Result<O, Unopened<D>>) -> bool {
+    match opening {
+        Err(Unopened::Store(StoreFault::NotFormatted, device)) => device.len() == 0,
         _ => false,
     }
 }

@@ -9,7 +9,9 @@ ghost use Rattle.planner_cli.specs.Foretold.{IsForetold, IsOfImage};
 ghost use Rattle.planner_cli.specs.Opened.{IsForetoldBefore, IsOpening, IsStoreOpening, TellsUnopened};
 ghost use Rattle.planner_cli.specs.Running.{IsOpened, IsRefused};
 
-use crate::telling::{tell_cause, tell_format, tell_refusal, tell_repeating, tell_store_fault};
+use crate::telling::{
+    tell_cause, tell_cure, tell_format, tell_refusal, tell_repeating, tell_store_fault,
+};
 use checkpoint::{FormatFault, StoreFault, images_hold_one_thing};
 use recover::{Opened, Session, steps_to_repeat};
 use sector_disk::{FileCalls, FileDevice, FileRefusal, HostFile, Sectors, Start};
@@ -127,14 +129,18 @@ where
     }
 }
 
-/// Closes the store, and tells on standard error what the system said of the call of its device that failed last.
+/// Closes the store. Where its device has failed, standard error has what the system said of that call, and the cure.
 pub(crate) fn close_store<R: Eprint, T: Start>(
     rt: &R,
     store: &str,
     session: Session<FileDevice<T>>,
 ) {
+    let has_failed = session.is_broken();
     let device = session.close();
     tell_cause(rt, store, device.cause());
+    if has_failed {
+        tell_cure(rt);
+    }
 }
 
 /// Tells why the store was not opened, and on standard error what the system said.

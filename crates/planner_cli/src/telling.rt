@@ -100,6 +100,14 @@ pub(crate) fn tell_cause<R: Eprint>(rt: &R, path: &str, cause: Option<io::Error>
     }
 }
 
+/// Tells on standard error what to do with a store whose device has failed. The system may give back by reads what a failed sync
+/// left in memory alone, so it has to be written anew.
+pub(crate) fn tell_cure<R: Eprint>(rt: &R) {
+    let _ = eprintln!(rt;
+        "planner: the store failed: go on with a copy on a sound disk, or begin the next run with `checkpoint`"
+    );
+}
+
 /// Tells how many search steps are to be repeated, and nothing where none are.
 pub(crate) fn tell_repeating<E: Write>(steps: u64, errors: &mut E) -> io::Result<()>
     ensures { OnOk result (Appends (E.contents errors.old) (E.contents errors.new)
