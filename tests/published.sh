@@ -1,0 +1,67 @@
+#!/bin/sh
+# Published results of Li-Lim instances, by the commands of README as they stand there: an instance that is enlarged a thousand times, and
+# a solution that is made of a text with a heading and lines `Route 1 : 5 3 7`. A plan that is late by two thousandths breaks rule 7 there, and
+# by whole numbers it passes; one that is early by as much passes.
+set -u
+
+top=$(CDPATH='' cd -- "$(dirname -- "$0")/.." && pwd -P) || exit 1
+program=$top/crates/planner/out/planner
+if [ ! -x "$program" ]; then
+    echo "skipped: published, since $program is not built (rt ci builds it)"
+    exit 0
+fi
+folder=$(mktemp -d) || exit 1
+trap 'rm -rf -- "$folder"' EXIT
+failures=0
+cd -- "$folder" || exit 1
+ln -s -- "$program" planner
+sed -n '/^### Published results$/,/^## /p' "$top/README.md" | sed -n '/^```sh$/,/^```$/p' | sed '1d;$d' >commands
+
+# expect ANSWER WHAT: the commands answer so of lc101.txt and lc101.published.
+expect() {
+    got=$(sh ./commands 2>&1 | cut -f 3-)
+    [ "$got" = "$1" ] || {
+        echo "published: $2: '$got'; wanted '$1'"
+        failures=$((failures + 1))
+    }
+}
+
+# publish ROUTES..: a solution as it is published.
+publish() {
+    {
+        printf 'Instance name : lc101\nAuthors       : nobody\nDate          : 2001\nReference     : none\nSolution\n'
+        awk '{ print "Route " NR " : " $0 }'
+    } >lc101.published
+}
+
+cp -- "$top/examples/lc101.txt" .
+sed -n 's/^Route #[0-9]*: //p' "$top/examples/lc101.sol" | publish
+expect 'pass 0 10 828937 gap -0.00' 'the published plan of lc101'
+sed 's/$/\r/' lc101.published >with_returns && mv with_returns lc101.published
+sed 's/$/\r/' lc101.txt >with_returns && mv with_returns lc101.txt
+expect 'pass 0 10 828937 gap -0.00' 'the same with carriage returns'
+
+# A pair whose pickup is 250.002 away, and may be served until 250.
+printf '1 10 1\n0 0 0 0 0 1000 0 0 0\n1 250 1 5 0 250 0 0 2\n2 250 2 -5 0 1000 0 1 0\n' >lc101.txt
+echo '1 2' | publish
+expect 'broken 7 route 1 place 1 stop 1' 'a plan that is late by 0.002'
+printf 'Route #1: 1 2\nCost 501\n' >whole.sol
+got=$(./planner audit lilim lc101.txt whole.sol)
+[ "$got" = 'pass 0 1 501' ] || {
+    echo "published: the same by whole numbers: '$got'"
+    failures=$((failures + 1))
+}
+
+# One whose pickup is 200.998 away, and may be served until 201.
+printf '1 10 1\n0 0 0 0 0 1000 0 0 0\n1 200 20 5 0 201 0 0 2\n2 200 21 -5 0 1000 0 1 0\n' >lc101.txt
+got=$(sh ./commands 2>&1 | cut -f 3-)
+case $got in
+    'pass 0 1 403097 vehicles '*) ;;
+    *)
+        echo "published: a plan that is early by 0.002: '$got'"
+        failures=$((failures + 1))
+        ;;
+esac
+
+[ "$failures" = 0 ] || exit 1
+echo 'published: enlarged instances are judged by thousandths'
