@@ -18,7 +18,7 @@ use Rattle.seeded_search.specs.declared.walk.Walk.{Walk}
 use Rattle.seeded_search.proofs.WalkLemmas.{Passes, removed_passes, placed_all_passes, same_cost, noted_walk, taken_walk}
 use Rattle.anneal_search.specs.Orders.{ordered}
 use Rattle.anneal_search.specs.Strings.{ruined_names}
-use Rattle.anneal_search.specs.Annealing.{Walked, walked, recreated, candidate, annealed, annealed_by, anneal_step}
+use Rattle.anneal_search.specs.Annealing.{Walked, walked, recreated, candidate, followed, annealed, annealed_by, anneal_step}
 use Rattle.anneal_search.specs.Going.{HasImproved, IsGoing}
 
 -- ---- the candidate
@@ -48,20 +48,17 @@ removed_and_more f None made old left new h is more = absurd (both_ways made h.0
 removed_and_more f (Some routes) made old left new h is more = (refl, more ∙ ap f h.1)
 
 -- ---- what it replaces
-module _ (p : Instance) (pins : List (List ℕ)) (deviation : ℕ) (old improved new : Walk) (at : Bool) (cost work : Cost) (cost_is : cost ≡ cost_of p (draft_of old.draft))
+module _ (p : Instance) (pins : List (List ℕ)) (old improved new : Walk) (at : Bool) (cost : Cost) (cost_is : cost ≡ cost_of p (draft_of old.draft))
     (better : HasImproved p pins old improved at) (taken : HasTaken p pins improved new) where
   base_is : base_of new.draft ≡ draft_of old.draft
   base_is = taken.base ∙ ap draft_of better.draft
 
-  pub settled : work ≡ cost_of p (base_of old.draft) → is_near deviation cost work ≡ true → walked_by new ≡ annealed p deviation (walked_by old) (draft_of old.draft)
-  settled work_is near =
-      let c = draft_of old.draft in
+  pub followed_is : walked_by new ≡ followed p (walked_by old) (draft_of old.draft)
+  followed_is =
       let incumbent : new.incumbent.routes ≡ cond (cost_at_most (cost_of p (draft_of old.draft)) (cost_of p old.incumbent.routes)) (draft_of old.draft) old.incumbent.routes =
       ap (λ (plan : Plan). plan.routes) taken.incumbent ∙ better.incumbent in
-      let there : is_near deviation (cost_of p (draft_of old.draft)) (cost_of p (base_of old.draft)) ≡ true = ap (λ a. is_near deviation a (cost_of p (base_of old.draft))) (sym cost_is) ∙ (ap (is_near deviation cost) (sym work_is) ∙ near) in
       ap (λ routes. walked routes (base_of new.draft)) incumbent
-      ∙ (ap (walked (cond (cost_at_most (cost_of p (draft_of old.draft)) (cost_of p old.incumbent.routes)) (draft_of old.draft) old.incumbent.routes)) base_is
-      ∙ sym (ap (λ b. cond b (walked (cond (cost_at_most (cost_of p (draft_of old.draft)) (cost_of p old.incumbent.routes)) (draft_of old.draft) old.incumbent.routes) (draft_of old.draft)) (walked_by old)) there))
+      ∙ ap (walked (cond (cost_at_most (cost_of p (draft_of old.draft)) (cost_of p old.incumbent.routes)) (draft_of old.draft) old.incumbent.routes)) base_is
 
   pub goes_on : IsGoing p pins (record { walk = record new { is_at_incumbent = at }; work = cost })
   goes_on = record {
@@ -70,13 +67,20 @@ module _ (p : Instance) (pins : List (List ℕ)) (deviation : ℕ) (old improved
     work = cost_is ∙ ap (cost_of p) (sym base_is);
   }
 
+-- a candidate that is near is walked on from
+pub near_follows : (p : Instance) (deviation : ℕ) (s : Walked) (c : List (List ℕ)) (cost work : Cost) → cost ≡ cost_of p c → work ≡ cost_of p s.working → is_near deviation cost work ≡ true
+    → followed p s c ≡ annealed p deviation s c
+near_follows p deviation s c cost work cost_is work_is near =
+    let there : is_near deviation (cost_of p c) (cost_of p s.working) ≡ true = ap (λ a. is_near deviation a (cost_of p s.working)) (sym cost_is) ∙ (ap (is_near deviation cost) (sym work_is) ∙ near) in
+    sym (ap (λ b. cond b (followed p s c) s) there)
+
 -- ---- steps
 module _ (p : Instance) (pins : List (List ℕ)) (deviation seed : ℕ) where
   -- what a candidate's plan passes
   recreated_passes : (w : ℕ) (left : List (List ℕ)) → Passes p pins left → Passes p pins (recreated p pins w left)
   recreated_passes w left pass = placed_all_passes p pins (ordered p w (unplanned_names p left)) left pass
 
-  candidate_passes : (routes : List (List ℕ)) (words : List ℕ) (y : List (List ℕ)) → candidate p pins routes words ≡ Some y → Passes p pins y
+  pub candidate_passes : (routes : List (List ℕ)) (words : List ℕ) (y : List (List ℕ)) → candidate p pins routes words ≡ Some y → Passes p pins y
   unfolding candidate
   candidate_passes routes words y is = by (eqb (length (ruined_names p pins routes words)) 0) (removed p pins routes (ruined_names p pins routes words)) refl is
     where

@@ -24,10 +24,13 @@ module _ (p : Instance) (pins : List (List ℕ)) where
       let names = ruined_names p pins routes words in
       if length names == 0 then None else option_map (recreated (slice_index words 2)) (removed p pins routes names)
 
--- what a candidate replaces: the working plan where it is near it, and then the incumbent too where it costs no more
+-- a plan that is walked on from: it becomes the working plan, and the incumbent too where it costs no more
+abbrev pub followed : Instance → Walked → List (List ℕ) → Walked
+followed p s c = walked (if cost_at_most (cost_of p c) (cost_of p s.incumbent) then c else s.incumbent) c
+
+-- what a candidate replaces: it is walked on from where it is near the working plan
 abbrev pub annealed : Instance → ℕ → Walked → List (List ℕ) → Walked
-annealed p deviation s c =
-    if is_near deviation (cost_of p c) (cost_of p s.working) then walked (if cost_at_most (cost_of p c) (cost_of p s.incumbent) then c else s.incumbent) c else s
+annealed p deviation s c = if is_near deviation (cost_of p c) (cost_of p s.working) then followed p s c else s
 
 -- without a candidate nothing changes
 abbrev pub annealed_by : Instance → ℕ → Walked → Option (List (List ℕ)) → Walked

@@ -1,5 +1,6 @@
 //! What nearest stops, strings and orders mean, and what annealing steps keep: each law for every word, seed and step.
 ghost use Rattle.anneal_search.specs.AnnealLaws.{AnnealStepsAddUp, AnnealStepsKeepPassing, AnnealedNeverCostMore};
+ghost use Rattle.anneal_search.specs.TryLaws.{TriesAreShort, TriesKeepPassing};
 ghost use Rattle.anneal_search.specs.StringLaws.{StringsLieAround, NearestAreLeast, RoutesAreRising, OrdersAreRising};
 
 use plan_types::costs_are_in_order;
@@ -41,3 +42,10 @@ pub fn annealed_never_cost_more()
 {
     costs_are_in_order();
 }
+
+/// A try goes on from plans that pass to plans that pass, makes at most the steps that it is given, and one at least where its plan leaves
+/// a request out.
+pub fn tries_keep_passing()
+    ensures passing { TriesKeepPassing }
+    ensures short { TriesAreShort }
+{}

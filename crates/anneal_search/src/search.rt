@@ -5,7 +5,7 @@ ghost use Rattle.route_sched.specs.Cost.{cost_of};
 ghost use Rattle.move_ops.specs.Drafts.{base_of, draft_of};
 ghost use Rattle.seeded_search.specs.StepLaws.{BothPass};
 ghost use Rattle.seeded_search.specs.Working.{walked_by, KeepsWalk, IsWalk};
-ghost use Rattle.anneal_search.specs.Annealing.{walked, candidate, annealed, annealed_by, anneal_step, anneal_steps};
+ghost use Rattle.anneal_search.specs.Annealing.{walked, candidate, followed, annealed, annealed_by, anneal_step, anneal_steps};
 ghost use Rattle.anneal_search.specs.Going.{HasImproved, KeepsGoing, IsGoing};
 
 use crate::candidates::make;
@@ -94,14 +94,15 @@ impl Annealing {
             (candidate problem.now pins.now.routes (base_of self.old.walk.draft) words.now)) }
         ensures going { OnOk result (IsGoing problem.now pins.now.routes self.new) }
     {
-        if !make(
+        let made = make(
             alloc,
             problem,
             pins,
             &mut self.walk.draft,
             &self.walk.lists,
             words,
-        )? {
+        )?;
+        if made.is_none() {
             return Ok(());
         }
         self.settle(alloc, problem, pins, deviation)
@@ -127,9 +128,27 @@ impl Annealing {
             self.walk.draft.drop_draft();
             return Ok(());
         }
-        let improved = improve(alloc, problem, pins, &mut self.walk, &cost)?;
-        self.work = cost;
-        self.walk.take(problem, pins, &cost)?;
+        self.follow(alloc, problem, pins, &cost)
+    }
+
+    /// Walks on from the candidate, which costs so much: it becomes the working plan, and the incumbent too where it costs no more.
+    pub(crate) fn follow(
+        &mut self,
+        alloc: Global,
+        problem: &Problem,
+        pins: &Pins,
+        cost: &Cost,
+    ) -> Result<(), OutOfMemory>
+        requires keeps { KeepsGoing problem.now pins.now.routes self.old }
+        requires cost { cost.now ≡ cost_of problem.now (draft_of self.old.walk.draft) }
+        ensures walked { OnOk result
+            (walked_by self.new.walk
+            ≡ followed problem.now (walked_by self.old.walk) (draft_of self.old.walk.draft)) }
+        ensures going { OnOk result (IsGoing problem.now pins.now.routes self.new) }
+    {
+        let improved = improve(alloc, problem, pins, &mut self.walk, cost)?;
+        self.work = *cost;
+        self.walk.take(problem, pins, cost)?;
         self.walk.is_at_incumbent = improved;
         Ok(())
     }

@@ -31,7 +31,8 @@ use Rattle.state_codec.proofs.RequestLaws.{visit_again, is_demand-holds, int_eq-
 use Rattle.state_codec.proofs.TimesLaws.{AreNext, times_again, added_behind}
 use Rattle.state_codec.proofs.RouteLaws.{IsWritable, HaveRoom, routes_again, more_vehicles}
 use Rattle.state_codec.proofs.HeadLaws.{head_text, head_again, IsHeadOf, IsAllowance}
-use Rattle.state_codec.proofs.SizeLemmas.{sizes, AreBelow, requests_below, short_routes}
+use Rattle.anneal_search.proofs.RequestCounts.{AreBelow, requests_below}
+use Rattle.state_codec.proofs.SizeLemmas.{sizes, short_routes}
 
 -- ---- one request
 

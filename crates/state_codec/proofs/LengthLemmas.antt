@@ -10,7 +10,8 @@ use Rattle.command_core.specs.declared.states.State.TheVariants.{Empty, Loaded}
 use Rattle.state_codec.specs.declared.version.Version.TheVariants.{Two}
 use Rattle.state_codec.specs.Bytes.{number_bytes, signed_bytes, requests_bytes, stops_bytes, vehicles_bytes, routes_bytes, head_bytes}
 use Rattle.state_codec.specs.Lengths.{EncodingsFit}
-use Rattle.state_codec.proofs.SizeLemmas.{sizes, few_numbers, requests_below}
+use Rattle.anneal_search.proofs.RequestCounts.{few_numbers, requests_below}
+use Rattle.state_codec.proofs.SizeLemmas.{sizes}
 
 len_stops : (ns : List ℕ) → length (stops_bytes Two ns) ≡ 4 * length ns
 unfolding number_bytes

@@ -1,0 +1,33 @@
+use Rattle.std.proofs.Common.{rules, ◌≡◌, ◌*◌, arith, ap, ◌∙◌, length}
+use Rattle.std.proofs.lemmas.Result.{on_ok_weaker}
+use Rattle.move_ops.specs.Drafts.{draft_of}
+use Rattle.anneal_search.specs.Trying.{counted}
+use Rattle.anneal_search.proofs.TryLemmas.{few_left, few_then}
+use Rattle.anneal_search.proofs.trying.Try.settle.Goals as goal
+
+pub count-requires : goal.count-requires
+count-requires c =
+    let walk = c.args.self.now.annealing.walk in
+    let few = few_left c.args.problem.now (draft_of walk.draft) c.in_ok-left_out.left_out.items c.args.missing.now c.requires.keeps.going.walk.draft.valid c.requires.missing c.in_ok-left_out.ensures in
+    let same : length c.deref-2.result.now ≡ length c.in_ok-left_out.left_out.items = ap length c.deref-2.ensures.value in
+    record { few = (40001 * c.args.self.now.made, c.requires.keeps.few, omega (arith, few, same, c.requires.most)) }
+
+pub returns-then-not-follows-clause-attempt : goal.returns-then-not-follows-clause-attempt
+returns-then-not-follows-clause-attempt c =
+    let old = c.args.self.now in
+    let counts = c.count.ensures ∙ ap (counted old.absences.items) c.deref-2.ensures.value in
+    record {
+      going = search rules;
+      few =
+          few_then c.args.problem.now (draft_of old.annealing.walk.draft) old.made c.in_ok-left_out.left_out.items c.args.missing.now old.absences.items c.count.new.absences.items c.requires.keeps.going.walk.draft.valid
+          c.requires.missing c.in_ok-left_out.ensures c.requires.keeps.few counts;
+    }
+
+pub returns-clause-attempt : goal.returns-clause-attempt
+returns-clause-attempt c =
+    let old = c.args.self.now in
+    let counts = c.count.ensures ∙ ap (counted old.absences.items) c.deref-2.ensures.value in
+    let few =
+    few_then c.args.problem.now (draft_of old.annealing.walk.draft) old.made c.in_ok-left_out.left_out.items c.args.missing.now old.absences.items c.count.new.absences.items c.requires.keeps.going.walk.draft.valid c.requires.missing
+    c.in_ok-left_out.ensures c.requires.keeps.few counts in
+    on_ok_weaker c.follow.result (λ h. record { going = h; few = few }) c.follow.ensures.going
