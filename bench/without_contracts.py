@@ -18,7 +18,7 @@ import tempfile
 from search_speed import SEED, TOP, output
 
 CRATES = """plan_types nint_dist text_lines instance_read route_sched sol_text plan_audit slack_tables move_ops seeded_search
-    anneal_search""".split()
+    anneal_search anneal_stages fleet_tries""".split()
 STAND_INS = TOP / "bench" / "without_contracts"
 SIZES = [100, 400, 1000]
 DEVIATION = 30

@@ -10,7 +10,7 @@ use Rattle.command_core.specs.declared.refusals.Refusal.TheVariants.{Range, Step
 use Rattle.command_core.specs.declared.walking.Asked.{Asked}
 use Rattle.command_core.specs.declared.walking.Asked.TheVariants.{Search, Anneal}
 
-fit : (most steps count : ℕ) → steps_refusal most steps count ≡ None → (steps < 2 ^ 60) × (steps + count ≤ 2 ^ 60)
+pub fit : (most steps count : ℕ) → steps_refusal most steps count ≡ None → (steps < 2 ^ 60) × (steps + count ≤ 2 ^ 60)
 fit most steps count accepted = by (nat_le 1 count && nat_le count most) (nat_le (steps + count) (2 ^ 60)) refl refl accepted
   where
     by : (a b : Bool) → (nat_le 1 count && nat_le count most) ≡ a → nat_le (steps + count) (2 ^ 60) ≡ b → cond (not a) (Some Range) (cond b None (Some StepsSpent)) ≡ None → (steps < 2 ^ 60) × (steps + count ≤ 2 ^ 60)

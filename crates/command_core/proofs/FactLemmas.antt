@@ -1,5 +1,5 @@
 -- An accepted command keeps the facts of a state.
-use Rattle.std.proofs.Common.{◌≡◌, ℕ, ◌+◌, ◌<◌, ◌≤◌, ◌^◌, Bool, true, false, cond, not, ◌&&◌, List, [], length, take, Option, Some, None, refl, sym, ◌∙◌, nat_le, arith}
+use Rattle.std.proofs.Common.{◌≡◌, ℕ, ◌+◌, ◌-◌, ◌<◌, ◌≤◌, ◌^◌, Bool, true, false, cond, not, ◌&&◌, List, [], length, take, Option, Some, None, refl, sym, ◌∙◌, nat_le, arith}
 use Rattle.std.specs.Option.{option_map_or}
 use Rattle.std.proofs.lemmas.Bool.{and_parts, leb-true}
 use Rattle.std.proofs.lemmas.List.{length-set, length-replicate}
@@ -15,9 +15,11 @@ use Rattle.move_ops.specs.Insertion.{request_named, of_vehicle, with_route}
 use Rattle.seeded_search.specs.Steps.{unplanned_names}
 use Rattle.seeded_search.specs.StepLaws.{StepsKeepPassing}
 use Rattle.anneal_search.specs.AnnealLaws.{AnnealStepsKeepPassing}
+use Rattle.fleet_tries.specs.Laws.{TriesKeepPlans}
+use Rattle.fleet_tries.specs.Tries.{all_tries}
 use Rattle.command_core.specs.Job.{JobValue, IsJob}
 use Rattle.command_core.specs.Wishes.{is_spot, is_demand, single_at, pair_at}
-use Rattle.command_core.specs.Effects.{loaded, added, withdrawn, searched, annealed, job_after}
+use Rattle.command_core.specs.Effects.{loaded, added, withdrawn, searched, annealed, reduced, job_after}
 use Rattle.command_core.specs.Refusing.{is_vehicle, pinned_refusal, job_refusal}
 use Rattle.command_core.specs.Commands.{IsCommand}
 use Rattle.command_core.specs.RunLaws.{EffectsKeepFacts}
@@ -25,7 +27,7 @@ use Rattle.command_core.specs.declared.states.State.TheVariants.{Empty, Loaded}
 use Rattle.command_core.specs.declared.refusals.Refusal.{Refusal}
 use Rattle.command_core.specs.declared.refusals.Refusal.TheVariants.{NoSuchRequest, Pinned}
 use Rattle.command_core.specs.declared.commands.Command.{Command}
-use Rattle.command_core.specs.declared.commands.Command.TheVariants.{Load, Add, Add1, Withdraw, Pin, Unpin, Build, Search, Deviation, Anneal}
+use Rattle.command_core.specs.declared.commands.Command.TheVariants.{Load, Add, Add1, Withdraw, Pin, Unpin, Build, Search, Deviation, Anneal, Reduce}
 use Rattle.command_core.proofs.AddLemmas.{single_is_request, pair_is_request, IsNext, new_problem, same_at_live}
 use Rattle.command_core.proofs.PassLemmas.{passes_same, all_feasible_same, numbers_live, routes_live, pins_live}
 use Rattle.command_core.proofs.PinLemmas.{none_feasible, none_all_feasible, none_passes, set_all, unpinned_passes, pinned_passes}
@@ -47,6 +49,7 @@ pub record LowerLaws : Type 0 where
   pub named : RequestsStandByName
   pub steps : StepsKeepPassing
   pub anneal_steps : AnnealStepsKeepPassing
+  pub tries : TriesKeepPlans
 
 refused : {X : Type 0} (r : Refusal) → Some r ≡ None → X
 refused r h = absurd (let g = h in cc)
@@ -151,6 +154,14 @@ module _ (laws : LowerLaws) (j : JobValue) (is : IsJob j) where
       let both = steps j.problem j.pins j.deviation j.seed j.steps count (record { incumbent = j.plan; working = j.work }) (record { incumbent = is.plan; working = is.work }) in
       with_plans j is _ _ (both.incumbent) (both.working) (j.steps + count) within
 
+  reduced_job : (count : ℕ) → j.steps + count ≤ 2 ^ 60 → IsJob (reduced j count)
+  reduced_job count within =
+      let t = all_tries j.problem j.pins j.seed count j.steps j.plan in
+      let kept = laws.tries j.problem j.pins j.plan j.seed count j.steps is.fleet is.problem.fleet is.plan in
+      let steps = laws.anneal_steps in
+      let both = steps j.problem j.pins j.deviation j.seed t.step (j.steps + count - t.step) (record { incumbent = t.plan; working = t.plan }) (record { incumbent = kept.plan; working = kept.plan }) in
+      with_plans j is _ _ (both.incumbent) (both.working) (j.steps + count) within
+
   found : (name : ℕ) → job_refusal j (Withdraw name) ≡ None → (r : Request) × (request_named j.problem name ≡ Some r) × (is_planned j.pins r ≡ false)
   found name none = by (request_named j.problem name) refl none
     where
@@ -202,6 +213,7 @@ module _ (laws : LowerLaws) (j : JobValue) (is : IsJob j) where
     steps = is.steps;
   }
   job_keeps_facts (Anneal count) command none = let t = asked _ _ _ none in annealed_job count (leb-true (j.steps + count) (2 ^ 60) (asked_last _ _ t.1))
+  job_keeps_facts (Reduce count) command none = let t = asked _ _ _ none in reduced_job count (leb-true (j.steps + count) (2 ^ 60) (asked_last _ _ t.1))
   job_keeps_facts c command none = is
 
 pub effects_keep_facts : LowerLaws → EffectsKeepFacts

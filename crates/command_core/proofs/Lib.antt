@@ -9,6 +9,7 @@ pub mod NumberLemmas
 pub mod PassLemmas
 pub mod PinLemmas
 pub mod PlacedLemmas
+mod ReduceLemmas
 pub mod RunLemmas
 pub mod SearchLemmas
 pub mod TakeLemmas

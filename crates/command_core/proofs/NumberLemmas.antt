@@ -11,7 +11,7 @@ use Rattle.command_core.specs.declared.states.State.TheVariants.{Empty, Loaded}
 use Rattle.command_core.specs.declared.refusals.Refusal.{Refusal}
 use Rattle.command_core.specs.declared.refusals.Refusal.TheVariants.{Range}
 use Rattle.command_core.specs.declared.commands.Command.{Command}
-use Rattle.command_core.specs.declared.commands.Command.TheVariants.{Load, Add, Add1, Withdraw, Pin, Unpin, Build, Search, Deviation, Anneal}
+use Rattle.command_core.specs.declared.commands.Command.TheVariants.{Load, Add, Add1, Withdraw, Pin, Unpin, Build, Search, Deviation, Anneal, Reduce}
 
 pub next_numbers_rise : NextNumbersRise
 next_numbers_rise j (Load p seed) not_load = absurd (let h : true ≡ false = not_load in cc)
@@ -67,6 +67,7 @@ pub steps_counted : (j : JobValue) (c : Command) → is_load c ≡ false → (jo
 steps_counted j (Load p seed) not_load = absurd (let h : true ≡ false = not_load in cc)
 steps_counted j (Search count) not_load = refl
 steps_counted j (Anneal count) not_load = refl
+steps_counted j (Reduce count) not_load = refl
 steps_counted j c not_load = omega arith
 
 pub recorded_no_load : (c : Command) → is_recorded c ≡ true → is_load c ≡ false
@@ -77,4 +78,5 @@ recorded_no_load c recorded = refl
 pub few_recorded : (c : Command) → is_recorded c ≡ true → fits_record c ≡ true → steps_of c ≤ 256
 few_recorded (Search count) recorded fits = leb-true count 256 (and_parts (nat_le 1 count) (nat_le count 256) fits).1
 few_recorded (Anneal count) recorded fits = absurd (let h : false ≡ true = recorded in cc)
+few_recorded (Reduce count) recorded fits = absurd (let h : false ≡ true = recorded in cc)
 few_recorded c recorded fits = omega arith

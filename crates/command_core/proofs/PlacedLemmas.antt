@@ -1,79 +1,32 @@
 -- A request that is put into a plan is planned there, beside all that were planned before; so the plan costs less.
-use Rattle.std.proofs.Common.{◌≡◌, ℕ, ◌+◌, ◌<◌, ◌||◌, Bool, true, false, not, List, [], ◌∷◌, length, Option, Some, None, unwrap_or, refl, sym, ap, subst, ◌∙◌, inl, inr, arith, nat_lt, IsTrue}
-use Rattle.std.specs.List.{concat}
+use Rattle.std.proofs.Common.{◌≡◌, ℕ, ◌<◌, Bool, true, false, not, List, [], ◌∷◌, Option, Some, None, unwrap_or, refl, sym, ap, subst, ◌∙◌, inl, inr, nat_lt, IsTrue}
 use Rattle.std.specs.Option.{option_and_then}
-use Rattle.std.proofs.lemmas.Bool.{and_parts, leb-true, lt-ltb, or_left, or_right, or_cases, not-true}
+use Rattle.std.proofs.lemmas.Bool.{lt-ltb, or_left, not-true}
 use Rattle.plan_types.specs.Cost.{cost_at_most, CostsAreTotal, CostsAreTransitive, BelowIsAtMost}
 use Rattle.plan_types.specs.Instance.{Instance}
 use Rattle.plan_types.specs.declared.requests.Request.{Request}
-use Rattle.plan_types.specs.declared.requests.Request.TheVariants.{Single, Pair}
-use Rattle.route_sched.specs.Cost.{has_stop, is_planned, unplanned_count, cost_of}
-use Rattle.plan_audit.specs.Passes.{passes}
-use Rattle.move_ops.specs.Insertion.{Insertion, request_named, of_vehicle, passing, inserted, with_request_at, is_place_of, best_insertion, put_in}
+use Rattle.route_sched.specs.Cost.{is_planned, unplanned_count, cost_of}
+use Rattle.move_ops.specs.Insertion.{Insertion, request_named, with_request_at, is_place_of, best_insertion, put_in}
 use Rattle.move_ops.specs.Drafts.{placed}
-use Rattle.move_ops.proofs.Counting.{planned_where}
-use Rattle.move_ops.proofs.Fitting.{had_often, often_had}
-use Rattle.move_ops.proofs.Inserting.{numbers_of, times_inserted}
-use Rattle.move_ops.proofs.Replacing.{times_with}
-use Rattle.move_ops.proofs.Times.{some_same, times}
 use Rattle.seeded_search.specs.Steps.{placed_all}
-use Rattle.seeded_search.proofs.WalkLemmas.{and_then_some, then_some}
+use Rattle.seeded_search.proofs.WalkLemmas.{and_then_some}
+use Rattle.anneal_search.proofs.PlacedLemmas.{planned_kept, planned_now, put_in_gives}
 use Rattle.command_core.proofs.CountLemmas.{count_less}
-
--- how often numbers stand with a request put in
-times_then : (n : ℕ) (pins routes : List (List ℕ)) (r : Request) (x : Insertion) → is_place_of pins routes r x ≡ true → times n (concat (with_request_at routes r x)) ≡ times n (numbers_of r) + times n (concat routes)
-times_then n pins routes r x at =
-    let a = and_parts _ _ at in
-    let b = and_parts _ _ a.1 in
-    let e = times_with n routes x.0 (inserted r x.1 x.2 (of_vehicle routes x.0)) (leb-true 1 x.0 a.0) (leb-true x.0 (length routes) b.0) in
-    let f = times_inserted n r x.1 x.2 (of_vehicle routes x.0) in
-    omega arith
 
 module _ (p : Instance) (pins routes : List (List ℕ)) (r : Request) (x : Insertion) (at : is_place_of pins routes r x ≡ true) where
   abbrev new : List (List ℕ)
   new = with_request_at routes r x
 
-  stop_kept : (n : ℕ) → has_stop routes n ≡ true → has_stop new n ≡ true
-  stop_kept n had = let h = had_often (concat routes) n had in let e = times_then n pins routes r x at in often_had (concat new) n (omega arith)
-
-  planned_kept : (s : Request) → is_planned routes s ≡ true → is_planned new s ≡ true
-  planned_kept (Single s) had = elim (or_cases (has_stop routes s.number) false had) [
-    | inl t ↦ or_left (has_stop new s.number) false (stop_kept s.number t)
-    | inr t ↦ absurd (let h : false ≡ true = t in cc)
-  ]
-  planned_kept (Pair a b) had = elim (or_cases (has_stop routes a.number) (has_stop routes b.number || false) had) [
-    | inl t ↦ or_left (has_stop new a.number) (has_stop new b.number || false) (stop_kept a.number t)
-    | inr t ↦ elim (or_cases (has_stop routes b.number) false t) [
-      | inl u ↦ or_right (has_stop new a.number) (has_stop new b.number || false) (or_left (has_stop new b.number) false (stop_kept b.number u))
-      | inr u ↦ absurd (let h : false ≡ true = u in cc)
-    ]
-  ]
-
-  planned_now : is_planned new r ≡ true
-  planned_now = planned_where new r (λ n. let e = times_then n pins routes r x at in omega arith)
-
   unplanned_less : (name : ℕ) → request_named p name ≡ Some r → is_planned routes r ≡ false → unplanned_count p new < unplanned_count p routes
   unplanned_less name named unplanned =
-      count_less (λ s. not (is_planned routes s)) (λ s. not (is_planned new s)) p.requests name r each named (ap not unplanned) (ap not planned_now)
+      count_less (λ s. not (is_planned routes s)) (λ s. not (is_planned new s)) p.requests name r each named (ap not unplanned) (ap not (planned_now pins routes r x at))
     where
       each : (s : Request) → not (is_planned new s) ≡ true → not (is_planned routes s) ≡ true
       each s none = by (is_planned routes s) refl
         where
           by : (b : Bool) → is_planned routes s ≡ b → not b ≡ true
           by false e = refl
-          by true e = absurd (let h : is_planned new s ≡ false = not-true (is_planned new s) none in let g : true ≡ false = sym (planned_kept s e) ∙ h in cc)
-
--- a chain of tests and look-ups gives the plan
-put_in_gives : (p : Instance) (pins routes : List (List ℕ)) (name : ℕ) (x : Insertion) (y : List (List ℕ)) → put_in p pins routes name x ≡ Some y
-    → (r : Request) × (request_named p name ≡ Some r) × (is_planned routes r ≡ false) × (is_place_of pins routes r x ≡ true) × (passes p pins y ≡ true) × (y ≡ with_request_at routes r x)
-put_in_gives p pins routes name x y is =
-    let t = and_then_some _ (request_named p name) y is in
-    let r = t.0 in
-    let u = then_some _ (passing p pins (with_request_at routes r x)) y t.2 in
-    let v = then_some (passes p pins (with_request_at routes r x)) (Some (with_request_at routes r x)) y u.1 in
-    let same : with_request_at routes r x ≡ y = some_same _ _ v.1 in
-    let both = and_parts (not (is_planned routes r)) (is_place_of pins routes r x) u.0 in
-    (r, t.1, not-true (is_planned routes r) both.0, both.1, subst (λ l. passes p pins l ≡ true) same v.0, sym same)
+          by true e = absurd (let h : is_planned new s ≡ false = not-true (is_planned new s) none in let g : true ≡ false = sym (planned_kept pins routes r x at s e) ∙ h in cc)
 
 module _ (total : CostsAreTotal) (transitive : CostsAreTransitive) (below : BelowIsAtMost) (p : Instance) (pins : List (List ℕ)) where
   abbrev CostsNoMore : List (List ℕ) → List (List ℕ) → Type 0

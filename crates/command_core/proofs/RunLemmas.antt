@@ -1,11 +1,14 @@
 -- What many commands keep: the plan's cost between changes, and the facts of states.
-use Rattle.std.proofs.Common.{◌≡◌, ℕ, zero, suc, ◌+◌, ◌≤◌, ◌||◌, Bool, true, false, List, [], ◌∷◌, Some, None, refl, ◌∙◌, arith}
+use Rattle.std.proofs.Common.{◌≡◌, ℕ, zero, suc, ◌+◌, ◌-◌, ◌≤◌, ◌||◌, Bool, true, false, List, [], ◌∷◌, Some, None, refl, ◌∙◌, arith}
 use Rattle.std.specs.List.{list_any}
 use Rattle.plan_types.specs.Cost.{CostsAreTotal, CostsAreTransitive, BelowIsAtMost}
 use Rattle.route_sched.specs.Cost.{cost_of}
-use Rattle.seeded_search.specs.Steps.{unplanned_names}
+use Rattle.seeded_search.specs.Steps.{unplanned_names, walked}
 use Rattle.seeded_search.specs.StepLaws.{IncumbentsNeverCostMore}
+use Rattle.anneal_search.specs.Annealing.{anneal_steps}
 use Rattle.anneal_search.specs.AnnealLaws.{AnnealedNeverCostMore}
+use Rattle.fleet_tries.specs.Laws.{TriesNeverCostMore}
+use Rattle.fleet_tries.specs.Tries.{all_tries}
 use Rattle.command_core.specs.Effects.{effect}
 use Rattle.command_core.specs.Refusing.{refusal}
 use Rattle.command_core.specs.Commands.{changes_requests, changes_pins, is_change}
@@ -15,7 +18,7 @@ use Rattle.command_core.specs.declared.states.State.{State}
 use Rattle.command_core.specs.declared.states.State.TheVariants.{Empty, Loaded}
 use Rattle.command_core.specs.declared.refusals.Refusal.{Refusal}
 use Rattle.command_core.specs.declared.commands.Command.{Command}
-use Rattle.command_core.specs.declared.commands.Command.TheVariants.{Load, Add, Add1, Withdraw, Pin, Unpin, Build, Search, Anneal}
+use Rattle.command_core.specs.declared.commands.Command.TheVariants.{Load, Add, Add1, Withdraw, Pin, Unpin, Build, Search, Anneal, Reduce}
 use Rattle.command_core.proofs.PlacedLemmas.{same_cost, placed_all_cost}
 
 pub runs_keep_facts : EffectsKeepFacts → RunsKeepFacts
@@ -33,7 +36,7 @@ not_loaded : {X : Type 0} (c : Command) → refusal Empty c ≡ None → changes
 not_loaded (Load p seed) none kept = clash kept
 not_loaded c none kept = refused _ none
 
-module _ (total : CostsAreTotal) (transitive : CostsAreTransitive) (below : BelowIsAtMost) (search : IncumbentsNeverCostMore) (anneal : AnnealedNeverCostMore) where
+module _ (total : CostsAreTotal) (transitive : CostsAreTransitive) (below : BelowIsAtMost) (search : IncumbentsNeverCostMore) (anneal : AnnealedNeverCostMore) (tries : TriesNeverCostMore) where
   pub costs_never_rise : CostsNeverRise
   costs_never_rise (Loaded j) (Load p seed) none kept = clash kept
   costs_never_rise (Loaded j) (Add q a b) none kept = clash kept
@@ -44,6 +47,16 @@ module _ (total : CostsAreTotal) (transitive : CostsAreTransitive) (below : Belo
       record { problem = refl; cost = search j.problem j.pins j.deviation j.seed j.steps count (record { incumbent = j.plan; working = j.work }) }
   costs_never_rise (Loaded j) (Anneal count) none kept =
       record { problem = refl; cost = anneal j.problem j.pins j.deviation j.seed j.steps count (record { incumbent = j.plan; working = j.work }) }
+  costs_never_rise (Loaded j) (Reduce count) none kept =
+      let t = all_tries j.problem j.pins j.seed count j.steps j.plan in
+      let s = anneal_steps j.problem j.pins j.deviation j.seed t.step (j.steps + count - t.step) (walked t.plan t.plan) in
+      record {
+        problem = refl;
+        cost =
+            transitive (cost_of j.problem s.incumbent) (cost_of j.problem t.plan) (cost_of j.problem j.plan)
+            (anneal j.problem j.pins j.deviation j.seed t.step (j.steps + count - t.step) (walked t.plan t.plan))
+            (tries j.problem j.pins j.plan j.seed count j.steps);
+      }
   costs_never_rise (Loaded j) c none kept = record { problem = refl; cost = same_cost total transitive below j.problem j.pins j.plan }
   costs_never_rise Empty c none kept = not_loaded c none kept
 

@@ -4,7 +4,7 @@ use Rattle.plan_types.specs.Instance.{IsInstance}
 use Rattle.command_core.specs.Job.{JobValue}
 use Rattle.command_core.specs.Wishes.{is_spot, is_demand}
 use Rattle.command_core.specs.declared.commands.Command.{Command}
-use Rattle.command_core.specs.declared.commands.Command.TheVariants.{Load, Add, Add1, Withdraw, Pin, Unpin, Build, Search, Checkpoint, Deviation, Anneal}
+use Rattle.command_core.specs.declared.commands.Command.TheVariants.{Load, Add, Add1, Withdraw, Pin, Unpin, Build, Search, Checkpoint, Deviation, Anneal, Reduce}
 
 -- what is loaded is a problem
 abbrev pub IsCommand : Command → Type 0
@@ -49,12 +49,14 @@ stops_added _ = 0
 abbrev pub steps_of : Command → ℕ
 steps_of (Search count) = count
 steps_of (Anneal count) = count
+steps_of (Reduce count) = count
 steps_of _ = 0
 
 -- it makes steps, so that a line tells how far they are
 abbrev pub makes_steps : Command → Bool
 makes_steps (Search count) = true
 makes_steps (Anneal count) = true
+makes_steps (Reduce count) = true
 makes_steps _ = false
 
 -- a search, or a checkpoint between searches

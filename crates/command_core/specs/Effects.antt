@@ -1,5 +1,5 @@
 -- What each command makes of a state. Vehicles count from 1.
-use Rattle.std.specs.Prelude.{ℕ, ◌+◌, List, [], ◌∷◌, map, filter, take, replicate, not, Bool, if◌then◌else◌}
+use Rattle.std.specs.Prelude.{ℕ, ◌+◌, ◌-◌, List, [], ◌∷◌, map, filter, take, replicate, not, Bool, if◌then◌else◌}
 use Rattle.std.specs.List.{list_any, zip}
 use Rattle.plan_types.specs.Instance.{Instance, with_request, without_request}
 use Rattle.plan_types.specs.declared.requests.Request.{Request}
@@ -8,12 +8,13 @@ use Rattle.move_ops.specs.Insertion.{of_vehicle, with_route}
 use Rattle.move_ops.specs.Moves.{is_of_named}
 use Rattle.seeded_search.specs.Steps.{unplanned_names, placed_all, steps, walked}
 use Rattle.anneal_search.specs.Annealing.{anneal_steps}
+use Rattle.fleet_tries.specs.Tries.{all_tries}
 use Rattle.command_core.specs.Job.{JobValue}
 use Rattle.command_core.specs.Wishes.{single_at, pair_at}
 use Rattle.command_core.specs.declared.states.State.{State}
 use Rattle.command_core.specs.declared.states.State.TheVariants.{Empty, Loaded}
 use Rattle.command_core.specs.declared.commands.Command.{Command}
-use Rattle.command_core.specs.declared.commands.Command.TheVariants.{Load, Add, Add1, Withdraw, Pin, Unpin, Build, Search, Checkpoint, Deviation, Anneal}
+use Rattle.command_core.specs.declared.commands.Command.TheVariants.{Load, Add, Add1, Withdraw, Pin, Unpin, Build, Search, Checkpoint, Deviation, Anneal, Reduce}
 
 -- a list for each vehicle, with no stop
 abbrev pub no_stops : Instance → List (List ℕ)
@@ -23,7 +24,7 @@ no_stops p = replicate p.fleet []
 abbrev pub loaded : Instance → ℕ → JobValue
 loaded p seed = record { problem = p; pins = no_stops p; plan = no_stops p; work = no_stops p; deviation = 0; seed = seed; steps = 0 }
 
--- Each other command but Search, Anneal and Checkpoint sets the working plan to the incumbent that it leaves.
+-- Each other command but Search, Anneal, Reduce and Checkpoint sets the working plan to the incumbent that it leaves.
 
 -- Add, Add1: one more request, unplanned
 abbrev pub added : JobValue → Request → JobValue
@@ -85,6 +86,13 @@ annealed j count =
     let s = anneal_steps j.problem j.pins j.deviation j.seed j.steps count (walked j.plan j.work) in
     record j { plan = s.incumbent; work = s.working; steps = j.steps + count }
 
+-- Reduce: so many steps, from the incumbent on: those of tries with fewer vehicles, and annealing steps in place of those that they leave
+abbrev pub reduced : JobValue → ℕ → JobValue
+reduced j count =
+    let t = all_tries j.problem j.pins j.seed count j.steps j.plan in
+    let s = anneal_steps j.problem j.pins j.deviation j.seed t.step (j.steps + count - t.step) (walked t.plan t.plan) in
+    record j { plan = s.incumbent; work = s.working; steps = j.steps + count }
+
 -- Deviation: how far the working plan may be from the incumbent
 abbrev pub with_deviation : JobValue → ℕ → JobValue
 with_deviation j d = record j { work = j.plan; deviation = d }
@@ -102,6 +110,7 @@ job_after j (Search count) = searched j count
 job_after j Checkpoint = j
 job_after j (Deviation d) = with_deviation j d
 job_after j (Anneal count) = annealed j count
+job_after j (Reduce count) = reduced j count
 
 -- What a command makes of a state. Before the first Load nothing else is accepted.
 abbrev pub effect : State → Command → State

@@ -11,7 +11,7 @@ use Rattle.command_core.specs.Wishes.{is_spot, is_demand}
 use Rattle.command_core.specs.declared.states.State.{State}
 use Rattle.command_core.specs.declared.states.State.TheVariants.{Empty, Loaded}
 use Rattle.command_core.specs.declared.commands.Command.{Command}
-use Rattle.command_core.specs.declared.commands.Command.TheVariants.{Load, Add, Add1, Withdraw, Pin, Unpin, Build, Search, Checkpoint, Deviation, Anneal}
+use Rattle.command_core.specs.declared.commands.Command.TheVariants.{Load, Add, Add1, Withdraw, Pin, Unpin, Build, Search, Checkpoint, Deviation, Anneal, Reduce}
 use Rattle.command_core.specs.declared.refusals.Refusal.{Refusal}
 use Rattle.command_core.specs.declared.refusals.Refusal.TheVariants.{NoInstance, Range, NoSuchRequest, Pinned, NoSuchPlace, NotARoute, NumbersSpent, StepsSpent}
 
@@ -64,6 +64,7 @@ job_refusal j (Search count) = steps_refusal 256 j.steps count
 job_refusal j Checkpoint = None
 job_refusal j (Deviation d) = deviation_refusal d
 job_refusal j (Anneal count) = steps_refusal 65536 j.steps count
+job_refusal j (Reduce count) = steps_refusal 524288 j.steps count
 
 -- why a state does: before the first Load, nothing but a Load is accepted
 abbrev pub refusal : State → Command → Option Refusal

@@ -15,6 +15,7 @@ use crate::laws::effects_keep_facts;
 use crate::loading::load;
 use crate::pinning::{pin, unpin};
 use crate::planning::{build, deviate};
+use crate::reducing::reduce;
 use crate::refusals::Refusal;
 use crate::states::{Job, State};
 use crate::walking::{Asked, Stepped, step};
@@ -162,6 +163,7 @@ fn carry_out_without(alloc: Global, job: &Job, command: &Command) -> Result<Carr
         Command::Checkpoint => within(Ok(JobChange::Nothing)),
         Command::Deviation(deviation) => within(deviate(job, *deviation)),
         Command::Anneal(count) => walked(step(alloc, job, None, Asked::Anneal(*count))),
+        Command::Reduce(count) => walked(reduce(alloc, job, *count)),
     }
 }
 

@@ -3,7 +3,9 @@ ghost use Rattle.std.specs.Prelude.{◌≡◌, ◌≤◌, ◌^◌, None, Some, M
 ghost use Rattle.command_core.specs.Refusing.{is_vehicle, add_refusal, withdraw_refusal, pin_refusal, unpin_refusal, steps_refusal, deviation_refusal, job_refusal, refusal};
 
 use crate::commands::Command;
-use crate::limits::{MAX_ANNEAL_COUNT, MAX_COUNT, MAX_DEVIATION, MAX_STEPS, is_demand, is_spot};
+use crate::limits::{
+    MAX_ANNEAL_COUNT, MAX_COUNT, MAX_DEVIATION, MAX_REDUCE_COUNT, MAX_STEPS, is_demand, is_spot,
+};
 use crate::refusals::Refusal;
 use crate::states::{Job, State};
 use move_ops::of_vehicle;
@@ -61,6 +63,7 @@ fn job_refusal(job: &Job, command: &Command) -> Option<Refusal>
         Command::Search(count) => steps_refusal(u32::from(MAX_COUNT), job.steps, u32::from(*count)),
         Command::Deviation(deviation) => deviation_refusal(*deviation),
         Command::Anneal(count) => steps_refusal(MAX_ANNEAL_COUNT, job.steps, *count),
+        Command::Reduce(count) => steps_refusal(MAX_REDUCE_COUNT, job.steps, *count),
     }
 }
 

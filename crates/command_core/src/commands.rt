@@ -51,6 +51,9 @@ pub enum Command {
     Deviation(u32),
     /// So many annealing steps, 1..=65,536. A store writes the whole state.
     Anneal(u32),
+    /// So many steps, 1..=524,288, from the incumbent on: where vehicles count, first those of tries with fewer vehicles, or
+    /// of one that puts the requests in which are left out; the others anneal. A store writes the whole state.
+    Reduce(u32),
 }
 
 impl Command {
@@ -60,7 +63,8 @@ impl Command {
         ensures { result ≡ is_recorded self.now }
     {
         match self {
-            Command::Load(..) | Command::Checkpoint | Command::Anneal(_) => false,
+            Command::Load(..) | Command::Checkpoint | Command::Anneal(_) | Command::Reduce(_) =>
+                false,
             Command::Add { .. }
             | Command::Add1 { .. }
             | Command::Withdraw(_)
@@ -78,7 +82,7 @@ impl Command {
     {
         match self {
             Command::Search(count) => u64::from(*count),
-            Command::Anneal(count) => u64::from(*count),
+            Command::Anneal(count) | Command::Reduce(count) => u64::from(*count),
             _ => 0,
         }
     }
@@ -87,7 +91,10 @@ impl Command {
     pub fn makes_steps(&self) -> bool
         ensures { result ≡ makes_steps self.now }
     {
-        matches!(self, Command::Search(_) | Command::Anneal(_))
+        matches!(
+            self,
+            Command::Search(_) | Command::Anneal(_) | Command::Reduce(_)
+        )
     }
 
     /// How many stops it adds.

@@ -2,6 +2,7 @@
 ghost use Rattle.command_core.specs.RunLaws.{EffectsKeepFacts, RunsKeepFacts, CostsNeverRise, PlansNeverCostMore, SearchesAddUp, RunsAreOneSearch, AnnealingsAddUp, RunsAreOneAnnealing, NextNumbersRise, GivenNumbersAreNew, AcceptedFitRecords};
 
 use anneal_search::{anneal_steps_add_up, anneal_steps_keep_passing, annealed_never_cost_more};
+use fleet_tries::{tries_keep_plans, tries_never_cost_more};
 use plan_audit::{feasibility_is_local, passes_are_local, pins_are_live_once, plans_are_local};
 use plan_types::{
     costs_are_in_order, numbers_are_below_the_next, put_adds_one_request, requests_stand_by_name,
@@ -25,6 +26,7 @@ pub fn effects_keep_facts()
     requests_stand_by_name();
     steps_keep_passing();
     anneal_steps_keep_passing();
+    tries_keep_plans();
 }
 
 /// An accepted command that changes no request never makes the plan cost more.
@@ -34,6 +36,7 @@ pub fn costs_never_rise()
     costs_are_in_order();
     incumbents_never_cost_more();
     annealed_never_cost_more();
+    tries_never_cost_more();
 }
 
 /// After accepted commands, the plan costs no more than it did at any moment since the last change of requests or pins, and requests and
@@ -44,6 +47,7 @@ pub fn plans_never_cost_more()
     costs_are_in_order();
     incumbents_never_cost_more();
     annealed_never_cost_more();
+    tries_never_cost_more();
 }
 
 /// Searches leave what one search of all their steps would, however they are cut and with checkpoints between them or not.

@@ -25,7 +25,7 @@
 //! - `planners`: `Planner`
 //! - `loading`, `adding`, `withdrawing`, `pinning`: requests and pins
 //! - `marks`: which requests are unplanned
-//! - `placing`, `planning`, `walking`: `Build` and `Deviation`, `Search` and `Anneal`
+//! - `placing`, `planning`, `walking`, `reducing`: `Build` and `Deviation`, `Search` and `Anneal`, `Reduce`
 //! - `laws`: what commands keep
 //!
 //! Said by `specs/Job.antt`, `Commands.antt`, `Effects.antt`, `Refusing.antt`, `Runs.antt`, `RunLaws.antt` and `Changes.antt`.
@@ -62,6 +62,7 @@ mod pinning;
 mod placing;
 mod planners;
 mod planning;
+mod reducing;
 mod refusals;
 mod states;
 mod walking;
@@ -76,7 +77,8 @@ pub use laws::{
     given_numbers_are_new, plans_never_cost_more, searches_add_up,
 };
 pub use limits::{
-    MAX_ANNEAL_COUNT, MAX_COUNT, MAX_DEVIATION, MAX_STEPS, is_coordinate, is_demand, is_spot,
+    MAX_ANNEAL_COUNT, MAX_COUNT, MAX_DEVIATION, MAX_REDUCE_COUNT, MAX_STEPS, is_coordinate,
+    is_demand, is_spot,
 };
 pub use marks::unplanned_names;
 pub use planners::Planner;

@@ -13,6 +13,8 @@ pub const MAX_STEPS: u64 = 1 << 60;
 pub const MAX_COUNT: u16 = 256;
 /// How many annealing steps one command may make; the least number is 1.
 pub const MAX_ANNEAL_COUNT: u32 = 65_536;
+/// How many steps one command of tries may make; the least number is 1.
+pub const MAX_REDUCE_COUNT: u32 = 524_288;
 
 /// Whether goods to be picked up or delivered keep the limit of a demand.
 pub fn is_demand(demand: u32) -> bool

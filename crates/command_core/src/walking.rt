@@ -104,7 +104,12 @@ fn walk_of(alloc: Global, job: &Job, kept: Option<Walk>) -> Result<Walk, OutOfMe
 }
 
 // What a walk of these pins has come to after so many steps in all.
-fn changed_by(alloc: Global, job: &Job, walk: Walk, steps: u64) -> Result<Stepped, OutOfMemory>
+pub(crate) fn changed_by(
+    alloc: Global,
+    job: &Job,
+    walk: Walk,
+    steps: u64,
+) -> Result<Stepped, OutOfMemory>
     requires { IsWalk job.now.problem job.now.pins walk }
     ensures { IfOk result (IsStepped job.now (walked_on job.now walk steps)) }
 {

@@ -1,2 +1,3 @@
-mod FleetLemmas
-mod PassLemmas
+mod CrewLemmas
+mod PickedLemmas
+mod TryLemmas

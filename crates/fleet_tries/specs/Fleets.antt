@@ -1,22 +1,55 @@
--- Plans of a smaller fleet, and of all vehicles again.
-use Rattle.std.specs.Prelude.{ℕ, ◌-◌, nat_lt, Bool, List, [], ◌++◌, length, take, replicate}
+-- Plans of some of the vehicles, and of all of them again. Vehicles count from 1; a list of marks tells of each in turn whether a plan has it.
+use Rattle.std.specs.Prelude.{ℕ, ◌-◌, nat_lt, not, ◌==◌, ◌&&◌, ◌||◌, Bool, true, false, List, [], ◌∷◌, length, take, map, filter, count_by, slice_index_or}
+use Rattle.std.specs.List.{range_with_len}
 use Rattle.plan_types.specs.Instance.{Instance}
-use Rattle.sol_text.specs.Written.{used_routes}
+use Rattle.route_sched.specs.Cost.{used_count}
+use Rattle.plan_audit.specs.Passes.{has}
+use Rattle.move_ops.specs.Insertion.{of_vehicle}
 use Rattle.anneal_search.specs.Sorting.{sorted}
 
 -- the problem with so many vehicles
 abbrev pub with_fleet : Instance → ℕ → Instance
 with_fleet p n = record p { fleet = n }
 
--- a list for each of so many vehicles, where the further ones have no stop
-abbrev pub with_vehicles : ℕ → List (List ℕ) → List (List ℕ)
-with_vehicles n routes = routes ++ replicate (n - length routes) []
+-- how many vehicles are marked
+abbrev pub marked : List Bool → ℕ
+marked kept = count_by (λ k. k) kept
 
--- it has more stops
-abbrev pub is_longer : List ℕ → List ℕ → Bool
-is_longer a b = nat_lt (length b) (length a)
+-- what the marked vehicles have, in order: their routes, or their pins
+abbrev pub picked : List Bool → List (List ℕ) → List (List ℕ)
+picked [] lists = []
+picked (true ∷ kept) [] = [] ∷ picked kept []
+picked (true ∷ kept) (l ∷ lists) = l ∷ picked kept lists
+picked (false ∷ kept) [] = picked kept []
+picked (false ∷ kept) (l ∷ lists) = picked kept lists
 
--- Of the routes with stops so many, the longest first; of equal ones those of the lower vehicles, these first: each is put before the
--- first one with fewer stops.
-abbrev pub longest_routes : ℕ → List (List ℕ) → List (List ℕ)
-longest_routes n routes = take n (sorted is_longer (used_routes routes))
+-- the lists at the numbers of the marked vehicles; the others have no stop
+abbrev pub put_back : List Bool → List (List ℕ) → List (List ℕ)
+put_back [] lists = []
+put_back (true ∷ kept) [] = [] ∷ put_back kept []
+put_back (true ∷ kept) (l ∷ lists) = l ∷ put_back kept lists
+put_back (false ∷ kept) lists = [] ∷ put_back kept lists
+
+-- the list at an index, or none
+abbrev pub list_at : List (List ℕ) → ℕ → List ℕ
+list_at lists k = slice_index_or lists k []
+
+-- the vehicle has a stop in these lists
+abbrev pub has_some : List (List ℕ) → ℕ → Bool
+has_some lists v = not (length (of_vehicle lists v) == 0)
+
+-- the route of the first vehicle has more stops
+abbrev pub is_longer : List (List ℕ) → ℕ → ℕ → Bool
+is_longer routes v w = nat_lt (length (of_vehicle routes w)) (length (of_vehicle routes v))
+
+module _ (pins routes : List (List ℕ)) where
+  -- the used vehicles without a pin, those with the most stops first; of equal ones the lower number
+  abbrev pub free_vehicles : List ℕ
+  free_vehicles = sorted (is_longer routes) (filter (λ v. has_some routes v && not (has_some pins v)) (range_with_len 1 (length routes)))
+
+  -- of the used vehicles so many: those with a pin, and then those with the most stops
+  abbrev pub is_kept : ℕ → ℕ → Bool
+  is_kept n v = has_some pins v || has (take (n - used_count pins) free_vehicles) v
+
+  abbrev pub kept : ℕ → List Bool
+  kept n = map (is_kept n) (range_with_len 1 (length routes))

@@ -1,25 +1,50 @@
--- What passes in a smaller fleet, and what of it in all vehicles.
-use Rattle.std.specs.Prelude.{◌≡◌, ℕ, ◌≤◌, true, List, [], replicate}
-use Rattle.std.specs.List.{list_all}
+-- What passes of some of the vehicles, and of all of them; what tries keep.
+use Rattle.std.specs.Prelude.{◌≡◌, ℕ, ◌+◌, ◌≤◌, Bool, true, List, IsTrue, length}
+use Rattle.plan_types.specs.Cost.{cost_at_most}
 use Rattle.plan_types.specs.Instance.{Instance}
-use Rattle.route_sched.specs.Cost.{used_count}
-use Rattle.plan_audit.specs.Passes.{feasible_alone, passes}
-use Rattle.fleet_tries.specs.Fleets.{longest_routes, with_fleet, with_vehicles}
+use Rattle.plan_types.specs.Limits.{IsFleet}
+use Rattle.route_sched.specs.Cost.{cost_of, used_count}
+use Rattle.plan_audit.specs.Passes.{passes}
+use Rattle.anneal_search.specs.declared.trying.Tried.{Tried}
+use Rattle.fleet_tries.specs.Fleets.{marked, picked, put_back, with_fleet}
+use Rattle.fleet_tries.specs.Tries.{Tries, all_tries}
 
--- law: of a plan that passes the longest routes pass in a fleet of as many vehicles, without pins
-abbrev pub LongestRoutesPass : Type 0
-LongestRoutesPass = (p : Instance) (pins routes : List (List ℕ)) (n : ℕ) → passes p pins routes ≡ true → n ≤ used_count routes
-    → passes (with_fleet p n) (replicate n []) (longest_routes n routes) ≡ true
+-- law: of a plan that passes the routes of marked vehicles pass in a fleet of just these, with their pins
+abbrev pub PickedPass : Type 0
+PickedPass = (p : Instance) (pins routes : List (List ℕ)) (kept : List Bool) → length kept ≡ p.fleet → length kept ≡ length pins → passes p pins routes ≡ true
+    → passes (with_fleet p (marked kept)) (picked kept pins) (picked kept routes) ≡ true
 
--- law: a plan that passes in a smaller fleet passes in the whole one, without pins
-abbrev pub SmallerFleetsPass : Type 0
-SmallerFleetsPass = (p : Instance) (pins routes : List (List ℕ)) (n : ℕ) → passes (with_fleet p n) pins routes ≡ true → n ≤ p.fleet
-    → passes p (replicate p.fleet []) (with_vehicles p.fleet routes) ≡ true
+-- no other vehicle has a pin
+abbrev pub ArePinsOf : List Bool → List (List ℕ) → Type 0
+ArePinsOf kept pins = put_back kept (picked kept pins) ≡ pins
 
--- law: and uses no more vehicles than the smaller fleet has
-abbrev pub SmallerFleetsUseFewer : Type 0
-SmallerFleetsUseFewer = (p : Instance) (pins routes : List (List ℕ)) (n m : ℕ) → passes (with_fleet p n) pins routes ≡ true → used_count (with_vehicles m routes) ≤ n
+-- law: a plan of the marked vehicles, put back at their numbers, passes with the pins, where no other vehicle has one
+abbrev pub PutBackPass : Type 0
+PutBackPass = (p : Instance) (pins routes : List (List ℕ)) (kept : List Bool) → length kept ≡ p.fleet → ArePinsOf kept pins
+    → passes (with_fleet p (marked kept)) (picked kept pins) routes ≡ true → passes p pins (put_back kept routes) ≡ true
 
--- law: a vehicle without a pin may have any route
-abbrev pub NoPinsAreFeasible : Type 0
-NoPinsAreFeasible = (p : Instance) (n : ℕ) → list_all (feasible_alone p) (replicate n []) ≡ true
+-- law: and uses no more vehicles than are marked
+abbrev pub PutBackUseFewer : Type 0
+PutBackUseFewer = (p : Instance) (pins routes : List (List ℕ)) (kept : List Bool) → passes (with_fleet p (marked kept)) pins routes ≡ true
+    → used_count (put_back kept routes) ≤ marked kept
+
+-- what the tries come to
+pub record HasTries (end : Tries) (tried : Tried) : Type 0 where
+  pub plan : tried.plan.routes ≡ end.plan
+  pub step : tried.step ≡ end.step
+
+-- what a plan keeps through tries
+pub record AreTries (p : Instance) (pins : List (List ℕ)) (count step : ℕ) (t : Tries) : Type 0 where
+  pub plan : passes p pins t.plan ≡ true
+  pub first : step ≤ t.step
+  pub last : t.step ≤ step + count
+
+-- law: tries from a plan that passes lead to one that passes, within their steps
+abbrev pub TriesKeepPlans : Type 0
+TriesKeepPlans = (p : Instance) (pins routes : List (List ℕ)) (seed count step : ℕ) → length pins ≡ p.fleet → IsFleet p.fleet → passes p pins routes ≡ true
+    → AreTries p pins count step (all_tries p pins seed count step routes)
+
+-- law: and their plan never costs more
+abbrev pub TriesNeverCostMore : Type 0
+TriesNeverCostMore = (p : Instance) (pins routes : List (List ℕ)) (seed count step : ℕ)
+    → IsTrue (cost_at_most (cost_of p (all_tries p pins seed count step routes).plan) (cost_of p routes))

@@ -1,2 +1,6 @@
+-- what public contracts reach
 pub mod Fleets
+pub mod Tries
 pub mod Laws
+-- of private functions alone
+pub mod Trials

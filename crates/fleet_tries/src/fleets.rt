@@ -1,13 +1,13 @@
-//! A problem and a plan for another fleet.
-ghost use Rattle.std.specs.Prelude.{◌≡◌, ◌≤◌, IfOk, length};
+//! A problem, routes and pins of some of the vehicles, and routes of all of them again.
+ghost use Rattle.std.specs.Prelude.{◌≡◌, IfOk, length};
 ghost use Rattle.plan_types.specs.Limits.{IsFleet};
-ghost use Rattle.fleet_tries.specs.Fleets.{with_fleet, with_vehicles};
+ghost use Rattle.fleet_tries.specs.Fleets.{list_at, marked, picked, put_back, with_fleet};
 
 use plan_types::{OutOfMemory, Problem, Route, Routes};
 use std::alloc::Global;
 
 /// The problem with so many vehicles.
-pub fn with_fleet(problem: &Problem, fleet: u32) -> Result<Problem, OutOfMemory>
+pub(crate) fn with_fleet(problem: &Problem, fleet: u32) -> Result<Problem, OutOfMemory>
     requires { IsFleet fleet }
     ensures { IfOk result (λ other. other ≡ with_fleet problem.now fleet) }
 {
@@ -16,13 +16,49 @@ pub fn with_fleet(problem: &Problem, fleet: u32) -> Result<Problem, OutOfMemory>
     Ok(other)
 }
 
-/// The routes, or the pins, for so many vehicles, of which the further ones have no stop.
-pub fn with_vehicles(alloc: Global, routes: Routes, vehicles: u32) -> Result<Routes, OutOfMemory>
-    ensures { IfOk result (λ lists. lists ≡ with_vehicles vehicles routes) }
+/// How many vehicles are marked.
+pub(crate) fn marked(kept: &[bool]) -> u64
+    ensures { result ≡ marked kept.now }
 {
-    let mut routes = routes;
-    while routes.as_slice().len() < vehicles as usize {
-        routes.push(Route::new(alloc))?;
+    kept.iter().filter(|kept| **kept).count() as u64
+}
+
+/// What the marked vehicles have, in order: their routes, or their pins.
+pub(crate) fn picked(alloc: Global, kept: &[bool], lists: &[Route]) -> Result<Routes, OutOfMemory>
+    ensures { IfOk result (λ routes. routes ≡ picked kept.now lists.now) }
+{
+    let mut routes = Routes::new(alloc);
+    for index in 0..kept.len() {
+        if kept[index] {
+            routes.push(list_at(alloc, lists, index)?)?;
+        }
     }
     Ok(routes)
+}
+
+/// The lists at the numbers of the marked vehicles; the others have no stop.
+pub(crate) fn put_back(alloc: Global, kept: &[bool], lists: &[Route]) -> Result<Routes, OutOfMemory>
+    ensures { IfOk result (λ routes. routes ≡ put_back kept.now lists.now) }
+{
+    let mut routes = Routes::new(alloc);
+    let mut next = 0;
+    for index in 0..kept.len() {
+        if kept[index] {
+            routes.push(list_at(alloc, lists, next)?)?;
+            next += 1;
+        } else {
+            routes.push(Route::new(alloc))?;
+        }
+    }
+    Ok(routes)
+}
+
+// A copy of the list at this index; an empty one behind the last.
+fn list_at(alloc: Global, lists: &[Route], index: usize) -> Result<Route, OutOfMemory>
+    ensures { IfOk result (λ list. list ≡ list_at lists.now index) }
+{
+    match lists.get(index) {
+        Some(list) => list.copy(),
+        None => Ok(Route::new(alloc)),
+    }
 }

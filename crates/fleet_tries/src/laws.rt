@@ -1,15 +1,31 @@
-//! What passes in a smaller fleet, for every problem and plan.
-ghost use Rattle.fleet_tries.specs.Laws.{LongestRoutesPass, NoPinsAreFeasible, SmallerFleetsPass, SmallerFleetsUseFewer};
+//! What passes of some of the vehicles, and what tries keep: for every problem, plan and pins.
+ghost use Rattle.fleet_tries.specs.Laws.{PickedPass, PutBackPass, PutBackUseFewer, TriesKeepPlans, TriesNeverCostMore};
 
+use anneal_search::tries_keep_passing;
 use plan_audit::feasibility_is_local;
+use plan_types::costs_are_in_order;
 
-/// Of a plan that passes, the longest routes pass in a fleet of as many vehicles. A plan that passes in a smaller fleet passes in the
-/// whole one, and uses no more vehicles than the smaller one has. Neither has pins, and each empty pin is feasible.
-pub fn smaller_fleets_pass()
-    ensures longest { LongestRoutesPass }
-    ensures whole { SmallerFleetsPass }
-    ensures used { SmallerFleetsUseFewer }
-    ensures pins { NoPinsAreFeasible }
+/// Of a plan that passes, the routes of some vehicles pass in a fleet of just these, with their pins. A plan of these, put back at their
+/// numbers, passes with the pins, where no other vehicle has one, and uses no more vehicles.
+pub fn picked_pass()
+    ensures picked { PickedPass }
+    ensures back { PutBackPass }
+    ensures used { PutBackUseFewer }
 {
     feasibility_is_local();
+}
+
+/// Tries from a plan that passes lead to one that passes, within their steps.
+pub fn tries_keep_plans()
+    ensures { TriesKeepPlans }
+{
+    picked_pass();
+    tries_keep_passing();
+}
+
+/// The plan of tries never costs more.
+pub fn tries_never_cost_more()
+    ensures { TriesNeverCostMore }
+{
+    costs_are_in_order();
 }

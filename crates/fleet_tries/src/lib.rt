@@ -1,26 +1,30 @@
-//! Plans of a smaller fleet: the longest routes of a plan are what a try of fewer vehicles begins with, and what it finds
-//! is a plan of all vehicles again.
+//! Tries with fewer vehicles: annealing of a plan's requests by some of its vehicles alone, and what it finds as a plan
+//! of all vehicles again. Where a plan leaves requests out, a try with all vehicles serves them.
 //!
-//! Entry functions: `longest_routes`, `with_fleet` and `with_vehicles`; called by `plan_solve`.
+//! Entry function: `try_fleets`; called by `command_core` for the command `Reduce`.
 //!
-//! Source: this project's own. That a smaller fleet is found by leaving requests of some routes out and putting them in
-//! again is usual (Bent and Van Hentenryck 2006; Nagata and Bräysy 2009).
+//! Source: this project's own, by absence counters (Christiaens and Vanden Berghe, 2020). That a smaller fleet is found by
+//! leaving requests of some routes out and putting them in again is usual (Bent and Van Hentenryck 2006; Nagata and Bräysy
+//! 2009).
 //!
 //! Modules, in reading order:
-//! - `fleets`: a problem, and lists of stops, for another fleet
-//! - `longest`: the longest routes
-//! - `laws`: what passes in a smaller fleet, for every problem and plan
+//! - `fleets`: a problem, routes and pins of some of the vehicles, and routes of all of them again
+//! - `crews`: the vehicles of a try
+//! - `tries`: tries, one after another
+//! - `laws`: what passes of some of the vehicles, and what tries keep
 //!
-//! Said by `specs/Fleets.antt` and `Laws.antt`. Proved:
-//! - `longest_routes`, `with_fleet` and `with_vehicles` are the definitions of these names;
-//! - `smaller_fleets_pass`: of a plan that passes, the longest routes pass in a fleet of as many vehicles; a plan that
-//!   passes in a smaller fleet passes in the whole one, and uses no more vehicles than the smaller one has.
+//! Said by `specs/Fleets.antt`, `Tries.antt` and `Laws.antt`. Proved:
+//! - `try_fleets` gives the plan of the definition's tries, and the number of the step behind their last;
+//! - `picked_pass`: of a plan that passes, the routes of some vehicles pass in a fleet of just these; a plan of these, put
+//!   back at their numbers, passes with the pins, and uses no more vehicles;
+//! - `tries_keep_plans`: tries from a plan that passes lead to one that passes, within their steps;
+//! - `tries_never_cost_more`: the plan of tries never costs more.
 #![tactic(auto)]
 
+mod crews;
 mod fleets;
 mod laws;
-mod longest;
+mod tries;
 
-pub use fleets::{with_fleet, with_vehicles};
-pub use laws::smaller_fleets_pass;
-pub use longest::longest_routes;
+pub use laws::{picked_pass, tries_keep_plans, tries_never_cost_more};
+pub use tries::try_fleets;

@@ -1,4 +1,4 @@
-//! In reading order: `builders` and `walks` (what the examples share), `moves`, `search`, `annealing`, `stages`,
+//! In reading order: `builders` and `walks` (what the examples share), `moves`, `search`, `annealing`, `stages`, `tries`,
 //! `commands`.
 
 mod annealing;
@@ -7,4 +7,5 @@ mod commands;
 mod moves;
 mod search;
 mod stages;
+mod tries;
 mod walks;

@@ -4,6 +4,7 @@ use command_core::{Command, Refusal, Spot, State, apply};
 use std::alloc::Global;
 use std::test::Fail;
 
+mod reducing;
 mod refusing;
 mod sizes;
 
@@ -18,6 +19,7 @@ enum Step {
     Build,
     Search(u16),
     Anneal(u32),
+    Reduce(u32),
 }
 
 const AT_THE_DEPOT: Spot = Spot {
@@ -40,6 +42,7 @@ fn command(step: Step) -> Command {
         Step::Build => Command::Build,
         Step::Search(count) => Command::Search(count),
         Step::Anneal(count) => Command::Anneal(count),
+        Step::Reduce(count) => Command::Reduce(count),
     }
 }
 

@@ -17,6 +17,7 @@ returns-clause-one c = effects_keep_facts (record {
   named = c.requests_stand_by_name.ensures;
   steps = c.steps_keep_passing.ensures;
   anneal_steps = c.anneal_steps_keep_passing.ensures;
+  tries = c.tries_keep_plans.ensures;
 })
 
 pub returns-clause-many : goal.returns-clause-many

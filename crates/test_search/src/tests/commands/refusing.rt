@@ -8,13 +8,16 @@ use std::alloc::Global;
 use std::test::Fail;
 
 /// A command on two pairs with a plan, and its refusal. Lines of the program are cut into commands of fewer steps.
-const OF_COUNTS: [(Step, Option<Refusal>); 6] = [
+const OF_COUNTS: [(Step, Option<Refusal>); 9] = [
     (Step::Search(0), Some(Refusal::Range)),
     (Step::Search(256), None),
     (Step::Search(257), Some(Refusal::Range)),
     (Step::Anneal(0), Some(Refusal::Range)),
     (Step::Anneal(65_536), None),
     (Step::Anneal(65_537), Some(Refusal::Range)),
+    (Step::Reduce(0), Some(Refusal::Range)),
+    (Step::Reduce(524_288), None),
+    (Step::Reduce(524_289), Some(Refusal::Range)),
 ];
 
 // The refusal that `check` and `apply` both tell.
@@ -29,7 +32,7 @@ fn refusal_by_both(alloc: Global, state: &State, command: &Command) -> Option<Re
 }
 
 /// Commands whose counts are refused too, but behind this.
-const BEFORE_A_LOAD: [Step; 2] = [Step::Search(0), Step::Anneal(0)];
+const BEFORE_A_LOAD: [Step; 3] = [Step::Search(0), Step::Anneal(0), Step::Reduce(0)];
 
 #[test]
 fn of_what_is_not_loaded(rt: HostRuntime) {
@@ -81,11 +84,13 @@ fn near_the_last_step(alloc: Global, left: u64) -> Result<State, Fail> {
 }
 
 /// How many steps are left, a command, and its refusal.
-const OF_THE_LAST_STEPS: [(u64, Step, Option<Refusal>); 6] = [
+const OF_THE_LAST_STEPS: [(u64, Step, Option<Refusal>); 8] = [
     (1, Step::Search(1), None),
     (1, Step::Search(2), Some(Refusal::StepsSpent)),
     (1, Step::Anneal(1), None),
     (1, Step::Anneal(2), Some(Refusal::StepsSpent)),
+    (1, Step::Reduce(1), None),
+    (1, Step::Reduce(2), Some(Refusal::StepsSpent)),
     (0, Step::Search(1), Some(Refusal::StepsSpent)),
     (0, Step::Search(0), Some(Refusal::Range)),
 ];
