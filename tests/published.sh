@@ -36,10 +36,10 @@ publish() {
 
 cp -- "$top/examples/lc101.txt" .
 sed -n 's/^Route #[0-9]*: //p' "$top/examples/lc101.sol" | publish
-expect 'pass 0 10 828937 gap -0.00' 'the published plan of lc101'
+expect 'pass 0 10 828937 gap 0.00' 'the published plan of lc101'
 sed 's/$/\r/' lc101.published >with_returns && mv with_returns lc101.published
 sed 's/$/\r/' lc101.txt >with_returns && mv with_returns lc101.txt
-expect 'pass 0 10 828937 gap -0.00' 'the same with carriage returns'
+expect 'pass 0 10 828937 gap 0.00' 'the same with carriage returns'
 
 # A pair whose pickup is 250.002 away, and may be served until 250.
 printf '1 10 1\n0 0 0 0 0 1000 0 0 0\n1 250 1 5 0 250 0 0 2\n2 250 2 -5 0 1000 0 1 0\n' >lc101.txt

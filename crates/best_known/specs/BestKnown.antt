@@ -1,11 +1,11 @@
 -- A best-known cost of an instance, as a text tells it, and how the cost of a plan compares with it.
-use Rattle.std.specs.Prelude.{ℕ, ◌==◌, ◌^◌, if◌then◌else◌, List, [], ◌∷◌, take, drop, Option, Some, None}
-use Rattle.std.specs.Char.{is_ascii_digit}
-use Rattle.std.specs.List.{prefix_len}
+use Rattle.std.specs.Prelude.{ℕ, ◌==◌, ◌^◌, Bool, if◌then◌else◌, List, [], ◌∷◌, Option, Some, None, option_and_then}
+use Rattle.std.specs.List.{list_any}
 use Rattle.plan_types.specs.declared.plans.Cost.{Cost}
 use Rattle.plan_types.specs.declared.requests.Kind.{Kind}
 use Rattle.plan_types.specs.declared.requests.Kind.TheVariants.{LiLim, Vrp}
-use Rattle.text_lines.specs.Numbers.{below, digits_of}
+use Rattle.text_lines.specs.Numbers.{below, digits_of, magnitude, number_of}
+use Rattle.text_lines.specs.Words.{words_of}
 use Rattle.best_known.specs.Gaps.{gap_text, vehicles_text}
 
 -- the vehicles, where they are told, and the distance, which is not 0
@@ -13,9 +13,13 @@ pub record BestCost : Type 0 where
   pub vehicles : Option ℕ
   pub distance : ℕ
 
--- a number in digits alone
-abbrev pub number_in : List ℕ → Option ℕ
-number_in word = below (2 ^ 32) (digits_of word)
+-- vehicles, in digits alone
+abbrev pub vehicles_in : List ℕ → Option ℕ
+vehicles_in word = below (2 ^ 32) (digits_of word)
+
+-- a distance, as the cost line of a solution tells one
+abbrev pub distance_in : List ℕ → Option ℕ
+distance_in word = below (2 ^ 64) (option_and_then magnitude (number_of word))
 
 -- nothing is a percentage of 0
 abbrev pub best_of : Option ℕ → Option ℕ → Option BestCost
@@ -26,19 +30,24 @@ abbrev pub best_with : Option ℕ → Option ℕ → Option BestCost
 best_with None distance = None
 best_with (Some vehicles) distance = best_of (Some vehicles) distance
 
--- `DISTANCE`, or digits, a blank and `DISTANCE`
-abbrev pub best_in_parts : List ℕ → List ℕ → Option BestCost
-best_in_parts digits [] = best_of None (number_in digits)
-best_in_parts digits (b ∷ rest) = if b == 32 then best_with (number_in digits) (number_in rest) else None
+-- `DISTANCE`, or, where vehicles count, `VEHICLES DISTANCE`
+abbrev pub best_among : Kind → List ℕ → Option (List ℕ) → Option BestCost
+best_among kind distance None = best_of None (distance_in distance)
+best_among LiLim vehicles (Some distance) = best_with (vehicles_in vehicles) (distance_in distance)
+best_among Vrp vehicles (Some distance) = None
 
--- `[VEHICLES ]DISTANCE`
-abbrev pub best_in_columns : List ℕ → Option BestCost
-best_in_columns text = let n = prefix_len is_ascii_digit text in best_in_parts (take n text) (drop n text)
+abbrev pub best_in_words : Kind → List (List ℕ) → Option BestCost
+best_in_words kind (first ∷ []) = best_among kind first None
+best_in_words kind (first ∷ second ∷ []) = best_among kind first (Some second)
+best_in_words kind _ = None
 
--- the best-known cost that a text tells; vehicles count in a problem of kind `LiLim` alone
+-- a text with a tab is more than one column
+abbrev pub has_tab : List ℕ → Bool
+has_tab text = list_any (λ b. b == 9) text
+
+-- the best-known cost that a column tells, with blanks between its words and around them; vehicles count in a problem of kind `LiLim` alone
 abbrev pub best_in : Kind → List ℕ → Option BestCost
-best_in LiLim text = best_in_columns text
-best_in Vrp text = best_of None (number_in text)
+best_in kind text = if has_tab text then None else best_in_words kind (words_of text)
 
 -- distances are compared where the vehicles are the same, or are not told
 abbrev pub comparison_with : Option ℕ → ℕ → Cost → List ℕ

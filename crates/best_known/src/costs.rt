@@ -1,19 +1,19 @@
 //! Best-known costs: reading one, and comparing a plan's cost with it.
-ghost use Rattle.std.specs.Prelude.{◌≡◌, IfOk, string_bytes};
-ghost use Rattle.best_known.specs.BestKnown.{best_in, best_in_columns, best_of, comparison_text, number_in};
+ghost use Rattle.std.specs.Prelude.{◌≡◌, IfOk, option_map, string_bytes};
+ghost use Rattle.best_known.specs.BestKnown.{best_among, best_in, best_of, comparison_text, has_tab};
 
 use crate::gaps::{gap_text, vehicles_text};
 use plan_types::{Cost, Kind, OutOfMemory};
 use std::alloc::Global;
 use std::marker::Model;
-use text_lines::{digits_len, digits_to_u32};
+use text_lines::{Words, digits_to_u32, number_to_u64};
 
 /// A best-known cost of an instance: its distance, and, where it tells them, its vehicles.
 #[derive(Debug, Drop)]
 pub struct BestKnown {
     vehicles: Option<u32>,
     // At least 1.
-    distance: u32,
+    distance: u64,
 }
 
 impl Model for BestKnown {
@@ -28,14 +28,20 @@ impl Model for BestKnown {
 }
 
 impl BestKnown {
-    /// Reads `DISTANCE`, or, of an instance of kind `LiLim`, `VEHICLES DISTANCE` with one blank between, each in digits alone and
-    /// at most 4,294,967,295. A distance of 0 is none.
+    /// Reads `DISTANCE`, or, of an instance of kind `LiLim`, `VEHICLES DISTANCE`, with blanks between and around. The distance is written
+    /// as the cost of a solution is, and the vehicles in digits alone. A distance of 0 is none.
     pub fn read(kind: Kind, text: &[u8]) -> Option<BestKnown>
         ensures { result ≡ best_in kind text.now }
     {
-        match kind {
-            Kind::LiLim => best_in_columns(text),
-            Kind::Vrp => best_of(None, digits_to_u32(text)),
+        if has_tab(text) {
+            return None;
+        }
+        let mut words = Words::new(text);
+        let first = words.next()?;
+        let second = words.next();
+        match words.next() {
+            None => best_among(kind, first, second),
+            Some(_) => None,
         }
     }
 
@@ -47,26 +53,32 @@ impl BestKnown {
             Some(vehicles) if u64::from(vehicles) != cost.vehicles => {
                 vehicles_text(alloc, cost.vehicles, u64::from(vehicles))
             }
-            _ => gap_text(alloc, cost.distance, u64::from(self.distance)),
+            _ => gap_text(alloc, cost.distance, self.distance),
         }
     }
 }
 
-fn best_in_columns(text: &[u8]) -> Option<BestKnown>
-    ensures { result ≡ best_in_columns text.now }
+// A text with a tab is more than one column.
+fn has_tab(text: &[u8]) -> bool
+    ensures { result ≡ has_tab text.now }
 {
-    let (digits, rest) = text.split_at(digits_len(text));
-    match rest {
-        [] => best_of(None, digits_to_u32(digits)),
-        [b' ', distance @ ..] => {
-            let vehicles = digits_to_u32(digits)?;
-            best_of(Some(vehicles), digits_to_u32(distance))
+    text.contains(&b'\t')
+}
+
+fn best_among(kind: Kind, first: &[u8], second: Option<&[u8]>) -> Option<BestKnown>
+    ensures { result ≡ best_among kind first.now (option_map (λ w. w.now) second.entry) }
+{
+    match (kind, second) {
+        (_, None) => best_of(None, number_to_u64(first)),
+        (Kind::LiLim, Some(distance)) => {
+            let vehicles = digits_to_u32(first)?;
+            best_of(Some(vehicles), number_to_u64(distance))
         }
-        _ => None,
+        (Kind::Vrp, Some(_)) => None,
     }
 }
 
-fn best_of(vehicles: Option<u32>, distance: Option<u32>) -> Option<BestKnown>
+fn best_of(vehicles: Option<u32>, distance: Option<u64>) -> Option<BestKnown>
     ensures { result ≡ best_of vehicles distance }
 {
     match distance {

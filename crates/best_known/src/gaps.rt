@@ -1,9 +1,23 @@
 //! How far a plan is from the best-known one.
 ghost use Rattle.std.specs.Prelude.{◌≡◌, ◌≢◌, IfOk, string_bytes};
-ghost use Rattle.best_known.specs.Gaps.{gap_text, hundredths, percent_text, places_text, vehicles_text};
+ghost use Rattle.std.specs.List.{list_any};
+ghost use Rattle.best_known.specs.Gaps.{gap_text, hundredths, is_rounded_to, percent_text, places, places_text, shorter_text, vehicles_text};
 
 use plan_types::OutOfMemory;
 use std::alloc::Global;
+
+/// The places that a published distance may leave open, in the units of the instance.
+static PLACES: [u64; 9] = [
+    10,
+    100,
+    1_000,
+    10_000,
+    100_000,
+    1_000_000,
+    10_000_000,
+    100_000_000,
+    1_000_000_000,
+];
 
 /// ` gap ` and how much longer a distance is than the best-known one, in percent.
 pub(crate) fn gap_text(alloc: Global, distance: u64, best: u64) -> Result<String, OutOfMemory>
@@ -11,12 +25,41 @@ pub(crate) fn gap_text(alloc: Global, distance: u64, best: u64) -> Result<String
     ensures { IfOk result (λ text. string_bytes text ≡ gap_text distance best) }
 {
     if distance < best {
-        let percent = percent_text(alloc, hundredths(best - distance, best))?;
-        format!(in alloc; " gap -{percent}")
+        shorter_text(alloc, best - distance, best)
     } else {
         let percent = percent_text(alloc, hundredths(distance - best, best))?;
         format!(in alloc; " gap {percent}")
     }
+}
+
+// The gap of a distance that is so much shorter.
+fn shorter_text(alloc: Global, difference: u64, best: u64) -> Result<String, OutOfMemory>
+    requires { best ≢ 0 }
+    ensures { IfOk result (λ text. string_bytes text ≡ shorter_text difference best) }
+{
+    let hundredths = hundredths(difference, best);
+    if hundredths == 0 && is_rounded_away(difference, best) {
+        return format!(in alloc; " gap 0.00");
+    }
+    let percent = percent_text(alloc, hundredths)?;
+    format!(in alloc; " gap -{percent}")
+}
+
+// Whether a distance that is so much shorter is the best-known one where it is rounded to a place at which that ends in zeros: a published
+// distance of fewer digits leaves such a place open.
+fn is_rounded_away(difference: u64, best: u64) -> bool
+    ensures { result ≡ list_any (is_rounded_to difference best) places }
+{
+    PLACES
+        .iter()
+        .any(|place| is_rounded_to(difference, best, *place))
+}
+
+fn is_rounded_to(difference: u64, best: u64, place: u64) -> bool
+    requires { place ≢ 0 }
+    ensures { result ≡ is_rounded_to difference best place }
+{
+    best % place == 0 && 2 * u128::from(difference) <= u128::from(place)
 }
 
 // The difference in hundredths of a percent of the best-known distance, to the nearest whole one, a half upward.

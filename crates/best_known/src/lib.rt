@@ -7,7 +7,8 @@
 //!
 //! How it works: in a problem of kind `LiLim` fewer vehicles come before a shorter distance, so distances are compared only where
 //! the vehicles are the same, or are not told. A gap is counted in hundredths of a percent, in whole numbers, to the nearest one;
-//! a half goes away from 0. The sign is that of the difference itself, so `-0.00` is a plan that is shorter by less than is shown.
+//! a half goes away from 0. The sign is that of the difference itself, so `-0.00` is a plan that is shorter by less than is shown;
+//! where the best-known distance ends in zeros, and the plan's rounded to that place is the same, it is `0.00`.
 //! A best-known distance of 0 is refused, since nothing is a percentage of it.
 //!
 //! Modules, in reading order:

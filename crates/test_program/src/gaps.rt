@@ -10,8 +10,8 @@ use std::test::Fail;
 type Comparison = (Kind, &'static str, u64, u64, &'static str);
 
 /// 10 of 787 are 1.2706 percent; 9 of 820 are 1.0976, 6 of 829 0.7238, 1 of 450 0.2222. 1 of 20,000 is half a hundredth, and 1 of
-/// 20,001 less.
-const COMPARISONS: [Comparison; 16] = [
+/// 20,001 less. Where the best-known distance ends in zeros, 5 of 10 are rounded up, and 6 of 10 are not.
+const COMPARISONS: [Comparison; 24] = [
     (Kind::LiLim, "10 787", 10, 797, " gap 1.27"),
     (Kind::LiLim, "10 829", 10, 829, " gap 0.00"),
     (Kind::LiLim, "10 820", 10, 829, " gap 1.10"),
@@ -27,6 +27,20 @@ const COMPARISONS: [Comparison; 16] = [
     (Kind::Vrp, "20001", 0, 20_002, " gap 0.00"),
     (Kind::Vrp, "20001", 0, 20_000, " gap -0.00"),
     (Kind::Vrp, "4294967295", 0, 0, " gap -100.00"),
+    (Kind::Vrp, "828940", 0, 828_937, " gap 0.00"),
+    (Kind::Vrp, "828940", 0, 828_935, " gap 0.00"),
+    (Kind::Vrp, "828940", 0, 828_934, " gap -0.00"),
+    (Kind::Vrp, "800", 0, 760, " gap -5.00"),
+    (Kind::LiLim, " 10  829 ", 10, 829, " gap 0.00"),
+    (Kind::LiLim, "10 +0829.00", 10, 829, " gap 0.00"),
+    (Kind::Vrp, "450.0", 0, 450, " gap 0.00"),
+    (
+        Kind::Vrp,
+        "18446744073709551615",
+        0,
+        18_446_744_073_709_551_615,
+        " gap 0.00",
+    ),
     (
         Kind::Vrp,
         "1",
@@ -68,18 +82,18 @@ const REFUSED: [(Kind, &str); 16] = [
     (Kind::LiLim, ""),
     (Kind::LiLim, "0"),
     (Kind::LiLim, "10 0"),
-    (Kind::LiLim, "10 "),
-    (Kind::LiLim, " 829"),
-    (Kind::LiLim, "10  829"),
+    (Kind::LiLim, " "),
+    (Kind::LiLim, "10\t829"),
+    (Kind::LiLim, "10.0 829"),
     (Kind::LiLim, "10 829 1"),
     (Kind::LiLim, "10,829"),
     (Kind::LiLim, "828.94"),
     (Kind::LiLim, "-10 829"),
     (Kind::LiLim, "10 -829"),
     (Kind::LiLim, "4294967296 829"),
-    (Kind::LiLim, "4294967296"),
+    (Kind::LiLim, "18446744073709551616"),
     (Kind::Vrp, "8 450"),
-    (Kind::Vrp, "450 "),
+    (Kind::Vrp, "450 1"),
     (Kind::Vrp, "0"),
 ];
 
