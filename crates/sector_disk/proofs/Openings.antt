@@ -27,8 +27,8 @@ of_folder : (kind : ErrorKind) → is_length (folder_fault kind) ≡ false
 of_folder kind = cond_both (is_not_offered kind) None (Some (fault_of kind)) (λ fault. is_length fault ≡ false) (λ _. refl) (λ _. of_kind kind)
 
 of_call : (call : SystemCall) → is_length (fault_in call) ≡ false
-of_call (Open None) = refl
-of_call (Open (Some kind)) = of_kind kind
+of_call (Open is_made None) = refl
+of_call (Open is_made (Some kind)) = of_kind kind
 of_call (Lock None) = refl
 of_call (Lock (Some kind)) = of_lock kind
 of_call (Measure true len) = refl

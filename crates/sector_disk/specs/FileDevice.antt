@@ -2,6 +2,7 @@
 use Rattle.std.specs.Prelude.{◌≡◌, ℕ, ◌+◌, ◌-◌, ◌^◌, min, List, [], Option}
 use Rattle.std.specs.declared.io.Error.{Error}
 use Rattle.sector_disk.specs.declared.file_device.FileDevice.{FileDevice}
+use Rattle.sector_disk.specs.declared.file_device.FileRefusal.{FileRefusal}
 use Rattle.sector_disk.specs.declared.file_calls.FileCalls as calls
 use Rattle.sector_disk.specs.declared.file_calls.HostFile.{HostFile}
 use Rattle.sector_disk.specs.SystemCalls.{Noted}
@@ -13,6 +14,10 @@ use Rattle.sector_disk.specs.FileRecord.{Entry, file_history}
 -- the calls by which the file was opened
 abbrev pub opening : HostFile → List Noted
 opening file = file.opening
+
+-- those by which no file was opened
+abbrev pub calls_of_refusal : FileRefusal → List Noted
+calls_of_refusal refusal = refusal.noted
 
 module _ {S F : Type 0} {start : starts.Ghosts S} {g : calls.Ghosts F} where
   abbrev pub device_len : FileDevice S F start g → ℕ

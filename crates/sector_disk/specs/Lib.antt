@@ -13,6 +13,7 @@ pub mod FileRecord
 pub mod FileCalls
 pub mod Told
 pub mod FileDevice
+pub mod Disks
 pub mod Laws
 -- of private functions and of proofs alone
 pub mod Kept

@@ -7,7 +7,7 @@ use Rattle.sector_disk.specs.declared.file_device.FileFault.{FileFault}
 use Rattle.sector_disk.specs.declared.file_device.FileFault.TheVariants as faults
 use Rattle.sector_disk.specs.declared.opened_file.OpeningFault.{OpeningFault}
 use Rattle.sector_disk.specs.declared.system_call.SystemCall.{SystemCall}
-use Rattle.sector_disk.specs.declared.system_call.SystemCall.TheVariants.{Open, Lock, Measure, MeasureFailed, SetLen, WriteAt, WriteAtFailed, SyncAll, OpenFolder, SyncFolder}
+use Rattle.sector_disk.specs.declared.system_call.SystemCall.TheVariants.{Open, Lock, Measure, MeasureFailed, SetLen, ReadAt, ReadAtFailed, WriteAt, WriteAtFailed, SyncAll, OpenFolder, SyncFolder}
 use Rattle.sector_disk.specs.SystemCalls.{Noted, is_memory, answered}
 
 -- a failure of the system as a fault
@@ -36,7 +36,7 @@ folder_fault_in (Some kind) = folder_fault kind
 
 -- the fault that a call comes to, none where it did what was asked
 abbrev pub fault_in : SystemCall → Option FileFault
-fault_in (Open failed) = option_map fault_of failed
+fault_in (Open is_made failed) = option_map fault_of failed
 fault_in (Lock failed) = option_map lock_fault failed
 fault_in (Measure is_file len) = if is_file then None else Some faults.NoFile
 fault_in (MeasureFailed kind) = Some (fault_of kind)
@@ -71,6 +71,38 @@ len_after (call ∷ earlier) = len_by call.0 (len_after earlier)
 abbrev pub len_fault : Option ℕ → Option FileFault
 len_fault None = None
 len_fault (Some len) = if len % 512 == 0 then None else Some faults.BadLength
+
+-- What calls did to files: which they opened, by their paths, the newest first, each with whether it was to be made where there is none; and
+-- whether they cut, wrote or synced one, or a folder.
+pub record Touched : Type 0 where
+  pub opened : List (Bool × List ℕ)
+  pub is_changed : Bool
+
+abbrev pub untouched : Touched
+untouched = record { opened = []; is_changed = false }
+
+abbrev pub with_opened : Bool → List ℕ → Touched → Touched
+with_opened is_made path before = record { opened = (is_made, path) ∷ before.opened; is_changed = before.is_changed }
+
+abbrev pub with_change : Touched → Touched
+with_change before = record { opened = before.opened; is_changed = true }
+
+abbrev pub touched_by : SystemCall → List ℕ → Touched → Touched
+touched_by (Open is_made failed) path before = with_opened is_made path before
+touched_by (Lock failed) bytes before = before
+touched_by (Measure is_file len) bytes before = before
+touched_by (MeasureFailed kind) bytes before = before
+touched_by (ReadAt offset moved) bytes before = before
+touched_by (ReadAtFailed offset kind) bytes before = before
+touched_by _ bytes before = with_change before
+
+abbrev pub touched_in : List Noted → Touched
+touched_in [] = untouched
+touched_in (call ∷ earlier) = touched_by call.0 call.1 (touched_in earlier)
+
+-- the files that were opened
+abbrev pub opened_in : List Noted → List (Bool × List ℕ)
+opened_in calls = (touched_in (answered calls)).opened
 
 -- a file that is taken as it is: its calls' first fault, else that of its length
 abbrev pub taking_fault : List Noted → Option FileFault
@@ -107,19 +139,43 @@ pub record HasLen (calls : List Noted) (len : ℕ) : Type 0 where
   pub no_fault : first_fault (answered calls) ≡ None
   pub length : len_after (answered calls) ≡ Some len
 
--- A step was to give the file this length and to sync it: it told the fault, or the file is so.
-pub record IsResized {T : Type 0} (result : Result T OpeningFault) (calls : List Noted) (len : ℕ) : Type 0 where
+-- A step was to give the file this length and to sync it: it told the fault, or the file is so. It opened no other.
+pub record IsResized {T : Type 0} (result : Result T OpeningFault) (earlier calls : List Noted) (len : ℕ) : Type 0 where
   pub told : first_fault (answered calls) ≡ fault_told result
   pub length : IfOk result (λ done. len_after (answered calls) ≡ Some len)
   pub synced : IfOk result (λ done. IsTrue (is_file_synced (answered calls)))
+  pub opened : opened_in calls ≡ opened_in earlier
 
--- The file was opened, locked and measured, and has this length, which is one of whole sectors.
-pub record IsTaken (calls : List Noted) (len : ℕ) : Type 0 where
+-- a step left the file's length, and opened no other
+pub record IsSameFile (earlier calls : List Noted) : Type 0 where
+  pub length : len_after (answered calls) ≡ len_after (answered earlier)
+  pub opened : opened_in calls ≡ opened_in earlier
+
+-- ---- of the file at a path
+
+-- the calls that open it where it stands, take its lock and measure it, the newest first
+abbrev pub taking_calls : List ℕ → ℕ → List Noted
+taking_calls path len = (Measure true len, []) ∷ (Lock None, []) ∷ (Open false None, path) ∷ []
+
+-- These calls were made and no others, so nothing was made, cut or written. The file has this length, which is one of whole sectors.
+pub record IsTaken (path : List ℕ) (calls : List Noted) (len : ℕ) : Type 0 where
+  pub only : calls ≡ taking_calls path len
   pub no_fault : taking_fault calls ≡ None
   pub length : len_after (answered calls) ≡ Some len
 
--- The file was given this length, and then it and its folder were synced.
-pub record IsMade (calls : List Noted) (len : ℕ) : Type 0 where
+-- It was not opened, for the fault that the calls tell. They opened it where it stands and no other, and made, cut or wrote nothing.
+pub record IsNotTaken (path : List ℕ) (calls : List Noted) (fault : FileFault) : Type 0 where
+  pub told : taking_fault calls ≡ Some fault
+  pub touched : touched_in (answered calls) ≡ with_opened false path untouched
+
+-- It was opened, and made where there was none, and no other. It was given this length, and then it and its folder were synced.
+pub record IsMade (path : List ℕ) (calls : List Noted) (len : ℕ) : Type 0 where
   pub no_fault : first_fault (answered calls) ≡ None
+  pub opened : opened_in calls ≡ (true, path) ∷ []
   pub length : len_after (answered calls) ≡ Some len
   pub synced : IsTrue (is_synced (answered calls))
+
+-- It was not made, for the fault that the calls tell. They opened it, and no other file.
+pub record IsNotMade (path : List ℕ) (calls : List Noted) (fault : FileFault) : Type 0 where
+  pub told : first_fault (answered calls) ≡ Some fault
+  pub opened : opened_in calls ≡ (true, path) ∷ []

@@ -8,7 +8,7 @@ use Rattle.sector_disk.specs.declared.system.Extent.{Extent}
 use Rattle.sector_disk.specs.declared.system_call.SystemCall.{SystemCall}
 use Rattle.sector_disk.specs.declared.system_call.SystemCall.TheVariants.{Measure, MeasureFailed, ReadAt, ReadAtFailed, WriteAt, WriteAtFailed}
 
--- a call with the bytes that were read or written
+-- a call with the bytes that were read or written, or the path that was opened
 abbrev pub Noted : Type 0
 Noted = SystemCall × List ℕ
 

@@ -11,8 +11,7 @@
 //! - What the system said of a failed call is kept for whoever tells it (`cause`); no clause speaks of it.
 ghost use Rattle.std.specs.Prelude.{◌≡◌, ◌+◌, ◌-◌, ◌*◌, ◌%◌, ◌^◌, ◌<◌, ◌≤◌, ◌↔◌, [], List, ℕ, length, take, drop, OnOk, OnErr, IfOk, IfErr, IsErr, IsErrAnd, IsErrOf, IsTrue, min, ◌≢◌, MatchResult, Some};
 ghost use Rattle.sector_disk.specs.FileRecord.{all_inside};
-ghost use Rattle.sector_disk.specs.SystemCalls.{answered};
-ghost use Rattle.sector_disk.specs.Opening.{first_fault, taking_fault, IsTaken, IsMade};
+ghost use Rattle.sector_disk.specs.Opening.{IsTaken, IsNotTaken, IsMade, IsNotMade};
 
 use crate::file_calls::{FileCalls, HostFile, SECTOR};
 use crate::opened_file::{OpeningFault, make_file, take_file};
@@ -117,7 +116,7 @@ impl<S: Start, F: FileCalls> FileDevice<S, F> {
 }
 
 impl<S: Start> FileDevice<S> {
-    ghost use Rattle.sector_disk.specs.FileDevice.{device_len, IsUnused, opening};
+    ghost use Rattle.sector_disk.specs.FileDevice.{calls_of_refusal, device_len, IsUnused, opening};
 
     /// Takes the file at `path`, which it makes where there is none, and gives it this many sectors: what is cut off
     /// is lost, and what is new is zeros. The length and the name are on the disk then.
@@ -130,7 +129,8 @@ impl<S: Start> FileDevice<S> {
         ensures unused { IfOk result (IsUnused ⟦<HostFile as FileCalls>⟧.entries) }
         ensures len { IfOk result (λ device. device_len device ≡ sectors) }
         ensures too_long { IsErrOf result FileFault.BadLength ↔ (2 ^ 54 ≤ sectors) }
-        ensures made { IfOk result (λ device. IsMade (opening device.file) (512 * sectors)) }
+        ensures made { IfOk result (λ device.
+            IsMade path.now (opening device.file) (512 * sectors)) }
     {
         match FileDevice::create_or_cause(rt, path, sectors, start) {
             Ok(device) => Ok(device),
@@ -151,9 +151,10 @@ impl<S: Start> FileDevice<S> {
             → IsErrAnd result (λ refusal. refusal.fault ≡ FileFault.BadLength) }
         ensures not_too_long { sectors < 2 ^ 54
             → IfErr result (λ refusal. refusal.fault ≢ FileFault.BadLength) }
-        ensures told { MatchResult result (λ device. IsMade (opening device.file) (512 * sectors))
+        ensures told { MatchResult result
+            (λ device. IsMade path.now (opening device.file) (512 * sectors))
             (λ refusal. sectors < 2 ^ 54
-            → first_fault (answered refusal.noted) ≡ Some refusal.fault) }
+            → IsNotMade path.now (calls_of_refusal refusal) refusal.fault) }
     {
         let mut noted = Record::new();
         if sectors > MAX_SECTORS {
@@ -174,7 +175,7 @@ impl<S: Start> FileDevice<S> {
     ) -> Result<FileDevice<S>, FileFault>
         ensures unused { IfOk result (IsUnused ⟦<HostFile as FileCalls>⟧.entries) }
         ensures taken { IfOk result (λ device.
-            IsTaken (opening device.file) (512 * device_len device)) }
+            IsTaken path.now (opening device.file) (512 * device_len device)) }
     {
         match FileDevice::at_or_cause(rt, path, start) {
             Ok(device) => Ok(device),
@@ -190,8 +191,8 @@ impl<S: Start> FileDevice<S> {
     ) -> Result<FileDevice<S>, FileRefusal>
         ensures unused { IfOk result (IsUnused ⟦<HostFile as FileCalls>⟧.entries) }
         ensures told { MatchResult result
-            (λ device. IsTaken (opening device.file) (512 * device_len device))
-            (λ refusal. taking_fault refusal.noted ≡ Some refusal.fault) }
+            (λ device. IsTaken path.now (opening device.file) (512 * device_len device))
+            (λ refusal. IsNotTaken path.now (calls_of_refusal refusal) refusal.fault) }
     {
         let mut noted = Record::new();
         match take_file(rt, path, &mut noted) {

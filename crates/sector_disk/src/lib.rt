@@ -9,6 +9,7 @@
 //! - `mem_device`: a device in memory, whose calls fail and whose sectors are lost as a test asks
 //! - `file_device`: a device over a plain file
 //! - `opened_file`: that file as it is opened: its lock first, then its length
+//! - `disks`: what opens and makes files by their paths, and tells which
 //! - `file_calls`, `moving`: that file's reads, writes and syncs, by calls of the system until all is moved
 //! - `system`, `system_call`, `record`: these calls, each noted with its answer where only clauses read
 //! - `start`: what is supposed of a file as it is opened
@@ -19,7 +20,7 @@
 //! `specs/History.antt` say it, `specs/Sectors.antt` what a call's clauses name, `specs/Calls.antt` what calls do one after
 //! another and what a commit is, `specs/Memory.antt` and `specs/FileRecord.antt` the two devices, `specs/Laws.antt` the laws.
 //! `specs/Told.antt` says what calls of the system come to as reads, writes and syncs, `specs/Opening.antt` what they come to
-//! as a file is opened.
+//! as a file is opened, `specs/Disks.antt` what was asked of files by their paths.
 //!
 //! Proved:
 //! - A `MemDevice` is always honest. What a stop may leave of it is exactly what the model allows: `crash` leaves such an
@@ -32,13 +33,17 @@
 //! - A file's write is finished only where the bytes that its calls moved are all of them, in order; an interrupted call is made
 //!   again; a failed sync stays one whatever comes behind it (`FileCalls` for `HostFile`).
 //! - The lock of a file is taken before its length is looked at or set. What is answered of an opening is what its calls came
-//!   to: each fault, and the length that the device has (`told` of `at_or_cause` and `create_or_cause`).
+//!   to: each fault, and the length that the device has; and they opened the file at that path and no other (`told` of
+//!   `at_or_cause` and `create_or_cause`). Of a file that was opened where it stands these are the opening, the lock and the
+//!   measure alone (`IsTaken`), so that nothing was made, cut or written; so of one that was not (`IsNotTaken`).
+//! - `HostDisks` tells which files it was asked for (`noted` of `take` and `make`).
 //!
 //! Trusted, since no proof shows it: that each function of `system` makes the one call that it notes, that the system keeps a
 //! lock, that nobody writes the file without asking for its lock, and that what the next opening finds is an image that the
 //! model allows.
 #![tactic(auto)]
 
+mod disks;
 mod file_calls;
 mod file_device;
 mod laws;
@@ -51,6 +56,7 @@ mod start;
 mod system;
 mod system_call;
 
+pub use disks::{DiskCall, Disks, FileIdentity, HostDisks};
 pub use file_calls::{FileCalls, HostFile};
 pub use file_device::{FileDevice, FileFault, FileRefusal};
 pub use laws::{

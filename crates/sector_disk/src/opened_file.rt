@@ -3,10 +3,10 @@
 //!
 //! The lock is the system's advisory one on the whole file (`flock`). It is freed where the file is closed, so by the death of
 //! its process too, and keeps out those alone who ask for it.
-ghost use Rattle.std.specs.Prelude.{◌≡◌, ◌*◌, ◌/◌, ◌%◌, ◌^◌, ◌<◌, ◌≤◌, ◌≢◌, IfOk, IfErr, IsTrue, IsErrOf, Ok, Some, None, false, List, [], ◌∷◌};
+ghost use Rattle.std.specs.Prelude.{◌≡◌, ◌*◌, ◌/◌, ◌%◌, ◌^◌, ◌<◌, ◌≤◌, ◌≢◌, IfOk, IfErr, IsTrue, IsErrOf, Ok, Some, None, false, true, List, [], ◌∷◌};
 ghost use Rattle.std.specs.IoError.{error_kind};
 ghost use Rattle.sector_disk.specs.SystemCalls.{answered};
-ghost use Rattle.sector_disk.specs.Opening.{fault_of, lock_fault, folder_fault, first_fault, len_after, taking_fault, is_file_synced, is_synced, fault_told, HasLen, IsResized, IsTaken, IsMade};
+ghost use Rattle.sector_disk.specs.Opening.{fault_of, lock_fault, folder_fault, first_fault, len_after, is_file_synced, is_synced, fault_told, opened_in, touched_in, with_opened, HasLen, IsResized, IsSameFile, IsTaken, IsNotTaken, IsMade, IsNotMade};
 
 use crate::file_calls::SECTOR;
 use crate::moving::write_some;
@@ -85,8 +85,10 @@ impl OpenedFile {
         requires no_fault { first_fault (answered noted.old) ≡ None }
         ensures unlocked { IfOk result (λ opened. opened.is_locked ≡ false) }
         ensures asked { IfOk result (λ _.
-            noted.new ≡ (SystemCall.Open None, []) ∷ noted.old) }
+            noted.new ≡ (SystemCall.Open is_made None, path.now) ∷ noted.old) }
         ensures told { first_fault (answered noted.new) ≡ fault_told result }
+        ensures touched { touched_in (answered noted.new)
+            ≡ with_opened is_made path.now (touched_in (answered noted.old)) }
     {
         let file = system::open(rt, path, is_made, noted)?;
         Ok(OpenedFile {
@@ -102,6 +104,7 @@ impl OpenedFile {
         ensures asked { IfOk result (λ _.
             noted.new ≡ (SystemCall.Lock None, []) ∷ noted.old) }
         ensures told { first_fault (answered noted.new) ≡ fault_told result }
+        ensures touched { touched_in (answered noted.new) ≡ touched_in (answered noted.old) }
     {
         if let Err(error) = system::lock(&self.file, noted) {
             return Err(lock_refusal(error));
@@ -120,8 +123,10 @@ impl OpenedFile {
         requires no_fault { first_fault (answered noted.old) ≡ None }
         ensures locked { IfOk result (λ opened. IsTrue opened.is_locked) }
         ensures asked { IfOk result (λ _. noted.new
-            ≡ (SystemCall.Lock None, []) ∷ (SystemCall.Open None, []) ∷ noted.old) }
+            ≡ (SystemCall.Lock None, []) ∷ (SystemCall.Open is_made None, path.now) ∷ noted.old) }
         ensures told { first_fault (answered noted.new) ≡ fault_told result }
+        ensures touched { touched_in (answered noted.new)
+            ≡ with_opened is_made path.now (touched_in (answered noted.old)) }
     {
         let mut opened = OpenedFile::open(rt, path, is_made, noted)?;
         opened.lock(noted)?;
@@ -132,8 +137,10 @@ impl OpenedFile {
     fn measure(&self, noted: &mut Record) -> Result<u64, OpeningFault>
         requires locked { IsTrue self.now.is_locked }
         requires no_fault { first_fault (answered noted.old) ≡ None }
+        ensures asked { IfOk result (λ len.
+            noted.new ≡ (SystemCall.Measure true len, []) ∷ noted.old) }
         ensures told { first_fault (answered noted.new) ≡ fault_told result }
-        ensures len { IfOk result (λ len. len_after (answered noted.new) ≡ Some len) }
+        ensures touched { touched_in (answered noted.new) ≡ touched_in (answered noted.old) }
     {
         let extent = system::measure(&self.file, noted)?;
         if !extent.is_file {
@@ -142,25 +149,12 @@ impl OpenedFile {
         Ok(extent.len)
     }
 
-    /// How many sectors the file has, if it is a plain file of whole sectors.
-    pub fn sectors(&self, noted: &mut Record) -> Result<u64, OpeningFault>
-        requires locked { IsTrue self.now.is_locked }
-        requires no_fault { first_fault (answered noted.old) ≡ None }
-        ensures offsets { IfOk result (λ n. 512 * n < 2 ^ 64) }
-        ensures taken { IfOk result (λ n. IsTaken noted.new (512 * n)) }
-        ensures refused { IfErr result (λ refusal.
-            taking_fault noted.new ≡ Some refusal.fault) }
-    {
-        let len = self.measure(noted)?;
-        Ok(sectors_of(len)?)
-    }
-
     /// Gives a plain file this length, and puts it on the disk. What is cut off is lost. What is new is written as zeros, so
     /// that a disk which has no room for it says so now.
     pub fn resize(&self, len: u64, noted: &mut Record) -> Result<(), OpeningFault>
         requires locked { IsTrue self.now.is_locked }
         requires no_fault { first_fault (answered noted.old) ≡ None }
-        ensures { IsResized result noted.new len }
+        ensures { IsResized result noted.old noted.new len }
     {
         let old = self.measure(noted)?;
         settle_len(&self.file, old, len, noted)
@@ -179,7 +173,7 @@ impl OpenedFile {
 // took.
 fn settle_len(file: &File, old: u64, len: u64, noted: &mut Record) -> Result<(), OpeningFault>
     requires long { HasLen noted.old old }
-    ensures { IsResized result noted.new len }
+    ensures { IsResized result noted.old noted.new len }
 {
     if len <= old {
         return shorten(file, len, noted);
@@ -194,7 +188,7 @@ fn settle_len(file: &File, old: u64, len: u64, noted: &mut Record) -> Result<(),
 // Gives a file this length, which is not above its own, and syncs it.
 fn shorten(file: &File, len: u64, noted: &mut Record) -> Result<(), OpeningFault>
     requires no_fault { first_fault (answered noted.old) ≡ None }
-    ensures { IsResized result noted.new len }
+    ensures { IsResized result noted.old noted.new len }
 {
     system::set_len(file, len, noted)?;
     system::sync_all(file, noted)?;
@@ -205,7 +199,7 @@ fn shorten(file: &File, len: u64, noted: &mut Record) -> Result<(), OpeningFault
 fn lengthen(file: &File, old: u64, len: u64, noted: &mut Record) -> Result<(), OpeningFault>
     requires longer { old < len }
     requires long { HasLen noted.old old }
-    ensures { IsResized result noted.new len }
+    ensures { IsResized result noted.old noted.new len }
 {
     write_zeros(file, old, len, noted)?;
     system::sync_all(file, noted)?;
@@ -218,6 +212,7 @@ fn write_zeros(file: &File, from: u64, to: u64, noted: &mut Record) -> Result<()
     requires long { HasLen noted.old from }
     ensures told { first_fault (answered noted.new) ≡ fault_told result }
     ensures len { IfOk result (λ _. len_after (answered noted.new) ≡ Some to) }
+    ensures opened { opened_in noted.new ≡ opened_in noted.old }
 {
     let mut at = from;
     while at < to {
@@ -246,13 +241,14 @@ pub fn take_file<R: Files<File = File>>(
     path: &str,
     noted: &mut Record,
 ) -> Result<(File, u64), OpeningFault>
-    requires no_fault { first_fault (answered noted.old) ≡ None }
+    requires first { noted.old ≡ [] }
     ensures offsets { IfOk result (λ taken. 512 * taken.1 < 2 ^ 64) }
-    ensures taken { IfOk result (λ taken. IsTaken noted.new (512 * taken.1)) }
-    ensures refused { IfErr result (λ refusal. taking_fault noted.new ≡ Some refusal.fault) }
+    ensures taken { IfOk result (λ taken. IsTaken path.now noted.new (512 * taken.1)) }
+    ensures refused { IfErr result (λ refusal. IsNotTaken path.now noted.new refusal.fault) }
 {
     let opened = OpenedFile::open_locked(rt, path, false, noted)?;
-    let sectors = opened.sectors(noted)?;
+    let len = opened.measure(noted)?;
+    let sectors = sectors_of(len)?;
     Ok((opened.into_file(), sectors))
 }
 
@@ -263,9 +259,9 @@ pub fn make_file<R: Files<File = File>>(
     len: u64,
     noted: &mut Record,
 ) -> Result<File, OpeningFault>
-    requires no_fault { first_fault (answered noted.old) ≡ None }
-    ensures made { IfOk result (λ _. IsMade noted.new len) }
-    ensures told { first_fault (answered noted.new) ≡ fault_told result }
+    requires first { noted.old ≡ [] }
+    ensures made { IfOk result (λ _. IsMade path.now noted.new len) }
+    ensures refused { IfErr result (λ refusal. IsNotMade path.now noted.new refusal.fault) }
 {
     let opened = OpenedFile::open_locked(rt, path, true, noted)?;
     opened.resize(len, noted)?;
@@ -282,7 +278,7 @@ fn sync_folder<R: Files<File = File>>(
     requires no_fault { first_fault (answered noted.old) ≡ None }
     requires synced { IsTrue (is_file_synced (answered noted.old)) }
     ensures told { first_fault (answered noted.new) ≡ fault_told result }
-    ensures len { len_after (answered noted.new) ≡ len_after (answered noted.old) }
+    ensures kept { IsSameFile noted.old noted.new }
     ensures synced { IfOk result (λ _. IsTrue (is_synced (answered noted.new))) }
 {
     let folder = match Path::new(path).parent() {

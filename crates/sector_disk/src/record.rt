@@ -5,7 +5,7 @@ use crate::system_call::SystemCall;
 use ghost_values::{Ghost, ListOf};
 use std::marker::Model;
 
-/// The calls made for a file, the newest first, each with the bytes that were read or written.
+/// The calls made for a file, the newest first, each with the bytes that were read or written, or with the path that was opened.
 #[derive(Drop)]
 pub struct Record {
     calls: Ghost<ListOf<(SystemCall, ListOf<u8>)>>,

@@ -35,7 +35,7 @@ pub fn open<R: Files<File = File>>(
     is_made: bool,
     noted: &mut Record,
 ) -> io::Result<File>
-    ensures { noted.new ≡ (SystemCall.Open (kind_in result), []) ∷ noted.old }
+    ensures { noted.new ≡ (SystemCall.Open is_made (kind_in result), path.now) ∷ noted.old }
 {
     let opened = OpenOptions::new()
         .read(true)
@@ -43,7 +43,7 @@ pub fn open<R: Files<File = File>>(
         .create(is_made)
         .open(rt, path);
     let failed = kind_of(&opened);
-    noted.note(&SystemCall::Open { failed }, &[]);
+    noted.note(&SystemCall::Open { is_made, failed }, path.as_bytes());
     opened
 }
 
@@ -204,11 +204,11 @@ pub fn open_folder<R: Files<File = File>>(
     path: &str,
     noted: &mut Record,
 ) -> io::Result<File>
-    ensures { noted.new ≡ (SystemCall.OpenFolder (kind_in result), []) ∷ noted.old }
+    ensures { noted.new ≡ (SystemCall.OpenFolder (kind_in result), path.now) ∷ noted.old }
 {
     let opened = File::open(rt, path);
     let failed = kind_of(&opened);
-    noted.note(&SystemCall::OpenFolder { failed }, &[]);
+    noted.note(&SystemCall::OpenFolder { failed }, path.as_bytes());
     opened
 }
 

@@ -5,4 +5,4 @@ use Rattle.sector_disk.proofs.file_device.FileDevice+S.create_or_cause.Goals as 
 
 pub returns-clause-not_too_long : goal.returns-clause-not_too_long
 returns-clause-not_too_long g c = λ short bad.
-    no_length (answered c.make_file.new.noted) c.in-Err.refusal.fault c.in-Err.ensures.told (sym c.new-in-Err.ensures.fault ∙ bad)
+    no_length (answered c.make_file.new.noted) c.in-Err.refusal.fault c.in-Err.ensures.refused.told (sym c.new-in-Err.ensures.fault ∙ bad)
