@@ -1,6 +1,7 @@
 -- What opening or making a file came to, by the calls that were made of the system.
-use Rattle.std.specs.Prelude.{◌≡◌, ℕ, ◌+◌, ◌%◌, max, Bool, true, false, ◌&&◌, List, [], ◌∷◌, drop, Option, Some, None, is_none, Result, Ok, Err, IfOk, if◌then◌else◌, ◌==◌, IsTrue}
+use Rattle.std.specs.Prelude.{◌≡◌, ℕ, ◌+◌, ◌%◌, max, Bool, true, false, ◌&&◌, List, [], ◌∷◌, drop, Option, Some, None, is_none, Result, Ok, Err, IfOk, if◌then◌else◌, ◌==◌, IsTrue, codes}
 use Rattle.std.specs.Option.{option_or, option_map}
+use Rattle.std.specs.Path.{path_parent}
 use Rattle.std.specs.declared.io.ErrorKind.{ErrorKind}
 use Rattle.std.specs.declared.io.ErrorKind.TheVariants as kind
 use Rattle.sector_disk.specs.declared.file_device.FileFault.{FileFault}
@@ -72,17 +73,27 @@ abbrev pub len_fault : Option ℕ → Option FileFault
 len_fault None = None
 len_fault (Some len) = if len % 512 == 0 then None else Some faults.BadLength
 
--- What calls did to files: which they opened, by their paths, the newest first, each with whether it was to be made where there is none; and
--- whether they cut, wrote or synced one, or a folder.
+-- What calls opened, by the paths, the newest first: files, each with whether it was to be made where there is none; and folders.
+pub record Opened : Type 0 where
+  pub files : List (Bool × List ℕ)
+  pub folders : List (List ℕ)
+
+-- What calls did to files: which they opened, and whether they cut, wrote or synced one, or a folder.
 pub record Touched : Type 0 where
-  pub opened : List (Bool × List ℕ)
+  pub opened : Opened
   pub is_changed : Bool
 
 abbrev pub untouched : Touched
-untouched = record { opened = []; is_changed = false }
+untouched = record { opened = record { files = []; folders = [] }; is_changed = false }
+
+abbrev pub with_file : Bool → List ℕ → Opened → Opened
+with_file is_made path before = record { files = (is_made, path) ∷ before.files; folders = before.folders }
+
+abbrev pub with_folder : List ℕ → Opened → Opened
+with_folder path before = record { files = before.files; folders = path ∷ before.folders }
 
 abbrev pub with_opened : Bool → List ℕ → Touched → Touched
-with_opened is_made path before = record { opened = (is_made, path) ∷ before.opened; is_changed = before.is_changed }
+with_opened is_made path before = record { opened = with_file is_made path before.opened; is_changed = before.is_changed }
 
 abbrev pub with_change : Touched → Touched
 with_change before = record { opened = before.opened; is_changed = true }
@@ -94,15 +105,24 @@ touched_by (Measure is_file len) bytes before = before
 touched_by (MeasureFailed kind) bytes before = before
 touched_by (ReadAt offset moved) bytes before = before
 touched_by (ReadAtFailed offset kind) bytes before = before
+touched_by (OpenFolder failed) path before = record { opened = with_folder path before.opened; is_changed = true }
 touched_by _ bytes before = with_change before
 
 abbrev pub touched_in : List Noted → Touched
 touched_in [] = untouched
 touched_in (call ∷ earlier) = touched_by call.0 call.1 (touched_in earlier)
 
--- the files that were opened
-abbrev pub opened_in : List Noted → List (Bool × List ℕ)
+abbrev pub opened_in : List Noted → Opened
 opened_in calls = (touched_in (answered calls)).opened
+
+-- the folder of the file at a path: what stands before its name, or where the program runs
+abbrev pub folder_or_here : Option (List ℕ) → List ℕ
+folder_or_here None = codes "."
+folder_or_here (Some []) = codes "."
+folder_or_here (Some (byte ∷ bytes)) = byte ∷ bytes
+
+abbrev pub folder_of : List ℕ → List ℕ
+folder_of path = folder_or_here (path_parent path)
 
 -- a file that is taken as it is: its calls' first fault, else that of its length
 abbrev pub taking_fault : List Noted → Option FileFault
@@ -146,11 +166,6 @@ pub record IsResized {T : Type 0} (result : Result T OpeningFault) (earlier call
   pub synced : IfOk result (λ done. IsTrue (is_file_synced (answered calls)))
   pub opened : opened_in calls ≡ opened_in earlier
 
--- a step left the file's length, and opened no other
-pub record IsSameFile (earlier calls : List Noted) : Type 0 where
-  pub length : len_after (answered calls) ≡ len_after (answered earlier)
-  pub opened : opened_in calls ≡ opened_in earlier
-
 -- ---- of the file at a path
 
 -- the calls that open it where it stands, take its lock and measure it, the newest first
@@ -171,11 +186,11 @@ pub record IsNotTaken (path : List ℕ) (calls : List Noted) (fault : FileFault)
 -- It was opened, and made where there was none, and no other. It was given this length, and then it and its folder were synced.
 pub record IsMade (path : List ℕ) (calls : List Noted) (len : ℕ) : Type 0 where
   pub no_fault : first_fault (answered calls) ≡ None
-  pub opened : opened_in calls ≡ (true, path) ∷ []
+  pub opened : opened_in calls ≡ record { files = (true, path) ∷ []; folders = folder_of path ∷ [] }
   pub length : len_after (answered calls) ≡ Some len
   pub synced : IsTrue (is_synced (answered calls))
 
 -- It was not made, for the fault that the calls tell. They opened it, and no other file.
 pub record IsNotMade (path : List ℕ) (calls : List Noted) (fault : FileFault) : Type 0 where
   pub told : first_fault (answered calls) ≡ Some fault
-  pub opened : opened_in calls ≡ (true, path) ∷ []
+  pub files : (opened_in calls).files ≡ (true, path) ∷ []

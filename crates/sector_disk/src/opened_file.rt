@@ -6,7 +6,7 @@
 ghost use Rattle.std.specs.Prelude.{◌≡◌, ◌*◌, ◌/◌, ◌%◌, ◌^◌, ◌<◌, ◌≤◌, ◌≢◌, IfOk, IfErr, IsTrue, IsErrOf, Ok, Some, None, false, true, List, [], ◌∷◌};
 ghost use Rattle.std.specs.IoError.{error_kind};
 ghost use Rattle.sector_disk.specs.SystemCalls.{answered};
-ghost use Rattle.sector_disk.specs.Opening.{fault_of, lock_fault, folder_fault, first_fault, len_after, is_file_synced, is_synced, fault_told, opened_in, touched_in, with_opened, HasLen, IsResized, IsSameFile, IsTaken, IsNotTaken, IsMade, IsNotMade};
+ghost use Rattle.sector_disk.specs.Opening.{fault_of, lock_fault, folder_fault, first_fault, len_after, is_file_synced, is_synced, fault_told, folder_of, folder_or_here, opened_in, touched_in, with_folder, with_opened, HasLen, IsResized, IsTaken, IsNotTaken, IsMade, IsNotMade};
 
 use crate::file_calls::SECTOR;
 use crate::moving::write_some;
@@ -278,18 +278,31 @@ fn sync_folder<R: Files<File = File>>(
     requires no_fault { first_fault (answered noted.old) ≡ None }
     requires synced { IsTrue (is_file_synced (answered noted.old)) }
     ensures told { first_fault (answered noted.new) ≡ fault_told result }
-    ensures kept { IsSameFile noted.old noted.new }
+    ensures len { len_after (answered noted.new) ≡ len_after (answered noted.old) }
+    ensures opened { opened_in noted.new ≡ with_folder (folder_of path.now) (opened_in noted.old) }
     ensures synced { IfOk result (λ _. IsTrue (is_synced (answered noted.new))) }
 {
-    let folder = match Path::new(path).parent() {
-        Some(parent) if !parent.as_str().is_empty() => parent.as_str(),
-        _ => ".",
-    };
-    let folder = system::open_folder(rt, folder, noted)?;
+    let folder = system::open_folder(rt, folder_of(path), noted)?;
     match system::sync_folder(&folder, noted) {
         Ok(()) => Ok(()),
         Err(error) => folder_answer(error),
     }
+}
+
+// The folder of the file at a path.
+fn folder_of(path: &str) -> &str
+    ensures { result.now ≡ folder_of path.now }
+{
+    match Path::new(path).parent() {
+        Some(parent) => folder_or_here(parent.as_str()),
+        None => ".",
+    }
+}
+
+fn folder_or_here(folder: &str) -> &str
+    ensures { result.now ≡ folder_or_here (Some folder.now) }
+{
+    if folder.is_empty() { "." } else { folder }
 }
 
 // A folder that is not synced. Some file systems have no sync of a folder.
