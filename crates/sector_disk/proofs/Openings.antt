@@ -8,25 +8,28 @@ use Rattle.sector_disk.specs.declared.file_device.FileFault.TheVariants as fault
 use Rattle.sector_disk.specs.declared.system_call.SystemCall.{SystemCall}
 use Rattle.sector_disk.specs.declared.system_call.SystemCall.TheVariants.{Open, Lock, Measure, MeasureFailed, SetLen, ReadAt, ReadAtFailed, WriteAt, WriteAtFailed, SyncData, SyncAll, OpenFolder, SyncFolder}
 use Rattle.sector_disk.specs.SystemCalls.{Noted, is_memory}
-use Rattle.sector_disk.specs.Opening.{fault_of, is_in_use, is_not_offered, lock_fault, folder_fault, fault_in, first_fault}
+use Rattle.sector_disk.specs.Opening.{Failure, fault_of, failure_in, failure_of, first_failure, folder_failure, is_in_use, is_not_offered, lock_failure, unsaid}
 
-abbrev is_length : Option FileFault → Bool
+abbrev is_length_fault : FileFault → Bool
+is_length_fault faults.NoFile = false
+is_length_fault faults.BadLength = true
+is_length_fault faults.OutOfMemory = false
+is_length_fault faults.InUse = false
+
+abbrev is_length : Option Failure → Bool
 is_length None = false
-is_length (Some faults.NoFile) = false
-is_length (Some faults.BadLength) = true
-is_length (Some faults.OutOfMemory) = false
-is_length (Some faults.InUse) = false
+is_length (Some failure) = is_length_fault failure.fault
 
-of_kind : (kind : ErrorKind) → is_length (Some (fault_of kind)) ≡ false
-of_kind kind = cond_both (is_memory kind) faults.OutOfMemory faults.NoFile (λ fault. is_length (Some fault) ≡ false) (λ _. refl) (λ _. refl)
+of_kind : (kind : ErrorKind) → is_length_fault (fault_of kind) ≡ false
+of_kind kind = cond_both (is_memory kind) faults.OutOfMemory faults.NoFile (λ fault. is_length_fault fault ≡ false) (λ _. refl) (λ _. refl)
 
-of_lock : (kind : ErrorKind) → is_length (Some (lock_fault kind)) ≡ false
-of_lock kind = cond_both (is_in_use kind) faults.InUse (fault_of kind) (λ fault. is_length (Some fault) ≡ false) (λ _. refl) (λ _. of_kind kind)
+of_lock : (kind : ErrorKind) → is_length (Some (lock_failure kind)) ≡ false
+of_lock kind = cond_both (is_in_use kind) (unsaid faults.InUse) (failure_of kind) (λ failure. is_length (Some failure) ≡ false) (λ _. refl) (λ _. of_kind kind)
 
-of_folder : (kind : ErrorKind) → is_length (folder_fault kind) ≡ false
-of_folder kind = cond_both (is_not_offered kind) None (Some (fault_of kind)) (λ fault. is_length fault ≡ false) (λ _. refl) (λ _. of_kind kind)
+of_folder : (kind : ErrorKind) → is_length (folder_failure kind) ≡ false
+of_folder kind = cond_both (is_not_offered kind) None (Some (failure_of kind)) (λ failure. is_length failure ≡ false) (λ _. refl) (λ _. of_kind kind)
 
-of_call : (call : SystemCall) → is_length (fault_in call) ≡ false
+of_call : (call : SystemCall) → is_length (failure_in call) ≡ false
 of_call (Open is_made None) = refl
 of_call (Open is_made (Some kind)) = of_kind kind
 of_call (Lock None) = refl
@@ -48,13 +51,13 @@ of_call (OpenFolder (Some kind)) = of_kind kind
 of_call (SyncFolder None) = refl
 of_call (SyncFolder (Some kind)) = of_folder kind
 
-of_either : (a b : Option FileFault) → is_length a ≡ false → is_length b ≡ false → is_length (option_or a b) ≡ false
+of_either : (a b : Option Failure) → is_length a ≡ false → is_length b ≡ false → is_length (option_or a b) ≡ false
 of_either None b x y = y
-of_either (Some fault) b x y = x
+of_either (Some failure) b x y = x
 
-of_calls : (calls : List Noted) → is_length (first_fault calls) ≡ false
+of_calls : (calls : List Noted) → is_length (first_failure calls) ≡ false
 of_calls [] = refl
-of_calls (call ∷ earlier) = of_either (first_fault earlier) (fault_in call.0) (of_calls earlier) (of_call call.0)
+of_calls (call ∷ earlier) = of_either (first_failure earlier) (failure_in call.0) (of_calls earlier) (of_call call.0)
 
-pub no_length : (calls : List Noted) (fault : FileFault) → first_fault calls ≡ Some fault → fault ≡ faults.BadLength → ⊥
-no_length calls fault told bad = false≢true (sym (of_calls calls) ∙ ap is_length (told ∙ ap Some bad))
+pub no_length : (calls : List Noted) (failure : Failure) → first_failure calls ≡ Some failure → failure.fault ≡ faults.BadLength → ⊥
+no_length calls failure told bad = false≢true (sym (of_calls calls) ∙ ap is_length told ∙ ap is_length_fault bad)

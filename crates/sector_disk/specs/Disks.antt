@@ -10,7 +10,7 @@ use Rattle.sector_disk.specs.declared.file_device.FileRefusal.{FileRefusal}
 use Rattle.sector_disk.specs.declared.start.Start as starts
 use Rattle.sector_disk.specs.FileDevice.{IsUnused, calls_of_refusal, device_len, opening}
 use Rattle.sector_disk.specs.FileRecord.{Entry}
-use Rattle.sector_disk.specs.Opening.{IsMade, IsNotMade, IsNotTaken, IsTaken}
+use Rattle.sector_disk.specs.Opening.{IsMade, IsNotMade, IsNotTaken, IsTaken, failure_by}
 
 -- what was asked, with the path
 abbrev pub DiskEntry : Type 0
@@ -48,7 +48,7 @@ module _ {S : Type 0} {start : starts.Ghosts S} {g : calls.Ghosts HostFile} wher
     pub made : IsMade path (opening device.file) (512 * device_len device)
 
 abbrev pub IsNotTakenAt : List ℕ → FileRefusal → Type 0
-IsNotTakenAt path refusal = IsNotTaken path (calls_of_refusal refusal) refusal.fault
+IsNotTakenAt path refusal = IsNotTaken path (calls_of_refusal refusal) (failure_by refusal.fault refusal.cause)
 
 abbrev pub IsNotMadeAt : List ℕ → FileRefusal → Type 0
-IsNotMadeAt path refusal = IsNotMade path (calls_of_refusal refusal) refusal.fault
+IsNotMadeAt path refusal = IsNotMade path (calls_of_refusal refusal) (failure_by refusal.fault refusal.cause)

@@ -2,6 +2,8 @@
 use Rattle.std.specs.Prelude.{◌≡◌, ℕ, ◌+◌, ◌%◌, max, Bool, true, false, ◌&&◌, List, [], ◌∷◌, drop, Option, Some, None, is_none, Result, Ok, Err, IfOk, if◌then◌else◌, ◌==◌, IsTrue, codes}
 use Rattle.std.specs.Option.{option_or, option_map}
 use Rattle.std.specs.Path.{path_parent}
+use Rattle.std.specs.IoError.{error_kind}
+use Rattle.std.specs.declared.io.Error.{Error}
 use Rattle.std.specs.declared.io.ErrorKind.{ErrorKind}
 use Rattle.std.specs.declared.io.ErrorKind.TheVariants as kind
 use Rattle.sector_disk.specs.declared.file_device.FileFault.{FileFault}
@@ -23,35 +25,50 @@ abbrev pub is_not_offered : ErrorKind → Bool
 is_not_offered kind.InvalidInput = true
 is_not_offered _ = false
 
+-- a fault, and what the system said, if it is told with it
+pub record Failure : Type 0 where
+  pub fault : FileFault
+  pub cause : Option ErrorKind
+
+abbrev pub failure_of : ErrorKind → Failure
+failure_of kind = record { fault = fault_of kind; cause = Some kind }
+
+-- a fault with the error that is told with it
+abbrev pub failure_by : FileFault → Option Error → Failure
+failure_by fault cause = record { fault = fault; cause = option_map error_kind cause }
+
+abbrev pub unsaid : FileFault → Failure
+unsaid fault = record { fault = fault; cause = None }
+
 -- a lock that is refused: another has it, or as any other failure
-abbrev pub lock_fault : ErrorKind → FileFault
-lock_fault kind = if is_in_use kind then faults.InUse else fault_of kind
+abbrev pub lock_failure : ErrorKind → Failure
+lock_failure kind = if is_in_use kind then unsaid faults.InUse else failure_of kind
 
 -- a folder's sync: some file systems have none, and say that it was asked wrongly
-abbrev pub folder_fault : ErrorKind → Option FileFault
-folder_fault kind = if is_not_offered kind then None else Some (fault_of kind)
+abbrev pub folder_failure : ErrorKind → Option Failure
+folder_failure kind = if is_not_offered kind then None else Some (failure_of kind)
 
-abbrev pub folder_fault_in : Option ErrorKind → Option FileFault
-folder_fault_in None = None
-folder_fault_in (Some kind) = folder_fault kind
+abbrev pub folder_failure_in : Option ErrorKind → Option Failure
+folder_failure_in None = None
+folder_failure_in (Some kind) = folder_failure kind
 
--- the fault that a call comes to, none where it did what was asked
-abbrev pub fault_in : SystemCall → Option FileFault
-fault_in (Open is_made failed) = option_map fault_of failed
-fault_in (Lock failed) = option_map lock_fault failed
-fault_in (Measure is_file len) = if is_file then None else Some faults.NoFile
-fault_in (MeasureFailed kind) = Some (fault_of kind)
-fault_in (SetLen len failed) = option_map fault_of failed
-fault_in (WriteAtFailed offset kind) = Some (fault_of kind)
-fault_in (SyncAll failed) = option_map fault_of failed
-fault_in (OpenFolder failed) = option_map fault_of failed
-fault_in (SyncFolder failed) = folder_fault_in failed
-fault_in _ = None
+-- the failure that a call comes to, none where it did what was asked
+abbrev pub failure_in : SystemCall → Option Failure
+failure_in (Open is_made failed) = option_map failure_of failed
+failure_in (Lock failed) = option_map lock_failure failed
+failure_in (Measure is_file len) = if is_file then None else Some (unsaid faults.NoFile)
+failure_in (MeasureFailed kind) = Some (failure_of kind)
+failure_in (SetLen len failed) = option_map failure_of failed
+failure_in (WriteAtFailed offset kind) = Some (failure_of kind)
+failure_in (SyncAll failed) = option_map failure_of failed
+failure_in (OpenFolder failed) = option_map failure_of failed
+failure_in (SyncFolder failed) = folder_failure_in failed
+failure_in _ = None
 
--- the fault of the first call that came to one
-abbrev pub first_fault : List Noted → Option FileFault
-first_fault [] = None
-first_fault (call ∷ earlier) = option_or (first_fault earlier) (fault_in call.0)
+-- that of the first call that came to one
+abbrev pub first_failure : List Noted → Option Failure
+first_failure [] = None
+first_failure (call ∷ earlier) = option_or (first_failure earlier) (failure_in call.0)
 
 abbrev pub len_if : Option ErrorKind → ℕ → Option ℕ → Option ℕ
 len_if None len before = Some len
@@ -69,9 +86,9 @@ len_after [] = None
 len_after (call ∷ earlier) = len_by call.0 (len_after earlier)
 
 -- the length is no whole number of sectors
-abbrev pub len_fault : Option ℕ → Option FileFault
-len_fault None = None
-len_fault (Some len) = if len % 512 == 0 then None else Some faults.BadLength
+abbrev pub len_failure : Option ℕ → Option Failure
+len_failure None = None
+len_failure (Some len) = if len % 512 == 0 then None else Some (unsaid faults.BadLength)
 
 -- What calls opened, by the paths, the newest first: files, each with whether it was to be made where there is none; and folders.
 pub record Opened : Type 0 where
@@ -124,9 +141,9 @@ folder_or_here (Some (byte ∷ bytes)) = byte ∷ bytes
 abbrev pub folder_of : List ℕ → List ℕ
 folder_of path = folder_or_here (path_parent path)
 
--- a file that is taken as it is: its calls' first fault, else that of its length
-abbrev pub taking_fault : List Noted → Option FileFault
-taking_fault calls = option_or (first_fault (answered calls)) (len_fault (len_after (answered calls)))
+-- a file that is taken as it is: its calls' first failure, else that of its length
+abbrev pub taking_failure : List Noted → Option Failure
+taking_failure calls = option_or (first_failure (answered calls)) (len_failure (len_after (answered calls)))
 
 abbrev pub is_file_sync : SystemCall → Bool
 is_file_sync (SyncAll failed) = is_none failed
@@ -149,19 +166,19 @@ is_file_synced (call ∷ earlier) = is_file_sync call.0
 abbrev pub is_synced : List Noted → Bool
 is_synced calls = is_file_synced (drop 2 calls) && is_folder_synced calls
 
--- what a step of an opening told: its fault
-abbrev pub fault_told : {T : Type 0} → Result T OpeningFault → Option FileFault
-fault_told (Ok _) = None
-fault_told (Err refusal) = Some refusal.fault
+-- what a step of an opening told: its failure
+abbrev pub failure_told : {T : Type 0} → Result T OpeningFault → Option Failure
+failure_told (Ok _) = None
+failure_told (Err refusal) = Some (failure_by refusal.fault refusal.cause)
 
--- the calls so far came to no fault, and the file has this length
+-- the calls so far came to no failure, and the file has this length
 pub record HasLen (calls : List Noted) (len : ℕ) : Type 0 where
-  pub no_fault : first_fault (answered calls) ≡ None
+  pub no_fault : first_failure (answered calls) ≡ None
   pub length : len_after (answered calls) ≡ Some len
 
 -- A step was to give the file this length and to sync it: it told the fault, or the file is so. It opened no other.
 pub record IsResized {T : Type 0} (result : Result T OpeningFault) (earlier calls : List Noted) (len : ℕ) : Type 0 where
-  pub told : first_fault (answered calls) ≡ fault_told result
+  pub told : first_failure (answered calls) ≡ failure_told result
   pub length : IfOk result (λ done. len_after (answered calls) ≡ Some len)
   pub synced : IfOk result (λ done. IsTrue (is_file_synced (answered calls)))
   pub opened : opened_in calls ≡ opened_in earlier
@@ -175,22 +192,22 @@ taking_calls path len = (Measure true len, []) ∷ (Lock None, []) ∷ (Open fal
 -- These calls were made and no others, so nothing was made, cut or written. The file has this length, which is one of whole sectors.
 pub record IsTaken (path : List ℕ) (calls : List Noted) (len : ℕ) : Type 0 where
   pub only : calls ≡ taking_calls path len
-  pub no_fault : taking_fault calls ≡ None
+  pub no_fault : taking_failure calls ≡ None
   pub length : len_after (answered calls) ≡ Some len
 
--- It was not opened, for the fault that the calls tell. They opened it where it stands and no other, and made, cut or wrote nothing.
-pub record IsNotTaken (path : List ℕ) (calls : List Noted) (fault : FileFault) : Type 0 where
-  pub told : taking_fault calls ≡ Some fault
+-- It was not opened, for the failure that the calls tell. They opened it where it stands and no other, and made, cut or wrote nothing.
+pub record IsNotTaken (path : List ℕ) (calls : List Noted) (failure : Failure) : Type 0 where
+  pub told : taking_failure calls ≡ Some failure
   pub touched : touched_in (answered calls) ≡ with_opened false path untouched
 
 -- It was opened, and made where there was none, and no other. It was given this length, and then it and its folder were synced.
 pub record IsMade (path : List ℕ) (calls : List Noted) (len : ℕ) : Type 0 where
-  pub no_fault : first_fault (answered calls) ≡ None
+  pub no_fault : first_failure (answered calls) ≡ None
   pub opened : opened_in calls ≡ record { files = (true, path) ∷ []; folders = folder_of path ∷ [] }
   pub length : len_after (answered calls) ≡ Some len
   pub synced : IsTrue (is_synced (answered calls))
 
--- It was not made, for the fault that the calls tell. They opened it, and no other file.
-pub record IsNotMade (path : List ℕ) (calls : List Noted) (fault : FileFault) : Type 0 where
-  pub told : first_fault (answered calls) ≡ Some fault
+-- It was not made, for the failure that the calls tell. They opened it, and no other file.
+pub record IsNotMade (path : List ℕ) (calls : List Noted) (failure : Failure) : Type 0 where
+  pub told : first_failure (answered calls) ≡ Some failure
   pub files : (opened_in calls).files ≡ (true, path) ∷ []

@@ -8,10 +8,11 @@
 //! - A device holds its file's lock until it is dropped (`opened_file`), so that two never share a file.
 //! - `create` syncs the file's folder too, so that a new file outlasts a power cut; where the system has no sync for a
 //!   folder, it goes on. It does not claim that what it gives is settled.
-//! - What the system said of a failed call is kept for whoever tells it (`cause`); no clause speaks of it.
+//! - What the system said of a failed call is kept for whoever tells it (`cause`). Of a call of a device no clause speaks of it; of
+//!   an opening it is what the first call that failed said.
 ghost use Rattle.std.specs.Prelude.{◌≡◌, ◌+◌, ◌-◌, ◌*◌, ◌%◌, ◌^◌, ◌<◌, ◌≤◌, ◌↔◌, [], List, ℕ, length, take, drop, OnOk, OnErr, IfOk, IfErr, IsErr, IsErrAnd, IsErrOf, IsTrue, min, ◌≢◌, MatchResult, Some};
 ghost use Rattle.sector_disk.specs.FileRecord.{all_inside};
-ghost use Rattle.sector_disk.specs.Opening.{IsTaken, IsNotTaken, IsMade, IsNotMade};
+ghost use Rattle.sector_disk.specs.Opening.{failure_by, IsTaken, IsNotTaken, IsMade, IsNotMade};
 
 use crate::file_calls::{FileCalls, HostFile, SECTOR};
 use crate::opened_file::{OpeningFault, make_file, take_file};
@@ -50,6 +51,7 @@ impl FileRefusal {
     // With the calls that were made.
     fn new(refusal: OpeningFault, noted: Record) -> FileRefusal
         ensures fault { result.fault ≡ refusal.fault }
+        ensures cause { result.cause ≡ refusal.cause }
         ensures noted { result.noted ≡ noted }
     {
         FileRefusal {
@@ -154,7 +156,8 @@ impl<S: Start> FileDevice<S> {
         ensures told { MatchResult result
             (λ device. IsMade path.now (opening device.file) (512 * sectors))
             (λ refusal. sectors < 2 ^ 54
-            → IsNotMade path.now (calls_of_refusal refusal) refusal.fault) }
+            → IsNotMade path.now (calls_of_refusal refusal)
+            (failure_by refusal.fault refusal.cause)) }
     {
         let mut noted = Record::new();
         if sectors > MAX_SECTORS {
@@ -192,7 +195,8 @@ impl<S: Start> FileDevice<S> {
         ensures unused { IfOk result (IsUnused ⟦<HostFile as FileCalls>⟧.entries) }
         ensures told { MatchResult result
             (λ device. IsTaken path.now (opening device.file) (512 * device_len device))
-            (λ refusal. IsNotTaken path.now (calls_of_refusal refusal) refusal.fault) }
+            (λ refusal. IsNotTaken path.now (calls_of_refusal refusal)
+            (failure_by refusal.fault refusal.cause)) }
     {
         let mut noted = Record::new();
         match take_file(rt, path, &mut noted) {

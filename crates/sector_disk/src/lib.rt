@@ -33,9 +33,10 @@
 //! - A file's write is finished only where the bytes that its calls moved are all of them, in order; an interrupted call is made
 //!   again; a failed sync stays one whatever comes behind it (`FileCalls` for `HostFile`).
 //! - The lock of a file is taken before its length is looked at or set. What is answered of an opening is what its calls came
-//!   to: each fault, and the length that the device has; and they opened the file at that path and no other (`told` of
-//!   `at_or_cause` and `create_or_cause`). Of a file that was opened where it stands these are the opening, the lock and the
-//!   measure alone (`IsTaken`), so that nothing was made, cut or written; so of one that was not (`IsNotTaken`).
+//!   to: each fault, with what the system said, and the length that the device has; and they opened the file at that path and
+//!   no other (`told` of `at_or_cause` and `create_or_cause`). Of a file that was opened where it stands these are the opening,
+//!   the lock and the measure alone (`IsTaken`), so that nothing was made, cut or written; so of one that was not
+//!   (`IsNotTaken`).
 //! - `HostDisks` tells which files it was asked for (`noted` of `take` and `make`).
 //!
 //! Trusted, since no proof shows it: that each function of `system` makes the one call that it notes, that the system keeps a

@@ -6,7 +6,7 @@
 ghost use Rattle.std.specs.Prelude.{◌≡◌, ◌*◌, ◌/◌, ◌%◌, ◌^◌, ◌<◌, ◌≤◌, ◌≢◌, IfOk, IfErr, IsTrue, IsErrOf, Ok, Some, None, false, true, List, [], ◌∷◌};
 ghost use Rattle.std.specs.IoError.{error_kind};
 ghost use Rattle.sector_disk.specs.SystemCalls.{answered};
-ghost use Rattle.sector_disk.specs.Opening.{fault_of, lock_fault, folder_fault, first_fault, len_after, is_file_synced, is_synced, fault_told, folder_of, folder_or_here, opened_in, touched_in, with_folder, with_opened, HasLen, IsResized, IsTaken, IsNotTaken, IsMade, IsNotMade};
+ghost use Rattle.sector_disk.specs.Opening.{lock_failure, folder_failure, failure_by, failure_told, first_failure, len_after, is_file_synced, is_synced, folder_of, folder_or_here, opened_in, touched_in, with_folder, with_opened, HasLen, IsResized, IsTaken, IsNotTaken, IsMade, IsNotMade};
 
 use crate::file_calls::SECTOR;
 use crate::moving::write_some;
@@ -29,9 +29,9 @@ pub struct OpeningFault {
 }
 
 impl From<FileFault> for OpeningFault {
-    ghost use Rattle.std.specs.Prelude.{◌≡◌};
+    ghost use Rattle.std.specs.Prelude.{◌≡◌, None};
 
-    ghost from_gives = { λ fault refusal. refusal.fault ≡ fault };
+    ghost from_gives = { λ fault refusal. (refusal.fault ≡ fault) × (refusal.cause ≡ None) };
 
     fn from(fault: FileFault) -> OpeningFault {
         OpeningFault { fault, cause: None }
@@ -39,11 +39,12 @@ impl From<FileFault> for OpeningFault {
 }
 
 impl From<io::Error> for OpeningFault {
-    ghost use Rattle.std.specs.Prelude.{◌≡◌};
+    ghost use Rattle.std.specs.Prelude.{◌≡◌, Some};
     ghost use Rattle.std.specs.IoError.{error_kind};
     ghost use Rattle.sector_disk.specs.Opening.{fault_of};
 
-    ghost from_gives = { λ error refusal. refusal.fault ≡ fault_of (error_kind error) };
+    ghost from_gives = { λ error refusal. (refusal.fault ≡ fault_of (error_kind error))
+        × (refusal.cause ≡ Some error) };
 
     fn from(error: io::Error) -> OpeningFault {
         let fault = match error.kind() {
@@ -59,7 +60,7 @@ impl From<io::Error> for OpeningFault {
 
 // A lock that is refused.
 fn lock_refusal(error: io::Error) -> OpeningFault
-    ensures { result.fault ≡ lock_fault (error_kind error) }
+    ensures { failure_by result.fault result.cause ≡ lock_failure (error_kind error) }
 {
     match error.kind() {
         ErrorKind::WouldBlock => OpeningFault::from(FileFault::InUse),
@@ -82,11 +83,11 @@ impl OpenedFile {
         is_made: bool,
         noted: &mut Record,
     ) -> Result<OpenedFile, OpeningFault>
-        requires no_fault { first_fault (answered noted.old) ≡ None }
+        requires no_fault { first_failure (answered noted.old) ≡ None }
         ensures unlocked { IfOk result (λ opened. opened.is_locked ≡ false) }
         ensures asked { IfOk result (λ _.
             noted.new ≡ (SystemCall.Open is_made None, path.now) ∷ noted.old) }
-        ensures told { first_fault (answered noted.new) ≡ fault_told result }
+        ensures told { first_failure (answered noted.new) ≡ failure_told result }
         ensures touched { touched_in (answered noted.new)
             ≡ with_opened is_made path.now (touched_in (answered noted.old)) }
     {
@@ -99,11 +100,11 @@ impl OpenedFile {
 
     // Takes the lock, which another process may have.
     fn lock(&mut self, noted: &mut Record) -> Result<(), OpeningFault>
-        requires no_fault { first_fault (answered noted.old) ≡ None }
+        requires no_fault { first_failure (answered noted.old) ≡ None }
         ensures locked { IfOk result (λ _. IsTrue self.new.is_locked) }
         ensures asked { IfOk result (λ _.
             noted.new ≡ (SystemCall.Lock None, []) ∷ noted.old) }
-        ensures told { first_fault (answered noted.new) ≡ fault_told result }
+        ensures told { first_failure (answered noted.new) ≡ failure_told result }
         ensures touched { touched_in (answered noted.new) ≡ touched_in (answered noted.old) }
     {
         if let Err(error) = system::lock(&self.file, noted) {
@@ -120,11 +121,11 @@ impl OpenedFile {
         is_made: bool,
         noted: &mut Record,
     ) -> Result<OpenedFile, OpeningFault>
-        requires no_fault { first_fault (answered noted.old) ≡ None }
+        requires no_fault { first_failure (answered noted.old) ≡ None }
         ensures locked { IfOk result (λ opened. IsTrue opened.is_locked) }
         ensures asked { IfOk result (λ _. noted.new
             ≡ (SystemCall.Lock None, []) ∷ (SystemCall.Open is_made None, path.now) ∷ noted.old) }
-        ensures told { first_fault (answered noted.new) ≡ fault_told result }
+        ensures told { first_failure (answered noted.new) ≡ failure_told result }
         ensures touched { touched_in (answered noted.new)
             ≡ with_opened is_made path.now (touched_in (answered noted.old)) }
     {
@@ -136,10 +137,10 @@ impl OpenedFile {
     // The length of the file, if it is a plain one.
     fn measure(&self, noted: &mut Record) -> Result<u64, OpeningFault>
         requires locked { IsTrue self.now.is_locked }
-        requires no_fault { first_fault (answered noted.old) ≡ None }
+        requires no_fault { first_failure (answered noted.old) ≡ None }
         ensures asked { IfOk result (λ len.
             noted.new ≡ (SystemCall.Measure true len, []) ∷ noted.old) }
-        ensures told { first_fault (answered noted.new) ≡ fault_told result }
+        ensures told { first_failure (answered noted.new) ≡ failure_told result }
         ensures touched { touched_in (answered noted.new) ≡ touched_in (answered noted.old) }
     {
         let extent = system::measure(&self.file, noted)?;
@@ -153,7 +154,7 @@ impl OpenedFile {
     /// that a disk which has no room for it says so now.
     pub fn resize(&self, len: u64, noted: &mut Record) -> Result<(), OpeningFault>
         requires locked { IsTrue self.now.is_locked }
-        requires no_fault { first_fault (answered noted.old) ≡ None }
+        requires no_fault { first_failure (answered noted.old) ≡ None }
         ensures { IsResized result noted.old noted.new len }
     {
         let old = self.measure(noted)?;
@@ -187,7 +188,7 @@ fn settle_len(file: &File, old: u64, len: u64, noted: &mut Record) -> Result<(),
 
 // Gives a file this length, which is not above its own, and syncs it.
 fn shorten(file: &File, len: u64, noted: &mut Record) -> Result<(), OpeningFault>
-    requires no_fault { first_fault (answered noted.old) ≡ None }
+    requires no_fault { first_failure (answered noted.old) ≡ None }
     ensures { IsResized result noted.old noted.new len }
 {
     system::set_len(file, len, noted)?;
@@ -210,7 +211,7 @@ fn lengthen(file: &File, old: u64, len: u64, noted: &mut Record) -> Result<(), O
 fn write_zeros(file: &File, from: u64, to: u64, noted: &mut Record) -> Result<(), OpeningFault>
     requires longer { from ≤ to }
     requires long { HasLen noted.old from }
-    ensures told { first_fault (answered noted.new) ≡ fault_told result }
+    ensures told { first_failure (answered noted.new) ≡ failure_told result }
     ensures len { IfOk result (λ _. len_after (answered noted.new) ≡ Some to) }
     ensures opened { opened_in noted.new ≡ opened_in noted.old }
 {
@@ -244,7 +245,8 @@ pub fn take_file<R: Files<File = File>>(
     requires first { noted.old ≡ [] }
     ensures offsets { IfOk result (λ taken. 512 * taken.1 < 2 ^ 64) }
     ensures taken { IfOk result (λ taken. IsTaken path.now noted.new (512 * taken.1)) }
-    ensures refused { IfErr result (λ refusal. IsNotTaken path.now noted.new refusal.fault) }
+    ensures refused { IfErr result (λ refusal. IsNotTaken path.now noted.new
+        (failure_by refusal.fault refusal.cause)) }
 {
     let opened = OpenedFile::open_locked(rt, path, false, noted)?;
     let len = opened.measure(noted)?;
@@ -261,7 +263,8 @@ pub fn make_file<R: Files<File = File>>(
 ) -> Result<File, OpeningFault>
     requires first { noted.old ≡ [] }
     ensures made { IfOk result (λ _. IsMade path.now noted.new len) }
-    ensures refused { IfErr result (λ refusal. IsNotMade path.now noted.new refusal.fault) }
+    ensures refused { IfErr result (λ refusal. IsNotMade path.now noted.new
+        (failure_by refusal.fault refusal.cause)) }
 {
     let opened = OpenedFile::open_locked(rt, path, true, noted)?;
     opened.resize(len, noted)?;
@@ -275,9 +278,9 @@ fn sync_folder<R: Files<File = File>>(
     path: &str,
     noted: &mut Record,
 ) -> Result<(), OpeningFault>
-    requires no_fault { first_fault (answered noted.old) ≡ None }
+    requires no_fault { first_failure (answered noted.old) ≡ None }
     requires synced { IsTrue (is_file_synced (answered noted.old)) }
-    ensures told { first_fault (answered noted.new) ≡ fault_told result }
+    ensures told { first_failure (answered noted.new) ≡ failure_told result }
     ensures len { len_after (answered noted.new) ≡ len_after (answered noted.old) }
     ensures opened { opened_in noted.new ≡ with_folder (folder_of path.now) (opened_in noted.old) }
     ensures synced { IfOk result (λ _. IsTrue (is_synced (answered noted.new))) }
@@ -307,7 +310,7 @@ fn folder_or_here(folder: &str) -> &str
 
 // A folder that is not synced. Some file systems have no sync of a folder.
 fn folder_answer(error: io::Error) -> Result<(), OpeningFault>
-    ensures { fault_told result ≡ folder_fault (error_kind error) }
+    ensures { failure_told result ≡ folder_failure (error_kind error) }
 {
     match error.kind() {
         ErrorKind::InvalidInput => Ok(()),

@@ -1,8 +1,9 @@
 use Rattle.std.proofs.Common.{sym, ◌∙◌}
 use Rattle.sector_disk.specs.SystemCalls.{answered}
+use Rattle.sector_disk.specs.Opening.{failure_by}
 use Rattle.sector_disk.proofs.Openings.{no_length}
 use Rattle.sector_disk.proofs.file_device.FileDevice+S.create_or_cause.Goals as goal
 
 pub returns-clause-not_too_long : goal.returns-clause-not_too_long
 returns-clause-not_too_long g c = λ short bad.
-    no_length (answered c.make_file.new.noted) c.in-Err.refusal.fault c.in-Err.ensures.refused.told (sym c.new-in-Err.ensures.fault ∙ bad)
+    no_length (answered c.make_file.new.noted) (failure_by c.in-Err.refusal.fault c.in-Err.refusal.cause) c.in-Err.ensures.refused.told (sym c.new-in-Err.ensures.fault ∙ bad)
