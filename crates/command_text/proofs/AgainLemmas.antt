@@ -1,28 +1,30 @@
 -- A line that anneals by stages, cut off by whatever becomes of its tries and asked for again, ends where an uncut one ends.
-use Rattle.std.proofs.Common.{◌≡◌, ◌∙◌, inl, inr, ℕ, zero, suc, ◌+◌, ◌-◌, ◌*◌, ◌^◌, ◌≤◌, Bool, true, false, ◌&&◌, if◌then◌else◌, List, [], ◌∷◌, Option, Some, None, Ok, Err, refl, sym, ap, subst, arith}
+use Rattle.std.proofs.Common.{◌≡◌, ◌∙◌, inl, inr, ℕ, zero, suc, ◌+◌, ◌-◌, ◌*◌, ◌^◌, ◌≤◌, Bool, true, false, not, ◌&&◌, if◌then◌else◌, List, [], ◌∷◌, Option, Some, None, Ok, Err, refl, sym, ap, subst, arith}
 use Rattle.std.specs.Prelude.{◌==◌, ◌/◌, length, min, nat_le, take}
 use Rattle.std.specs.List.{list_all}
-use Rattle.std.proofs.Math.Nat.{mul-le-mul_left}
+use Rattle.std.specs.Option.{option_map}
 use Rattle.std.proofs.lemmas.Bool.{and_parts, cases_Bool, le-leb, leb-true}
 use Rattle.plan_types.specs.Instance.{Instance, numbers_among}
 use Rattle.route_sched.specs.Cost.{total_length}
-use Rattle.anneal_stages.specs.Stages.{boundary, hundredths_of, share, stage_of}
-use Rattle.command_core.specs.Effects.{annealed, effect, with_deviation}
+use Rattle.anneal_stages.specs.Stages.{share}
+use Rattle.command_core.specs.Commands.{changes_requests}
+use Rattle.command_core.specs.Effects.{effect, job_after, with_deviation}
 use Rattle.command_core.specs.Job.{JobValue}
 use Rattle.command_core.specs.Refusing.{refusal}
 use Rattle.command_core.specs.Runs.{AreAccepted, after}
 use Rattle.command_core.specs.declared.commands.Command.{Command}
-use Rattle.command_core.specs.declared.commands.Command.TheVariants.{Deviation, Anneal}
+use Rattle.command_core.specs.declared.commands.Command.TheVariants.{Deviation}
 use Rattle.command_core.specs.declared.refusals.Refusal.{Refusal}
 use Rattle.command_core.specs.declared.refusals.Refusal.TheVariants.{Range}
 use Rattle.command_core.specs.declared.states.State.{State}
 use Rattle.command_core.specs.declared.states.State.TheVariants.{Empty, Loaded}
+use Rattle.command_core.proofs.NumberLemmas.{steps_counted}
 use Rattle.command_text.specs.Answering.{Fate, Done, NoMemory, Spent, Failed, Reply, Serving, begun, by_fate, carried, carried_all, commands_of, made_or, next_fate, steps_to_make, told_behind, tried, unless_refused, with_text}
 use Rattle.command_text.specs.Laws.{StagedLinesMayBeCut}
 use Rattle.command_text.specs.declared.steps.Goal.TheVariants as goal
 use Rattle.command_text.specs.declared.steps.Steps.TheVariants as makes
-use Rattle.command_text.specs.Staging.{annealing, deviation_in, in_stage, piece_in, stage_commands, staged_within, staging}
-use Rattle.command_text.proofs.StagingLemmas.{before_end, ends_of, few_stages, stages_may_be_cut}
+use Rattle.command_text.specs.Staging.{hundredths_due, made_by, making, next_deviation, next_steps, set_before, stage_commands, staged_within}
+use Rattle.command_text.proofs.StagingLemmas.{due, no_load, none_is, some_is, stages_may_be_cut}
 
 -- ---- what is carried out is a first part
 
@@ -73,25 +75,31 @@ all_whole s (c ∷ cs) accepted =
 
 -- ---- steps never fall behind these commands
 
-abbrev goes_on : Command → Bool
-goes_on (Deviation d) = true
-goes_on (Anneal n) = true
-goes_on _ = false
+-- it changes no request
+abbrev pub stays : Command → Bool
+stays c = not (changes_requests c)
 
 record GoesOn (j : JobValue) (left : State) : Type 0 where
   pub job : JobValue
   pub is : left ≡ Loaded job
   pub steps : j.steps ≤ job.steps
 
-never : {X : Type 0} → false ≡ true → X
-never e = absurd cc
+pub unchanged : (c : Command) → stays c ≡ true → changes_requests c ≡ false
+unchanged c e = by (changes_requests c) e
+  where
+    by : (b : Bool) → not b ≡ true → b ≡ false
+    by true e = absurd cc
+    by false e = refl
 
-grown : (count : ℕ) (cs : List Command) (j : JobValue) → list_all goes_on cs ≡ true → GoesOn j (after (Loaded j) (take count cs))
+grown : (count : ℕ) (cs : List Command) (j : JobValue) → list_all stays cs ≡ true → GoesOn j (after (Loaded j) (take count cs))
 grown zero cs j all = record { job = j; is = refl; steps = omega arith }
 grown (suc count) [] j all = record { job = j; is = refl; steps = omega arith }
-grown (suc count) (Deviation d ∷ cs) j all = let r = grown count cs (with_deviation j d) all in record { job = r.job; is = r.is; steps = r.steps }
-grown (suc count) (Anneal n ∷ cs) j all = let r = grown count cs (annealed j n) all in let more = r.steps in record { job = r.job; is = r.is; steps = omega (arith, more) }
-grown (suc count) (c ∷ cs) j all = never all
+grown (suc count) (c ∷ cs) j all =
+    let parts = and_parts (stays c) (list_all stays cs) all in
+    let counted = steps_counted j c (no_load c (unchanged c parts.0)) in
+    let r = grown count cs (job_after j c) parts.1 in
+    let more = r.steps in
+    record { job = r.job; is = r.is; steps = omega (arith, counted, more) }
 
 share_most : (p : Instance) (routes : List (List ℕ)) (c : ℕ) → share p routes c ≤ 1000000000
 share_most p routes c = at (length (numbers_among p.requests) == 0)
@@ -100,67 +108,49 @@ share_most p routes c = at (length (numbers_among p.requests) == 0)
     at true = omega arith
     at false = omega arith
 
+free_deviation : (j : JobValue) (o : Option ℕ) (d : ℕ) → option_map (share j.problem j.plan) o ≡ Some d → refusal (Loaded j) (Deviation d) ≡ None
+free_deviation j None d is = none_is d is
+free_deviation j (Some c) d is =
+    let same = some_is (share j.problem j.plan c) d is in
+    let most = share_most j.problem j.plan c in
+    let e = le-leb d 1000000000 (omega (arith, same, most)) in
+    rw e refl
+
 module _ (from to : ℕ) where
-  -- a stage ends at the last number or before
-  end_within : (n k : ℕ) → stage_of from to n ≡ Some k → boundary from to (k + 1) ≤ to
-  end_within n k e =
-      let found = few_stages from to n k e in
-      let below = before_end from to n k e in
-      let first = found.0 in
-      let few = found.1 in
-      let most : (to - from) * (k + 1) ≤ (to - from) * 20 = mul-le-mul_left (to - from) (omega (arith, few)) in
-      omega (arith, most, first, below)
+  -- ---- all that follow are accepted, and change no request
 
-  -- ---- all that follow are accepted
+  record AreFit (j : JobValue) (cs : List Command) : Type 0 where
+    pub accepted : to ≤ 2 ^ 60 → AreAccepted (Loaded j) cs
+    pub stay : list_all stays cs ≡ true
 
-  free_deviation : (j : JobValue) (k : ℕ) → refusal (Loaded j) (Deviation (deviation_in k j)) ≡ None
-  free_deviation j k = let e = le-leb (deviation_in k j) 1000000000 (share_most j.problem j.plan (hundredths_of k)) in rw e refl
+  none_fit : (j : JobValue) → AreFit j []
+  none_fit j = record { accepted = λ room. tt; stay = refl }
 
-  free_anneal : to ≤ 2 ^ 60 → (j : JobValue) (k : ℕ) → stage_of from to j.steps ≡ Some k → refusal (Loaded j) (Anneal (piece_in from to k j)) ≡ None
-  free_anneal room j k e =
-      let n = piece_in from to k j in
-      let behind = ends_of from to j.steps k e in
-      let end = end_within j.steps k e in
-      let least = le-leb 1 n (omega (arith, behind)) in
-      let most = le-leb n 65536 (omega arith) in
-      let last = le-leb (j.steps + n) (2 ^ 60) (omega (arith, behind, end, room)) in
-      rw (least, most, last) refl
+  made_fit : (next : JobValue → List Command) → ((i : JobValue) → AreFit i (next i)) → (j : JobValue) (o : Option Command) → next_steps from to j ≡ o → AreFit j (made_by next o j)
+  made_fit next rest j None e = none_fit j
+  made_fit next rest j (Some c) e =
+      let d = due from to j c e in
+      let more = rest (job_after j c) in
+      record { accepted = λ room. (d.is_command, d.fits j refl room, more.accepted room); stay = rw d.stays more.stay }
 
-  module _ (room : to ≤ 2 ^ 60) (f : ℕ) (rest : (i : JobValue) → AreAccepted (Loaded i) (staged_within from to f i)) where
-    piece_accepted : (k : ℕ) (j : JobValue) → stage_of from to j.steps ≡ Some k → AreAccepted (Loaded j) (annealing from to (staged_within from to f) k j)
-    piece_accepted k j e = (tt, free_anneal room j k e, rest (annealed j (piece_in from to k j)))
+  set_fit : (follows : JobValue → List Command) → ((i : JobValue) → AreFit i (follows i)) → (j : JobValue) (o : Option ℕ) → next_deviation from to j ≡ o → AreFit j (set_before follows o j)
+  set_fit follows rest j None e = rest j
+  set_fit follows rest j (Some d) e =
+      let more = rest (with_deviation j d) in
+      let free = free_deviation j (hundredths_due j.problem.kind from to j.steps) d e in
+      record { accepted = λ room. (tt, free, more.accepted room); stay = more.stay }
 
-    stage_accepted : (k : ℕ) (j : JobValue) → stage_of from to j.steps ≡ Some k → AreAccepted (Loaded j) (staging from to (staged_within from to f) k j)
-    stage_accepted k j e = at (j.steps == boundary from to k)
-      where
-        at : (b : Bool)
-            → AreAccepted (Loaded j) (if b then Deviation (deviation_in k j) ∷ annealing from to (staged_within from to f) k (with_deviation j (deviation_in k j)) else annealing from to (staged_within from to f) k j)
-        at true = (tt, free_deviation j k, piece_accepted k (with_deviation j (deviation_in k j)) e)
-        at false = piece_accepted k j e
-
-    found_accepted : (j : JobValue) (o : Option ℕ) → stage_of from to j.steps ≡ o → AreAccepted (Loaded j) (in_stage (staging from to (staged_within from to f)) o j)
-    found_accepted j None e = tt
-    found_accepted j (Some k) e = stage_accepted k j e
-
-  all_accepted : to ≤ 2 ^ 60 → (f : ℕ) (j : JobValue) → AreAccepted (Loaded j) (staged_within from to f j)
+  all_fit : (f : ℕ) (j : JobValue) → AreFit j (staged_within from to f j)
   unfolding staged_within
-  all_accepted room zero j = tt
-  all_accepted room (suc f) j = found_accepted room f (all_accepted room f) j (stage_of from to j.steps) refl
+  all_fit zero j = none_fit j
+  all_fit (suc f) j =
+      set_fit (making from to (staged_within from to f)) (λ i. made_fit (staged_within from to f) (all_fit f) i (next_steps from to i) refl) j (next_deviation from to j) refl
 
-  found_goes : (f : ℕ) → ((i : JobValue) → list_all goes_on (staged_within from to f i) ≡ true) → (j : JobValue) (o : Option ℕ)
-      → list_all goes_on (in_stage (staging from to (staged_within from to f)) o j) ≡ true
-  found_goes f rest j None = refl
-  found_goes f rest j (Some k) = at (j.steps == boundary from to k)
-    where
-      at : (b : Bool)
-          → list_all goes_on (if b then Deviation (deviation_in k j) ∷ annealing from to (staged_within from to f) k (with_deviation j (deviation_in k j)) else annealing from to (staged_within from to f) k j) ≡ true
-      at true = rest (annealed (with_deviation j (deviation_in k j)) (piece_in from to k (with_deviation j (deviation_in k j))))
-      at false = rest (annealed j (piece_in from to k j))
+  pub stages_accepted : to ≤ 2 ^ 60 → (j : JobValue) → AreAccepted (Loaded j) (stage_commands from to j)
+  stages_accepted room j = (all_fit (suc (to - j.steps)) j).accepted room
 
-  all_go : (f : ℕ) (j : JobValue) → list_all goes_on (staged_within from to f j) ≡ true
-  unfolding staged_within
-  all_go zero j = refl
-  all_go (suc f) j = found_goes f (all_go f) j (stage_of from to j.steps)
+  pub stages_stay : (j : JobValue) → list_all stays (stage_commands from to j) ≡ true
+  stages_stay j = (all_fit (suc (to - j.steps)) j).stay
 
   -- ---- the line
 
@@ -176,8 +166,8 @@ module _ (from to : ℕ) where
   is_begun : (j : JobValue) (fates : List Fate) → is_asked j ≡ true → left_by (begun (Loaded j) fates) ≡ (carried_all (begun (Loaded j) fates) (stage_commands from to j)).left.state
   is_begun j fates e = ap (λ b. (made_or (begun (Loaded j) fates) (if b then Ok (makes.Stages from to) else Err Range)).left.state) e
 
-  uncut : to ≤ 2 ^ 60 → (j : JobValue) → is_asked j ≡ true → left_by (begun (Loaded j) []) ≡ after (Loaded j) (stage_commands from to j)
-  uncut room j e = is_begun j [] e ∙ all_whole (Loaded j) (stage_commands from to j) (all_accepted room (suc (to - j.steps)) j)
+  pub uncut : to ≤ 2 ^ 60 → (j : JobValue) → is_asked j ≡ true → left_by (begun (Loaded j) []) ≡ after (Loaded j) (stage_commands from to j)
+  uncut room j e = is_begun j [] e ∙ all_whole (Loaded j) (stage_commands from to j) (stages_accepted room j)
 
   still_asked : (i j : JobValue) → j.steps ≤ i.steps → is_asked j ≡ true → is_asked i ≡ true
   still_asked i j more e =
@@ -192,7 +182,7 @@ module _ (from to : ℕ) where
   line_cut room j fates e =
       let all = stage_commands from to j in
       let cut = all_cut (begun (Loaded j) fates) all in
-      let on = grown cut.count all j (all_go (suc (to - j.steps)) j) in
+      let on = grown cut.count all j (stages_stay j) in
       let left : left_by (begun (Loaded j) fates) ≡ Loaded on.job = is_begun j fates e ∙ cut.is ∙ on.is in
       let rest : after (Loaded on.job) (stage_commands from to on.job) ≡ after (Loaded j) all =
       subst (λ (m : State). after m (commands_of (makes.Stages from to) m) ≡ after (Loaded j) all) on.is (stages_may_be_cut from to j cut.count) in

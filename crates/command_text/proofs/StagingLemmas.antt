@@ -1,26 +1,32 @@
--- Annealing by stages: how many annealings are allowed for makes no difference, and what is cut off is made by the same commands.
-use Rattle.std.proofs.Common.{◌≡◌, ◌∙◌, inl, inr, ℕ, zero, suc, ◌+◌, ◌-◌, ◌*◌, ◌<◌, ◌≤◌, Bool, true, false, if◌then◌else◌, List, [], ◌∷◌, Option, Some, None, refl, sym, ap, subst, arith}
-use Rattle.std.specs.Prelude.{◌==◌, nat_lt, take}
+-- Annealing by stages: how many commands are allowed for makes no difference, and what is cut off is made by the same commands.
+use Rattle.std.proofs.Common.{◌≡◌, ◌∙◌, inl, inr, ℕ, zero, suc, ◌+◌, ◌-◌, ◌*◌, ◌<◌, ◌≤◌, ◌^◌, Bool, true, false, if◌then◌else◌, List, [], ◌∷◌, Option, Some, None, refl, sym, ap, subst, arith}
+use Rattle.std.specs.Prelude.{◌==◌, nat_lt, min, take}
+use Rattle.std.specs.Option.{option_map}
 use Rattle.std.proofs.Math.Nat.{mul-le-mul_left}
-use Rattle.std.proofs.lemmas.Bool.{cases_Bool, ltb-true, ltb-false, le-ltb}
+use Rattle.std.proofs.lemmas.Bool.{cases_Bool, ltb-true, ltb-false, le-leb, le-ltb}
+use Rattle.plan_types.specs.declared.requests.Kind.{Kind}
+use Rattle.plan_types.specs.declared.requests.Kind.TheVariants.{LiLim, Vrp}
 use Rattle.anneal_stages.specs.Stages.{boundary, stage_among, stage_of}
-use Rattle.command_core.specs.Effects.{annealed, with_deviation}
+use Rattle.command_core.specs.Commands.{IsCommand, changes_requests, is_load, steps_of}
+use Rattle.command_core.specs.Effects.{job_after, with_deviation}
 use Rattle.command_core.specs.Job.{JobValue}
+use Rattle.command_core.specs.Refusing.{refusal, steps_refusal}
 use Rattle.command_core.specs.Runs.{after}
 use Rattle.command_core.specs.declared.commands.Command.{Command}
-use Rattle.command_core.specs.declared.commands.Command.TheVariants.{Anneal, Deviation}
+use Rattle.command_core.specs.declared.commands.Command.TheVariants.{Anneal, Deviation, Load, Reduce}
 use Rattle.command_core.specs.declared.states.State.TheVariants.{Loaded}
+use Rattle.command_core.proofs.NumberLemmas.{steps_counted}
 use Rattle.command_text.specs.Answering.{commands_of}
 use Rattle.command_text.specs.declared.steps.Steps.TheVariants as makes
 use Rattle.command_text.specs.Laws.{StagesMayBeCut}
-use Rattle.command_text.specs.Staging.{annealing, commands_in_stage, deviation_in, in_stage, piece_in, stage_commands, staged_within, staging}
+use Rattle.command_text.specs.Staging.{commands_in_stage, first_end, half_way, made_by, making, next_deviation, next_steps, reducing_steps, set_before, stage_commands, stage_piece, staged_steps, staged_within, steps_due}
 
 -- ---- the stage that is found
 
-some_is : {A : Type 0} (x y : A) → Some x ≡ Some y → x ≡ y
+pub some_is : {A : Type 0} (x y : A) → Some x ≡ Some y → x ≡ y
 some_is x y e = cc
 
-none_is : {X A : Type 0} (x : A) → None ≡ Some x → X
+pub none_is : {X A : Type 0} (x : A) → None ≡ Some x → X
 none_is x e = absurd cc
 
 found_by : (from to n k m : ℕ) (rest : Option ℕ) (b : Bool) → nat_lt n (boundary from to (k + 1)) ≡ b → (rest ≡ Some m → n < boundary from to (m + 1))
@@ -89,82 +95,151 @@ module _ (from to : ℕ) where
       at true t is = none_is k is
       at false f is = (ltb-false n from f, few_among n 0 20 k is)
 
-  some_steps : (j : JobValue) (k : ℕ) → stage_of from to j.steps ≡ Some k → 0 < piece_in from to k j
-  some_steps j k e = let below = ends_of from to j.steps k e in omega (arith, below)
+-- ---- what is due
 
-  -- ---- however many annealings are allowed for
+-- it makes a step at least, and none behind the last one; so it is accepted where the last one is
+pub record IsDue (from to n : ℕ) (c : Command) : Type 0 where
+  pub begun : from ≤ n
+  pub some : 0 < steps_of c
+  pub last : n + steps_of c ≤ to
+  pub is_command : IsCommand c
+  pub stays : changes_requests c ≡ false
+  pub fits : (j : JobValue) → j.steps ≡ n → to ≤ 2 ^ 60 → refusal (Loaded j) c ≡ None
 
-  same_annealing : (f g : JobValue → List Command) (k : ℕ) (j : JobValue) → f (annealed j (piece_in from to k j)) ≡ g (annealed j (piece_in from to k j))
-      → annealing from to f k j ≡ annealing from to g k j
-  same_annealing f g k j e = ap (λ cs. Anneal (piece_in from to k j) ∷ cs) e
+free_within : (most : ℕ) (j : JobValue) (n count : ℕ) → 0 < count → count ≤ most → n + count ≤ 2 ^ 60 → j.steps ≡ n → steps_refusal most j.steps count ≡ None
+free_within most j n count some few last same =
+    let least = le-leb 1 count (omega (arith, some)) in
+    let fits = le-leb count most few in
+    let ends = le-leb (j.steps + count) (2 ^ 60) (omega (arith, last, same)) in
+    rw (least, fits, ends) refl
 
-  same_staging : (f g : JobValue → List Command) (k : ℕ) (j : JobValue) → annealing from to f k (with_deviation j (deviation_in k j)) ≡ annealing from to g k (with_deviation j (deviation_in k j))
-      → annealing from to f k j ≡ annealing from to g k j → staging from to f k j ≡ staging from to g k j
-  same_staging f g k j begun on = at (j.steps == boundary from to k)
-    where
-      at : (b : Bool)
-          → (if b then Deviation (deviation_in k j) ∷ annealing from to f k (with_deviation j (deviation_in k j)) else annealing from to f k j)
-          ≡ (if b then Deviation (deviation_in k j) ∷ annealing from to g k (with_deviation j (deviation_in k j)) else annealing from to g k j)
-      at true = ap (λ cs. Deviation (deviation_in k j) ∷ cs) begun
-      at false = on
+anneal_due : (from to n end : ℕ) → from ≤ n → n < end → end ≤ to → IsDue from to n (Anneal (min (end - n) 16384))
+anneal_due from to n end begun below within = record {
+  begun = begun;
+  some = omega (arith, below);
+  last = omega (arith, below, within);
+  is_command = tt;
+  stays = refl;
+  fits = λ j same room. free_within 65536 j n (min (end - n) 16384) (omega (arith, below)) (omega arith) (omega (arith, below, within, room)) same;
+}
 
-  module _ (f g : ℕ) (j : JobValue) (first : to - j.steps ≤ suc f) (second : to - j.steps ≤ suc g)
-      (rest : (i : JobValue) → to - i.steps ≤ f → to - i.steps ≤ g → staged_within from to f i ≡ staged_within from to g i) where
-    behind_piece : (k : ℕ) (i : JobValue) → i.steps ≡ j.steps → stage_of from to j.steps ≡ Some k
-        → annealing from to (staged_within from to f) k i ≡ annealing from to (staged_within from to g) k i
-    behind_piece k i same e =
-        let here : stage_of from to i.steps ≡ Some k = ap (stage_of from to) same ∙ e in
-        let some = some_steps i k here in
-        let below = before_end from to i.steps k here in
-        same_annealing (staged_within from to f) (staged_within from to g) k i
-        (rest (annealed i (piece_in from to k i)) (omega (arith, some, below, same, first)) (omega (arith, some, below, same, second)))
+reduce_due : (from to n end : ℕ) → from ≤ n → n < end → end ≤ to → IsDue from to n (Reduce (min (end - n) 524288))
+reduce_due from to n end begun below within = record {
+  begun = begun;
+  some = omega (arith, below);
+  last = omega (arith, below, within);
+  is_command = tt;
+  stays = refl;
+  fits = λ j same room. free_within 524288 j n (min (end - n) 524288) (omega (arith, below)) (omega arith) (omega (arith, below, within, room)) same;
+}
 
-    in_found : (o : Option ℕ) → stage_of from to j.steps ≡ o → in_stage (staging from to (staged_within from to f)) o j ≡ in_stage (staging from to (staged_within from to g)) o j
-    in_found None e = refl
-    in_found (Some k) e = same_staging (staged_within from to f) (staged_within from to g) k j (behind_piece k (with_deviation j (deviation_in k j)) refl e) (behind_piece k j refl e)
+-- a stage ends at the last number or before
+end_within : (from to n k : ℕ) → stage_of from to n ≡ Some k → boundary from to (k + 1) ≤ to
+end_within from to n k e =
+    let found = few_stages from to n k e in
+    let below = before_end from to n k e in
+    let first = found.0 in
+    let few = found.1 in
+    let most : (to - from) * (k + 1) ≤ (to - from) * 20 = mul-le-mul_left (to - from) (omega (arith, few)) in
+    omega (arith, most, first, below)
 
-  enough : (f g : ℕ) (j : JobValue) → to - j.steps ≤ f → to - j.steps ≤ g → staged_within from to f j ≡ staged_within from to g j
+staged_due : (from to n : ℕ) (o : Option ℕ) (c : Command) → stage_of from to n ≡ o → option_map (stage_piece from to n) o ≡ Some c → IsDue from to n c
+staged_due from to n None c found is = none_is c is
+staged_due from to n (Some k) c found is =
+    subst (IsDue from to n) (some_is (stage_piece from to n k) c is) (anneal_due from to n (boundary from to (k + 1)) (few_stages from to n k found).0 (ends_of from to n k found) (end_within from to n k found))
+
+-- what is due from a later step on is due from an earlier one on
+later_due : (from mid to n : ℕ) (c : Command) → from ≤ mid → IsDue mid to n c → IsDue from to n c
+later_due from mid to n c before due = let begun = due.begun in record {
+  begun = omega (arith, before, begun);
+  some = due.some;
+  last = due.last;
+  is_command = due.is_command;
+  stays = due.stays;
+  fits = due.fits;
+}
+
+reducing_due : (from to n : ℕ) (c : Command) (early warm first : Bool) → nat_lt n from ≡ early → nat_lt n (first_end from to) ≡ warm → nat_lt n (half_way from to) ≡ first
+    → (if early then None else if warm then Some (Anneal (min (first_end from to - n) 16384)) else if first then Some (Reduce (min (half_way from to - n) 524288)) else staged_steps (half_way from to) to n) ≡ Some c
+    → IsDue from to n c
+reducing_due from to n c true warm first e w h is = none_is c is
+reducing_due from to n c false true first e w h is =
+    let begun = ltb-false n from e in
+    let below = ltb-true n (first_end from to) w in
+    subst (IsDue from to n) (some_is (Anneal (min (first_end from to - n) 16384)) c is) (anneal_due from to n (first_end from to) begun below (omega (arith, begun, below)))
+reducing_due from to n c false false true e w h is =
+    let begun = ltb-false n from e in
+    let below = ltb-true n (half_way from to) h in
+    subst (IsDue from to n) (some_is (Reduce (min (half_way from to - n) 524288)) c is) (reduce_due from to n (half_way from to) begun below (omega (arith, begun, below)))
+reducing_due from to n c false false false e w h is =
+    later_due from (half_way from to) to n c (omega arith) (staged_due (half_way from to) to n (stage_of (half_way from to) to n) c refl is)
+
+is_due : (kind : Kind) (from to n : ℕ) (c : Command) → steps_due kind from to n ≡ Some c → IsDue from to n c
+is_due LiLim from to n c is = reducing_due from to n c (nat_lt n from) (nat_lt n (first_end from to)) (nat_lt n (half_way from to)) refl refl refl is
+is_due Vrp from to n c is = staged_due from to n (stage_of from to n) c refl is
+
+pub no_load : (c : Command) → changes_requests c ≡ false → is_load c ≡ false
+no_load (Load p seed) stays = stays
+no_load c stays = refl
+
+module _ (from to : ℕ) where
+  pub due : (j : JobValue) (c : Command) → next_steps from to j ≡ Some c → IsDue from to j.steps c
+  due j c e = is_due j.problem.kind from to j.steps c e
+
+  -- a step at least is made, and none behind the last
+  pub goes_on : (j : JobValue) (c : Command) → next_steps from to j ≡ Some c → (j.steps < (job_after j c).steps) × (j.steps < to)
+  goes_on j c e =
+      let d = due j c e in
+      let counted = steps_counted j c (no_load c d.stays) in
+      let some = d.some in
+      let last = d.last in
+      (omega (arith, counted, some), omega (arith, some, last))
+
+  -- ---- however many commands are allowed for
+
+  same_made : (f g : JobValue → List Command) (j : JobValue) (o : Option Command) → ((c : Command) → o ≡ Some c → f (job_after j c) ≡ g (job_after j c)) → made_by f o j ≡ made_by g o j
+  same_made f g j None rest = refl
+  same_made f g j (Some c) rest = ap (λ cs. c ∷ cs) (rest c refl)
+
+  same_set : (f g : JobValue → List Command) (o : Option ℕ) (j : JobValue) → ((i : JobValue) → i.steps ≡ j.steps → f i ≡ g i) → set_before f o j ≡ set_before g o j
+  same_set f g None j rest = rest j refl
+  same_set f g (Some d) j rest = ap (λ cs. Deviation d ∷ cs) (rest (with_deviation j d) refl)
+
+  one_more : (f g : ℕ) (j : JobValue) → ((i : JobValue) (c : Command) → i.steps ≡ j.steps → next_steps from to i ≡ Some c → staged_within from to f (job_after i c) ≡ staged_within from to g (job_after i c))
+      → staged_within from to (suc f) j ≡ staged_within from to (suc g) j
   unfolding staged_within
-  enough zero zero j first second = refl
-  enough zero (suc g) j first second = sym (ap (λ o. in_stage (staging from to (staged_within from to g)) o j) (none_past from to j.steps (omega (arith, first))))
-  enough (suc f) zero j first second = ap (λ o. in_stage (staging from to (staged_within from to f)) o j) (none_past from to j.steps (omega (arith, second)))
-  enough (suc f) (suc g) j first second = in_found f g j first second (enough f g) (stage_of from to j.steps) refl
+  one_more f g j rest =
+      same_set (making from to (staged_within from to f)) (making from to (staged_within from to g)) (next_deviation from to j) j
+      (λ i same. same_made (staged_within from to f) (staged_within from to g) i (next_steps from to i) (λ c e. rest i c same e))
+
+  enough : (f g : ℕ) (j : JobValue) → to - j.steps ≤ f → to - j.steps ≤ g → staged_within from to (suc f) j ≡ staged_within from to (suc g) j
+  enough zero g j first second = one_more zero g j (λ i c same e. let on = goes_on i c e in absurd (omega (arith, on.1, same, first)))
+  enough (suc f) zero j first second = one_more (suc f) zero j (λ i c same e. let on = goes_on i c e in absurd (omega (arith, on.1, same, second)))
+  enough (suc f) (suc g) j first second =
+      one_more (suc f) (suc g) j (λ i c same e. let on = goes_on i c e in enough f g (job_after i c) (omega (arith, on.0, on.1, same, first)) (omega (arith, on.0, on.1, same, second)))
 
   -- ---- the next command
 
-  behind : (j : JobValue) (n : ℕ) → staged_within from to (to - j.steps) (annealed j n) ≡ stage_commands from to (annealed j n)
-  behind j n = enough (to - j.steps) (suc (to - (j.steps + n))) (annealed j n) (omega arith) (omega arith)
+  behind : (j : JobValue) (c : Command) → next_steps from to j ≡ Some c → staged_within from to (to - j.steps) (job_after j c) ≡ stage_commands from to (job_after j c)
+  behind j c e =
+      let on = goes_on j c e in
+      let one : to - j.steps ≡ suc (to - j.steps - 1) = omega (arith, on.1) in
+      ap (λ n. staged_within from to n (job_after j c)) one ∙ enough (to - j.steps - 1) (to - (job_after j c).steps) (job_after j c) (omega (arith, on.0, on.1)) (omega arith)
 
-  pub none_follows : (j : JobValue) → stage_of from to j.steps ≡ None → stage_commands from to j ≡ []
+  pub none_made : (j : JobValue) → next_steps from to j ≡ None → commands_in_stage from to j ≡ []
+  none_made j e = ap (λ o. made_by (staged_within from to (to - j.steps)) o j) e
+
+  pub next_made : (j : JobValue) (c : Command) → next_steps from to j ≡ Some c → commands_in_stage from to j ≡ c ∷ stage_commands from to (job_after j c)
+  next_made j c e = ap (λ o. made_by (staged_within from to (to - j.steps)) o j) e ∙ ap (λ cs. c ∷ cs) (behind j c e)
+
+  -- where a deviation is set before the next steps, it comes first
+  pub next_set : (j : JobValue) (d : ℕ) → next_deviation from to j ≡ Some d → stage_commands from to j ≡ Deviation d ∷ commands_in_stage from to (with_deviation j d)
   unfolding staged_within
-  none_follows j e = ap (λ o. in_stage (staging from to (staged_within from to (to - j.steps))) o j) e
+  next_set j d e = ap (λ o. set_before (making from to (staged_within from to (to - j.steps))) o j) e
 
-  pub next_in_stage : (j : JobValue) (k : ℕ) → stage_of from to j.steps ≡ Some k
-      → commands_in_stage from to j ≡ Anneal (piece_in from to k j) ∷ stage_commands from to (annealed j (piece_in from to k j))
-  next_in_stage j k e =
-      ap (λ o. in_stage (annealing from to (staged_within from to (to - j.steps))) o j) e
-      ∙ ap (λ cs. Anneal (piece_in from to k j) ∷ cs) (behind j (piece_in from to k j))
-
-  staged_by : (j : JobValue) (k : ℕ) (b : Bool) → stage_of from to j.steps ≡ Some k → (j.steps == boundary from to k) ≡ b
-      → stage_commands from to j
-      ≡ (if b then Deviation (deviation_in k j) ∷ annealing from to (staged_within from to (to - j.steps)) k (with_deviation j (deviation_in k j))
-      else annealing from to (staged_within from to (to - j.steps)) k j)
+  pub none_set : (j : JobValue) → next_deviation from to j ≡ None → stage_commands from to j ≡ commands_in_stage from to j
   unfolding staged_within
-  staged_by j k b e begun =
-      let next = staged_within from to (to - j.steps) in
-      ap (λ o. in_stage (staging from to next) o j) e
-      ∙ ap (λ b. if b then Deviation (deviation_in k j) ∷ annealing from to next k (with_deviation j (deviation_in k j)) else annealing from to next k j) begun
-
-  -- where a stage begins, its deviation, and then what follows in it
-  pub next_begun : (j : JobValue) (k : ℕ) → stage_of from to j.steps ≡ Some k → (j.steps == boundary from to k) ≡ true
-      → stage_commands from to j ≡ Deviation (deviation_in k j) ∷ commands_in_stage from to (with_deviation j (deviation_in k j))
-  next_begun j k e begun =
-      staged_by j k true e begun
-      ∙ ap (λ o. Deviation (deviation_in k j) ∷ in_stage (annealing from to (staged_within from to (to - j.steps))) o (with_deviation j (deviation_in k j))) (sym e)
-
-  pub next_on : (j : JobValue) (k : ℕ) → stage_of from to j.steps ≡ Some k → (j.steps == boundary from to k) ≡ false
-      → stage_commands from to j ≡ Anneal (piece_in from to k j) ∷ stage_commands from to (annealed j (piece_in from to k j))
-  next_on j k e on = staged_by j k false e on ∙ ap (λ cs. Anneal (piece_in from to k j) ∷ cs) (behind j (piece_in from to k j))
+  none_set j e = ap (λ o. set_before (making from to (staged_within from to (to - j.steps))) o j) e
 
   -- ---- cut anywhere
 
@@ -173,50 +248,39 @@ module _ (from to : ℕ) where
   LeadsOn j count commands =
       let mid = after (Loaded j) (take count commands) in after mid (commands_of (makes.Stages from to) mid) ≡ after (Loaded j) commands
 
-  abbrev set : ℕ → JobValue → JobValue
-  set k j = with_deviation j (deviation_in k j)
-
   -- a deviation that is set again is the same
-  begun_again : (j : JobValue) (k : ℕ) → stage_of from to j.steps ≡ Some k → (j.steps == boundary from to k) ≡ true → LeadsOn j 1 (stage_commands from to j)
-  begun_again j k e begun =
-      subst (LeadsOn j 1) (sym (next_begun j k e begun)) (ap (after (Loaded (set k j))) (next_begun (set k j) k e begun))
+  set_again : (j : JobValue) (d : ℕ) → next_deviation from to j ≡ Some d → LeadsOn j 1 (stage_commands from to j)
+  set_again j d e = subst (LeadsOn j 1) (sym (next_set j d e)) (ap (after (Loaded (with_deviation j d))) (next_set (with_deviation j d) d e))
 
-  module _ (count : ℕ) (rest : (i : JobValue) → LeadsOn i count (stage_commands from to i)) where
-    cut_behind : (j : JobValue) (n : ℕ) (commands : List Command) → commands ≡ Anneal n ∷ stage_commands from to (annealed j n) → LeadsOn j (suc count) commands
-    cut_behind j n commands is = subst (LeadsOn j (suc count)) (sym is) (rest (annealed j n))
+  cut_made : (count : ℕ) (j : JobValue) (o : Option Command) → next_steps from to j ≡ o → ((i : JobValue) → LeadsOn i count (stage_commands from to i))
+      → after (Loaded j) (stage_commands from to j) ≡ after (Loaded j) (commands_in_stage from to j) → LeadsOn j (suc count) (commands_in_stage from to j)
+  cut_made count j None e rest same = subst (LeadsOn j (suc count)) (sym (none_made j e)) (same ∙ ap (after (Loaded j)) (none_made j e))
+  cut_made count j (Some c) e rest same = subst (LeadsOn j (suc count)) (sym (next_made j c e)) (rest (job_after j c))
 
-    cut_in_stage : (j : JobValue) (k : ℕ) → stage_of from to j.steps ≡ Some k → LeadsOn j (suc count) (commands_in_stage from to j)
-    cut_in_stage j k e = cut_behind j (piece_in from to k j) (commands_in_stage from to j) (next_in_stage j k e)
+  cut_unset : (count : ℕ) (j : JobValue) → next_deviation from to j ≡ None → ((i : JobValue) → LeadsOn i count (stage_commands from to i)) → LeadsOn j (suc count) (stage_commands from to j)
+  cut_unset count j e rest =
+      let same = none_set j e in
+      subst (LeadsOn j (suc count)) (sym same) (cut_made count j (next_steps from to j) refl rest (ap (after (Loaded j)) same))
 
-    cut_begun : (j : JobValue) (k : ℕ) → stage_of from to j.steps ≡ Some k → (j.steps == boundary from to k) ≡ true
-        → LeadsOn j (suc (suc count)) (stage_commands from to j)
-    cut_begun j k e begun = subst (LeadsOn j (suc (suc count))) (sym (next_begun j k e begun)) (cut_in_stage (set k j) k e)
+  cut_set : (count : ℕ) (j : JobValue) (d : ℕ) → next_deviation from to j ≡ Some d → ((i : JobValue) → LeadsOn i count (stage_commands from to i))
+      → LeadsOn j (suc (suc count)) (stage_commands from to j)
+  cut_set count j d e rest =
+      let i = with_deviation j d in
+      subst (LeadsOn j (suc (suc count))) (sym (next_set j d e)) (cut_made count i (next_steps from to i) refl rest (ap (after (Loaded i)) (next_set i d e)))
 
-    cut_on : (j : JobValue) (k : ℕ) → stage_of from to j.steps ≡ Some k → (j.steps == boundary from to k) ≡ false → LeadsOn j (suc count) (stage_commands from to j)
-    cut_on j k e on = cut_behind j (piece_in from to k j) (stage_commands from to j) (next_on j k e on)
+  cut_one : (j : JobValue) (o : Option ℕ) → next_deviation from to j ≡ o → ((i : JobValue) → LeadsOn i 0 (stage_commands from to i)) → LeadsOn j 1 (stage_commands from to j)
+  cut_one j None e rest = cut_unset 0 j e rest
+  cut_one j (Some d) e rest = set_again j d e
 
-  cut_none : (j : JobValue) (count : ℕ) → stage_of from to j.steps ≡ None → LeadsOn j (suc count) (stage_commands from to j)
-  cut_none j count e = subst (LeadsOn j (suc count)) (sym (none_follows j e)) (ap (after (Loaded j)) (none_follows j e))
-
-  cut_one : (j : JobValue) (o : Option ℕ) → stage_of from to j.steps ≡ o → ((i : JobValue) → LeadsOn i 0 (stage_commands from to i)) → LeadsOn j 1 (stage_commands from to j)
-  cut_one j None e rest = cut_none j 0 e
-  cut_one j (Some k) e rest = elim (cases_Bool (j.steps == boundary from to k)) [
-    | inl t ↦ begun_again j k e t
-    | inr f ↦ cut_on 0 rest j k e f
-  ]
-
-  cut_more : (j : JobValue) (count : ℕ) (o : Option ℕ) → stage_of from to j.steps ≡ o → ((i : JobValue) → LeadsOn i count (stage_commands from to i))
+  cut_more : (j : JobValue) (count : ℕ) (o : Option ℕ) → next_deviation from to j ≡ o → ((i : JobValue) → LeadsOn i count (stage_commands from to i))
       → ((i : JobValue) → LeadsOn i (suc count) (stage_commands from to i)) → LeadsOn j (suc (suc count)) (stage_commands from to j)
-  cut_more j count None e rest next = cut_none j (suc count) e
-  cut_more j count (Some k) e rest next = elim (cases_Bool (j.steps == boundary from to k)) [
-    | inl t ↦ cut_begun count rest j k e t
-    | inr f ↦ cut_on (suc count) next j k e f
-  ]
+  cut_more j count None e rest next = cut_unset (suc count) j e next
+  cut_more j count (Some d) e rest next = cut_set count j d e rest
 
   cut : (count : ℕ) (j : JobValue) → LeadsOn j count (stage_commands from to j)
   cut zero j = refl
-  cut (suc zero) j = cut_one j (stage_of from to j.steps) refl (cut zero)
-  cut (suc (suc count)) j = cut_more j count (stage_of from to j.steps) refl (cut count) (cut (suc count))
+  cut (suc zero) j = cut_one j (next_deviation from to j) refl (cut zero)
+  cut (suc (suc count)) j = cut_more j count (next_deviation from to j) refl (cut count) (cut (suc count))
 
 pub stages_may_be_cut : StagesMayBeCut
 stages_may_be_cut from to j count = cut from to count j

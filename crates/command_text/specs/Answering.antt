@@ -117,6 +117,7 @@ counts_of most n = replicate (n / most) most ++ (if n % most == 0 then [] else n
 abbrev pub commands_of : StepsLeft → State → List Command
 commands_of (makes.Search n) state = map command.Search (counts_of 256 n)
 commands_of (makes.Anneal n) state = map command.Anneal (counts_of 16384 n)
+commands_of (makes.Reduce n) state = map command.Reduce (counts_of 524288 n)
 commands_of (makes.Stages from to) Empty = []
 commands_of (makes.Stages from to) (Loaded j) = stage_commands from to j
 commands_of (makes.InStage from to) Empty = []
@@ -137,6 +138,7 @@ stages_to_go j from to = if nat_le from j.steps && nat_le to (j.steps + 10000000
 abbrev pub steps_from : JobValue → Goal → Result StepsLeft Refusal
 steps_from j (goal.Search n) = unless_spent j n (makes.Search n)
 steps_from j (goal.Anneal n) = unless_spent j n (makes.Anneal n)
+steps_from j (goal.Reduce n) = unless_spent j n (makes.Reduce n)
 steps_from j (goal.Reach n) = steps_to_reach j n
 steps_from j (goal.Stages from to) = stages_to_go j from to
 

@@ -77,6 +77,9 @@ search_of n = option_map goal.Search (count_of n)
 abbrev pub anneal_of : Option ℕ → Option Goal
 anneal_of n = option_map goal.Anneal (count_of n)
 
+abbrev pub reduce_of : Option ℕ → Option Goal
+reduce_of n = option_map goal.Reduce (count_of n)
+
 -- N in 0..2^60
 abbrev pub reach_of : Option ℕ → Option Goal
 reach_of None = None
@@ -112,6 +115,7 @@ single_asked verb.Why r = question_or NoSuchRequest (option_map question.Why (as
 single_asked verb.Search n = steps_or (search_of n.unsigned)
 single_asked verb.Reach n = steps_or (reach_of n.unsigned)
 single_asked verb.Anneal n = steps_or (anneal_of n.unsigned)
+single_asked verb.Reduce n = steps_or (reduce_of n.unsigned)
 single_asked verb.Deviation d = plain_or Range (option_map command.Deviation (as_u32 d))
 single_asked _ n = BadLine
 
@@ -174,6 +178,7 @@ verb_named word =
     if bytes_eq (codes "reach") word then Some verb.Reach else
     if bytes_eq (codes "deviation") word then Some verb.Deviation else
     if bytes_eq (codes "anneal") word then Some verb.Anneal else
+    if bytes_eq (codes "reduce") word then Some verb.Reduce else
     if bytes_eq (codes "print") word then Some verb.Print else
     if bytes_eq (codes "show") word then Some verb.Show else
     if bytes_eq (codes "timetable") word then Some verb.Timetable else

@@ -35,11 +35,11 @@ pub enum Asked {
     LoadRange,
     /// The next `len` bytes are the text of an instance.
     Load { kind: Kind, seed: u64, len: u32 },
-    /// One command, but no `Load`, no `Search` and no `Anneal`.
+    /// One command, but no `Load` and none that makes steps.
     Plain(Command),
     /// A command with a number that its field can't hold. A session that can take commands, with an instance, tells this.
     Refused(Refusal),
-    /// Steps, of the search or of annealing.
+    /// Steps: of the search, of annealing, or of tries of fewer vehicles.
     Steps(Goal),
     Print,
     Show,

@@ -9,6 +9,7 @@ pub const HELP: &str = "Each line asks for one thing:\n  \
     search N, reach N          N search steps, or as many as lead to step N\n  \
     anneal N                   N annealing steps, which find better plans\n  \
     anneal FROM TO             annealing by stages from step FROM to step TO; goes on where it was cut off\n  \
+    reduce N                   N steps that look for plans with fewer vehicles, or that leave out less\n  \
     deviation D                how much longer a plan the steps may go on from\n  \
     add Q X Y E L S X Y E L S  a new pair: demand, then x, y, window and service of both its stops\n  \
     add1 Q X Y E L S           a new request of one stop\n  \

@@ -7,8 +7,8 @@
 //! Source: this project's own.
 //!
 //! How it works: a line is a command's name and its numbers, parted by blanks. Many steps are cut into commands of
-//! at most 256, annealing steps of at most 16,384, each of which is told by a line `at` once it is acknowledged. A number that no field holds is told
-//! apart where the line is read, before the state is asked. Answers that follow a command that was carried out take
+//! at most 256, annealing steps of at most 16,384, tries of fewer vehicles of at most 524,288, each of which is told by a
+//! line `at` once it is acknowledged. A number that no field holds is told apart where the line is read, before the state is asked. Answers that follow a command that was carried out take
 //! no memory: an `at` or `ok` that found none would tell a refusal of what was done.
 //!
 //! What becomes of commands is a list of fates, one for each try, and not the number of the one that failed, so want of

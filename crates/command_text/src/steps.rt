@@ -11,6 +11,9 @@ use command_core::{Command, Job, MAX_COUNT, MAX_STEPS, Refusal, State};
 /// The most annealing steps of one command of a line, so that its progress is told often and little is lost by a stop.
 pub(crate) const MAX_ANNEALED: u32 = 16_384;
 
+/// The most steps of one command of a line that tries fewer vehicles: a try goes no further than its command.
+pub(crate) const MAX_REDUCED: u32 = 524_288;
+
 /// The steps that a line asks for.
 #[derive(Clone, Copy, Debug, PartialEq, Eq)]
 pub enum Goal {
@@ -20,6 +23,8 @@ pub enum Goal {
     Reach(u64),
     /// So many of annealing, 1..=1,000,000,000.
     Anneal(u32),
+    /// So many of tries of fewer vehicles, 1..=1,000,000,000.
+    Reduce(u32),
     /// Of annealing by stages, from one number to before another: the first is not above the second, this one 0..=2^60.
     Stages { from: u64, to: u64 },
 }
@@ -31,6 +36,8 @@ pub enum Steps {
     Search(u32),
     /// So many of annealing.
     Anneal(u32),
+    /// So many of tries of fewer vehicles.
+    Reduce(u32),
     /// Those of annealing by stages that are left to before the second number.
     Stages { from: u64, to: u64 },
     /// The same where the deviation of the stage is set.
@@ -41,8 +48,8 @@ pub enum Steps {
 ///
 /// # Errors
 ///
-/// `NoInstance` before the first `load`; `StepsSpent` where `search N` or `anneal N` would lead above 2^60 steps; `Range`
-/// where more than 1,000,000,000 are lacking for `reach N` or `anneal FROM TO`, or the state has not made FROM.
+/// `NoInstance` before the first `load`; `StepsSpent` where `search N`, `anneal N` or `reduce N` would lead above 2^60 steps;
+/// `Range` where more than 1,000,000,000 are lacking for `reach N` or `anneal FROM TO`, or the state has not made FROM.
 pub fn steps_to_make(state: &State, goal: Goal) -> Result<Steps, Refusal>
     ensures { result ≡ steps_to_make state.now goal }
 {
@@ -58,6 +65,7 @@ fn steps_from(job: &Job, goal: Goal) -> Result<Steps, Refusal>
     match goal {
         Goal::Search(count) => unless_spent(job, count, Steps::Search(count)),
         Goal::Anneal(count) => unless_spent(job, count, Steps::Anneal(count)),
+        Goal::Reduce(count) => unless_spent(job, count, Steps::Reduce(count)),
         Goal::Reach(number) => steps_to_reach(job, number),
         Goal::Stages { from, to } => stages_to_go(job, from, to),
     }
@@ -103,6 +111,7 @@ pub fn next_command(steps: Steps, state: &State) -> Option<(Command, Steps)>
     match steps {
         Steps::Search(0) => None,
         Steps::Anneal(0) => None,
+        Steps::Reduce(0) => None,
         Steps::Search(left) => {
             let count = next_count(left);
             Some((
@@ -111,8 +120,12 @@ pub fn next_command(steps: Steps, state: &State) -> Option<(Command, Steps)>
             ))
         }
         Steps::Anneal(left) => {
-            let count = next_annealed(left);
+            let count = next_piece(left, MAX_ANNEALED);
             Some((Command::Anneal(count), Steps::Anneal(left - count)))
+        }
+        Steps::Reduce(left) => {
+            let count = next_piece(left, MAX_REDUCED);
+            Some((Command::Reduce(count), Steps::Reduce(left - count)))
         }
         Steps::Stages { from, to } => next_staged(from, to, job_in(state)?),
         Steps::InStage { from, to } => next_in_stage(from, to, job_in(state)?),
@@ -143,16 +156,13 @@ pub fn next_count(left: u32) -> u16
     }
 }
 
-// How many steps the next command of an annealing makes that has so many left.
+// How many steps the next command makes of so many that are left, where one makes so many at most.
 #[tactic(auto, using(crate::proofs::StepLemmas::large_count, crate::proofs::StepLemmas::small_count))]
-fn next_annealed(left: u32) -> u32
-    requires { 0 < left }
-    ensures counts { counts_of 16384 left ≡ result ∷ counts_of 16384 (left - result) }
+fn next_piece(left: u32, most: u32) -> u32
+    requires left { 0 < left }
+    requires most { 0 < most }
+    ensures counts { counts_of most left ≡ result ∷ counts_of most (left - result) }
     ensures most { result ≤ left }
 {
-    if left < MAX_ANNEALED {
-        left
-    } else {
-        MAX_ANNEALED
-    }
+    if left < most { left } else { most }
 }

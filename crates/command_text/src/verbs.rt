@@ -1,6 +1,6 @@
 //! The lines but `load`: their names, and what each asks for with its numbers.
 ghost use Rattle.std.specs.Prelude.{◌≡◌, bytes_eq};
-ghost use Rattle.command_text.specs.Asking.{add1_of, add_of, anneal_of, bare_asked, count_of, double_asked, kind_named, pin_of, plain_or, reach_of, search_of, single_asked, spot_asked, spot_of, spots_asked, stages_of, steps_or, verb_named};
+ghost use Rattle.command_text.specs.Asking.{add1_of, add_of, anneal_of, bare_asked, count_of, double_asked, kind_named, pin_of, plain_or, reach_of, reduce_of, search_of, single_asked, spot_asked, spot_of, spots_asked, stages_of, steps_or, verb_named};
 
 use crate::asked::{Asked, MAX_SEARCH};
 use crate::fields::Field;
@@ -24,6 +24,7 @@ pub(crate) enum Verb {
     Reach,
     Deviation,
     Anneal,
+    Reduce,
     Print,
     Show,
     Timetable,
@@ -72,6 +73,9 @@ pub(crate) fn verb_named(word: &[u8]) -> Option<Verb>
     }
     if is_word(word, b"anneal") {
         return Some(Verb::Anneal);
+    }
+    if is_word(word, b"reduce") {
+        return Some(Verb::Reduce);
     }
     if is_word(word, b"print") {
         return Some(Verb::Print);
@@ -152,6 +156,7 @@ pub(crate) fn single_asked(verb: Verb, number: &Field) -> Asked
         Verb::Search => steps_or(search_of(number.unsigned)),
         Verb::Reach => steps_or(reach_of(number.unsigned)),
         Verb::Anneal => steps_or(anneal_of(number.unsigned)),
+        Verb::Reduce => steps_or(reduce_of(number.unsigned)),
         Verb::Deviation => match number.as_u32() {
             Some(deviation) => Asked::Plain(Command::Deviation(deviation)),
             None => Asked::Refused(Refusal::Range),
@@ -268,6 +273,12 @@ fn anneal_of(steps: Option<u64>) -> Option<Goal>
     ensures { result ≡ anneal_of steps }
 {
     Some(Goal::Anneal(count_of(steps)?))
+}
+
+fn reduce_of(steps: Option<u64>) -> Option<Goal>
+    ensures { result ≡ reduce_of steps }
+{
+    Some(Goal::Reduce(count_of(steps)?))
 }
 
 fn reach_of(goal: Option<u64>) -> Option<Goal>

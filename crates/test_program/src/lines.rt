@@ -20,6 +20,7 @@ const GREATEST_STEP: u64 = 1_152_921_504_606_846_976;
 fn reads_as_many_steps_as_there_are(rt: HostRuntime) {
     assert!(rt; goal_of(b"search 1000000000") == Some(Goal::Search(1_000_000_000)));
     assert!(rt; goal_of(b"anneal 1000000000") == Some(Goal::Anneal(1_000_000_000)));
+    assert!(rt; goal_of(b"reduce 1000000000") == Some(Goal::Reduce(1_000_000_000)));
     assert!(rt; goal_of(b"reach 1152921504606846976") == Some(Goal::Reach(GREATEST_STEP)));
     assert!(rt;
         goal_of(b"anneal 0 1152921504606846976")
