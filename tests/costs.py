@@ -1,10 +1,10 @@
 #!/usr/bin/env python3
 """Compares what the built program finds by many steps, to the number, with what another program of the same rules has found.
 
-1. `solve`: each line of progress, by stages and tries of smaller fleets and by a search with a deviation. Of a fleet, the tries find
-   plans of fewer vehicles than annealing alone: 10 and 23 where that ends with 11 and 24.
+1. `solve`: each line of progress, by the commands of `anneal 0 STEPS` and by a search with a deviation, of eight Li-Lim instances: five with
+   vehicles to spare, and three whose fleets are too small for all requests.
 2. More than 65,536 steps at once: a stage of 70,000, and an annealing of as many in a store, with both plans.
-3. As many steps through a store, by a line of stages and by one of a search, lead to the plans of `solve`.
+3. As many steps through a store, by a line `anneal 0 STEPS` and by one of a search, lead to the plans of `solve`.
 
 The instances are E-n51-k5 and those that are made here by a rule. Wants the program that rt ci leaves.
 """
@@ -32,9 +32,9 @@ def customers(count):
     return vrp(60, places, [0] + [1 + it * 31 % 17 for it in range(1, count + 1)])
 
 
-def pairs(count):
-    """Pairs that lie around a depot, for as many vehicles."""
-    lines = [f"{count} 14 1", "0 50 50 0 0 600 0 0 0"]
+def pairs(count, fleet=None):
+    """Pairs that lie around a depot, for as many vehicles or for so many."""
+    lines = [f"{fleet or count} 14 1", "0 50 50 0 0 600 0 0 0"]
     for pair in range(count):
         number, earliest = 2 * pair + 1, pair * 29 % 281
         lines.append(f"{number} {pair * 23 % 101} {pair * 35 % 101} {1 + pair % 7} {earliest} {earliest + 90} 3 0 {number + 1}")
@@ -54,11 +54,16 @@ FIFTY_1 = [918, 550, 527, 527] + 17 * [521]
 FIFTY_2 = [918, 553, 525] + 18 * [521]
 CUSTOMERS_1 = [30749, 16929, 15645, 15471, 14872, 14859, 14774, 14656, 14656] + 12 * [14642]
 CUSTOMERS_2 = [30749, 16539, 15581, 15416, 15140, 14948, 14684, 14669] + 13 * [14668]
-# Steps, vehicles and distance where it told them: the first search and the tries end where they have found their plans.
-EIGHTY_1 = "0 16 6205, 50000 10 4173, 55000 10 4112, 60000 10 4112, 65000 10 4095, 70000 10 4095, 75000 10 4086, 80000 10 4086, 85000 10 4086, 90000 10 4086, 95000 10 4062, 100000 10 4062"
-EIGHTY_2 = "0 16 6205, 7108 10 4284, 50000 10 4284, 55000 10 4159, 60000 10 4108, 65000 10 4107, 70000 10 4107, 75000 10 4107, 80000 10 4107, 85000 10 4107, 90000 10 4107, 95000 10 4086, 100000 10 4051"
-MANY_1 = "0 35 14017, 18884 23 9358, 50000 23 9358, 55000 23 9172, 60000 23 9120, 65000 23 9110, 70000 23 9110, 75000 23 9110, 80000 23 9110, 85000 23 9057, 90000 23 9057, 95000 23 9057, 100000 23 9057"
-MANY_2 = "0 35 14017, 6340 24 9909, 27588 23 9480, 50000 23 9480, 55000 23 9202, 60000 23 9175, 65000 23 9166, 70000 23 9162, 75000 23 9060, 80000 23 9047, 85000 23 9047, 90000 23 9036, 95000 23 9036, 100000 23 9036"
+# Requests left out, vehicles and distance at no steps, and from the half on behind each twentieth: tries of fewer vehicles are one command.
+FORTY_1 = "0 10 3466, 0 6 2468, 0 6 2256, 0 6 2256, 0 6 2256, 0 6 2256, 0 6 2256, 0 6 2256, 0 6 2256, 0 6 2256, 0 6 2256, 0 6 2256"
+EIGHTY_1 = "0 16 6205, 0 10 4158, 0 10 4051, 0 10 4049, 0 10 4049, 0 10 4049, 0 10 4049, 0 10 4049, 0 10 4049, 0 10 4049, 0 10 4049, 0 10 4049"
+EIGHTY_2 = "0 16 6205, 0 10 4384, 0 10 4239, 0 10 4207, 0 10 4194, 0 10 4176, 0 10 4176, 0 10 4176, 0 10 4101, 0 10 4101, 0 10 4092, 0 10 4092"
+MORE_1 = "0 23 8973, 0 14 6032, 0 14 6029, 0 14 5985, 0 14 5982, 0 14 5982, 0 14 5982, 0 14 5982, 0 14 5982, 0 14 5982, 0 14 5982, 0 14 5982"
+MANY_1 = "0 35 14017, 0 23 9579, 0 23 9240, 0 23 9083, 0 23 8988, 0 23 8919, 0 23 8915, 0 23 8914, 0 23 8912, 0 23 8870, 0 23 8870, 0 23 8870"
+MOST_1 = "0 52 20811, 0 33 13645, 0 33 12489, 0 33 12073, 0 33 11804, 0 33 11662, 0 33 11631, 0 33 11600, 0 33 11593, 0 33 11579, 0 33 11579, 0 33 11579"
+SHORT_1 = "32 9 3551, 3 9 3832, 3 9 3826, 3 9 3826, 3 9 3806, 3 9 3806, 3 9 3806, 3 9 3806, 3 9 3806, 3 9 3806, 3 9 3806, 3 9 3806"
+SHORTER_1 = "42 7 2758, 16 7 2975, 15 7 2871, 15 7 2871, 15 7 2871, 15 7 2871, 15 7 2871, 15 7 2871, 15 7 2871, 15 7 2871, 15 7 2871, 15 7 2871"
+SHORT_OF_MANY_2 = "69 21 8705, 5 21 8807, 4 21 8624, 4 21 8548, 4 21 8494, 4 21 8470, 4 21 8460, 4 21 8459, 4 21 8459, 4 21 8459, 4 21 8459, 4 21 8459"
 
 
 def staged(distances, steps=STEPS):
@@ -66,20 +71,26 @@ def staged(distances, steps=STEPS):
 
 
 def tried(told):
-    return "".join("at {} 0 {} {}\n".format(*line.split()) for line in told.split(", "))
+    steps = [0] + [STEPS * at // 20 for at in range(10, 21)]
+    return "".join(f"at {step} {line}\n" for step, line in zip(steps, told.split(", "), strict=True))
 
 
-# The kind, the instance, the steps, the seed, and what standard error has.
+# The kind, the instance, the steps, the seed, and what standard error begins with.
 SOLVED = [
     ("vrp", fifty(), STEPS, 1, staged(FIFTY_1)),
     ("vrp", fifty(), STEPS, 2, staged(FIFTY_2)),
     ("vrp", customers(80), STEPS, 1, staged(CUSTOMERS_1)),
     ("vrp", customers(80), STEPS, 2, staged(CUSTOMERS_2)),
+    ("lilim", pairs(40), STEPS, 1, tried(FORTY_1)),
     ("lilim", pairs(80), STEPS, 1, tried(EIGHTY_1)),
     ("lilim", pairs(80), STEPS, 2, tried(EIGHTY_2)),
-    # Two vehicles fewer are tried at first.
+    ("lilim", pairs(120), STEPS, 1, tried(MORE_1)),
+    # Two and three vehicles fewer are tried at first.
     ("lilim", pairs(200), STEPS, 1, tried(MANY_1)),
-    ("lilim", pairs(200), STEPS, 2, tried(MANY_2)),
+    ("lilim", pairs(300), STEPS, 1, tried(MOST_1)),
+    ("lilim", pairs(80, 9), STEPS, 1, tried(SHORT_1)),
+    ("lilim", pairs(80, 7), STEPS, 1, tried(SHORTER_1)),
+    ("lilim", pairs(200, 21), STEPS, 2, tried(SHORT_OF_MANY_2)),
     ("vrp", SIX, 1_400_000, 1, staged([66] + 20 * [62], 1_400_000)),
 ]
 
@@ -144,15 +155,25 @@ def session(folder, kind, instance, seed, lines):
     return text[12:]
 
 
+def routes_printed(plan):
+    return [line.split(": ")[1] for line in plan.splitlines() if line.startswith("Route")]
+
+
+def routes_shown(answers):
+    return [line.split(": ")[1] for line in answers.splitlines() if line.startswith("vehicle")]
+
+
 def check_solved(folder):
     for kind, instance, steps, seed, told in SOLVED:
         what = f"solve {kind} by {steps} steps of seed {seed}"
         status, plan, errors = planner("solve", kind, write(folder, instance), steps, seed)
-        expect(what, (status, errors), (0, told))
-        expect(f"{what}, its last line", plan.splitlines()[-1], "Cost " + told.split()[-1])
-        if kind == "vrp":
-            answers = session(folder, kind, instance, seed, f"build\nanneal 0 {steps}\nprint\n")
-            expect(f"{what}, and through a store", answers[answers.index("Route"):], plan + "ok\n")
+        left_out, _, distance = told.splitlines()[-1].split()[2:]
+        expect(what, (status, errors[: len(told)]), (int(left_out != "0"), told))
+        shown = session(folder, kind, instance, seed, f"build\nanneal 0 {steps}\nshow\n")
+        expect(f"{what}, and through a store", routes_shown(shown), routes_printed(plan))
+        if left_out == "0":
+            expect(f"{what}, all that it tells", errors, told)
+            expect(f"{what}, its last line", plan.splitlines()[-1], "Cost " + distance)
 
 
 def check_searched(folder):

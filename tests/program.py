@@ -254,6 +254,9 @@ READ_LINES = [
     ("search 000000000000000000007", BAD_LINE),
     ("search 18446744073709551616", NO_INSTANCE),
     ("anneal 1", NO_INSTANCE),
+    ("reduce 1", NO_INSTANCE),
+    ("reduce", BAD_LINE),
+    ("reduce 0 1", BAD_LINE),
     ("anneal 0", NO_INSTANCE),
     ("anneal", BAD_LINE),
     ("anneal 0 1 2", BAD_LINE),
@@ -470,11 +473,11 @@ SESSIONS = [
         ("print", "Cost 0\n"),
         ("next", "next 1\n"),
     ]),
-    # Twenty stages of one step, whose deviation is 0.
+    # Ten steps of tries, then stages of one step, whose deviation is 0.
     ("stages over the depot alone", "lilim", DEPOT_ALONE, [
         ("deviation 5", ""),
         ("show", "requests 0 next 1\nsteps 0 place 0\ncost 0 0 0\ndeviation 5\nwork 0 0 0\n"),
-        ("anneal 0 20", "".join(f"at {step} 0 0 0\n" for step in range(1, 21))),
+        ("anneal 0 20", "".join(f"at {step} 0 0 0\n" for step in range(10, 21))),
         ("show", "requests 0 next 1\nsteps 20 place 320\ncost 0 0 0\n"),
         ("anneal 0 20", ""),
     ]),
@@ -498,6 +501,8 @@ SESSIONS = [
         ("search 00000000000000000007", "at 7 2 0 0\n"),
         ("anneal 1000000001", RANGE),
         ("anneal 0", RANGE),
+        ("reduce 1000000001", RANGE),
+        ("reduce 0", RANGE),
         ("anneal 1", "at 8 2 0 0\n"),
         ("anneal 7 7", ""),
         ("anneal 8 7", RANGE),
@@ -522,7 +527,7 @@ SESSIONS = [
         ("add1 -1 0 0 9 8 0", RANGE),
         ("\tbuild\t ", ""),
     ]),
-    # Steps come in pieces of 256, and of 16,384 where they anneal.
+    # Steps come in pieces of 256, of 16,384 where they anneal, and of 524,288 where they try fewer vehicles.
     ("pieces", "vrp", THREE_CUSTOMERS, [
         ("search 200", "at 200 3 0 0\n"),
         ("reach 10", ""),
@@ -531,10 +536,11 @@ SESSIONS = [
         ("search 44", "at 800 3 0 0\n"),
         ("anneal 16385", "at 17184 3 0 0\nat 17185 3 0 0\n"),
         ("anneal 1", "at 17186 3 0 0\n"),
-        ("reach 1000017187", RANGE),
-        ("anneal 17187 17200", RANGE),
-        ("anneal 0 1000017187", RANGE),
-        ("anneal 0 17186", ""),
+        ("reduce 524289", "at 541474 3 0 0\nat 541475 3 0 0\n"),
+        ("reach 1000541476", RANGE),
+        ("anneal 541476 541480", RANGE),
+        ("anneal 0 1000541476", RANGE),
+        ("anneal 0 541475", ""),
     ]),
 ]
 
@@ -556,18 +562,17 @@ STAGED_COSTS = [66, 65, 65, 65, 65, 65, 63, 63]
 # An instance, steps, a deviation or none, how standard error and standard output begin, and the last line: by the same program.
 SOLUTIONS = [
     ("lilim", ONE_PAIR, 3, None, "at 0 0 1 20\nat 1 0 1 20\nat 2 0 1 20\nat 3 0 1 20\n", BOTH, "Cost 20"),
-    ("lilim", DEPOT_ALONE, 20, None, "".join(f"at {step} 0 0 0\n" for step in range(21)), "Cost 0\n", "Cost 0"),
+    ("lilim", DEPOT_ALONE, 20, None, "at 0 0 0 0\n" + "".join(f"at {step} 0 0 0\n" for step in range(10, 21)), "Cost 0\n", "Cost 0"),
     ("lilim", DEPOT_ALONE, 20, 5, "".join(f"at {step} 0 0 0\n" for step in range(21)), "Cost 0\n", "Cost 0"),
     ("lilim", LATE_PAIR, 1, None, "at 0 1 1 20\nat 1 1 1 20\nunplanned 1: 3\n", "Route #1: 1 2\n", "Route #1: 1 2"),
     ("vrp", SIX, 7, None, "at 0 0 0 66\nat 1 0 0 65\nat 2 0 0 65\nat 3 0 0 65\nat 4 0 0 65\nat 5 0 0 65\nat 6 0 0 63\nat 7 0 0 63\n", "Route", "Cost 63"),
     ("vrp", SIX, 30, None, "at 0 0 0 66\n", "Route", "Cost 62"),
     ("vrp", SIX, 2, 3, "at 0 0 0 66\nat 1 0 0 ", "Route", None),
-    ("lilim", FOUR_PAIRS, 40, None, "at 0 0 3 68\nat 20 0 2 65\nat 22 0 2 65\n", "Route", "Cost 65"),
-    # The search goes on from the plan before a try that fails.
+    ("lilim", FOUR_PAIRS, 40, None, "at 0 0 3 68\nat 20 0 2 70\nat 22 0 2 65\n", "Route", "Cost 65"),
     ("lilim", FOUR_PAIRS, 7, None, "at 0 0 3 68\nat 3 0 3 68\nat 4 0 3 68\nat 5 0 2 70\nat 6 0 2 70\nat 7 0 2 65\n", "Route", "Cost 65"),
     ("lilim", LATE_PAIR_FOR_TWO, 5, None, "at 0 0 2 50\nat 2 0 2 50\nat 3 0 2 50\nat 4 0 2 50\nat 5 0 2 50\n", "Route #1: ", "Cost 50"),
     # Two vehicles fewer are tried at once.
-    ("lilim", fifty_pairs(), 200, None, "at 0 0 40 2340\nat 17 0 38 2276\nat 29 0 38 2276\nat 100 0 38 2276\nat 110 0 38 2276\n", "Route", "Cost 2257"),
+    ("lilim", fifty_pairs(), 200, None, "at 0 0 40 2340\nat 100 0 38 2276\nat 110 0 38 2276\n", "Route", "Cost 2257"),
 ]
 
 

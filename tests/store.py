@@ -9,8 +9,8 @@
 4. With strace: no `ok` or `at` line is written before the sync that it stands on has returned.
 5. Two programs at once on one store: the second is refused and changes nothing; after kill -9 the store opens again.
 6. A full disk, on a small tmpfs: it is told when the store is made; one that is full later is told behind `fault device`.
-7. With strace: `anneal 0 1000` is killed at each of its syncs in turn. What was told is there, and the same line again leads to the
-   state of the line that nothing cut.
+7. With strace: `anneal 0 1000`, of either kind, is killed at each of its syncs in turn. What was told is there, and the same line again
+   leads to the state of the line that nothing cut.
 8. Search steps that are repeated: how many stands on standard error before, by `run` and `load`, and nothing where none are.
    Standard streams that are closed: the store is not taken for one of them.
 
@@ -32,8 +32,9 @@ INSTANCE = os.path.join(TOP, "examples", "lc101.txt")
 SMALL_INSTANCE = os.path.join(TOP, "examples", "P-n16-k8.vrp")
 STORE_BYTES = 4_326_400
 STEPS = 20_000
-# Twenty stages of fifty steps.
+# Twenty stages of fifty steps; of a Li-Lim instance annealing and tries of fewer vehicles, one command each, and twenty of 25.
 STAGES = b"anneal 0 1000\n"
+STAGED = [("vrp", SMALL_INSTANCE, 20), ("lilim", INSTANCE, 22)]
 
 
 def fail(text):
@@ -315,15 +316,20 @@ def check_stages(folder):
     if shutil.which("strace") is None or subprocess.run(["strace", "-o", os.devnull, "true"], capture_output=True).returncode != 0:
         print("skipped: store, stages that are cut, since strace is not there or may not trace")
         return
-    store = os.path.join(folder, "begun.store")
-    got = subprocess.run([PROGRAM, "load", store, "vrp", SMALL_INSTANCE, "7"], capture_output=True)
+    for kind, instance, lines in STAGED:
+        check_cuts(folder, kind, instance, lines)
+
+
+def check_cuts(folder, kind, instance, lines):
+    store = os.path.join(folder, f"{kind}.store")
+    got = subprocess.run([PROGRAM, "load", store, kind, instance, "7"], capture_output=True)
     if got.stdout != b"ok\n":
         fail(f"stages: load: {got}")
     run(store, b"build\n")
     begun = contents(store)
     store, told, syncs = traced_stages(folder, begun)
     # Each of the twenty stages sets a deviation, a record of one sync, and anneals, a snapshot of two.
-    if told.count("\nat ") != 20 or not told.endswith("\nok\n") or syncs < 60:
+    if told.count("\nat ") != lines or not told.endswith("\nok\n") or syncs < 60:
         fail(f"stages: {syncs} syncs, {told!r}")
     shown = run(store, b"show\n")
     for kill in range(1, syncs + 1):
@@ -336,7 +342,7 @@ def check_stages(folder):
             fail(f"stages cut at sync {kill}: {known[-1]} steps were told, {steps} are there")
         if not run(store, STAGES).endswith("ok\n") or run(store, b"show\n") != shown:
             fail(f"stages cut at sync {kill} and said again lead to another state")
-    print(f"store: stages of annealing, cut at each of {syncs} syncs and said again, lead to one state")
+    print(f"store: stages of {kind}, cut at each of {syncs} syncs and said again, lead to one state")
 
 
 def refused(*words):

@@ -1,5 +1,3 @@
+mod AnnealLemmas
 mod AuditedLemmas
 mod SearchLemmas
-mod StageLemmas
-mod StoreLemmas
-mod TryLemmas

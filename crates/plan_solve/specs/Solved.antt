@@ -1,17 +1,16 @@
 -- What solving makes of an instance's text, and what is told on the way.
-use Rattle.std.specs.Prelude.{◌≡◌, ◌≢◌, ℕ, ◌*◌, ◌/◌, ◌≤◌, ◌==◌, min, nat_lt, true, if◌then◌else◌, List, [], ◌∷◌, length, map, sum_by, Option, Some, None, ⊤}
+use Rattle.std.specs.Prelude.{◌≡◌, ◌≢◌, ℕ, ◌*◌, ◌/◌, ◌<◌, ◌≤◌, ◌^◌, ◌==◌, max, min, nat_lt, true, if◌then◌else◌, List, [], ◌∷◌, ◌++◌, length, map, sum_by, Option, Some, None, ⊤}
 use Rattle.std.specs.List.{flat_map, list_all, range_with_len}
 use Rattle.std.specs.Io.KnownBytes.{Appends}
 use Rattle.plan_types.specs.Instance.{Instance, IsInstance}
 use Rattle.plan_types.specs.declared.requests.Kind.{Kind}
-use Rattle.plan_types.specs.declared.requests.Kind.TheVariants.{LiLim, Vrp}
 use Rattle.instance_read.specs.Faults.{IsFirstFault}
 use Rattle.instance_read.specs.declared.faults.ReadFault.{ReadFault}
 use Rattle.instance_read.specs.declared.faults.ReadFaultKind.TheVariants as read_fault
 use Rattle.sol_text.specs.Faults.{Spells}
 use Rattle.sol_text.specs.Written.{routes_text, used_routes}
 use Rattle.seeded_search.specs.Steps.{unplanned_names}
-use Rattle.command_core.specs.Effects.{built, loaded, searched, with_deviation}
+use Rattle.command_core.specs.Effects.{built, job_after, loaded, searched, with_deviation}
 use Rattle.command_core.specs.Job.{JobValue}
 use Rattle.command_core.specs.Commands.{is_searching, steps_of}
 use Rattle.command_core.specs.Runs.{after}
@@ -20,11 +19,11 @@ use Rattle.command_core.specs.declared.commands.Command.TheVariants.{Build, Devi
 use Rattle.command_core.specs.declared.states.State.TheVariants.{Empty, Loaded}
 use Rattle.command_text.specs.Answering.{commands_of}
 use Rattle.command_text.specs.Answers.{at_text, line}
+use Rattle.command_text.specs.Laws.{left_behind}
 use Rattle.command_text.specs.Readings.{InstanceFault, SpellsInstance}
 use Rattle.command_text.specs.Showing.{print_text, solution_of}
+use Rattle.command_text.specs.declared.steps.Goal.TheVariants as goal
 use Rattle.command_text.specs.declared.steps.Steps.TheVariants as makes
-use Rattle.plan_solve.specs.Staged.{Stand, by_stages, first_stand}
-use Rattle.plan_solve.specs.Tried.{by_tries}
 use Rattle.plan_solve.specs.declared.faults.SolveFault.{SolveFault}
 use Rattle.plan_solve.specs.declared.faults.SolveFault.TheVariants as fault
 use Rattle.plan_solve.specs.declared.solving.Solved.{Solved}
@@ -56,6 +55,37 @@ marks steps = 0 ∷ above 0 (map (twentieths steps) (range_with_len 1 20))
 abbrev pub search_lines : ℕ → JobValue → ℕ → List ℕ
 search_lines deviation j steps = flat_map (λ n. line (at_text (searched_with deviation j n))) (marks steps)
 
+-- ---- by annealing, without one
+
+-- the commands of a store's line `anneal 0 STEPS`
+abbrev pub commands_from : JobValue → ℕ → List Command
+commands_from j steps = commands_of (makes.Stages 0 steps) (Loaded j)
+
+-- the job behind these commands, one after another
+abbrev pub job_behind : JobValue → List Command → JobValue
+job_behind j [] = j
+job_behind j (c ∷ cs) = job_behind (job_after j c) cs
+
+abbrev pub annealed : JobValue → ℕ → JobValue
+annealed j steps = job_behind j (commands_from j steps)
+
+-- twentieths of so many steps that the job has made, rounded down
+abbrev pub parts_made : ℕ → JobValue → ℕ
+parts_made steps j = 20 * j.steps / steps
+
+-- behind a command a line tells how far the job is, where it has made more twentieths than at the last line
+abbrev pub line_behind : ℕ → ℕ → JobValue → List ℕ
+line_behind steps parts j = if nat_lt parts (parts_made steps j) then line (at_text j) else []
+
+abbrev pub lines_behind : ℕ → ℕ → JobValue → List Command → List ℕ
+lines_behind steps parts j [] = []
+lines_behind steps parts j (c ∷ cs) =
+    let next = job_after j c in line_behind steps parts next ++ lines_behind steps (max parts (parts_made steps next)) next cs
+
+-- a line before the first command, and those behind the commands
+abbrev pub anneal_lines : JobValue → ℕ → List ℕ
+anneal_lines j steps = line (at_text j) ++ lines_behind steps 0 j (commands_from j steps)
+
 -- ---- by either
 
 -- the deviation of the search, at most 1,000,000,000; where none is, it is annealed
@@ -63,15 +93,10 @@ abbrev pub deviation_of : Option ℕ → Option ℕ
 deviation_of (Some deviation) = Some (min deviation 1000000000)
 deviation_of None = None
 
--- annealing: where vehicles count, smaller fleets are tried before the stages
-abbrev pub by_annealing : Kind → ℕ → Stand → Stand
-by_annealing LiLim steps s = by_tries steps s
-by_annealing Vrp steps s = by_stages steps s
-
 -- the job after so many steps
 abbrev pub solved_from : JobValue → ℕ → Option ℕ → JobValue
 solved_from j steps (Some deviation) = searched_with deviation j steps
-solved_from j steps None = (by_annealing j.problem.kind steps (first_stand j)).job
+solved_from j steps None = annealed j steps
 
 abbrev pub solved : Instance → ℕ → ℕ → Option ℕ → JobValue
 solved p seed steps deviation = solved_from (begun p seed) steps (deviation_of deviation)
@@ -79,7 +104,7 @@ solved p seed steps deviation = solved_from (begun p seed) steps (deviation_of d
 -- what is told on the way
 abbrev pub lines_from : JobValue → ℕ → Option ℕ → List ℕ
 lines_from j steps (Some deviation) = search_lines deviation j steps
-lines_from j steps None = (by_annealing j.problem.kind steps (first_stand j)).lines
+lines_from j steps None = anneal_lines j steps
 
 abbrev pub progress : Instance → ℕ → ℕ → Option ℕ → List ℕ
 progress p seed steps deviation = lines_from (begun p seed) steps (deviation_of deviation)
@@ -89,10 +114,15 @@ abbrev pub IsWhatCommandsMake : Type 0
 IsWhatCommandsMake = (p : Instance) (seed deviation : ℕ) (cs : List Command) → deviation ≤ 1000000000 → list_all is_searching cs ≡ true
     → after Empty (Load p seed ∷ Build ∷ Deviation deviation ∷ cs) ≡ Loaded (solved p seed (sum_by steps_of cs) (Some deviation))
 
--- law: where vehicles do not count, annealing is what the commands of a store's line `anneal 0 STEPS` make
+-- law: without one it is what the commands of a store's line `anneal 0 STEPS` make
 abbrev pub IsWhatStagesMake : Type 0
-IsWhatStagesMake = (p : Instance) (seed steps : ℕ) → p.kind ≡ Vrp
+IsWhatStagesMake = (p : Instance) (seed steps : ℕ)
     → after Empty (Load p seed ∷ Build ∷ commands_of (makes.Stages 0 steps) (Loaded (begun p seed))) ≡ Loaded (solved p seed steps None)
+
+-- law: it is what that line leaves, where a line asks for so many steps at most
+abbrev pub IsWhatLineLeaves : Type 0
+IsWhatLineLeaves = (p : Instance) (seed steps : ℕ) → steps ≤ 1000000000
+    → left_behind (goal.Stages 0 steps) (after Empty (Load p seed ∷ Build ∷ [])) [] ≡ Loaded (solved p seed steps None)
 
 -- ---- the answer
 
@@ -112,6 +142,7 @@ pub record IsSolved (kind : Kind) (text : List ℕ) (seed steps : ℕ) (deviatio
   pub problem : Instance
   pub spelled : SpellsInstance kind text problem
   pub kept : IsInstance problem
+  pub few : steps < 2 ^ 32
   pub plan : TellsPlan (solved problem seed steps deviation) found
   pub told : found.is_told ≡ true → Appends before after_it (progress problem seed steps deviation)
 

@@ -6,9 +6,8 @@
 //!
 //! How it works: the problem is loaded with the seed, and each unplanned request is put in where it is best, as the
 //! commands `load` and `build` of a store do. With a deviation the search makes the steps, as `search` does. Without one
-//! it goes through the twenty stages of annealing (`anneal_stages`): each begins with the best plan so far, and lets
-//! the working plan be less far from it than the one before. Of a Li-Lim problem, where vehicles count, up to half of
-//! the steps go into tries of smaller fleets before (`fleet_tries`). Lines tell how far it is.
+//! the commands of a store's line `anneal 0 STEPS` are carried out, one after another (`command_text`). Lines tell how
+//! far it is.
 //!
 //! Modules, in reading order:
 //! - `faults`: why there is no plan
@@ -16,26 +15,26 @@
 //! - `marks`: at which steps a search tells a line
 //! - `telling`: a line of progress
 //! - `searching`: the search, with its lines
-//! - `staging`: the stages, with their lines
-//! - `trying`: the tries of smaller fleets, with theirs
+//! - `annealing`: annealing by stages, with its lines
 //! - `printing`: the text of a plan, and what it leaves out
 //! - `solving`: `solve`
 //! - `laws`: what is solved, for every instance
 //!
-//! Said by `specs/Solved.antt`, `Staged.antt`, `Tried.antt` and `Audited.antt`. Proved:
+//! Said by `specs/Solved.antt` and `Audited.antt`. Proved:
 //! - `solve`, where it answers (`IsSolved`): the text is that of the plan which loading, building and so many steps give,
 //!   the requests that it leaves out are named, and the lines were written unless it says that one could not be
 //! - `solve`, where it refuses (`Fails`): the text's first fault, with nothing written
 //! - `solving_is_commands`: with a deviation the plan is what the commands of a store make of the instance, however the
 //!   steps are cut
-//! - `annealing_is_commands`: without one, where vehicles do not count, it is what the commands of the line
-//!   `anneal 0 STEPS` make behind `load` and `build`
+//! - `annealing_is_commands`: without one it is what the commands of the line `anneal 0 STEPS` make behind `load` and
+//!   `build`, and what that line leaves
 //! - `what_is_solved_passes_the_audit`: where no request is left out, both texts spell values, the solution is sound,
 //!   serves each request, keeps the fleet and prints the distance that it drives
 //!
 //! `OutOfMemory` may come at any time. A line that can't be written ends no solving; behind it none is told.
 #![tactic(auto)]
 
+mod annealing;
 mod carrying;
 mod faults;
 mod laws;
@@ -43,9 +42,7 @@ mod marks;
 mod printing;
 mod searching;
 mod solving;
-mod staging;
 mod telling;
-mod trying;
 
 pub use faults::SolveFault;
 pub use laws::{annealing_is_commands, solving_is_commands, what_is_solved_passes_the_audit};

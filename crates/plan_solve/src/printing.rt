@@ -6,7 +6,7 @@ ghost use Rattle.command_text.specs.Showing.{solution_of};
 ghost use Rattle.plan_solve.specs.Solved.{TellsPlan, plan_text};
 
 use crate::solving::Solved;
-use crate::staging::Walk;
+use crate::telling::Walk;
 use command_core::{Job, unplanned_names};
 use plan_audit::passes_are_local;
 use plan_types::OutOfMemory;

@@ -6,8 +6,7 @@ ghost use Rattle.plan_solve.specs.Telling.{HasWalked};
 
 use crate::carrying::{carry_out, into_job, job_of};
 use crate::marks::{PARTS, twentieths};
-use crate::staging::Walk;
-use crate::telling::tell;
+use crate::telling::{Walk, tell};
 use command_core::{Command, Job, Planner, State, searches_add_up};
 use command_text::next_count;
 use plan_types::OutOfMemory;
@@ -42,11 +41,7 @@ pub(crate) fn search_telling<W: Write>(
         }
     }
     let job = into_job(planner)?;
-    Ok(Walk {
-        job,
-        is_told,
-        parts: 0,
-    })
+    Ok(Walk { job, is_told })
 }
 
 // So many more steps of the search, piece by piece.

@@ -1,15 +1,14 @@
 //! From an instance's text to a plan's.
 ghost use Rattle.std.specs.Prelude.{◌≡◌, IfOk, MatchResult};
-ghost use Rattle.plan_solve.specs.Solved.{Fails, IsSolved, begun, by_annealing, deviation_of, lines_from, solved_from};
-ghost use Rattle.plan_solve.specs.Staged.{first_stand};
-ghost use Rattle.plan_solve.specs.Telling.{HasWalked, IsFound, Leads, refused};
+ghost use Rattle.plan_solve.specs.Solved.{Fails, IsSolved, begun, deviation_of, lines_from, solved_from};
+ghost use Rattle.plan_solve.specs.Telling.{HasWalked, IsFound, refused};
 
+use crate::annealing::anneal_telling;
 use crate::carrying::{carry_out, into_job};
 use crate::faults::SolveFault;
 use crate::printing::answer;
 use crate::searching::search_telling;
-use crate::staging::{Walk, first_told, stages_telling};
-use crate::trying::try_telling;
+use crate::telling::Walk;
 use command_core::{Command, Job, MAX_DEVIATION, Planner, State};
 use instance_read::{ReadFault, ReadFaultKind, read_instance};
 use plan_types::{Kind, OutOfMemory, Problem};
@@ -32,8 +31,7 @@ pub struct Solved {
 /// The text of the plan that is found in so many steps from the one that is built of an instance's text with this seed.
 ///
 /// With a deviation, in the unit of distance and at most 1,000,000,000, the search makes the steps, as a store's commands `load`, `build`,
-/// `deviation` and `search` do. Without one they are annealing steps, by stages; of a Li-Lim problem, where vehicles count, up to half of
-/// them go into tries of smaller fleets before.
+/// `deviation` and `search` do. Without one they are those of its line `anneal 0 STEPS` behind `load` and `build`.
 ///
 /// A line `at STEPS UNPLANNED VEHICLES DISTANCE` is written to `progress` before the first step and about each twentieth of them, and
 /// flushed. Behind a line that can't be written none is told.
@@ -108,14 +106,13 @@ fn walk<W: Write>(
     deviation: Option<u32>,
     progress: &mut W,
 ) -> Result<Walk, OutOfMemory>
-    requires { begun.steps ≡ 0 }
     ensures { let d = deviation_of deviation in IfOk result
         (HasWalked (W.contents progress.old) (W.contents progress.new)
         (solved_from begun steps d) (lines_from begun steps d)) }
 {
     match deviation_of(deviation) {
         Some(deviation) => search_telling(alloc, begun, deviation, steps, progress),
-        None => annealed(alloc, begun, steps, progress),
+        None => anneal_telling(alloc, begun, steps, progress),
     }
 }
 
@@ -126,46 +123,5 @@ fn deviation_of(deviation: Option<u32>) -> Option<u32>
     match deviation {
         Some(deviation) => Some(deviation.min(MAX_DEVIATION)),
         None => None,
-    }
-}
-
-// Annealing; where vehicles count, with tries of smaller fleets before the stages.
-fn annealed<W: Write>(
-    alloc: Global,
-    begun: Job,
-    steps: u32,
-    progress: &mut W,
-) -> Result<Walk, OutOfMemory>
-    requires { begun.steps ≡ 0 }
-    ensures { let stand = by_annealing begun.problem.kind steps (first_stand begun) in IfOk result
-        (HasWalked (W.contents progress.old) (W.contents progress.new) stand.job stand.lines) }
-{
-    let kind = kind_of(&begun);
-    let walk = first_told(begun, progress);
-    annealed_from(alloc, kind, walk, steps, progress)
-}
-
-fn kind_of(job: &Job) -> Kind
-    ensures { result ≡ job.now.problem.kind }
-{
-    job.problem.kind
-}
-
-// The same from a solving that has made no step. `kind` is that of its problem, read before the job was given away.
-fn annealed_from<W: Write>(
-    alloc: Global,
-    kind: Kind,
-    walk: Walk,
-    steps: u32,
-    progress: &mut W,
-) -> Result<Walk, OutOfMemory>
-    requires { walk.job.steps ≡ 0 }
-    ensures { IfOk result
-        (Leads (W.contents progress.old) (W.contents progress.new) (by_annealing kind steps) walk) }
-{
-    let to = u64::from(steps);
-    match kind {
-        Kind::LiLim => try_telling(alloc, walk, to, progress),
-        Kind::Vrp => stages_telling(alloc, walk, to, progress),
     }
 }

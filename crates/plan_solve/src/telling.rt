@@ -1,4 +1,4 @@
-//! A line of progress.
+//! A line of progress, and what a solving leaves.
 ghost use Rattle.std.specs.Prelude.{◌≡◌, true};
 ghost use Rattle.std.specs.Io.KnownBytes.{Appends};
 ghost use Rattle.command_text.specs.Answers.{at_text, line};
@@ -6,6 +6,14 @@ ghost use Rattle.command_text.specs.Answers.{at_text, line};
 use command_core::Job;
 use command_text::at_line;
 use std::io::Write;
+
+/// A solving behind its last step.
+#[derive(Drop)]
+pub(crate) struct Walk {
+    pub job: Job,
+    /// Whether each line of progress was written.
+    pub is_told: bool,
+}
 
 /// Writes how far the solving is, and flushes it, unless a line before it could not be written. Whether it and those before it were
 /// written.

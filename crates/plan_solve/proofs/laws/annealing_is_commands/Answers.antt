@@ -1,5 +1,8 @@
-use Rattle.plan_solve.proofs.StoreLemmas.{stages_make_it}
+use Rattle.plan_solve.proofs.AnnealLemmas.{line_leaves_it, stages_make_it}
 use Rattle.plan_solve.proofs.laws.annealing_is_commands.Goals as goal
 
-pub returns : goal.returns
-returns c = stages_make_it c.stages_hold_their_steps.ensures c.stages_cover_all_steps.ensures c.annealings_add_up.ensures.two
+pub returns-clause-commands : goal.returns-clause-commands
+returns-clause-commands c = stages_make_it
+
+pub returns-clause-line : goal.returns-clause-line
+returns-clause-line c = line_leaves_it
