@@ -6,7 +6,7 @@
 3. Lines of run: which are read, over an empty store and over a loaded one; lines that are too long, and `load` in them.
 4. Sessions: pins, routes and next numbers as they are shown; timetables, and why a request is where it is; refusals.
 5. Steps: their pieces, how far `reach` goes, and the stages of annealing, made by hand, and cut and said again.
-6. solve: plans, what is left out, and tries of a smaller fleet. solves: a solution that can't be written whole.
+6. solve: plans, what is left out, and tries of fewer vehicles. solves: a solution that can't be written whole.
 
 Wants the program that rt ci leaves.
 """
