@@ -24,15 +24,63 @@ type Row = (
 
 const ROWS: [Row; 10] = [
     // The vehicle with a pin is kept, though its number is higher; the first step serves the other's customer behind the pin.
-    (LINE, Kind::LiLim, &[0, 2, 0], &[1, 0, 2, 3, 0], 20, &[0, 2, 3, 1, 0], 1),
-    (LINE, Kind::LiLim, &[0, 2, 0], &[1, 0, 2, 3, 0], 1, &[0, 2, 3, 1, 0], 1),
+    (
+        LINE,
+        Kind::LiLim,
+        &[0, 2, 0],
+        &[1, 0, 2, 3, 0],
+        20,
+        &[0, 2, 3, 1, 0],
+        1,
+    ),
+    (
+        LINE,
+        Kind::LiLim,
+        &[0, 2, 0],
+        &[1, 0, 2, 3, 0],
+        1,
+        &[0, 2, 3, 1, 0],
+        1,
+    ),
     // It is kept though its route is no longer than the other's, which then holds nothing that can be moved.
-    (LINE, Kind::LiLim, &[0, 2, 0], &[1, 3, 0, 2, 0], 6, &[1, 3, 0, 2, 0], 6),
+    (
+        LINE,
+        Kind::LiLim,
+        &[0, 2, 0],
+        &[1, 3, 0, 2, 0],
+        6,
+        &[1, 3, 0, 2, 0],
+        6,
+    ),
     // Where both have pins there is no try.
-    (LINE, Kind::LiLim, &[1, 0, 2, 0], &[1, 0, 2, 3, 0], 20, &[1, 0, 2, 3, 0], 0),
+    (
+        LINE,
+        Kind::LiLim,
+        &[1, 0, 2, 0],
+        &[1, 0, 2, 3, 0],
+        20,
+        &[1, 0, 2, 3, 0],
+        0,
+    ),
     // Nor where one vehicle serves all, nor where there is nothing to serve.
-    (LINE, Kind::LiLim, &[0, 0], &[3, 2, 1, 0, 0], 20, &[3, 2, 1, 0, 0], 0),
-    (Given::Customers(10, 2, &[]), Kind::LiLim, &[0, 0], &[0, 0], 20, &[0, 0], 0),
+    (
+        LINE,
+        Kind::LiLim,
+        &[0, 0],
+        &[3, 2, 1, 0, 0],
+        20,
+        &[3, 2, 1, 0, 0],
+        0,
+    ),
+    (
+        Given::Customers(10, 2, &[]),
+        Kind::LiLim,
+        &[0, 0],
+        &[0, 0],
+        20,
+        &[0, 0],
+        0,
+    ),
     // A plan that plans nothing has nothing that can be moved: the try of all vehicles is in vain.
     (LINE, Kind::LiLim, &[0, 0], &[0, 0], 7, &[0, 0], 7),
     // Three vehicles can't serve four customers who each fill one.
@@ -46,8 +94,24 @@ const ROWS: [Row; 10] = [
         9,
     ),
     // Where vehicles do not count there are no tries, nor without a step.
-    (LINE, Kind::Vrp, &[0, 0], &[1, 0, 2, 3, 0], 20, &[1, 0, 2, 3, 0], 0),
-    (LINE, Kind::LiLim, &[0, 0], &[1, 0, 2, 3, 0], 0, &[1, 0, 2, 3, 0], 0),
+    (
+        LINE,
+        Kind::Vrp,
+        &[0, 0],
+        &[1, 0, 2, 3, 0],
+        20,
+        &[1, 0, 2, 3, 0],
+        0,
+    ),
+    (
+        LINE,
+        Kind::LiLim,
+        &[0, 0],
+        &[1, 0, 2, 3, 0],
+        0,
+        &[1, 0, 2, 3, 0],
+        0,
+    ),
 ];
 
 // The plan that so many steps of tries leave, and how many were made; nothing where the pins are too few or the plan doesn't pass.
