@@ -9,6 +9,7 @@ pub mod PairLemmas
 pub mod PinLemmas
 pub mod PlanLemmas
 pub mod PrintLemmas
+pub mod RoutesLemmas
 pub mod RuleLemmas
 pub mod SeatLemmas
 pub mod ServedLemmas

@@ -9,7 +9,7 @@ use Rattle.plan_audit.specs.Finding.{first_route, told_by, unknown_at, repeated_
 use Rattle.plan_types.specs.declared.plans.Cost.{Cost}
 use Rattle.route_sched.specs.Cost.{total_length}
 use Rattle.plan_audit.proofs.FleetLemmas.{fleet_nothing, fleet_found, used-most, length-take-most}
-use Rattle.plan_audit.specs.Verdict.{Subject, planned, printed, routes_of, rule_number, Breaks, KeepsRules, IsLeastBroken, IsBrokenOver, IsVerdict}
+use Rattle.plan_audit.specs.Verdict.{Subject, planned, printed, routes_of, rule_number, Breaks, KeepsRules, IsLeastBroken, IsBrokenOver, IsVerdictOver, IsVerdict}
 use Rattle.plan_audit.specs.declared.faults.Fault.{Fault}
 use Rattle.plan_audit.specs.declared.rules.Rule.{Rule}
 use Rattle.plan_audit.specs.declared.rules.Rule.TheVariants.{UnknownStop, Twice, Missing, SplitPair, DeliveryFirst, Load, Late, LateReturn, Fleet, Pin, PrintedCost}
@@ -185,35 +185,43 @@ module _ (p : Instance) (routes : List (List ℕ)) (s : Subject) (is : routes_of
       no_windows : p.kind ≡ LiLim → ⊥
       no_windows e = let h : Vrp ≡ LiLim = sym kind ∙ e in cc
 
--- the rules that follow those on times, of printed routes
-timed : (p : Instance) (s : Subject) → KeepsRules 1 8 p s → KeepsBelow 1 9 p s
+-- no rule below the next one is broken
+within : (high : ℕ) (p : Instance) (s : Subject) → KeepsRules 1 high p s → KeepsBelow 1 (high + 1) p s
 unfolding KeepsBelow
-timed p s kept m r i n from below b = kept m r i n from (omega arith) b
+within high p s kept m r i n from below b = kept m r i n from (omega arith) b
 
+-- the rules that follow those on times, of printed routes
 module _ (p : Instance) (routes : List (List ℕ)) (cost : ℕ) (kept : KeepsRules 1 8 p (printed routes cost)) where
   after_fleet : first_beyond p.fleet 0 routes ≡ None → KeepsBelow 1 10 p (printed routes cost)
-  after_fleet a = keeps_more p (printed routes cost) 1 Fleet (timed p (printed routes cost) kept) (fleet_nothing p routes a)
+  after_fleet a = keeps_more p (printed routes cost) 1 Fleet (within 8 p (printed routes cost) kept) (fleet_nothing p routes a)
+
+  pub fleet_step : (m : ℕ) (v : Verdict) → v ≡ Broken (rule_number Fleet) (m + 1) 0 0 → first_beyond p.fleet 0 routes ≡ Some m → IsVerdictOver 1 10 p (printed routes cost) v
+  fleet_step m v is at =
+      let least = least_broken p (printed routes cost) 1 10 Fleet (suc m) 0 0 (omega arith) (omega arith) (within 8 p (printed routes cost) kept) (fleet_found p routes m at) in
+      subst (IsVerdictOver 1 10 p (printed routes cost)) (sym is) (Fleet, refl, subst (λ r. IsLeastBroken 1 10 p (printed routes cost) Fleet r 0 0) (sym (add-one m)) least)
 
   -- a printed solution has no pins
-  after_pin : first_beyond p.fleet 0 routes ≡ None → KeepsBelow 1 11 p (printed routes cost)
-  after_pin a = keeps_more p (printed routes cost) 1 Pin (after_fleet a) (λ r i n b. b)
+  pub fleet_kept : first_beyond p.fleet 0 routes ≡ None → KeepsRules 1 10 p (printed routes cost)
+  fleet_kept a = keeps_rules p (printed routes cost) 1 10 (keeps_more p (printed routes cost) 1 Pin (after_fleet a) (λ r i n b. b))
 
-  pub fleet_step : (m : ℕ) (v : Verdict) → v ≡ Broken (rule_number Fleet) (m + 1) 0 0 → first_beyond p.fleet 0 routes ≡ Some m → IsVerdict p (printed routes cost) v
-  fleet_step m v is at =
-      let least = least_broken p (printed routes cost) 1 11 Fleet (suc m) 0 0 (omega arith) (omega arith) (timed p (printed routes cost) kept) (fleet_found p routes m at) in
-      subst (IsVerdict p (printed routes cost)) (sym is) (Fleet, refl, subst (λ r. IsLeastBroken 1 11 p (printed routes cost) Fleet r 0 0) (sym (add-one m)) least)
-
-  pub cost_step : first_beyond p.fleet 0 routes ≡ None → (v : Verdict) → v ≡ Broken (rule_number PrintedCost) 0 0 0 → cost ≢ total_length p routes → IsVerdict p (printed routes cost) v
-  cost_step a v is ne =
+-- the rule on their cost
+module _ (p : Instance) (routes : List (List ℕ)) (cost : ℕ) (kept : KeepsRules 1 10 p (printed routes cost)) where
+  pub cost_step : (v : Verdict) → v ≡ Broken (rule_number PrintedCost) 0 0 0 → cost ≢ total_length p routes → IsVerdict p (printed routes cost) v
+  cost_step v is ne =
       let one : IsLeastOf (Breaks p (printed routes cost) PrintedCost) 0 0 0 = record {
         broken = ((refl, refl), refl, ne);
         least = λ q j t b. (let x = b.0.0 in let y = b.0.1 in inr (sym x, inr (sym y, omega arith)));
       } in
-      let least = least_broken p (printed routes cost) 1 11 PrintedCost 0 0 0 (omega arith) (omega arith) (after_pin a) one in
+      let least = least_broken p (printed routes cost) 1 11 PrintedCost 0 0 0 (omega arith) (omega arith) (within 10 p (printed routes cost) kept) one in
       subst (IsVerdict p (printed routes cost)) (sym is) (PrintedCost, refl, least)
 
-  pub pass_step : first_beyond p.fleet 0 routes ≡ None → cost ≡ total_length p routes → KeepsRules 1 11 p (printed routes cost)
-  pass_step a same = keeps_rules p (printed routes cost) 1 11 (keeps_more p (printed routes cost) 1 PrintedCost (after_pin a) (λ r i n b. b.2 same))
+  pub true_cost_step : cost ≡ total_length p routes → KeepsRules 1 11 p (printed routes cost)
+  true_cost_step same =
+      keeps_rules p (printed routes cost) 1 11
+      (keeps_more p (printed routes cost) 1 PrintedCost (within 10 p (printed routes cost) kept) (λ r i n b. b.2 same))
+
+pub pass_step : (p : Instance) (routes : List (List ℕ)) (cost : ℕ) → KeepsRules 1 8 p (printed routes cost) → first_beyond p.fleet 0 routes ≡ None → cost ≡ total_length p routes → KeepsRules 1 11 p (printed routes cost)
+pass_step p routes cost kept a = true_cost_step p routes cost (fleet_kept p routes cost kept a)
 
 -- those of a plan with its pins
 module _ (p : Instance) (routes pins : List (List ℕ)) (kept : KeepsRules 1 8 p (planned routes pins)) where
@@ -227,7 +235,7 @@ module _ (p : Instance) (routes pins : List (List ℕ)) (kept : KeepsRules 1 8 p
         ];
       } in
       subst (IsVerdict p (planned routes pins)) (sym is)
-      (Fleet, refl, least_broken p (planned routes pins) 1 11 Fleet 0 0 0 (omega arith) (omega arith) (timed p (planned routes pins) kept) one)
+      (Fleet, refl, least_broken p (planned routes pins) 1 11 Fleet 0 0 0 (omega arith) (omega arith) (within 8 p (planned routes pins) kept) one)
 
   within_fleet : length routes ≡ p.fleet → Keeps p (planned routes pins) Fleet
   within_fleet same r i n b = elim b [
@@ -236,7 +244,7 @@ module _ (p : Instance) (routes pins : List (List ℕ)) (kept : KeepsRules 1 8 p
   ]
 
   after_length : length routes ≡ p.fleet → KeepsBelow 1 10 p (planned routes pins)
-  after_length same = keeps_more p (planned routes pins) 1 Fleet (timed p (planned routes pins) kept) (within_fleet same)
+  after_length same = keeps_more p (planned routes pins) 1 Fleet (within 8 p (planned routes pins) kept) (within_fleet same)
 
   pub pin_step : length routes ≡ p.fleet → (f : Fault) (v : Verdict) → v ≡ fault_verdict Pin f → first_off_pin routes pins ≡ Some f → IsVerdict p (planned routes pins) v
   pin_step same f v is at =

@@ -11,7 +11,7 @@ use Rattle.route_sched.specs.Schedule.{start, load}
 use Rattle.route_sched.specs.Cost.{cost_of, used_count, total_length}
 use Rattle.plan_audit.specs.Rules.{item_at, Stands, StandsSomewhere}
 use Rattle.plan_audit.specs.Alone.{IsFeasibleAlone}
-use Rattle.plan_audit.specs.Verdict.{Subject, planned, printed, routes_of, KeepsRules, IsVerdict}
+use Rattle.plan_audit.specs.Verdict.{Subject, planned, printed, routes_of, KeepsRules, IsVerdict, IsRoutesVerdict}
 use Rattle.plan_audit.specs.declared.rules.Verdict.{Verdict}
 use Rattle.plan_audit.specs.declared.rules.Verdict.TheVariants.{Pass, Broken}
 
@@ -81,3 +81,7 @@ SolutionsPassWhereSound = (p : Instance) (routes : List (List ℕ)) (cost : ℕ)
 -- where the rules 3 to 8 are kept, each route is feasible alone
 abbrev pub RoutesAreFeasible : Type 0
 RoutesAreFeasible = (p : Instance) (s : Subject) → KeepsRules 3 8 p s → (r : ℕ) (route : List ℕ) → item_at (routes_of s) r ≡ Some route → IsFeasibleAlone p route
+
+-- the verdict of routes is the one of their text with its true cost, the distance that they drive
+abbrev pub RoutesAreJudgedByTrueCost : Type 0
+RoutesAreJudgedByTrueCost = (p : Instance) (routes : List (List ℕ)) (v : Verdict) → IsRoutesVerdict p routes v ↔ IsVerdict p (printed routes (total_length p routes)) v

@@ -110,3 +110,7 @@ IsVerdictOver low high p s (Broken rule r i n) = (k : Rule) × (rule ≡ rule_nu
 -- the verdict of the auditor
 abbrev pub IsVerdict : Instance → Subject → Verdict → Type 0
 IsVerdict = IsVerdictOver 1 11
+
+-- the verdict of routes whose cost is not asked: that over the rules 1 to 10 of a text of them, whatever cost it prints
+abbrev pub IsRoutesVerdict : Instance → List (List ℕ) → Verdict → Type 0
+IsRoutesVerdict p routes v = (cost : ℕ) → IsVerdictOver 1 10 p (printed routes cost) v

@@ -2,7 +2,7 @@
 ghost use Rattle.std.specs.Prelude.{◌≡◌, All, IfNone, IfOk, MatchOption, MatchResult};
 ghost use Rattle.route_sched.specs.Route.{AreLiveOnce, IsPlan};
 ghost use Rattle.plan_types.specs.Instance.{IsInstance};
-ghost use Rattle.plan_audit.specs.Verdict.{Subject, planned, printed, routes_of, KeepsRules, IsBrokenOver, IsVerdictOver, IsVerdict};
+ghost use Rattle.plan_audit.specs.Verdict.{Subject, planned, printed, routes_of, KeepsRules, IsBrokenOver, IsVerdictOver, IsVerdict, IsRoutesVerdict};
 ghost use Rattle.plan_audit.specs.declared.rules.Verdict.TheVariants.{Pass};
 ghost use Rattle.plan_audit.specs.Finding.{unserved_of};
 
@@ -43,16 +43,16 @@ pub fn audit(
     Ok(Verdict::Pass(cost))
 }
 
-/// Audits a printed solution: the least broken rule, by rule, route, place and stop, or pass with the cost; or want of
-/// memory. A printed solution has no pins, so rule 10 is not asked.
-pub fn audit_solution(
+/// Audits routes whose cost nobody prints, or printed with one that is not asked: the least broken rule, by rule, route,
+/// place and stop, or pass with the cost; or want of memory. Every request is to be served. There are no pins, so the
+/// rules 10 and 11 are not asked.
+pub fn audit_routes(
     alloc: Global,
     problem: &Problem,
-    solution: &Solution,
+    routes: &[Route],
 ) -> Result<Verdict, OutOfMemory>
-    ensures { IfOk result (IsVerdict problem.now (printed solution.now.routes solution.now.cost)) }
+    ensures { IfOk result (IsRoutesVerdict problem.now routes.now) }
 {
-    let routes = solution.routes.as_slice();
     let scan = Scan::new(alloc, problem, routes)?;
     let cost = match judge_stops(&scan, scan.first_unserved()) {
         Ok(cost) => cost,
@@ -61,6 +61,22 @@ pub fn audit_solution(
     if let Some(route) = first_beyond(problem.fleet, routes) {
         return Ok(Rule::Fleet.broken_from(route));
     }
+    Ok(Verdict::Pass(cost))
+}
+
+/// Audits a printed solution: the verdict on its routes, where they pass with the printed cost asked, too: rule 11; or
+/// want of memory.
+pub fn audit_solution(
+    alloc: Global,
+    problem: &Problem,
+    solution: &Solution,
+) -> Result<Verdict, OutOfMemory>
+    ensures { IfOk result (IsVerdict problem.now (printed solution.now.routes solution.now.cost)) }
+{
+    let cost = match audit_routes(alloc, problem, solution.routes.as_slice())? {
+        Verdict::Pass(cost) => cost,
+        broken => return Ok(broken),
+    };
     if cost.distance != solution.cost {
         return Ok(Rule::PrintedCost.broken_by(0));
     }

@@ -1,5 +1,5 @@
 //! Laws of the verdict, each for every problem, plan and verdict: what it means to a dispatcher.
-ghost use Rattle.plan_audit.specs.Laws.{PassesAreSound, PassesArePlans, UnsoundIsBroken, PlansPassWhereSound, SolutionsPassWhereSound, RoutesAreFeasible};
+ghost use Rattle.plan_audit.specs.Laws.{PassesAreSound, PassesArePlans, UnsoundIsBroken, PlansPassWhereSound, SolutionsPassWhereSound, RoutesAreFeasible, RoutesAreJudgedByTrueCost};
 ghost use Rattle.plan_audit.specs.Printing.{UsedRoutesAreSound, WholePlansPassPrinted};
 ghost use Rattle.plan_audit.specs.Locality.{TestsSayFeasible, TestsSayPass, PassesAreLocal, PlansAreLocal, PinsAreLiveOnce, PlansHaveVerdicts, RoutesHaveAnswers, RoutesMayBeReplaced, VerdictsAreUnique, FeasibilityIsLocal};
 
@@ -42,6 +42,12 @@ pub fn solutions_pass_where_they_are_sound()
     requests_stand_by_name();
     requests_are_found_by_stop();
 }
+
+/// Routes have the verdict of their text with its true cost: they pass exactly where a text of them passes that prints
+/// the distance driven, with the same cost, and else the same rule is told of the same place.
+pub fn routes_are_judged_by_true_cost()
+    ensures { RoutesAreJudgedByTrueCost }
+{}
 
 /// Where the rules 3 to 8 are kept, each route is feasible alone.
 pub fn routes_that_pass_are_feasible_alone()

@@ -1,9 +1,10 @@
 //! The auditor: whether a plan or a printed solution keeps every rule, and if not, the first place that
 //! breaks the first broken one.
 //!
-//! `audit_solution` judges anybody's printed solution, for the program's word `audit`. `audit` judges a plan
-//! with its pins: that a plan passes is what moves, commands and the store promise. `route_fault` judges one
-//! route by itself, and `is_feasible` says whether it is one.
+//! `audit_solution` judges anybody's printed solution, for the program's word `audit`; `audit_routes` judges
+//! its routes where the printed cost is not asked. `audit` judges a plan with its pins: that a plan passes is
+//! what moves, commands and the store promise. `route_fault` judges one route by itself, and `is_feasible`
+//! says whether it is one.
 //!
 //! Modules, in reading order:
 //! - `rules`: the eleven rules by number, with who asks each, and the verdict.
@@ -37,6 +38,8 @@
 //!   is broken, else the least fault by rule, route, place and stop; or they tell want of memory;
 //! - `route_fault` tells the least of the rules 3 to 8 that the list breaks as the only route, none exactly
 //!   where it is feasible alone; `is_feasible` answers the test `feasible_alone`;
+//! - `audit_routes` answers the verdict on rules 1 to 10 (`IsRoutesVerdict`), which is the auditor's on the same
+//!   routes printed with the distance that they drive (`routes_are_judged_by_true_cost`);
 //! - each plan has one verdict (`each_plan_has_a_verdict`, `verdicts_are_unique`), and passes exactly where
 //!   it is sound and keeps fleet and pins, a printed solution where it keeps fleet and cost (the laws named
 //!   after `sound`);
@@ -62,12 +65,12 @@ mod seats;
 mod timing;
 
 pub use alone::{is_feasible, route_fault};
-pub use audits::{audit, audit_solution};
+pub use audits::{audit, audit_routes, audit_solution};
 pub use laws::{
     a_passing_plan_is_sound, an_unsound_plan_does_not_pass, each_plan_has_a_verdict,
     empty_routes_change_no_verdict, feasibility_is_local, passes_are_local, pins_are_live_once,
-    plans_are_local, plans_pass_where_they_are_sound, routes_may_be_replaced,
-    routes_that_pass_are_a_plan, routes_that_pass_are_feasible_alone,
+    plans_are_local, plans_pass_where_they_are_sound, routes_are_judged_by_true_cost,
+    routes_may_be_replaced, routes_that_pass_are_a_plan, routes_that_pass_are_feasible_alone,
     solutions_pass_where_they_are_sound, tests_say_feasible, tests_say_pass, verdicts_are_unique,
 };
 pub use rules::Verdict;
