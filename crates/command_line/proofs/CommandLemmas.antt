@@ -24,7 +24,7 @@ use Rattle.std.proofs.lemmas.Slice.Eq.{bytes_eq-Decides}
 use Rattle.clap.proofs.WalkLemmas.{first_value-rows, list_any-map}
 use Rattle.clap.proofs.OnLiterals.{clap_on_literals}
 use Rattle.command_line.specs.declared.words.Invocation.{Invocation}
-use Rattle.command_line.specs.Asked.{ArePositional, Asked, IsRefusal, PathsAsked, ReadsWords, asked_by, asked_with, asks_help, audit, audits, deviation_or_none, draw_asked, draw_in, explain, format, is_positional_word, kind_named, list_asked, list_in, load, load_asked, load_from, load_in, paths_asked, paths_in, run, run_asked, run_in, seed_named, solve, solves, steps_named, store_asked, store_in, task_asked, task_from, task_in, tasks_asked, tasks_from, tasks_in, timetable_asked, timetable_in, told_by, told_by_other, told_of, told_of_store, upgrade_asked, upgrade_in, usage_status_of, ◌>>=◌}
+use Rattle.command_line.specs.Asked.{ArePositional, Asked, IsRefusal, PathsAsked, ReadsWords, asked_by, asked_with, asks_help, audit, deviation_or_none, draw_asked, draw_in, explain, format, is_positional_word, judged_asked, judged_from, judged_in, kind_named, list_asked, list_from, list_in, load, load_asked, load_from, load_in, run, run_asked, run_in, seed_named, solve, solves, steps_named, store_asked, store_in, task_asked, task_from, task_in, tasks_asked, tasks_from, tasks_in, timetable_asked, timetable_in, told_by, told_by_other, told_of, told_of_store, upgrade_asked, upgrade_in, usage_status_of}
 use Rattle.command_line.specs.CommandLine.{IsKindNames, IsModeNames, IsPlannerCommand, audits_app, draw_app, load_app, paths_app, planner_app, run_app, solve_app, solves_app, store_app, timetable_app, upgrade_app}
 
 -- ---- a word that does not begin with a hyphen is a value
@@ -276,6 +276,13 @@ abbrev load_shape : Bor (List (Bor Text)) → Shape
 load_shape names = built_leaf (load_app names).top
 
 -- nothing is asked for without a kind
+no_kind_no_paths : (does : PathsAsked → Bool → Asked) (o : Option Kind) (i s : Text) (last : Option Text) → o ≡ None
+    → judged_from does (option_map (λ k. record { kind = k; instance = i; solution = s }) o) last ≡ None
+no_kind_no_paths does o i s last none = ap (λ o. judged_from does (option_map (λ k. record { kind = k; instance = i; solution = s }) o) last) none
+
+no_kind_no_list : (o : Option Kind) (l : Text) (last : Option Text) → o ≡ None → list_from o l last ≡ None
+no_kind_no_list o l last none = ap (λ o. list_from o l last) none
+
 no_kind_no_task : (o : Option Kind) (i : Text) (n s : Option ℕ) (d : Option (Option ℕ)) → o ≡ None → option_map solve (task_from o i n s d) ≡ None
 no_kind_no_task o i n s d none = ap (λ o. option_map solve (task_from o i n s d)) none
 
@@ -300,21 +307,23 @@ module _ (Help : Type 0) (names : Bor (List (Bor Text))) (kinds : IsKindNames na
   enough k asked told none same =
       judged_kind Help (bytes_eq (codes "lilim") k) (bytes_eq (codes "vrp") k) _ asked told (or_else-nil _ ∙ or_else-nil _ ∙ known_fault names k kinds) none same
 
-  judged_paths : (does : PathsAsked → Asked) (name : Text) (words : List Text)
-      → IsJudged Help (leaf_fault (paths_shape name names) words) (option_map does (paths_asked words)) (option_map does (paths_in (leaf_rows (paths_shape name names) words)))
+  judged_paths : (does : PathsAsked → Bool → Asked) (name : Text) (words : List Text)
+      → IsJudged Help (leaf_fault (paths_shape name names) words) (judged_asked does words) (judged_in does (leaf_rows (paths_shape name names) words))
   unfolding clap_on_literals
   judged_paths does name [] = inr (inl (refl, tt), refl)
   judged_paths does name (k ∷ []) = too_few k _
   judged_paths does name (k ∷ i ∷ []) = still_too_few k _
-  judged_paths does name (k ∷ i ∷ s ∷ []) = enough k _ _ (λ none. ap (λ o. option_map does (option_map (λ k. record { kind = k; instance = i; solution = s }) o)) none) refl
-  judged_paths does name (k ∷ i ∷ s ∷ x ∷ rest) = too_many k _ _
+  judged_paths does name (k ∷ i ∷ s ∷ []) = enough k _ _ (no_kind_no_paths does (kind_named k) i s None) refl
+  judged_paths does name (k ∷ i ∷ s ∷ r ∷ []) = enough k _ _ (no_kind_no_paths does (kind_named k) i s (Some r)) refl
+  judged_paths does name (k ∷ i ∷ s ∷ r ∷ x ∷ rest) = too_many k _ _
 
   judged_list : (words : List Text) → IsJudged Help (leaf_fault (audits_shape names) words) (list_asked words) (list_in (leaf_rows (audits_shape names) words))
   unfolding clap_on_literals
   judged_list [] = inr (inl (refl, tt), refl)
   judged_list (k ∷ []) = too_few k _
-  judged_list (k ∷ l ∷ []) = enough k _ _ (λ none. ap (λ o. o >>= (λ k. Some (audits k l))) none) refl
-  judged_list (k ∷ l ∷ x ∷ rest) = too_many k _ _
+  judged_list (k ∷ l ∷ []) = enough k _ _ (no_kind_no_list (kind_named k) l None) refl
+  judged_list (k ∷ l ∷ r ∷ []) = enough k _ _ (no_kind_no_list (kind_named k) l (Some r)) refl
+  judged_list (k ∷ l ∷ r ∷ x ∷ rest) = too_many k _ _
 
   judged_task : (words : List Text)
       → IsJudged Help (leaf_fault (solve_shape names) words) (option_map solve (task_asked words)) (option_map solve (task_in (leaf_rows (solve_shape names) words)))

@@ -45,14 +45,15 @@ pub record LoadAsked : Type 0 where
   pub instance : Text
   pub seed : ℕ
 
--- The audit of the two built-in texts, or of two files; the audits of a list; the audit of two files with what it rests on; the picture of a
+-- The audit of the two built-in texts, or of two files; the audits of a list; the audit of two files with what it rests on, each of them also of
+-- the routes alone; the picture of a
 -- solution, or of its route with this number, or of the plan in a store; the solving of an instance, or of each that a list names; a store made in a file, an instance loaded
 -- into one, or commands over one; a store made of an old one; the timetable of a solution, or of the plan in a store, by tabs or in columns.
 pub data Asked : Type 0 where
   built_in : Asked
-  audit : PathsAsked → Asked
-  audits : Kind → Text → Asked
-  explain : PathsAsked → Asked
+  audit : PathsAsked → Bool → Asked
+  audits : Kind → Text → Bool → Asked
+  explain : PathsAsked → Bool → Asked
   draw : PathsAsked → Option ℕ → Asked
   draw_store : Text → Asked
   solve : TaskAsked → Asked
@@ -78,9 +79,9 @@ load_of loading = record { store = loading.store.now; kind = loading.kind; insta
 
 abbrev pub asked_of : Invocation → Asked
 asked_of BuiltIn = built_in
-asked_of (Audit paths) = audit (paths_of paths)
-asked_of (Audits kind list) = audits kind list.now
-asked_of (Explain paths) = explain (paths_of paths)
+asked_of (Audit paths routes_alone) = audit (paths_of paths) routes_alone
+asked_of (Audits kind list routes_alone) = audits kind list.now routes_alone
+asked_of (Explain paths routes_alone) = explain (paths_of paths) routes_alone
 asked_of (Draw paths route) = draw (paths_of paths) route
 asked_of (DrawStore store) = draw_store store.now
 asked_of (Solve task) = solve (task_of task)
@@ -122,14 +123,33 @@ o >>= f = option_and_then f o
 abbrev pub paths_from : Text → Text → Text → Option PathsAsked
 paths_from kind instance solution = option_map (λ k. record { kind = k; instance = instance; solution = solution }) (kind_named kind)
 
--- `KIND INSTANCE SOLUTION`
-abbrev pub paths_asked : List Text → Option PathsAsked
-paths_asked (kind ∷ instance ∷ solution ∷ []) = paths_from kind instance solution
-paths_asked _ = None
+-- whether a last word is this one; no other may stand there
+abbrev pub flag_named : Text → Option Text → Option Bool
+flag_named name None = Some false
+flag_named name (Some word) = if bytes_eq name word then Some true else None
 
--- `KIND LIST`
+abbrev pub judged_from : (PathsAsked → Bool → Asked) → Option PathsAsked → Option Text → Option Asked
+judged_from does paths last = do
+  paths ← paths
+  routes_alone ← flag_named (codes "routes") last
+  Some (does paths routes_alone)
+
+-- `KIND INSTANCE SOLUTION [routes]`
+abbrev pub judged_asked : (PathsAsked → Bool → Asked) → List Text → Option Asked
+judged_asked does (kind ∷ instance ∷ solution ∷ []) = judged_from does (paths_from kind instance solution) None
+judged_asked does (kind ∷ instance ∷ solution ∷ last ∷ []) = judged_from does (paths_from kind instance solution) (Some last)
+judged_asked does _ = None
+
+abbrev pub list_from : Option Kind → Text → Option Text → Option Asked
+list_from kind list last = do
+  kind ← kind
+  routes_alone ← flag_named (codes "routes") last
+  Some (audits kind list routes_alone)
+
+-- `KIND LIST [routes]`
 abbrev pub list_asked : List Text → Option Asked
-list_asked (kind ∷ list ∷ []) = kind_named kind >>= (λ k. Some (audits k list))
+list_asked (kind ∷ list ∷ []) = list_from (kind_named kind) list None
+list_asked (kind ∷ list ∷ last ∷ []) = list_from (kind_named kind) list (Some last)
 list_asked _ = None
 
 -- a deviation, in digits alone; or that none is named
@@ -176,11 +196,6 @@ load_from store kind instance seed = do
   kind ← kind
   seed ← seed
   Some (record { store = store; kind = kind; instance = instance; seed = seed })
-
--- whether a last word is this one; no other may stand there
-abbrev pub flag_named : Text → Option Text → Option Bool
-flag_named name None = Some false
-flag_named name (Some word) = if bytes_eq name word then Some true else None
 
 abbrev pub run_from : Text → Option Text → Option Asked
 run_from store mode = option_map (run store) (flag_named (codes "strict") mode)
@@ -242,9 +257,9 @@ draw_asked _ = None
 
 -- what the command of this name asks for with these words; no other has this name
 abbrev pub asked_with : List Text → Text → Option Asked
-asked_with words command = if bytes_eq (codes "audit") command then option_map audit (paths_asked words)
+asked_with words command = if bytes_eq (codes "audit") command then judged_asked audit words
     else (if bytes_eq (codes "audits") command then list_asked words
-    else (if bytes_eq (codes "explain") command then option_map explain (paths_asked words)
+    else (if bytes_eq (codes "explain") command then judged_asked explain words
     else (if bytes_eq (codes "draw") command then draw_asked words
     else (if bytes_eq (codes "solve") command then option_map solve (task_asked words)
     else (if bytes_eq (codes "format") command then option_map format (store_asked words)
@@ -267,12 +282,17 @@ paths_in rows = do
   solution ← first_of (codes "SOLUTION") rows
   paths_from kind instance solution
 
--- those of `KIND LIST`
+-- those of `KIND INSTANCE SOLUTION [routes]`
+abbrev pub judged_in : (PathsAsked → Bool → Asked) → List Row → Option Asked
+judged_in does rows = judged_from does (paths_in rows) (first_of (codes "routes") rows)
+
+-- those of `KIND LIST [routes]`
 abbrev pub list_in : List Row → Option Asked
 list_in rows = do
   kind ← first_of (codes "KIND") rows >>= kind_named
   list ← first_of (codes "LIST") rows
-  Some (audits kind list)
+  routes_alone ← flag_named (codes "routes") (first_of (codes "routes") rows)
+  Some (audits kind list routes_alone)
 
 abbrev pub seed_in : List Row → Option ℕ
 seed_in rows = seed_or_none (first_of (codes "SEED") rows)
@@ -345,7 +365,7 @@ told_of_store name rows =
     else (if bytes_eq (codes "load") name then option_map load (load_in rows)
     else (if bytes_eq (codes "upgrade") name then upgrade_in rows else run_in rows))
 
--- what a subcommand asks for whose words are not `KIND INSTANCE SOLUTION`; there is no other one than these
+-- what a subcommand asks for whose words are not `KIND INSTANCE SOLUTION [routes]`; there is no other one than these
 abbrev pub told_by_other : Text → List Row → Option Asked
 told_by_other name rows =
     if bytes_eq (codes "audits") name then list_in rows
@@ -356,8 +376,8 @@ told_by_other name rows =
 
 -- what the subcommand of this name asks for
 abbrev pub told_by : Text → List Row → Option Asked
-told_by name rows = if bytes_eq (codes "audit") name then option_map audit (paths_in rows)
-    else (if bytes_eq (codes "explain") name then option_map explain (paths_in rows) else told_by_other name rows)
+told_by name rows = if bytes_eq (codes "audit") name then judged_in audit rows
+    else (if bytes_eq (codes "explain") name then judged_in explain rows else told_by_other name rows)
 
 -- what the subcommand asks for
 abbrev pub told_of : Option (Text × List Row) → Option Asked

@@ -19,13 +19,15 @@ kind_rule names = record (word_rule (codes "KIND")) { parser = Some (Names names
 abbrev pub kind_app : Text → Bor (List (Bor Text)) → App
 kind_app name names = with_rule (new_app name) (kind_rule names)
 
--- `KIND INSTANCE SOLUTION`
+-- `KIND INSTANCE SOLUTION [routes]`
 abbrev pub paths_app : Text → Bor (List (Bor Text)) → App
-paths_app name names = with_rule (with_rule (kind_app name names) (word_rule (codes "INSTANCE"))) (word_rule (codes "SOLUTION"))
+paths_app name names =
+    let solution = with_rule (with_rule (kind_app name names) (word_rule (codes "INSTANCE"))) (word_rule (codes "SOLUTION")) in
+    with_rule solution (new_rule (codes "routes"))
 
--- `audits KIND LIST`
+-- `audits KIND LIST [routes]`
 abbrev pub audits_app : Bor (List (Bor Text)) → App
-audits_app names = with_rule (kind_app (codes "audits") names) (word_rule (codes "LIST"))
+audits_app names = with_rule (with_rule (kind_app (codes "audits") names) (word_rule (codes "LIST"))) (new_rule (codes "routes"))
 
 -- `solve KIND INSTANCE STEPS [SEED [DEVIATION]]`
 abbrev pub solve_app : Bor (List (Bor Text)) → App

@@ -14,6 +14,10 @@ use clap::{Arg, ArgMatches, Command, Error};
 use plan_types::OutOfMemory;
 use std::alloc::Global;
 
+const BAD_AUDIT: &str = "the words are KIND INSTANCE SOLUTION [routes], and KIND is lilim or vrp";
+
+const BAD_AUDITS: &str = "the words are KIND LIST [routes], and KIND is lilim or vrp";
+
 const BAD_STEPS: &str =
     "STEPS and DEVIATION are 0 to 1000000000 and SEED 0 to 18446744073709551615, in digits alone";
 
@@ -188,7 +192,7 @@ fn with_plan_words<'a>(
     with_word(command, last)
 }
 
-// A command of the words `KIND INSTANCE SOLUTION`.
+// A command of the words `KIND INSTANCE SOLUTION [routes]`.
 fn paths_command<'a>(
     alloc: Global,
     name: &'a str,
@@ -201,14 +205,15 @@ fn paths_command<'a>(
     let command = Ok(bare_command(alloc, name, about, answers));
     let command = with_word(command, kind_word(alloc, kinds));
     let command = with_word(command, instance_word(alloc));
-    with_word(
+    let command = with_word(
         command,
         word(
             alloc,
             "SOLUTION",
             "The file of the solution; - is standard input",
         ),
-    )
+    );
+    with_word(command, routes_word(alloc))
 }
 
 fn audits_command<'a>(alloc: Global, kinds: &'a [&'a str]) -> CommandResult<'a>
@@ -216,7 +221,8 @@ fn audits_command<'a>(alloc: Global, kinds: &'a [&'a str]) -> CommandResult<'a>
 {
     let command = Ok(bare_command(alloc, "audits", AUDITS_ABOUT, AUDITS_ANSWERS));
     let command = with_word(command, kind_word(alloc, kinds));
-    with_word(command, list_word(alloc))
+    let command = with_word(command, list_word(alloc));
+    with_word(command, routes_word(alloc))
 }
 
 fn solve_command<'a>(alloc: Global, kinds: &'a [&'a str]) -> CommandResult<'a>
@@ -315,6 +321,14 @@ fn route_word<'a>(alloc: Global) -> Arg<'a>
     Arg::new(alloc, "ROUTE").help("The number of the one route to draw, counted from 1")
 }
 
+fn routes_word<'a>(alloc: Global) -> Arg<'a>
+    ensures { IsWord (new_rule (codes "routes")) result }
+{
+    Arg::new(alloc, "routes").help(
+        "Judges the routes alone: the cost line is not asked, and need not be there",
+    )
+}
+
 fn tabs_word<'a>(alloc: Global) -> Arg<'a>
     ensures { IsWord (new_rule (codes "tabs")) result }
 {
@@ -345,13 +359,24 @@ fn with_command<'a>(above: CommandResult<'a>, command: CommandResult<'a>) -> Com
     above?.subcommand(command?)
 }
 
-/// The error for words that the parser let pass, with the usage of their command: a number is none, or too great, or the words
-/// of a timetable or a drawing are of no store and no solution.
+/// The error for words that the parser let pass, with the usage of their command: a number is none, or too great, the words
+/// of a timetable or a drawing are of no store and no solution, or the last word of an audit is not `routes`.
 pub(crate) fn bad_words(alloc: Global, matches: &ArgMatches<'_>) -> Result<Error, OutOfMemory>
     ensures { IfOk result (λ error. kind_of error ≡ ErrorKind.InvalidValue) }
 {
     let kinds = kind_names();
     match matches.subcommand_name() {
+        Some("audit") => refused(
+            paths_command(alloc, "audit", AUDIT_ABOUT, AUDIT_ANSWERS, kinds),
+            "planner audit",
+            BAD_AUDIT,
+        ),
+        Some("audits") => refused(audits_command(alloc, kinds), "planner audits", BAD_AUDITS),
+        Some("explain") => refused(
+            paths_command(alloc, "explain", EXPLAIN_ABOUT, EXPLAIN_ANSWERS, kinds),
+            "planner explain",
+            BAD_AUDIT,
+        ),
         Some("load") => refused(load_command(alloc, kinds), "planner load", BAD_SEED),
         Some("solves") => refused(solves_command(alloc, kinds), "planner solves", BAD_TASKS),
         Some("draw") => refused(draw_command(alloc), "planner draw", BAD_DRAWING),

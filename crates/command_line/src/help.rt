@@ -26,7 +26,9 @@ pub(crate) const AUDIT_ANSWERS: &str = "It prints one line:\n  \
     solution NAME LINE                  the first fault of the solution's text (status 2)\n  \
     cannot read PATH                    the file can't be read (status 3)\n  \
     out of memory                       (status 4)\n\n\
-    Standard error names the first line behind the cost line that is not blank: it is not read.\n\
+    Standard error names the first line behind the cost line that is not blank: it is not read.\n\n\
+    Behind `routes` the routes alone are judged, by rules 1 to 10, and DISTANCE is what they drive: the solution needs no\n\
+    cost line, and the number of one that it has is not read.\n\n\
     Routes, places and lines count from 1. The rules:\n  \
     1   unknown stop\n  \
     2   a stop that stands twice\n  \
@@ -91,6 +93,7 @@ pub(crate) const AUDITS_ANSWERS: &str =
     Where a best-known cost is told, behind a pass stands one of these:\n  \
     vehicles +1    where the vehicles differ: so many more or fewer than the best-known ones\n  \
     gap 1.27       else: how much longer the distance is, in percent of the best-known one; of a shorter one with a minus\n\n\
+    Behind `routes` each solution is judged as by `audit` behind that word.\n\
     The status is the greatest of `audit` over the lines.";
 
 pub(crate) const EXPLAIN_ABOUT: &str = "Audits a solution, and tells the figures behind the answer";
@@ -100,6 +103,7 @@ pub(crate) const EXPLAIN_ANSWERS: &str =
     pass                  a line for each route, and the sums (status 0)\n  \
     broken                a sentence with the figures, and the route stop by stop (status 1)\n  \
     instance or solution  what the fault means, and the line that has it (status 2)\n\n\
+    Behind `routes` the routes alone are judged, as by `audit` behind that word.\n\
     `cannot read PATH` (status 3) and `out of memory` (status 4) stand alone.";
 
 pub(crate) const TIMETABLE_ABOUT: &str =

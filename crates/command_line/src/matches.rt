@@ -2,7 +2,7 @@
 ghost use Rattle.std.specs.Prelude.{◌≡◌, option_and_then, option_map};
 ghost use Rattle.clap.specs.Words.{first_of, found_of, rows_of, subcommand_rows_of};
 ghost use Rattle.text_lines.specs.Numbers.{integer_of};
-ghost use Rattle.command_line.specs.Asked.{as_u64, asked_of, paths_from, paths_in, paths_of, run_in, kind_named, list_in, load_in, load_of, deviation_or_none, draw_in, flag_named, route_or_none, seed_in, seed_named, steps_named, store_timetable_from, task_in, task_of, tasks_in, tasks_of, timetable_in, told_by, told_by_other, told_of, told_of_store, upgrade_in};
+ghost use Rattle.command_line.specs.Asked.{as_u64, asked_of, audit, explain, judged_in, paths_from, paths_in, paths_of, run_in, kind_named, list_in, load_in, load_of, deviation_or_none, draw_in, flag_named, route_or_none, seed_in, seed_named, steps_named, store_timetable_from, task_in, task_of, tasks_in, tasks_of, timetable_in, told_by, told_by_other, told_of, told_of_store, upgrade_in};
 
 use crate::words::{Invocation, Loading, Paths, Task, Tasks};
 use clap::ArgMatches;
@@ -30,13 +30,37 @@ fn command_words<'a>(name: &str, words: &ArgMatches<'a>) -> Option<Invocation<'a
     ensures { option_map asked_of result ≡ told_by name.now (rows_of (found_of words.now)) }
 {
     match name {
-        "audit" => Some(Invocation::Audit(paths_words(words)?)),
-        "explain" => Some(Invocation::Explain(paths_words(words)?)),
+        "audit" => audit_words(words),
+        "explain" => explain_words(words),
         _ => other_words(name, words),
     }
 }
 
-// What the words behind the name of a command ask for whose words are not `KIND INSTANCE SOLUTION`.
+// `None` where a word is missing or names no kind, or the last one is not `routes`.
+fn audit_words<'a>(matches: &ArgMatches<'a>) -> Option<Invocation<'a>>
+    ensures { option_map asked_of result ≡ judged_in audit (rows_of (found_of matches.now)) }
+{
+    let paths = paths_words(matches)?;
+    let routes_alone = flag_of_word("routes", value_of(matches, "routes"))?;
+    Some(Invocation::Audit {
+        paths,
+        routes_alone,
+    })
+}
+
+// The same of `explain`.
+fn explain_words<'a>(matches: &ArgMatches<'a>) -> Option<Invocation<'a>>
+    ensures { option_map asked_of result ≡ judged_in explain (rows_of (found_of matches.now)) }
+{
+    let paths = paths_words(matches)?;
+    let routes_alone = flag_of_word("routes", value_of(matches, "routes"))?;
+    Some(Invocation::Explain {
+        paths,
+        routes_alone,
+    })
+}
+
+// What the words behind the name of a command ask for whose words are not `KIND INSTANCE SOLUTION [routes]`.
 fn other_words<'a>(name: &str, words: &ArgMatches<'a>) -> Option<Invocation<'a>>
     ensures { option_map asked_of result ≡ told_by_other name.now (rows_of (found_of words.now)) }
 {
@@ -173,13 +197,18 @@ fn paths_named<'a>(kind: &str, instance: &'a str, solution: &'a str) -> Option<P
     })
 }
 
-// `None` where a word is missing or names no kind.
+// `None` where a word is missing or names no kind, or the last one is not `routes`.
 fn list_words<'a>(matches: &ArgMatches<'a>) -> Option<Invocation<'a>>
     ensures { option_map asked_of result ≡ list_in (rows_of (found_of matches.now)) }
 {
     let kind = kind_of_word(value_of(matches, "KIND")?)?;
     let list = value_of(matches, "LIST")?;
-    Some(Invocation::Audits { kind, list })
+    let routes_alone = flag_of_word("routes", value_of(matches, "routes"))?;
+    Some(Invocation::Audits {
+        kind,
+        list,
+        routes_alone,
+    })
 }
 
 // `None` where a word is missing or names no kind, or no number.

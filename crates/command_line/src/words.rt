@@ -57,15 +57,22 @@ pub struct Loading<'a> {
 pub enum Invocation<'a> {
     /// No words: the audit of the two texts that are built in.
     BuiltIn,
-    /// `audit KIND INSTANCE SOLUTION`: the audit of two files.
-    Audit(Paths<'a>),
-    /// `audits KIND LIST`: the audits of the pairs of files that the lines of this file name.
+    /// `audit KIND INSTANCE SOLUTION [routes]`: the audit of two files; by `routes` of the solution's routes alone.
+    Audit {
+        paths: Paths<'a>,
+        routes_alone: bool,
+    },
+    /// `audits KIND LIST [routes]`: the audits of the pairs of files that the lines of this file name.
     Audits {
         kind: Kind,
         list: &'a str,
+        routes_alone: bool,
     },
-    /// `explain KIND INSTANCE SOLUTION`: the audit of two files, and what it rests on.
-    Explain(Paths<'a>),
+    /// `explain KIND INSTANCE SOLUTION [routes]`: the audit of two files, and what it rests on.
+    Explain {
+        paths: Paths<'a>,
+        routes_alone: bool,
+    },
     /// `draw KIND INSTANCE SOLUTION [ROUTE]`: the picture of a solution, or of its route with this number.
     Draw {
         paths: Paths<'a>,
