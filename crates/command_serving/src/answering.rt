@@ -23,6 +23,7 @@ use command_text::{
     pieces_follow, print, question_refusal, question_text, read_instance, show, states_follow,
     steps_to_make,
 };
+use log::Log;
 use plan_types::Kind;
 use recover::{Denial, Reply, Session, runs_add_up};
 use sector_disk::Sectors;
@@ -71,7 +72,7 @@ enum Goes {
 /// Does what each line of the input asks for, and writes its answer, until the input ends, or a `load` line leaves open
 /// how many bytes follow it. Takes no memory to read lines.
 ///
-/// `ok` and `at` stand behind the last sync of what they acknowledge. Where all of the input is served, what is written is the
+/// `ok` and `at` stand behind the last sync of what they acknowledge. Each try with fewer vehicles is logged as it ends. Where all of the input is served, what is written is the
 /// answer to it, and the session has carried out just the commands that it says, up to a failed device. The input is what is
 /// known of it beforehand, or each text that its reads gave piece by piece (`IsInputOf`). `serve` takes any reader and writer.
 ///
@@ -79,7 +80,8 @@ enum Goes {
 ///
 /// `ReadFault` where the reader fails or 10^12 bytes of the input were taken, which after `Ok` are fewer. `WriteFault` where
 /// the writer fails. The state is then that after the commands answered, or with the one whose answer was being written.
-pub fn serve_source<D: Sectors, R: Source, W: Sink>(
+pub fn serve_source<L: Log, D: Sectors, R: Source, W: Sink>(
+    rt: &L,
     alloc: Global,
     session: &mut Session<D>,
     reader: &mut R,
@@ -100,11 +102,12 @@ pub fn serve_source<D: Sectors, R: Source, W: Sink>(
     session.images_stand_for_the_state();
     runs_add_up::<D>();
     let mut input = Input::new(alloc);
-    serve_lines(alloc, session, reader, &mut input, writer)
+    serve_lines(rt, alloc, session, reader, &mut input, writer)
 }
 
 // Serves the lines that the input has left.
-fn serve_lines<D: Sectors, R: Source, W: Sink>(
+fn serve_lines<L: Log, D: Sectors, R: Source, W: Sink>(
+    rt: &L,
     alloc: Global,
     session: &mut Session<D>,
     reader: &mut R,
@@ -129,14 +132,15 @@ fn serve_lines<D: Sectors, R: Source, W: Sink>(
         let Some(asked) = input.next_asked(reader)? else {
             return Ok(());
         };
-        match serve_asked(alloc, session, reader, input, writer, asked)? {
+        match serve_asked(rt, alloc, session, reader, input, writer, asked)? {
             Goes::On => {}
             Goes::ToEnd => return Ok(()),
         }
     }
 }
 
-fn serve_asked<D: Sectors, R: Source, W: Sink>(
+fn serve_asked<L: Log, D: Sectors, R: Source, W: Sink>(
+    rt: &L,
     alloc: Global,
     session: &mut Session<D>,
     reader: &mut R,
@@ -160,7 +164,7 @@ fn serve_asked<D: Sectors, R: Source, W: Sink>(
         Asked::Load { kind, seed, len } => {
             let text = input.load_text(reader, len as usize)?;
             let goes = goes_behind(&text);
-            let answer = load_answer(alloc, session, kind, seed, text);
+            let answer = load_answer(rt, alloc, session, kind, seed, text);
             once(tell(session, writer, answer), goes)
         }
         Asked::BadLoad => once(tell(session, writer, Answer::BadLine), Goes::ToEnd),
@@ -174,10 +178,10 @@ fn serve_asked<D: Sectors, R: Source, W: Sink>(
             once(tell(session, writer, refused(session, refusal)), Goes::On)
         }
         Asked::Plain(command) => {
-            let answer = applied(alloc, session, command);
+            let answer = applied(rt, alloc, session, command);
             once(tell(session, writer, answer), Goes::On)
         }
-        Asked::Steps(goal) => once(serve_steps(alloc, session, writer, goal), Goes::On),
+        Asked::Steps(goal) => once(serve_steps(rt, alloc, session, writer, goal), Goes::On),
         Asked::Print => once(
             tell_made(session, writer, printed(alloc, session)),
             Goes::On,
@@ -291,21 +295,31 @@ fn tell_line<D: Sectors, W: Sink>(
 }
 
 // Carries the command out. `Ok` comes after its last sync.
-fn applied<D: Sectors>(alloc: Global, session: &mut Session<D>, command: Command) -> Answer
+fn applied<L: Log, D: Sectors>(
+    rt: &L,
+    alloc: Global,
+    session: &mut Session<D>,
+    command: Command,
+) -> Answer
     ensures { Tells D.Sectors session.old (λ s. plain s command)
         (line (answer_text result)) session.new silent }
 {
-    match apply(alloc, session, command).answer {
+    match apply(rt, alloc, session, command).answer {
         Ok(()) => Answer::Ok,
         Err(denial) => denied(denial),
     }
 }
 
 // Applies the command, with all that a session promises of it.
-fn apply<D: Sectors>(alloc: Global, session: &mut Session<D>, command: Command) -> Reply
+fn apply<L: Log, D: Sectors>(
+    rt: &L,
+    alloc: Global,
+    session: &mut Session<D>,
+    command: Command,
+) -> Reply
     ensures { IsAppliedOn D.Sectors session.old command result session.new }
 {
-    session.apply(alloc, command)
+    session.apply_logged(rt, alloc, command)
 }
 
 fn denied(denial: Denial) -> Answer
@@ -360,7 +374,8 @@ fn goes_behind(text: &LoadText) -> Goes
 }
 
 // What is answered to a load whose bytes came so.
-fn load_answer<D: Sectors>(
+fn load_answer<L: Log, D: Sectors>(
+    rt: &L,
     alloc: Global,
     session: &mut Session<D>,
     kind: Kind,
@@ -374,7 +389,7 @@ fn load_answer<D: Sectors>(
     match text {
         LoadText::Short => Answer::Truncated,
         LoadText::Dropped => dropped(session),
-        LoadText::Whole(text) => loaded(alloc, session, kind, seed, &text),
+        LoadText::Whole(text) => loaded(rt, alloc, session, kind, seed, &text),
     }
 }
 
@@ -392,7 +407,8 @@ fn dropped<D: Sectors>(session: &Session<D>) -> Answer
 }
 
 // Reads the instance and begins anew with it.
-fn loaded<D: Sectors>(
+fn loaded<L: Log, D: Sectors>(
+    rt: &L,
     alloc: Global,
     session: &mut Session<D>,
     kind: Kind,
@@ -407,12 +423,13 @@ fn loaded<D: Sectors>(
         return Answer::Broken;
     }
     match read_instance(alloc, kind, text) {
-        Ok(problem) => applied(alloc, session, Command::Load(problem, seed)),
+        Ok(problem) => applied(rt, alloc, session, Command::Load(problem, seed)),
         Err(fault) => Answer::Read(fault),
     }
 }
 
-fn serve_steps<D: Sectors, W: Sink>(
+fn serve_steps<L: Log, D: Sectors, W: Sink>(
+    rt: &L,
     alloc: Global,
     session: &mut Session<D>,
     writer: &mut W,
@@ -428,13 +445,14 @@ fn serve_steps<D: Sectors, W: Sink>(
         return tell(session, writer, Answer::Broken);
     }
     match steps_to_make(session.state(), goal) {
-        Ok(steps) => make_steps(alloc, session, writer, steps),
+        Ok(steps) => make_steps(rt, alloc, session, writer, steps),
         Err(refusal) => tell(session, writer, Answer::Refused(refusal)),
     }
 }
 
 // Makes the steps command by command, each told once it is acknowledged.
-fn make_steps<D: Sectors, W: Sink>(
+fn make_steps<L: Log, D: Sectors, W: Sink>(
+    rt: &L,
     alloc: Global,
     session: &mut Session<D>,
     writer: &mut W,
@@ -449,7 +467,7 @@ fn make_steps<D: Sectors, W: Sink>(
     let mut left = steps;
     while let Some((command, rest)) = next_command(left, session.state()) {
         let is_told = command.makes_steps();
-        if let Err(denial) = apply(alloc, session, command).answer {
+        if let Err(denial) = apply(rt, alloc, session, command).answer {
             return tell(session, writer, denied(denial));
         }
         left = rest;

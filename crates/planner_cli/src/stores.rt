@@ -15,6 +15,7 @@ ghost use Rattle.planner_cli.specs.Upgrading.{TellsSame, UpgradesOnto, UpgradesS
 ghost use Rattle.planner_cli.specs.Running.{IsEnded, RunsSession, RunsStore, ServesOver, ServesStore, TellsEnded, TellsServed, opened_line, stop_unless};
 
 use crate::opened::{close_store, open_store, tell_unopened};
+use crate::progress::Progress;
 use crate::telling::{tell_cause, tell_format, tell_new_refusal, tell_refusal, tell_upgrade};
 use auditor_cli::status::{BROKEN, DONE, FILE, USAGE};
 use auditor_cli::write_line;
@@ -94,6 +95,7 @@ where
                 replayed,
             } = opened;
             let (told, output) = serve_opened(
+                rt,
                 rt.alloc(),
                 &mut session,
                 replayed,
@@ -188,7 +190,8 @@ where
 }
 
 // Tells how many steps were repeated, and serves the input.
-fn serve_opened<D: Sectors + Drop, I: Read, W: Write>(
+fn serve_opened<R: Eprint, D: Sectors + Drop, I: Read, W: Write>(
+    rt: &R,
     alloc: Global,
     session: &mut Session<D>,
     replayed: u64,
@@ -211,7 +214,7 @@ fn serve_opened<D: Sectors + Drop, I: Read, W: Write>(
     let output = Watched::again(writer, noted);
     match opened {
         Ok(()) => {
-            let ended = serve_input(alloc, session, is_strict, input, output);
+            let ended = serve_input(rt, alloc, session, is_strict, input, output);
             let (mut writer, noted) = ended.output.apart();
             let told = tell_ended(ended.served, ended.stopped, &mut writer);
             (told, Watched::again(writer, noted))
@@ -238,7 +241,8 @@ struct Ended<W: Write> {
 }
 
 // Serves the input.
-fn serve_input<D: Sectors + Drop, I: Read, W: Write>(
+fn serve_input<R: Eprint, D: Sectors + Drop, I: Read, W: Write>(
+    rt: &R,
     alloc: Global,
     session: &mut Session<D>,
     is_strict: bool,
@@ -250,10 +254,10 @@ fn serve_input<D: Sectors + Drop, I: Read, W: Write>(
         input.new.has_failed result.output.has_failed session.new }
 {
     if is_strict {
-        return serve_strictly(alloc, session, input, output);
+        return serve_strictly(rt, alloc, session, input, output);
     }
     let mut output = output;
-    let served = serve_source(alloc, session, input, &mut output);
+    let served = serve_source(&Progress(rt), alloc, session, input, &mut output);
     Ended {
         served,
         stopped: None,
@@ -262,7 +266,8 @@ fn serve_input<D: Sectors + Drop, I: Read, W: Write>(
 }
 
 // Serves the input up to the first answer that tells a refusal or a failed device.
-fn serve_strictly<D: Sectors + Drop, I: Read, W: Write>(
+fn serve_strictly<R: Eprint, D: Sectors + Drop, I: Read, W: Write>(
+    rt: &R,
     alloc: Global,
     session: &mut Session<D>,
     input: &mut Watched<I>,
@@ -273,7 +278,7 @@ fn serve_strictly<D: Sectors + Drop, I: Read, W: Write>(
         input.new.has_failed result.output.has_failed session.new }
 {
     let mut answers = Strict::new(output);
-    let served = serve_source(alloc, session, input, &mut answers);
+    let served = serve_source(&Progress(rt), alloc, session, input, &mut answers);
     let stopped = stop_of(&answers);
     Ended {
         served,

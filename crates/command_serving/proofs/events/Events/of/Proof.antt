@@ -22,17 +22,17 @@ use denote.Triple.Entry.{on_entry}
 use denote.Triple.Spec.{Meets, triple_of}
 use denote.Triple.Table.{entered}
 use denote.Triple.Walked.{says, ends_at, walked, walk_Meets}
-use Rattle.command_serving.specs.declared.log.Log.{Log}
-use Rattle.command_serving.specs.contracts.log.Log as T
-use Rattle.command_serving.specs.contracts.log.Log.of.Key.{name as #it}
-use Rattle.command_serving.specs.contracts.log.Log.of as it
-use Rattle.command_serving.proofs.log.Log.of.Statement as stated
-use Rattle.command_serving.proofs.log.Log.of.Code as code
+use Rattle.command_serving.specs.declared.events.Events.{Events}
+use Rattle.command_serving.specs.contracts.events.Events as T
+use Rattle.command_serving.specs.contracts.events.Events.of.Key.{name as #it}
+use Rattle.command_serving.specs.contracts.events.Events.of as it
+use Rattle.command_serving.proofs.events.Events.of.Statement as stated
+use Rattle.command_serving.proofs.events.Events.of.Code as code
 
 abbrev v : Val
 v = vstruct (vcons (vstruct vnil) vnil)
 
-abbrev r : History → Log
+abbrev r : History → Events
 r held = record { marker = record {}; events = held.events; reads = held.reads }
 
 meets : {M : Type 1} {𝓤 : Ura M} (𝓛 : Logic 𝓤) → (at_mem : Memory → SProp 𝓤) (run : Routine → Fun 𝓤) (𝓣 : Tables 𝓤 𝓛.H)

@@ -10,36 +10,36 @@ use std::marker::{Model, PhantomData};
 
 /// The events so far, in order, and what each read gave, the newest first.
 #[derive(Drop)]
-pub struct Log {
+pub struct Events {
     marker: PhantomData<u8>,
     pub ghost events: { List Event },
     pub ghost reads: { List (List ℕ) },
 }
 
-impl Model for Log {
+impl Model for Events {
     ghost also_owns = { λ _. ftrue };
 }
 
-impl Log {
-    fn of() -> Log
+impl Events {
+    fn of() -> Events
         ghost history: { History }
         ensures { (result.events ≡ history.events) × (result.reads ≡ history.reads) }
     {
-        Log {
+        Events {
             marker: PhantomData,
         }
     }
 
     /// Nothing was done yet.
-    pub(crate) fn new() -> Log
+    pub(crate) fn new() -> Events
         ensures events { result.events ≡ [] }
         ensures reads { result.reads ≡ [] }
     {
-        Log::of()
+        Events::of()
     }
 
     /// A text was put, over this session.
-    pub(crate) fn with_put<D: Sectors>(&self, session: &Session<D>, text: &[u8]) -> Log
+    pub(crate) fn with_put<D: Sectors>(&self, session: &Session<D>, text: &[u8]) -> Events
         ensures events { result.events
             ≡ self.now.events ++ Put (D.calls session.now.device) text.now ∷ [] }
         ensures reads { result.reads ≡ self.now.reads }
@@ -48,7 +48,7 @@ impl Log {
     }
 
     /// All was handed on, over this session.
-    pub(crate) fn with_flush<D: Sectors>(&self, session: &Session<D>) -> Log
+    pub(crate) fn with_flush<D: Sectors>(&self, session: &Session<D>) -> Events
         ensures events { result.events
             ≡ self.now.events ++ Flushed (D.calls session.now.device) ∷ [] }
         ensures reads { result.reads ≡ self.now.reads }
@@ -57,14 +57,14 @@ impl Log {
     }
 
     /// A read gave these bytes.
-    pub(crate) fn with_read(&self, piece: &[u8]) -> Log
+    pub(crate) fn with_read(&self, piece: &[u8]) -> Events
         ensures events { result.events ≡ self.now.events }
         ensures reads { result.reads ≡ piece.now ∷ self.now.reads }
     {
         self.of_read(piece)
     }
 
-    fn of_put<D: Sectors>(&self, _session: &Session<D>, _text: &[u8]) -> Log
+    fn of_put<D: Sectors>(&self, _session: &Session<D>, _text: &[u8]) -> Events
         ghost history: { History }
         requires { history ≡ record {
           events = self.now.events ++ Put (D.calls _session.now.device) _text.now ∷ [];
@@ -72,10 +72,10 @@ impl Log {
         } }
         ensures { (result.events ≡ history.events) × (result.reads ≡ history.reads) }
     {
-        Log::of()
+        Events::of()
     }
 
-    fn of_flush<D: Sectors>(&self, _session: &Session<D>) -> Log
+    fn of_flush<D: Sectors>(&self, _session: &Session<D>) -> Events
         ghost history: { History }
         requires { history ≡ record {
           events = self.now.events ++ Flushed (D.calls _session.now.device) ∷ [];
@@ -83,10 +83,10 @@ impl Log {
         } }
         ensures { (result.events ≡ history.events) × (result.reads ≡ history.reads) }
     {
-        Log::of()
+        Events::of()
     }
 
-    fn of_read(&self, _piece: &[u8]) -> Log
+    fn of_read(&self, _piece: &[u8]) -> Events
         ghost history: { History }
         requires { history ≡ record {
           events = self.now.events;
@@ -94,6 +94,6 @@ impl Log {
         } }
         ensures { (result.events ≡ history.events) × (result.reads ≡ history.reads) }
     {
-        Log::of()
+        Events::of()
     }
 }
