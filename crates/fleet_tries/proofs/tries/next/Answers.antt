@@ -1,10 +1,11 @@
 use Rattle.std.proofs.Common.{rules, ◌≡◌, ◌∙◌, Some, sym, ap, subst}
 use Rattle.std.specs.List.{concat}
+use Rattle.std.proofs.lemmas.Result.{IfOk-weaker}
 use Rattle.route_sched.specs.Route.{AreLiveOnce}
 use Rattle.fleet_tries.specs.Fleets.{put_back}
 use Rattle.fleet_tries.specs.Trials.{IsCrew, tries_by}
 use Rattle.fleet_tries.specs.Tries.{behind, crew, is_whole, limit, tried}
-use Rattle.fleet_tries.proofs.TryLemmas.{back_passes, below_of, crew_is, if_ok_so, next_is, plan_of_passing, size_of}
+use Rattle.fleet_tries.proofs.TryLemmas.{back_passes, below_of, crew_is, next_is, plan_of_passing, size_of}
 use Rattle.fleet_tries.proofs.tries.next.Goals as goal
 
 pub is_whole-whole-requires : goal.is_whole-whole-requires
@@ -43,7 +44,7 @@ returns c =
     let marks = c.in-Some.crew.items in
     let found : crew c.args.problem.now c.args.pins.now.routes (tries_by c.args.tries) ≡ Some c.in-Some.crew.items = search rules in
     let ended = tried p pins c.args.seed c.limit-last.result t c.deref.result.now in
-    if_ok_so c.behind.result
+    IfOk-weaker c.behind.result _ _
     (λ r is. next_is p pins c.args.seed c.args.count c.args.end t (tries_by r) marks c.limit-last.result c.is_whole-whole.result found c.is_whole-whole.ensures c.limit-last.ensures.limit
     (is pins ended c.in_ok-tried.ensures ∙ (ap (λ ks. behind p pins t ks ended) c.deref-2.ensures.value ∙ ap (λ ks. behind p pins t marks (tried p pins c.args.seed c.limit-last.result t ks)) c.deref.ensures.value)))
     c.behind.ensures
