@@ -131,6 +131,21 @@ def check_closed_streams(store, once):
             fail(f"{closed}: the store was changed")
 
 
+def check_tries(folder):
+    """Each try with fewer vehicles is told as it ends, where standard error is open, and the answers are the same."""
+    answers = b"opened 0\nok\nat 300 0 10 829\nok\n"
+    # By a program of its own: without the four requests of vehicle 6, nine vehicles serve no more in 300 steps.
+    told = b"try 9 of 10 vehicles: 4 left out, step 300\n"
+    for words, errors in [("", told), ("strict", told), ("2>&-", b"")]:
+        store = os.path.join(folder, "tries.store")
+        load(store, 0, b"ok")
+        got = subprocess.run(["sh", "-c", f'exec "$0" run "$1" {words}', PROGRAM, store], input=b"build\nreduce 300\n", capture_output=True)
+        if (got.returncode, got.stdout, got.stderr) != (0, answers, errors):
+            fail(f"tries {words}: status {got.returncode}, {got.stdout!r}, {got.stderr!r}")
+        os.remove(store)
+    print("store: tries with fewer vehicles are told as they end")
+
+
 def contents(path):
     with open(path, "rb") as file:
         return file.read()
@@ -444,6 +459,7 @@ def main():
         check_load(folder)
         check_strict(folder)
         check_repeating(folder)
+        check_tries(folder)
         check_calls(folder)
         check_stages(folder)
         check_two_at_once(folder)
