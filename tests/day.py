@@ -143,17 +143,16 @@ def section_of_readme():
     return read(os.path.join(TOP, "README.md")).split("## A day from a spreadsheet\n")[1].split("\n## ")[0]
 
 
-def part_of_readme(language):
-    """The first block of the section in this language."""
-    blocks = re.findall(r"^```(\w*)\n(.*?)^```$", section_of_readme(), flags=re.MULTILINE | re.DOTALL)
-    return next(text for name, text in blocks if name == language)
+def blocks_of_readme():
+    """The blocks of the section: lines of the table, the commands, the sheet."""
+    return re.findall(r"^```(?:sh)?\n(.*?)^```$", section_of_readme(), flags=re.MULTILINE | re.DOTALL)
 
 
 def run_commands(folder):
     """Runs them in a folder in which `planner` and `examples` stand, and gives the sheets."""
     os.symlink(PROGRAM, os.path.join(folder, "planner"))
     os.symlink(os.path.join(TOP, "examples"), os.path.join(folder, "examples"))
-    commands = part_of_readme("sh")
+    commands = blocks_of_readme()[1]
     expect("the commands", len(commands.splitlines()), 4)
     told = subprocess.run(["sh", "-e", "-c", commands], cwd=folder, capture_output=True, check=False)
     if told.returncode:
@@ -162,8 +161,12 @@ def run_commands(folder):
 
 
 def check_shown(sheets):
-    """What README shows is what is printed first, with .. for what it leaves out."""
-    shown = part_of_readme("").rstrip("\n").split("\n..\n")
+    """What README shows is how the table begins and what is printed first, with .. for what it leaves out."""
+    table, _, sheet = blocks_of_readme()
+    for line, whole in zip(table.splitlines(), read(ORDERS).splitlines()):
+        if not whole.startswith(line.removesuffix("..")):
+            fail(f"README shows a line that the table has not: {line}")
+    shown = sheet.rstrip("\n").split("\n..\n")
     if not sheets.startswith(shown[0] + "\n"):
         fail("README shows other first lines of the sheets")
     for part in shown[1:]:
@@ -400,8 +403,9 @@ BAD_ORDERS = [
     (SMALL.replace("delivery to", "until"), 'NoColumn 1: no column is "delivery to"'),
     (SMALL.replace("delivery minutes", "delivery minutes,Boxes"), 'Repeated 1: two columns are "Boxes"'),
     (SMALL.replace("order,", '"order,', 1), f"BadQuote 1: {BAD_QUOTE}"),
-    # A line counts also where nothing is on it, and where a name goes on over it.
-    (f'{COLUMNS}\n\n{FIRST.replace("Mill", chr(34) + "The" + chr(10) + "Mill" + chr(34))}\n{SECOND.replace("5", "7", 1)}\n', "Range 5: boxes: 7 is not from 0 to 5"),
+    # A line counts also where nothing is on it, and where a name or the header goes on over it.
+    (SMALL.replace("A,", "\nA,", 1).replace("Mill", '"The\nMill"', 1).replace("B,5", "B,7"), "Range 5: boxes: 7 is not from 0 to 5"),
+    (SMALL.replace("delivery phone", '"Delivery\n phone"').replace("B,5", "B,7"), "Range 4: boxes: 7 is not from 0 to 5"),
 ]
 # All faults are told at once: those of rows that are cut wrong first, then those of fields. A quote that is not closed takes 20 lines along.
 MANY_FAULTS = SMALL.replace("A,4", "A,x").replace("8:10", "8-10") + "C,1\n" + 'D,"1\n' + 22 * "E,1\n"
@@ -425,6 +429,7 @@ BAD_SETTINGS = [
     ("opens,8:00", "opens,8", 'BadTime 5: opens: "8" is no time as 9:30'),
     ("vans,2", "vans,0", "Range 7: vans: 0 is not from 1 to 40000"),
     ("Yard", "", "Empty 2: depot is empty"),
+    ("lat,0", "lat,-89.1", "Range 3: depot lat: -89.1 is not from -89 to 89"),
 ]
 
 
@@ -473,16 +478,21 @@ def check_refused(folder):
     refused("orders", "orders", ["instance", town, write(folder, "bad.csv", MANY_FAULTS)], MANY_TOLD)
     for old, new, told in BAD_TIMETABLES:
         refused("a timetable", "timetable", ["sheets", town, small, write(folder, "bad.tabs", ALONE.replace(old, new))], told)
+    # An order of no boxes has to be delivered, too.
+    empty, home = write(folder, "empty.csv", SMALL.replace("A,4", "A,0")), write(folder, "home.tabs", hours((1, 28833, 29100), (0, 29193, 29193)))
+    refused("no boxes", "timetable", ["sheets", town, empty, home], f"OtherOrders 4: stop 0 {OTHERWISE}")
     alone = write(folder, "alone.tabs", ALONE)
     expect("an order in no van", ask("sheets", town, small, alone), (1, ALONE_SHEETS, "day.sh: orders in no van: 1\n"))
     expect("other names", ask("sheets", town, write(folder, "names.csv", LONG_NAMES), alone)[:2], (1, LONG_SHEETS))
+    idle = ask("sheets", town, small, write(folder, "idle.tabs", "pass 2 0 0\nunplanned\t1\nunplanned\t3\n"))
+    expect("no van at all", (idle[0], idle[1][:10], idle[1].count("\norder ")), (1, "In no van.", 2))
     with open(alone, "rb") as file:
         expect("a timetable on standard input", ask("sheets", town, small, "-", stdin=file)[1], ALONE_SHEETS)
     expect("a file that is not there", ask("instance", town, "nowhere.csv"), (3, "", "cannot read nowhere.csv\n"))
     expect("a folder", ask("instance", folder, small), (3, "", f"cannot read {folder}\n"))
     for words in [], ["instance"], ["instance", town, small, small], ["sheets", town, small], ["draw", town, small]:
         expect(f"{words}", ask(*words)[:2], (64, ""))
-    return len(bad) + len(BAD_SETTINGS) + len(BAD_TIMETABLES)
+    return len(bad) + 1 + len(BAD_SETTINGS) + len(BAD_TIMETABLES) + 1
 
 
 def check_most(folder):
@@ -491,8 +501,8 @@ def check_most(folder):
     rows = [FIRST.replace("A,", f"{number},", 1) + "\n" for number in range(1, 20_002)]
     status, instance, told = ask("instance", town, write(folder, "most.csv", COLUMNS + "\n" + "".join(rows[:-1])))
     expect("20,000 orders", (status, told, instance.splitlines()[-1]), (0, "", "40000 44 33 -4 28800 32400 120 39999 0"))
-    refused("an order more", "orders", ["instance", town, write(folder, "more.csv", COLUMNS + "\n" + "".join(rows))],
-            "TooManyOrders 20002: an instance has 20000 at most")  # fmt: skip
+    more = write(folder, "more.csv", COLUMNS + "\n" + "".join(rows))
+    refused("an order more", "orders", ["instance", town, more], "TooManyOrders 20002: an instance has 20000 at most")
 
 
 def check_tables(folder):

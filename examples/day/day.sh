@@ -396,7 +396,7 @@ function begin_van(line, number) {
     used += 1
     van[used] = number
     is_open = 1
-    aboard = 0
+    aboard = to_deliver = 0
     time = earliest[0]
     last_stop = 0
 }
@@ -415,24 +415,28 @@ function read_place(line, part,    stop, came, start) {
     stop += 0
     came = time + way(last_stop, stop)
     start = came < earliest[stop] ? earliest[stop] : came
-    carry(stop)
-    if (part[7] != came || part[8] != start || start > latest[stop] || aboard > capacity || (stop == 0 && aboard != 0))
+    if (part[7] != came || part[8] != start || start > latest[stop] || !is_carried(stop))
         refuse("timetable", "OtherOrders", line, "stop " stop " is otherwise by these orders and settings")
     keep_place(stop, came, start)
 }
 
-# What is aboard behind a stop. A delivery without its pickup is more than a van takes.
-function carry(stop) {
+# Whether a van may come with what it has aboard: a delivery behind its pickup, no more than it takes, and home with nothing.
+function is_carried(stop) {
     if (stop == 0)
-        return
+        return to_deliver == 0
     is_served[stop] = 1
     if (stop % 2 == 1) {
-        aboard += boxes[(stop + 1) / 2]
         van_of[stop] = used
-    } else
-        aboard = van_of[stop - 1] == used ? aboard - boxes[stop / 2] : capacity + 1
-    if (aboard > most_aboard[used])
-        most_aboard[used] = aboard
+        to_deliver += 1
+        aboard += boxes[row_at(stop)]
+    } else {
+        if (van_of[stop - 1] != used)
+            return 0
+        to_deliver -= 1
+        aboard -= boxes[row_at(stop)]
+    }
+    most_aboard[used] = greater(most_aboard[used], aboard)
+    return aboard <= capacity
 }
 
 function keep_place(stop, came, start) {
