@@ -405,7 +405,7 @@ BAD_ORDERS = [
     (SMALL.replace("order,", '"order,', 1), f"BadQuote 1: {BAD_QUOTE}"),
     # A line counts also where nothing is on it, and where a name or the header goes on over it.
     (SMALL.replace("A,", "\nA,", 1).replace("Mill", '"The\nMill"', 1).replace("B,5", "B,7"), "Range 5: boxes: 7 is not from 0 to 5"),
-    (SMALL.replace("delivery phone", '"Delivery\n phone"').replace("B,5", "B,7"), "Range 4: boxes: 7 is not from 0 to 5"),
+    (SMALL.replace("delivery phone", '"Delivery\n phone"').replace("A,4", "A,7"), "Range 3: boxes: 7 is not from 0 to 5"),
 ]
 # All faults are told at once: those of rows that are cut wrong first, then those of fields. A quote that is not closed takes 20 lines along.
 MANY_FAULTS = SMALL.replace("A,4", "A,x").replace("8:10", "8-10") + "C,1\n" + 'D,"1\n' + 22 * "E,1\n"
