@@ -350,6 +350,7 @@ stop\t2\t2\t2\tdelivery\t1\t29204\t29204\t0\t32225\t0\tpin
 stop\t2\t3\t0\treturn\t-\t29379\t29379\t0\t32400\t0\t-
 unplanned\t3
 why\t3\talone: stop 4 starts at 29861, latest 29400
+why\t3\tvehicle 2: behind stop 1 it would carry 4 too much
 """
 ALONE_SHEETS = """\
 Van 2: leaves 8:04, back 8:09, 2 stops, 1 km, up to 4 of 5 boxes
@@ -359,16 +360,17 @@ arrive  begin  leave  window       order  task       phone  place
   8:05   8:05   8:06  8:05-8:30    A      pick up 4  1      Mill
   8:06   8:06   8:08  8:00-9:00    A      deliver 4  2      Shop
   8:09                                                      Yard
-\fIn no van. The lines below an order are of `why`, in seconds since midnight.
+\fIn no van. Below each order stands why, with times in seconds since midnight.
 
 order B, 5 boxes, stops 3 and 4
   pick up 8:00-9:00  1  Mill
   deliver 8:00-8:10  3  Farm
-    alone: stop 4 starts at 29861, latest 29400
+    alone: stop 4 (order B) starts at 29861, latest 29400
+    vehicle 2: behind stop 1 (order A) it would carry 4 too much
 """
 # The same with a name that has a tab and goes over two lines, and one whose letters have more bytes.
 LONG_NAMES = SMALL.replace("Shop", '"The  Shop,\tMain\r\nStreet"').replace("A,", "Ä1,", 1)
-LONG_SHEETS = ALONE_SHEETS.replace("Shop", "The Shop, Main Street").replace(" A   ", " Ä1  ")
+LONG_SHEETS = ALONE_SHEETS.replace("Shop", "The Shop, Main Street").replace(" A   ", " Ä1  ").replace("order A", "order Ä1")
 BAD_QUOTE = "a quote is not closed, or does not stand around the whole field"
 # The second row's change, and what is told of it on line 3.
 BAD_ROWS = [

@@ -373,12 +373,22 @@ function read_timetable(path,    line, part) {
         else if (part[1] == "stop")
             read_place(line, part)
         else if (part[1] == "why")
-            reason[part[2]] = reason[part[2]] "    " part[3] "\n"
+            reason[part[2]] = reason[part[2]] "    " with_orders(part[3]) "\n"
         else if (part[1] != "unplanned")
             refuse("timetable", "BadLine", line, "it is of no timetable that was made with `tabs`")
     }
     if (!faults && (line == 1 || used != vans_told || is_open))
         refuse("timetable", "Truncated", line, "its end is missing")
+}
+
+# A line of `why`, with the order behind each stop that it names.
+function with_orders(text,    named) {
+    named = ""
+    while (match(text, /stop [0-9]+/)) {
+        named = named substr(text, 1, RSTART + RLENGTH - 1) " (order " order_of(substr(text, RSTART + 5, RLENGTH - 5)) ")"
+        text = substr(text, RSTART + RLENGTH)
+    }
+    return named text
 }
 
 # The first line says how many vehicles the plan uses.
@@ -513,7 +523,7 @@ function print_rest(    row, count) {
             continue
         count += 1
         if (count == 1)
-            printf "%sIn no van. The lines below an order are of `why`, in seconds since midnight.\n", used ? "\f" : ""
+            printf "%sIn no van. Below each order stands why, with times in seconds since midnight.\n", used ? "\f" : ""
         printf "\norder %s, %d boxes, stops %d and %d\n", order[row], boxes[row], 2 * row - 1, 2 * row
         printf "  pick up %s  %s  %s\n", window(2 * row - 1), phone[2 * row - 1], place[2 * row - 1]
         printf "  deliver %s  %s  %s\n", window(2 * row), phone[2 * row], place[2 * row]
