@@ -1,5 +1,5 @@
 //! What is said of a verdict.
-ghost use Rattle.std.specs.Prelude.{◌≡◌, ◌<◌, ◌++◌, All, IfOk, OnOk, string_bytes};
+ghost use Rattle.std.specs.Prelude.{◌≡◌, ◌<◌, ◌++◌, ℕ, All, IfOk, OnOk, string_bytes};
 ghost use Rattle.route_sched.specs.Route.{AreLiveOnce};
 ghost use Rattle.plan_audit.specs.Verdict.{IsVerdict, printed};
 ghost use Rattle.plan_explain.specs.Explained.{shown_text, verdict_text};
@@ -19,14 +19,15 @@ use sol_text::Solution;
 use std::alloc::Global;
 
 /// What a verdict says to who has to mend the solution, in whole lines. For a broken rule: a sentence with its figures, and the route
-/// that is told, place by place. For a solution that passes: a line for each route, and the sums.
+/// that is told, place by place. For a solution that passes: a line for each route, and the sums. The verdict may be that on its routes
+/// with another printed cost; its own is told where it is the cost that is wrong.
 pub fn explain_verdict(
     alloc: Global,
     problem: &Problem,
     solution: &Solution,
     verdict: Verdict,
 ) -> Result<String, OutOfMemory>
-    requires { IsVerdict problem.now (printed solution.now.routes solution.now.cost) verdict }
+    requires { (cost : ℕ) × IsVerdict problem.now (printed solution.now.routes cost) verdict }
     ensures { IfOk result (λ text. string_bytes text
         ≡ verdict_text problem.now solution.now verdict) }
 {
@@ -59,7 +60,7 @@ fn put_sentence(
     rule: u32,
     breach: Breach,
 ) -> Result<(), OutOfMemory>
-    requires { IsVerdict problem.now (printed solution.now.routes solution.now.cost)
+    requires { (cost : ℕ) × IsVerdict problem.now (printed solution.now.routes cost)
         (Broken rule breach.route breach.place breach.stop) }
     ensures { OnOk result (text.new ≡ text.old
         ++ sentence problem.now solution.now rule breach) }

@@ -13,20 +13,20 @@ use Rattle.plan_explain.proofs.verdicts.explain_verdict.Goals.{in-Pass+in_ok-put
 
 pub put_summary-requires : goal.put_summary-requires
 put_summary-requires c =
-    let s = printed c.args.solution.now.routes c.args.solution.now.cost in
-    subst (All (AreLiveOnce c.args.problem.now)) (sym c.as_slice-routes.ensures) (live_passing c.args.problem.now s c.in-Pass.field-0 (subst (IsVerdict c.args.problem.now s) c.in-Pass.is c.requires))
+    let s = printed c.args.solution.now.routes c.requires.0 in
+    subst (All (AreLiveOnce c.args.problem.now)) (sym c.as_slice-routes.ensures) (live_passing c.args.problem.now s c.in-Pass.field-0 (subst (IsVerdict c.args.problem.now s) c.in-Pass.is c.requires.1))
 
 pub put_shown-requires : goal.put_shown-requires
 put_shown-requires c = λ above.
-    (let s = printed c.args.solution.now.routes c.args.solution.now.cost in
+    (let s = printed c.args.solution.now.routes c.requires.0 in
     let breach = c.in-Broken in
-    subst (All (AreLiveOnce c.args.problem.now)) (sym c.as_slice-routes.ensures) (live_above c.args.problem.now s breach.rule breach.route breach.place breach.stop (subst (IsVerdict c.args.problem.now s) breach.is c.requires) above))
+    subst (All (AreLiveOnce c.args.problem.now)) (sym c.as_slice-routes.ensures) (live_above c.args.problem.now s breach.rule breach.route breach.place breach.stop (subst (IsVerdict c.args.problem.now s) breach.is c.requires.1) above))
 
 pub put_further-requires : goal.put_further-requires
 put_further-requires c = λ above.
-    (let s = printed c.args.solution.now.routes c.args.solution.now.cost in
+    (let s = printed c.args.solution.now.routes c.requires.0 in
     let breach = c.in-Broken in
-    subst (All (AreLiveOnce c.args.problem.now)) (sym c.as_slice-routes.ensures) (live_above c.args.problem.now s breach.rule breach.route breach.place breach.stop (subst (IsVerdict c.args.problem.now s) breach.is c.requires) above))
+    subst (All (AreLiveOnce c.args.problem.now)) (sym c.as_slice-routes.ensures) (live_above c.args.problem.now s breach.rule breach.route breach.place breach.stop (subst (IsVerdict c.args.problem.now s) breach.is c.requires.1) above))
 
 pub returns : goal.returns
 returns c =

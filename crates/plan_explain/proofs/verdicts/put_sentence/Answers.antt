@@ -8,7 +8,7 @@ use Rattle.plan_explain.proofs.verdicts.put_sentence.Goals as goal
 use Rattle.plan_explain.proofs.verdicts.put_sentence.Goals.{After-route_told-stops}
 
 live : (c : After-route_told-stops) → 2 < c.args.rule → All (AreLiveOnce c.args.problem.now) c.args.solution.now.routes
-live c above = live_above c.args.problem.now (printed c.args.solution.now.routes c.args.solution.now.cost) c.args.rule c.args.breach.route c.args.breach.place c.args.breach.stop c.requires above
+live c above = live_above c.args.problem.now (printed c.args.solution.now.routes c.requires.0) c.args.rule c.args.breach.route c.args.breach.place c.args.breach.stop c.requires.1 above
 
 told : (c : After-route_told-stops) → 2 < c.args.rule → AreLiveOnce c.args.problem.now c.route_told-stops.result.now
 told c above =
