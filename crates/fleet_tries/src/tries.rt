@@ -261,14 +261,7 @@ fn vehicles_before(problem: &Problem, whole: bool, plan: &Plan) -> u64 {
 }
 
 // Logs a try that ended before this step.
-fn log_try<R: Log>(
-    rt: &R,
-    problem: &Problem,
-    crew: &[bool],
-    vehicles: u64,
-    found: &Plan,
-    step: u64,
-)
+fn log_try<R: Log>(rt: &R, problem: &Problem, crew: &[bool], vehicles: u64, found: &Plan, step: u64)
     requires { IsPlan problem.now found.now.routes }
 {
     let kept = marked(crew);

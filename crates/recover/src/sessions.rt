@@ -95,12 +95,7 @@ impl<D: Sectors> Session<D> {
     }
 
     // What the command is answered.
-    fn answer<R: Log>(
-        &mut self,
-        rt: &R,
-        alloc: Global,
-        command: &Command,
-    ) -> Result<(), Denial>
+    fn answer<R: Log>(&mut self, rt: &R, alloc: Global, command: &Command) -> Result<(), Denial>
         ensures answer { IsAnswer (denial self.old command.now) result }
         ensures makes { Makes result self.old command.now self.new }
         ensures called { Calls D.Sectors (more result (calls_of self.old.place command.now))
@@ -139,12 +134,7 @@ impl<D: Sectors> Session<D> {
 
     // Carries out a command that is not denied: first the state after it, for which there may be no memory, and then the commit. Where that
     // fails, what stood before is put back.
-    fn carry_out<R: Log>(
-        &mut self,
-        rt: &R,
-        alloc: Global,
-        command: &Command,
-    ) -> Result<(), Denial>
+    fn carry_out<R: Log>(&mut self, rt: &R, alloc: Global, command: &Command) -> Result<(), Denial>
         requires { denial self.old command.now ≡ None }
         ensures answer { IsAnswer None result }
         ensures makes { Makes result self.old command.now self.new }

@@ -121,7 +121,16 @@ fn tried(alloc: Global, case: &Case, count: u32) -> Result<Option<(Vec<u32>, u64
     if pinned != case.problem.fleet as usize || !case.is_passing(alloc)? {
         return Ok(None);
     }
-    let tried = try_fleets(&Discard, alloc, &case.problem, &case.pins, &case.plan, 0, 0, count)?;
+    let tried = try_fleets(
+        &Discard,
+        alloc,
+        &case.problem,
+        &case.pins,
+        &case.plan,
+        0,
+        0,
+        count,
+    )?;
     Ok(Some((stops_of(alloc, &tried.plan.routes)?, tried.step)))
 }
 
