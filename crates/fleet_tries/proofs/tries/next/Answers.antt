@@ -9,10 +9,10 @@ use Rattle.fleet_tries.proofs.TryLemmas.{back_passes, below_of, crew_is, next_is
 use Rattle.fleet_tries.proofs.tries.next.Goals as goal
 
 pub is_whole-whole-requires : goal.is_whole-whole-requires
-is_whole-whole-requires c = plan_of_passing c.args.problem.now c.args.pins.now.routes c.args.tries.plan.routes c.requires.going.plan
+is_whole-whole-requires g c = plan_of_passing c.args.problem.now c.args.pins.now.routes c.args.tries.plan.routes c.requires.going.plan
 
 pub try_with-requires-clause-crew : goal.try_with-requires-clause-crew
-try_with-requires-clause-crew c =
+try_with-requires-clause-crew g c =
     let p = c.args.problem.now in
     let pins = c.args.pins.now.routes in
     let t = tries_by c.args.tries in
@@ -20,10 +20,10 @@ try_with-requires-clause-crew c =
     subst (IsCrew p pins t) (sym c.deref.ensures.value) (crew_is p pins c.requires.pins.0 t c.requires.going.plan (size_of p pins c.args.end t c.requires.on) c.requires.pins.1 c.in-Some.crew.items found)
 
 pub behind-requires-clause-plan : goal.behind-requires-clause-plan
-behind-requires-clause-plan c = plan_of_passing c.args.problem.now c.args.pins.now.routes c.args.tries.plan.routes c.requires.going.plan
+behind-requires-clause-plan g c = plan_of_passing c.args.problem.now c.args.pins.now.routes c.args.tries.plan.routes c.requires.going.plan
 
 pub behind-requires-clause-found : goal.behind-requires-clause-found
-behind-requires-clause-found c =
+behind-requires-clause-found g c =
     let p = c.args.problem.now in
     let pins = c.args.pins.now.routes in
     let t = tries_by c.args.tries in
@@ -37,7 +37,7 @@ behind-requires-clause-found c =
     subst (λ l. AreLiveOnce p (concat l)) (sym same) (plan_of_passing p pins _ back)
 
 pub returns : goal.returns
-returns c =
+returns g c =
     let p = c.args.problem.now in
     let pins = c.args.pins.now.routes in
     let t = tries_by c.args.tries in
