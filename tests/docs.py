@@ -30,7 +30,7 @@ FOREIGN_SPANS = ("rt ", "rattle-kit")
 FOREIGN = {"PATH", "PREFIX", "xargs", "split", "parallel", "strace", "valgrind", "callgrind", "perf", "rustc", "clang", "fdatasync", "fsync"}
 
 # Columns of a table that name what is declared at the place of the row: in the files of a column headed Code or Files, or in its crates.
-PLACED = ("Of ", "Function", "Names")
+PLACED = ("Of ", "Function", "`")
 DEFINING = ("Clause, definition or law", "Definition")
 
 problems = []
