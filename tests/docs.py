@@ -29,6 +29,7 @@ FOREIGN_SPANS = ("rt ", "rattle-kit")
 # Words of the world outside: commands and terms of the system.
 FOREIGN = {"PATH", "PREFIX", "xargs", "split", "parallel", "strace", "valgrind", "callgrind", "perf", "rustc", "clang", "fdatasync", "fsync"}
 
+FILE_NAME = r"[\w-]+\.(?:rt|antt|py|sh|md|edit|txt|sol|vrp|svg)"
 # Columns of a table that name what is declared at the place of the row: in the files of a column headed Code or Files, or in its crates.
 PLACED = ("Of ", "Function", "`")
 DEFINING = ("Clause, definition or law", "Definition")
@@ -76,7 +77,7 @@ def is_path(word, paths):
 def check_name(path, line, span, words, paths, declared):
     if span.startswith(FOREIGN_SPANS):
         return
-    if re.fullmatch(r"[\w./*-]+/[\w.*-]*|[\w-]+\.(rt|antt|py|sh|md|edit|txt|sol|vrp|svg)", span) and "*" not in span:
+    if re.fullmatch(rf"[\w./*-]+/[\w.*-]*|{FILE_NAME}", span) and "*" not in span:
         if not is_path(span.rstrip("/"), paths):
             complain(path, line, f"no such file: {span}")
         return
@@ -226,12 +227,12 @@ def crate_of(file):
 
 
 def file_at(span, beside=None):
-    """The file of a path, or of a name alone the one beside another file or in the specs of its crate."""
+    """The file of a path, or of a name alone the one beside another file, in the specs of its crate, or at the top."""
     folders = [TOP, TOP / "crates"]
     if beside and "/" not in span:
-        folders = [beside.parent]
+        folders = [beside.parent, TOP]
         if crate_of(beside):
-            folders.append(TOP / "crates" / crate_of(beside) / "specs")
+            folders.insert(1, TOP / "crates" / crate_of(beside) / "specs")
     for folder in folders:
         if (folder / span).is_file():
             return folder / span
@@ -319,6 +320,8 @@ def check_cell(path, line, cell):
         if found:
             place = [found]
             files.append(found)
+        elif files and crate_of(files[-1]) and re.fullmatch(FILE_NAME, span[1]):
+            complain(path, line, f"no {span[1]} beside {files[-1].relative_to(TOP)}")
         elif span[1] in BELOW and cell[end:].startswith(": "):
             place = files_of(span[1])
         elif place:
