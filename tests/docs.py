@@ -8,7 +8,7 @@
 4. Each document is linked from README.md, and each link leads to a file and a heading that are there.
 5. No paragraph has more than 90 words, and no cell of a table more than 100 characters.
 6. A name that is given with its place is declared there, not merely used, and not elsewhere. A place is a file or a crate:
-   - behind the name, in brackets: `Rules.IsLate` (plan_audit), `search` and `walk_on` (`seeded_search/src/search.rt`)
+   - behind the name, in brackets: `Rules.IsLate` (plan_audit), `search_steps` and `walk_on` (`seeded_search/src/search.rt`)
    - before the name, in a table's cell: `plan_audit/src/scan.rt` `first_late`; a file alone, as `slow.rt`, is one beside it, or of its specs/
    - in a column of the row that is headed Crate, or in the heading above: of the names headed Function, Definition or Begin with
    - in a column of the row that is headed Code or Files: of definitions, and of names in a column that is headed so in PLACED
@@ -186,7 +186,7 @@ def declared_in_rust(text):
     return names
 
 
-def declared_in_agda(text):
+def declared_in_specs(text):
     return set(re.findall(r"^ *(?:(?:abbrev|unfoldable|pub|record|data|mod) )*(\w+)(?: *[:({]| where| =|$)", text, flags=re.MULTILINE))
 
 
@@ -197,7 +197,7 @@ def declared_in_python(text):
 @functools.lru_cache(maxsize=None)
 def declared_at(file):
     text = file.read_text(encoding="utf-8")
-    readers = {".rt": declared_in_rust, ".antt": declared_in_agda, ".py": declared_in_python}
+    readers = {".rt": declared_in_rust, ".antt": declared_in_specs, ".py": declared_in_python}
     return readers.get(file.suffix, lambda text: set(words_of(text)))(text)
 
 
