@@ -2,7 +2,7 @@
 ghost use Rattle.std.specs.Prelude.{◌≡◌, ◌<◌, ◌++◌, ◌^◌, [], IfErr, IfOk, OnErr, OnOk, MatchResult, ℕ, List, Result, Ok, Err, Some, true, false, length};
 ghost use Rattle.plan_types.specs.Instance.{Instance};
 ghost use Rattle.instance_read.specs.declared.faults.ReadFault.{ReadFault};
-ghost use Rattle.command_text.specs.Answering.{carried_all, commands_of, informed, made_or, next_stated, plain, printed, refused, shown, steps_to_make, unless_broken};
+ghost use Rattle.command_text.specs.Answering.{at_line, carried_all, commands_of, informed, made_or, next_stated, plain, printed, refused, shown, steps_to_make, unless_broken};
 ghost use Rattle.command_text.specs.Laws.{cut_at};
 ghost use Rattle.command_text.specs.Readings.{IsReading, Reading};
 ghost use Rattle.command_text.specs.Answers.{answer_text, line};
@@ -15,13 +15,14 @@ ghost use Rattle.command_serving.specs.Serving.{Answers, GoesOn, HasNoJob, IsApp
 ghost use Rattle.command_serving.specs.Stopped.{RunsLeave};
 ghost use Rattle.command_serving.specs.declared.answering.ServeFault.TheVariants.{WriteFault};
 
+use crate::hints::{Hint, log_hint};
 use crate::input::{Input, LoadText, Unread};
 use crate::streams::{Failed, Sink, Source};
 use command_core::{Command, Job, Refusal, State};
 use command_text::{
-    Answer, Asked, Goal, Question, Steps, Text, at_line, help_lines, next_command, next_line,
-    pieces_follow, print, question_refusal, question_text, read_instance, show, states_follow,
-    steps_to_make,
+    Answer, Asked, Goal, Progress, Question, Steps, Text, at_line, help_lines, next_command,
+    next_line, pieces_follow, pin_line, print, progress_behind, question_refusal, question_text,
+    read_instance, show, states_follow, steps_to_make,
 };
 use log::Log;
 use plan_types::Kind;
@@ -178,7 +179,7 @@ fn serve_asked<L: Log, D: Sectors, R: Source, W: Sink>(
             once(tell(session, writer, refused(session, refusal)), Goes::On)
         }
         Asked::Plain(command) => {
-            let answer = applied(rt, alloc, session, command);
+            let answer = applied_with_hint(rt, alloc, session, command);
             once(tell(session, writer, answer), Goes::On)
         }
         Asked::Steps(goal) => once(serve_steps(rt, alloc, session, writer, goal), Goes::On),
@@ -292,6 +293,22 @@ fn tell_line<D: Sectors, W: Sink>(
 {
     writer.put(session, text)?;
     tell_text(session, writer, b"\n")
+}
+
+// Carries the command out, and logs what people want to know beside its answer.
+fn applied_with_hint<L: Log, D: Sectors>(
+    rt: &L,
+    alloc: Global,
+    session: &mut Session<D>,
+    command: Command,
+) -> Answer
+    ensures { Tells D.Sectors session.old (λ s. plain s command)
+        (line (answer_text result)) session.new silent }
+{
+    let hint = Hint::of(&command);
+    let answer = applied(rt, alloc, session, command);
+    log_hint(rt, alloc, session, hint, answer);
+    answer
 }
 
 // Carries the command out. `Ok` comes after its last sync.
@@ -450,7 +467,7 @@ fn serve_steps<L: Log, D: Sectors, W: Sink>(
     }
 }
 
-// Makes the steps command by command, each told once it is acknowledged.
+// Makes the steps or pins command by command, each told once it is acknowledged.
 fn make_steps<L: Log, D: Sectors, W: Sink>(
     rt: &L,
     alloc: Global,
@@ -466,30 +483,46 @@ fn make_steps<L: Log, D: Sectors, W: Sink>(
 {
     let mut left = steps;
     while let Some((command, rest)) = next_command(left, session.state()) {
-        let is_told = command.makes_steps();
+        let progress = progress_behind(&command);
         if let Err(denial) = apply(rt, alloc, session, command).answer {
             return tell(session, writer, denied(denial));
         }
         left = rest;
-        tell_progress(session, writer, is_told)?;
+        tell_progress(session, writer, progress)?;
     }
     tell(session, writer, Answer::Ok)
 }
 
-// Writes how far the steps are, where that is told.
+// Writes what is told behind a command of a line that takes several.
 fn tell_progress<D: Sectors, W: Sink>(
     session: &Session<D>,
     writer: &mut W,
-    is_told: bool,
+    progress: Progress,
 ) -> Result<(), Failed>
     ensures told { HandsOn (W.stream writer.old) (W.stream writer.new) result
-        (D.calls session.now.device) (progress_of is_told session.now) }
+        (D.calls session.now.device) (progress_of progress session.now) }
+    ensures failed { OnErr result (W.has_failed writer.new ≡ true) }
+    ensures origin { W.origin writer.new ≡ W.origin writer.old }
+{
+    match progress {
+        Progress::Nothing => hand_on(session, writer),
+        Progress::Stepped => tell_steps(session, writer),
+        Progress::Pinned { vehicle, stops } => {
+            put_line(session, writer, pin_line(vehicle, stops).as_bytes())
+        }
+    }
+}
+
+// Writes how far the steps are.
+fn tell_steps<D: Sectors, W: Sink>(session: &Session<D>, writer: &mut W) -> Result<(), Failed>
+    ensures told { HandsOn (W.stream writer.old) (W.stream writer.new) result
+        (D.calls session.now.device) (at_line session.now.state) }
     ensures failed { OnErr result (W.has_failed writer.new ≡ true) }
     ensures origin { W.origin writer.new ≡ W.origin writer.old }
 {
     match session.state() {
-        State::Loaded(job) if is_told => put_line(session, writer, at_line(job).as_bytes()),
-        State::Loaded(_) | State::Empty => hand_on(session, writer),
+        State::Loaded(job) => put_line(session, writer, at_line(job).as_bytes()),
+        State::Empty => hand_on(session, writer),
     }
 }
 

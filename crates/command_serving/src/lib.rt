@@ -19,6 +19,7 @@
 //! - `ahead`: what was read and not yet taken
 //! - `input`: an input as lines and the bytes that follow a line
 //! - `answering`: `serve_source`, and a function for each kind of line
+//! - `hints`: what is logged beside the answer to a command, for people
 //! - `lent`: `serve`
 //! - `laws`: what stops leave of a serving, and the causes of its answers
 //!
@@ -63,6 +64,7 @@
 mod ahead;
 mod answering;
 mod events;
+mod hints;
 mod input;
 mod laws;
 mod lent;
