@@ -1,5 +1,5 @@
 -- What is told of a list, line by line.
-use Rattle.std.proofs.Common.{◌≡◌, ◌∙◌, inl, inr, ℕ, List, [], ◌∷◌, ◌++◌, Option, Some, None, Ok, Err, refl, sym, ap, subst, arith, append_assoc, append-nil}
+use Rattle.std.proofs.Common.{◌≡◌, ◌∙◌, inl, inr, ℕ, Bool, List, [], ◌∷◌, ◌++◌, Option, Some, None, Ok, Err, refl, sym, ap, subst, arith, append_assoc, append-nil}
 use Rattle.std.specs.Prelude.{max}
 use Rattle.std.specs.Io.KnownBytes.{Appends, Keeps}
 use Rattle.std.proofs.KnownBytes.{Appends-nil, Appends-trans}
@@ -39,12 +39,12 @@ read_in_turn instance solution was now (inr unread) = first_unread unread.2
     first_unread (inr two) = ((solution, Err unread.1) ∷ (instance, Ok two.1.0) ∷ [], two.1.1)
 
 -- what is told of the files that a line of the list names is told of the line
-pub told_of_listed : (k other : Kind) → other ≡ k → (l instance solution : List ℕ) (best : Option BestCost) → IsListedPair k l instance solution best → (was now : List FileRead) (answer : List ℕ) (status : ℕ)
-    → IsToldOfFilesBy (IsListedAnswer other best) instance solution was now answer status → IsAudited k l was now (pair_text instance solution answer) status
-told_of_listed k other same l instance solution best names was now answer status told =
-    of_kind best names (subst (λ o. IsToldOfFilesBy (IsListedAnswer o best) instance solution was now answer status) same told)
+pub told_of_listed : (routes_alone : Bool) (k other : Kind) → other ≡ k → (l instance solution : List ℕ) (best : Option BestCost) → IsListedPair k l instance solution best → (was now : List FileRead) (answer : List ℕ) (status : ℕ)
+    → IsToldOfFilesBy (IsListedAnswer routes_alone other best) instance solution was now answer status → IsAudited routes_alone k l was now (pair_text instance solution answer) status
+told_of_listed routes_alone k other same l instance solution best names was now answer status told =
+    of_kind best names (subst (λ o. IsToldOfFilesBy (IsListedAnswer routes_alone o best) instance solution was now answer status) same told)
   where
-    of_kind : (b : Option BestCost) → IsListedPair k l instance solution b → IsToldOfFilesBy (IsListedAnswer k b) instance solution was now answer status → IsAudited k l was now (pair_text instance solution answer) status
+    of_kind : (b : Option BestCost) → IsListedPair k l instance solution b → IsToldOfFilesBy (IsListedAnswer routes_alone k b) instance solution was now answer status → IsAudited routes_alone k l was now (pair_text instance solution answer) status
     of_kind None pair files = inl (record { instance = instance; solution = solution; pair = pair; answer = answer; told = files; text_is = refl })
     of_kind (Some b) pair files =
         inr (pair.0, inl (record { instance = instance; solution = solution; best = b; columns = pair.1; answer = answer; told = files; text_is = refl }))

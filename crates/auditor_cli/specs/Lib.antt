@@ -9,6 +9,7 @@ pub mod Explained
 pub mod Files
 pub mod Listed
 pub mod Reads
+pub mod RoutesAlone
 pub mod Telling
 pub use Rattle.command_line.specs.Asked
 -- of private functions alone

@@ -73,12 +73,12 @@ module _ {S : Type 0} (IsToldOf : List ℕ → S → S → List ℕ → ℕ → 
 -- ---- the list of `audits`
 
 -- the two paths of a line, and what `audit` tells of them alone, with tabs between them
-pub record IsToldOfPair (k : Kind) (l : List ℕ) (was now : List FileRead) (text : List ℕ) (status : ℕ) : Type 0 where
+pub record IsToldOfPair (routes_alone : Bool) (k : Kind) (l : List ℕ) (was now : List FileRead) (text : List ℕ) (status : ℕ) : Type 0 where
   pub instance : List ℕ
   pub solution : List ℕ
   pub pair : IsPair l instance solution
   pub answer : List ℕ
-  pub told : IsToldOfFiles k instance solution was now answer status
+  pub told : IsToldOfFiles routes_alone k instance solution was now answer status
   pub text_is : text ≡ pair_text instance solution answer
 
 -- what stands before and behind the first tab of a text, if it has one
@@ -111,23 +111,23 @@ IsListedPair k text instance solution None = IsPair text instance solution
 IsListedPair k text instance solution (Some best) = NamesNone text × IsComparedPair k text instance solution best
 
 -- its two paths, and what is told of them beside the best-known cost
-pub record IsToldOfCompared (k : Kind) (l : List ℕ) (was now : List FileRead) (text : List ℕ) (status : ℕ) : Type 0 where
+pub record IsToldOfCompared (routes_alone : Bool) (k : Kind) (l : List ℕ) (was now : List FileRead) (text : List ℕ) (status : ℕ) : Type 0 where
   pub instance : List ℕ
   pub solution : List ℕ
   pub best : BestCost
   pub columns : IsComparedPair k l instance solution best
   pub answer : List ℕ
-  pub told : IsToldOfFilesBy (IsComparedAnswer k best) instance solution was now answer status
+  pub told : IsToldOfFilesBy (IsComparedAnswer routes_alone k best) instance solution was now answer status
   pub text_is : text ≡ pair_text instance solution answer
 
 -- a line that does not name two paths alone: with a best-known cost behind them, or nothing is done for it
-abbrev pub IsComparedLine : Kind → List ℕ → List FileRead → List FileRead → List ℕ → ℕ → Type 0
-IsComparedLine k l was now text status =
-    IsToldOfCompared k l was now text status ⊎ (ComparesNone k l × (now ≡ was) × (text ≡ ended (codes "bad line")) × (status ≡ 2))
+abbrev pub IsComparedLine : Bool → Kind → List ℕ → List FileRead → List FileRead → List ℕ → ℕ → Type 0
+IsComparedLine routes_alone k l was now text status =
+    IsToldOfCompared routes_alone k l was now text status ⊎ (ComparesNone k l × (now ≡ was) × (text ≡ ended (codes "bad line")) × (status ≡ 2))
 
 -- a line of the list
-abbrev pub IsAudited : Kind → List ℕ → List FileRead → List FileRead → List ℕ → ℕ → Type 0
-IsAudited k l was now text status = IsToldOfPair k l was now text status ⊎ (NamesNone l × IsComparedLine k l was now text status)
+abbrev pub IsAudited : Bool → Kind → List ℕ → List FileRead → List FileRead → List ℕ → ℕ → Type 0
+IsAudited routes_alone k l was now text status = IsToldOfPair routes_alone k l was now text status ⊎ (NamesNone l × IsComparedLine routes_alone k l was now text status)
 
 -- ---- a list that is read line by line
 
@@ -140,35 +140,35 @@ ends_at_feed text = slice_index_or text (length text - 1) 0 == 10
 
 -- A line was read, with its line feed if it has one, and then the files that it names, before anything else was read of the list. Nothing is
 -- said of when its answer was written. There may be no line.
-abbrev pub IsTakenLine : Kind → List ℕ → List ℕ → List FileRead → List FileRead → List ℕ → ℕ → Type 0
-IsTakenLine k path line was now text status = AreTold (IsAudited k) (lines_of line) ((path, Ok line) ∷ was) now text status
+abbrev pub IsTakenLine : Bool → Kind → List ℕ → List ℕ → List FileRead → List FileRead → List ℕ → ℕ → Type 0
+IsTakenLine routes_alone k path line was now text status = AreTold (IsAudited routes_alone k) (lines_of line) ((path, Ok line) ∷ was) now text status
 
 -- The list was read to its end: lines with their line feeds, and what has none, which may be nothing. What was told are the lines of all
 -- its bytes.
-pub record IsTakenWhole (k : Kind) (path : List ℕ) (was now : List FileRead) (text : List ℕ) (status : ℕ) : Type 0 where
+pub record IsTakenWhole (routes_alone : Bool) (k : Kind) (path : List ℕ) (was now : List FileRead) (text : List ℕ) (status : ℕ) : Type 0 where
   pub lines : List (List ℕ)
   pub last : List ℕ
   pub ended_lines : All IsEnded lines
   pub unended : HasNoFeed last
-  pub told : AreTold (IsTakenLine k path) (lines ++ last ∷ []) was now text status
+  pub told : AreTold (IsTakenLine routes_alone k path) (lines ++ last ∷ []) was now text status
   pub all_lines : flat_map lines_of (lines ++ last ∷ []) ≡ lines_of (concat lines ++ last)
 
 -- It can't be read, or not on: behind what is told of the lines before stands that.
-pub record IsBrokenOff (k : Kind) (path : List ℕ) (was now : List FileRead) (text : List ℕ) (status : ℕ) : Type 0 where
+pub record IsBrokenOff (routes_alone : Bool) (k : Kind) (path : List ℕ) (was now : List FileRead) (text : List ℕ) (status : ℕ) : Type 0 where
   pub lines : List (List ℕ)
   pub ended_lines : All IsEnded lines
   pub between : List FileRead
   pub before : List ℕ
   pub greatest : ℕ
-  pub told : AreTold (IsTakenLine k path) lines was between before greatest
+  pub told : AreTold (IsTakenLine routes_alone k path) lines was between before greatest
   pub all_lines : flat_map lines_of lines ≡ lines_of (concat lines)
   pub error : ErrorKind
   pub noted : now ≡ (path, Err error) ∷ between
   pub text_is : text ≡ before ++ unread_line path error
   pub status_is : status ≡ max greatest (unread_status error)
 
-abbrev pub IsTaken : Kind → List ℕ → List FileRead → List FileRead → List ℕ → ℕ → Type 0
-IsTaken k path was now text status = IsTakenWhole k path was now text status ⊎ IsBrokenOff k path was now text status
+abbrev pub IsTaken : Bool → Kind → List ℕ → List FileRead → List FileRead → List ℕ → ℕ → Type 0
+IsTaken routes_alone k path was now text status = IsTakenWhole routes_alone k path was now text status ⊎ IsBrokenOff routes_alone k path was now text status
 
-abbrev pub TellsList : Kind → List ℕ → List FileRead → List FileRead → Option (List ℕ) → Option (List ℕ) → ℕ → Type 0
-TellsList k path was now before after status = (text : List ℕ) × IsTaken k path was now text status × Appends before after text
+abbrev pub TellsList : Bool → Kind → List ℕ → List FileRead → List FileRead → Option (List ℕ) → Option (List ℕ) → ℕ → Type 0
+TellsList routes_alone k path was now before after status = (text : List ℕ) × IsTaken routes_alone k path was now text status × Appends before after text

@@ -19,21 +19,23 @@ use std::io::{ErrorKind, Write};
 use std::{io, str};
 use text_lines::Lines;
 
-/// Reads a list line by line, and audits the pair that each names before it reads the next one. Gives the greatest status.
+/// Reads a list line by line, and audits the pair that each names before it reads the next one, of each solution the routes alone or
+/// not. Gives the greatest status.
 pub fn audits_read<F: ReadFiles, W: Write>(
     alloc: Global,
     kind: Kind,
     list: &str,
+    routes_alone: bool,
     files: &mut F,
     output: &mut W,
 ) -> io::Result<u8>
     ensures status { IfOk result (λ status. status ≤ 4) }
     ensures reads { IsReadFirst list.now (F.reads files.old) (F.reads files.new) }
-    ensures told { IfOk result (TellsList kind list.now (F.reads files.old) (F.reads files.new)
+    ensures told { IfOk result (TellsList routes_alone kind list.now (F.reads files.old) (F.reads files.new)
         (W.contents output.old) (W.contents output.new)) }
 {
     match files.open(list) {
-        Ok(opened) => audit_opened(alloc, kind, list, opened, files, output),
+        Ok(opened) => audit_opened(alloc, kind, list, routes_alone, opened, files, output),
         Err(error) => tell_unread(output, list, error.kind()),
     }
 }
@@ -43,13 +45,14 @@ fn audit_opened<F: ReadFiles, W: Write>(
     alloc: Global,
     kind: Kind,
     path: &str,
+    routes_alone: bool,
     opened: F::Opened,
     files: &mut F,
     output: &mut W,
 ) -> io::Result<u8>
     ensures status { IfOk result (λ status. status ≤ 4) }
     ensures reads { IsReadFirst path.now (F.reads files.old) (F.reads files.new) }
-    ensures told { IfOk result (TellsList kind path.now (F.reads files.old) (F.reads files.new)
+    ensures told { IfOk result (TellsList routes_alone kind path.now (F.reads files.old) (F.reads files.new)
         (W.contents output.old) (W.contents output.new)) }
 {
     let mut opened = opened;
@@ -59,7 +62,7 @@ fn audit_opened<F: ReadFiles, W: Write>(
             Ok(line) => line,
             Err(error) => return tell_broken_off(greatest, output, path, error.kind()),
         };
-        let status = audit_lines(alloc, kind, Lines::new(&line), files, output)?;
+        let status = audit_lines(alloc, kind, routes_alone, Lines::new(&line), files, output)?;
         greatest = greater(greatest, status);
         if !ends_at_feed(&line) {
             return Ok(greatest);
@@ -95,19 +98,20 @@ fn ends_at_feed(text: &[u8]) -> bool
 fn audit_lines<F: ReadFiles, W: Write>(
     alloc: Global,
     kind: Kind,
+    routes_alone: bool,
     lines: Lines<'_>,
     files: &mut F,
     output: &mut W,
 ) -> io::Result<u8>
     ensures status { IfOk result (λ status. status ≤ 4) }
     ensures reads { IsGrown (F.reads files.old) (F.reads files.new) }
-    ensures told { IfOk result (TellsLines (IsAudited kind) lines.entry
+    ensures told { IfOk result (TellsLines (IsAudited routes_alone kind) lines.entry
         (F.reads files.old) (F.reads files.new)
         (W.contents output.old) (W.contents output.new)) }
 {
     let mut greatest = DONE;
     for line in lines {
-        let status = audit_line(alloc, kind, line, files, output)?;
+        let status = audit_line(alloc, kind, routes_alone, line, files, output)?;
         output.flush()?;
         greatest = greater(greatest, status);
     }
@@ -127,13 +131,14 @@ pub fn greater(one: u8, other: u8) -> u8
 fn audit_line<F: ReadFiles, W: Write>(
     alloc: Global,
     kind: Kind,
+    routes_alone: bool,
     line: &[u8],
     files: &mut F,
     output: &mut W,
 ) -> io::Result<u8>
     ensures status { IfOk result (λ status. status ≤ 4) }
     ensures reads { IsGrown (F.reads files.old) (F.reads files.new) }
-    ensures told { IfOk result (TellsLine (IsAudited kind) line.now
+    ensures told { IfOk result (TellsLine (IsAudited routes_alone kind) line.now
         (F.reads files.old) (F.reads files.new)
         (W.contents output.old) (W.contents output.new)) }
 {
@@ -144,7 +149,7 @@ fn audit_line<F: ReadFiles, W: Write>(
     let instance = pair.paths.instance;
     let solution = pair.paths.solution;
     write!(output, "{instance}\t{solution}\t")?;
-    compare_read(alloc, &pair, files, output)
+    compare_read(alloc, &pair, routes_alone, files, output)
 }
 
 /// Tells a line that names no pair.

@@ -22,7 +22,7 @@ returns-clause-told g c =
     IfOk-weaker c.compare_read.result _ _
     (λ status told. (
       pair_text instance solution told.0,
-      told_of_listed c.args.kind pair.paths.kind c.in-Some.ensures.0 c.args.line.now instance solution pair.best c.in-Some.ensures.1 _ _ told.0 status told.1,
+      told_of_listed c.args.routes_alone c.args.kind pair.paths.kind c.in-Some.ensures.0 c.args.line.now instance solution pair.best c.in-Some.ensures.1 _ _ told.0 status told.1,
       told_of_pair instance solution told.0 before mid _ wrote told.2,
     )) c.compare_read.ensures.told
 

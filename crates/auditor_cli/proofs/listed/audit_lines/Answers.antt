@@ -9,7 +9,7 @@ loop-line-init g c =
     let before = g.W.Write.contents c.args.output.now in
     let was = g.F.ReadFiles.reads c.args.files.now in
     let same : c.args.lines ≡ c.into_iter-line-iterator.result = search rules in
-    (left_as _ _ _ _ was before c.args.lines c.into_iter-line-iterator.result 0 same (nothing_told (IsAudited c.args.kind) c.args.lines was before), omega arith, ([], refl))
+    (left_as _ _ _ _ was before c.args.lines c.into_iter-line-iterator.result 0 same (nothing_told (IsAudited c.args.routes_alone c.args.kind) c.args.lines was before), omega arith, ([], refl))
 
 pub loop-line-preserved : goal.loop-line-preserved
 loop-line-preserved g c =
@@ -28,7 +28,7 @@ loop-line-preserved g c =
     let kept = flushed now mid after told.0 told.2 c.in_ok-flush.ensures.bytes in
     let step : c.loop-line.line-iterator ≡ line ∷ rest = search rules in (
       status_as _ _ _ _ later after rest _ c.greater-greatest.result c.greater-greatest.ensures.value
-          (line_told (IsAudited c.args.kind) c.args.lines was before next later now after line rest greatest status
+          (line_told (IsAudited c.args.routes_alone c.args.kind) c.args.lines was before next later now after line rest greatest status
           (left_as _ _ _ _ next now c.loop-line.line-iterator (line ∷ rest) greatest step c.loop-line.invariant.0) (told.0, told.1, kept)),
       c.greater-greatest.ensures.bound,
       grown_twice was next later c.loop-line.invariant.2 c.audit_line.ensures.reads,

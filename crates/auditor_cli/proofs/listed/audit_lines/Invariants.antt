@@ -7,6 +7,6 @@ use Rattle.auditor_cli.proofs.listed.audit_lines.Given as goal
 
 abbrev pub invariant-loop-line : goal.invariant-loop-line
 invariant-loop-line g l =
-    IsSoFar (IsAudited l.fn.kind) l.fn.lines (g.F.ReadFiles.reads l.fn.files) (g.W.Write.contents l.fn.output) (g.F.ReadFiles.reads l.files) (g.W.Write.contents l.output) l.line-iterator l.greatest
+    IsSoFar (IsAudited l.fn.routes_alone l.fn.kind) l.fn.lines (g.F.ReadFiles.reads l.fn.files) (g.W.Write.contents l.fn.output) (g.F.ReadFiles.reads l.files) (g.W.Write.contents l.output) l.line-iterator l.greatest
     × (l.greatest ≤ 4)
     × IsGrown (g.F.ReadFiles.reads l.fn.files) (g.F.ReadFiles.reads l.files)

@@ -23,7 +23,7 @@ returns-in-Err-clause-told g c =
     let after = g.W.Write.contents c.tell_broken_off.new.output in
     let noted : later ≡ (path, Err c.kind.result) ∷ next = c.in-Err.ensures.noted ∙ ap (λ kind. (path, Err kind) ∷ next) (sym c.kind.ensures) in
     IfOk-weaker c.tell_broken_off.result _ _
-    (λ status told. broken_off c.args.kind path was before next later now after c.loop.greatest c.loop.invariant.0 c.kind.result status noted told.0 told.1)
+    (λ status told. broken_off c.args.routes_alone c.args.kind path was before next later now after c.loop.greatest c.loop.invariant.0 c.kind.result status noted told.0 told.1)
     c.tell_broken_off.ensures.told
 
 pub returns-in_err-status-clause-reads : goal.returns-in_err-status-clause-reads
@@ -44,23 +44,25 @@ returns-then-not-ends_at_feed-clause-reads g c =
 
 pub returns-then-not-ends_at_feed-clause-told : goal.returns-then-not-ends_at_feed-clause-told
 returns-then-not-ends_at_feed-clause-told g c =
+    let a = c.args.routes_alone in
     let k = c.args.kind in
     let path = c.args.path.now in
     let line = c.in-Ok.line.items in
-    let told = told_of_line k path _ _ _ _ _ line c.new.result c.in_ok-status.status c.in-Ok.ensures.noted (c.new.ensures.lines ∙ ap lines_of c.deref.ensures.value) c.in_ok-status.ensures.told in
+    let told = told_of_line a k path _ _ _ _ _ line c.new.result c.in_ok-status.status c.in-Ok.ensures.noted (c.new.ensures.lines ∙ ap lines_of c.deref.ensures.value) c.in_ok-status.ensures.told in
     let unended : ends_at_feed line ≡ false = search rules in
-    subst (TellsList k path _ _ _ _) c.greater-greatest.ensures.value
-    (at_end k path _ _ _ _ _ _ c.loop.greatest c.loop.invariant.0 line c.in_ok-status.status (unended_rest line c.in-Ok.ensures.line unended) told)
+    subst (TellsList a k path _ _ _ _) c.greater-greatest.ensures.value
+    (at_end a k path _ _ _ _ _ _ c.loop.greatest c.loop.invariant.0 line c.in_ok-status.status (unended_rest line c.in-Ok.ensures.line unended) told)
 
 pub loop-preserved : goal.loop-preserved
 loop-preserved g c =
+    let a = c.args.routes_alone in
     let k = c.args.kind in
     let path = c.args.path.now in
     let line = c.in-Ok.line.items in
-    let told = told_of_line k path _ _ _ _ _ line c.new.result c.in_ok-status.status c.in-Ok.ensures.noted (c.new.ensures.lines ∙ ap lines_of c.deref.ensures.value) c.in_ok-status.ensures.told in
+    let told = told_of_line a k path _ _ _ _ _ line c.new.result c.in_ok-status.status c.in-Ok.ensures.noted (c.new.ensures.lines ∙ ap lines_of c.deref.ensures.value) c.in_ok-status.ensures.told in
     let is_ended : ends_at_feed line ≡ true = search rules in (
-      subst (IsSoFar k path _ _ _ _) c.greater-greatest.ensures.value
-          (one_more k path _ _ _ _ _ _ c.loop.greatest c.loop.invariant.0 line c.in_ok-status.status (ended_line line c.in-Ok.ensures.line is_ended) told),
+      subst (IsSoFar a k path _ _ _ _) c.greater-greatest.ensures.value
+          (one_more a k path _ _ _ _ _ _ c.loop.greatest c.loop.invariant.0 line c.in_ok-status.status (ended_line line c.in-Ok.ensures.line is_ended) told),
       c.greater-greatest.ensures.bound,
       inr (first_on path _ _ _ (first_read path _ c.loop.counter _ _ (Ok line) c.loop.invariant.2 c.in-Ok.ensures.noted) c.audit_lines.ensures.reads),
     )

@@ -5,6 +5,6 @@ use Rattle.auditor_cli.proofs.listed.audit_opened.Given as goal
 
 abbrev pub invariant-loop : goal.invariant-loop
 invariant-loop g l =
-    IsSoFar l.fn.kind l.fn.path (g.F.ReadFiles.reads l.fn.files) (g.W.Write.contents l.fn.output) (g.F.ReadFiles.reads l.files) (g.W.Write.contents l.output) l.greatest
+    IsSoFar l.fn.routes_alone l.fn.kind l.fn.path (g.F.ReadFiles.reads l.fn.files) (g.W.Write.contents l.fn.output) (g.F.ReadFiles.reads l.files) (g.W.Write.contents l.output) l.greatest
     × (l.greatest ≤ 4)
     × IsFirstIn l.fn.path (g.F.ReadFiles.reads l.fn.files) l.counter (g.F.ReadFiles.reads l.files)

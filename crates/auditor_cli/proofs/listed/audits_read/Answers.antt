@@ -15,6 +15,6 @@ returns-in-Err-clause-told g c =
     let before = g.W.Write.contents c.args.output.now in
     let after = g.W.Write.contents c.tell_unread.new.output in
     IfOk-weaker c.tell_unread.result _ _
-    (λ status told. unopened c.args.kind path _ _ before after (error_kind c.in-Err.error) status c.in-Err.ensures
+    (λ status told. unopened c.args.routes_alone c.args.kind path _ _ before after (error_kind c.in-Err.error) status c.in-Err.ensures
     (subst (λ kind. TellsUnread path kind before after status) c.kind.ensures told))
     c.tell_unread.ensures
