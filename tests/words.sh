@@ -52,6 +52,25 @@ sed 's/^Route #5:.*//' "$folder/routes.sol" >"$folder/fewer.sol"
 expect 1 'broken 3 route 0 place 0 stop 42' '' audit lilim lc101.txt "$folder/fewer.sol" routes
 sed 's/^Route #2/Rouet #2/' "$folder/routes.sol" >"$folder/slip.sol"
 expect 2 'solution BadLine 2' '' explain lilim lc101.txt "$folder/slip.sol" routes
+# On standard error a list tells what stands behind a cost line, and of a bad line its number and why.
+{
+    printf 'one-pair.txt\t%s\n' "$folder/timed.sol"
+    printf '# a comment\n\none-pair.txt\t\none-pair.txt\tone-pair.sol\t450.5\na\tb\tc\td\n\tone-pair.sol\t20\none-pair.txt\tone-pair.sol\t1 20\t\n'
+    printf 'one-pair.txt\t\377\none-pair.txt\tone-pair.sol\t450.0\n'
+} >"$folder/pairs"
+expect 2 "one-pair.txt	$folder/timed.sol	pass 0 1 20" "planner: $folder/pairs: line 1: $folder/timed.sol: line 4 is behind the cost line and not read" \
+    audits lilim "$folder/pairs"
+why="planner: $folder/pairs: line"
+[ "$(sed 1d "$folder/error")" = "$why 2: bad line: it has no tab
+$why 3: bad line: it is empty
+$why 4: bad line: a path is empty
+$why 5: bad line: the third column is no best-known cost, as 10 829 or 829
+$why 6: bad line: it has more than two tabs
+$why 7: bad line: a path is empty
+$why 8: bad line: it has more than two tabs
+$why 9: bad line: a path is not UTF-8" ] || fail "audits: not why lines are bad"
+printf 'P-n16-k8.vrp\tP-n16-k8.sol\t8 450\n' >"$folder/pairs"
+expect 2 'bad line' "planner: $folder/pairs: line 1: bad line: the third column is no best-known cost, as 829" audits vrp "$folder/pairs"
 got=$(printf 'lc101.txt\t%s\t10 829\n' "$folder/routes.sol" "$folder/fraction.sol" | "$program" audits lilim - routes | cut -f 3)
 [ "$got" = "$(printf 'pass 0 10 829 gap 0.00\npass 0 10 829 gap 0.00')" ] || fail "audits of routes: $got"
 expect 1 'broken 5 route 1 place 1 stop 2' '' audit lilim one-pair.txt one-pair-reversed.sol

@@ -39,7 +39,8 @@ Does built_in old new status = TellsAudit LiLim example_instance example_solutio
 Does (audit paths routes_alone) old new status =
     TellsFiles routes_alone paths.kind paths.instance paths.solution old.files new.files old.output new.output status
     × TellsBehind paths.instance paths.solution old.files new.files old.errors new.errors
-Does (audits kind list routes_alone) old new status = TellsList routes_alone kind list old.files new.files old.output new.output status × (new.errors ≡ old.errors)
+Does (audits kind list routes_alone) old new status =
+    TellsList routes_alone kind list old.files new.files old.output new.output old.errors new.errors status
 Does (explain paths routes_alone) old new status =
     TellsExplained routes_alone paths.kind paths.instance paths.solution old.files new.files old.output new.output status
     × TellsBehind paths.instance paths.solution old.files new.files old.errors new.errors

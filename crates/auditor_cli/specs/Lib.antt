@@ -2,7 +2,9 @@
 pub mod Answer
 pub mod AnswerText
 pub mod Auditing
+pub mod BadLines
 pub mod Behind
+pub mod Columns
 pub mod Compared
 pub mod Examined
 pub mod Explained

@@ -66,7 +66,7 @@ fn do_asked<F: ReadFiles, W: Write, E: Write>(
             kind,
             list,
             routes_alone,
-        } => audits_read(alloc, kind, list, routes_alone, files, output),
+        } => audits_read(alloc, kind, list, routes_alone, files, output, errors),
         Invocation::Explain {
             paths,
             routes_alone,

@@ -18,11 +18,12 @@
 //! - `telling`, `usage`: lines for files that can't be read or made, and for words that ask for nothing
 //! - `file_record`, `files`: what reads files and what makes them, and the lists of those that were read and made
 //! - `behind`: what stands behind the cost line of a solution
+//! - `columns`, `bad_lines`: columns with tabs between them, and why a line of a list names no pair
 //! - `audited`, `compared`, `listed`: the words `audit` and `audits`, also beside a best-known cost
 //! - `explained`: the word `explain`
 //! - `auditing`: `audit_words`
 //!
-//! Said by `specs/Answer.antt`, `Auditing.antt` and `Reads.antt`, and word by word by `Files.antt`, `Behind.antt`, `Listed.antt`,
+//! Said by `specs/Answer.antt`, `Auditing.antt` and `Reads.antt`, and word by word by `Files.antt`, `Behind.antt`, `Listed.antt`, `BadLines.antt`,
 //! `Compared.antt` and `Explained.antt`. Proved:
 //! - `audit_text`: line and status are those of the first fault or of the verdict on what the texts spell; the
 //!   status is 0 exactly where both spell a value and the solution keeps the rules, serves every request, keeps the
@@ -44,7 +45,9 @@ mod answer;
 mod audit;
 mod audited;
 mod auditing;
+mod bad_lines;
 mod behind;
+mod columns;
 mod compared;
 mod example;
 mod explained;

@@ -88,6 +88,7 @@ IsInputKept _ old new = (new.input ≡ old.input) × (new.reads ≡ old.reads)
 -- only these words write to the errors
 abbrev pub AreErrorsKept : Asked → World → World → Type 0
 AreErrorsKept (audit paths routes_alone) old new = Unit {0}
+AreErrorsKept (audits kind list routes_alone) old new = Unit {0}
 AreErrorsKept (explain paths routes_alone) old new = Unit {0}
 AreErrorsKept (draw paths route) old new = Unit {0}
 AreErrorsKept (draw_store store) old new = Unit {0}
@@ -110,7 +111,8 @@ module _ {D N : Type 0} (on_old : sectors.Ghosts D) (on_new : sectors.Ghosts N) 
   Does (audit paths routes_alone) old new status =
       TellsFiles routes_alone paths.kind paths.instance paths.solution old.files new.files old.output.contents new.output.contents status
       × TellsBehind paths.instance paths.solution old.files new.files old.errors new.errors
-  Does (audits kind list routes_alone) old new status = TellsList routes_alone kind list old.files new.files old.output.contents new.output.contents status
+  Does (audits kind list routes_alone) old new status =
+      TellsList routes_alone kind list old.files new.files old.output.contents new.output.contents old.errors new.errors status
   Does (explain paths routes_alone) old new status =
       TellsExplained routes_alone paths.kind paths.instance paths.solution old.files new.files old.output.contents new.output.contents status
       × TellsBehind paths.instance paths.solution old.files new.files old.errors new.errors

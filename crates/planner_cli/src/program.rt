@@ -155,7 +155,8 @@ where
             list,
             routes_alone,
         } => {
-            let told = audits_read(alloc, kind, list, routes_alone, files, &mut streams.output);
+            let Streams { output, errors, .. } = &mut streams;
+            let told = audits_read(alloc, kind, list, routes_alone, files, output, errors);
             (told, streams)
         }
         Invocation::Explain {
