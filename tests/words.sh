@@ -39,6 +39,40 @@ expect 0 'pass 0 10 829' '' audit lilim lc101.txt "$top/examples/lc101.sol"
 printf 'Route #1: 1 2\nCost 20\n\nTime 3\nCost 5\n' >"$folder/timed.sol"
 expect 0 'pass 0 1 20' "planner: $folder/timed.sol: line 4 is behind the cost line and not read" audit lilim one-pair.txt "$folder/timed.sol"
 expect 0 'pass 0 1 20' "planner: $folder/timed.sol: line 4 is behind the cost line and not read" explain lilim one-pair.txt "$folder/timed.sol"
+# The routes alone: without a cost line, or with one of any word; what is broken is told all the same.
+grep -v '^Cost' lc101.sol >"$folder/routes.sol"
+expect 2 'solution NoCost 11' '' audit lilim lc101.txt "$folder/routes.sol"
+expect 0 'pass 0 10 829' '' audit lilim lc101.txt "$folder/routes.sol" routes
+expect 0 'pass 0 10 829' '' explain lilim lc101.txt "$folder/routes.sol" routes
+sed 's/^Cost .*/Cost 828.94/' lc101.sol >"$folder/fraction.sol"
+expect 2 'solution BadNumber 11' '' audit lilim lc101.txt "$folder/fraction.sol"
+expect 0 'pass 0 10 829' '' audit lilim lc101.txt "$folder/fraction.sol" routes
+expect 0 'pass 0 1 20' "planner: $folder/timed.sol: line 4 is behind the cost line and not read" audit lilim one-pair.txt "$folder/timed.sol" routes
+sed 's/^Route #5:.*//' "$folder/routes.sol" >"$folder/fewer.sol"
+expect 1 'broken 3 route 0 place 0 stop 42' '' audit lilim lc101.txt "$folder/fewer.sol" routes
+sed 's/^Route #2/Rouet #2/' "$folder/routes.sol" >"$folder/slip.sol"
+expect 2 'solution BadLine 2' '' explain lilim lc101.txt "$folder/slip.sol" routes
+# On standard error a list tells what stands behind a cost line, and of a bad line its number and why.
+{
+    printf 'one-pair.txt\t%s\n' "$folder/timed.sol"
+    printf '# a comment\n\none-pair.txt\t\none-pair.txt\tone-pair.sol\t450.5\na\tb\tc\td\n\tone-pair.sol\t20\none-pair.txt\tone-pair.sol\t1 20\t\n'
+    printf 'one-pair.txt\t\377\none-pair.txt\tone-pair.sol\t450.0\n'
+} >"$folder/pairs"
+expect 2 "one-pair.txt	$folder/timed.sol	pass 0 1 20" "planner: $folder/pairs: line 1: $folder/timed.sol: line 4 is behind the cost line and not read" \
+    audits lilim "$folder/pairs"
+why="planner: $folder/pairs: line"
+[ "$(sed 1d "$folder/error")" = "$why 2: bad line: it has no tab
+$why 3: bad line: it is empty
+$why 4: bad line: a path is empty
+$why 5: bad line: the third column is no best-known cost, as 10 829 or 829
+$why 6: bad line: it has more than two tabs
+$why 7: bad line: a path is empty
+$why 8: bad line: it has more than two tabs
+$why 9: bad line: a path is not UTF-8" ] || fail "audits: not why lines are bad"
+printf 'P-n16-k8.vrp\tP-n16-k8.sol\t8 450\n' >"$folder/pairs"
+expect 2 'bad line' "planner: $folder/pairs: line 1: bad line: the third column is no best-known cost, as 829" audits vrp "$folder/pairs"
+got=$(printf 'lc101.txt\t%s\t10 829\n' "$folder/routes.sol" "$folder/fraction.sol" | "$program" audits lilim - routes | cut -f 3)
+[ "$got" = "$(printf 'pass 0 10 829 gap 0.00\npass 0 10 829 gap 0.00')" ] || fail "audits of routes: $got"
 expect 1 'broken 5 route 1 place 1 stop 2' '' audit lilim one-pair.txt one-pair-reversed.sol
 expect 2 'instance FieldCount 1' '' audit lilim one-pair.sol one-pair.sol
 expect 3 'cannot read nowhere' 'planner: nowhere: No such file or directory (os error 2)' audit lilim one-pair.txt nowhere
@@ -50,7 +84,9 @@ got=$("$program" solve lilim lc101.txt 100 2>/dev/null | "$program" audit lilim 
 [ "${got%% *}" = 'pass' ] || fail "audit of a solution on standard input: $got"
 
 expect 64 '' 'error: the following required arguments were not provided:' audit
-expect 64 '' "error: unexpected argument 'more' found" audit lilim one-pair.txt one-pair.sol more
+expect 64 '' 'error: the words are KIND INSTANCE SOLUTION [routes], and KIND is lilim or vrp' audit lilim one-pair.txt one-pair.sol more
+expect 64 '' 'error: the words are KIND LIST [routes], and KIND is lilim or vrp' audits lilim pairs more
+expect 64 '' "error: unexpected argument 'more' found" audit lilim one-pair.txt one-pair.sol routes more
 expect 64 '' "error: invalid value 'LILIM' for '<KIND>'" audit LILIM one-pair.txt one-pair.sol
 expect 64 '' "error: unrecognized subcommand 'check'" check one-pair.txt one-pair.sol
 expect 0 'planner 0.1.0' '' --version
@@ -76,7 +112,8 @@ for word in $("$program" help | sed -n '/^Commands:/,/^$/s/^  \([a-z]*\) .*/\1/p
     alike "$word" -h
 done
 for words in -h --help help -V --version check 'help check' 'help --help' 'help audit more' --frob audit 'audit --frob' 'audit lilim one-pair.txt' \
-    'audit lilim one-pair.txt one-pair.sol more' 'audit LILIM one-pair.txt one-pair.sol' audits 'solve lilim one-pair.txt' load upgrade \
+    'audit lilim one-pair.txt one-pair.sol more' 'audit lilim one-pair.txt one-pair.sol routes more' 'explain lilim a b more' 'audits vrp a more' \
+    'audit LILIM one-pair.txt one-pair.sol' audits 'solve lilim one-pair.txt' load upgrade \
     'run day.store careful' timetable 'draw lilim a b 1 more'; do
     # shellcheck disable=SC2086 # several words
     alike $words

@@ -59,11 +59,13 @@ check_words() {
         esac
     done
     missing=
+    is_flag=true
     # The usage has brackets.
     set -f
     for place in ${usage#"Usage: planner $name"}; do
         if [ $# -gt 0 ]; then
             check_value "$name" "$place" "$1"
+            [ "$place" != '[routes]' ] || [ "$1" = routes ] || is_flag=false
             shift
         elif [ "${place#<}" != "$place" ]; then
             missing="$missing
@@ -72,6 +74,7 @@ check_words() {
     done
     [ $# -eq 0 ] || refuse "unexpected argument '$1' found" "$usage"
     [ -z "$missing" ] || refuse "the following required arguments were not provided:$missing" "$usage"
+    $is_flag || refuse "the words are $(printf '%s' "${usage#"Usage: planner $name "}" | tr -d '<>'), and KIND is lilim or vrp" "$usage"
 }
 
 [ $# -gt 0 ] || exit 1

@@ -1,13 +1,14 @@
 -- What is told of a list, line by line.
-use Rattle.std.proofs.Common.{◌≡◌, ◌∙◌, inl, inr, ℕ, List, [], ◌∷◌, ◌++◌, Option, Some, None, Ok, Err, refl, sym, ap, subst, arith, append_assoc, append-nil}
+use Rattle.std.proofs.Common.{◌≡◌, ◌∙◌, inl, inr, ℕ, Bool, List, [], ◌∷◌, ◌++◌, Option, Some, None, Ok, Err, refl, sym, ap, subst, arith, append_assoc, append-nil}
 use Rattle.std.specs.Prelude.{max}
 use Rattle.std.specs.Io.KnownBytes.{Appends, Keeps}
 use Rattle.std.proofs.KnownBytes.{Appends-nil, Appends-trans}
 use Rattle.plan_types.specs.declared.requests.Kind.{Kind}
 use Rattle.best_known.specs.BestKnown.{BestCost}
+use Rattle.auditor_cli.specs.Behind.{TellsOfSolution, listed_line}
 use Rattle.auditor_cli.specs.Compared.{IsListedAnswer}
 use Rattle.auditor_cli.specs.Files.{AreReadInTurn, IsToldOfFilesBy, IsUnread}
-use Rattle.auditor_cli.specs.Listed.{AreTold, IsAudited, IsListedPair, TellsLine, TellsLines, pair_text}
+use Rattle.auditor_cli.specs.Listed.{AreTold, IsAudited, IsListedPair, Standing, TellsLine, TellsLines, next_number, pair_text}
 use Rattle.auditor_cli.specs.Reads.{FileEntry, FileRead, IsGrown}
 
 pub flushed : (a b c : Option (List ℕ)) (text : List ℕ) → Appends a b text → Keeps b c → Appends a c text
@@ -39,15 +40,19 @@ read_in_turn instance solution was now (inr unread) = first_unread unread.2
     first_unread (inr two) = ((solution, Err unread.1) ∷ (instance, Ok two.1.0) ∷ [], two.1.1)
 
 -- what is told of the files that a line of the list names is told of the line
-pub told_of_listed : (k other : Kind) → other ≡ k → (l instance solution : List ℕ) (best : Option BestCost) → IsListedPair k l instance solution best → (was now : List FileRead) (answer : List ℕ) (status : ℕ)
-    → IsToldOfFilesBy (IsListedAnswer other best) instance solution was now answer status → IsAudited k l was now (pair_text instance solution answer) status
-told_of_listed k other same l instance solution best names was now answer status told =
-    of_kind best names (subst (λ o. IsToldOfFilesBy (IsListedAnswer o best) instance solution was now answer status) same told)
+pub told_of_listed : (routes_alone : Bool) (k other : Kind) → other ≡ k → (path l instance solution : List ℕ) (best : Option BestCost) → IsListedPair k l instance solution best → (was now : Standing) (answer : List ℕ) (status : ℕ)
+    → now.lines ≡ next_number was.lines
+    → IsToldOfFilesBy (IsListedAnswer routes_alone other best) instance solution was.files now.files answer status
+    → TellsOfSolution (listed_line path now.lines solution) instance solution was.files now.files was.errors now.errors
+    → IsAudited routes_alone k path l was now (pair_text instance solution answer) status
+told_of_listed routes_alone k other same path l instance solution best names was now answer status counted told noted =
+    of_kind best names (subst (λ o. IsToldOfFilesBy (IsListedAnswer routes_alone o best) instance solution was.files now.files answer status) same told)
   where
-    of_kind : (b : Option BestCost) → IsListedPair k l instance solution b → IsToldOfFilesBy (IsListedAnswer k b) instance solution was now answer status → IsAudited k l was now (pair_text instance solution answer) status
-    of_kind None pair files = inl (record { instance = instance; solution = solution; pair = pair; answer = answer; told = files; text_is = refl })
+    of_kind : (b : Option BestCost) → IsListedPair k l instance solution b → IsToldOfFilesBy (IsListedAnswer routes_alone k b) instance solution was.files now.files answer status
+        → IsAudited routes_alone k path l was now (pair_text instance solution answer) status
+    of_kind None pair files = inl (record { instance = instance; solution = solution; pair = pair; answer = answer; told = files; noted = noted; counted = counted; text_is = refl })
     of_kind (Some b) pair files =
-        inr (pair.0, inl (record { instance = instance; solution = solution; best = b; columns = pair.1; answer = answer; told = files; text_is = refl }))
+        inr (pair.0, inl (record { instance = instance; solution = solution; best = b; columns = pair.1; answer = answer; told = files; noted = noted; counted = counted; text_is = refl }))
 
 module _ {S : Type 0} (IsToldOf : List ℕ → S → S → List ℕ → ℕ → Type 0) where
   module _ (all : List (List ℕ)) (was : S) (before : Option (List ℕ)) where

@@ -1,7 +1,7 @@
 -- A text spells one value at most, and none where it has a fault.
-use Rattle.std.proofs.Common.{◌≡◌, ◌≤◌, ◌∙◌, ℕ, List, sym, ap, subst, inl, inr, arith}
-use Rattle.plan_audit.specs.Laws.{AreAllPlanned, IsSoundPlan, SolutionsPassWhereSound}
-use Rattle.plan_audit.specs.Verdict.{IsVerdict, printed}
+use Rattle.std.proofs.Common.{◌≡◌, ◌≤◌, ◌∙◌, ℕ, List, refl, sym, ap, subst, inl, inr, arith}
+use Rattle.plan_audit.specs.Laws.{AreAllPlanned, IsSoundPlan, RoutesAreJudgedByTrueCost, SolutionsPassWhereSound}
+use Rattle.plan_audit.specs.Verdict.{IsRoutesVerdict, IsVerdict, printed}
 use Rattle.plan_audit.specs.declared.rules.Verdict.{Verdict}
 use Rattle.plan_audit.specs.declared.rules.Verdict.TheVariants.{Broken, Pass}
 use Rattle.route_sched.specs.Cost.{cost_of, total_length, used_count}
@@ -11,7 +11,8 @@ use Rattle.sol_text.specs.Faults.{Spells}
 use Rattle.sol_text.specs.declared.read.Solution.{Solution}
 use Rattle.instance_read.specs.Readings.{SpellsInstance}
 use Rattle.instance_read.proofs.SpelledLemmas.{no_fault, problem_once}
-use Rattle.auditor_cli.specs.Answer.{IsAnswer, JudgesSpelled, SaysSound, TellsVerdict, verdict_answer}
+use Rattle.auditor_cli.specs.Answer.{IsAnswer, IsRoutesAnswer, JudgesSpelled, SaysRoutesSound, SaysSound, TellsVerdict, verdict_answer}
+use Rattle.auditor_cli.specs.RoutesAlone.{routes_text}
 use Rattle.auditor_cli.specs.declared.answer.AuditAnswer.{AuditAnswer}
 
 solution_once : (text : List ℕ) (s t : Solution) → Spells text s → Spells text t → s ≡ t
@@ -58,3 +59,37 @@ says_sound law kind instance solution answer (inr (inl refuses)) = (
 )
 says_sound law kind instance solution answer (inr (inr judges)) =
     says_by law kind instance solution answer judges.problem judges.plan judges.verdict.verdict judges.problem_spelled judges.plan_spelled judges.problem_kept judges.verdict.is_verdict judges.verdict.told
+
+-- ---- the routes alone
+
+says_routes_by : (law : SolutionsPassWhereSound) (true_cost : RoutesAreJudgedByTrueCost) (kind : Kind) (instance solution : List ℕ) (answer : AuditAnswer) (p : Instance) (s : Solution) (v : Verdict)
+    → SpellsInstance kind instance p → Spells (routes_text solution) s → IsInstance p → IsRoutesVerdict p s.routes v → answer ≡ verdict_answer v → SaysRoutesSound kind instance solution answer
+says_routes_by law true_cost kind instance solution answer p s (Pass cost) a b kept is told =
+    let printed_is = (true_cost p s.routes (Pass cost)).0 is in
+    let sound = (law p s.routes (total_length p s.routes) (Pass cost) kept printed_is).0 (ap (λ c. Pass c) printed_is.1) in (
+      λ _. record { problem = p; problem_spelled = a; plan = s; plan_spelled = b; sound = sound.0; complete = sound.1; fleet = sound.2 },
+      λ _. ap (λ (x : AuditAnswer). x.status) told,
+    )
+says_routes_by law true_cost kind instance solution answer p s (Broken rule route place stop) a b kept is told = (
+  λ zero. let one : answer.status ≡ 1 = ap (λ (x : AuditAnswer). x.status) told in absurd (omega (arith, zero, one)),
+  λ sound.
+      let same_problem : sound.problem ≡ p = problem_once kind instance sound.problem p sound.problem_spelled a in
+      let same_plan : sound.plan ≡ s = solution_once (routes_text solution) sound.plan s sound.plan_spelled b in
+      let facts : IsSoundPlan p s.routes × AreAllPlanned p s.routes × (used_count s.routes ≤ p.fleet) × (total_length p s.routes ≡ total_length p s.routes) =
+      rw (← same_problem, ← same_plan) (sound.sound, sound.complete, sound.fleet, refl) in
+      let printed_is = (true_cost p s.routes (Broken rule route place stop)).0 is in
+      let passes : Broken rule route place stop ≡ Pass (cost_of p s.routes) = (law p s.routes (total_length p s.routes) (Broken rule route place stop) kept printed_is).1 facts in
+      absurd cc,
+)
+
+pub says_routes_sound : (law : SolutionsPassWhereSound) (true_cost : RoutesAreJudgedByTrueCost) (kind : Kind) (instance solution : List ℕ) (answer : AuditAnswer) → IsRoutesAnswer kind instance solution answer → SaysRoutesSound kind instance solution answer
+says_routes_sound law true_cost kind instance solution answer (inl refuses) = (
+  λ zero. let two : answer.status ≡ 2 = ap (λ (x : AuditAnswer). x.status) refuses.told in absurd (omega (arith, zero, two)),
+  λ sound. absurd (no_fault kind instance sound.problem sound.problem_spelled refuses.first.0 refuses.fault.line refuses.fault.kind refuses.first.1),
+)
+says_routes_sound law true_cost kind instance solution answer (inr (inl refuses)) = (
+  λ zero. let two : answer.status ≡ 2 = ap (λ (x : AuditAnswer). x.status) refuses.told in absurd (omega (arith, zero, two)),
+  λ sound. absurd (sound.plan_spelled.0 refuses.fault.line refuses.fault.kind refuses.first.0),
+)
+says_routes_sound law true_cost kind instance solution answer (inr (inr judges)) =
+    says_routes_by law true_cost kind instance solution answer judges.problem judges.plan judges.verdict judges.problem_spelled judges.plan_spelled judges.problem_kept judges.is_verdict judges.told

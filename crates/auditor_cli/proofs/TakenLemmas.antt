@@ -1,5 +1,5 @@
 -- A list that is read line by line.
-use Rattle.std.proofs.Common.{◌≡◌, ◌≢◌, ◌∙◌, inl, inr, ℕ, ◌+◌, ◌-◌, true, false, List, [], ◌∷◌, ◌++◌, Option, Result, Ok, Err, ◌⊎◌, length, get_or, take, drop, refl, sym, ap, subst, arith, append_assoc, append-nil, length-take, get_or-take}
+use Rattle.std.proofs.Common.{◌≡◌, ◌≢◌, ◌∙◌, inl, inr, ℕ, ◌+◌, ◌-◌, Bool, true, false, List, [], ◌∷◌, ◌++◌, Option, Result, Ok, Err, ◌⊎◌, length, get_or, take, drop, refl, sym, ap, subst, arith, append_assoc, append-nil, length-take, get_or-take}
 use Rattle.std.specs.Prelude.{All, max}
 use Rattle.std.specs.List.{concat, flat_map}
 use Rattle.std.specs.Io.{StopsAt}
@@ -15,7 +15,7 @@ use Rattle.plan_types.specs.declared.requests.Kind.{Kind}
 use Rattle.text_lines.specs.Lines.{HasNoFeed, lines_of}
 use Rattle.text_lines.proofs.LawProofs.{end_at_feeds}
 use Rattle.text_lines.proofs.PieceLemmas.{lines_nil}
-use Rattle.auditor_cli.specs.Listed.{AreTold, IsAudited, IsEnded, IsTakenLine, TellsLines, TellsList, ends_at_feed}
+use Rattle.auditor_cli.specs.Listed.{AreTold, IsAudited, IsEnded, IsTakenLine, Standing, TellsLines, TellsTaken, ends_at_feed, read_more}
 use Rattle.auditor_cli.specs.Reads.{FileRead, IsGrown, IsReadFirst}
 use Rattle.auditor_cli.specs.Telling.{TellsUnread, unread_line, unread_status}
 use Rattle.auditor_cli.proofs.ListLemmas.{grown_twice, lines_as, read_as}
@@ -110,36 +110,36 @@ module _ (path : List ℕ) (was : List FileRead) where
 -- ---- the list so far
 
 -- what is told of the lines that were handed on is told of what was read
-pub told_of_line : (k : Kind) (path : List ℕ) (next mid later : List FileRead) (now after : Option (List ℕ)) (line : List ℕ) (lines : List (List ℕ)) (s : ℕ) → mid ≡ (path, Ok line) ∷ next → lines ≡ lines_of line
-    → TellsLines (IsAudited k) lines mid later now after s → TellsLines (IsAudited k) (lines_of line) ((path, Ok line) ∷ next) later now after s
-told_of_line k path next mid later now after line lines s noted are told =
-    read_as (IsAudited k) (lines_of line) mid ((path, Ok line) ∷ next) later now after s noted (lines_as (IsAudited k) lines (lines_of line) mid later now after s are told)
+pub told_of_line : (routes_alone : Bool) (k : Kind) (path : List ℕ) (next mid later : Standing) (now after : Option (List ℕ)) (line : List ℕ) (lines : List (List ℕ)) (s : ℕ) → mid ≡ read_more (path, Ok line) next → lines ≡ lines_of line
+    → TellsLines (IsAudited routes_alone k path) lines mid later now after s → TellsLines (IsAudited routes_alone k path) (lines_of line) (read_more (path, Ok line) next) later now after s
+told_of_line routes_alone k path next mid later now after line lines s noted are told =
+    read_as (IsAudited routes_alone k path) (lines_of line) mid (read_more (path, Ok line) next) later now after s noted (lines_as (IsAudited routes_alone k path) lines (lines_of line) mid later now after s are told)
 
-module _ (k : Kind) (path : List ℕ) (was : List FileRead) (before : Option (List ℕ)) where
-  pub record IsSoFar (next : List FileRead) (now : Option (List ℕ)) (n : ℕ) : Type 0 where
+module _ (routes_alone : Bool) (k : Kind) (path : List ℕ) (was : Standing) (before : Option (List ℕ)) where
+  pub record IsSoFar (next : Standing) (now : Option (List ℕ)) (n : ℕ) : Type 0 where
     pub lines : List (List ℕ)
     pub ended_lines : All IsEnded lines
     pub text : List ℕ
-    pub told : AreTold (IsTakenLine k path) lines was next text n
+    pub told : AreTold (IsTakenLine routes_alone k path) lines was next text n
     pub written : Appends before now text
 
   pub nothing_taken : IsSoFar was before 0
   nothing_taken = record { lines = []; ended_lines = All-nil IsEnded; text = []; told = (refl, refl, refl); written = Appends-nil before }
 
-  module _ (next later : List FileRead) (now after : Option (List ℕ)) (n : ℕ) (so_far : IsSoFar next now n) where
+  module _ (next later : Standing) (now after : Option (List ℕ)) (n : ℕ) (so_far : IsSoFar next now n) where
     -- a line was read and told
-    pub one_more : (line : List ℕ) (s : ℕ) → IsEnded line → TellsLines (IsAudited k) (lines_of line) ((path, Ok line) ∷ next) later now after s → IsSoFar later after (max n s)
+    pub one_more : (line : List ℕ) (s : ℕ) → IsEnded line → TellsLines (IsAudited routes_alone k path) (lines_of line) (read_more (path, Ok line) next) later now after s → IsSoFar later after (max n s)
     one_more line s is told = record {
       lines = so_far.lines ++ line ∷ [];
       ended_lines = All-push IsEnded so_far.lines line so_far.ended_lines is;
       text = so_far.text ++ told.0;
-      told = told_behind (IsTakenLine k path) so_far.lines line was next later so_far.text told.0 n s so_far.told told.1;
+      told = told_behind (IsTakenLine routes_alone k path) so_far.lines line was next later so_far.text told.0 n s so_far.told told.1;
       written = Appends-trans before now after so_far.text told.0 so_far.written told.2;
     }
 
     -- what ends without a line feed was read and told
-    pub at_end : (last : List ℕ) (s : ℕ) → HasNoFeed last → TellsLines (IsAudited k) (lines_of last) ((path, Ok last) ∷ next) later now after s
-        → TellsList k path was later before after (max n s)
+    pub at_end : (last : List ℕ) (s : ℕ) → HasNoFeed last → TellsLines (IsAudited routes_alone k path) (lines_of last) (read_more (path, Ok last) next) later now after s
+        → TellsTaken routes_alone k path was later before after (max n s)
     at_end last s none told = (
       so_far.text ++ told.0,
       inl (record {
@@ -147,15 +147,15 @@ module _ (k : Kind) (path : List ℕ) (was : List FileRead) (before : Option (Li
         last = last;
         ended_lines = so_far.ended_lines;
         unended = none;
-        told = told_behind (IsTakenLine k path) so_far.lines last was next later so_far.text told.0 n s so_far.told told.1;
+        told = told_behind (IsTakenLine routes_alone k path) so_far.lines last was next later so_far.text told.0 n s so_far.told told.1;
         all_lines = lines_whole so_far.lines last so_far.ended_lines;
       }),
       Appends-trans before now after so_far.text told.0 so_far.written told.2,
     )
 
     -- it can't be read on
-    pub broken_off : (error : ErrorKind) (status : ℕ) → later ≡ (path, Err error) ∷ next → status ≡ max n (unread_status error) → Appends now after (unread_line path error)
-        → TellsList k path was later before after status
+    pub broken_off : (error : ErrorKind) (status : ℕ) → later ≡ read_more (path, Err error) next → status ≡ max n (unread_status error) → Appends now after (unread_line path error)
+        → TellsTaken routes_alone k path was later before after status
     broken_off error status noted is written = (
       so_far.text ++ unread_line path error,
       inr (record {
@@ -175,10 +175,10 @@ module _ (k : Kind) (path : List ℕ) (was : List FileRead) (before : Option (Li
     )
 
 -- it can't be opened
-pub unopened : (k : Kind) (path : List ℕ) (was now : List FileRead) (before after : Option (List ℕ)) (error : ErrorKind) (status : ℕ) → now ≡ (path, Err error) ∷ was → TellsUnread path error before after status
-    → TellsList k path was now before after status
-unopened k path was now before after error status noted told =
-    broken_off k path was before was now before after 0 (nothing_taken k path was before) error status noted (told.0 ∙ most) told.1
+pub unopened : (routes_alone : Bool) (k : Kind) (path : List ℕ) (was now : Standing) (before after : Option (List ℕ)) (error : ErrorKind) (status : ℕ) → now ≡ read_more (path, Err error) was → TellsUnread path error before after status
+    → TellsTaken routes_alone k path was now before after status
+unopened routes_alone k path was now before after error status noted told =
+    broken_off routes_alone k path was before was now before after 0 (nothing_taken routes_alone k path was before) error status noted (told.0 ∙ most) told.1
   where
     most : unread_status error ≡ max 0 (unread_status error)
     most = omega arith

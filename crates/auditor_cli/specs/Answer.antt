@@ -1,5 +1,5 @@
 -- What the program answers to an audit of two texts: a line and a status.
-use Rattle.std.specs.Prelude.{◌≡◌, ◌≤◌, ◌⊎◌, ◌↔◌, ℕ, List, codes}
+use Rattle.std.specs.Prelude.{◌≡◌, ◌≤◌, ◌⊎◌, ◌↔◌, ℕ, Bool, true, false, List, codes}
 use Rattle.plan_audit.specs.Laws.{AreAllPlanned, IsSoundPlan}
 use Rattle.route_sched.specs.Cost.{total_length, used_count}
 use Rattle.plan_types.specs.Instance.{Instance, IsInstance}
@@ -11,11 +11,12 @@ use Rattle.sol_text.specs.Faults as sol_faults
 use Rattle.sol_text.specs.Names as solution_names
 use Rattle.sol_text.specs.declared.faults.SolFault.{SolFault}
 use Rattle.sol_text.specs.declared.read.Solution.{Solution}
-use Rattle.plan_audit.specs.Verdict.{IsVerdict, printed}
+use Rattle.plan_audit.specs.Verdict.{IsRoutesVerdict, IsVerdict, printed}
 use Rattle.plan_audit.specs.declared.rules.Verdict.{Verdict}
 use Rattle.plan_audit.specs.declared.rules.Verdict.TheVariants.{Broken, Pass}
 use Rattle.instance_read.specs.Readings.{InstanceFault, SpellsInstance}
 use Rattle.auditor_cli.specs.AnswerText.{broken_text, fault_text, pass_text}
+use Rattle.auditor_cli.specs.RoutesAlone.{routes_text}
 use Rattle.auditor_cli.specs.declared.answer.AuditAnswer.{AuditAnswer}
 
 -- the answer for a text that is refused
@@ -84,3 +85,41 @@ pub record AreSound (kind : Kind) (instance solution : List ℕ) : Type 0 where
 -- status 0 says just that
 abbrev pub SaysSound : Kind → List ℕ → List ℕ → AuditAnswer → Type 0
 SaysSound kind instance solution answer = (answer.status ≡ 0) ↔ AreSound kind instance solution
+
+-- ---- the routes alone
+
+-- both texts spell a value, whatever cost is printed, and the answer is that of the verdict on the routes
+pub record JudgesRoutes (kind : Kind) (instance solution : List ℕ) (answer : AuditAnswer) : Type 0 where
+  pub problem : Instance
+  pub problem_spelled : SpellsInstance kind instance problem
+  pub problem_kept : IsInstance problem
+  pub plan : Solution
+  pub plan_spelled : sol_faults.Spells (routes_text solution) plan
+  pub verdict : Verdict
+  pub is_verdict : IsRoutesVerdict problem plan.routes verdict
+  pub told : answer ≡ verdict_answer verdict
+
+-- the answer to the audit of the routes of a solution's text, which needs no cost line
+abbrev pub IsRoutesAnswer : Kind → List ℕ → List ℕ → AuditAnswer → Type 0
+IsRoutesAnswer kind instance solution answer =
+    RefusesInstance kind instance answer
+    ⊎ (RefusesSolution kind instance (routes_text solution) answer ⊎ JudgesRoutes kind instance solution answer)
+
+-- both texts spell values, and the routes are sound, serve each request, and are no more than there are vehicles
+pub record HasSoundRoutes (kind : Kind) (instance solution : List ℕ) : Type 0 where
+  pub problem : Instance
+  pub problem_spelled : SpellsInstance kind instance problem
+  pub plan : Solution
+  pub plan_spelled : sol_faults.Spells (routes_text solution) plan
+  pub sound : IsSoundPlan problem plan.routes
+  pub complete : AreAllPlanned problem plan.routes
+  pub fleet : used_count plan.routes ≤ problem.fleet
+
+-- status 0 says just that
+abbrev pub SaysRoutesSound : Kind → List ℕ → List ℕ → AuditAnswer → Type 0
+SaysRoutesSound kind instance solution answer = (answer.status ≡ 0) ↔ HasSoundRoutes kind instance solution
+
+-- the answer to the audit of a solution, or of its routes alone
+abbrev pub IsAnswerBy : Bool → Kind → List ℕ → List ℕ → AuditAnswer → Type 0
+IsAnswerBy false kind instance solution answer = IsAnswer kind instance solution answer
+IsAnswerBy true kind instance solution answer = IsRoutesAnswer kind instance solution answer

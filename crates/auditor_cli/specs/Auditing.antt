@@ -24,9 +24,9 @@ seen files output errors = record { files = files; output = output; errors = err
 
 -- which files a word reads, also where an answer can't be printed
 abbrev pub AreReadFor : Asked → List FileRead → List FileRead → Type 0
-AreReadFor (audit paths) was now = AreReadInTurn paths.instance paths.solution was now
-AreReadFor (audits kind list) was now = IsReadFirst list was now
-AreReadFor (explain paths) was now = AreReadInTurn paths.instance paths.solution was now
+AreReadFor (audit paths routes_alone) was now = AreReadInTurn paths.instance paths.solution was now
+AreReadFor (audits kind list routes_alone) was now = IsReadFirst list was now
+AreReadFor (explain paths routes_alone) was now = AreReadInTurn paths.instance paths.solution was now
 AreReadFor _ was now = now ≡ was
 
 -- what is told of a word that asks for more than an audit
@@ -36,12 +36,13 @@ elsewhere_line = ended (codes "auditor: only planner does that; here are audit, 
 -- what was asked for was done and told, and this is the status that goes with it
 abbrev pub Does : Asked → Seen → Seen → ℕ → Type 0
 Does built_in old new status = TellsAudit LiLim example_instance example_solution old.output new.output status × (new.errors ≡ old.errors)
-Does (audit paths) old new status =
-    TellsFiles paths.kind paths.instance paths.solution old.files new.files old.output new.output status
+Does (audit paths routes_alone) old new status =
+    TellsFiles routes_alone paths.kind paths.instance paths.solution old.files new.files old.output new.output status
     × TellsBehind paths.instance paths.solution old.files new.files old.errors new.errors
-Does (audits kind list) old new status = TellsList kind list old.files new.files old.output new.output status × (new.errors ≡ old.errors)
-Does (explain paths) old new status =
-    TellsExplained paths.kind paths.instance paths.solution old.files new.files old.output new.output status
+Does (audits kind list routes_alone) old new status =
+    TellsList routes_alone kind list old.files new.files old.output new.output old.errors new.errors status
+Does (explain paths routes_alone) old new status =
+    TellsExplained routes_alone paths.kind paths.instance paths.solution old.files new.files old.output new.output status
     × TellsBehind paths.instance paths.solution old.files new.files old.errors new.errors
 Does _ old new status = (status ≡ 64) × ((new.output ≡ old.output) × Appends old.errors new.errors elsewhere_line)
 

@@ -15,8 +15,23 @@ behind_by path (Some n) = ended (codes "planner: " ++ path ++ codes ": line " ++
 abbrev pub behind_line : List ℕ → List ℕ → List ℕ
 behind_line path text = behind_by path (line_behind_cost text)
 
--- two files were read, and it is told of the second; where one can't be read nothing is
-abbrev pub TellsBehind : List ℕ → List ℕ → List FileRead → List FileRead → Option (List ℕ) → Option (List ℕ) → Type 0
-TellsBehind instance solution was now before after =
-    ((x : List ℕ) × (y : List ℕ) × AreBothRead instance solution x y was now × Appends before after (behind_line solution y))
+-- two files were read, and so much is told of the text of the second; where one can't be read nothing is
+abbrev pub TellsOfSolution : (List ℕ → List ℕ) → List ℕ → List ℕ → List FileRead → List FileRead → Option (List ℕ) → Option (List ℕ) → Type 0
+TellsOfSolution note instance solution was now before after =
+    ((x : List ℕ) × (y : List ℕ) × AreBothRead instance solution x y was now × Appends before after (note y))
     ⊎ ((path : List ℕ) × (error : ErrorKind) × IsUnread instance solution path error was now × Appends before after [])
+
+abbrev pub TellsBehind : List ℕ → List ℕ → List FileRead → List FileRead → Option (List ℕ) → Option (List ℕ) → Type 0
+TellsBehind instance solution was now before after = TellsOfSolution (behind_line solution) instance solution was now before after
+
+-- what stands before what is told of line k of a list
+abbrev pub place_text : List ℕ → ℕ → List ℕ
+place_text list k = codes "planner: " ++ list ++ codes ": line " ++ decimal k ++ codes ": "
+
+-- the same of a solution that line k of a list names
+abbrev pub listed_by : List ℕ → ℕ → List ℕ → Option ℕ → List ℕ
+listed_by list k path None = []
+listed_by list k path (Some n) = place_text list k ++ ended (path ++ codes ": line " ++ decimal n ++ codes " is behind the cost line and not read")
+
+abbrev pub listed_line : List ℕ → ℕ → List ℕ → List ℕ → List ℕ
+listed_line list k path text = listed_by list k path (line_behind_cost text)

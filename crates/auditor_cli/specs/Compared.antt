@@ -1,12 +1,12 @@
 -- What is told of the audit of a solution beside a best-known cost of its instance.
-use Rattle.std.specs.Prelude.{◌≡◌, ℕ, List, ◌++◌, Option, Some, None}
+use Rattle.std.specs.Prelude.{◌≡◌, ℕ, Bool, List, ◌++◌, Option, Some, None}
 use Rattle.best_known.specs.BestKnown.{BestCost, comparison_text}
 use Rattle.plan_types.specs.declared.requests.Kind.{Kind}
 use Rattle.plan_audit.specs.declared.rules.Verdict.{Verdict}
 use Rattle.plan_audit.specs.declared.rules.Verdict.TheVariants.{Broken, Pass}
-use Rattle.auditor_cli.specs.Answer.{IsAnswer, verdict_answer}
+use Rattle.auditor_cli.specs.Answer.{IsAnswerBy, verdict_answer}
 use Rattle.auditor_cli.specs.AnswerText.{pass_text}
-use Rattle.auditor_cli.specs.Examined.{IsExamined, answer_of}
+use Rattle.auditor_cli.specs.Examined.{IsExaminedBy, answer_of}
 use Rattle.auditor_cli.specs.declared.answer.AuditAnswer.{AuditAnswer}
 use Rattle.auditor_cli.specs.declared.audit.Examined.{Examined}
 use Rattle.auditor_cli.specs.declared.audit.Examined.TheVariants.{BadInstance, BadSolution, Judged}
@@ -22,13 +22,13 @@ compared_answer best (BadInstance fault) = answer_of (BadInstance fault)
 compared_answer best (BadSolution fault) = answer_of (BadSolution fault)
 compared_answer best (Judged problem plan verdict) = compared_verdict best verdict
 
--- the answer for an instance's text of this kind and a solution's text
-pub record IsComparedAnswer (kind : Kind) (best : BestCost) (instance solution : List ℕ) (answer : AuditAnswer) : Type 0 where
+-- the answer for an instance's text of this kind and a solution's text, of its routes alone or not
+pub record IsComparedAnswer (routes_alone : Bool) (kind : Kind) (best : BestCost) (instance solution : List ℕ) (answer : AuditAnswer) : Type 0 where
   pub examined : Examined
-  pub is_examined : IsExamined kind instance solution examined
+  pub is_examined : IsExaminedBy routes_alone kind instance solution examined
   pub answers : answer ≡ compared_answer best examined
 
 -- the answer for two texts of a list, which may have a best-known cost behind them
-abbrev pub IsListedAnswer : Kind → Option BestCost → List ℕ → List ℕ → AuditAnswer → Type 0
-IsListedAnswer kind None instance solution answer = IsAnswer kind instance solution answer
-IsListedAnswer kind (Some best) instance solution answer = IsComparedAnswer kind best instance solution answer
+abbrev pub IsListedAnswer : Bool → Kind → Option BestCost → List ℕ → List ℕ → AuditAnswer → Type 0
+IsListedAnswer routes_alone kind None instance solution answer = IsAnswerBy routes_alone kind instance solution answer
+IsListedAnswer routes_alone kind (Some best) instance solution answer = IsComparedAnswer routes_alone kind best instance solution answer

@@ -1,7 +1,8 @@
 -- What an instance's text and a solution's text are, and what is told of them.
-use Rattle.std.specs.Prelude.{ℕ, List, codes}
+use Rattle.std.specs.Prelude.{ℕ, Bool, true, false, List, codes}
 use Rattle.plan_types.specs.Instance.{Instance, IsInstance}
 use Rattle.plan_types.specs.declared.requests.Kind.{Kind}
+use Rattle.plan_audit.specs.Verdict.{IsRoutesVerdict, IsVerdict, printed}
 use Rattle.plan_audit.specs.declared.rules.Verdict.{Verdict}
 use Rattle.instance_read.specs.Faults.{IsFirstFault}
 use Rattle.instance_read.specs.Names as instance_names
@@ -11,6 +12,7 @@ use Rattle.sol_text.specs.declared.faults.SolFault.{SolFault}
 use Rattle.sol_text.specs.declared.read.Solution.{Solution}
 use Rattle.instance_read.specs.Readings.{InstanceFault, SpellsInstance}
 use Rattle.auditor_cli.specs.Answer.{IsSolutionVerdict, refused_answer, verdict_answer}
+use Rattle.auditor_cli.specs.RoutesAlone.{routes_text}
 use Rattle.auditor_cli.specs.declared.answer.AuditAnswer.{AuditAnswer}
 use Rattle.auditor_cli.specs.declared.audit.Examined.{Examined}
 use Rattle.auditor_cli.specs.declared.audit.Examined.TheVariants.{BadInstance, BadSolution, Judged}
@@ -45,3 +47,32 @@ abbrev pub HasVerdict : Examined → Type 0
 HasVerdict (BadInstance fault) = Unit {0}
 HasVerdict (BadSolution fault) = Unit {0}
 HasVerdict (Judged problem plan verdict) = IsSolutionVerdict problem plan verdict
+
+-- ---- the routes alone
+
+-- both spell a value, and this is the verdict on the routes
+pub record AreRoutesJudged (kind : Kind) (instance text : List ℕ) (problem : Instance) (plan : Solution) (verdict : Verdict) : Type 0 where
+  pub problem_spelled : SpellsInstance kind instance problem
+  pub problem_kept : IsInstance problem
+  pub plan_spelled : sol_faults.Spells text plan
+  pub is_verdict : IsRoutesVerdict problem plan.routes verdict
+
+-- what two texts are, where the cost is not asked
+abbrev pub AreExaminedForRoutes : Kind → List ℕ → List ℕ → Examined → Type 0
+AreExaminedForRoutes kind instance text (BadInstance fault) = IsFirstFault (InstanceFault kind instance) fault
+AreExaminedForRoutes kind instance text (BadSolution fault) = IsBadSolution kind instance text fault
+AreExaminedForRoutes kind instance text (Judged problem plan verdict) = AreRoutesJudged kind instance text problem plan verdict
+
+-- and need not be there
+abbrev pub AreRoutesExamined : Kind → List ℕ → List ℕ → Examined → Type 0
+AreRoutesExamined kind instance solution examined = AreExaminedForRoutes kind instance (routes_text solution) examined
+
+abbrev pub IsExaminedBy : Bool → Kind → List ℕ → List ℕ → Examined → Type 0
+IsExaminedBy false kind instance solution examined = IsExamined kind instance solution examined
+IsExaminedBy true kind instance solution examined = AreRoutesExamined kind instance solution examined
+
+-- where both texts spell a value, the verdict is that on the two with some printed cost
+abbrev pub HasVerdictOfSome : Examined → Type 0
+HasVerdictOfSome (BadInstance fault) = Unit {0}
+HasVerdictOfSome (BadSolution fault) = Unit {0}
+HasVerdictOfSome (Judged problem plan verdict) = (cost : ℕ) × IsVerdict problem (printed plan.routes cost) verdict

@@ -1,13 +1,13 @@
 -- What is told of an audit that is explained.
-use Rattle.std.specs.Prelude.{◌≡◌, ◌⊎◌, ℕ, List, ◌++◌, codes, string_bytes, Option, Result, Ok, Err, IfOk}
+use Rattle.std.specs.Prelude.{◌≡◌, ◌⊎◌, ℕ, Bool, List, ◌++◌, codes, string_bytes, Option, Result, Ok, Err, IfOk}
 use Rattle.std.specs.Io.KnownBytes.{Appends}
 use Rattle.std.specs.declared.alloc.AllocError.{AllocError}
 use Rattle.std.specs.declared.io.ErrorKind.{ErrorKind}
 use Rattle.plan_types.specs.declared.requests.Kind.{Kind}
 use Rattle.plan_explain.specs.Explained.{verdict_text}
 use Rattle.plan_explain.specs.Refused.{instance_fault_text, solution_fault_text}
-use Rattle.auditor_cli.specs.Answer.{IsAnswer}
-use Rattle.auditor_cli.specs.Examined.{IsExamined, answer_of}
+use Rattle.auditor_cli.specs.Answer.{IsAnswerBy}
+use Rattle.auditor_cli.specs.Examined.{IsExaminedBy, answer_of}
 use Rattle.auditor_cli.specs.Files.{AreBothRead, IsUnread}
 use Rattle.auditor_cli.specs.Reads.{FileRead}
 use Rattle.text_lines.specs.Lines.{ended}
@@ -22,10 +22,10 @@ RestsOn kind instance solution (BadInstance fault) text = text ≡ instance_faul
 RestsOn kind instance solution (BadSolution fault) text = text ≡ solution_fault_text solution fault
 RestsOn kind instance solution (Judged problem plan verdict) text = text ≡ verdict_text problem plan verdict
 
--- the answer for what two texts are, and what it rests on
-pub record IsExplanation (kind : Kind) (instance solution : List ℕ) (explanation : Explanation) : Type 0 where
+-- the answer for what two texts are, of the routes alone or not, and what it rests on
+pub record IsExplanation (routes_alone : Bool) (kind : Kind) (instance solution : List ℕ) (explanation : Explanation) : Type 0 where
   pub examined : Examined
-  pub is_examined : IsExamined kind instance solution examined
+  pub is_examined : IsExaminedBy routes_alone kind instance solution examined
   pub answers : explanation.answer ≡ answer_of examined
   pub rests : RestsOn kind instance solution examined (string_bytes explanation.text)
 
@@ -42,13 +42,13 @@ abbrev pub TellsExplanation : {E : Type 0} → Result Explanation E → Option (
 TellsExplanation explained before after status = (status ≡ explanation_status explained) × Appends before after (explanation_text explained)
 
 -- two texts are read and explained: the answer is that of their audit
-pub record TellsBoth (k : Kind) (instance solution : List ℕ) (was now : List FileRead) (before after : Option (List ℕ)) (status : ℕ) : Type 0 where
+pub record TellsBoth (routes_alone : Bool) (k : Kind) (instance solution : List ℕ) (was now : List FileRead) (before after : Option (List ℕ)) (status : ℕ) : Type 0 where
   pub x : List ℕ
   pub y : List ℕ
   pub read : AreBothRead instance solution x y was now
   pub explained : Result Explanation AllocError
-  pub answers : IfOk explained (λ explanation. IsAnswer k x y explanation.answer)
-  pub explains : IfOk explained (IsExplanation k x y)
+  pub answers : IfOk explained (λ explanation. IsAnswerBy routes_alone k x y explanation.answer)
+  pub explains : IfOk explained (IsExplanation routes_alone k x y)
   pub told : TellsExplanation explained before after status
 
 -- or one can't be read
@@ -58,6 +58,6 @@ pub record TellsNotRead (instance solution : List ℕ) (was now : List FileRead)
   pub unread : IsUnread instance solution path error was now
   pub told : TellsUnread path error before after status
 
-abbrev pub TellsExplained : Kind → List ℕ → List ℕ → List FileRead → List FileRead → Option (List ℕ) → Option (List ℕ) → ℕ → Type 0
-TellsExplained k instance solution was now before after status =
-    TellsBoth k instance solution was now before after status ⊎ TellsNotRead instance solution was now before after status
+abbrev pub TellsExplained : Bool → Kind → List ℕ → List ℕ → List FileRead → List FileRead → Option (List ℕ) → Option (List ℕ) → ℕ → Type 0
+TellsExplained routes_alone k instance solution was now before after status =
+    TellsBoth routes_alone k instance solution was now before after status ⊎ TellsNotRead instance solution was now before after status

@@ -1,10 +1,10 @@
 -- What is told of files. Those that were read stand in lists, the newest first: `was` as it stood before, `now` behind it.
-use Rattle.std.specs.Prelude.{◌≡◌, ◌⊎◌, ℕ, List, ◌∷◌, Option, Result, Ok, Err, IfOk}
+use Rattle.std.specs.Prelude.{◌≡◌, ◌⊎◌, ℕ, Bool, List, ◌∷◌, Option, Result, Ok, Err, IfOk}
 use Rattle.std.specs.Io.KnownBytes.{Appends}
 use Rattle.std.specs.declared.alloc.AllocError.{AllocError}
 use Rattle.std.specs.declared.io.ErrorKind.{ErrorKind}
 use Rattle.plan_types.specs.declared.requests.Kind.{Kind}
-use Rattle.auditor_cli.specs.Answer.{IsAnswer}
+use Rattle.auditor_cli.specs.Answer.{IsAnswerBy}
 use Rattle.auditor_cli.specs.Reads.{FileRead}
 use Rattle.auditor_cli.specs.Telling.{answer_line, answer_status, unread_line, unread_status}
 use Rattle.auditor_cli.specs.declared.answer.AuditAnswer.{AuditAnswer}
@@ -39,9 +39,11 @@ abbrev pub TellsFilesBy : (List ℕ → List ℕ → AuditAnswer → Type 0) →
 TellsFilesBy IsAnswered instance solution was now before after status =
     (text : List ℕ) × IsToldOfFilesBy IsAnswered instance solution was now text status × Appends before after text
 
--- what `audit` tells of two files
-abbrev pub IsToldOfFiles : Kind → List ℕ → List ℕ → List FileRead → List FileRead → List ℕ → ℕ → Type 0
-IsToldOfFiles k instance solution was now text status = IsToldOfFilesBy (IsAnswer k) instance solution was now text status
+-- what `audit` tells of two files, of the routes of the solution alone or not
+abbrev pub IsToldOfFiles : Bool → Kind → List ℕ → List ℕ → List FileRead → List FileRead → List ℕ → ℕ → Type 0
+IsToldOfFiles routes_alone k instance solution was now text status =
+    IsToldOfFilesBy (IsAnswerBy routes_alone k) instance solution was now text status
 
-abbrev pub TellsFiles : Kind → List ℕ → List ℕ → List FileRead → List FileRead → Option (List ℕ) → Option (List ℕ) → ℕ → Type 0
-TellsFiles k instance solution was now before after status = TellsFilesBy (IsAnswer k) instance solution was now before after status
+abbrev pub TellsFiles : Bool → Kind → List ℕ → List ℕ → List FileRead → List FileRead → Option (List ℕ) → Option (List ℕ) → ℕ → Type 0
+TellsFiles routes_alone k instance solution was now before after status =
+    TellsFilesBy (IsAnswerBy routes_alone k) instance solution was now before after status

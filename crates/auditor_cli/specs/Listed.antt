@@ -1,5 +1,5 @@
 -- What is told of a list of pairs of files, line by line. `was` is what is known before, and `now` behind it.
-use Rattle.std.specs.Prelude.{◌≡◌, ◌⊎◌, ℕ, ◌-◌, ◌==◌, ◌&&◌, ◌||◌, not, Bool, if◌then◌else◌, List, [], ◌∷◌, ◌++◌, All, length, slice_index_or, take, drop, codes, Option, Some, None, Ok, Err, max, option_and_then, option_map}
+use Rattle.std.specs.Prelude.{◌≡◌, ◌⊎◌, ℕ, ◌+◌, ◌-◌, ◌==◌, nat_lt, ◌&&◌, ◌||◌, not, Bool, if◌then◌else◌, List, [], ◌∷◌, ◌++◌, All, length, slice_index_or, take, drop, codes, Option, Some, None, Ok, Err, max, option_and_then, option_map}
 use Rattle.std.specs.Io.KnownBytes.{Appends}
 use Rattle.std.specs.List.{concat, flat_map, position_or_len}
 use Rattle.std.specs.Str.{IsUtf8}
@@ -7,13 +7,13 @@ use Rattle.std.specs.declared.io.ErrorKind.{ErrorKind}
 use Rattle.plan_types.specs.declared.requests.Kind.{Kind}
 use Rattle.text_lines.specs.Lines.{HasNoFeed, ended, lines_of}
 use Rattle.best_known.specs.BestKnown.{BestCost, best_in}
+use Rattle.auditor_cli.specs.BadLines.{bad_note, bad_reason}
+use Rattle.auditor_cli.specs.Behind.{TellsOfSolution, listed_line}
+use Rattle.auditor_cli.specs.Columns.{cut, is_tab}
 use Rattle.auditor_cli.specs.Compared.{IsComparedAnswer}
 use Rattle.auditor_cli.specs.Files.{IsToldOfFiles, IsToldOfFilesBy}
 use Rattle.auditor_cli.specs.Reads.{FileRead}
 use Rattle.auditor_cli.specs.Telling.{TellsUnread, unread_line, unread_status}
-
-abbrev pub is_tab : ℕ → Bool
-is_tab b = b == 9
 
 -- a path has a byte, and no tab
 abbrev pub is_path : List ℕ → Bool
@@ -72,22 +72,33 @@ module _ {S : Type 0} (IsToldOf : List ℕ → S → S → List ℕ → ℕ → 
 
 -- ---- the list of `audits`
 
+-- where the audit of a list stands: the files that were read, what the errors hold, and how many lines were answered
+pub record Standing : Type 0 where
+  pub files : List FileRead
+  pub errors : Option (List ℕ)
+  pub lines : ℕ
+
+abbrev pub standing : List FileRead → Option (List ℕ) → ℕ → Standing
+standing files errors lines = record { files = files; errors = errors; lines = lines }
+
+-- once more was read
+abbrev pub read_more : FileRead → Standing → Standing
+read_more entry was = standing (entry ∷ was.files) was.errors was.lines
+
+-- the number of the line behind so many; it stops at the greatest that a `u64` holds
+abbrev pub next_number : ℕ → ℕ
+next_number n = if nat_lt n 18446744073709551615 then n + 1 else n
+
 -- the two paths of a line, and what `audit` tells of them alone, with tabs between them
-pub record IsToldOfPair (k : Kind) (l : List ℕ) (was now : List FileRead) (text : List ℕ) (status : ℕ) : Type 0 where
+pub record IsToldOfPair (routes_alone : Bool) (k : Kind) (path l : List ℕ) (was now : Standing) (text : List ℕ) (status : ℕ) : Type 0 where
   pub instance : List ℕ
   pub solution : List ℕ
   pub pair : IsPair l instance solution
   pub answer : List ℕ
-  pub told : IsToldOfFiles k instance solution was now answer status
+  pub told : IsToldOfFiles routes_alone k instance solution was.files now.files answer status
+  pub noted : TellsOfSolution (listed_line path now.lines solution) instance solution was.files now.files was.errors now.errors
+  pub counted : now.lines ≡ next_number was.lines
   pub text_is : text ≡ pair_text instance solution answer
-
--- what stands before and behind the first tab of a text, if it has one
-abbrev pub cut_at : List ℕ → List ℕ → Option (List ℕ × List ℕ)
-cut_at front [] = None
-cut_at front (tab ∷ rest) = Some (front, rest)
-
-abbrev pub cut : List ℕ → Option (List ℕ × List ℕ)
-cut text = let n = position_or_len is_tab text in cut_at (take n text) (drop n text)
 
 -- two paths, neither of them empty, and a best-known cost of an instance of this kind
 abbrev pub compared : Kind → List ℕ → List ℕ → List ℕ → Option (List ℕ × List ℕ × BestCost)
@@ -111,23 +122,35 @@ IsListedPair k text instance solution None = IsPair text instance solution
 IsListedPair k text instance solution (Some best) = NamesNone text × IsComparedPair k text instance solution best
 
 -- its two paths, and what is told of them beside the best-known cost
-pub record IsToldOfCompared (k : Kind) (l : List ℕ) (was now : List FileRead) (text : List ℕ) (status : ℕ) : Type 0 where
+pub record IsToldOfCompared (routes_alone : Bool) (k : Kind) (path l : List ℕ) (was now : Standing) (text : List ℕ) (status : ℕ) : Type 0 where
   pub instance : List ℕ
   pub solution : List ℕ
   pub best : BestCost
   pub columns : IsComparedPair k l instance solution best
   pub answer : List ℕ
-  pub told : IsToldOfFilesBy (IsComparedAnswer k best) instance solution was now answer status
+  pub told : IsToldOfFilesBy (IsComparedAnswer routes_alone k best) instance solution was.files now.files answer status
+  pub noted : TellsOfSolution (listed_line path now.lines solution) instance solution was.files now.files was.errors now.errors
+  pub counted : now.lines ≡ next_number was.lines
   pub text_is : text ≡ pair_text instance solution answer
 
--- a line that does not name two paths alone: with a best-known cost behind them, or nothing is done for it
-abbrev pub IsComparedLine : Kind → List ℕ → List FileRead → List FileRead → List ℕ → ℕ → Type 0
-IsComparedLine k l was now text status =
-    IsToldOfCompared k l was now text status ⊎ (ComparesNone k l × (now ≡ was) × (text ≡ ended (codes "bad line")) × (status ≡ 2))
+-- or nothing is done for it, and why is told on the errors
+pub record IsToldBad (k : Kind) (path l : List ℕ) (was now : Standing) (text : List ℕ) (status : ℕ) : Type 0 where
+  pub none : ComparesNone k l
+  pub files : now.files ≡ was.files
+  pub noted : Appends was.errors now.errors (bad_note path now.lines (bad_reason k l))
+  pub counted : now.lines ≡ next_number was.lines
+  pub text_is : text ≡ ended (codes "bad line")
+  pub status_is : status ≡ 2
 
--- a line of the list
-abbrev pub IsAudited : Kind → List ℕ → List FileRead → List FileRead → List ℕ → ℕ → Type 0
-IsAudited k l was now text status = IsToldOfPair k l was now text status ⊎ (NamesNone l × IsComparedLine k l was now text status)
+-- a line that does not name two paths alone: with a best-known cost behind them, or none
+abbrev pub IsComparedLine : Bool → Kind → List ℕ → List ℕ → Standing → Standing → List ℕ → ℕ → Type 0
+IsComparedLine routes_alone k path l was now text status =
+    IsToldOfCompared routes_alone k path l was now text status ⊎ IsToldBad k path l was now text status
+
+-- a line of the list under this path
+abbrev pub IsAudited : Bool → Kind → List ℕ → List ℕ → Standing → Standing → List ℕ → ℕ → Type 0
+IsAudited routes_alone k path l was now text status =
+    IsToldOfPair routes_alone k path l was now text status ⊎ (NamesNone l × IsComparedLine routes_alone k path l was now text status)
 
 -- ---- a list that is read line by line
 
@@ -140,35 +163,40 @@ ends_at_feed text = slice_index_or text (length text - 1) 0 == 10
 
 -- A line was read, with its line feed if it has one, and then the files that it names, before anything else was read of the list. Nothing is
 -- said of when its answer was written. There may be no line.
-abbrev pub IsTakenLine : Kind → List ℕ → List ℕ → List FileRead → List FileRead → List ℕ → ℕ → Type 0
-IsTakenLine k path line was now text status = AreTold (IsAudited k) (lines_of line) ((path, Ok line) ∷ was) now text status
+abbrev pub IsTakenLine : Bool → Kind → List ℕ → List ℕ → Standing → Standing → List ℕ → ℕ → Type 0
+IsTakenLine routes_alone k path line was now text status = AreTold (IsAudited routes_alone k path) (lines_of line) (read_more (path, Ok line) was) now text status
 
 -- The list was read to its end: lines with their line feeds, and what has none, which may be nothing. What was told are the lines of all
 -- its bytes.
-pub record IsTakenWhole (k : Kind) (path : List ℕ) (was now : List FileRead) (text : List ℕ) (status : ℕ) : Type 0 where
+pub record IsTakenWhole (routes_alone : Bool) (k : Kind) (path : List ℕ) (was now : Standing) (text : List ℕ) (status : ℕ) : Type 0 where
   pub lines : List (List ℕ)
   pub last : List ℕ
   pub ended_lines : All IsEnded lines
   pub unended : HasNoFeed last
-  pub told : AreTold (IsTakenLine k path) (lines ++ last ∷ []) was now text status
+  pub told : AreTold (IsTakenLine routes_alone k path) (lines ++ last ∷ []) was now text status
   pub all_lines : flat_map lines_of (lines ++ last ∷ []) ≡ lines_of (concat lines ++ last)
 
 -- It can't be read, or not on: behind what is told of the lines before stands that.
-pub record IsBrokenOff (k : Kind) (path : List ℕ) (was now : List FileRead) (text : List ℕ) (status : ℕ) : Type 0 where
+pub record IsBrokenOff (routes_alone : Bool) (k : Kind) (path : List ℕ) (was now : Standing) (text : List ℕ) (status : ℕ) : Type 0 where
   pub lines : List (List ℕ)
   pub ended_lines : All IsEnded lines
-  pub between : List FileRead
+  pub between : Standing
   pub before : List ℕ
   pub greatest : ℕ
-  pub told : AreTold (IsTakenLine k path) lines was between before greatest
+  pub told : AreTold (IsTakenLine routes_alone k path) lines was between before greatest
   pub all_lines : flat_map lines_of lines ≡ lines_of (concat lines)
   pub error : ErrorKind
-  pub noted : now ≡ (path, Err error) ∷ between
+  pub noted : now ≡ read_more (path, Err error) between
   pub text_is : text ≡ before ++ unread_line path error
   pub status_is : status ≡ max greatest (unread_status error)
 
-abbrev pub IsTaken : Kind → List ℕ → List FileRead → List FileRead → List ℕ → ℕ → Type 0
-IsTaken k path was now text status = IsTakenWhole k path was now text status ⊎ IsBrokenOff k path was now text status
+abbrev pub IsTaken : Bool → Kind → List ℕ → Standing → Standing → List ℕ → ℕ → Type 0
+IsTaken routes_alone k path was now text status = IsTakenWhole routes_alone k path was now text status ⊎ IsBrokenOff routes_alone k path was now text status
 
-abbrev pub TellsList : Kind → List ℕ → List FileRead → List FileRead → Option (List ℕ) → Option (List ℕ) → ℕ → Type 0
-TellsList k path was now before after status = (text : List ℕ) × IsTaken k path was now text status × Appends before after text
+abbrev pub TellsTaken : Bool → Kind → List ℕ → Standing → Standing → Option (List ℕ) → Option (List ℕ) → ℕ → Type 0
+TellsTaken routes_alone k path was now before after status = (text : List ℕ) × IsTaken routes_alone k path was now text status × Appends before after text
+
+-- from the first line on: what is told of the list, on the output and on the errors
+abbrev pub TellsList : Bool → Kind → List ℕ → List FileRead → List FileRead → Option (List ℕ) → Option (List ℕ) → Option (List ℕ) → Option (List ℕ) → ℕ → Type 0
+TellsList routes_alone k path was now before after errors_before errors_after status =
+    (lines : ℕ) × TellsTaken routes_alone k path (standing was errors_before 0) (standing now errors_after lines) before after status

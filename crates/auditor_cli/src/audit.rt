@@ -1,13 +1,17 @@
 //! The audit of two texts.
 ghost use Rattle.std.specs.Prelude.{◌≡◌, ◌≢◌, ◌≤◌, IfOk};
-ghost use Rattle.auditor_cli.specs.Answer.{IsAnswer, JudgesSpelled, SaysSound, refused_answer, verdict_answer};
-ghost use Rattle.auditor_cli.specs.Examined.{IsExamined, answer_of};
+ghost use Rattle.auditor_cli.specs.Answer.{IsAnswer, IsAnswerBy, IsRoutesAnswer, JudgesSpelled, SaysRoutesSound, SaysSound, refused_answer, verdict_answer};
+ghost use Rattle.auditor_cli.specs.Examined.{AreExaminedForRoutes, AreRoutesExamined, IsExamined, IsExaminedBy, answer_of};
 ghost use Rattle.auditor_cli.specs.declared.audit.Examined.TheVariants.{BadInstance, BadSolution};
 
 use crate::answer::{AuditAnswer, broken_line, fault_line, pass_line};
+use crate::routes_alone::routes_text;
 use crate::status::{BROKEN, DONE, REFUSED};
 use instance_read::{ReadFault, ReadFaultKind, read_instance};
-use plan_audit::{Verdict, audit_solution, solutions_pass_where_they_are_sound};
+use plan_audit::{
+    Verdict, audit_routes, audit_solution, routes_are_judged_by_true_cost,
+    solutions_pass_where_they_are_sound,
+};
 use plan_types::{Kind, OutOfMemory, Problem};
 use sol_text::{SolFault, SolFaultKind, Solution, read_sol};
 use std::alloc::{AllocError, Global};
@@ -50,6 +54,59 @@ fn audit_both(
     answer_of(alloc, &examined)
 }
 
+/// Audits the routes of a solution's text against an instance's text, whatever cost it prints: as `audit_text`, but that
+/// rule 11 is not asked, and the text may have no cost line, or one with any word. So the status is 0 just where both texts
+/// spell values and the routes are sound, serve each request and keep the fleet; the line tells the distance that they drive.
+///
+/// # Errors
+///
+/// `OutOfMemory`.
+pub fn audit_routes_text(
+    alloc: Global,
+    kind: Kind,
+    instance: &[u8],
+    solution: &[u8],
+) -> Result<AuditAnswer, OutOfMemory>
+    ensures answer { IfOk result (IsRoutesAnswer kind instance.now solution.now) }
+    ensures status { IfOk result (λ answer. answer.status ≤ 2) }
+    ensures sound { IfOk result (SaysRoutesSound kind instance.now solution.now) }
+{
+    solutions_pass_where_they_are_sound();
+    routes_are_judged_by_true_cost();
+    audit_both_routes(alloc, kind, instance, solution)
+}
+
+fn audit_both_routes(
+    alloc: Global,
+    kind: Kind,
+    instance: &[u8],
+    solution: &[u8],
+) -> Result<AuditAnswer, OutOfMemory>
+    ensures answer { IfOk result (IsRoutesAnswer kind instance.now solution.now) }
+    ensures status { IfOk result (λ answer. answer.status ≤ 2) }
+{
+    let examined = examine_routes(alloc, kind, instance, solution)?;
+    answer_of(alloc, &examined)
+}
+
+/// Audits a solution's text, or its routes alone.
+pub(crate) fn audit_by(
+    alloc: Global,
+    kind: Kind,
+    routes_alone: bool,
+    instance: &[u8],
+    solution: &[u8],
+) -> Result<AuditAnswer, OutOfMemory>
+    ensures answer { IfOk result (IsAnswerBy routes_alone kind instance.now solution.now) }
+    ensures status { IfOk result (λ answer. answer.status ≤ 2) }
+{
+    if routes_alone {
+        audit_routes_text(alloc, kind, instance, solution)
+    } else {
+        audit_text(alloc, kind, instance, solution)
+    }
+}
+
 /// What an instance's text and a solution's text are.
 #[derive(Debug, Drop)]
 pub enum Examined {
@@ -80,6 +137,56 @@ pub fn examine(
     };
     let verdict = audit_solution(alloc, &problem, &solution)?;
     Ok(Examined::Judged(problem, solution, verdict))
+}
+
+/// The same of the routes of the solution alone. The solution that is read has a cost of 0, which nobody asks.
+fn examine_routes(
+    alloc: Global,
+    kind: Kind,
+    instance: &[u8],
+    solution: &[u8],
+) -> Result<Examined, OutOfMemory>
+    ensures { IfOk result (AreRoutesExamined kind instance.now solution.now) }
+{
+    let text = routes_text(alloc, solution)?;
+    examine_for_routes(alloc, kind, instance, &text)
+}
+
+fn examine_for_routes(
+    alloc: Global,
+    kind: Kind,
+    instance: &[u8],
+    text: &[u8],
+) -> Result<Examined, OutOfMemory>
+    ensures { IfOk result (AreExaminedForRoutes kind instance.now text.now) }
+{
+    let problem = match read_instance(alloc, kind, instance) {
+        Ok(problem) => problem,
+        Err(fault) => return bad_instance(fault),
+    };
+    let solution = match read_sol(alloc, text) {
+        Ok(solution) => solution,
+        Err(fault) => return bad_solution(fault),
+    };
+    let verdict = audit_routes(alloc, &problem, solution.routes.as_slice())?;
+    Ok(Examined::Judged(problem, solution, verdict))
+}
+
+/// Reads both texts, and audits the solution, or its routes alone.
+pub(crate) fn examine_by(
+    alloc: Global,
+    kind: Kind,
+    routes_alone: bool,
+    instance: &[u8],
+    solution: &[u8],
+) -> Result<Examined, OutOfMemory>
+    ensures { IfOk result (IsExaminedBy routes_alone kind instance.now solution.now) }
+{
+    if routes_alone {
+        examine_routes(alloc, kind, instance, solution)
+    } else {
+        examine(alloc, kind, instance, solution)
+    }
 }
 
 fn bad_instance(fault: ReadFault) -> Result<Examined, OutOfMemory>

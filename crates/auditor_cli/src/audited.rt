@@ -4,7 +4,7 @@ ghost use Rattle.std.specs.IoError.{error_kind};
 ghost use Rattle.auditor_cli.specs.Behind.{TellsBehind};
 ghost use Rattle.auditor_cli.specs.Files.{AreBothRead, AreReadInTurn, IsUnread, TellsFiles};
 
-use crate::audit::audit_text;
+use crate::audit::audit_by;
 use crate::behind::tell_behind;
 use crate::files::ReadFiles;
 use crate::telling::{tell_audit, tell_unread};
@@ -53,11 +53,12 @@ fn not_read<'a>(path: &'a str, error: &io::Error) -> Unread<'a>
     }
 }
 
-/// Reads the whole of both texts before it looks into either, and tells their audit; on `errors` what stands behind the cost line of
-/// the solution.
+/// Reads the whole of both texts before it looks into either, and tells their audit, of the routes of the solution alone or not; on
+/// `errors` what stands behind the cost line of the solution.
 pub fn audit_noted<F: ReadFiles, W: Write, E: Write>(
     alloc: Global,
     paths: Paths,
+    routes_alone: bool,
     files: &mut F,
     output: &mut W,
     errors: &mut E,
@@ -65,7 +66,7 @@ pub fn audit_noted<F: ReadFiles, W: Write, E: Write>(
     ensures status { IfOk result (λ status. status ≤ 4) }
     ensures reads { AreReadInTurn paths.entry.instance.now paths.entry.solution.now
         (F.reads files.old) (F.reads files.new) }
-    ensures told { IfOk result (λ status. TellsFiles paths.entry.kind paths.entry.instance.now
+    ensures told { IfOk result (λ status. TellsFiles routes_alone paths.entry.kind paths.entry.instance.now
         paths.entry.solution.now (F.reads files.old) (F.reads files.new)
         (W.contents output.old) (W.contents output.new) status
         × TellsBehind paths.entry.instance.now paths.entry.solution.now
@@ -76,7 +77,8 @@ pub fn audit_noted<F: ReadFiles, W: Write, E: Write>(
         Ok(both) => both,
         Err(unread) => return tell_unread(output, unread.path, unread.kind),
     };
-    let status = tell_audit(output, &audit_text(alloc, paths.kind, &both.0, &both.1))?;
+    let answer = audit_by(alloc, paths.kind, routes_alone, &both.0, &both.1);
+    let status = tell_audit(output, &answer)?;
     tell_behind(paths.solution, &both.1, errors)?;
     Ok(status)
 }

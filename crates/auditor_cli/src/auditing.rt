@@ -58,9 +58,19 @@ fn do_asked<F: ReadFiles, W: Write, E: Write>(
 {
     match invocation {
         Invocation::BuiltIn => audit_example(alloc, output),
-        Invocation::Audit(paths) => audit_noted(alloc, paths, files, output, errors),
-        Invocation::Audits { kind, list } => audits_read(alloc, kind, list, files, output),
-        Invocation::Explain(paths) => explain_read(alloc, paths, files, output, errors),
+        Invocation::Audit {
+            paths,
+            routes_alone,
+        } => audit_noted(alloc, paths, routes_alone, files, output, errors),
+        Invocation::Audits {
+            kind,
+            list,
+            routes_alone,
+        } => audits_read(alloc, kind, list, routes_alone, files, output, errors),
+        Invocation::Explain {
+            paths,
+            routes_alone,
+        } => explain_read(alloc, paths, routes_alone, files, output, errors),
         _ => tell_elsewhere(errors),
     }
 }

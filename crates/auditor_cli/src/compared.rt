@@ -2,12 +2,14 @@
 ghost use Rattle.std.specs.Prelude.{◌≡◌, ◌≤◌, ◌++◌, IfOk};
 ghost use Rattle.best_known.specs.BestKnown.{comparison_text};
 ghost use Rattle.auditor_cli.specs.AnswerText.{pass_text};
+ghost use Rattle.auditor_cli.specs.Behind.{TellsOfSolution, listed_line};
 ghost use Rattle.auditor_cli.specs.Compared.{IsComparedAnswer, IsListedAnswer, compared_answer, compared_verdict};
 ghost use Rattle.auditor_cli.specs.Files.{AreReadInTurn, TellsFilesBy};
 
 use crate::answer::{AuditAnswer, Line, pass_line};
-use crate::audit::{Examined, answer_of, audit_text, examine, verdict_told};
+use crate::audit::{Examined, answer_of, audit_by, examine_by, verdict_told};
 use crate::audited::read_both;
+use crate::behind::{ListLine, tell_listed_behind};
 use crate::files::ReadFiles;
 use crate::status::DONE;
 use crate::telling::{tell_audit, tell_unread};
@@ -27,56 +29,71 @@ pub struct ListedPair<'a> {
 }
 
 /// Reads the whole of both texts before it looks into either, and tells what comes of their audit; behind a pass, how its cost
-/// compares with the best-known one.
-pub fn compare_read<F: ReadFiles, W: Write>(
+/// compares with the best-known one; on `errors` what stands behind the cost line of the solution.
+pub(crate) fn compare_read<F: ReadFiles, W: Write, E: Write>(
     alloc: Global,
     pair: &ListedPair<'_>,
+    place: ListLine<'_>,
+    routes_alone: bool,
     files: &mut F,
     output: &mut W,
+    errors: &mut E,
 ) -> io::Result<u8>
     ensures status { IfOk result (λ status. status ≤ 4) }
     ensures reads { AreReadInTurn pair.now.paths.instance.now pair.now.paths.solution.now
         (F.reads files.old) (F.reads files.new) }
-    ensures told { IfOk result (TellsFilesBy (IsListedAnswer pair.now.paths.kind pair.now.best)
+    ensures told { IfOk result (λ status. TellsFilesBy
+        (IsListedAnswer routes_alone pair.now.paths.kind pair.now.best)
         pair.now.paths.instance.now pair.now.paths.solution.now
         (F.reads files.old) (F.reads files.new)
-        (W.contents output.old) (W.contents output.new)) }
+        (W.contents output.old) (W.contents output.new) status
+        × TellsOfSolution
+        (listed_line place.entry.list.now place.entry.number pair.now.paths.solution.now)
+        pair.now.paths.instance.now pair.now.paths.solution.now
+        (F.reads files.old) (F.reads files.new)
+        (E.contents errors.old) (E.contents errors.new)) }
 {
     let both = match read_both(pair.paths, files) {
         Ok(both) => both,
         Err(unread) => return tell_unread(output, unread.path, unread.kind),
     };
-    tell_audit(output, &listed_answer(alloc, pair, &both.0, &both.1))
+    let answer = listed_answer(alloc, pair, routes_alone, &both.0, &both.1);
+    let status = tell_audit(output, &answer)?;
+    tell_listed_behind(place, pair.paths.solution, &both.1, errors)?;
+    Ok(status)
 }
 
 // Audits a solution's text against an instance's text.
 fn listed_answer(
     alloc: Global,
     pair: &ListedPair<'_>,
+    routes_alone: bool,
     instance: &[u8],
     solution: &[u8],
 ) -> Result<AuditAnswer, OutOfMemory>
-    ensures answer { IfOk result (IsListedAnswer pair.now.paths.kind pair.now.best
+    ensures answer { IfOk result (IsListedAnswer routes_alone pair.now.paths.kind pair.now.best
         instance.now solution.now) }
     ensures status { IfOk result (λ answer. answer.status ≤ 2) }
 {
+    let kind = pair.paths.kind;
     match &pair.best {
-        Some(best) => compare_text(alloc, pair.paths.kind, best, instance, solution),
-        None => audit_text(alloc, pair.paths.kind, instance, solution),
+        Some(best) => compare_text(alloc, kind, routes_alone, best, instance, solution),
+        None => audit_by(alloc, kind, routes_alone, instance, solution),
     }
 }
 
 fn compare_text(
     alloc: Global,
     kind: Kind,
+    routes_alone: bool,
     best: &BestKnown,
     instance: &[u8],
     solution: &[u8],
 ) -> Result<AuditAnswer, OutOfMemory>
-    ensures answer { IfOk result (IsComparedAnswer kind best.now instance.now solution.now) }
+    ensures answer { IfOk result (IsComparedAnswer routes_alone kind best.now instance.now solution.now) }
     ensures status { IfOk result (λ answer. answer.status ≤ 2) }
 {
-    let examined = examine(alloc, kind, instance, solution)?;
+    let examined = examine_by(alloc, kind, routes_alone, instance, solution)?;
     compared_answer(alloc, best, &examined)
 }
 

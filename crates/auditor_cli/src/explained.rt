@@ -1,18 +1,19 @@
 //! The audit of two files, and what it rests on.
 ghost use Rattle.std.specs.Prelude.{◌≡◌, ◌≤◌, IfOk, string_bytes};
-ghost use Rattle.auditor_cli.specs.Answer.{IsAnswer};
+ghost use Rattle.auditor_cli.specs.Answer.{IsAnswerBy};
 ghost use Rattle.auditor_cli.specs.Behind.{TellsBehind};
-ghost use Rattle.auditor_cli.specs.Examined.{HasVerdict};
+ghost use Rattle.auditor_cli.specs.Examined.{HasVerdictOfSome};
 ghost use Rattle.auditor_cli.specs.Explained.{IsExplanation, RestsOn, TellsExplained, TellsExplanation};
 ghost use Rattle.auditor_cli.specs.Files.{AreReadInTurn};
 
 use crate::answer::AuditAnswer;
-use crate::audit::{Examined, answer_of, examine};
+use crate::audit::{Examined, answer_of, examine_by};
 use crate::audited::read_both;
 use crate::behind::tell_behind;
 use crate::files::ReadFiles;
 use crate::telling::{tell_unread, tell_want_of_memory, write_line};
 use command_line::Paths;
+use plan_audit::routes_are_judged_by_true_cost;
 use plan_explain::{explain_instance_fault, explain_solution_fault, explain_verdict};
 use plan_types::{Kind, OutOfMemory};
 use std::alloc::Global;
@@ -26,11 +27,12 @@ pub struct Explanation {
     pub text: String,
 }
 
-/// Reads both texts as `audit_noted` does, and tells the audit's answer and what it rests on; on `errors` what stands behind the cost line
+/// Reads both texts as `audit_noted` does, and tells the audit's answer, of the routes alone or not, and what it rests on; on `errors` what stands behind the cost line
 /// of the solution.
 pub fn explain_read<F: ReadFiles, W: Write, E: Write>(
     alloc: Global,
     paths: Paths,
+    routes_alone: bool,
     files: &mut F,
     output: &mut W,
     errors: &mut E,
@@ -38,7 +40,7 @@ pub fn explain_read<F: ReadFiles, W: Write, E: Write>(
     ensures status { IfOk result (λ status. status ≤ 4) }
     ensures reads { AreReadInTurn paths.entry.instance.now paths.entry.solution.now
         (F.reads files.old) (F.reads files.new) }
-    ensures told { IfOk result (λ status. TellsExplained paths.entry.kind paths.entry.instance.now
+    ensures told { IfOk result (λ status. TellsExplained routes_alone paths.entry.kind paths.entry.instance.now
         paths.entry.solution.now (F.reads files.old) (F.reads files.new)
         (W.contents output.old) (W.contents output.new) status
         × TellsBehind paths.entry.instance.now paths.entry.solution.now
@@ -49,7 +51,8 @@ pub fn explain_read<F: ReadFiles, W: Write, E: Write>(
         Ok(both) => both,
         Err(unread) => return tell_unread(output, unread.path, unread.kind),
     };
-    let status = tell_explanation(output, &explain(alloc, paths.kind, &both.0, &both.1))?;
+    let explained = explain(alloc, paths.kind, routes_alone, &both.0, &both.1);
+    let status = tell_explanation(output, &explained)?;
     tell_behind(paths.solution, &both.1, errors)?;
     Ok(status)
 }
@@ -72,19 +75,21 @@ pub fn tell_explanation<W: Write>(
     }
 }
 
-// Audits a solution's text against an instance's text, and tells what the answer rests on.
+// Audits a solution's text, or its routes alone, against an instance's text, and tells what the answer rests on.
 fn explain(
     alloc: Global,
     kind: Kind,
+    routes_alone: bool,
     instance: &[u8],
     solution: &[u8],
 ) -> Result<Explanation, OutOfMemory>
     ensures answer { IfOk result (λ explanation.
-        IsAnswer kind instance.now solution.now explanation.answer) }
-    ensures explains { IfOk result (IsExplanation kind instance.now solution.now) }
+        IsAnswerBy routes_alone kind instance.now solution.now explanation.answer) }
+    ensures explains { IfOk result (IsExplanation routes_alone kind instance.now solution.now) }
     ensures status { IfOk result (λ explanation. explanation.answer.status ≤ 2) }
 {
-    let examined = examine(alloc, kind, instance, solution)?;
+    routes_are_judged_by_true_cost();
+    let examined = examine_by(alloc, kind, routes_alone, instance, solution)?;
     let answer = answer_of(alloc, &examined)?;
     let text = rests_on(alloc, kind, instance, solution, &examined)?;
     Ok(Explanation { answer, text })
@@ -98,7 +103,7 @@ fn rests_on(
     solution: &[u8],
     examined: &Examined,
 ) -> Result<String, OutOfMemory>
-    requires { HasVerdict examined.now }
+    requires { HasVerdictOfSome examined.now }
     ensures { IfOk result (λ text. RestsOn kind instance.now solution.now examined.now
         (string_bytes text)) }
 {

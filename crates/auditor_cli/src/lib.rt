@@ -13,19 +13,23 @@
 //! Modules, in reading order:
 //! - `status`: the statuses that the program ends with
 //! - `answer`: the lines that answer an audit
+//! - `routes_alone`: the routes of a solution's text, without its cost
 //! - `audit`, `example`: the audit of two texts, and of the two that are built in
 //! - `telling`, `usage`: lines for files that can't be read or made, and for words that ask for nothing
 //! - `file_record`, `files`: what reads files and what makes them, and the lists of those that were read and made
 //! - `behind`: what stands behind the cost line of a solution
+//! - `columns`, `bad_lines`: columns with tabs between them, and why a line of a list names no pair
 //! - `audited`, `compared`, `listed`: the words `audit` and `audits`, also beside a best-known cost
 //! - `explained`: the word `explain`
 //! - `auditing`: `audit_words`
 //!
-//! Said by `specs/Answer.antt`, `Auditing.antt` and `Reads.antt`, and word by word by `Files.antt`, `Behind.antt`, `Listed.antt`,
+//! Said by `specs/Answer.antt`, `Auditing.antt` and `Reads.antt`, and word by word by `Files.antt`, `Behind.antt`, `Listed.antt`, `BadLines.antt`,
 //! `Compared.antt` and `Explained.antt`. Proved:
 //! - `audit_text`: line and status are those of the first fault or of the verdict on what the texts spell; the
 //!   status is 0 exactly where both spell a value and the solution keeps the rules, serves every request, keeps the
 //!   fleet and prints the distance that it drives (`SaysSound`)
+//! - `audit_routes_text`: the same of the routes alone, whatever cost is printed, or none; the status is 0 exactly where
+//!   both spell a value and the solution keeps the rules, serves every request and keeps the fleet (`SaysRoutesSound`)
 //! - `audit_words`, of words without hyphen that ask for something (`EndsWith`): which files were read, and in which order, of a
 //!   list the list first; what was written to the output and to the errors, and the status that goes with it, but for an answer
 //!   that could not be printed; of words that ask for more than an audit one line on the errors and status 64
@@ -41,19 +45,22 @@ mod answer;
 mod audit;
 mod audited;
 mod auditing;
+mod bad_lines;
 mod behind;
+mod columns;
 mod compared;
 mod example;
 mod explained;
 mod file_record;
 mod files;
 mod listed;
+mod routes_alone;
 pub mod status;
 mod telling;
 mod usage;
 
 pub use answer::{AuditAnswer, Line, pass_line};
-pub use audit::{Examined, answer_of, audit_text, examine};
+pub use audit::{Examined, answer_of, audit_routes_text, audit_text, examine};
 pub use audited::{audit_noted, read_both};
 pub use auditing::audit_words;
 pub use example::audit_example;

@@ -1,12 +1,15 @@
 //! The audits of a list of pairs of files.
-ghost use Rattle.std.specs.Prelude.{◌≡◌, ◌≤◌, IfOk, MatchOption, codes, length, max, option_map};
-ghost use Rattle.std.specs.List.{position_or_len};
+ghost use Rattle.std.specs.Prelude.{◌≡◌, ◌≤◌, ℕ, IfOk, MatchOption, codes, max, option_map};
 ghost use Rattle.std.specs.Io.KnownBytes.{Appends};
 ghost use Rattle.text_lines.specs.Lines.{ended};
-ghost use Rattle.auditor_cli.specs.Listed.{ComparesNone, IsAudited, IsComparedPair, IsListedPair, IsPair, NamesNone, TellsLine, TellsLines, TellsList, compared_parts, cut, ends_at_feed, is_path, is_tab, parts_of};
+ghost use Rattle.auditor_cli.specs.BadLines.{bad_note, bad_reason};
+ghost use Rattle.auditor_cli.specs.Listed.{ComparesNone, IsAudited, IsComparedPair, IsListedPair, IsPair, NamesNone, TellsLine, TellsLines, TellsList, compared_parts, ends_at_feed, is_path, next_number, parts_of, standing};
 ghost use Rattle.auditor_cli.specs.Reads.{IsGrown, IsReadFirst};
 ghost use Rattle.auditor_cli.specs.Telling.{unread_line, unread_status};
 
+use crate::bad_lines::tell_reason;
+use crate::behind::ListLine;
+use crate::columns::{cut, tab_at};
 use crate::compared::{ListedPair, compare_read};
 use crate::files::ReadFiles;
 use crate::status::{DONE, REFUSED};
@@ -19,47 +22,72 @@ use std::io::{ErrorKind, Write};
 use std::{io, str};
 use text_lines::Lines;
 
-/// Reads a list line by line, and audits the pair that each names before it reads the next one. Gives the greatest status.
-pub fn audits_read<F: ReadFiles, W: Write>(
+/// A list, by the path of its file as it stands, and how its lines are audited.
+#[derive(Clone, Copy)]
+struct AskedList<'a> {
+    kind: Kind,
+    path: &'a str,
+    routes_alone: bool,
+}
+
+/// Reads a list line by line, and audits the pair that each names before it reads the next one, of each solution the routes alone or
+/// not. On `errors` stands, with the number of the line, why one names no pair, and what stands behind the cost line of a solution. Gives
+/// the greatest status.
+pub fn audits_read<F: ReadFiles, W: Write, E: Write>(
     alloc: Global,
     kind: Kind,
     list: &str,
+    routes_alone: bool,
     files: &mut F,
     output: &mut W,
+    errors: &mut E,
 ) -> io::Result<u8>
     ensures status { IfOk result (λ status. status ≤ 4) }
     ensures reads { IsReadFirst list.now (F.reads files.old) (F.reads files.new) }
-    ensures told { IfOk result (TellsList kind list.now (F.reads files.old) (F.reads files.new)
-        (W.contents output.old) (W.contents output.new)) }
+    ensures told { IfOk result (TellsList routes_alone kind list.now
+        (F.reads files.old) (F.reads files.new)
+        (W.contents output.old) (W.contents output.new)
+        (E.contents errors.old) (E.contents errors.new)) }
 {
     match files.open(list) {
-        Ok(opened) => audit_opened(alloc, kind, list, opened, files, output),
+        Ok(opened) => {
+            let asked = AskedList {
+                kind,
+                path: list,
+                routes_alone,
+            };
+            audit_opened(alloc, asked, opened, files, output, errors)
+        }
         Err(error) => tell_unread(output, list, error.kind()),
     }
 }
 
 // Audits the pair that each line of an opened list names.
-fn audit_opened<F: ReadFiles, W: Write>(
+fn audit_opened<F: ReadFiles, W: Write, E: Write>(
     alloc: Global,
-    kind: Kind,
-    path: &str,
+    asked: AskedList<'_>,
     opened: F::Opened,
     files: &mut F,
     output: &mut W,
+    errors: &mut E,
 ) -> io::Result<u8>
     ensures status { IfOk result (λ status. status ≤ 4) }
-    ensures reads { IsReadFirst path.now (F.reads files.old) (F.reads files.new) }
-    ensures told { IfOk result (TellsList kind path.now (F.reads files.old) (F.reads files.new)
-        (W.contents output.old) (W.contents output.new)) }
+    ensures reads { IsReadFirst asked.entry.path.now (F.reads files.old) (F.reads files.new) }
+    ensures told { IfOk result (TellsList asked.entry.routes_alone asked.entry.kind asked.entry.path.now
+        (F.reads files.old) (F.reads files.new)
+        (W.contents output.old) (W.contents output.new)
+        (E.contents errors.old) (E.contents errors.new)) }
 {
     let mut opened = opened;
     let mut greatest = DONE;
+    let mut answered = 0u64;
     for _ in 0..u64::MAX {
-        let line = match files.read_line(path, &mut opened) {
+        let line = match files.read_line(asked.path, &mut opened) {
             Ok(line) => line,
-            Err(error) => return tell_broken_off(greatest, output, path, error.kind()),
+            Err(error) => return tell_broken_off(greatest, output, asked.path, error.kind()),
         };
-        let status = audit_lines(alloc, kind, Lines::new(&line), files, output)?;
+        let lines = Lines::new(&line);
+        let status = audit_lines(alloc, asked, lines, &mut answered, files, output, errors)?;
         greatest = greater(greatest, status);
         if !ends_at_feed(&line) {
             return Ok(greatest);
@@ -92,26 +120,42 @@ fn ends_at_feed(text: &[u8]) -> bool
 }
 
 // Tells the audit of the pair that each line names, and flushes it before it goes on.
-fn audit_lines<F: ReadFiles, W: Write>(
+fn audit_lines<F: ReadFiles, W: Write, E: Write>(
     alloc: Global,
-    kind: Kind,
+    asked: AskedList<'_>,
     lines: Lines<'_>,
+    answered: &mut u64,
     files: &mut F,
     output: &mut W,
+    errors: &mut E,
 ) -> io::Result<u8>
     ensures status { IfOk result (λ status. status ≤ 4) }
     ensures reads { IsGrown (F.reads files.old) (F.reads files.new) }
-    ensures told { IfOk result (TellsLines (IsAudited kind) lines.entry
-        (F.reads files.old) (F.reads files.new)
+    ensures told { IfOk result (TellsLines
+        (IsAudited asked.entry.routes_alone asked.entry.kind asked.entry.path.now) lines.entry
+        (standing (F.reads files.old) (E.contents errors.old) answered.old)
+        (standing (F.reads files.new) (E.contents errors.new) answered.new)
         (W.contents output.old) (W.contents output.new)) }
 {
     let mut greatest = DONE;
     for line in lines {
-        let status = audit_line(alloc, kind, line, files, output)?;
+        let number = next_number(*answered);
+        let status = audit_line(alloc, asked, number, line, files, output, errors)?;
+        *answered = number;
         output.flush()?;
         greatest = greater(greatest, status);
     }
     Ok(greatest)
+}
+
+fn next_number(answered: u64) -> u64
+    ensures { result ≡ next_number answered }
+{
+    if answered < u64::MAX {
+        answered + 1
+    } else {
+        answered
+    }
 }
 
 /// The greater status.
@@ -123,28 +167,62 @@ pub fn greater(one: u8, other: u8) -> u8
     if one < other { other } else { one }
 }
 
-// Tells the audit of the pair that the line names.
-fn audit_line<F: ReadFiles, W: Write>(
+// Tells the audit of the pair that the line with this number names.
+fn audit_line<F: ReadFiles, W: Write, E: Write>(
     alloc: Global,
-    kind: Kind,
+    asked: AskedList<'_>,
+    number: u64,
     line: &[u8],
     files: &mut F,
     output: &mut W,
+    errors: &mut E,
 ) -> io::Result<u8>
     ensures status { IfOk result (λ status. status ≤ 4) }
     ensures reads { IsGrown (F.reads files.old) (F.reads files.new) }
-    ensures told { IfOk result (TellsLine (IsAudited kind) line.now
-        (F.reads files.old) (F.reads files.new)
+    ensures told { (answered : ℕ) → number ≡ next_number answered → IfOk result (TellsLine
+        (IsAudited asked.entry.routes_alone asked.entry.kind asked.entry.path.now) line.now
+        (standing (F.reads files.old) (E.contents errors.old) answered)
+        (standing (F.reads files.new) (E.contents errors.new) number)
         (W.contents output.old) (W.contents output.new)) }
 {
-    let pair = match listed_pair(kind, line) {
+    let place = ListLine {
+        list: asked.path,
+        number,
+    };
+    let pair = match listed_pair(asked.kind, line) {
         Some(pair) => pair,
-        None => return tell_bad_line(output),
+        None => return tell_none(place, asked.kind, line, output, errors),
     };
     let instance = pair.paths.instance;
     let solution = pair.paths.solution;
     write!(output, "{instance}\t{solution}\t")?;
-    compare_read(alloc, &pair, files, output)
+    compare_read(
+        alloc,
+        &pair,
+        place,
+        asked.routes_alone,
+        files,
+        output,
+        errors,
+    )
+}
+
+// Tells a line that names no pair, and on the errors why.
+fn tell_none<W: Write, E: Write>(
+    place: ListLine<'_>,
+    kind: Kind,
+    line: &[u8],
+    output: &mut W,
+    errors: &mut E,
+) -> io::Result<u8>
+    ensures { IfOk result (λ status. (status ≡ 2)
+        × Appends (W.contents output.old) (W.contents output.new) (ended (codes "bad line"))
+        × Appends (E.contents errors.old) (E.contents errors.new)
+        (bad_note place.entry.list.now place.entry.number (bad_reason kind line.now))) }
+{
+    let status = tell_bad_line(output)?;
+    tell_reason(place, kind, line, errors)?;
+    Ok(status)
 }
 
 /// Tells a line that names no pair.
@@ -256,31 +334,4 @@ fn compared_parts(kind: Kind, line: &[u8]) -> Option<(&[u8], &[u8], BestKnown)>
         return None;
     };
     Some((instance, solution, best))
-}
-
-// What stands before and behind the first tab.
-fn cut(text: &[u8]) -> Option<(&[u8], &[u8])>
-    ensures { option_map (λ p. (p.0.now, p.1.now)) result ≡ cut text.now }
-{
-    let (front, rest) = text.split_at(tab_at(text));
-    match rest {
-        [] => None,
-        [_, behind @ ..] => Some((front, behind)),
-    }
-}
-
-fn is_tab(byte: u8) -> bool
-    ensures { result ≡ is_tab byte }
-{
-    byte == b'\t'
-}
-
-// How many bytes stand before the first tab, or all of them.
-fn tab_at(line: &[u8]) -> usize
-    ensures value { result ≡ position_or_len is_tab line.now }
-    ensures bound { result ≤ length line.now }
-{
-    line.iter()
-        .position(|byte| is_tab(*byte))
-        .unwrap_or(line.len())
 }

@@ -90,6 +90,7 @@ pub(crate) const AUDITS_ANSWERS: &str =
     LIST may be - for standard input. For each line it prints one:\n  \
     INSTANCE  SOLUTION  ANSWER    with tabs between them; ANSWER is the line of `audit`\n  \
     bad line                      it is no two paths, or the cost is none or has a distance of 0 (status 2)\n\n\
+    Standard error names each bad line by its number, and why; and, as of `audit`, what stands behind a cost line.\n\
     Where a best-known cost is told, behind a pass stands one of these:\n  \
     vehicles +1    where the vehicles differ: so many more or fewer than the best-known ones\n  \
     gap 1.27       else: how much longer the distance is, in percent of the best-known one; of a shorter one with a minus\n\n\

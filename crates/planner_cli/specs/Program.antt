@@ -61,9 +61,9 @@ done_in w = record { reads = w.files; writes = w.new_files }
 -- which files a word reads, also where an answer can't be printed
 abbrev pub AreReadFor : Asked → List FileRead → List FileRead → Type 0
 AreReadFor built_in was now = now ≡ was
-AreReadFor (audit paths) was now = AreReadInTurn paths.instance paths.solution was now
-AreReadFor (audits kind list) was now = IsReadFirst list was now
-AreReadFor (explain paths) was now = AreReadInTurn paths.instance paths.solution was now
+AreReadFor (audit paths routes_alone) was now = AreReadInTurn paths.instance paths.solution was now
+AreReadFor (audits kind list routes_alone) was now = IsReadFirst list was now
+AreReadFor (explain paths routes_alone) was now = AreReadInTurn paths.instance paths.solution was now
 AreReadFor (draw paths route) was now = AreReadInTurn paths.instance paths.solution was now
 AreReadFor (draw_store store) was now = now ≡ was
 AreReadFor (solve task) was now = IsRead task.instance was now
@@ -87,8 +87,9 @@ IsInputKept _ old new = (new.input ≡ old.input) × (new.reads ≡ old.reads)
 
 -- only these words write to the errors
 abbrev pub AreErrorsKept : Asked → World → World → Type 0
-AreErrorsKept (audit paths) old new = Unit {0}
-AreErrorsKept (explain paths) old new = Unit {0}
+AreErrorsKept (audit paths routes_alone) old new = Unit {0}
+AreErrorsKept (audits kind list routes_alone) old new = Unit {0}
+AreErrorsKept (explain paths routes_alone) old new = Unit {0}
 AreErrorsKept (draw paths route) old new = Unit {0}
 AreErrorsKept (draw_store store) old new = Unit {0}
 AreErrorsKept (solve task) old new = Unit {0}
@@ -107,12 +108,13 @@ module _ {D N : Type 0} (on_old : sectors.Ghosts D) (on_new : sectors.Ghosts N) 
   -- is opened, `IsNew` of one over a file that is made beside it.
   abbrev pub Does : Asked → World → World → ℕ → Type 0
   Does built_in old new status = TellsAudit LiLim example_instance example_solution old.output.contents new.output.contents status
-  Does (audit paths) old new status =
-      TellsFiles paths.kind paths.instance paths.solution old.files new.files old.output.contents new.output.contents status
+  Does (audit paths routes_alone) old new status =
+      TellsFiles routes_alone paths.kind paths.instance paths.solution old.files new.files old.output.contents new.output.contents status
       × TellsBehind paths.instance paths.solution old.files new.files old.errors new.errors
-  Does (audits kind list) old new status = TellsList kind list old.files new.files old.output.contents new.output.contents status
-  Does (explain paths) old new status =
-      TellsExplained paths.kind paths.instance paths.solution old.files new.files old.output.contents new.output.contents status
+  Does (audits kind list routes_alone) old new status =
+      TellsList routes_alone kind list old.files new.files old.output.contents new.output.contents old.errors new.errors status
+  Does (explain paths routes_alone) old new status =
+      TellsExplained routes_alone paths.kind paths.instance paths.solution old.files new.files old.output.contents new.output.contents status
       × TellsBehind paths.instance paths.solution old.files new.files old.errors new.errors
   Does (draw paths route) old new status = TellsDrawn paths.kind route paths.instance paths.solution old.files new.files old.output.contents new.output.contents old.errors new.errors status
   Does (draw_store store) old new status = DrawsStore on_old IsOld store old.output.contents new.output.contents old.errors new.errors status

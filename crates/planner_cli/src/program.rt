@@ -142,18 +142,29 @@ where
             let told = audit_example(alloc, &mut streams.output);
             (told, streams)
         }
-        Invocation::Audit(paths) => {
+        Invocation::Audit {
+            paths,
+            routes_alone,
+        } => {
             let Streams { output, errors, .. } = &mut streams;
-            let told = audit_noted(alloc, paths, files, output, errors);
+            let told = audit_noted(alloc, paths, routes_alone, files, output, errors);
             (told, streams)
         }
-        Invocation::Audits { kind, list } => {
-            let told = audits_read(alloc, kind, list, files, &mut streams.output);
+        Invocation::Audits {
+            kind,
+            list,
+            routes_alone,
+        } => {
+            let Streams { output, errors, .. } = &mut streams;
+            let told = audits_read(alloc, kind, list, routes_alone, files, output, errors);
             (told, streams)
         }
-        Invocation::Explain(paths) => {
+        Invocation::Explain {
+            paths,
+            routes_alone,
+        } => {
             let Streams { output, errors, .. } = &mut streams;
-            let told = explain_read(alloc, paths, files, output, errors);
+            let told = explain_read(alloc, paths, routes_alone, files, output, errors);
             (told, streams)
         }
         Invocation::Draw { paths, route } => {

@@ -3,7 +3,7 @@ use Rattle.std.proofs.Common.{subst, inl, inr}
 use Rattle.std.proofs.KnownBytes.{Appends-nil}
 use Rattle.std.proofs.lemmas.Result.{IfOk-weaker}
 use Rattle.std.specs.Io.KnownBytes.{Appends}
-use Rattle.auditor_cli.specs.Answer.{IsAnswer}
+use Rattle.auditor_cli.specs.Answer.{IsAnswerBy}
 use Rattle.auditor_cli.specs.Behind.{behind_line}
 use Rattle.auditor_cli.proofs.FileLemmas.{read_told, unread_told}
 use Rattle.auditor_cli.proofs.audited.audit_noted.Goals as goal
@@ -14,7 +14,7 @@ returns-in-Err-clause-told g c =
     let kind = c.in-Err.unread.kind in
     IfOk-weaker c.tell_unread.result _ _
     (λ status told. (
-      unread_told (IsAnswer c.args.paths.kind) c.args.paths.instance.now c.args.paths.solution.now _ _ _ _ status path kind c.in-Err.ensures told,
+      unread_told (IsAnswerBy c.args.routes_alone c.args.paths.kind) c.args.paths.instance.now c.args.paths.solution.now _ _ _ _ status path kind c.in-Err.ensures told,
       inr (path, kind, c.in-Err.ensures, Appends-nil (g.E.Write.contents c.args.errors.now)),
     ))
     c.tell_unread.ensures
@@ -23,6 +23,6 @@ pub returns-clause-told : goal.returns-clause-told
 returns-clause-told g c =
     let both = c.in-Ok.both in
     let behind = subst (λ y. Appends (g.E.Write.contents c.args.errors.now) (g.E.Write.contents c.tell_behind.new.errors) (behind_line c.args.paths.solution.now y)) c.deref-3.ensures.value c.in_ok-tell_behind.ensures in (
-      read_told (IsAnswer c.args.paths.kind) c.args.paths.instance.now c.args.paths.solution.now _ _ _ _ c.in_ok-status.status both.0.items both.1.items c.deref.result.now c.deref-2.result.now c.audit_text.result c.deref.ensures.value c.deref-2.ensures.value c.in-Ok.ensures c.audit_text.ensures.answer c.in_ok-status.ensures,
+      read_told (IsAnswerBy c.args.routes_alone c.args.paths.kind) c.args.paths.instance.now c.args.paths.solution.now _ _ _ _ c.in_ok-status.status both.0.items both.1.items c.deref.result.now c.deref-2.result.now c.audit_by-answer.result c.deref.ensures.value c.deref-2.ensures.value c.in-Ok.ensures c.audit_by-answer.ensures.answer c.in_ok-status.ensures,
       inl (both.0.items, both.1.items, c.in-Ok.ensures, behind),
     )

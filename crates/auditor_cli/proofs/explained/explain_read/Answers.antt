@@ -4,7 +4,7 @@ use Rattle.std.proofs.KnownBytes.{Appends-nil}
 use Rattle.std.proofs.lemmas.Result.{IfOk-weaker}
 use Rattle.std.specs.Io.KnownBytes.{Appends}
 use Rattle.std.specs.Prelude.{IfOk}
-use Rattle.auditor_cli.specs.Answer.{IsAnswer}
+use Rattle.auditor_cli.specs.Answer.{IsAnswerBy}
 use Rattle.auditor_cli.specs.Behind.{behind_line}
 use Rattle.auditor_cli.specs.Explained.{IsExplanation}
 use Rattle.auditor_cli.proofs.explained.explain_read.Goals as goal
@@ -22,11 +22,11 @@ pub returns-clause-told : goal.returns-clause-told
 returns-clause-told g c =
     let kind = c.args.paths.kind in
     let both = c.in-Ok.both in
-    let explained = c.explain.result in
-    let answers = subst (λ x. IfOk explained (λ e. IsAnswer kind x both.1.items e.answer)) c.deref.ensures.value
-    (subst (λ y. IfOk explained (λ e. IsAnswer kind c.deref.result.now y e.answer)) c.deref-2.ensures.value c.explain.ensures.answer) in
-    let explains = subst (λ x. IfOk explained (IsExplanation kind x both.1.items)) c.deref.ensures.value
-    (subst (λ y. IfOk explained (IsExplanation kind c.deref.result.now y)) c.deref-2.ensures.value c.explain.ensures.explains) in
+    let explained = c.explain-explained.result in
+    let answers = subst (λ x. IfOk explained (λ e. IsAnswerBy c.args.routes_alone kind x both.1.items e.answer)) c.deref.ensures.value
+    (subst (λ y. IfOk explained (λ e. IsAnswerBy c.args.routes_alone kind c.deref.result.now y e.answer)) c.deref-2.ensures.value c.explain-explained.ensures.answer) in
+    let explains = subst (λ x. IfOk explained (IsExplanation c.args.routes_alone kind x both.1.items)) c.deref.ensures.value
+    (subst (λ y. IfOk explained (IsExplanation c.args.routes_alone kind c.deref.result.now y)) c.deref-2.ensures.value c.explain-explained.ensures.explains) in
     let behind = subst (λ y. Appends (g.E.Write.contents c.args.errors.now) (g.E.Write.contents c.tell_behind.new.errors) (behind_line c.args.paths.solution.now y)) c.deref-3.ensures.value c.in_ok-tell_behind.ensures in (
       inl (record {
         x = both.0.items;

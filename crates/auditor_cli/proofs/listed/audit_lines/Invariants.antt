@@ -1,12 +1,14 @@
 -- What is told of the lines so far.
 use Rattle.std.proofs.Common.{◌≤◌}
-use Rattle.auditor_cli.specs.Listed.{IsAudited}
+use Rattle.auditor_cli.specs.Listed.{IsAudited, standing}
 use Rattle.auditor_cli.specs.Reads.{IsGrown}
 use Rattle.auditor_cli.proofs.ListLemmas.{IsSoFar}
 use Rattle.auditor_cli.proofs.listed.audit_lines.Given as goal
 
 abbrev pub invariant-loop-line : goal.invariant-loop-line
 invariant-loop-line g l =
-    IsSoFar (IsAudited l.fn.kind) l.fn.lines (g.F.ReadFiles.reads l.fn.files) (g.W.Write.contents l.fn.output) (g.F.ReadFiles.reads l.files) (g.W.Write.contents l.output) l.line-iterator l.greatest
+    IsSoFar (IsAudited l.fn.asked.routes_alone l.fn.asked.kind l.fn.asked.path.now) l.fn.lines
+    (standing (g.F.ReadFiles.reads l.fn.files) (g.E.Write.contents l.fn.errors) l.fn.answered) (g.W.Write.contents l.fn.output)
+    (standing (g.F.ReadFiles.reads l.files) (g.E.Write.contents l.errors) l.answered) (g.W.Write.contents l.output) l.line-iterator l.greatest
     × (l.greatest ≤ 4)
     × IsGrown (g.F.ReadFiles.reads l.fn.files) (g.F.ReadFiles.reads l.files)

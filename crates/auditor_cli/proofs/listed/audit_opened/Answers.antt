@@ -3,64 +3,73 @@ use Rattle.std.proofs.Common.{◌≡◌, ◌∙◌, ◌∷◌, Err, Ok, ap, fals
 use Rattle.std.specs.IoError.{error_kind}
 use Rattle.std.proofs.lemmas.Result.{IfOk-weaker}
 use Rattle.text_lines.specs.Lines.{lines_of}
-use Rattle.auditor_cli.specs.Listed.{TellsList, ends_at_feed}
+use Rattle.auditor_cli.specs.Listed.{TellsTaken, ends_at_feed, read_more, standing}
 use Rattle.auditor_cli.proofs.TakenLemmas.{IsSoFar, at_end, broken_off, ended_line, first_on, first_read, one_more, told_of_line, unended_rest}
 use Rattle.auditor_cli.proofs.listed.audit_opened.Goals as goal
 
 pub returns-in-Err-clause-reads : goal.returns-in-Err-clause-reads
 returns-in-Err-clause-reads g c =
-    first_read c.args.path.now (g.F.ReadFiles.reads c.args.files.now) c.loop.counter (g.F.ReadFiles.reads c.loop.files) (g.F.ReadFiles.reads c.read_line.new.self) (Err (error_kind c.in-Err.error))
+    first_read c.args.asked.path.now (g.F.ReadFiles.reads c.args.files.now) c.loop.counter (g.F.ReadFiles.reads c.loop.files) (g.F.ReadFiles.reads c.read_line.new.self) (Err (error_kind c.in-Err.error))
     c.loop.invariant.2 c.in-Err.ensures.noted
 
 pub returns-in-Err-clause-told : goal.returns-in-Err-clause-told
 returns-in-Err-clause-told g c =
-    let path = c.args.path.now in
-    let was = g.F.ReadFiles.reads c.args.files.now in
-    let next = g.F.ReadFiles.reads c.loop.files in
-    let later = g.F.ReadFiles.reads c.read_line.new.self in
+    let path = c.args.asked.path.now in
+    let errors = g.E.Write.contents c.loop.errors in
+    let was = standing (g.F.ReadFiles.reads c.args.files.now) (g.E.Write.contents c.args.errors.now) 0 in
+    let next = standing (g.F.ReadFiles.reads c.loop.files) errors c.loop.answered in
+    let later = standing (g.F.ReadFiles.reads c.read_line.new.self) errors c.loop.answered in
     let before = g.W.Write.contents c.args.output.now in
     let now = g.W.Write.contents c.loop.output in
     let after = g.W.Write.contents c.tell_broken_off.new.output in
-    let noted : later ≡ (path, Err c.kind.result) ∷ next = c.in-Err.ensures.noted ∙ ap (λ kind. (path, Err kind) ∷ next) (sym c.kind.ensures) in
+    let noted : later ≡ read_more (path, Err c.kind.result) next = ap (λ files. standing files errors c.loop.answered) (c.in-Err.ensures.noted ∙ ap (λ kind. (path, Err kind) ∷ g.F.ReadFiles.reads c.loop.files) (sym c.kind.ensures)) in
     IfOk-weaker c.tell_broken_off.result _ _
-    (λ status told. broken_off c.args.kind path was before next later now after c.loop.greatest c.loop.invariant.0 c.kind.result status noted told.0 told.1)
+    (λ status told. (c.loop.answered, broken_off c.args.asked.routes_alone c.args.asked.kind path was before next later now after c.loop.greatest c.loop.invariant.0 c.kind.result status noted told.0 told.1))
     c.tell_broken_off.ensures.told
 
 pub returns-in_err-status-clause-reads : goal.returns-in_err-status-clause-reads
 returns-in_err-status-clause-reads g c =
     let was = g.F.ReadFiles.reads c.args.files.now in
     let later = g.F.ReadFiles.reads c.read_line.new.self in
-    first_on c.args.path.now was later (g.F.ReadFiles.reads c.audit_lines.new.files)
-    (first_read c.args.path.now was c.loop.counter (g.F.ReadFiles.reads c.loop.files) later (Ok c.in-Ok.line.items) c.loop.invariant.2 c.in-Ok.ensures.noted)
+    first_on c.args.asked.path.now was later (g.F.ReadFiles.reads c.audit_lines.new.files)
+    (first_read c.args.asked.path.now was c.loop.counter (g.F.ReadFiles.reads c.loop.files) later (Ok c.in-Ok.line.items) c.loop.invariant.2 c.in-Ok.ensures.noted)
     c.audit_lines.ensures.reads
 
 pub returns-then-not-ends_at_feed-clause-reads : goal.returns-then-not-ends_at_feed-clause-reads
 returns-then-not-ends_at_feed-clause-reads g c =
     let was = g.F.ReadFiles.reads c.args.files.now in
     let later = g.F.ReadFiles.reads c.read_line.new.self in
-    first_on c.args.path.now was later (g.F.ReadFiles.reads c.audit_lines.new.files)
-    (first_read c.args.path.now was c.loop.counter (g.F.ReadFiles.reads c.loop.files) later (Ok c.in-Ok.line.items) c.loop.invariant.2 c.in-Ok.ensures.noted)
+    first_on c.args.asked.path.now was later (g.F.ReadFiles.reads c.audit_lines.new.files)
+    (first_read c.args.asked.path.now was c.loop.counter (g.F.ReadFiles.reads c.loop.files) later (Ok c.in-Ok.line.items) c.loop.invariant.2 c.in-Ok.ensures.noted)
     c.audit_lines.ensures.reads
 
 pub returns-then-not-ends_at_feed-clause-told : goal.returns-then-not-ends_at_feed-clause-told
 returns-then-not-ends_at_feed-clause-told g c =
-    let k = c.args.kind in
-    let path = c.args.path.now in
+    let a = c.args.asked.routes_alone in
+    let k = c.args.asked.kind in
+    let path = c.args.asked.path.now in
     let line = c.in-Ok.line.items in
-    let told = told_of_line k path _ _ _ _ _ line c.new.result c.in_ok-status.status c.in-Ok.ensures.noted (c.new.ensures.lines ∙ ap lines_of c.deref.ensures.value) c.in_ok-status.ensures.told in
-    let unended : ends_at_feed line ≡ false = search rules in
-    subst (TellsList k path _ _ _ _) c.greater-greatest.ensures.value
-    (at_end k path _ _ _ _ _ _ c.loop.greatest c.loop.invariant.0 line c.in_ok-status.status (unended_rest line c.in-Ok.ensures.line unended) told)
+    let errors = g.E.Write.contents c.loop.errors in
+    let noted = ap (λ files. standing files errors c.loop.answered) c.in-Ok.ensures.noted in
+    let told = told_of_line a k path _ _ _ _ _ line c.new-lines.result c.in_ok-status.status noted (c.new-lines.ensures.lines ∙ ap lines_of c.deref.ensures.value) c.in_ok-status.ensures.told in
+    let unended : ends_at_feed line ≡ false = search rules in (
+      c.audit_lines.new.answered,
+      subst (TellsTaken a k path _ _ _ _) c.greater-greatest.ensures.value
+          (at_end a k path _ _ _ _ _ _ c.loop.greatest c.loop.invariant.0 line c.in_ok-status.status (unended_rest line c.in-Ok.ensures.line unended) told),
+    )
 
 pub loop-preserved : goal.loop-preserved
 loop-preserved g c =
-    let k = c.args.kind in
-    let path = c.args.path.now in
+    let a = c.args.asked.routes_alone in
+    let k = c.args.asked.kind in
+    let path = c.args.asked.path.now in
     let line = c.in-Ok.line.items in
-    let told = told_of_line k path _ _ _ _ _ line c.new.result c.in_ok-status.status c.in-Ok.ensures.noted (c.new.ensures.lines ∙ ap lines_of c.deref.ensures.value) c.in_ok-status.ensures.told in
+    let errors = g.E.Write.contents c.loop.errors in
+    let noted = ap (λ files. standing files errors c.loop.answered) c.in-Ok.ensures.noted in
+    let told = told_of_line a k path _ _ _ _ _ line c.new-lines.result c.in_ok-status.status noted (c.new-lines.ensures.lines ∙ ap lines_of c.deref.ensures.value) c.in_ok-status.ensures.told in
     let is_ended : ends_at_feed line ≡ true = search rules in (
-      subst (IsSoFar k path _ _ _ _) c.greater-greatest.ensures.value
-          (one_more k path _ _ _ _ _ _ c.loop.greatest c.loop.invariant.0 line c.in_ok-status.status (ended_line line c.in-Ok.ensures.line is_ended) told),
+      subst (IsSoFar a k path _ _ _ _) c.greater-greatest.ensures.value
+          (one_more a k path _ _ _ _ _ _ c.loop.greatest c.loop.invariant.0 line c.in_ok-status.status (ended_line line c.in-Ok.ensures.line is_ended) told),
       c.greater-greatest.ensures.bound,
       inr (first_on path _ _ _ (first_read path _ c.loop.counter _ _ (Ok line) c.loop.invariant.2 c.in-Ok.ensures.noted) c.audit_lines.ensures.reads),
     )

@@ -1,6 +1,12 @@
 -- What the words ask for, where they have two parts.
 use Rattle.planner_cli.proofs.program.do_asked.Goals as goal
 
+pub returns-in-Audit-clause-does : goal.returns-in-Audit-clause-does
+returns-in-Audit-clause-does g c = rw c.in-Audit.is c.audit_noted-told.ensures.told
+
+pub returns-in-Explain-clause-does : goal.returns-in-Explain-clause-does
+returns-in-Explain-clause-does g c = rw c.in-Explain.is c.explain_read-told.ensures.told
+
 pub returns-in-Audits-clause-does : goal.returns-in-Audits-clause-does
 returns-in-Audits-clause-does g c = rw c.in-Audits.is c.audits_read-told.ensures.told
 

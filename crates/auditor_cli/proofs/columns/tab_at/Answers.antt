@@ -2,8 +2,8 @@ use Rattle.std.proofs.Common.{◌∙◌, rules, tests}
 use Rattle.std.proofs.lemmas.Iterator.{YieldsList-from_slice}
 use Rattle.std.proofs.lemmas.Iterator.Search.{position_from_yields_List}
 use Rattle.text_lines.proofs.PlaceLemmas.{place_or_len}
-use Rattle.auditor_cli.specs.Listed.{is_tab}
-use Rattle.auditor_cli.proofs.listed.tab_at.Goals as goal
+use Rattle.auditor_cli.specs.Columns.{is_tab}
+use Rattle.auditor_cli.proofs.columns.tab_at.Goals as goal
 
 pub returns-clause-value : goal.returns-clause-value
 returns-clause-value c =

@@ -1,0 +1,9 @@
+-- The text that is read is that of the routes.
+use Rattle.std.proofs.Common.{◌∙◌, subst}
+use Rattle.std.specs.Prelude.{IfOk}
+use Rattle.auditor_cli.specs.Examined.{AreExaminedForRoutes}
+use Rattle.auditor_cli.proofs.audit.examine_routes.Goals as goal
+
+pub returns : goal.returns
+returns c =
+    subst (λ text. IfOk c.examine_for_routes.result (AreExaminedForRoutes c.args.kind c.args.instance.now text)) (c.deref.ensures.value ∙ c.in_ok-text.ensures.value) c.examine_for_routes.ensures

@@ -1,0 +1,14 @@
+-- Columns of a line, with tabs between them.
+use Rattle.std.specs.Prelude.{ℕ, ◌==◌, Bool, List, [], ◌∷◌, take, drop, Option, Some, None}
+use Rattle.std.specs.List.{position_or_len}
+
+abbrev pub is_tab : ℕ → Bool
+is_tab b = b == 9
+
+-- what stands before and behind the first tab of a text, if it has one
+abbrev pub cut_at : List ℕ → List ℕ → Option (List ℕ × List ℕ)
+cut_at front [] = None
+cut_at front (tab ∷ rest) = Some (front, rest)
+
+abbrev pub cut : List ℕ → Option (List ℕ × List ℕ)
+cut text = let n = position_or_len is_tab text in cut_at (take n text) (drop n text)

@@ -1,0 +1,22 @@
+-- The routes of a solution's text, without its cost.
+use Rattle.std.specs.Prelude.{◌≡◌, ℕ, List, [], ◌∷◌, ◌++◌, codes, if◌then◌else◌}
+use Rattle.std.specs.List.{flat_map}
+use Rattle.sol_text.specs.LineShapes.{is_cost_line}
+use Rattle.text_lines.specs.Lines.{lines_of}
+
+-- the lines before the first cost line, or all of them
+abbrev pub before_cost : List (List ℕ) → List (List ℕ)
+before_cost [] = []
+before_cost (line ∷ lines) = if is_cost_line line then [] else line ∷ before_cost lines
+
+-- a line and its end, a carriage return and a line feed, whatever its last byte is
+abbrev pub ended_whole : List ℕ → List ℕ
+ended_whole line = line ++ 13 ∷ 10 ∷ []
+
+-- The text that is read where the routes alone are asked: these lines, and a cost of 0 behind them, which nobody asks.
+abbrev pub routes_text : List ℕ → List ℕ
+routes_text solution = flat_map ended_whole (before_cost (lines_of solution)) ++ codes "Cost 0\n"
+
+-- its lines are those, with their numbers, and the cost line
+abbrev pub HasLinesOf : List ℕ → List ℕ → Type 0
+HasLinesOf solution text = lines_of text ≡ before_cost (lines_of solution) ++ codes "Cost 0" ∷ []

@@ -1,0 +1,73 @@
+//! Why a line of the list of `audits` names no pair.
+ghost use Rattle.std.specs.Prelude.{◌≡◌, OnOk};
+ghost use Rattle.std.specs.Io.KnownBytes.{Appends};
+ghost use Rattle.auditor_cli.specs.BadLines.{bad_note, bad_reason, columns_reason, cost_reason, paths_reason};
+
+use crate::behind::ListLine;
+use crate::columns::{cut, tab_at};
+use best_known::BestKnown;
+use plan_types::Kind;
+use std::io;
+use std::io::Write;
+
+/// Tells which line of a list names no pair, and why.
+pub(crate) fn tell_reason<E: Write>(
+    place: ListLine<'_>,
+    kind: Kind,
+    line: &[u8],
+    errors: &mut E,
+) -> io::Result<()>
+    ensures { OnOk result (Appends (E.contents errors.old) (E.contents errors.new)
+        (bad_note place.entry.list.now place.entry.number (bad_reason kind line.now))) }
+{
+    let ListLine { list, number } = place;
+    let reason = bad_reason(kind, line);
+    writeln!(errors, "planner: {list}: line {number}: bad line: {reason}")
+}
+
+fn bad_reason(kind: Kind, line: &[u8]) -> &'static str
+    ensures { result.now ≡ bad_reason kind line.now }
+{
+    let Some((instance, rest)) = cut(line) else {
+        return if line.is_empty() {
+            "it is empty"
+        } else {
+            "it has no tab"
+        };
+    };
+    match cut(rest) {
+        None => paths_reason(instance, rest),
+        Some((solution, column)) => columns_reason(kind, instance, solution, column),
+    }
+}
+
+fn columns_reason(kind: Kind, instance: &[u8], solution: &[u8], column: &[u8]) -> &'static str
+    ensures { result.now ≡ columns_reason kind instance.now solution.now column.now }
+{
+    if tab_at(column) < column.len() {
+        return "it has more than two tabs";
+    }
+    if BestKnown::read(kind, column).is_none() {
+        return cost_reason(kind);
+    }
+    paths_reason(instance, solution)
+}
+
+fn paths_reason(instance: &[u8], solution: &[u8]) -> &'static str
+    ensures { result.now ≡ paths_reason instance.now solution.now }
+{
+    if instance.is_empty() || solution.is_empty() {
+        "a path is empty"
+    } else {
+        "a path is not UTF-8"
+    }
+}
+
+fn cost_reason(kind: Kind) -> &'static str
+    ensures { result.now ≡ cost_reason kind }
+{
+    match kind {
+        Kind::LiLim => "the third column is no best-known cost, as 10 829 or 829",
+        Kind::Vrp => "the third column is no best-known cost, as 829",
+    }
+}
