@@ -68,4 +68,4 @@ pub use opening::{Opened, steps_to_repeat};
 pub use replies::{Reply, Run};
 pub use rounds::{Halt, Round, Rounds, RoundsFault, run_round, run_rounds};
 pub use sessions::Session;
-pub use upgrading::{UpgradeFault, upgrade};
+pub use upgrading::{UpgradeFault, read_version_1, upgrade};
