@@ -126,7 +126,7 @@ expect 3 'cannot read nowhere' 'planner: nowhere: No such file or directory (os 
 got=$("$program" explain vrp lc101.txt lc101.sol | tail -n 1)
 [ "$got" = 'the text looks like a Li-Lim instance, and is read as vrp' ] || fail "explain of lc101 as vrp: $got"
 got=$(sed 's/^Cost .*/Cost 828.94/' lc101.sol | "$program" explain lilim lc101.txt - | sed -n 2p)
-[ "$got" = 'line 11: a word is not the number that has to stand there: the cost is 828.94, which has a fraction, allowed are whole numbers in 0..18446744073709551615' ] ||
+[ "$got" = 'line 11: a word is not the number that has to stand there: the cost is 828.94, which has a fraction, allowed are whole numbers in 0..18446744073709551615. Each way is rounded to a whole number here: behind the word routes their sum is told, whatever is printed' ] ||
     fail "explain of a cost with a fraction: $got"
 got=$(sed 's/^Route #5:.*//' lc101.sol | "$program" explain lilim lc101.txt - | sed -n 3p)
 [ "$got" = 'stops in no route: 14' ] || fail "explain of lc101 without a route: $got"
