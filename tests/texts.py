@@ -311,6 +311,69 @@ EXPLAINED = [
         "    4      0         22        15  overload\n"
         "places that break this rule: 1\n",
     ),
+    # Several bugs at once: each rule behind the first one is counted, too.
+    (
+        "lilim",
+        b"2 3 1\n"
+        b"0 0 0 0 0 23 0 0 0\n"
+        b"1 3 4 4 0 50 2 0 2\n"
+        b"2 6 8 -4 0 11 2 1 0\n",
+        BOTH,
+        6,
+        "overload: after stop 1, demand 4, the load is 4, the capacity 3\n"
+        "place   stop    arrival      start         window              load\n"
+        "    1      1          5          5          0..50                 4  overload\n"
+        "    2      2         12         12          0..11                 0  late\n"
+        "    3      0         24         24          0..23                 0  late\n"
+        "places that break this rule: 1\n"
+        "places that break rule 7: 1\n"
+        "places that break rule 8: 1\n",
+    ),
+    # The depot in a route, and a stop that stands in two of too many.
+    (
+        "lilim",
+        ONE_PAIR,
+        b"Route #1: 0 1 2 0\n"
+        b"Cost 20\n",
+        1,
+        "unknown stop: stop 0 is the depot, which no route line has\n"
+        "place   stop\n"
+        "    1      0\n"
+        "    2      1\n"
+        "    3      2\n"
+        "    4      0\n"
+        "places that break this rule: 2\n"
+        "  route 1 place 4 stop 0\n"
+        "places that break rule 2: 1\n",
+    ),
+    # Nodes of a .vrp text in place of its customers, and customers that count from 0.
+    (
+        "vrp",
+        THREE_CUSTOMERS,
+        b"Route #1: 3 2\n"
+        b"Route #2: 4\n"
+        b"Cost 30\n",
+        1,
+        "unknown stop: no request has stop 4, the numbers of the instance are below 4. Each stop less 1 is one of the instance: are the numbers one too high?\n"
+        "place   stop\n"
+        "    1      4\n"
+        "places that break this rule: 1\n"
+        "places that break rule 3: 1\n",
+    ),
+    (
+        "vrp",
+        THREE_CUSTOMERS,
+        b"Route #1: 1 0\n"
+        b"Route #2: 2\n"
+        b"Cost 30\n",
+        1,
+        "unknown stop: stop 0 is the depot, which no route line has. Each stop and 1 more is one of the instance: are the numbers one too low?\n"
+        "place   stop\n"
+        "    1      1\n"
+        "    2      0\n"
+        "places that break this rule: 1\n"
+        "places that break rule 3: 1\n",
+    ),
 ]
 
 # The kind and the text of an instance that is refused, and what is said of it.
@@ -483,7 +546,7 @@ REFUSED_INSTANCES = [
         b"0 0 0 0 0 100 0 0 0\n",
         "line 1: a word is not a whole number: fleet is ???2\n"
         "???2 10 1\n"
-        "the text begins with a byte order mark (EF BB BF): save it without\n",
+        "the text begins with a byte order mark (EF BB BF): save it without, or by tail -c +4\n",
     ),
     (
         "lilim",
@@ -654,8 +717,32 @@ REFUSED_SOLUTIONS = [
     (
         b"Route #1: 1\n"
         b"Cost 828.94\n",
-        "line 2: a word is not the number that has to stand there: the cost is 828.94, which has a fraction, allowed are whole numbers in 0..18446744073709551615\n"
+        "line 2: a word is not the number that has to stand there: the cost is 828.94, which has a fraction, allowed are whole numbers in 0..18446744073709551615. Each way is rounded to a whole number here: behind the word routes their sum is told, whatever is printed\n"
         "Cost 828.94\n",
+    ),
+    (
+        b"cost: 8.3e2\n",
+        "line 1: a word is not the number that has to stand there: the cost is 8.3e2, which has a fraction, allowed are whole numbers in 0..18446744073709551615. Each way is rounded to a whole number here: behind the word routes their sum is told, whatever is printed\n"
+        "cost: 8.3e2\n",
+    ),
+    (
+        b"Route #1: 1\n"
+        b"Vehicle types: [1, 2]\n"
+        b"Cost: 20\n",
+        "line 2: this is no route line, and no cost line with one word: a solution has no other keys, as it has none behind: grep -iE '^(route|cost)'\n"
+        "Vehicle types: [1, 2]\n",
+    ),
+    (
+        b"\tRoute #1: 1\n"
+        b"Cost 20\n",
+        "line 1: this is no route line, and no cost line with one word: Route and Cost have to begin their lines, as they do behind: sed 's/^[[:blank:]]*//'\n"
+        "\tRoute #1: 1\n",
+    ),
+    (
+        b"Route #1: 1\n"
+        b"  COST: 20\n",
+        "line 2: this is no route line, and no cost line with one word: Route and Cost have to begin their lines, as they do behind: sed 's/^[[:blank:]]*//'\n"
+        "  COST: 20\n",
     ),
     (
         b"cost: -5\n",
@@ -677,7 +764,7 @@ REFUSED_SOLUTIONS = [
         b"Cost 20\n",
         "line 1: this is no route line, and no cost line with one word\n"
         "???Route #1: 1\n"
-        "the text begins with a byte order mark (EF BB BF): save it without\n",
+        "the text begins with a byte order mark (EF BB BF): save it without, or by tail -c +4\n",
     ),
     (
         b"Route #1: 1\n",

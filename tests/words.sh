@@ -69,6 +69,12 @@ $why 6: bad line: it has more than two tabs
 $why 7: bad line: a path is empty
 $why 8: bad line: it has more than two tabs
 $why 9: bad line: a path is not UTF-8" ] || fail "audits: not why lines are bad"
+# A limit of a .vrp instance that no rule asks is named, and none that stands behind the end.
+sed '2i vehicles : 5' P-n16-k8.vrp >"$folder/limited.vrp"
+expect 0 'pass 0 0 450' "planner: $folder/limited.vrp: line 2 names a limit that is not asked" audit vrp "$folder/limited.vrp" P-n16-k8.sol
+expect 0 'pass 0 0 450' "planner: $folder/limited.vrp: line 2 names a limit that is not asked" explain vrp "$folder/limited.vrp" P-n16-k8.sol routes
+{ cat P-n16-k8.vrp && echo 'MAX_DURATION : 30'; } >"$folder/limited.vrp"
+expect 0 'pass 0 0 450' '' audit vrp "$folder/limited.vrp" P-n16-k8.sol
 printf 'P-n16-k8.vrp\tP-n16-k8.sol\t8 450\n' >"$folder/pairs"
 expect 2 'bad line' "planner: $folder/pairs: line 1: bad line: the third column is no best-known cost, as 829" audits vrp "$folder/pairs"
 got=$(printf 'lc101.txt\t%s\t10 829\n' "$folder/routes.sol" "$folder/fraction.sol" | "$program" audits lilim - routes | cut -f 3)
@@ -126,7 +132,7 @@ expect 3 'cannot read nowhere' 'planner: nowhere: No such file or directory (os 
 got=$("$program" explain vrp lc101.txt lc101.sol | tail -n 1)
 [ "$got" = 'the text looks like a Li-Lim instance, and is read as vrp' ] || fail "explain of lc101 as vrp: $got"
 got=$(sed 's/^Cost .*/Cost 828.94/' lc101.sol | "$program" explain lilim lc101.txt - | sed -n 2p)
-[ "$got" = 'line 11: a word is not the number that has to stand there: the cost is 828.94, which has a fraction, allowed are whole numbers in 0..18446744073709551615' ] ||
+[ "$got" = 'line 11: a word is not the number that has to stand there: the cost is 828.94, which has a fraction, allowed are whole numbers in 0..18446744073709551615. Each way is rounded to a whole number here: behind the word routes their sum is told, whatever is printed' ] ||
     fail "explain of a cost with a fraction: $got"
 got=$(sed 's/^Route #5:.*//' lc101.sol | "$program" explain lilim lc101.txt - | sed -n 3p)
 [ "$got" = 'stops in no route: 14' ] || fail "explain of lc101 without a route: $got"

@@ -38,12 +38,12 @@ abbrev pub Does : Asked → Seen → Seen → ℕ → Type 0
 Does built_in old new status = TellsAudit LiLim example_instance example_solution old.output new.output status × (new.errors ≡ old.errors)
 Does (audit paths routes_alone) old new status =
     TellsFiles routes_alone paths.kind paths.instance paths.solution old.files new.files old.output new.output status
-    × TellsBehind paths.instance paths.solution old.files new.files old.errors new.errors
+    × TellsBehind paths.kind paths.instance paths.solution old.files new.files old.errors new.errors
 Does (audits kind list routes_alone) old new status =
     TellsList routes_alone kind list old.files new.files old.output new.output old.errors new.errors status
 Does (explain paths routes_alone) old new status =
     TellsExplained routes_alone paths.kind paths.instance paths.solution old.files new.files old.output new.output status
-    × TellsBehind paths.instance paths.solution old.files new.files old.errors new.errors
+    × TellsBehind paths.kind paths.instance paths.solution old.files new.files old.errors new.errors
 Does _ old new status = (status ≡ 64) × ((new.output ≡ old.output) × Appends old.errors new.errors elsewhere_line)
 
 -- The words were read. Where an answer could not be printed, the status is 3.

@@ -5,7 +5,7 @@ ghost use Rattle.auditor_cli.specs.Behind.{TellsBehind};
 ghost use Rattle.auditor_cli.specs.Files.{AreBothRead, AreReadInTurn, IsUnread, TellsFiles};
 
 use crate::audit::audit_by;
-use crate::behind::tell_behind;
+use crate::behind::tell_texts;
 use crate::files::ReadFiles;
 use crate::telling::{tell_audit, tell_unread};
 use command_line::Paths;
@@ -54,7 +54,7 @@ fn not_read<'a>(path: &'a str, error: &io::Error) -> Unread<'a>
 }
 
 /// Reads the whole of both texts before it looks into either, and tells their audit, of the routes of the solution alone or not; on
-/// `errors` what stands behind the cost line of the solution.
+/// `errors` what stands behind the cost line of the solution, and a limit of the instance that is not asked.
 pub fn audit_noted<F: ReadFiles, W: Write, E: Write>(
     alloc: Global,
     paths: Paths,
@@ -69,7 +69,7 @@ pub fn audit_noted<F: ReadFiles, W: Write, E: Write>(
     ensures told { IfOk result (λ status. TellsFiles routes_alone paths.entry.kind paths.entry.instance.now
         paths.entry.solution.now (F.reads files.old) (F.reads files.new)
         (W.contents output.old) (W.contents output.new) status
-        × TellsBehind paths.entry.instance.now paths.entry.solution.now
+        × TellsBehind paths.entry.kind paths.entry.instance.now paths.entry.solution.now
         (F.reads files.old) (F.reads files.new)
         (E.contents errors.old) (E.contents errors.new)) }
 {
@@ -79,6 +79,6 @@ pub fn audit_noted<F: ReadFiles, W: Write, E: Write>(
     };
     let answer = audit_by(alloc, paths.kind, routes_alone, &both.0, &both.1);
     let status = tell_audit(output, &answer)?;
-    tell_behind(paths.solution, &both.1, errors)?;
+    tell_texts(paths, &both.0, &both.1, errors)?;
     Ok(status)
 }

@@ -1,9 +1,11 @@
-//! What stands behind the cost line of a solution.
-ghost use Rattle.std.specs.Prelude.{OnOk, Some};
+//! What stands behind the cost line of a solution, and limits of an instance that are not asked.
+ghost use Rattle.std.specs.Prelude.{◌++◌, OnOk, Some};
 ghost use Rattle.std.specs.Io.KnownBytes.{Appends};
-ghost use Rattle.auditor_cli.specs.Behind.{behind_line, listed_by, listed_line, place_text};
+ghost use Rattle.auditor_cli.specs.Behind.{behind_line, limit_line, listed_by, listed_line, place_text};
 
-use plan_explain::line_behind_cost;
+use command_line::Paths;
+use plan_explain::{line_behind_cost, unasked_limit};
+use plan_types::Kind;
 use std::io;
 use std::io::Write;
 
@@ -22,6 +24,42 @@ pub fn tell_behind<E: Write>(path: &str, solution: &[u8], errors: &mut E) -> io:
         }
         None => Ok(()),
     }
+}
+
+/// Tells which line of the instance of this kind under this path is the first that names a limit which is not asked, if there is one.
+pub fn tell_limit<E: Write>(
+    kind: Kind,
+    path: &str,
+    instance: &[u8],
+    errors: &mut E,
+) -> io::Result<()>
+    ensures { OnOk result (Appends (E.contents errors.old) (E.contents errors.new)
+        (limit_line kind path.now instance.now)) }
+{
+    match unasked_limit(kind, instance) {
+        Some(number) => {
+            writeln!(
+                errors,
+                "planner: {path}: line {number} names a limit that is not asked"
+            )
+        }
+        None => Ok(()),
+    }
+}
+
+/// Tells both of an instance and a solution.
+pub(crate) fn tell_texts<E: Write>(
+    paths: Paths<'_>,
+    instance: &[u8],
+    solution: &[u8],
+    errors: &mut E,
+) -> io::Result<()>
+    ensures { OnOk result (Appends (E.contents errors.old) (E.contents errors.new)
+        (behind_line paths.entry.solution.now solution.now
+        ++ limit_line paths.entry.kind paths.entry.instance.now instance.now)) }
+{
+    tell_behind(paths.solution, solution, errors)?;
+    tell_limit(paths.kind, paths.instance, instance, errors)
 }
 
 /// A line of a list, by the path of the list and its number, from 1.

@@ -9,7 +9,7 @@ ghost use Rattle.auditor_cli.specs.Files.{AreReadInTurn};
 use crate::answer::AuditAnswer;
 use crate::audit::{Examined, answer_of, examine_by};
 use crate::audited::read_both;
-use crate::behind::tell_behind;
+use crate::behind::tell_texts;
 use crate::files::ReadFiles;
 use crate::telling::{tell_unread, tell_want_of_memory, write_line};
 use command_line::Paths;
@@ -43,7 +43,7 @@ pub fn explain_read<F: ReadFiles, W: Write, E: Write>(
     ensures told { IfOk result (λ status. TellsExplained routes_alone paths.entry.kind paths.entry.instance.now
         paths.entry.solution.now (F.reads files.old) (F.reads files.new)
         (W.contents output.old) (W.contents output.new) status
-        × TellsBehind paths.entry.instance.now paths.entry.solution.now
+        × TellsBehind paths.entry.kind paths.entry.instance.now paths.entry.solution.now
         (F.reads files.old) (F.reads files.new)
         (E.contents errors.old) (E.contents errors.new)) }
 {
@@ -53,7 +53,7 @@ pub fn explain_read<F: ReadFiles, W: Write, E: Write>(
     };
     let explained = explain(alloc, paths.kind, routes_alone, &both.0, &both.1);
     let status = tell_explanation(output, &explained)?;
-    tell_behind(paths.solution, &both.1, errors)?;
+    tell_texts(paths, &both.0, &both.1, errors)?;
     Ok(status)
 }
 

@@ -17,7 +17,7 @@
 //! - `audit`, `example`: the audit of two texts, and of the two that are built in
 //! - `telling`, `usage`: lines for files that can't be read or made, and for words that ask for nothing
 //! - `file_record`, `files`: what reads files and what makes them, and the lists of those that were read and made
-//! - `behind`: what stands behind the cost line of a solution
+//! - `behind`: what stands behind the cost line of a solution, and limits of an instance that are not asked
 //! - `columns`, `bad_lines`: columns with tabs between them, and why a line of a list names no pair
 //! - `audited`, `compared`, `listed`: the words `audit` and `audits`, also beside a best-known cost
 //! - `explained`: the word `explain`
@@ -63,6 +63,7 @@ pub use answer::{AuditAnswer, Line, pass_line};
 pub use audit::{Examined, answer_of, audit_routes_text, audit_text, examine};
 pub use audited::{audit_noted, read_both};
 pub use auditing::audit_words;
+pub use behind::tell_limit;
 pub use example::audit_example;
 pub use explained::{Explanation, explain_read, tell_explanation};
 pub use files::{HostFiles, HostNewFiles, ReadFiles, WriteFiles};

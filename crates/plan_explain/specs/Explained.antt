@@ -6,6 +6,7 @@ use Rattle.plan_audit.specs.declared.rules.Verdict.{Verdict}
 use Rattle.plan_audit.specs.declared.rules.Verdict.TheVariants.{Broken, Pass}
 use Rattle.text_lines.specs.Lines.{ended}
 use Rattle.plan_explain.specs.Further.{further_text}
+use Rattle.plan_explain.specs.Others.{others_text}
 use Rattle.plan_explain.specs.Sentences.{route_told, sentence}
 use Rattle.plan_explain.specs.Summaries.{summary_text}
 use Rattle.plan_explain.specs.Tables.{stops_table, table_text}
@@ -19,9 +20,9 @@ shown_text p routes rule r =
     else if nat_lt 2 rule then table_text p (route_told routes r)
     else stops_table (route_told routes r)
 
--- and behind that how often and where else the rule is broken
+-- and behind that how often and where else the rule is broken, and how often each rule behind it
 abbrev pub places_shown : Instance → List (List ℕ) → ℕ → ℕ → List ℕ
-places_shown p routes rule r = shown_text p routes rule r ++ further_text p routes rule
+places_shown p routes rule r = shown_text p routes rule r ++ (further_text p routes rule ++ others_text p routes rule)
 
 -- a broken rule: its sentence, the route, and how often and where else it is broken; a solution that passes: a line for each route
 abbrev pub verdict_text : Instance → Solution → Verdict → List ℕ

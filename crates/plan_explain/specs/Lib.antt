@@ -20,7 +20,9 @@ pub mod Refused
 pub mod Sentences
 pub mod Summaries
 pub mod Tables
+pub mod Unasked
 pub mod Breaches
 pub mod Further
+pub mod Others
 -- of private functions alone
 pub mod Rows

@@ -1,7 +1,7 @@
 -- The words between the figures.
 use Rattle.std.specs.Prelude.{ℕ, Bool, List, [], codes, if◌then◌else◌}
 use Rattle.plan_explain.specs.declared.phrases.Phrase.{Phrase}
-use Rattle.plan_explain.specs.declared.phrases.Phrase.TheVariants.{UnknownStop, NumbersBelow, VisitedTwice, First, MissingStop, SplitPair, EarlyDelivery, OtherStop, ItsPickup, Stop, Stands, There, Nowhere, AtPlace, OfRoute, Overload, DemandIs, LoadIs, Capacity, LateService, StartsAt, LateReturn, BackAt, Latest, LateBy, TooManyVehicles, Fleet, WrongCost, Driven, TimesHeading, LoadsHeading, StopsHeading, RoutesHeading, Sum, Line, Colon, Colons, NoWholeNumber, OutsideLimits, WordCount, TaskOrder, NoHalf, EmptyWindow, TaskAbove, NodesAbove, KeyMissing, NotSupported, DepotNotFirst, Repeated, EndsEarly, OutOfMemory, NoSolutionLine, OtherNumber, NoCostLine, Due, Found, Is, Fraction, Limits, To, FirstTask, Task, BehindTask, Begins, Ends, NamesNone, NamesBoth, ItsDeliveryTask, ItsPickupTask, OnLine, NotThere, Has, AsPickup, AsDelivery, HasDemand, ThisOne, SumNotZero, NegativePickup, NoHeader, NoDepot, Lacks, Lines, BehindEnd, Stray, SectionLines, NotBefore, Supported, InsideDepots, CostIs, CostLimits, CustomerIs, CustomerLimits, CostWords, ByteOrderMark, LooksVrp, LooksLilim, MarkOverload, MarkLate, Broken, Unserved, Further, Place, StopAt, FurtherStop, Blank}
+use Rattle.plan_explain.specs.declared.phrases.Phrase.TheVariants.{UnknownStop, NumbersBelow, VisitedTwice, First, MissingStop, SplitPair, EarlyDelivery, OtherStop, ItsPickup, Stop, Stands, There, Nowhere, AtPlace, OfRoute, Overload, DemandIs, LoadIs, Capacity, LateService, StartsAt, LateReturn, BackAt, Latest, LateBy, TooManyVehicles, Fleet, WrongCost, Driven, TimesHeading, LoadsHeading, StopsHeading, RoutesHeading, Sum, Line, Colon, Colons, NoWholeNumber, OutsideLimits, WordCount, TaskOrder, NoHalf, EmptyWindow, TaskAbove, NodesAbove, KeyMissing, NotSupported, DepotNotFirst, Repeated, EndsEarly, OutOfMemory, NoSolutionLine, OtherNumber, NoCostLine, Due, Found, Is, Fraction, Limits, To, FirstTask, Task, BehindTask, Begins, Ends, NamesNone, NamesBoth, ItsDeliveryTask, ItsPickupTask, OnLine, NotThere, Has, AsPickup, AsDelivery, HasDemand, ThisOne, SumNotZero, NegativePickup, NoHeader, NoDepot, Lacks, Lines, BehindEnd, Stray, SectionLines, NotBefore, Supported, InsideDepots, CostIs, CostLimits, CustomerIs, CustomerLimits, CostWords, ByteOrderMark, LooksVrp, LooksLilim, MarkOverload, MarkLate, Broken, Unserved, Further, Place, StopAt, FurtherStop, DepotInRoute, NumbersTooHigh, NumbersTooLow, BreakRule, RoundedWays, IndentedLine, KeyLine, Blank}
 
 unfoldable pub phrase : Phrase → List ℕ
 phrase UnknownStop = codes "unknown stop: no request has stop "
@@ -37,7 +37,7 @@ phrase TimesHeading = codes "place   stop    arrival      start         window  
 phrase LoadsHeading = codes "place   stop    arrival      load\n"
 phrase StopsHeading = codes "place   stop\n"
 phrase RoutesHeading = codes "route  stops   distance      load      start     return    waiting\n"
-phrase Sum = codes "  sum"
+phrase Sum = codes "  sum "
 phrase Line = codes "line "
 phrase Colon = codes ": "
 phrase Colons = codes ":"
@@ -97,7 +97,7 @@ phrase CostLimits = codes ", allowed are whole numbers in 0..1844674407370955161
 phrase CustomerIs = codes ": a customer is "
 phrase CustomerLimits = codes ", allowed are digits alone, at most 4294967295"
 phrase CostWords = codes ": 1 due behind Cost, "
-phrase ByteOrderMark = codes "the text begins with a byte order mark (EF BB BF): save it without\n"
+phrase ByteOrderMark = codes "the text begins with a byte order mark (EF BB BF): save it without, or by tail -c +4\n"
 phrase LooksVrp = codes "the text looks like a .vrp instance, and is read as lilim\n"
 phrase LooksLilim = codes "the text looks like a Li-Lim instance, and is read as vrp\n"
 phrase MarkOverload = codes "  overload"
@@ -108,6 +108,13 @@ phrase Further = codes "  route "
 phrase Place = codes " place "
 phrase StopAt = codes " stop "
 phrase FurtherStop = codes "  stop "
+phrase DepotInRoute = codes "unknown stop: stop 0 is the depot, which no route line has"
+phrase NumbersTooHigh = codes ". Each stop less 1 is one of the instance: are the numbers one too high?"
+phrase NumbersTooLow = codes ". Each stop and 1 more is one of the instance: are the numbers one too low?"
+phrase BreakRule = codes "places that break rule "
+phrase RoundedWays = codes ". Each way is rounded to a whole number here: behind the word routes their sum is told, whatever is printed"
+phrase IndentedLine = codes ": Route and Cost have to begin their lines, as they do behind: sed 's/^[[:blank:]]*//'"
+phrase KeyLine = codes ": a solution has no other keys, as it has none behind: grep -iE '^(route|cost)'"
 phrase Blank = codes " "
 
 abbrev pub text_if : Bool → Phrase → List ℕ

@@ -1,6 +1,7 @@
 -- The sentence on a broken rule, with its figures. Routes and places count from 1.
-use Rattle.std.specs.Prelude.{ℕ, ◌+◌, ◌-◌, ◌==◌, if◌then◌else◌, List, [], ◌∷◌, ◌++◌, length, Option, Some, None, unwrap_or, decimal}
+use Rattle.std.specs.Prelude.{ℕ, ◌+◌, ◌-◌, ◌==◌, nat_lt, not, Bool, true, is_none, if◌then◌else◌, List, [], ◌∷◌, ◌++◌, length, Option, Some, None, unwrap_or, decimal}
 use Rattle.std.specs.Fmt.{signed_decimal}
+use Rattle.std.specs.List.{list_any}
 use Rattle.std.specs.Option.{option_map, option_or}
 use Rattle.plan_types.specs.declared.requests.Stop.{Stop}
 use Rattle.plan_types.specs.Instance.{Instance, partner_at, pickup_at, stop_at}
@@ -9,11 +10,11 @@ use Rattle.route_sched.specs.Cost.{total_length, used_count}
 use Rattle.sol_text.specs.declared.read.Solution.{Solution}
 use Rattle.plan_audit.specs.Finding.{place_of}
 use Rattle.plan_audit.specs.Rules.{item_at}
-use Rattle.plan_explain.specs.Phrases.{phrase}
+use Rattle.plan_explain.specs.Phrases.{phrase, text_if}
 use Rattle.plan_explain.specs.Tables.{rows_of}
 use Rattle.plan_explain.specs.declared.breaches.Breach.{Breach}
 use Rattle.plan_explain.specs.declared.phrases.Phrase.{Phrase}
-use Rattle.plan_explain.specs.declared.phrases.Phrase.TheVariants.{UnknownStop, NumbersBelow, VisitedTwice, First, MissingStop, SplitPair, EarlyDelivery, OtherStop, ItsPickup, Stop as StopWord, Stands, There, Nowhere, AtPlace, OfRoute, Overload, DemandIs, LoadIs, Capacity, LateService, StartsAt, LateReturn, BackAt, Latest, LateBy, TooManyVehicles, Fleet, WrongCost, Driven}
+use Rattle.plan_explain.specs.declared.phrases.Phrase.TheVariants.{UnknownStop, DepotInRoute, NumbersTooHigh, NumbersTooLow, NumbersBelow, VisitedTwice, First, MissingStop, SplitPair, EarlyDelivery, OtherStop, ItsPickup, Stop as StopWord, Stands, There, Nowhere, AtPlace, OfRoute, Overload, DemandIs, LoadIs, Capacity, LateService, StartsAt, LateReturn, BackAt, Latest, LateBy, TooManyVehicles, Fleet, WrongCost, Driven}
 use Rattle.plan_explain.specs.declared.rows.Row.{Row}
 use Rattle.plan_explain.specs.declared.seats.Seat.{Seat}
 
@@ -46,9 +47,29 @@ beside_text routes words (Some m) = phrase words ++ decimal m ++ phrase There ++
 abbrev pub pair_text : Instance → List (List ℕ) → ℕ → List ℕ
 pair_text p routes n = stands_text routes n ++ beside_text routes OtherStop (partner_at p n)
 
+-- a stop is of no request where its number is one too high, or one too low
+abbrev pub is_off_below : Instance → ℕ → Bool
+is_off_below p n = is_none (stop_at p (n - 1))
+
+abbrev pub is_off_above : Instance → ℕ → Bool
+is_off_above p n = if nat_lt n p.next_number then is_none (stop_at p (n + 1)) else true
+
+-- some stop of the routes is so
+abbrev pub is_some_off : (ℕ → Bool) → List (List ℕ) → Bool
+is_some_off is_off routes = list_any (list_any is_off) routes
+
+-- the numbers of all stops are one too high, or one too low
+abbrev pub shift_text : Instance → List (List ℕ) → List ℕ
+shift_text p routes =
+    if not (is_some_off (is_off_below p) routes) then phrase NumbersTooHigh
+    else text_if (not (is_some_off (is_off_above p) routes)) NumbersTooLow
+
 -- rules 1 and 2
-abbrev pub unknown_sentence : Instance → ℕ → List ℕ
-unknown_sentence p n = phrase UnknownStop ++ decimal n ++ phrase NumbersBelow ++ decimal p.next_number
+abbrev pub unknown_text : Instance → ℕ → List ℕ
+unknown_text p n = if n == 0 then phrase DepotInRoute else (phrase UnknownStop ++ decimal n) ++ (phrase NumbersBelow ++ decimal p.next_number)
+
+abbrev pub unknown_sentence : Instance → List (List ℕ) → ℕ → List ℕ
+unknown_sentence p routes n = unknown_text p n ++ shift_text p routes
 
 abbrev pub twice_sentence : List (List ℕ) → ℕ → List ℕ
 twice_sentence routes n = phrase VisitedTwice ++ stands_text routes n ++ phrase First
@@ -115,7 +136,7 @@ cost_sentence p plan = phrase WrongCost ++ decimal plan.cost ++ phrase Driven ++
 -- the sentence on a rule, by its number; a printed solution has no pins
 abbrev pub sentence : Instance → Solution → ℕ → Breach → List ℕ
 sentence p plan rule breach =
-    if rule == 1 then unknown_sentence p breach.stop
+    if rule == 1 then unknown_sentence p plan.routes breach.stop
     else if rule == 2 then twice_sentence plan.routes breach.stop
     else if rule == 3 then missing_sentence p plan.routes breach.stop
     else if rule == 4 then split_sentence p plan.routes breach.stop

@@ -1,25 +1,58 @@
 -- What is said of a fault of a solution's text behind its kind.
-use Rattle.std.specs.Prelude.{ℕ, ◌++◌, List, [], length, Option, Some, None, decimal}
-use Rattle.std.specs.List.{position_from}
-use Rattle.text_lines.specs.Words.{words_of}
-use Rattle.instance_read.specs.VrpLines.{value_text}
+use Rattle.std.specs.Prelude.{ℕ, ◌++◌, ◌==◌, ◌&&◌, ◌||◌, not, Bool, false, if◌then◌else◌, List, [], ◌∷◌, length, codes, Option, Some, None, decimal}
+use Rattle.std.specs.Char.{is_ascii_digit}
+use Rattle.std.specs.List.{list_any, position_from}
+use Rattle.std.specs.Str.{str_eq_ignore_ascii_case}
+use Rattle.text_lines.specs.Words.{is_blank, words_of}
+use Rattle.instance_read.specs.VrpLines.{key_text, value_text}
 use Rattle.sol_text.specs.LineShapes.{cost_tail}
 use Rattle.sol_text.specs.declared.faults.SolFaultKind.{SolFaultKind}
 use Rattle.sol_text.specs.declared.faults.SolFaultKind.TheVariants.{BadLine, BadNumber}
 use Rattle.plan_explain.specs.Cited.{shown_bytes}
 use Rattle.plan_explain.specs.Numbers.{is_no_customer}
-use Rattle.plan_explain.specs.Phrases.{phrase}
+use Rattle.plan_explain.specs.Phrases.{phrase, text_if}
 use Rattle.plan_explain.specs.ToldLines.{told_line, word_at}
 use Rattle.plan_explain.specs.WordTexts.{fraction_text}
-use Rattle.plan_explain.specs.declared.phrases.Phrase.TheVariants.{CostIs, CostLimits, CostWords, CustomerIs, CustomerLimits, Found}
+use Rattle.plan_explain.specs.declared.phrases.Phrase.TheVariants.{CostIs, CostLimits, CostWords, CustomerIs, CustomerLimits, Found, IndentedLine, KeyLine, RoundedWays}
 
--- how many words stand behind `Cost`, where the line begins so
-abbrev pub bad_line_text : Option (List ℕ) → List ℕ
-bad_line_text None = []
-bad_line_text (Some tail) = (phrase CostWords ++ decimal (length (words_of tail))) ++ phrase Found
+-- blanks stand before the first word
+abbrev pub begins_blank : List ℕ → Bool
+begins_blank [] = false
+begins_blank (b ∷ bs) = is_blank b
+
+-- the word begins a route or a cost line, in any letter case
+abbrev pub is_line_word : List ℕ → Bool
+is_line_word word =
+    str_eq_ignore_ascii_case word (codes "route") || (str_eq_ignore_ascii_case word (codes "cost") || str_eq_ignore_ascii_case word (codes "cost:"))
+
+abbrev pub is_indented : List ℕ → Bool
+is_indented line = begins_blank line && is_line_word (word_at (words_of line) 0)
+
+-- a byte that no key of a word has: a digit, or #
+abbrev pub is_no_key_byte : ℕ → Bool
+is_no_key_byte b = is_ascii_digit b || b == 35
+
+-- the line has a colon, and before it words alone
+abbrev pub is_key_line : List ℕ → Bool
+is_key_line line = list_any (λ b. b == 58) line && not (list_any is_no_key_byte (key_text line))
+
+abbrev pub other_line_text : List ℕ → List ℕ
+other_line_text line = if is_indented line then phrase IndentedLine else text_if (is_key_line line) KeyLine
+
+-- how many words stand behind `Cost`, where the line begins so; else how such a line is done without
+abbrev pub bad_line_by : List ℕ → Option (List ℕ) → List ℕ
+bad_line_by line None = other_line_text line
+bad_line_by line (Some tail) = (phrase CostWords ++ decimal (length (words_of tail))) ++ phrase Found
+
+abbrev pub bad_line_text : List ℕ → List ℕ
+bad_line_text line = bad_line_by line (cost_tail line)
+
+-- the cost has a fraction, or an exponent
+abbrev pub is_unrounded : List ℕ → Bool
+is_unrounded word = list_any (λ b. (b == 46) || (b == 101) || (b == 69)) word
 
 abbrev pub bad_cost_text : List ℕ → List ℕ
-bad_cost_text word = (phrase CostIs ++ shown_bytes word) ++ fraction_text word ++ phrase CostLimits
+bad_cost_text word = (phrase CostIs ++ shown_bytes word) ++ fraction_text word ++ phrase CostLimits ++ text_if (is_unrounded word) RoundedWays
 
 -- the first of these words that is no customer, if there is one
 abbrev pub bad_customer_at : List (List ℕ) → Option ℕ → List ℕ
@@ -39,6 +72,6 @@ wrong_number_text line = number_text (cost_tail line) line
 
 -- what line n has of a fault
 abbrev pub sol_detail : List ℕ → ℕ → SolFaultKind → List ℕ
-sol_detail text n BadLine = bad_line_text (cost_tail (told_line text n))
+sol_detail text n BadLine = bad_line_text (told_line text n)
 sol_detail text n BadNumber = wrong_number_text (told_line text n)
 sol_detail text n _ = []

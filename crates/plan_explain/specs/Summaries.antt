@@ -56,7 +56,7 @@ sums_of p routes = record { stops = sum_by length routes; distance = total_lengt
 
 -- in their columns
 abbrev pub sums_text : Sums → List ℕ
-sums_text s = phrase Sum ++ ended (right 7 s.stops ++ right 11 s.distance ++ right 43 s.waiting)
+sums_text s = phrase Sum ++ ended (cell 6 s.stops ++ cell 10 s.distance ++ right 42 s.waiting)
 
 abbrev pub summary_text : Instance → List (List ℕ) → List ℕ
 summary_text p routes = phrase RoutesHeading ++ summary_lines p 1 routes ++ sums_text (sums_of p routes)

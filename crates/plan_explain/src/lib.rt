@@ -21,9 +21,9 @@
 //! - `rows`: what happens at the places of a route
 //! - `tables`: a route as a table
 //! - `summaries`: a line for each route, and the sums
-//! - `sentences`: the sentence on a broken rule
+//! - `sentences`, `shifts`: the sentence on a broken rule; numbers that are all one too high or too low
 //! - `firsts`: the first items of a list
-//! - `breaches`, `further`: all places that break a rule, and how they are told
+//! - `breaches`, `further`, `others`: all places that break a rule, how they are told, and how many break each rule behind it
 //! - `verdicts`: what is said of a verdict
 //! - `cited`, `told_lines`, `numbers`: bytes, lines and words of a refused text
 //! - `layouts`, `words_told`: what numbers a line has, and what is said of a wrong one
@@ -31,6 +31,7 @@
 //! - `vrp_keys`, `vrp_walk`, `vrp_faults`: keys and sections of a `.vrp` text, what is said of a fault of one
 //! - `sol_faults`: what is said of a fault of a solution's text
 //! - `behind`: what stands behind the cost line of one
+//! - `unasked`: limits of an instance that are not asked
 //! - `notes`: a byte order mark, a text that looks like the other kind
 //! - `refused`: what is said of a text that is refused
 //! - `laws`: what is read of a solution's text
@@ -41,6 +42,7 @@
 //!   `instance_fault_text` and `solution_fault_text`
 //! - `line_behind_cost`: the first line that is not blank behind the cost line of a solution's text, which its reader passes over
 //!   (`reading_ends_at_the_cost_line`)
+//! - `unasked_limit`: the first line of an instance whose key names a limit that is not asked
 //! - `rows_of`, `wait`, `summary_of`: the rows of a route, and what it comes to
 #![tactic(auto)]
 
@@ -55,17 +57,20 @@ mod lilim_faults;
 mod names;
 mod notes;
 mod numbers;
+mod others;
 mod pair_faults;
 mod phrases;
 mod refused;
 mod rows;
 mod seats;
 mod sentences;
+mod shifts;
 mod sol_faults;
 mod summaries;
 mod tables;
 mod told;
 mod told_lines;
+mod unasked;
 mod verdicts;
 mod vrp_faults;
 mod vrp_keys;
@@ -77,4 +82,5 @@ pub use laws::reading_ends_at_the_cost_line;
 pub use refused::{explain_instance_fault, explain_solution_fault};
 pub use rows::{Row, rows_of};
 pub use summaries::{Summary, summary_of, wait};
+pub use unasked::unasked_limit;
 pub use verdicts::explain_verdict;

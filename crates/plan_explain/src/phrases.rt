@@ -109,6 +109,13 @@ pub(crate) enum Phrase {
     Place,
     StopAt,
     FurtherStop,
+    DepotInRoute,
+    NumbersTooHigh,
+    NumbersTooLow,
+    BreakRule,
+    RoundedWays,
+    IndentedLine,
+    KeyLine,
     Blank,
 }
 
@@ -154,7 +161,7 @@ impl Phrase {
             Phrase::StopsHeading => "place   stop\n",
             Phrase::RoutesHeading =>
                 "route  stops   distance      load      start     return    waiting\n",
-            Phrase::Sum => "  sum",
+            Phrase::Sum => "  sum ",
             Phrase::Line => "line ",
             Phrase::Colon => ": ",
             Phrase::Colons => ":",
@@ -215,7 +222,7 @@ impl Phrase {
             Phrase::CustomerLimits => ", allowed are digits alone, at most 4294967295",
             Phrase::CostWords => ": 1 due behind Cost, ",
             Phrase::ByteOrderMark =>
-                "the text begins with a byte order mark (EF BB BF): save it without\n",
+                "the text begins with a byte order mark (EF BB BF): save it without, or by tail -c +4\n",
             Phrase::LooksVrp => "the text looks like a .vrp instance, and is read as lilim\n",
             Phrase::LooksLilim => "the text looks like a Li-Lim instance, and is read as vrp\n",
             Phrase::MarkOverload => "  overload",
@@ -226,6 +233,18 @@ impl Phrase {
             Phrase::Place => " place ",
             Phrase::StopAt => " stop ",
             Phrase::FurtherStop => "  stop ",
+            Phrase::DepotInRoute => "unknown stop: stop 0 is the depot, which no route line has",
+            Phrase::NumbersTooHigh =>
+                ". Each stop less 1 is one of the instance: are the numbers one too high?",
+            Phrase::NumbersTooLow =>
+                ". Each stop and 1 more is one of the instance: are the numbers one too low?",
+            Phrase::BreakRule => "places that break rule ",
+            Phrase::RoundedWays =>
+                ". Each way is rounded to a whole number here: behind the word routes their sum is told, whatever is printed",
+            Phrase::IndentedLine =>
+                ": Route and Cost have to begin their lines, as they do behind: sed 's/^[[:blank:]]*//'",
+            Phrase::KeyLine =>
+                ": a solution has no other keys, as it has none behind: grep -iE '^(route|cost)'",
             Phrase::Blank => " ",
         }
     }

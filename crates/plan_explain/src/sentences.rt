@@ -5,11 +5,12 @@ ghost use Rattle.std.specs.Option.{option_copied};
 ghost use Rattle.route_sched.specs.Route.{AreLiveOnce};
 ghost use Rattle.route_sched.specs.Cost.{used_count};
 ghost use Rattle.plan_explain.specs.Phrases.{phrase, text_if};
-ghost use Rattle.plan_explain.specs.Sentences.{beside_text, cost_sentence, demand_text, early_sentence, first_seat, fleet_sentence, last_stop, late_sentence, late_text, load_sentence, missing_sentence, pair_text, return_sentence, return_text, seat_text, split_sentence, stands_text, stop_text, twice_sentence, unknown_sentence};
+ghost use Rattle.plan_explain.specs.Sentences.{beside_text, cost_sentence, demand_text, early_sentence, first_seat, fleet_sentence, last_stop, late_sentence, late_text, load_sentence, missing_sentence, pair_text, return_sentence, return_text, seat_text, split_sentence, stands_text, stop_text, twice_sentence, unknown_sentence, unknown_text};
 
 use crate::phrases::Phrase;
 use crate::rows::{Row, visit_behind};
 use crate::seats::{Seat, first_seat};
+use crate::shifts::put_shift;
 use crate::told::Told;
 use itoa::Integer;
 use plan_types::{Problem, Route, Stop};
@@ -40,10 +41,21 @@ pub(crate) fn put_mark(text: &mut Told, holds: bool, words: Phrase)
     }
 }
 
-/// Appends that a stop is of no request.
-pub(crate) fn put_unknown(text: &mut Told, problem: &Problem, stop: u32)
-    ensures { text.new ≡ text.old ++ unknown_sentence problem.now stop }
+/// Appends that a stop is of no request, and, where it is so, that all numbers seem to be one too high or too low.
+pub(crate) fn put_unknown(text: &mut Told, problem: &Problem, routes: &[Route], stop: u32)
+    ensures { text.new ≡ text.old ++ unknown_sentence problem.now routes.now stop }
 {
+    put_unknown_stop(text, problem, stop);
+    put_shift(text, problem, routes);
+}
+
+fn put_unknown_stop(text: &mut Told, problem: &Problem, stop: u32)
+    ensures { text.new ≡ text.old ++ unknown_text problem.now stop }
+{
+    if stop == 0 {
+        put_phrase(text, Phrase::DepotInRoute);
+        return;
+    }
     put_named(text, Phrase::UnknownStop, u64::from(stop));
     let next = u64::from(problem.next_number);
     put_named(text, Phrase::NumbersBelow, next);

@@ -1,17 +1,16 @@
 //! What is said of a fault of a solution's text behind its kind.
 ghost use Rattle.std.specs.Prelude.{◌≡◌, ◌++◌};
-ghost use Rattle.std.specs.List.{position_from};
+ghost use Rattle.std.specs.List.{list_any, position_from};
 ghost use Rattle.text_lines.specs.Words.{words_of};
-ghost use Rattle.sol_text.specs.LineShapes.{cost_tail};
 ghost use Rattle.plan_explain.specs.Numbers.{is_no_customer};
-ghost use Rattle.plan_explain.specs.SolFaults.{bad_cost_text, bad_customer_text, bad_line_text, sol_detail, wrong_number_text};
+ghost use Rattle.plan_explain.specs.SolFaults.{bad_cost_text, bad_customer_text, bad_line_text, begins_blank, is_indented, is_line_word, is_key_line, is_no_key_byte, is_unrounded, other_line_text, sol_detail, wrong_number_text};
 
 use crate::numbers::is_no_customer;
 use crate::phrases::Phrase;
-use crate::sentences::{put_named, put_phrase};
+use crate::sentences::{put_mark, put_named, put_phrase};
 use crate::told::Told;
 use crate::told_lines::{told_line, word_at, word_count};
-use crate::vrp_keys::value_of;
+use crate::vrp_keys::{key_of, value_of};
 use crate::words_told::{put_cited, put_fraction};
 use sol_text::{SolFault, SolFaultKind, cost_tail};
 use text_lines::Words;
@@ -28,15 +27,66 @@ pub(crate) fn put_sol_detail(text: &mut Told, solution: &[u8], fault: SolFault)
     }
 }
 
-// How many words a cost line has.
+// How many words a cost line has, or how another line is done without.
 fn put_bad_line(text: &mut Told, line: &[u8])
-    ensures { text.new ≡ text.old ++ bad_line_text (cost_tail line.now) }
+    ensures { text.new ≡ text.old ++ bad_line_text line.now }
 {
     let Some(tail) = cost_tail(line) else {
+        put_other_line(text, line);
         return;
     };
     put_named(text, Phrase::CostWords, word_count(tail) as u64);
     put_phrase(text, Phrase::Found);
+}
+
+fn put_other_line(text: &mut Told, line: &[u8])
+    ensures { text.new ≡ text.old ++ other_line_text line.now }
+{
+    if is_indented(line) {
+        put_phrase(text, Phrase::IndentedLine);
+    } else {
+        put_mark(text, is_key_line(line), Phrase::KeyLine);
+    }
+}
+
+// Whether the first word of a route or a cost line stands behind blanks.
+fn is_indented(line: &[u8]) -> bool
+    ensures { result ≡ is_indented line.now }
+{
+    begins_blank(line) && is_line_word(word_at(line, 0))
+}
+
+fn begins_blank(line: &[u8]) -> bool
+    ensures { result ≡ begins_blank line.now }
+{
+    matches!(line, [b' ' | b'\t', ..])
+}
+
+fn is_line_word(word: &[u8]) -> bool
+    ensures { result ≡ is_line_word word.now }
+{
+    word.eq_ignore_ascii_case(b"route")
+        || word.eq_ignore_ascii_case(b"cost")
+        || word.eq_ignore_ascii_case(b"cost:")
+}
+
+// Whether the line has a colon, and before it words alone.
+fn is_key_line(line: &[u8]) -> bool
+    ensures { result ≡ is_key_line line.now }
+{
+    line.contains(&b':') && !has_no_key_byte(key_of(line))
+}
+
+fn has_no_key_byte(key: &[u8]) -> bool
+    ensures { result ≡ list_any is_no_key_byte key.now }
+{
+    key.iter().any(|byte| is_no_key_byte(*byte))
+}
+
+fn is_no_key_byte(byte: u8) -> bool
+    ensures { result ≡ is_no_key_byte byte }
+{
+    byte.is_ascii_digit() || byte == b'#'
 }
 
 fn put_wrong_number(text: &mut Told, line: &[u8])
@@ -54,6 +104,14 @@ fn put_bad_cost(text: &mut Told, word: &[u8])
     put_cited(text, Phrase::CostIs, word);
     put_fraction(text, word);
     put_phrase(text, Phrase::CostLimits);
+    put_mark(text, is_unrounded(word), Phrase::RoundedWays);
+}
+
+// Whether the cost has a fraction, or an exponent.
+fn is_unrounded(word: &[u8]) -> bool
+    ensures { result ≡ is_unrounded word.now }
+{
+    word.iter().any(|byte| matches!(*byte, b'.' | b'e' | b'E'))
 }
 
 fn put_bad_customer(text: &mut Told, tail: &[u8])

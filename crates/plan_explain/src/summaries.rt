@@ -182,8 +182,8 @@ fn put_sums(text: &mut Told, sums: &Sums)
     ensures { text.new ≡ text.old ++ sums_text sums.now }
 {
     put_phrase(text, Phrase::Sum);
-    text.push_right(7, sums.stops);
-    text.push_right(11, sums.distance);
-    text.push_right(43, sums.waiting);
+    text.push_cell(6, sums.stops);
+    text.push_cell(10, sums.distance);
+    text.push_right(42, sums.waiting);
     text.push_str("\n");
 }

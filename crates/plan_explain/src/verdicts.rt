@@ -3,11 +3,14 @@ ghost use Rattle.std.specs.Prelude.{◌≡◌, ◌<◌, ◌++◌, ℕ, All, IfOk
 ghost use Rattle.route_sched.specs.Route.{AreLiveOnce};
 ghost use Rattle.plan_audit.specs.Verdict.{IsVerdict, printed};
 ghost use Rattle.plan_explain.specs.Explained.{shown_text, verdict_text};
+ghost use Rattle.plan_explain.specs.Further.{further_text};
+ghost use Rattle.plan_explain.specs.Others.{others_text};
 ghost use Rattle.plan_explain.specs.Sentences.{route_told, row_told, sentence};
 ghost use Rattle.plan_audit.specs.declared.rules.Verdict.TheVariants.{Broken};
 
 use crate::breaches::Breach;
 use crate::further::put_further;
+use crate::others::put_others;
 use crate::rows::{Row, rows_of};
 use crate::sentences as say;
 use crate::summaries::put_summary;
@@ -45,10 +48,26 @@ pub fn explain_verdict(
             put_sentence(alloc, &mut text, problem, solution, rule, breach)?;
             text.push_str("\n");
             put_shown(alloc, &mut text, problem, routes, rule, route)?;
-            put_further(alloc, &mut text, problem, routes, rule)?;
+            put_counts(alloc, &mut text, problem, routes, rule)?;
         }
     }
     text.into_string()
+}
+
+// How often and where else the rule is broken, and how often each rule behind it.
+fn put_counts(
+    alloc: Global,
+    text: &mut Told,
+    problem: &Problem,
+    routes: &[Route],
+    rule: u32,
+) -> Result<(), OutOfMemory>
+    requires { 2 < rule → All (AreLiveOnce problem.now) routes.now }
+    ensures { OnOk result (text.new ≡ text.old ++ (further_text problem.now routes.now rule
+        ++ others_text problem.now routes.now rule)) }
+{
+    put_further(alloc, text, problem, routes, rule)?;
+    put_others(alloc, text, problem, routes, rule)
 }
 
 // The sentence on a broken rule.
@@ -68,7 +87,7 @@ fn put_sentence(
     let routes = solution.routes.as_slice();
     let stops = route_told(routes, breach.route);
     match rule {
-        1 => say::put_unknown(text, problem, breach.stop),
+        1 => say::put_unknown(text, problem, routes, breach.stop),
         2 => say::put_twice(text, routes, breach.stop),
         3 => say::put_missing(text, problem, routes, breach.stop),
         4 => say::put_split(text, problem, routes, breach.stop),

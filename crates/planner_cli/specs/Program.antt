@@ -110,12 +110,12 @@ module _ {D N : Type 0} (on_old : sectors.Ghosts D) (on_new : sectors.Ghosts N) 
   Does built_in old new status = TellsAudit LiLim example_instance example_solution old.output.contents new.output.contents status
   Does (audit paths routes_alone) old new status =
       TellsFiles routes_alone paths.kind paths.instance paths.solution old.files new.files old.output.contents new.output.contents status
-      × TellsBehind paths.instance paths.solution old.files new.files old.errors new.errors
+      × TellsBehind paths.kind paths.instance paths.solution old.files new.files old.errors new.errors
   Does (audits kind list routes_alone) old new status =
       TellsList routes_alone kind list old.files new.files old.output.contents new.output.contents old.errors new.errors status
   Does (explain paths routes_alone) old new status =
       TellsExplained routes_alone paths.kind paths.instance paths.solution old.files new.files old.output.contents new.output.contents status
-      × TellsBehind paths.instance paths.solution old.files new.files old.errors new.errors
+      × TellsBehind paths.kind paths.instance paths.solution old.files new.files old.errors new.errors
   Does (draw paths route) old new status = TellsDrawn paths.kind route paths.instance paths.solution old.files new.files old.output.contents new.output.contents old.errors new.errors status
   Does (draw_store store) old new status = DrawsStore on_old IsOld store old.output.contents new.output.contents old.errors new.errors status
   Does (solve task) old new status = TellsTask task old.files new.files old.output.contents new.output.contents old.errors new.errors status

@@ -1,11 +1,11 @@
 -- What each read gave, and what is told of it.
-use Rattle.std.proofs.Common.{subst, inl, inr}
+use Rattle.std.proofs.Common.{◌++◌, subst, inl, inr}
 use Rattle.std.proofs.KnownBytes.{Appends-nil}
 use Rattle.std.proofs.lemmas.Result.{IfOk-weaker}
 use Rattle.std.specs.Io.KnownBytes.{Appends}
 use Rattle.std.specs.Prelude.{IfOk}
 use Rattle.auditor_cli.specs.Answer.{IsAnswerBy}
-use Rattle.auditor_cli.specs.Behind.{behind_line}
+use Rattle.auditor_cli.specs.Behind.{behind_line, limit_line}
 use Rattle.auditor_cli.specs.Explained.{IsExplanation}
 use Rattle.auditor_cli.proofs.explained.explain_read.Goals as goal
 
@@ -27,7 +27,11 @@ returns-clause-told g c =
     (subst (λ y. IfOk explained (λ e. IsAnswerBy c.args.routes_alone kind c.deref.result.now y e.answer)) c.deref-2.ensures.value c.explain-explained.ensures.answer) in
     let explains = subst (λ x. IfOk explained (IsExplanation c.args.routes_alone kind x both.1.items)) c.deref.ensures.value
     (subst (λ y. IfOk explained (IsExplanation c.args.routes_alone kind c.deref.result.now y)) c.deref-2.ensures.value c.explain-explained.ensures.explains) in
-    let behind = subst (λ y. Appends (g.E.Write.contents c.args.errors.now) (g.E.Write.contents c.tell_behind.new.errors) (behind_line c.args.paths.solution.now y)) c.deref-3.ensures.value c.in_ok-tell_behind.ensures in (
+    let paths = c.args.paths in
+    let before = g.E.Write.contents c.args.errors.now in
+    let after = g.E.Write.contents c.tell_texts.new.errors in
+    let behind = subst (λ x. Appends before after (behind_line paths.solution.now both.1.items ++ limit_line paths.kind paths.instance.now x)) c.deref-3.ensures.value
+    (subst (λ y. Appends before after (behind_line paths.solution.now y ++ limit_line paths.kind paths.instance.now c.deref-3.result.now)) c.deref-4.ensures.value c.in_ok-tell_texts.ensures) in (
       inl (record {
         x = both.0.items;
         y = both.1.items;

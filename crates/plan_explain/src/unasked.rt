@@ -1,0 +1,66 @@
+//! Limits that a `.vrp` text may name and that nobody asks here.
+ghost use Rattle.std.specs.Prelude.{◌≡◌};
+ghost use Rattle.text_lines.specs.Lines.{lines_of};
+ghost use Rattle.plan_explain.specs.Unasked.{is_limit, is_of_fleet, is_of_length, is_of_size, limit_from, unasked_limit};
+
+use crate::names::Name;
+use crate::vrp_keys::{is_key, key_of};
+use plan_types::Kind;
+use text_lines::Lines;
+
+/// The number of the first line of an instance, from 1, whose key names a limit that is not asked: of vehicles, or of the length of a
+/// route. None of a Li-Lim instance, which has no keys. Source: keys of LKH, and of extensions of TSPLIB.
+pub fn unasked_limit(kind: Kind, text: &[u8]) -> Option<u64>
+    ensures { result ≡ unasked_limit kind text.now }
+{
+    match kind {
+        Kind::LiLim => None,
+        Kind::Vrp => first_limit(text),
+    }
+}
+
+fn first_limit(text: &[u8]) -> Option<u64>
+    ensures { result ≡ limit_from 1 (lines_of text.now) }
+{
+    let mut number = 0;
+    for line in Lines::new(text) {
+        number += 1;
+        if is_key(Name::KeyEnd, line) {
+            return None;
+        }
+        if is_limit(line) {
+            return Some(number);
+        }
+    }
+    None
+}
+
+fn is_limit(line: &[u8]) -> bool
+    ensures { result ≡ is_limit line.now }
+{
+    let key = key_of(line);
+    is_of_fleet(key) || is_of_length(key) || is_of_size(key)
+}
+
+// How many vehicles there are.
+fn is_of_fleet(key: &[u8]) -> bool
+    ensures { result ≡ is_of_fleet key.now }
+{
+    key.eq_ignore_ascii_case(b"VEHICLES") || key.eq_ignore_ascii_case(b"SALESMEN")
+}
+
+// How long a route may be.
+fn is_of_length(key: &[u8]) -> bool
+    ensures { result ≡ is_of_length key.now }
+{
+    key.eq_ignore_ascii_case(b"MAX_DURATION") || key.eq_ignore_ascii_case(b"MAX_DISTANCE")
+}
+
+// How many stops a route may have, and what it may risk.
+fn is_of_size(key: &[u8]) -> bool
+    ensures { result ≡ is_of_size key.now }
+{
+    key.eq_ignore_ascii_case(b"MTSP_MIN_SIZE")
+        || key.eq_ignore_ascii_case(b"MTSP_MAX_SIZE")
+        || key.eq_ignore_ascii_case(b"RISK_THRESHOLD")
+}
