@@ -31,6 +31,7 @@ RENAMED = {
     "use rand_chacha::": "use kit::",
     "use memchr::": "use kit::",
     "use itoa::": "use kit::",
+    "use log::": "use kit::",
     "vec![in alloc;": "kit::vec_in![",
     ".collect(alloc)": ".collect_in(alloc)",
     "use std::marker::Model;": "",

@@ -2,12 +2,19 @@
 """Reads the documents as a stranger would follow them.
 
 1. Each name in code quotes stands in the tree: a path is there, `Rules.IsLate` is declared in a Rules.antt, any other word is in a source.
-2. Each crate of crates.txt stands once in the table of layers of docs/ARCHITECTURE.md, in the order of crates.txt.
+2. Each crate of crates.txt stands once in the table of layers of docs/ARCHITECTURE.md, in the order of crates.txt; each that is no crate of
+   tests stands in its picture.
 3. Each .rt file begins with a line of what it holds.
 4. Each document is linked from README.md, and each link leads to a file and a heading that are there.
 5. No paragraph has more than 90 words, and no cell of a table more than 100 characters.
-6. Definitions with a crate behind them, as `Rules.IsLate` (plan_audit), stand in the specs of that crate.
+6. A name that is given with its place is declared there, not merely used, and not elsewhere. A place is a file or a crate:
+   - behind the name, in brackets: `Rules.IsLate` (plan_audit), `search_steps` and `walk_on` (`seeded_search/src/search.rt`)
+   - before the name, in a table's cell: `plan_audit/src/scan.rt` `first_late`; a file alone, as `slow.rt`, is one beside it, or of its specs/
+   - in a column of the row that is headed Crate, or in the heading above: of the names headed Function, Definition or Begin with
+   - in a column of the row that is headed Code or Files: of definitions, and of names in a column that is headed so in PLACED
+   A definition may stand in a crate below. What is declared is a function, type, case, field, constant, clause or definition.
 """
+import functools
 import pathlib
 import re
 import sys
@@ -21,6 +28,11 @@ SOURCES = {".rt", ".antt", ".edit", ".py", ".sh", ".txt", ".sol", ".vrp", ".1", 
 FOREIGN_SPANS = ("rt ", "rattle-kit")
 # Words of the world outside: commands and terms of the system.
 FOREIGN = {"PATH", "PREFIX", "xargs", "split", "parallel", "strace", "valgrind", "callgrind", "perf", "rustc", "clang", "fdatasync", "fsync"}
+
+FILE_NAME = r"[\w-]+\.(?:rt|antt|py|sh|md|edit|txt|sol|vrp|svg)"
+# Columns of a table that name what is declared at the place of the row: in the files of a column headed Code or Files, or in its crates.
+PLACED = ("Of ", "Function", "`")
+DEFINING = ("Clause, definition or law", "Definition")
 
 problems = []
 
@@ -65,7 +77,7 @@ def is_path(word, paths):
 def check_name(path, line, span, words, paths, declared):
     if span.startswith(FOREIGN_SPANS):
         return
-    if re.fullmatch(r"[\w./*-]+/[\w.*-]*|[\w-]+\.(rt|antt|py|sh|md|edit|txt|sol|vrp|svg)", span) and "*" not in span:
+    if re.fullmatch(rf"[\w./*-]+/[\w.*-]*|{FILE_NAME}", span) and "*" not in span:
         if not is_path(span.rstrip("/"), paths):
             complain(path, line, f"no such file: {span}")
         return
@@ -142,24 +154,213 @@ def check_document(path, words, paths, declared):
             check_name(path, number, span.strip(), words, paths, declared)
 
 
-def check_homes(path):
-    """Each of the definitions in front of a crate's name in brackets is declared there; a comma or a line's end may stand between them."""
-    lines = without_code(path.read_text(encoding="utf-8"))
-    text = "\n".join(lines)
-    for run in re.finditer(r"((?:`[^`]+`,?\s(?:and\s)?)+)\((\w+)\)", text):
-        crate = TOP / "crates" / run[2] / "specs"
-        if not crate.is_dir():
-            continue
-        for span in re.findall(r"`([A-Z]\w*)\.(\w+)`", run[1]):
-            homes = [it for it in crate.rglob(span[0] + ".antt") if span[1] in words_of(it.read_text(encoding="utf-8"))]
-            if not homes:
-                complain(path, text[: run.start()].count("\n") + 1, f"{run[2]} has no {'.'.join(span)}")
-
-
 def crates():
     for line in (TOP / "crates.txt").read_text(encoding="utf-8").splitlines():
         if line.strip() and not line.startswith("#"):
-            yield line.split(":")[0].split()[0]
+            name, _, below = line.partition(":")
+            yield name, below.split()
+
+
+def crates_below():
+    """Per crate itself and all that it stands on."""
+    below = {}
+    for name, direct in crates():
+        below[name] = {name}.union(*(below[it] for it in direct if it in below))
+    return below
+
+
+BELOW = crates_below()
+# Names of files of definitions.
+MODULES = {it.stem for it in TOP.glob("crates/*/specs/*.antt")}
+
+
+def bodies(text, kind):
+    return "\n".join(re.findall(rf"^(?:pub(?:\(crate\))? )?{kind} \w+[^;{{]*\{{(.*?)^\}}", text, flags=re.MULTILINE | re.DOTALL))
+
+
+def declared_in_rust(text):
+    text = re.sub(r"//.*", "", text)
+    names = set(re.findall(r"\b(?:fn|struct|enum|trait|const|static|type|mod|ensures|requires)\s+(\w+)", text))
+    names.update(re.findall(r"^    ([A-Z]\w*)\b", bodies(text, "enum"), flags=re.MULTILINE))
+    names.update(re.findall(r"^    (?:pub(?:\(crate\))? )?(\w+):", bodies(text, "struct"), flags=re.MULTILINE))
+    return names
+
+
+def declared_in_specs(text):
+    return set(re.findall(r"^ *(?:(?:abbrev|unfoldable|pub|record|data|mod) )*(\w+)(?: *[:({]| where| =|$)", text, flags=re.MULTILINE))
+
+
+def declared_in_python(text):
+    return {one or other for one, other in re.findall(r"^\s*(?:def|class) (\w+)|^(\w+)(?: =|, )", text, flags=re.MULTILINE)}
+
+
+@functools.lru_cache(maxsize=None)
+def declared_at(file):
+    text = file.read_text(encoding="utf-8")
+    readers = {".rt": declared_in_rust, ".antt": declared_in_specs, ".py": declared_in_python}
+    return readers.get(file.suffix, lambda text: set(words_of(text)))(text)
+
+
+@functools.lru_cache(maxsize=None)
+def labels_at(file):
+    """Per function of a file the labels of its clauses; functions of one name together."""
+    labels = {}
+    parts = re.split(r"\bfn (\w+)", file.read_text(encoding="utf-8"))
+    for name, text in zip(parts[1::2], parts[2::2]):
+        labels.setdefault(name, set()).update(re.findall(r"^\s*(?:ensures|requires) (\w+) \{", text, flags=re.MULTILINE))
+    return labels
+
+
+@functools.lru_cache(maxsize=None)
+def files_of(crate):
+    folder = TOP / "crates" / crate
+    return tuple(sorted(folder.glob("src/**/*.rt")) + sorted(folder.glob("specs/*.antt")))
+
+
+def definitions_below(crate):
+    return [it for each in BELOW[crate] for it in sorted((TOP / "crates" / each / "specs").glob("*.antt"))]
+
+
+def crate_of(file):
+    parts = file.relative_to(TOP).parts
+    return parts[1] if parts[0] == "crates" else None
+
+
+def file_at(span, beside=None):
+    """The file of a path, or of a name alone the one beside another file, in the specs of its crate, or at the top."""
+    folders = [TOP, TOP / "crates"]
+    if beside and "/" not in span:
+        folders = [beside.parent, TOP]
+        if crate_of(beside):
+            folders.insert(1, TOP / "crates" / crate_of(beside) / "specs")
+    for folder in folders:
+        if (folder / span).is_file():
+            return folder / span
+    return None
+
+
+def has_file(crate, span):
+    """Whether the crate has the file, in src/, specs/ or from its top."""
+    return any((TOP / "crates" / crate / folder / span).is_file() for folder in ("src", "specs", ""))
+
+
+def place_of(span):
+    """The files in which a name is looked for that has this span as its place: those of a crate, or those at the end of a path."""
+    if span in BELOW:
+        return files_of(span)
+    file = file_at(span)
+    if file:
+        return (file,)
+    return tuple(it for crate in BELOW for it in files_of(crate) if str(it).endswith("/" + span)) or None
+
+
+def told_names(span):
+    """The names of a span, as `best` and `Tables` of `Tables::best`. A command with its words names nothing."""
+    span = re.sub(r"\(.*\)$", "", span)
+    return [] if re.search(r"[^\w.:]", span) else [it for it in words_of(span) if len(it) > 1]
+
+
+def expect_declared(path, line, span, files, where):
+    """Each name of the span is declared in one of the files; of `Rules.IsLate` in one that is called Rules.antt."""
+    dotted = re.fullmatch(r"([A-Z]\w*)\.(\w+)", span)
+    names = told_names(span)
+    if dotted and dotted[1] in MODULES:
+        files = [it for it in files if it.name == dotted[1] + ".antt"]
+        names = [dotted[2]]
+    for name in names:
+        if not any(name in declared_at(it) for it in files):
+            complain(path, line, f"{where} declares no {name} (of `{span}`)")
+
+
+def check_bracketed(path):
+    """Each name in front of places in brackets is declared at one of them; commas, words that join and a line's end may stand between."""
+    text = "\n".join(without_code(path.read_text(encoding="utf-8")))
+    joined = r"`[^`]+`(?:;|,)?\s(?:(?:and|or|then)\s)?"
+    for run in re.finditer(rf"((?:{joined})+)\((`?[\w./]+`?(?:, `?[\w./]+`?)*)\)", text):
+        spans = [it.strip("`") for it in run[2].split(", ")]
+        places = [place_of(it) for it in spans]
+        if None in places:
+            continue
+        files = [it for place in places for it in place]
+        line = text[: run.start()].count("\n") + 1
+        for span in re.findall(r"`([^`]+)`", run[1]):
+            expect_declared(path, line, span, files, run[2])
+
+
+def tables(path):
+    """Per row its line, the heading above, and its cells by the header of their column."""
+    heading, header = "", None
+    lines = without_code(path.read_text(encoding="utf-8"))
+    for number, line in enumerate(lines, 1):
+        if line.startswith("#"):
+            heading = line
+        if not line.strip().startswith("|"):
+            header = None
+            continue
+        cells = [it.strip() for it in re.split(r"(?<!\\)\|", line.strip().strip("|"))]
+        if header is None:
+            header = cells
+        elif not set(line) <= set("|-: "):
+            yield number, heading, dict(zip(header, cells))
+
+
+def spans_of(cell):
+    return re.findall(r"`([^`]+)`", cell)
+
+
+def check_cell(path, line, cell):
+    """A name that stands right behind a file is declared there. Gives the files of the cell."""
+    files, place, end = [], None, 0
+    for span in re.finditer(r"`([^`]+)`", cell):
+        between = cell[end: span.start()]
+        if place and not re.fullmatch(r",? " if len(place) == 1 else r": |, ", between):
+            place = None
+        end = span.end()
+        found = file_at(span[1], files[-1] if files else None) if re.search(r"[./]", span[1]) else None
+        if found:
+            place = [found]
+            files.append(found)
+        elif files and crate_of(files[-1]) and re.fullmatch(FILE_NAME, span[1]):
+            complain(path, line, f"no {span[1]} beside {files[-1].relative_to(TOP)}")
+        elif span[1] in BELOW and cell[end:].startswith(": "):
+            place = files_of(span[1])
+        elif place:
+            expect_declared(path, line, span[1], place, str(place[0].relative_to(TOP)) if len(place) == 1 else crate_of(place[0]))
+    return files
+
+
+def check_clauses(path, line, crates, functions, cell):
+    """A name that is a clause's label and nothing else is one of a clause of these functions."""
+    files = [it for each in crates for it in files_of(each) if it.suffix == ".rt"]
+    told = [words_of(it)[-1] for it in spans_of(functions)]
+    labels = [labels_at(it)[name] for it in files for name in told if name in labels_at(it)]
+    others = {name for it in files for name in re.findall(r"\b(?:fn|struct|enum|trait) (\w+)", it.read_text(encoding="utf-8"))}
+    others.update(name for each in crates for it in definitions_below(each) for name in declared_at(it))
+    for span in spans_of(cell):
+        if labels and re.fullmatch("[a-z_]+", span) and span not in others and not any(span in it for it in labels):
+            complain(path, line, f"no clause {span} of {', '.join(told)}")
+
+
+def crates_named(text):
+    return [it for it in spans_of(text) if it in BELOW]
+
+
+def check_row(path, line, heading, row):
+    files = [it for header, cell in row.items() for it in check_cell(path, line, cell) if header.startswith(("Code", "File"))]
+    crates = crates_named(row.get("Crate", "")) or crates_named(heading)
+    for header, cell in row.items():
+        if header == DEFINING[0] and crates:
+            check_clauses(path, line, crates, row.get("Function", ""), cell)
+        for span in spans_of(cell):
+            if header == "Begin with" and not any(has_file(each, span) for each in crates):
+                complain(path, line, f"{crates[0]} has no {span}")
+            elif header.startswith(PLACED) and (files or crates):
+                places = files or [it for each in crates for it in files_of(each)]
+                expect_declared(path, line, span, places, "the row's place")
+            elif header in DEFINING and (files or crates):
+                homes = crates or [crate_of(it) for it in files if crate_of(it)]
+                places = [it for each in homes for it in (*files_of(each), *definitions_below(each))]
+                expect_declared(path, line, span, places, f"{homes[0]}, or a crate below,")
 
 
 def check_crates():
@@ -167,8 +368,12 @@ def check_crates():
     text = path.read_text(encoding="utf-8")
     section = text.partition("## Layers")[2].partition("\n## ")[0]
     told = re.findall(r"^\| `(\w+)` \|", section, flags=re.MULTILINE)
-    if told != list(crates()):
-        complain(path, 1, f"the crates of the layers are not those of crates.txt: {sorted(set(told) ^ set(crates()))}")
+    if told != list(BELOW):
+        complain(path, 1, f"the crates of the layers are not those of crates.txt: {sorted(set(told) ^ set(BELOW))}")
+    picture = words_of(text.partition("## Picture")[2].partition("\n## ")[0])
+    for crate in BELOW:
+        if not crate.startswith(("test_", "run_")) and crate not in picture:
+            complain(path, 1, f"the picture lacks {crate}")
 
 
 def check_heads():
@@ -189,7 +394,9 @@ def main():
     words, paths, declared = read_tree()
     for path in DOCUMENTS:
         check_document(path, words, paths, declared)
-        check_homes(path)
+        check_bracketed(path)
+        for row in tables(path):
+            check_row(path, *row)
     check_crates()
     check_heads()
     check_linked()

@@ -41,7 +41,13 @@ LATE_PAIR_FOR_TWO = LATE_PAIR.replace("1 10 1", "2 10 1", 1)
 # Two pairs on two places. Stop 3 lies 3 from the depot and is due at 2, so it can be served behind stop 1 alone.
 TWO_PAIRS = "1 10 1\n0 0 0 0 0 100 0 0 0\n1 1 1 1 0 50 0 0 2\n2 1 1 -1 0 50 0 1 0\n3 2 2 1 0 2 0 0 4\n4 2 2 -1 0 50 0 3 0\n"
 
-# The same without a hurry, which one vehicle can serve, but not in two routes.
+# Two pairs in a row, whose first delivery waits for no other, and one on the other side that waits for none.
+DAY = (
+    "2 10 1\n0 0 0 0 0 1000 0 0 0\n1 10 0 1 20 100 5 0 2\n2 20 0 -1 0 40 5 1 0\n3 30 0 1 0 500 5 0 4\n4 40 0 -1 0 900 5 3 0\n"
+    "5 -10 0 1 0 10 5 0 6\n6 -20 0 -1 0 900 5 5 0\n"
+)
+
+# The two pairs without a hurry, which one vehicle can serve, but not in two routes.
 NO_HURRY = TWO_PAIRS.replace("0 2 0 0 4", "0 50 0 0 4")
 
 # A pair at one place.
@@ -257,6 +263,10 @@ READ_LINES = [
     ("reduce 1", NO_INSTANCE),
     ("reduce", BAD_LINE),
     ("reduce 0 1", BAD_LINE),
+    ("freeze 100000001", NO_INSTANCE),
+    ("freeze", BAD_LINE),
+    ("freeze 1 2", BAD_LINE),
+    ("freeze 9.5", BAD_LINE),
     ("anneal 0", NO_INSTANCE),
     ("anneal", BAD_LINE),
     ("anneal 0 1 2", BAD_LINE),
@@ -372,6 +382,28 @@ SESSIONS = [
         ("withdraw 3", ""),
         ("show", "requests 1 next 5\nsteps 0 place 0\nvehicle 1: 1 2\ncost 0 1 2\n"),
     ]),
+    # Vehicle 1 serves stop 1 from 20 on, its earliest time, after a way of 10; stop 2 from 35, 3 from 50, 4 from 65, each after a way of 10.
+    # Vehicle 2 serves stop 5 from 10 on, after a way of 10, and stop 6 from 25. So they set off to 1, 2, 3, 4 at 10, 25, 40, 55, to 5, 6 at 0, 15.
+    ("what has begun", "lilim", DAY, [
+        ("build", ""),
+        ("freeze 0", "pin 2 2\n"),
+        ("freeze 0", ""),
+        ("freeze 9", ""),
+        ("freeze 10", "pin 1 2\n"),
+        ("freeze 39", ""),
+        ("freeze 40", "pin 1 4\n"),
+        ("freeze 0", ""),
+        ("show", "requests 3 next 7\nsteps 0 place 0\npin 1: 1 2 3 4\npin 2: 5 6\nvehicle 1: 1 2 3 4\nvehicle 2: 5 6\ncost 0 2 120\n"),
+        ("unpin 1", ""),
+        ("unpin 2", ""),
+        ("freeze 100000000", "pin 1 4\npin 2 2\n"),
+        ("unpin 1", ""),
+        ("freeze 24", "pin 1 2\n"),
+        ("freeze 100000001", RANGE),
+        ("freeze -1", RANGE),
+    ]),
+    ("nothing planned has begun", "lilim", DAY, [("freeze 100000000", "")]),
+    ("no times", "vrp", THREE_CUSTOMERS, [("build", ""), ("freeze 5", "no NoTimes\n"), ("freeze 100000001", RANGE)]),
     ("next numbers", "lilim", TWO_PAIRS, [
         ("next", "next 5\n"),
         ("add 1 1 1 0 9 0 1 1 0 9 0", ""),
@@ -706,6 +738,19 @@ def check_sessions(folder):
         expect(f"{name}: behind all lines", text, "")
 
 
+def check_hints(folder):
+    """What standard error tells beside an answer."""
+    for lines, told in [
+        ("build\n", "unplanned 1: 3\n"),
+        ("withdraw 2\n", "withdraw 2: stop 2 is the delivery of request 1\n"),
+        ("build\npin 1 2\nwithdraw 1\n", "unplanned 1: 3\nwithdraw 1: a stop of it is in the pin of vehicle 1\n"),
+        ("withdraw 3\nbuild\nwithdraw 3\nwithdraw 5\n", ""),
+    ]:
+        folder.new_store()
+        status, _, errors = folder.planner("run", "day.store", lines=load_line("lilim", APART) + lines)
+        expect(f"hints of {lines!r}", (status, errors), (0, told))
+
+
 def check_reopened(folder):
     """What a run has loaded is there in the next one."""
     folder.new_store()
@@ -804,6 +849,7 @@ def main():
         check_lines(folder)
         check_loads(folder)
         check_sessions(folder)
+        check_hints(folder)
         check_reopened(folder)
         check_strict(folder)
         check_same_search(folder)

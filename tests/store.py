@@ -13,9 +13,12 @@
    leads to the state of the line that nothing cut.
 8. Search steps that are repeated: how many stands on standard error before, by `run` and `load`, and nothing where none are.
    Standard streams that are closed: the store is not taken for one of them.
+9. Tries with fewer vehicles are told on standard error. README's commands for what has begun, as they stand there.
 
 Words: how often the program is stopped (200 where there are none). Wants the program that rt ci leaves.
 """
+import itertools
+import math
 import os
 import random
 import re
@@ -129,6 +132,64 @@ def check_closed_streams(store, once):
             fail(f"{closed}: status {got.returncode}, {got.stdout!r}, {got.stderr!r}; wanted {wanted}")
         if contents(store) != before:
             fail(f"{closed}: the store was changed")
+
+
+def check_tries(folder):
+    """Each try with fewer vehicles is told as it ends, where standard error is open, and the answers are the same."""
+    answers = b"opened 0\nok\nat 300 0 10 829\nok\n"
+    # By a program of its own: without the four requests of vehicle 6, nine vehicles serve no more in 300 steps.
+    told = b"try 9 of 10 vehicles: 4 left out, step 300\n"
+    for words, errors in [("", told), ("strict", told), ("2>&-", b"")]:
+        store = os.path.join(folder, "tries.store")
+        load(store, 0, b"ok")
+        got = subprocess.run(["sh", "-c", f'exec "$0" run "$1" {words}', PROGRAM, store], input=b"build\nreduce 300\n", capture_output=True)
+        if (got.returncode, got.stdout, got.stderr) != (0, answers, errors):
+            fail(f"tries {words}: status {got.returncode}, {got.stdout!r}, {got.stderr!r}")
+        os.remove(store)
+    print("store: tries with fewer vehicles are told as they end")
+
+
+def check_readme(folder):
+    """README's commands for what has begun, as they stand there: pins that hold all of it, and an order that is planned behind them."""
+    with open(os.path.join(TOP, "README.md")) as file:
+        commands = re.search(r"^now=600\n.*?(?=^```$)", file.read(), flags=re.MULTILINE | re.DOTALL)[0]
+    os.symlink(PROGRAM, os.path.join(folder, "planner"))
+    store = os.path.join(folder, "day.store")
+    load(store, 0, b"ok")
+    run(store, b"build\n")
+    before = day_of(store)
+    got = subprocess.run(["sh", "-e", "-c", commands], cwd=folder, capture_output=True)
+    told = got.stdout.decode().splitlines()
+    if got.returncode != 0 or told[0] != "opened 0" or told[-1] != "ok":
+        fail(f"README: status {got.returncode}, {told[:1]} to {told[-1:]}")
+    pins = {vehicle: int(stops) for word, vehicle, stops in (line.split() for line in told if line.startswith("pin "))}
+    behind = day_of(store)
+    for vehicle, visits in before.items():
+        begun = len(list(itertools.takewhile(lambda visit: visit[1] <= 600, visits)))
+        pinned = pins.get(vehicle, 0)
+        if pinned < begun or behind[vehicle][:pinned] != visits[:pinned]:
+            fail(f"README: vehicle {vehicle} has set off to {begun} stops, and {pinned} are pinned: {visits}, then {behind[vehicle]}")
+    if sum(visit[0] in ("107", "108") for visits in behind.values() for visit in visits) != 2:
+        fail("README: the new order is in no route")
+    print("store: README's commands keep what has begun")
+
+
+def day_of(store):
+    """Of each vehicle its stops in order, and when it sets off to each, by the coordinates of the instance."""
+    with open(INSTANCE) as file:
+        places = {words[0]: (int(words[1]), int(words[2])) for words in map(str.split, file) if len(words) == 9}
+    places.update({"107": (30, 45), "108": (33, 50)})
+    got = subprocess.run([PROGRAM, "timetable", store, "tabs"], capture_output=True)
+    day, last = {}, "0"
+    for line in got.stdout.decode().splitlines():
+        fields = line.split("\t")
+        if fields[0] == "vehicle":
+            day[fields[1]], last = [], "0"
+        elif fields[0] == "stop" and fields[3] != "0":
+            way = math.floor(math.dist(places[last], places[fields[3]]) + 0.5)
+            day[fields[1]].append((fields[3], int(fields[7]) - way))
+            last = fields[3]
+    return day
 
 
 def contents(path):
@@ -444,6 +505,8 @@ def main():
         check_load(folder)
         check_strict(folder)
         check_repeating(folder)
+        check_tries(folder)
+        check_readme(folder)
         check_calls(folder)
         check_stages(folder)
         check_two_at_once(folder)

@@ -54,6 +54,13 @@ def expect(status, line, told, *words):
         fail(f"{words}: {got.returncode}, {got.stdout!r}, {got.stderr!r}; wanted {wanted}")
 
 
+def expect_line(status, line, *words):
+    """The program ends so, and prints a line that begins so."""
+    got = subprocess.run([PROGRAM, *words], capture_output=True, text=True)
+    if got.returncode != status or not got.stdout.startswith(line) or got.stdout.count("\n") != 1:
+        fail(f"{words}: {got.returncode}, {got.stdout!r}; wanted {status}, {line!r}")
+
+
 def write(path, contents):
     with open(path, "wb") as file:
         file.write(contents)
@@ -86,10 +93,39 @@ def check_files(folder):
     # a store that is there already is replaced, also by one that was upgraded before
     expect(0, "ok", "", "upgrade", old, new)
     check_new(new)
-    expect(2, "store BadVersion", "", "upgrade", new, os.path.join(folder, "newer.store"))
+    newer = os.path.join(folder, "newer.store")
+    expect(2, "store BadVersion", "", "upgrade", new, newer)
+    expect_none(newer)
     write(new, b"a note")
     expect(0, "ok", "", "upgrade", old, new)
     check_new(new)
+
+
+def expect_none(path):
+    if os.path.exists(path):
+        fail(f"{path} was made, though nothing stands in it")
+
+
+def check_refused_old(folder):
+    """What an old store is refused for leaves the new file as it is, or not there."""
+    old, new = os.path.join(folder, "refused.store"), os.path.join(folder, "kept.store")
+    spoiled = bytearray(old_store())
+    spoiled[HALF * SECTOR] = 7
+    cases = [
+        (old_store()[: 801 * SECTOR], "store NotFormatted"),
+        (old_store()[:-1], "store BadLength"),
+        (bytes(OLD_SECTORS * SECTOR), "store NotFormatted"),
+        (bytes(spoiled), "store Codec"),
+    ]
+    for contents, line in cases:
+        write(old, contents)
+        expect_line(2, line, "upgrade", old, new)
+        expect_none(new)
+        write(new, b"a note")
+        expect_line(2, line, "upgrade", old, new)
+        holds(new, b"a note")
+        holds(old, contents)
+        os.remove(new)
 
 
 def check_one_file(folder):
@@ -144,6 +180,7 @@ def main():
     with tempfile.TemporaryDirectory() as folder:
         check_files(folder)
         check_one_file(folder)
+        check_refused_old(folder)
         check_refusals(folder)
         check_in_use(folder)
     print("upgrade: stores of version 1 are taken over, and what can't be is told and left alone")

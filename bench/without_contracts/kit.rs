@@ -339,3 +339,24 @@ impl Buffer {
         &self.0
     }
 }
+
+/// What may log.
+pub trait Log {
+    fn log(&self, said: std::fmt::Arguments);
+}
+
+/// Tells each try on standard error.
+pub struct Tried;
+
+impl Log for Tried {
+    fn log(&self, said: std::fmt::Arguments) {
+        eprintln!("{said}");
+    }
+}
+
+#[macro_export]
+macro_rules! info {
+    ($rt:expr; $($said:tt)+) => {
+        $crate::Log::log($rt, format_args!($($said)+))
+    };
+}

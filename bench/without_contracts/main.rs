@@ -37,7 +37,7 @@ fn main() {
     };
     let (begun, first) = match words[0].as_str() {
         "reduce" => {
-            let tried = fleet_tries::try_fleets(Global, &problem, &pins, &plan, number(4), 0, number(3) as u32).unwrap();
+            let tried = fleet_tries::try_fleets(&kit::Tried, Global, &problem, &pins, &plan, number(4), 0, number(3) as u32).unwrap();
             (tried.plan, tried.step)
         }
         _ => (plan, 0),

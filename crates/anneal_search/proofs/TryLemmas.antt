@@ -163,7 +163,3 @@ module _ (p : Instance) (deviation : ℕ) (t : Trying) (c : List (List ℕ)) (fo
 
   pub followed_try : follows ≡ true → (w : Walked) → w ≡ followed p (walked t.incumbent t.working) c → (record { incumbent = w.incumbent; working = w.working; absences = absences; step = step }) ≡ tried_on p deviation t c
   followed_try e w same = ap (λ (v : Walked). record { incumbent = v.incumbent; working = v.working; absences = absences; step = step }) same ∙ by_then_is true e
-
-pub not_false : (b : Bool) → not b ≡ false → b ≡ true
-not_false true e = refl
-not_false false e = sym e

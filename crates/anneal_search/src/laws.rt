@@ -43,8 +43,8 @@ pub fn annealed_never_cost_more()
     costs_are_in_order();
 }
 
-/// A try goes on from plans that pass to plans that pass, makes at most the steps that it is given, and one at least where its plan leaves
-/// a request out.
+/// A try goes on from plans that pass to plans that pass, makes at most the steps that it is given, and where there are any one at least
+/// if its plan leaves a request out.
 pub fn tries_keep_passing()
     ensures passing { TriesKeepPassing }
     ensures short { TriesAreShort }

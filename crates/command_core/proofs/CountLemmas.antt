@@ -8,25 +8,10 @@ use Rattle.std.proofs.lemmas.Bool.Decides.{eqb_tells}
 use Rattle.std.proofs.lemmas.List.Sums.{sum_by-cons}
 use Rattle.plan_audit.specs.Passes.{has, are_distinct}
 use Rattle.move_ops.proofs.Fitting.{had_often, often_had}
+use Rattle.fleet_tries.proofs.CrewLemmas.{count_more, one_more}
 use Rattle.move_ops.proofs.Times.{none_some, some_same, times, one_here, none_here}
 
-one_at_most : (a b : Bool) → (b ≡ true → a ≡ true) → cond b 1 0 ≤ cond a 1 0
-one_at_most true true to = omega arith
-one_at_most true false to = omega arith
-one_at_most false true to = absurd (let h : false ≡ true = to refl in cc)
-one_at_most false false to = omega arith
-
--- a test that passes no more items
-pub count_more : {X : Type 0} (f g : X → Bool) (xs : List X) → ((x : X) → g x ≡ true → f x ≡ true) → count_by g xs ≤ count_by f xs
-count_more f g [] each = omega arith
-count_more f g (x ∷ xs) each =
-    let a = sum_by-cons (λ x. cond (f x) 1 0) x xs in
-    let b = sum_by-cons (λ x. cond (g x) 1 0) x xs in
-    let h = count_more f g xs each in
-    let here = one_at_most (f x) (g x) (each x) in
-    omega arith
-
--- and one item less
+-- a test that passes no more items, and one item less
 pub count_less : {X : Type 0} (f g : X → Bool) (es : List (ℕ × X)) (name : ℕ) (x : X) → ((y : X) → g y ≡ true → f y ≡ true) → lookup (nat_eq name) es ≡ Some x → f x ≡ true → g x ≡ false
     → count_by (λ e. g e.1) es < count_by (λ e. f e.1) es
 count_less f g [] name x each at passed failed = absurd (none_some x at)
@@ -45,7 +30,7 @@ count_less f g (e ∷ es) name x each at passed failed =
       | inr t ↦ (
           let rest : lookup (nat_eq name) es ≡ Some x = rw t.0 at at in
           let h = count_less f g es name x each rest passed failed in
-          let here : cond (g e.1) 1 0 ≤ cond (f e.1) 1 0 = one_at_most (f e.1) (g e.1) (each e.1) in
+          let here : cond (g e.1) 1 0 ≤ cond (f e.1) 1 0 = one_more (f e.1) (g e.1) (each e.1) in
           omega arith)
     ]
 

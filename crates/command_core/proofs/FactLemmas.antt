@@ -30,7 +30,8 @@ use Rattle.command_core.specs.declared.commands.Command.{Command}
 use Rattle.command_core.specs.declared.commands.Command.TheVariants.{Load, Add, Add1, Withdraw, Pin, Unpin, Build, Search, Deviation, Anneal, Reduce}
 use Rattle.command_core.proofs.AddLemmas.{single_is_request, pair_is_request, IsNext, new_problem, same_at_live}
 use Rattle.command_core.proofs.PassLemmas.{passes_same, all_feasible_same, numbers_live, routes_live, pins_live}
-use Rattle.command_core.proofs.PinLemmas.{none_feasible, none_all_feasible, none_passes, set_all, unpinned_passes, pinned_passes}
+use Rattle.fleet_tries.proofs.PickedLemmas.{none_feasible}
+use Rattle.command_core.proofs.PinLemmas.{none_all_feasible, none_passes, set_all, unpinned_passes, pinned_passes}
 use Rattle.seeded_search.proofs.WalkLemmas.{placed_all_passes}
 use Rattle.command_core.proofs.TakeLemmas.{pins_others, withdrawn_passes, pins_still_feasible}
 

@@ -4,21 +4,11 @@ use Rattle.std.specs.List.{list_all, concat, starts_with}
 use Rattle.std.proofs.lemmas.Bool.{and_parts, and_from, eq-eqb}
 use Rattle.std.proofs.lemmas.List.{length-replicate}
 use Rattle.plan_types.specs.Instance.{Instance, stop_at}
-use Rattle.plan_types.specs.declared.requests.Kind.{Kind}
-use Rattle.plan_types.specs.declared.requests.Kind.TheVariants.{LiLim, Vrp}
-use Rattle.plan_audit.specs.Passes.{are_distinct, keeps_times, begin_with_pins, feasible_alone, passes}
+use Rattle.plan_audit.specs.Passes.{are_distinct, begin_with_pins, feasible_alone, passes}
 use Rattle.move_ops.specs.Insertion.{of_vehicle, with_route}
 use Rattle.command_core.specs.Effects.{no_stops}
+use Rattle.fleet_tries.proofs.PickedLemmas.{none_feasible}
 use Rattle.command_core.proofs.PassLemmas.{parts_of, from_parts}
-
--- no stops are a feasible route
-pub none_feasible : (p : Instance) → feasible_alone p [] ≡ true
-unfolding feasible_alone
-none_feasible p = by p.kind
-  where
-    by : (kind : Kind) → keeps_times kind p [] ≡ true
-    by LiLim = refl
-    by Vrp = refl
 
 nothing : (n : ℕ) → concat (replicate n []) ≡ []
 nothing zero = refl

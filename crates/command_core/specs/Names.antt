@@ -1,7 +1,7 @@
 -- The names of refusals.
 use Rattle.std.specs.Prelude.{ℕ, List, codes}
 use Rattle.command_core.specs.declared.refusals.Refusal.{Refusal}
-use Rattle.command_core.specs.declared.refusals.Refusal.TheVariants.{NoInstance, Range, NoSuchRequest, Pinned, NoSuchPlace, NotARoute, NumbersSpent, StepsSpent, OutOfMemory}
+use Rattle.command_core.specs.declared.refusals.Refusal.TheVariants.{NoInstance, Range, NoSuchRequest, Pinned, NoSuchPlace, NotARoute, NumbersSpent, StepsSpent, NoTimes, OutOfMemory}
 
 abbrev pub refusal_name : Refusal → List ℕ
 refusal_name NoInstance = codes "NoInstance"
@@ -12,4 +12,5 @@ refusal_name NoSuchPlace = codes "NoSuchPlace"
 refusal_name NotARoute = codes "NotARoute"
 refusal_name NumbersSpent = codes "NumbersSpent"
 refusal_name StepsSpent = codes "StepsSpent"
+refusal_name NoTimes = codes "NoTimes"
 refusal_name OutOfMemory = codes "OutOfMemory"

@@ -20,6 +20,8 @@ use crate::refusals::Refusal;
 use crate::states::{Job, State};
 use crate::walking::{Asked, Stepped, step};
 use crate::withdrawing::withdraw;
+use log::Log;
+use log::sink::Discard;
 use seeded_search::Walk;
 use std::alloc::Global;
 
@@ -37,7 +39,7 @@ pub fn apply(alloc: Global, state: &State, command: &Command) -> Result<State, R
     effects_keep_facts();
     know(state, command);
     check(state, command)?;
-    let carried = carry_out(alloc, state, None, command)?;
+    let carried = carry_out(&Discard, alloc, state, None, command)?;
     changed(state, carried.change)
 }
 
@@ -86,8 +88,9 @@ pub(crate) struct Carried {
 }
 
 /// What a command that is not refused changes. Steps go on from the walk that is kept over the state; every other
-/// command that changes a job drops it.
-pub(crate) fn carry_out(
+/// command that changes a job drops it. Each try with fewer vehicles is logged as it ends.
+pub(crate) fn carry_out<R: Log>(
+    rt: &R,
     alloc: Global,
     state: &State,
     kept: Option<Walk>,
@@ -99,7 +102,7 @@ pub(crate) fn carry_out(
     ensures err { IfErr result (λ r. r ≡ Refusal.OutOfMemory) }
 {
     match state {
-        State::Loaded(job) => carry_out_on(alloc, job, kept, command),
+        State::Loaded(job) => carry_out_on(rt, alloc, job, kept, command),
         State::Empty => begin(alloc, command),
     }
 }
@@ -117,7 +120,8 @@ fn begin(alloc: Global, command: &Command) -> Result<Carried, Refusal>
 }
 
 // What it changes of a job. No arm has a `?`, and only those of commands that go on from the walk see it.
-fn carry_out_on(
+fn carry_out_on<R: Log>(
+    rt: &R,
     alloc: Global,
     job: &Job,
     kept: Option<Walk>,
@@ -136,12 +140,17 @@ fn carry_out_on(
             walk: kept,
         }),
         Command::Anneal(count) => walked(step(alloc, job, kept, Asked::Anneal(*count))),
-        _ => carry_out_without(alloc, job, command),
+        _ => carry_out_without(rt, alloc, job, command),
     }
 }
 
 // The same where no walk is kept.
-fn carry_out_without(alloc: Global, job: &Job, command: &Command) -> Result<Carried, Refusal>
+fn carry_out_without<R: Log>(
+    rt: &R,
+    alloc: Global,
+    job: &Job,
+    command: &Command,
+) -> Result<Carried, Refusal>
     requires { job_refusal job.now command.now ≡ None }
     ensures ok { IfOk result (IsCarriedOut (State.Loaded job.now)
         (State.Loaded (job_after job.now command.now))) }
@@ -163,7 +172,7 @@ fn carry_out_without(alloc: Global, job: &Job, command: &Command) -> Result<Carr
         Command::Checkpoint => within(Ok(JobChange::Nothing)),
         Command::Deviation(deviation) => within(deviate(job, *deviation)),
         Command::Anneal(count) => walked(step(alloc, job, None, Asked::Anneal(*count))),
-        Command::Reduce(count) => walked(reduce(alloc, job, *count)),
+        Command::Reduce(count) => walked(reduce(rt, alloc, job, *count)),
     }
 }
 

@@ -11,6 +11,8 @@ use crate::commands::Command;
 use crate::laws::effects_keep_facts;
 use crate::refusals::Refusal;
 use crate::states::State;
+use log::Log;
+use log::sink::Discard;
 use seeded_search::Walk;
 use std::alloc::Global;
 use std::marker::Model;
@@ -70,15 +72,21 @@ impl Planner {
         ensures kept { IfErr result (λ _. self.new ≡ self.old) }
     {
         check(&self.state, command)?;
-        self.change_accepted(alloc, command)
+        self.change_accepted(&Discard, alloc, command)
     }
 
-    /// The same of a command that `check` accepts, which is not judged again.
+    /// The same of a command that `check` accepts, which is not judged again. Each try with fewer vehicles is logged as it
+    /// ends.
     ///
     /// # Errors
     ///
     /// `OutOfMemory`. The state is then as it was.
-    pub fn change_accepted(&mut self, alloc: Global, command: &Command) -> Result<Change, Refusal>
+    pub fn change_accepted<R: Log>(
+        &mut self,
+        rt: &R,
+        alloc: Global,
+        command: &Command,
+    ) -> Result<Change, Refusal>
         requires { refusal self.old command.now ≡ None }
         ensures ok { IfOk result (λ before. IsChanged self.old command.now before self.new) }
         ensures err { IfErr result (λ r. r ≡ Refusal.OutOfMemory) }
@@ -87,7 +95,7 @@ impl Planner {
         effects_keep_facts();
         know(&self.state, command);
         let kept = mem::replace(&mut self.walk, None);
-        let Carried { change, walk } = carry_out(alloc, &self.state, kept, command)?;
+        let Carried { change, walk } = carry_out(rt, alloc, &self.state, kept, command)?;
         self.walk = walk;
         Ok(change.put_in(&mut self.state))
     }

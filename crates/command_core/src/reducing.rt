@@ -12,18 +12,25 @@ use crate::states::Job;
 use crate::walking::{Stepped, changed_by};
 use anneal_search::anneal_on;
 use fleet_tries::{tries_keep_plans, try_fleets};
+use log::Log;
 use plan_types::OutOfMemory;
 use seeded_search::Walk;
 use std::alloc::Global;
 
-/// So many steps from the incumbent on: those of the tries, and the others anneal.
-pub(crate) fn reduce(alloc: Global, job: &Job, count: u32) -> Result<Stepped, Refusal>
+/// So many steps from the incumbent on: those of the tries, and the others anneal. Each try is logged as it ends.
+pub(crate) fn reduce<R: Log>(
+    rt: &R,
+    alloc: Global,
+    job: &Job,
+    count: u32,
+) -> Result<Stepped, Refusal>
     requires { job_refusal job.now (Reduce count) ≡ None }
     ensures ok { IfOk result (IsStepped job.now (reduced job.now count)) }
     ensures err { IfErr result (λ r. r ≡ Refusal.OutOfMemory) }
 {
     tries_keep_plans();
     let tried = try_fleets(
+        rt,
         alloc,
         &job.problem,
         &job.pins,

@@ -23,6 +23,8 @@ pub enum Refusal {
     NumbersSpent,
     #[error("the search steps are spent")]
     StepsSpent,
+    #[error("the instance has no times")]
+    NoTimes,
     #[error("out of memory")]
     OutOfMemory,
 }
@@ -43,6 +45,7 @@ impl Refusal {
             Refusal::NotARoute => "NotARoute",
             Refusal::NumbersSpent => "NumbersSpent",
             Refusal::StepsSpent => "StepsSpent",
+            Refusal::NoTimes => "NoTimes",
             Refusal::OutOfMemory => "OutOfMemory",
         }
     }

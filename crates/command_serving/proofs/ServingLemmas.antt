@@ -2,17 +2,17 @@
 use Rattle.std.proofs.Common.{◌≡◌, ◌∙◌, ℕ, Bool, true, false, List, [], ◌∷◌, ◌++◌, ◌⊎◌, inl, inr, Option, Some, None, Result, Ok, Err, refl, sym, ap, ap₂, subst, arith, append_assoc, append-nil}
 use Rattle.std.specs.Prelude.{if◌then◌else◌}
 use Rattle.std.specs.Option.{option_map, option_or}
-use Rattle.command_core.specs.Commands.{makes_steps}
 use Rattle.command_core.specs.Effects.{effect}
 use Rattle.command_core.specs.Refusing.{refusal}
 use Rattle.command_core.specs.declared.commands.Command.{Command}
 use Rattle.command_core.specs.declared.refusals.Refusal.{Refusal}
 use Rattle.command_core.specs.declared.refusals.Refusal.TheVariants as core
-use Rattle.command_text.specs.Answering.{Fate, Done, NoMemory, Failed, Reply, Serving, answered, at_line, by_fate, carried, carried_all, commands_of, made_or, next_fate, plain, steps_to_make, told_behind, tried, unless_broken, with_command, with_text}
+use Rattle.command_text.specs.Answering.{Fate, Done, NoMemory, Failed, Reply, Serving, answered, by_fate, carried, carried_all, commands_of, made_or, next_fate, plain, progress_behind, progress_text, steps_to_make, told_behind, tried, unless_broken, with_command, with_text}
 use Rattle.command_core.specs.declared.states.State.{State}
 use Rattle.command_text.specs.Answering.{Spent as SpentFate}
 use Rattle.command_text.specs.Answers.{answer_text, line}
 use Rattle.command_text.specs.declared.answers.Answer.{Answer}
+use Rattle.command_text.specs.declared.answers.Progress.{Progress}
 use Rattle.command_text.specs.declared.steps.Goal.{Goal}
 use Rattle.command_text.specs.declared.steps.Steps.{Steps as StepsLeft}
 use Rattle.command_text.specs.declared.answers.Answer.TheVariants as answer
@@ -381,11 +381,11 @@ follows_as steps rest command same follows = subst (λ (s : State). commands_of 
 module _ {D : Type 0} {on : sectors.Ghosts D} {state : State} (old mid : SessionValue D) (steps rest : StepsLeft) (command : Command) (reply : SessionReply) (same : state ≡ old.state)
     (first : commands_of steps state ≡ command ∷ commands_of rest (effect state command)) (applied : IsAppliedOn on old command reply mid) where
   -- the same of the first command of steps, where it is told as the code does
-  pub step_done : (is_told : Bool) (x : Unit {0}) → is_told ≡ makes_steps command → reply.answer ≡ Ok x → Tells on old (λ s. carried_all s (commands_of steps old.state)) (progress_of is_told mid) mid (λ s. carried_all s (commands_of rest mid.state))
-  step_done is_told x told ok =
+  pub step_done : (progress : Progress) (x : Unit {0}) → progress ≡ progress_behind command → reply.answer ≡ Ok x → Tells on old (λ s. carried_all s (commands_of steps old.state)) (progress_of progress mid) mid (λ s. carried_all s (commands_of rest mid.state))
+  step_done progress x told ok =
       let all : List Command = commands_of steps old.state in
       let left : mid.state ≡ effect old.state command = state_done on old mid command reply x applied ok in
-      let text : told_behind command mid.state ≡ progress_of is_told mid = ap (λ (b : Bool). if b then at_line mid.state else []) (sym told) in
+      let text : told_behind command mid.state ≡ progress_of progress mid = ap (λ (p : Progress). progress_text p mid.state) (sym told) in
       let tells = next_done old mid command all (commands_of rest (effect old.state command)) reply x (follows_as steps rest command same first) applied ok in
       let here : Tells on old (λ s. carried_all s all) (told_behind command mid.state) mid (λ s. carried_all s (commands_of rest mid.state)) =
       subst (λ (s : State). Tells on old (λ t. carried_all t all) (told_behind command mid.state) mid (λ t. carried_all t (commands_of rest s))) (sym left) tells in

@@ -2,7 +2,7 @@
 use Rattle.std.proofs.Common.{◌≡◌, ◌∙◌, ℕ, ◌+◌, ◌≤◌, List, [], ◌++◌, length, take, sym, ap, subst, arith, append-nil, length-append}
 use Rattle.std.specs.Prelude.{Result, Ok, Err}
 use Rattle.std.proofs.lemmas.List.{take-append-le}
-use Rattle.command_core.specs.Runs.{after, last_change}
+use Rattle.command_core.specs.Runs.{after, AreAccepted, last_change}
 use Rattle.command_core.specs.RunLaws.{IsNoWorse}
 use Rattle.command_core.specs.declared.commands.Command.{Command}
 use Rattle.command_core.specs.declared.states.State.{State}
@@ -54,6 +54,7 @@ recovered_of begun keeps all acknowledged given asks r =
       all_acknowledged = r.all_acknowledged;
       one_more = r.one_more;
       within = omega (arith, r.within, longer);
+      accepted = subst (AreAccepted begun) (sym counted) r.accepted;
       state = r.state ∙ ap (after begun) (sym counted);
       plan = r.plan;
       cost = λ q from to.

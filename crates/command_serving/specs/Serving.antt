@@ -1,8 +1,9 @@
 -- What a session did and what was written, as replies say it.
 use Rattle.std.specs.Prelude.{◌≡◌, ◌≤◌, ◌++◌, ◌⊎◌, ℕ, Bool, true, false, if◌then◌else◌, List, [], length, Option, Some, None, Result, Ok, Err, MatchResult, ⊤}
-use Rattle.command_text.specs.Answering.{Reply, Serving, at_line, answered, carried_all, load, next_fate, served, unless_broken}
+use Rattle.command_text.specs.Answering.{Reply, Serving, answered, carried_all, load, next_fate, progress_text, served, unless_broken}
 use Rattle.command_text.specs.Answers.{answer_text, line}
 use Rattle.command_text.specs.declared.answers.Answer.{Answer}
+use Rattle.command_text.specs.declared.answers.Progress.{Progress}
 use Rattle.command_text.specs.declared.answers.Answer.TheVariants as answer
 use Rattle.command_core.specs.declared.refusals.Refusal.TheVariants as refusal
 use Rattle.plan_types.specs.Instance.{Instance}
@@ -92,9 +93,9 @@ abbrev pub made_text : Result (List ℕ) Answer → List ℕ
 made_text (Ok text) = text ++ line (answer_text answer.Ok)
 made_text (Err a) = line (answer_text a)
 
--- how far the steps are, where that is told
-abbrev pub progress_of : {D : Type 0} → Bool → SessionValue D → List ℕ
-progress_of is_told s = if is_told then at_line s.state else []
+-- what is told behind a command of a line that takes several
+abbrev pub progress_of : {D : Type 0} → Progress → SessionValue D → List ℕ
+progress_of told s = progress_text told s.state
 
 -- the session is broken, or it has no instance, and this is the answer that tells it
 abbrev pub HasNoJob : Bool → State → Answer → Type 0

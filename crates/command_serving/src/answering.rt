@@ -2,7 +2,7 @@
 ghost use Rattle.std.specs.Prelude.{◌≡◌, ◌<◌, ◌++◌, ◌^◌, [], IfErr, IfOk, OnErr, OnOk, MatchResult, ℕ, List, Result, Ok, Err, Some, true, false, length};
 ghost use Rattle.plan_types.specs.Instance.{Instance};
 ghost use Rattle.instance_read.specs.declared.faults.ReadFault.{ReadFault};
-ghost use Rattle.command_text.specs.Answering.{carried_all, commands_of, informed, made_or, next_stated, plain, printed, refused, shown, steps_to_make, unless_broken};
+ghost use Rattle.command_text.specs.Answering.{at_line, carried_all, commands_of, informed, made_or, next_stated, plain, printed, refused, shown, steps_to_make, unless_broken};
 ghost use Rattle.command_text.specs.Laws.{cut_at};
 ghost use Rattle.command_text.specs.Readings.{IsReading, Reading};
 ghost use Rattle.command_text.specs.Answers.{answer_text, line};
@@ -15,14 +15,16 @@ ghost use Rattle.command_serving.specs.Serving.{Answers, GoesOn, HasNoJob, IsApp
 ghost use Rattle.command_serving.specs.Stopped.{RunsLeave};
 ghost use Rattle.command_serving.specs.declared.answering.ServeFault.TheVariants.{WriteFault};
 
+use crate::hints::{Hint, log_hint};
 use crate::input::{Input, LoadText, Unread};
 use crate::streams::{Failed, Sink, Source};
 use command_core::{Command, Job, Refusal, State};
 use command_text::{
-    Answer, Asked, Goal, Question, Steps, Text, at_line, help_lines, next_command, next_line,
-    pieces_follow, print, question_refusal, question_text, read_instance, show, states_follow,
-    steps_to_make,
+    Answer, Asked, Goal, Progress, Question, Steps, Text, at_line, help_lines, next_command,
+    next_line, pieces_follow, pin_line, print, progress_behind, question_refusal, question_text,
+    read_instance, show, states_follow, steps_to_make,
 };
+use log::Log;
 use plan_types::Kind;
 use recover::{Denial, Reply, Session, runs_add_up};
 use sector_disk::Sectors;
@@ -71,7 +73,7 @@ enum Goes {
 /// Does what each line of the input asks for, and writes its answer, until the input ends, or a `load` line leaves open
 /// how many bytes follow it. Takes no memory to read lines.
 ///
-/// `ok` and `at` stand behind the last sync of what they acknowledge. Where all of the input is served, what is written is the
+/// `ok` and `at` stand behind the last sync of what they acknowledge. Each try with fewer vehicles is logged as it ends. Where all of the input is served, what is written is the
 /// answer to it, and the session has carried out just the commands that it says, up to a failed device. The input is what is
 /// known of it beforehand, or each text that its reads gave piece by piece (`IsInputOf`). `serve` takes any reader and writer.
 ///
@@ -79,7 +81,8 @@ enum Goes {
 ///
 /// `ReadFault` where the reader fails or 10^12 bytes of the input were taken, which after `Ok` are fewer. `WriteFault` where
 /// the writer fails. The state is then that after the commands answered, or with the one whose answer was being written.
-pub fn serve_source<D: Sectors, R: Source, W: Sink>(
+pub fn serve_source<L: Log, D: Sectors, R: Source, W: Sink>(
+    rt: &L,
     alloc: Global,
     session: &mut Session<D>,
     reader: &mut R,
@@ -100,11 +103,12 @@ pub fn serve_source<D: Sectors, R: Source, W: Sink>(
     session.images_stand_for_the_state();
     runs_add_up::<D>();
     let mut input = Input::new(alloc);
-    serve_lines(alloc, session, reader, &mut input, writer)
+    serve_lines(rt, alloc, session, reader, &mut input, writer)
 }
 
 // Serves the lines that the input has left.
-fn serve_lines<D: Sectors, R: Source, W: Sink>(
+fn serve_lines<L: Log, D: Sectors, R: Source, W: Sink>(
+    rt: &L,
     alloc: Global,
     session: &mut Session<D>,
     reader: &mut R,
@@ -129,14 +133,15 @@ fn serve_lines<D: Sectors, R: Source, W: Sink>(
         let Some(asked) = input.next_asked(reader)? else {
             return Ok(());
         };
-        match serve_asked(alloc, session, reader, input, writer, asked)? {
+        match serve_asked(rt, alloc, session, reader, input, writer, asked)? {
             Goes::On => {}
             Goes::ToEnd => return Ok(()),
         }
     }
 }
 
-fn serve_asked<D: Sectors, R: Source, W: Sink>(
+fn serve_asked<L: Log, D: Sectors, R: Source, W: Sink>(
+    rt: &L,
     alloc: Global,
     session: &mut Session<D>,
     reader: &mut R,
@@ -160,7 +165,7 @@ fn serve_asked<D: Sectors, R: Source, W: Sink>(
         Asked::Load { kind, seed, len } => {
             let text = input.load_text(reader, len as usize)?;
             let goes = goes_behind(&text);
-            let answer = load_answer(alloc, session, kind, seed, text);
+            let answer = load_answer(rt, alloc, session, kind, seed, text);
             once(tell(session, writer, answer), goes)
         }
         Asked::BadLoad => once(tell(session, writer, Answer::BadLine), Goes::ToEnd),
@@ -174,10 +179,10 @@ fn serve_asked<D: Sectors, R: Source, W: Sink>(
             once(tell(session, writer, refused(session, refusal)), Goes::On)
         }
         Asked::Plain(command) => {
-            let answer = applied(alloc, session, command);
+            let answer = applied_with_hint(rt, alloc, session, command);
             once(tell(session, writer, answer), Goes::On)
         }
-        Asked::Steps(goal) => once(serve_steps(alloc, session, writer, goal), Goes::On),
+        Asked::Steps(goal) => once(serve_steps(rt, alloc, session, writer, goal), Goes::On),
         Asked::Print => once(
             tell_made(session, writer, printed(alloc, session)),
             Goes::On,
@@ -290,22 +295,48 @@ fn tell_line<D: Sectors, W: Sink>(
     tell_text(session, writer, b"\n")
 }
 
-// Carries the command out. `Ok` comes after its last sync.
-fn applied<D: Sectors>(alloc: Global, session: &mut Session<D>, command: Command) -> Answer
+// Carries the command out, and logs what people want to know beside its answer.
+fn applied_with_hint<L: Log, D: Sectors>(
+    rt: &L,
+    alloc: Global,
+    session: &mut Session<D>,
+    command: Command,
+) -> Answer
     ensures { Tells D.Sectors session.old (λ s. plain s command)
         (line (answer_text result)) session.new silent }
 {
-    match apply(alloc, session, command).answer {
+    let hint = Hint::of(&command);
+    let answer = applied(rt, alloc, session, command);
+    log_hint(rt, alloc, session, hint, answer);
+    answer
+}
+
+// Carries the command out. `Ok` comes after its last sync.
+fn applied<L: Log, D: Sectors>(
+    rt: &L,
+    alloc: Global,
+    session: &mut Session<D>,
+    command: Command,
+) -> Answer
+    ensures { Tells D.Sectors session.old (λ s. plain s command)
+        (line (answer_text result)) session.new silent }
+{
+    match apply(rt, alloc, session, command).answer {
         Ok(()) => Answer::Ok,
         Err(denial) => denied(denial),
     }
 }
 
 // Applies the command, with all that a session promises of it.
-fn apply<D: Sectors>(alloc: Global, session: &mut Session<D>, command: Command) -> Reply
+fn apply<L: Log, D: Sectors>(
+    rt: &L,
+    alloc: Global,
+    session: &mut Session<D>,
+    command: Command,
+) -> Reply
     ensures { IsAppliedOn D.Sectors session.old command result session.new }
 {
-    session.apply(alloc, command)
+    session.apply_logged(rt, alloc, command)
 }
 
 fn denied(denial: Denial) -> Answer
@@ -360,7 +391,8 @@ fn goes_behind(text: &LoadText) -> Goes
 }
 
 // What is answered to a load whose bytes came so.
-fn load_answer<D: Sectors>(
+fn load_answer<L: Log, D: Sectors>(
+    rt: &L,
     alloc: Global,
     session: &mut Session<D>,
     kind: Kind,
@@ -374,7 +406,7 @@ fn load_answer<D: Sectors>(
     match text {
         LoadText::Short => Answer::Truncated,
         LoadText::Dropped => dropped(session),
-        LoadText::Whole(text) => loaded(alloc, session, kind, seed, &text),
+        LoadText::Whole(text) => loaded(rt, alloc, session, kind, seed, &text),
     }
 }
 
@@ -392,7 +424,8 @@ fn dropped<D: Sectors>(session: &Session<D>) -> Answer
 }
 
 // Reads the instance and begins anew with it.
-fn loaded<D: Sectors>(
+fn loaded<L: Log, D: Sectors>(
+    rt: &L,
     alloc: Global,
     session: &mut Session<D>,
     kind: Kind,
@@ -407,12 +440,13 @@ fn loaded<D: Sectors>(
         return Answer::Broken;
     }
     match read_instance(alloc, kind, text) {
-        Ok(problem) => applied(alloc, session, Command::Load(problem, seed)),
+        Ok(problem) => applied(rt, alloc, session, Command::Load(problem, seed)),
         Err(fault) => Answer::Read(fault),
     }
 }
 
-fn serve_steps<D: Sectors, W: Sink>(
+fn serve_steps<L: Log, D: Sectors, W: Sink>(
+    rt: &L,
     alloc: Global,
     session: &mut Session<D>,
     writer: &mut W,
@@ -428,13 +462,14 @@ fn serve_steps<D: Sectors, W: Sink>(
         return tell(session, writer, Answer::Broken);
     }
     match steps_to_make(session.state(), goal) {
-        Ok(steps) => make_steps(alloc, session, writer, steps),
+        Ok(steps) => make_steps(rt, alloc, session, writer, steps),
         Err(refusal) => tell(session, writer, Answer::Refused(refusal)),
     }
 }
 
-// Makes the steps command by command, each told once it is acknowledged.
-fn make_steps<D: Sectors, W: Sink>(
+// Makes the steps or pins command by command, each told once it is acknowledged.
+fn make_steps<L: Log, D: Sectors, W: Sink>(
+    rt: &L,
     alloc: Global,
     session: &mut Session<D>,
     writer: &mut W,
@@ -448,30 +483,46 @@ fn make_steps<D: Sectors, W: Sink>(
 {
     let mut left = steps;
     while let Some((command, rest)) = next_command(left, session.state()) {
-        let is_told = command.makes_steps();
-        if let Err(denial) = apply(alloc, session, command).answer {
+        let progress = progress_behind(&command);
+        if let Err(denial) = apply(rt, alloc, session, command).answer {
             return tell(session, writer, denied(denial));
         }
         left = rest;
-        tell_progress(session, writer, is_told)?;
+        tell_progress(session, writer, progress)?;
     }
     tell(session, writer, Answer::Ok)
 }
 
-// Writes how far the steps are, where that is told.
+// Writes what is told behind a command of a line that takes several.
 fn tell_progress<D: Sectors, W: Sink>(
     session: &Session<D>,
     writer: &mut W,
-    is_told: bool,
+    progress: Progress,
 ) -> Result<(), Failed>
     ensures told { HandsOn (W.stream writer.old) (W.stream writer.new) result
-        (D.calls session.now.device) (progress_of is_told session.now) }
+        (D.calls session.now.device) (progress_of progress session.now) }
+    ensures failed { OnErr result (W.has_failed writer.new ≡ true) }
+    ensures origin { W.origin writer.new ≡ W.origin writer.old }
+{
+    match progress {
+        Progress::Nothing => hand_on(session, writer),
+        Progress::Stepped => tell_steps(session, writer),
+        Progress::Pinned { vehicle, stops } => {
+            put_line(session, writer, pin_line(vehicle, stops).as_bytes())
+        }
+    }
+}
+
+// Writes how far the steps are.
+fn tell_steps<D: Sectors, W: Sink>(session: &Session<D>, writer: &mut W) -> Result<(), Failed>
+    ensures told { HandsOn (W.stream writer.old) (W.stream writer.new) result
+        (D.calls session.now.device) (at_line session.now.state) }
     ensures failed { OnErr result (W.has_failed writer.new ≡ true) }
     ensures origin { W.origin writer.new ≡ W.origin writer.old }
 {
     match session.state() {
-        State::Loaded(job) if is_told => put_line(session, writer, at_line(job).as_bytes()),
-        State::Loaded(_) | State::Empty => hand_on(session, writer),
+        State::Loaded(job) => put_line(session, writer, at_line(job).as_bytes()),
+        State::Empty => hand_on(session, writer),
     }
 }
 

@@ -7,8 +7,9 @@ ghost use Rattle.command_serving.specs.Served.{EndsOrIsCutBetween, IsTaken};
 ghost use Rattle.command_serving.specs.Stopped.{RunsLeave};
 
 use crate::answering::{ServeFault, serve_source};
-use crate::log::Log;
+use crate::events::Events;
 use crate::streams::{Failed, Sink, Watched, write_text};
+use log::sink::Discard;
 use recover::Session;
 use sector_disk::Sectors;
 use std::alloc::Global;
@@ -20,7 +21,7 @@ use std::io::{Read, Write};
 pub(crate) struct Lent<'a, W: Write> {
     writer: &'a mut W,
     has_failed: bool,
-    log: Log,
+    log: Events,
 }
 
 impl<'a, W: Write> Lent<'a, W> {
@@ -32,7 +33,7 @@ impl<'a, W: Write> Lent<'a, W> {
         Lent {
             writer,
             has_failed: false,
-            log: Log::new(),
+            log: Events::new(),
         }
     }
 }
@@ -92,5 +93,5 @@ pub fn serve<D: Sectors, R: Read, W: Write>(
 {
     let mut source = Watched::new(reader);
     let mut sink = Lent::new(writer);
-    serve_source(alloc, session, &mut source, &mut sink)
+    serve_source(&Discard, alloc, session, &mut source, &mut sink)
 }

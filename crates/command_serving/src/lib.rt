@@ -14,11 +14,12 @@
 //!
 //! Modules, in reading order:
 //! - `streams`: `Source`, `Sink`, and `Watched`, which makes one of each reader and writer of std
-//! - `log`: what was done to a sink, and what reads of a source gave, for clauses alone
+//! - `events`: what was done to a sink, and what reads of a source gave, for clauses alone
 //! - `strict`: `Strict`, a sink whose `flush` fails behind a line that tells a refusal or a failed device
 //! - `ahead`: what was read and not yet taken
 //! - `input`: an input as lines and the bytes that follow a line
 //! - `answering`: `serve_source`, and a function for each kind of line
+//! - `hints`: what is logged beside the answer to a command, for people
 //! - `lent`: `serve`
 //! - `laws`: what stops leave of a serving, and the causes of its answers
 //!
@@ -62,10 +63,11 @@
 
 mod ahead;
 mod answering;
+mod events;
+mod hints;
 mod input;
 mod laws;
 mod lent;
-mod log;
 mod streams;
 mod strict;
 

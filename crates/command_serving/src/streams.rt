@@ -9,7 +9,7 @@ ghost use Rattle.std.specs.Io.{ReadsAtMost, WritesAtMost};
 ghost use Rattle.std.specs.Io.KnownBytes.{Appends, Keeps, ReadConsumes, WriteAppends};
 ghost use Rattle.command_serving.specs.Streams.{Flushes, GaveText, Origin, Puts, ReadsSome, Stream, WritesSome, WritesUpTo, began_with, left_behind};
 
-use crate::log::Log;
+use crate::events::Events;
 use recover::Session;
 use sector_disk::Sectors;
 use std::io;
@@ -76,14 +76,14 @@ pub trait Sink {
 pub struct Watched<T> {
     pub(crate) inner: T,
     has_failed: bool,
-    pub(crate) log: Log,
+    pub(crate) log: Events,
 }
 
 /// What was noted of the calls of a source or a sink.
 #[derive(Drop)]
 pub struct Noted {
     has_failed: bool,
-    log: Log,
+    log: Events,
 }
 
 impl<T> Watched<T> {
@@ -97,7 +97,7 @@ impl<T> Watched<T> {
         Watched {
             inner,
             has_failed: false,
-            log: Log::new(),
+            log: Events::new(),
         }
     }
 

@@ -1,6 +1,7 @@
 pub mod AgainLemmas
 pub mod CutLemmas
 pub mod FieldLemmas
+pub mod FreezeLemmas
 pub mod ReadLemmas
 pub mod ReadingLemmas
 pub mod RouteLemmas

@@ -1,6 +1,6 @@
 -- Annealing by stages: how many commands are allowed for makes no difference, and what is cut off is made by the same commands.
 use Rattle.std.proofs.Common.{◌≡◌, ◌∙◌, inl, inr, ℕ, zero, suc, ◌+◌, ◌-◌, ◌*◌, ◌<◌, ◌≤◌, ◌^◌, Bool, true, false, if◌then◌else◌, List, [], ◌∷◌, Option, Some, None, refl, sym, ap, subst, arith}
-use Rattle.std.specs.Prelude.{◌==◌, nat_lt, min, take}
+use Rattle.std.specs.Prelude.{nat_lt, min, take}
 use Rattle.std.specs.Option.{option_map}
 use Rattle.std.proofs.Math.Nat.{mul-le-mul_left}
 use Rattle.std.proofs.lemmas.Bool.{cases_Bool, ltb-true, ltb-false, le-leb, le-ltb}
@@ -19,7 +19,7 @@ use Rattle.command_core.proofs.NumberLemmas.{steps_counted}
 use Rattle.command_text.specs.Answering.{commands_of}
 use Rattle.command_text.specs.declared.steps.Steps.TheVariants as makes
 use Rattle.command_text.specs.Laws.{StagesMayBeCut}
-use Rattle.command_text.specs.Staging.{commands_in_stage, first_end, half_way, made_by, making, next_deviation, next_steps, reducing_steps, set_before, stage_commands, stage_piece, staged_steps, staged_within, steps_due}
+use Rattle.command_text.specs.Staging.{commands_in_stage, first_end, half_way, made_by, making, next_deviation, next_steps, set_before, stage_commands, stage_piece, staged_steps, staged_within, steps_due}
 
 -- ---- the stage that is found
 

@@ -1,6 +1,8 @@
 -- What a session answers to an input, and which commands it carries out.
 use Rattle.std.specs.Prelude.{ℕ, ◌+◌, ◌-◌, ◌/◌, ◌%◌, ◌^◌, ◌==◌, nat_le, ◌&&◌, Bool, true, false, if◌then◌else◌, List, [], ◌∷◌, ◌++◌, map, replicate, Option, Some, None, Result, Ok, Err}
 use Rattle.plan_types.specs.Instance.{Instance}
+use Rattle.plan_types.specs.declared.requests.Kind.{Kind}
+use Rattle.plan_types.specs.declared.requests.Kind.TheVariants.{LiLim, Vrp}
 use Rattle.route_sched.specs.Cost.{unplanned_count}
 use Rattle.instance_read.specs.declared.faults.ReadFault.{ReadFault}
 use Rattle.command_core.specs.Commands.{makes_steps}
@@ -12,15 +14,18 @@ use Rattle.command_core.specs.declared.states.State.TheVariants.{Empty, Loaded}
 use Rattle.command_core.specs.declared.commands.Command.{Command}
 use Rattle.command_core.specs.declared.commands.Command.TheVariants as command
 use Rattle.command_core.specs.declared.refusals.Refusal.{Refusal}
-use Rattle.command_core.specs.declared.refusals.Refusal.TheVariants.{NoInstance, Range, StepsSpent, OutOfMemory}
-use Rattle.command_text.specs.Answers.{answer_text, at_text, help_text, line, next_text}
+use Rattle.command_core.specs.declared.refusals.Refusal.TheVariants.{NoInstance, Range, StepsSpent, NoTimes, OutOfMemory}
+use Rattle.command_text.specs.Answers.{answer_text, at_text, help_text, line, next_text, pin_text}
 use Rattle.command_text.specs.Cutting.{Piece, is_short, pieces_of}
+use Rattle.command_text.specs.Freezing.{freeze_commands}
 use Rattle.command_text.specs.Questions.{question_refusal, question_text}
 use Rattle.instance_read.specs.Readings.{Reading}
 use Rattle.command_text.specs.Showing.{print_text, show_text}
 use Rattle.command_text.specs.Staging.{commands_in_stage, stage_commands}
 use Rattle.command_text.specs.declared.answers.Answer.{Answer}
 use Rattle.command_text.specs.declared.answers.Answer.TheVariants as answer
+use Rattle.command_text.specs.declared.answers.Progress.{Progress}
+use Rattle.command_text.specs.declared.answers.Progress.TheVariants as progress
 use Rattle.command_text.specs.declared.asked.Asked.{Asked}
 use Rattle.command_text.specs.declared.asked.Asked.TheVariants.{Nothing, BadLine, BadLoad, LoadRange, Load, Plain, Refused, Steps, Print, Show, Tell, Next, Help}
 use Rattle.command_text.specs.declared.questions.Question.{Question}
@@ -100,9 +105,18 @@ abbrev pub at_line : State → List ℕ
 at_line Empty = []
 at_line (Loaded j) = line (at_text j)
 
--- behind a command that makes steps, a line tells how far they are
+-- what is told behind a command of a line that takes several: how far steps are, or which pin it was
+abbrev pub progress_behind : Command → Progress
+progress_behind (command.Pin v k) = progress.Pinned v k
+progress_behind c = if makes_steps c then progress.Stepped else progress.Nothing
+
+abbrev pub progress_text : Progress → State → List ℕ
+progress_text progress.Nothing state = []
+progress_text progress.Stepped state = at_line state
+progress_text (progress.Pinned v k) state = line (pin_text v k)
+
 abbrev pub told_behind : Command → State → List ℕ
-told_behind c state = if makes_steps c then at_line state else []
+told_behind c state = progress_text (progress_behind c) state
 
 -- these commands, one after another, and `ok` behind the last
 unfoldable pub carried_all : Serving → List Command → Reply
@@ -113,7 +127,7 @@ carried_all s (c ∷ cs) = carried s c (λ t. with_text (told_behind c t.state) 
 unfoldable pub counts_of : ℕ → ℕ → List ℕ
 counts_of most n = replicate (n / most) most ++ (if n % most == 0 then [] else n % most ∷ [])
 
--- the commands that make the steps that are left, from a state on
+-- the commands that make the steps or pins that are left, from a state on
 abbrev pub commands_of : StepsLeft → State → List Command
 commands_of (makes.Search n) state = map command.Search (counts_of 256 n)
 commands_of (makes.Anneal n) state = map command.Anneal (counts_of 16384 n)
@@ -122,6 +136,8 @@ commands_of (makes.Stages from to) Empty = []
 commands_of (makes.Stages from to) (Loaded j) = stage_commands from to j
 commands_of (makes.InStage from to) Empty = []
 commands_of (makes.InStage from to) (Loaded j) = commands_in_stage from to j
+commands_of (makes.Freeze t v) Empty = []
+commands_of (makes.Freeze t v) (Loaded j) = freeze_commands t v j
 
 -- where a job may make so many more steps
 abbrev pub unless_spent : JobValue → ℕ → StepsLeft → Result StepsLeft Refusal
@@ -135,14 +151,20 @@ steps_to_reach j n = if nat_le n (j.steps + 1000000000) then Ok (makes.Search (n
 abbrev pub stages_to_go : JobValue → ℕ → ℕ → Result StepsLeft Refusal
 stages_to_go j from to = if nat_le from j.steps && nat_le to (j.steps + 1000000000) then Ok (makes.Stages from to) else Err Range
 
+-- `freeze T`: the pins of all vehicles, where an instance has times
+abbrev pub begun_at : Kind → ℕ → Result StepsLeft Refusal
+begun_at LiLim t = Ok (makes.Freeze t 1)
+begun_at Vrp t = Err NoTimes
+
 abbrev pub steps_from : JobValue → Goal → Result StepsLeft Refusal
 steps_from j (goal.Search n) = unless_spent j n (makes.Search n)
 steps_from j (goal.Anneal n) = unless_spent j n (makes.Anneal n)
 steps_from j (goal.Reduce n) = unless_spent j n (makes.Reduce n)
 steps_from j (goal.Reach n) = steps_to_reach j n
 steps_from j (goal.Stages from to) = stages_to_go j from to
+steps_from j (goal.Freeze t) = begun_at j.problem.kind t
 
--- which steps are made, or why the line is refused
+-- which steps or pins are made, or why the line is refused
 abbrev pub steps_to_make : State → Goal → Result StepsLeft Refusal
 steps_to_make Empty g = Err NoInstance
 steps_to_make (Loaded j) g = steps_from j g

@@ -48,6 +48,10 @@ next_text j = codes "next " ++ decimal j.problem.next_number
 unfoldable pub help_text : List ℕ
 help_text = HELP.now
 
+-- a pin that a line has set: `pin V K`
+abbrev pub pin_text : ℕ → ℕ → List ℕ
+pin_text v k = codes "pin " ++ decimal v ++ codes " " ++ decimal k
+
 -- how far a search is: `at STEPS UNPLANNED VEHICLES DISTANCE`
 abbrev pub at_text : JobValue → List ℕ
 at_text j = codes "at " ++ decimal j.steps ++ codes " " ++ cost_text (cost_of j.problem j.plan)

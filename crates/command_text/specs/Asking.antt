@@ -80,6 +80,11 @@ anneal_of n = option_map goal.Anneal (count_of n)
 abbrev pub reduce_of : Option ℕ → Option Goal
 reduce_of n = option_map goal.Reduce (count_of n)
 
+-- T in 0..100,000,000
+abbrev pub freeze_of : Option ℕ → Option Goal
+freeze_of None = None
+freeze_of (Some t) = if nat_le t 100000000 then Some (goal.Freeze t) else None
+
 -- N in 0..2^60
 abbrev pub reach_of : Option ℕ → Option Goal
 reach_of None = None
@@ -106,7 +111,7 @@ bare_asked verb.Next = Next
 bare_asked verb.Help = Help
 bare_asked _ = BadLine
 
--- with one: R, V, N or D
+-- with one: R, V, N, D or T
 abbrev pub single_asked : Verb → Field → Asked
 single_asked verb.Withdraw r = plain_or NoSuchRequest (option_map command.Withdraw (as_u32 r))
 single_asked verb.Unpin v = plain_or NoSuchPlace (option_map command.Unpin (as_u32 v))
@@ -116,6 +121,7 @@ single_asked verb.Search n = steps_or (search_of n.unsigned)
 single_asked verb.Reach n = steps_or (reach_of n.unsigned)
 single_asked verb.Anneal n = steps_or (anneal_of n.unsigned)
 single_asked verb.Reduce n = steps_or (reduce_of n.unsigned)
+single_asked verb.Freeze t = steps_or (freeze_of t.unsigned)
 single_asked verb.Deviation d = plain_or Range (option_map command.Deviation (as_u32 d))
 single_asked _ n = BadLine
 
@@ -172,6 +178,7 @@ verb_named word =
     if bytes_eq (codes "withdraw") word then Some verb.Withdraw else
     if bytes_eq (codes "pin") word then Some verb.Pin else
     if bytes_eq (codes "unpin") word then Some verb.Unpin else
+    if bytes_eq (codes "freeze") word then Some verb.Freeze else
     if bytes_eq (codes "build") word then Some verb.Build else
     if bytes_eq (codes "checkpoint") word then Some verb.Checkpoint else
     if bytes_eq (codes "search") word then Some verb.Search else

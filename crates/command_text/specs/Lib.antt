@@ -3,6 +3,7 @@ pub mod Answering
 pub mod Answers
 pub mod Asking
 pub mod Cutting
+pub mod Freezing
 pub mod Laws
 pub mod Questions
 pub mod Scanning

@@ -2,9 +2,10 @@
 ghost use Rattle.std.specs.Prelude.{◌≡◌, ◌≤◌, ◌+◌, ◌++◌, [], codes, decimal, length};
 ghost use Rattle.instance_read.specs.Names.{kind_name};
 ghost use Rattle.route_sched.specs.Cost.{cost_of};
-ghost use Rattle.command_text.specs.Answers.{at_text, cost_text, next_text, no_text, read_text};
+ghost use Rattle.command_text.specs.Answers.{at_text, cost_text, next_text, no_text, pin_text, read_text};
+ghost use Rattle.command_text.specs.Answering.{progress_behind};
 
-use command_core::{Job, Refusal};
+use command_core::{Command, Job, Refusal};
 use instance_read::{ReadFault, ReadFaultKind};
 use itoa::Buffer;
 use plan_audit::passes_are_local;
@@ -173,6 +174,42 @@ pub fn at_line(job: &Job) -> Line
     line.put_number(job.steps);
     line.put(" ");
     line.put_cost(cost);
+    line
+}
+
+/// What is told behind a command of a line that takes several.
+#[derive(Clone, Copy, Debug, PartialEq, Eq)]
+pub enum Progress {
+    Nothing,
+    /// How far the steps are (`at_line`).
+    Stepped,
+    /// Which pin it was (`pin_line`).
+    Pinned { vehicle: u32, stops: u32 },
+}
+
+/// What is told behind this command, where a line takes several.
+pub fn progress_behind(command: &Command) -> Progress
+    ensures { result ≡ progress_behind command.now }
+{
+    match command {
+        Command::Pin(vehicle, stops) => Progress::Pinned {
+            vehicle: *vehicle,
+            stops: *stops,
+        },
+        _ if command.makes_steps() => Progress::Stepped,
+        _ => Progress::Nothing,
+    }
+}
+
+/// A pin that a line has set: `pin V K`.
+pub fn pin_line(vehicle: u32, stops: u32) -> Line
+    ensures { result ≡ pin_text vehicle stops }
+{
+    let mut line = Line::new();
+    line.put("pin ");
+    line.put_number(u64::from(vehicle));
+    line.put(" ");
+    line.put_number(u64::from(stops));
     line
 }
 

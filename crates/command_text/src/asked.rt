@@ -39,7 +39,7 @@ pub enum Asked {
     Plain(Command),
     /// A command with a number that its field can't hold. A session that can take commands, with an instance, tells this.
     Refused(Refusal),
-    /// Steps: of the search, of annealing, or of tries of fewer vehicles.
+    /// Steps of the search, of annealing or of tries of fewer vehicles, or the pins of what has begun.
     Steps(Goal),
     Print,
     Show,

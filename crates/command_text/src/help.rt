@@ -15,6 +15,7 @@ pub const HELP: &str = "Each line asks for one thing:\n  \
     add1 Q X Y E L S           a new request of one stop\n  \
     withdraw R                 takes out the request with this name\n  \
     pin V K, unpin V           keeps the first K stops of vehicle V as they are, or none\n  \
+    freeze T                   pins what has begun by time T: the stops that each vehicle has set off to\n  \
     show, print                the state, or the plan as a solution's text\n  \
     timetable, timetable V     when each vehicle, or vehicle V, is where\n  \
     why R                      where and when request R is served, or why it is in no route\n  \
@@ -26,7 +27,7 @@ pub const HELP: &str = "Each line asks for one thing:\n  \
     no NAME                    it is refused and changes nothing; of an instance: no NAME LINE\n  \
     fault device               the store failed; it may be there or not at the next run\n\n\
     Steps tell `at STEPS UNPLANNED VEHICLES DISTANCE` before that, piece by piece: these steps\n\
-    stand, whatever is answered behind them.\n\n\
+    stand, whatever is answered behind them. `freeze` tells `pin V K` so, for each longer pin.\n\n\
     The names of refusals:\n  \
     BadLine        there is no such line, another number of words belongs to it, or one is no integer\n  \
     Truncated      the input ends before LEN bytes; the run ends\n  \
@@ -39,6 +40,7 @@ pub const HELP: &str = "Each line asks for one thing:\n  \
     NotARoute      the first K stops alone are no route: goods are still aboard, or a stop is late\n  \
     NumbersSpent   a stop would get a number above 40,000\n  \
     StepsSpent     the steps would pass 2^60\n  \
+    NoTimes        the instance has no times, so nothing has begun by one\n  \
     Unplanned      a request is in no route, so there is no solution to print\n  \
     Spent          the store can't be written any more\n  \
     OutOfMemory    memory was refused; the same line may be asked again";

@@ -21,6 +21,7 @@
 //! - `verbs`: the lines but `load`, by their names and numbers
 //! - `first_word`: the first word of a line that comes in parts
 //! - `steps`: how many steps a line makes, and by which commands; `staging`: those of annealing by stages
+//! - `freezing`: the commands of a line that keeps what has begun
 //! - `instances`: the text behind a `load` line
 //! - `answers`: the lines that answer
 //! - `help`: what `help` tells
@@ -28,13 +29,13 @@
 //! - `questions`: what is told of a job where a line asks
 //! - `laws`: how an input is cut and answered
 //!
-//! Said by `specs/Asking.antt`, `Cutting.antt`, `Answers.antt`, `Showing.antt`, `Questions.antt`, `Staging.antt` and `Answering.antt`. Proved:
+//! Said by `specs/Asking.antt`, `Cutting.antt`, `Answers.antt`, `Showing.antt`, `Questions.antt`, `Staging.antt`, `Freezing.antt` and `Answering.antt`. Proved:
 //! - `read_line`: what a line of any length asks for (`asked`), without memory
 //! - `FirstWord`: whether the first word of a line in parts is `load`
-//! - `Answer::line`, `at_line`, `next_line`, `help_lines`, `show`, `print`: each byte; `print` is read back as the plan's
+//! - `Answer::line`, `at_line`, `pin_line`, `next_line`, `help_lines`, `show`, `print`: each byte; `print` is read back as the plan's
 //!   routes and distance, and tells how many requests are unplanned
 //! - `question_refusal`, `question_text`: which question is left open, and each byte of what is told
-//! - `steps_to_make`, `next_command`, `next_count`: which steps a line makes, or why it is refused, and the next command
+//! - `steps_to_make`, `next_command`, `next_count`: which steps or pins a line makes, or why it is refused, and the next command
 //! - `read_instance`: what the text spells or its first fault, or want of memory
 //! - `pieces_follow`: an input is cut into lines, each `load` line with the bytes that it announces
 //! - `states_follow`: the state that an input leaves is the one after the commands that were carried out
@@ -46,6 +47,7 @@ mod answers;
 mod asked;
 mod fields;
 mod first_word;
+mod freezing;
 mod help;
 mod instances;
 mod laws;
@@ -55,7 +57,7 @@ mod staging;
 mod steps;
 mod verbs;
 
-pub use answers::{Answer, Line, at_line, next_line};
+pub use answers::{Answer, Line, Progress, at_line, next_line, pin_line, progress_behind};
 pub use asked::{Asked, MAX_LEN, MAX_LINE, MAX_SEARCH, read_line};
 pub use first_word::FirstWord;
 pub use help::{HELP, help_lines};

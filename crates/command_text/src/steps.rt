@@ -1,12 +1,14 @@
-//! How many steps a line makes, and by which commands.
+//! How many steps a line makes, and by which commands; a line that keeps what has begun makes pins in their place.
 ghost use Rattle.std.specs.Prelude.{◌≡◌, ◌-◌, ◌≤◌, ◌<◌, [], ◌∷◌, ◌^◌, MatchOption};
 ghost use Rattle.command_core.specs.Effects.{effect};
 ghost use Rattle.command_core.specs.declared.states.State.TheVariants.{Empty, Loaded};
-ghost use Rattle.command_text.specs.Answering.{commands_of, counts_of, stages_to_go, steps_from, steps_to_make, steps_to_reach, unless_spent};
+ghost use Rattle.command_text.specs.Answering.{begun_at, commands_of, counts_of, stages_to_go, steps_from, steps_to_make, steps_to_reach, unless_spent};
 
 use crate::asked::MAX_SEARCH;
+use crate::freezing::next_frozen;
 use crate::staging::{next_in_stage, next_staged};
 use command_core::{Command, Job, MAX_COUNT, MAX_STEPS, Refusal, State};
+use plan_types::Kind;
 
 /// The most annealing steps of one command of a line, so that its progress is told often and little is lost by a stop.
 pub(crate) const MAX_ANNEALED: u32 = 16_384;
@@ -14,7 +16,7 @@ pub(crate) const MAX_ANNEALED: u32 = 16_384;
 /// The most steps of one command of a line that tries fewer vehicles: a try goes no further than its command.
 pub(crate) const MAX_REDUCED: u32 = 524_288;
 
-/// The steps that a line asks for.
+/// What a line asks for that takes several commands: steps, or pins.
 #[derive(Clone, Copy, Debug, PartialEq, Eq)]
 pub enum Goal {
     /// So many of the search, 1..=1,000,000,000.
@@ -27,9 +29,11 @@ pub enum Goal {
     Reduce(u32),
     /// Of annealing by stages, from one number to before another: the first is not above the second, this one 0..=2^60.
     Stages { from: u64, to: u64 },
+    /// The pins of what has begun by this time, 0..=100,000,000.
+    Freeze(u32),
 }
 
-/// The steps that a line has left to make.
+/// What a line has left to make: steps, or pins.
 #[derive(Clone, Copy, Debug, PartialEq, Eq)]
 pub enum Steps {
     /// So many of the search.
@@ -42,14 +46,17 @@ pub enum Steps {
     Stages { from: u64, to: u64 },
     /// The same where the deviation of the stage is set.
     InStage { from: u64, to: u64 },
+    /// The pins of what has begun by this time, from this vehicle on.
+    Freeze { time: u32, first: u32 },
 }
 
-/// The steps that a line makes: for `reach N` as many as the state lacks, and none where it has made so many.
+/// What a line makes: for `reach N` as many steps as the state lacks, and none where it has made so many.
 ///
 /// # Errors
 ///
 /// `NoInstance` before the first `load`; `StepsSpent` where `search N`, `anneal N` or `reduce N` would lead above 2^60 steps;
-/// `Range` where more than 1,000,000,000 are lacking for `reach N` or `anneal FROM TO`, or the state has not made FROM.
+/// `Range` where more than 1,000,000,000 are lacking for `reach N` or `anneal FROM TO`, or the state has not made FROM; `NoTimes` for
+/// `freeze T` of an instance without times.
 pub fn steps_to_make(state: &State, goal: Goal) -> Result<Steps, Refusal>
     ensures { result ≡ steps_to_make state.now goal }
 {
@@ -68,6 +75,7 @@ fn steps_from(job: &Job, goal: Goal) -> Result<Steps, Refusal>
         Goal::Reduce(count) => unless_spent(job, count, Steps::Reduce(count)),
         Goal::Reach(number) => steps_to_reach(job, number),
         Goal::Stages { from, to } => stages_to_go(job, from, to),
+        Goal::Freeze(time) => begun_at(job.problem.kind, time),
     }
 }
 
@@ -102,7 +110,17 @@ fn stages_to_go(job: &Job, from: u64, to: u64) -> Result<Steps, Refusal>
     }
 }
 
-/// The next command of these steps, and the steps behind it; `None` where none is left.
+// Where an instance has times.
+fn begun_at(kind: Kind, time: u32) -> Result<Steps, Refusal>
+    ensures { result ≡ begun_at kind time }
+{
+    match kind {
+        Kind::LiLim => Ok(Steps::Freeze { time, first: 1 }),
+        Kind::Vrp => Err(Refusal::NoTimes),
+    }
+}
+
+/// The next command of these, and what is left behind it; `None` where none is.
 #[tactic(auto, using(crate::proofs::StepLemmas::no_counts))]
 pub fn next_command(steps: Steps, state: &State) -> Option<(Command, Steps)>
     ensures { MatchOption result (commands_of steps state.now ≡ [])
@@ -129,6 +147,7 @@ pub fn next_command(steps: Steps, state: &State) -> Option<(Command, Steps)>
         }
         Steps::Stages { from, to } => next_staged(from, to, job_in(state)?),
         Steps::InStage { from, to } => next_in_stage(from, to, job_in(state)?),
+        Steps::Freeze { time, first } => next_frozen(state, job_in(state)?, time, first),
     }
 }
 

@@ -1,6 +1,6 @@
 //! The lines but `load`: their names, and what each asks for with its numbers.
 ghost use Rattle.std.specs.Prelude.{◌≡◌, bytes_eq};
-ghost use Rattle.command_text.specs.Asking.{add1_of, add_of, anneal_of, bare_asked, count_of, double_asked, kind_named, pin_of, plain_or, reach_of, reduce_of, search_of, single_asked, spot_asked, spot_of, spots_asked, stages_of, steps_or, verb_named};
+ghost use Rattle.command_text.specs.Asking.{add1_of, add_of, anneal_of, bare_asked, count_of, double_asked, freeze_of, kind_named, pin_of, plain_or, reach_of, reduce_of, search_of, single_asked, spot_asked, spot_of, spots_asked, stages_of, steps_or, verb_named};
 
 use crate::asked::{Asked, MAX_SEARCH};
 use crate::fields::Field;
@@ -8,6 +8,7 @@ use crate::questions::Question;
 use crate::steps::Goal;
 use command_core::{Command, MAX_STEPS, Refusal, Spot};
 use plan_types::Kind;
+use plan_types::limits::MAX_TIME;
 
 /// What the first word of a line names.
 #[derive(Clone, Copy, Debug, PartialEq, Eq)]
@@ -18,6 +19,7 @@ pub(crate) enum Verb {
     Withdraw,
     Pin,
     Unpin,
+    Freeze,
     Build,
     Checkpoint,
     Search,
@@ -55,6 +57,9 @@ pub(crate) fn verb_named(word: &[u8]) -> Option<Verb>
     }
     if is_word(word, b"unpin") {
         return Some(Verb::Unpin);
+    }
+    if is_word(word, b"freeze") {
+        return Some(Verb::Freeze);
     }
     if is_word(word, b"build") {
         return Some(Verb::Build);
@@ -132,7 +137,7 @@ pub(crate) fn bare_asked(verb: Verb) -> Asked
     }
 }
 
-/// With one number: R, V, N or D.
+/// With one number: R, V, N, D or T.
 pub(crate) fn single_asked(verb: Verb, number: &Field) -> Asked
     ensures { result ≡ single_asked verb number.now }
 {
@@ -157,6 +162,7 @@ pub(crate) fn single_asked(verb: Verb, number: &Field) -> Asked
         Verb::Reach => steps_or(reach_of(number.unsigned)),
         Verb::Anneal => steps_or(anneal_of(number.unsigned)),
         Verb::Reduce => steps_or(reduce_of(number.unsigned)),
+        Verb::Freeze => steps_or(freeze_of(number.unsigned)),
         Verb::Deviation => match number.as_u32() {
             Some(deviation) => Asked::Plain(Command::Deviation(deviation)),
             None => Asked::Refused(Refusal::Range),
@@ -279,6 +285,15 @@ fn reduce_of(steps: Option<u64>) -> Option<Goal>
     ensures { result ≡ reduce_of steps }
 {
     Some(Goal::Reduce(count_of(steps)?))
+}
+
+fn freeze_of(time: Option<u64>) -> Option<Goal>
+    ensures { result ≡ freeze_of time }
+{
+    match time {
+        Some(time) if time <= u64::from(MAX_TIME) => Some(Goal::Freeze(time as u32)),
+        _ => None,
+    }
 }
 
 fn reach_of(goal: Option<u64>) -> Option<Goal>

@@ -50,13 +50,19 @@ count_split f g (n ∷ ns) =
     let o = one_split (f n) (g n) in
     omega (arith, h, o, counted_more (λ n. f n && not (g n)) n ns, counted_more f n ns, counted_more g n ns)
 
-one_more : (a b : Bool) → (a ≡ true → b ≡ true) → cond a 1 0 ≤ cond b 1 0
-one_more false b so = omega arith
-one_more true b so = rw (so refl) (omega arith)
+pub one_more : (a b : Bool) → (b ≡ true → a ≡ true) → cond b 1 0 ≤ cond a 1 0
+one_more a false so = omega arith
+one_more a true so = rw (so refl) (omega arith)
 
-count_so : (f g : Test) → ((n : ℕ) → f n ≡ true → g n ≡ true) → (ns : List ℕ) → count_by f ns ≤ count_by g ns
-count_so f g so [] = omega arith
-count_so f g so (n ∷ ns) = let h = count_so f g so ns in omega (arith, h, one_more (f n) (g n) (so n), counted_more f n ns, counted_more g n ns)
+-- a test that passes no more items
+pub count_more : {X : Type 0} (f g : X → Bool) (xs : List X) → ((x : X) → g x ≡ true → f x ≡ true) → count_by g xs ≤ count_by f xs
+count_more f g [] each = omega arith
+count_more f g (x ∷ xs) each =
+    let a = sum_by-cons (λ x. cond (f x) 1 0) x xs in
+    let b = sum_by-cons (λ x. cond (g x) 1 0) x xs in
+    let h = count_more f g xs each in
+    let here = one_more (f x) (g x) (each x) in
+    omega arith
 
 -- ---- numbers from a on
 range_times : (x n a : ℕ) → (x < a → times x (range_with_len a n) ≡ 0) × (times x (range_with_len a n) ≤ 1)
@@ -92,7 +98,7 @@ count_has : (xs ns : List ℕ) → ((x : ℕ) → times x ns ≤ 1) → count_by
 count_has [] ns once = omega (arith, none_counted ns)
 count_has (x ∷ xs) ns once =
     let either = count_or (λ n. nat_eq n x) (has xs) ns in
-    let one = count_so (λ n. nat_eq n x) (λ n. nat_eq x n) (λ n is. is_one x n is) ns in
+    let one = count_more (λ n. nat_eq x n) (λ n. nat_eq n x) ns (λ n is. is_one x n is) in
     let same = times_count x ns in
     omega (arith, either, one, same, once x, count_has xs ns once)
 
@@ -168,7 +174,7 @@ module _ (pins routes : List (List ℕ)) (long : length pins ≡ length routes) 
   first_kept v vs is some =
       let there : (n : ℕ) → nat_eq v n ≡ true → is_kept pins routes m n ≡ true =
       λ n same. or_right (has_some pins n) (has chosen n) (let h : has (v ∷ vs) n ≡ true = or_left (nat_eq n v) (has vs n) (is_one n v same) in subst (λ l. has l n ≡ true) (sym is) h) in
-      omega (arith, some, times_count v vehicles, count_so (λ n. nat_eq v n) (is_kept pins routes m) there vehicles)
+      omega (arith, some, times_count v vehicles, count_more (is_kept pins routes m) (λ n. nat_eq v n) vehicles there)
 
   pub kept_some : 1 ≤ m → 1 ≤ used_count routes → 1 ≤ marked (kept pins routes m)
   kept_some some used = by (used_count pins) refl
@@ -196,7 +202,7 @@ module _ (pins routes : List (List ℕ)) (long : length pins ≡ length routes) 
 
       by : (k : ℕ) → used_count pins ≡ k → 1 ≤ marked (kept pins routes m)
       by (suc k) e =
-          let h = count_so (has_some pins) (is_kept pins routes m) (λ v is. or_left (has_some pins v) (has chosen v) is) vehicles in omega (arith, h, e, with_pins, of_kept)
+          let h = count_more (is_kept pins routes m) (has_some pins) vehicles (λ v is. or_left (has_some pins v) (has chosen v) is) in omega (arith, h, e, with_pins, of_kept)
       by zero e =
           let a = count_split (has_some routes) (has_some pins) vehicles in
           let b = some_of routes in

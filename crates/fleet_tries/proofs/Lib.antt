@@ -1,3 +1,3 @@
-mod CrewLemmas
-mod PickedLemmas
+pub mod CrewLemmas
+pub mod PickedLemmas
 mod TryLemmas

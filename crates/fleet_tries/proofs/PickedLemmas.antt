@@ -133,9 +133,10 @@ back_pins (false ∷ kept) routes pins a b is =
     let m = marked_more false kept in both_kept [] [] (put_back kept routes) (put_back kept pins) (λ i n at. at) (back_pins kept routes pins (omega (arith, a, m)) (omega (arith, b, m)) is)
 
 -- ---- whole plans
-nothing_is_feasible : (p : Instance) → feasible_alone p [] ≡ true
+-- no stops are a feasible route
+pub none_feasible : (p : Instance) → feasible_alone p [] ≡ true
 unfolding feasible_alone
-nothing_is_feasible p = of p.kind
+none_feasible p = of p.kind
   where
     of : (k : Kind) → keeps_times k p [] ≡ true
     of LiLim = refl
@@ -163,7 +164,7 @@ module _ (local : FeasibilityIsLocal) where
             (λ x some. once_live p (concat routes) h.plan x (let b = times_picked x kept routes in omega (arith, some, b)));
         fleet = length_picked kept routes;
         feasible =
-            all_picked (IsFeasibleAlone (with_fleet p n)) ((tests_say_feasible (with_fleet p n) []).0 (nothing_is_feasible (with_fleet p n))) kept routes
+            all_picked (IsFeasibleAlone (with_fleet p n)) ((tests_say_feasible (with_fleet p n) []).0 (none_feasible (with_fleet p n))) kept routes
             (all_feasible_in p p.fleet n routes h.feasible);
         pinned = let f : length routes ≡ p.fleet = h.fleet in picked_pins kept routes pins (omega (arith, long, f)) (omega (arith, long, pinned)) h.pinned;
       })
@@ -177,7 +178,7 @@ module _ (local : FeasibilityIsLocal) where
       (record {
         plan = subst (λ ns. AreLiveOnce p ns) (sym same) (record { live = h.plan.live; distinct = h.plan.distinct });
         fleet = length_back kept routes ∙ long;
-        feasible = all_back (IsFeasibleAlone p) ((tests_say_feasible p []).0 (nothing_is_feasible p)) kept routes (all_feasible_in p n p.fleet routes h.feasible);
+        feasible = all_back (IsFeasibleAlone p) ((tests_say_feasible p []).0 (none_feasible p)) kept routes (all_feasible_in p n p.fleet routes h.feasible);
         pinned = subst (KeepsPins (put_back kept routes)) own (back_pins kept routes (picked kept pins) h.fleet (length_picked kept pins) h.pinned);
       })
 

@@ -2,7 +2,7 @@
 use Rattle.std.proofs.Common.{◌≡◌, ◌∙◌, ℕ, zero, suc, ◌+◌, ◌-◌, ◌/◌, ◌<◌, ◌≤◌, Bool, true, false, cond, not, ◌==◌, ◌&&◌, List, [], ◌∷◌, length, replicate, Option, Some, None, Result, Ok, Err, IfOk, IsTrue, refl, sym, ap, subst, inl, inr, arith}
 use Rattle.std.specs.Prelude.{min, nat_lt, nat_le}
 use Rattle.std.specs.List.{concat}
-use Rattle.std.proofs.lemmas.Bool.{and_from, and_parts, both_ways, cases_Bool, eqb-true, leb-true, lt-ltb, ltb-true}
+use Rattle.std.proofs.lemmas.Bool.{and_from, and_parts, both_ways, cases_Bool, eqb-true, leb-true, lt-ltb, ltb-true, not_from_true}
 use Rattle.std.proofs.lemmas.List.{length-replicate}
 use Rattle.std.proofs.lemmas.List.FromFn.{length-map-range_with_len}
 use Rattle.plan_types.specs.Cost.{BelowIsAtMost, BelowTells, CostsAreTotal, CostsAreTransitive, cost_at_most, cost_below}
@@ -48,10 +48,6 @@ few_used p pins routes is = let h : IsPassing p pins routes = (passes_are_local 
 all_picked : (lists : Routes) → picked (replicate (length lists) true) lists ≡ lists
 all_picked [] = refl
 all_picked (l ∷ lists) = ap (λ ls. l ∷ ls) (all_picked lists)
-
-not_so : (b : Bool) → b ≡ true → not b ≡ false
-not_so true e = refl
-not_so false e = absurd (let h : false ≡ true = e in cc)
 
 module _ (p : Instance) (pins : Routes) (pinned : length pins ≡ p.fleet) (t : Tries) (is : passes p pins t.plan ≡ true) (some : 0 < t.size) (vehicles : IsFleet p.fleet) where
   passing : IsPassing p pins t.plan
@@ -146,7 +142,7 @@ module _ (laws : Order) (p : Instance) (lilim : p.kind ≡ LiLim) where
   -- and one that leaves a request out costs more
   dearer : (found plan : Routes) → is_whole p found ≡ false → is_whole p plan ≡ true → cost_at_most (cost_of p found) (cost_of p plan) ≡ false
   dearer found plan a b =
-      not_so (cost_below (cost_of p plan) (cost_of p found)) ((laws.tells (cost_of p plan) (cost_of p found)).1 (inl (let h = none_out plan b in let g = some_out found a in omega (arith, h, g))))
+      not_from_true (cost_below (cost_of p plan) (cost_of p found)) ((laws.tells (cost_of p plan) (cost_of p found)).1 (inl (let h = none_out plan b in let g = some_out found a in omega (arith, h, g))))
 
 -- ---- a turn
 -- what the next tries keep
@@ -455,7 +451,3 @@ goes_off p pins end t never = by (go_on p pins end t) refl
     by : (b : Bool) → go_on p pins end t ≡ b → go_on p pins end t ≡ false
     by false e = e
     by true e = let both = and_parts (nat_lt t.step end) (nat_lt 0 t.size) e in absurd (never (ltb-true t.step end both.0) (ltb-true 0 t.size both.1))
-
-pub if_ok_so : {T E : Type 0} {P Q : T → Type 0} (r : Result T E) → ((x : T) → P x → Q x) → IfOk r P → IfOk r Q
-if_ok_so (Ok x) so is = so x is
-if_ok_so (Err e) so is = is

@@ -18,6 +18,7 @@ use crate::fleets::{marked, picked, put_back, with_fleet};
 use crate::laws::picked_pass;
 use anneal_search::{Tried, tries_keep_passing, try_steps};
 use anneal_stages::share;
+use log::{Log, info};
 use plan_audit::passes_are_local;
 use plan_types::{
     Kind, OutOfMemory, Pins, Plan, Problem, costs_are_in_order, costs_compare_part_by_part,
@@ -31,11 +32,12 @@ const TRY_HUNDREDTHS: u32 = 1000;
 /// What so many steps of tries make of a plan, from step number `step` on, where vehicles count: each try has some vehicles fewer, or,
 /// where the plan leaves requests out, all of them; its plan replaces the plan that stood where it costs no more. Gives the plan, and the
 /// number of the step behind the last one: the tries are over before all steps are made where none is left. The plan passes with the
-/// pins, which are as many as the vehicles, and the last step is below 2^60.
+/// pins, which are as many as the vehicles, and the last step is below 2^60. Each try is logged as it ends.
 ///
 /// Source: this project's own, by absence counters (Christiaens and Vanden Berghe, 2020). That a smaller fleet is found by leaving the
 /// requests of some routes out is usual (Bent and Van Hentenryck 2006; Nagata and Bräysy 2009).
-pub fn try_fleets(
+pub fn try_fleets<R: Log>(
+    rt: &R,
     alloc: Global,
     problem: &Problem,
     pins: &Pins,
@@ -52,7 +54,7 @@ pub fn try_fleets(
 {
     let tries = first_tries(plan, step)?;
     let tries = match problem.kind {
-        Kind::LiLim => tries_from(alloc, problem, pins, tries, seed, count)?,
+        Kind::LiLim => tries_from(rt, alloc, problem, pins, tries, seed, count)?,
         Kind::Vrp => tries,
     };
     Ok(Tried {
@@ -83,7 +85,8 @@ fn first_tries(plan: &Plan, step: u64) -> Result<Reducing, OutOfMemory>
 }
 
 // All tries of so many steps.
-fn tries_from(
+fn tries_from<R: Log>(
+    rt: &R,
     alloc: Global,
     problem: &Problem,
     pins: &Pins,
@@ -106,13 +109,14 @@ fn tries_from(
     let end = tries.step + u64::from(count);
     let mut tries = tries;
     while tries.step < end && tries.size > 0 {
-        tries = next(alloc, problem, pins, tries, seed, count, end)?;
+        tries = next(rt, alloc, problem, pins, tries, seed, count, end)?;
     }
     Ok(tries)
 }
 
 // The next try, or half as many vehicles fewer where there is none.
-fn next(
+fn next<R: Log>(
+    rt: &R,
     alloc: Global,
     problem: &Problem,
     pins: &Pins,
@@ -141,7 +145,7 @@ fn next(
     };
     let last = limit(whole, &tries, count, end);
     let tried = try_with(alloc, problem, pins, &tries, seed, last, &crew)?;
-    behind(alloc, problem, tries, whole, &crew, tried)
+    behind(rt, alloc, problem, tries, whole, &crew, tried)
 }
 
 // The vehicles of the next try, if there is one.
@@ -218,7 +222,8 @@ fn try_with(
 }
 
 // How far the tries are behind a try of these vehicles.
-fn behind(
+fn behind<R: Log>(
+    rt: &R,
     alloc: Global,
     problem: &Problem,
     tries: Reducing,
@@ -236,12 +241,32 @@ fn behind(
     let found = Plan {
         routes: put_back(alloc, crew, tried.plan.routes.as_slice())?,
     };
+    let vehicles = vehicles_before(problem, whole, &plan);
+    log_try(rt, problem, crew, vehicles, &found, tried.step);
     let size = size_behind(problem, whole, size, &found);
     Ok(Reducing {
         plan: cheaper(problem, found, plan),
         step: tried.step,
         size,
     })
+}
+
+// How many vehicles could be in the try: those of the plan, or where that leaves requests out, all.
+fn vehicles_before(problem: &Problem, whole: bool, plan: &Plan) -> u64 {
+    if whole {
+        used_count(plan.routes.as_slice())
+    } else {
+        u64::from(problem.fleet)
+    }
+}
+
+// Logs a try that ended before this step.
+fn log_try<R: Log>(rt: &R, problem: &Problem, crew: &[bool], vehicles: u64, found: &Plan, step: u64)
+    requires { IsPlan problem.now found.now.routes }
+{
+    let kept = marked(crew);
+    let left_out = plan_cost(problem, found).unplanned;
+    info!(rt; "try {kept} of {vehicles} vehicles: {left_out} left out, step {step}");
 }
 
 // What was found, where it costs no more than the plan that stood.

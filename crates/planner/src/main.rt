@@ -10,7 +10,7 @@
 #![tactic(auto)]
 
 use planner_cli::{HostFiles, HostNewFiles, Streams, Watched, command_words, run_words, status};
-use sector_disk::Unknown;
+use sector_disk::{HostDisks, Unknown};
 use std::fs::File;
 use std::io;
 use std::io::ErrorKind;
@@ -36,6 +36,7 @@ fn main(rt: HostRuntime) -> ExitCode {
 
 // Does what the words ask for, over the system's files and the standard streams.
 fn status_of(rt: &HostRuntime, words: &[String]) -> u8 {
+    let mut disks = HostDisks::new(rt);
     let mut files = HostFiles::new(rt);
     let mut new_files = HostNewFiles::new(rt);
     let streams = Streams {
@@ -47,6 +48,7 @@ fn status_of(rt: &HostRuntime, words: &[String]) -> u8 {
         rt,
         Unknown,
         Unknown,
+        &mut disks,
         &mut files,
         &mut new_files,
         streams,

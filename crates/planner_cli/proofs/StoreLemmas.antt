@@ -7,19 +7,22 @@ use Rattle.checkpoint.specs.declared.faults.StoreFault.TheVariants.{NotFormatted
 use Rattle.checkpoint.specs.declared.places.Place.{Place}
 use Rattle.command_serving.specs.Streams.{Given, Stream}
 use Rattle.planner_cli.specs.Formatting.{IsFormatted}
-use Rattle.planner_cli.specs.Opened.{IsForetoldBefore, IsFoundBare, IsMade, IsMadeReady, IsNewOpening, IsOpening, IsOpeningOf, IsUnopened, TellsUnopened}
+use Rattle.planner_cli.specs.Opened.{IsForetoldBefore, IsFoundBare, IsMade, IsMadeReady, IsOpening, IsOpeningOf, IsUnopened, TellsUnopened}
 use Rattle.planner_cli.specs.Running.{IsRefused, IsUntouched, RunsStore, ServesStore}
 use Rattle.planner_cli.specs.declared.opened.Unopened.{Unopened}
 use Rattle.planner_cli.specs.declared.opened.Unopened.TheVariants.{File, Store, Unformatted}
 use Rattle.recover.specs.declared.opening.Opened.{Opened}
+use Rattle.sector_disk.specs.Disks.{IsNotTakenAt}
+use Rattle.sector_disk.specs.declared.file_device.FileRefusal.{FileRefusal}
 use Rattle.sector_disk.specs.declared.sectors.Sectors as sectors
 
 module _ {D : Type 0} (on : sectors.Ghosts D) where
-  pub opening_of : (IsReady IsBare : D → Type 0) (device : D) → IsReady device → (opening : Result (Opened D) (Unopened D)) → IsOpening on device opening → IsOpeningOf on IsReady IsBare opening
-  opening_of IsReady IsBare device ready (Ok opened) is = record { device = device; ready = ready; opens = is }
-  opening_of IsReady IsBare device ready (Err (Store fault left)) is = record { device = device; ready = ready; refuses = is }
-  opening_of IsReady IsBare device ready (Err (File refusal)) is = absurd is
-  opening_of IsReady IsBare device ready (Err (Unformatted fault left)) is = absurd is
+  pub opening_of : (IsReady IsBare : D → Type 0) (IsNone : FileRefusal → Type 0) (device : D) → IsReady device → (opening : Result (Opened D) (Unopened D)) → IsOpening on device opening
+      → IsOpeningOf on IsReady IsBare IsNone opening
+  opening_of IsReady IsBare IsNone device ready (Ok opened) is = record { device = device; ready = ready; opens = is }
+  opening_of IsReady IsBare IsNone device ready (Err (Store fault left)) is = record { device = device; ready = ready; refuses = is }
+  opening_of IsReady IsBare IsNone device ready (Err (File refusal)) is = absurd is
+  opening_of IsReady IsBare IsNone device ready (Err (Unformatted fault left)) is = absurd is
 
   -- there is a device, so something may have been told beforehand
   pub foretold_of : (device : D) (opening : Result (Opened D) (Unopened D)) (before after : Option (List ℕ)) → IsOpening on device opening → IfErr opening (λ unopened. IsForetoldBefore unopened before after)
@@ -32,22 +35,22 @@ module _ {D : Type 0} (on : sectors.Ghosts D) where
   found_bare IsNew device bare fault made is refuses = record { device = device; made = made; refuses = subst (IsRefused on device bare) is refuses }
 
   -- what held no store was formatted, and then opened
-  pub opening_of_formatted : (IsNew : D → Type 0) (bare ready : D) (made : Result Place FormatFault) (place : Place) → IsFoundBare on IsNew bare → made ≡ Ok place → IsFormatted on bare ready made
-      → (opening : Result (Opened D) (Unopened D)) → IsOpening on ready opening → IsNewOpening on IsNew opening
-  opening_of_formatted IsNew bare ready made place found is formatted opening opens =
-      opening_of (IsMadeReady on IsNew) (IsFoundBare on IsNew) ready (inr (bare, place, found, subst (IsFormatted on bare ready) is formatted)) opening opens
+  pub opening_of_formatted : (IsNew : D → Type 0) (IsNone : FileRefusal → Type 0) (bare ready : D) (made : Result Place FormatFault) (place : Place) → IsFoundBare on IsNew bare → made ≡ Ok place → IsFormatted on bare ready made
+      → (opening : Result (Opened D) (Unopened D)) → IsOpening on ready opening → IsOpeningOf on (IsMadeReady on IsNew) (IsFoundBare on IsNew) IsNone opening
+  opening_of_formatted IsNew IsNone bare ready made place found is formatted opening opens =
+      opening_of (IsMadeReady on IsNew) (IsFoundBare on IsNew) IsNone ready (inr (bare, place, found, subst (IsFormatted on bare ready) is formatted)) opening opens
 
 -- ---- the word `run`, of a store that was not opened
 
 module _ {D : Type 0} (on : sectors.Ghosts D) (IsOld : D → Type 0) (path : List ℕ) (is_strict : Bool) (given : Given) (before after : Stream) (reader_failed writer_failed : Bool) where
-  pub unopened_runs : (status : ℕ) (unopened : Unopened D) → IsUnopened on IsOld (λ device. ⊥) unopened → TellsUnopened path unopened before.contents after.contents status
-      → RunsStore on IsOld path is_strict given before after reader_failed writer_failed status
-  unopened_runs status (File refusal) is told = inr (refusal.fault, told.0, told.1)
+  pub unopened_runs : (status : ℕ) (unopened : Unopened D) → IsUnopened on IsOld (λ device. ⊥) (IsNotTakenAt path) unopened → TellsUnopened path unopened before.contents after.contents status
+      → RunsStore on (λ p. IsOld) path is_strict given before after reader_failed writer_failed status
+  unopened_runs status (File refusal) is told = inr (refusal, is, told)
   unopened_runs status (Store fault left) is told = inl (is.device, is.ready, inr (fault, left, is.refuses, told))
   unopened_runs status (Unformatted fault left) is told = absurd is.bare
 
-  pub unopened_serves : (unopened : Unopened D) → IsUnopened on IsOld (λ device. ⊥) unopened → IsUntouched given before after
-      → ServesStore on IsOld is_strict given before after reader_failed writer_failed
-  unopened_serves (File refusal) is untouched = inr untouched
+  pub unopened_serves : (unopened : Unopened D) → IsUnopened on IsOld (λ device. ⊥) (IsNotTakenAt path) unopened → IsUntouched given before after
+      → ServesStore on (λ p. IsOld) path is_strict given before after reader_failed writer_failed
+  unopened_serves (File refusal) is untouched = inr (refusal, is, untouched)
   unopened_serves (Store fault left) is untouched = inl (is.device, left, is.ready, inr (fault, left, is.refuses, (refl, untouched)))
   unopened_serves (Unformatted fault left) is untouched = absurd is.bare

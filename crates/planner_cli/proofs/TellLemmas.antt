@@ -1,6 +1,6 @@
 -- What is told line by line.
-use Rattle.std.proofs.Common.{◌≡◌, ◌∙◌, ◌<◌, ◌||◌, ℕ, Bool, true, false, true≢false, List, Option, Some, None, Result, Ok, Err, refl, sym, ap, subst, arith}
-use Rattle.std.specs.Prelude.{◌≢◌, ◌↔◌, IfErr, IsErrOf, OnOk}
+use Rattle.std.proofs.Common.{◌≡◌, ◌∙◌, inl, ◌<◌, ◌||◌, ℕ, Bool, true, false, true≢false, List, Option, Some, None, Result, Ok, Err, refl, sym, ap, subst, arith}
+use Rattle.std.specs.Prelude.{◌≢◌, ◌↔◌, IfErr, IfOk, IsErrOf, MatchResult, OnOk}
 use Rattle.std.specs.Result.{result_err}
 use Rattle.checkpoint.specs.Layouts.{version_2, sectors_in}
 use Rattle.command_core.specs.Effects.{effect}
@@ -15,7 +15,9 @@ use Rattle.command_serving.specs.declared.answering.ServeFault.{ServeFault}
 use Rattle.command_serving.specs.declared.answering.ServeFault.TheVariants as fault
 use Rattle.command_serving.specs.declared.strict.Stopped.{Stopped}
 use Rattle.planner_cli.specs.Loading.{holds_instance}
+use Rattle.command_line.specs.Asked.{Asked, upgrade}
 use Rattle.planner_cli.specs.Running.{stop_unless}
+use Rattle.planner_cli.specs.Statuses.{CanEndWith}
 use Rattle.recover.specs.Applying.{Makes}
 use Rattle.recover.specs.Sessions.{SessionValue}
 use Rattle.recover.specs.declared.denials.Denial.{Denial}
@@ -79,3 +81,13 @@ begun (Err denial) old new command Holds empty makes stands = tt
 pub told_apart : {W : Type 0} (contents : W → Option (List ℕ)) (Tells : Option (List ℕ) → Option (List ℕ) → Type 0) (a b c d : W) → b ≡ a → d ≡ c → Tells (contents b) (contents c) → Tells (contents a) (contents d)
 told_apart contents Tells a b c d first last told =
     subst (λ x. Tells x (contents d)) (ap contents first) (subst (λ x. Tells (contents b) x) (sym (ap contents last)) told)
+
+-- each word may end with 3
+three_can : (asked : Asked) → CanEndWith asked 3
+three_can (upgrade old new) = inl (omega arith)
+three_can _ = omega arith
+
+-- so the status of what was told is one of the word's
+pub status_can : {X : Type 0} (asked : Asked) (told : Result ℕ X) (status : ℕ) → IfOk told (CanEndWith asked) → MatchResult told (λ printed. status ≡ printed) (λ error. status ≡ 3) → CanEndWith asked status
+status_can asked (Ok printed) status can ends = subst (CanEndWith asked) (sym ends) can
+status_can asked (Err error) status can ends = subst (CanEndWith asked) (sym ends) (three_can asked)

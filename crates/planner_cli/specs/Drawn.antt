@@ -95,8 +95,8 @@ DrawsState (Loaded job) output after errors later status = (drawn : Result Drawi
 -- The store in the file is opened, and its plan drawn; or it is told on the errors why there is no picture. `IsOld` is what is known of the
 -- device over the file, and `foretold` is what the errors hold behind the line of how many search steps are repeated. `left` is the device as it
 -- is left: as opening left it.
-abbrev pub DrawsStore : {D : Type 0} → sectors.Ghosts D → (D → Type 0) → List ℕ → Option (List ℕ) → Option (List ℕ) → Option (List ℕ) → Option (List ℕ) → ℕ → Type 0
+abbrev pub DrawsStore : {D : Type 0} → sectors.Ghosts D → (List ℕ → D → Type 0) → List ℕ → Option (List ℕ) → Option (List ℕ) → Option (List ℕ) → Option (List ℕ) → ℕ → Type 0
 DrawsStore {D} on IsOld path output after errors later status =
     (foretold : Option (List ℕ))
-    × OpensStore on IsOld (λ opened. (left : D) × (left ≡ opened.session.device) × DrawsState opened.session.state output after foretold later status)
+    × OpensStore on IsOld path (λ opened. (left : D) × (left ≡ opened.session.device) × DrawsState opened.session.state output after foretold later status)
     (λ unopened. IsForetoldBefore unopened errors foretold × TellsUnopened path unopened foretold later status × Appends output after [])

@@ -1,24 +1,34 @@
 -- What comes of the opening of a store: on a device, in a file, and in a file that is made for it.
-use Rattle.std.specs.Prelude.{◌≡◌, ◌⊎◌, ℕ, List, Option, Some, Result, Ok, Err, MatchResult}
-use Rattle.std.specs.Io.KnownBytes.{Appends}
+use Rattle.std.specs.Prelude.{◌≡◌, ◌⊎◌, ℕ, ◌==◌, Bool, true, false, List, Option, Some, Result, Ok, Err, MatchResult}
+use Rattle.std.specs.Option.{option_map}
+use Rattle.std.specs.IoError.{error_kind}
+use Rattle.std.specs.declared.io.ErrorKind.{ErrorKind}
+use Rattle.std.specs.declared.io.ErrorKind.TheVariants.{NotFound}
 use Rattle.checkpoint.specs.Layouts.{sectors_in, version_2}
 use Rattle.checkpoint.specs.declared.faults.FormatFault.{FormatFault}
 use Rattle.checkpoint.specs.declared.faults.StoreFault.{StoreFault}
 use Rattle.checkpoint.specs.declared.faults.StoreFault.TheVariants.{NotFormatted}
 use Rattle.checkpoint.specs.declared.places.Place.{Place}
-use Rattle.planner_cli.specs.Formatting.{IsFormatted}
+use Rattle.planner_cli.specs.Formatting.{IsFormatted, TellsFormatted}
 use Rattle.planner_cli.specs.Running.{IsOpened, IsRefused, TellsFault}
-use Rattle.planner_cli.specs.Telling.{format_line, format_status, open_line, open_status}
+use Rattle.planner_cli.specs.Telling.{TellsFile}
 use Rattle.planner_cli.specs.declared.opened.Unopened.{Unopened}
 use Rattle.planner_cli.specs.declared.opened.Unopened.TheVariants.{File, Store, Unformatted}
 use Rattle.recover.specs.declared.opening.Opened.{Opened}
+use Rattle.sector_disk.specs.Disks.{IsNotMadeAt, IsNotTakenAt}
+use Rattle.sector_disk.specs.declared.file_device.FileRefusal.{FileRefusal}
 use Rattle.sector_disk.specs.declared.sectors.Sectors as sectors
 
 -- what is told of a store that was not opened, and its status: of a file that is no device, of what opening said, of what a format said
 abbrev pub TellsUnopened : {D : Type 0} → List ℕ → Unopened D → Option (List ℕ) → Option (List ℕ) → ℕ → Type 0
-TellsUnopened path (File refusal) before after status = (status ≡ open_status refusal.fault) × Appends before after (open_line path refusal.fault)
+TellsUnopened path (File refusal) before after status = TellsFile path refusal.fault before after status
 TellsUnopened path (Store fault left) before after status = TellsFault fault before after status
-TellsUnopened path (Unformatted fault left) before after status = (status ≡ format_status (Some fault)) × Appends before after (format_line (Some fault))
+TellsUnopened path (Unformatted fault left) before after status = TellsFormatted (Some fault) before after status
+
+-- what the system says of a path where there is no file
+abbrev pub is_not_found : Option ErrorKind → Bool
+is_not_found (Some NotFound) = true
+is_not_found _ = false
 
 -- where there is no device nothing was told beforehand of search steps
 abbrev pub IsForetoldBefore : {D : Type 0} → Unopened D → Option (List ℕ) → Option (List ℕ) → Type 0
@@ -51,18 +61,18 @@ module _ {D : Type 0} (on : sectors.Ghosts D) where
     pub bare : IsBare device
     pub fails : IsFormatted on device left (Err fault)
 
-  -- there is no device, or it was opened or formatted in vain
-  abbrev pub IsUnopened : (D → Type 0) → (D → Type 0) → Unopened D → Type 0
-  IsUnopened IsReady IsBare (File refusal) = Unit {0}
-  IsUnopened IsReady IsBare (Store fault left) = IsRefusedFrom IsReady fault left
-  IsUnopened IsReady IsBare (Unformatted fault left) = IsUnformatted IsBare fault left
+  -- there is no device, of which `IsNone` speaks, or it was opened or formatted in vain
+  abbrev pub IsUnopened : (D → Type 0) → (D → Type 0) → (FileRefusal → Type 0) → Unopened D → Type 0
+  IsUnopened IsReady IsBare IsNone (File refusal) = IsNone refusal
+  IsUnopened IsReady IsBare IsNone (Store fault left) = IsRefusedFrom IsReady fault left
+  IsUnopened IsReady IsBare IsNone (Unformatted fault left) = IsUnformatted IsBare fault left
 
-  abbrev pub IsOpeningOf : (D → Type 0) → (D → Type 0) → Result (Opened D) (Unopened D) → Type 0
-  IsOpeningOf IsReady IsBare opening = MatchResult opening (IsOpenedFrom IsReady) (IsUnopened IsReady IsBare)
+  abbrev pub IsOpeningOf : (D → Type 0) → (D → Type 0) → (FileRefusal → Type 0) → Result (Opened D) (Unopened D) → Type 0
+  IsOpeningOf IsReady IsBare IsNone opening = MatchResult opening (IsOpenedFrom IsReady) (IsUnopened IsReady IsBare IsNone)
 
-  -- The store in a file that is there: none is formatted. `IsOld` is what is known of the device over it.
-  abbrev pub IsStoreOpening : (D → Type 0) → Result (Opened D) (Unopened D) → Type 0
-  IsStoreOpening IsOld opening = IsOpeningOf IsOld (λ device. ⊥) opening
+  -- The store in the file at a path, which is opened where it stands: none is formatted. `IsOld` is what is known of the device over that file.
+  abbrev pub IsStoreOpening : (List ℕ → D → Type 0) → List ℕ → Result (Opened D) (Unopened D) → Type 0
+  IsStoreOpening IsOld path opening = IsOpeningOf (IsOld path) (λ device. ⊥) (IsNotTakenAt path) opening
 
   -- a file of 8,450 sectors was made, and `IsNew` is what is known of the device over it
   abbrev pub IsMade : (D → Type 0) → D → Type 0
@@ -78,14 +88,17 @@ module _ {D : Type 0} (on : sectors.Ghosts D) where
   abbrev pub IsMadeReady : (D → Type 0) → D → Type 0
   IsMadeReady IsNew ready = IsMade IsNew ready ⊎ ((bare : D) × (place : Place) × IsFoundBare IsNew bare × IsFormatted on bare ready (Ok place))
 
-  -- The store in such a file.
-  abbrev pub IsNewOpening : (D → Type 0) → Result (Opened D) (Unopened D) → Type 0
-  IsNewOpening IsNew opening = IsOpeningOf (IsMadeReady IsNew) (IsFoundBare IsNew) opening
+  -- The store in such a file at a path.
+  abbrev pub IsNewOpening : (List ℕ → D → Type 0) → List ℕ → Result (Opened D) (Unopened D) → Type 0
+  IsNewOpening IsNew path opening = IsOpeningOf (IsMadeReady (IsNew path)) (IsFoundBare (IsNew path)) (IsNotMadeAt path) opening
 
-  -- The store in a file that is there was opened, and `OnOpened` speaks of what that gave; or not, and `OnUnopened` speaks of why.
-  abbrev pub OpensStore : (D → Type 0) → (Opened D → Type 0) → (Unopened D → Type 0) → Type 0
-  OpensStore IsOld OnOpened OnUnopened = (opening : Result (Opened D) (Unopened D)) × IsStoreOpening IsOld opening × MatchResult opening OnOpened OnUnopened
+  -- The store in the file at a path was opened, and `OnOpened` speaks of what that gave; or not, and `OnUnopened` speaks of why.
+  abbrev pub OpensStore : (List ℕ → D → Type 0) → List ℕ → (Opened D → Type 0) → (Unopened D → Type 0) → Type 0
+  OpensStore IsOld path OnOpened OnUnopened = (opening : Result (Opened D) (Unopened D)) × IsStoreOpening IsOld path opening × MatchResult opening OnOpened OnUnopened
 
-  -- so of one in a file that is made
-  abbrev pub OpensNew : (D → Type 0) → (Opened D → Type 0) → (Unopened D → Type 0) → Type 0
-  OpensNew IsNew OnOpened OnUnopened = (opening : Result (Opened D) (Unopened D)) × IsNewOpening IsNew opening × MatchResult opening OnOpened OnUnopened
+  -- There is no file at the path, as the system said, or one without a byte, as a load leaves it that found the disk full.
+  abbrev pub wants_file : Result (Opened D) (Unopened D) → Bool
+  wants_file (Ok opened) = false
+  wants_file (Err (File refusal)) = is_not_found (option_map error_kind refusal.cause)
+  wants_file (Err (Store NotFormatted left)) = on.len left == 0
+  wants_file (Err _) = false

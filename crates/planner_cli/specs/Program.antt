@@ -1,6 +1,7 @@
 -- What the program does with its words: which files it reads and makes, what it writes to the output and to the errors, and which status it
 -- ends with.
-use Rattle.std.specs.Prelude.{◌≡◌, ◌⊎◌, ℕ, Bool, false, List, Option}
+use Rattle.std.specs.Prelude.{◌≡◌, ◌⊎◌, ℕ, Bool, false, List, ◌∷◌, Option, Result, IfOk, MatchResult}
+use Rattle.std.specs.declared.io.Error.{Error}
 use Rattle.clap.specs.Words.{Text}
 use Rattle.command_line.specs.Asked.{Asked, IsUsageStatus, asks_help, audit, audits, built_in, draw, draw_store, explain, format, load, run, solve, solves, store_timetable, timetable, upgrade}
 use Rattle.plan_types.specs.declared.requests.Kind.TheVariants.{LiLim}
@@ -12,7 +13,7 @@ use Rattle.auditor_cli.specs.Explained.{TellsExplained}
 use Rattle.auditor_cli.specs.Files.{AreReadInTurn, TellsFiles}
 use Rattle.planner_cli.specs.Formatting.{FormatsStore}
 use Rattle.auditor_cli.specs.Listed.{TellsList}
-use Rattle.planner_cli.specs.Loading.{TellsLoad}
+use Rattle.planner_cli.specs.Loading.{DisksAsked, TellsLoad}
 use Rattle.auditor_cli.specs.Reads.{FileRead, FileWrite, IsGrown, IsRead, IsReadFirst}
 use Rattle.planner_cli.specs.Running.{RunsStore, ServesStore}
 use Rattle.planner_cli.specs.SolvedList.{FilesDone, SolvesList}
@@ -22,14 +23,17 @@ use Rattle.auditor_cli.specs.Telling.{TellsAudit, example_instance, example_solu
 use Rattle.planner_cli.specs.Timetabled.{TellsTimetable, TimetablesStore, form_of}
 use Rattle.planner_cli.specs.Upgrading.{UpgradesStore}
 use Rattle.planner_cli.specs.declared.program.Streams.{Streams}
+use Rattle.sector_disk.specs.Disks.{DiskEntry}
+use Rattle.sector_disk.specs.declared.disks.DiskCall.TheVariants.{Make, Take}
 use Rattle.sector_disk.specs.declared.sectors.Sectors as sectors
 
--- What the program reads and writes, as far as it is known: the files that were read and those that were to be made beside stores, the newest
--- first; what the input still holds, and what its reads gave, the newest first; what the output and the errors hold, and what was done to the
+-- What the program reads and writes, as far as it is known: the files that were read and those that were to be made beside stores, and what was asked
+-- of the files of stores, the newest first; what the input still holds, and what its reads gave, the newest first; what the output and the errors hold, and what was done to the
 -- output as a sink; whether the input or the output has failed.
 pub record World : Type 0 where
   pub files : List FileRead
   pub new_files : List FileWrite
+  pub disks : List DiskEntry
   pub input : Option (List ℕ)
   pub reads : List (List ℕ)
   pub output : Stream
@@ -37,11 +41,12 @@ pub record World : Type 0 where
   pub input_failed : Bool
   pub output_failed : Bool
 
--- what `F`, `N`, `I`, `W` and `E` tell of it
-abbrev pub seen : {F N I W E : Type 0} → (F → List FileRead) → (N → List FileWrite) → (I → Option (List ℕ)) → (W → Option (List ℕ)) → (E → Option (List ℕ)) → F → N → Streams I W E → World
-seen reads writes remaining written told files new_files streams = record {
+-- what `F`, `N`, `X`, `I`, `W` and `E` tell of it
+abbrev pub seen : {F N X I W E : Type 0} → (F → List FileRead) → (N → List FileWrite) → (X → List DiskEntry) → (I → Option (List ℕ)) → (W → Option (List ℕ)) → (E → Option (List ℕ)) → F → N → X → Streams I W E → World
+seen reads writes asked remaining written told files new_files disks streams = record {
   files = reads files;
   new_files = writes new_files;
+  disks = asked disks;
   input = remaining streams.input.inner;
   reads = reads_of streams.input;
   output = held written streams.output;
@@ -57,6 +62,10 @@ given_in old new = record { known = old.input; before = old.reads; after = new.r
 -- the files that were read and made
 abbrev pub done_in : World → FilesDone
 done_in w = record { reads = w.files; writes = w.new_files }
+
+-- what was asked of the files of stores
+abbrev pub disks_in : World → World → DisksAsked
+disks_in old new = record { was = old.disks; now = new.disks }
 
 -- which files a word reads, also where an answer can't be printed
 abbrev pub AreReadFor : Asked → List FileRead → List FileRead → Type 0
@@ -80,6 +89,17 @@ abbrev pub AreMadeFor : Asked → List FileWrite → List FileWrite → Type 0
 AreMadeFor (solves tasks) was now = IsGrown was now
 AreMadeFor _ was now = now ≡ was
 
+-- Which files of stores a word asks for, and which it may make, also where an answer can't be printed. `load` and `upgrade` ask for a file by what
+-- they find (`TellsLoad`, `UpgradesStore`).
+abbrev pub AreAskedFor : Asked → List DiskEntry → List DiskEntry → Type 0
+AreAskedFor (draw_store store) was now = now ≡ (Take, store) ∷ was
+AreAskedFor (format store) was now = now ≡ (Make, store) ∷ was
+AreAskedFor (load asked) was now = Unit {0}
+AreAskedFor (run store is_strict) was now = now ≡ (Take, store) ∷ was
+AreAskedFor (upgrade old new) was now = Unit {0}
+AreAskedFor (store_timetable store is_tabbed) was now = now ≡ (Take, store) ∷ was
+AreAskedFor _ was now = now ≡ was
+
 -- only `run` reads the input
 abbrev pub IsInputKept : Asked → World → World → Type 0
 IsInputKept (run store is_strict) old new = Unit {0}
@@ -99,42 +119,47 @@ AreErrorsKept (store_timetable store is_tabbed) old new = Unit {0}
 AreErrorsKept _ old new = new.errors ≡ old.errors
 
 -- Whatever came of it, also where an answer could not be printed, and in a run that is killed: only `run` serves an input.
-abbrev pub ServesFor : {D : Type 0} → sectors.Ghosts D → (D → Type 0) → Asked → World → World → Type 0
-ServesFor on IsOld (run store is_strict) old new = ServesStore on IsOld is_strict (given_in old new) old.output new.output new.input_failed new.output_failed
+abbrev pub ServesFor : {D : Type 0} → sectors.Ghosts D → (List ℕ → D → Type 0) → Asked → World → World → Type 0
+ServesFor on IsOld (run store is_strict) old new = ServesStore on IsOld store is_strict (given_in old new) old.output new.output new.input_failed new.output_failed
 ServesFor on IsOld _ old new = Unit {0}
 
-module _ {D N : Type 0} (on_old : sectors.Ghosts D) (on_new : sectors.Ghosts N) (IsOld : D → Type 0) (IsNew : N → Type 0) where
-  -- What was asked for was done and told, and this is the status that goes with it. `IsOld` is what is known of the device over a file that
-  -- is opened, `IsNew` of one over a file that is made beside it.
-  abbrev pub Does : Asked → World → World → ℕ → Type 0
-  Does built_in old new status = TellsAudit LiLim example_instance example_solution old.output.contents new.output.contents status
-  Does (audit paths routes_alone) old new status =
-      TellsFiles routes_alone paths.kind paths.instance paths.solution old.files new.files old.output.contents new.output.contents status
-      × TellsBehind paths.kind paths.instance paths.solution old.files new.files old.errors new.errors
-  Does (audits kind list routes_alone) old new status =
-      TellsList routes_alone kind list old.files new.files old.output.contents new.output.contents old.errors new.errors status
-  Does (explain paths routes_alone) old new status =
-      TellsExplained routes_alone paths.kind paths.instance paths.solution old.files new.files old.output.contents new.output.contents status
-      × TellsBehind paths.kind paths.instance paths.solution old.files new.files old.errors new.errors
-  Does (draw paths route) old new status = TellsDrawn paths.kind route paths.instance paths.solution old.files new.files old.output.contents new.output.contents old.errors new.errors status
-  Does (draw_store store) old new status = DrawsStore on_old IsOld store old.output.contents new.output.contents old.errors new.errors status
-  Does (solve task) old new status = TellsTask task old.files new.files old.output.contents new.output.contents old.errors new.errors status
-  Does (solves tasks) old new status =
-      SolvesList tasks (done_in old) (done_in new) old.output.contents new.output.contents status
-  Does (format store) old new status = FormatsStore on_old IsOld store old.output.contents new.output.contents status
-  Does (load asked) old new status = TellsLoad on_old on_new IsOld IsNew asked old.files new.files old.output.contents new.output.contents status
-  Does (run store is_strict) old new status = RunsStore on_old IsOld store is_strict (given_in old new) old.output new.output new.input_failed new.output_failed status
-  Does (upgrade path new_path) old new status = UpgradesStore on_old on_new IsOld IsNew path new_path old.output.contents new.output.contents status
-  Does (timetable paths is_tabbed) old new status =
-      TellsTimetable paths.kind (form_of is_tabbed) paths.instance paths.solution old.files new.files old.output.contents new.output.contents status
-  Does (store_timetable store is_tabbed) old new status = TimetablesStore on_old IsOld store (form_of is_tabbed) old.output.contents new.output.contents status
+module _ {D N : Type 0} (on_old : sectors.Ghosts D) (on_new : sectors.Ghosts N) (IsOld IsMade : List ℕ → D → Type 0) (IsNew : List ℕ → N → Type 0) where
+  -- What was asked for was done, and told, if it could be printed: `told` is the status that goes with it. `IsOld` and `IsMade` are what is known
+  -- of the device over the file at a path that is opened or made, `IsNew` of one over a file that is made beside it.
+  abbrev pub Does : {X : Type 0} → Asked → World → World → Result ℕ X → Type 0
+  Does built_in old new told = IfOk told (TellsAudit LiLim example_instance example_solution old.output.contents new.output.contents)
+  Does (audit paths routes_alone) old new told =
+      IfOk told
+      (λ status. TellsFiles routes_alone paths.kind paths.instance paths.solution old.files new.files old.output.contents new.output.contents status
+      × TellsBehind paths.kind paths.instance paths.solution old.files new.files old.errors new.errors)
+  Does (audits kind list routes_alone) old new told =
+      IfOk told (TellsList routes_alone kind list old.files new.files old.output.contents new.output.contents old.errors new.errors)
+  Does (explain paths routes_alone) old new told =
+      IfOk told
+      (λ status. TellsExplained routes_alone paths.kind paths.instance paths.solution old.files new.files old.output.contents new.output.contents status
+      × TellsBehind paths.kind paths.instance paths.solution old.files new.files old.errors new.errors)
+  Does (draw paths route) old new told = IfOk told (TellsDrawn paths.kind route paths.instance paths.solution old.files new.files old.output.contents new.output.contents old.errors new.errors)
+  Does (draw_store store) old new told = IfOk told (DrawsStore on_old IsOld store old.output.contents new.output.contents old.errors new.errors)
+  Does (solve task) old new told = IfOk told (TellsTask task old.files new.files old.output.contents new.output.contents old.errors new.errors)
+  Does (solves tasks) old new told =
+      IfOk told (SolvesList tasks (done_in old) (done_in new) old.output.contents new.output.contents)
+  Does (format store) old new told = FormatsStore on_old IsMade store old.output.contents new.output.contents told
+  Does (load asked) old new told = TellsLoad on_old on_new IsOld IsNew (disks_in old new) asked old.files new.files old.output.contents new.output.contents told
+  Does (run store is_strict) old new told = IfOk told (RunsStore on_old IsOld store is_strict (given_in old new) old.output new.output new.input_failed new.output_failed)
+  Does (upgrade path new_path) old new told = UpgradesStore on_old on_new IsOld IsNew path new_path (disks_in old new) old.output.contents new.output.contents told
+  Does (timetable paths is_tabbed) old new told =
+      IfOk told (TellsTimetable paths.kind (form_of is_tabbed) paths.instance paths.solution old.files new.files old.output.contents new.output.contents)
+  Does (store_timetable store is_tabbed) old new told = IfOk told (TimetablesStore on_old IsOld store (form_of is_tabbed) old.output.contents new.output.contents)
 
-  -- The words were read. Where an answer could not be printed, the status is 3.
+  -- The words were read. Where an answer could not be printed, the status is 3; what `format`, `load` and `upgrade` did is said all the same.
   pub record Works (asked : Asked) (old new : World) (status : ℕ) : Type 0 where
-    pub does : Does asked old new status ⊎ (status ≡ 3)
+    pub told : Result ℕ Error
+    pub ends : MatchResult told (λ printed. status ≡ printed) (λ error. status ≡ 3)
+    pub does : Does asked old new told
     pub serves : ServesFor on_old IsOld asked old new
     pub reads : AreReadFor asked old.files new.files
     pub makes : AreMadeFor asked old.new_files new.new_files
+    pub asks : AreAskedFor asked old.disks new.disks
     pub input : IsInputKept asked old new
     pub errors : AreErrorsKept asked old new
     pub statuses : CanEndWith asked status
@@ -147,6 +172,7 @@ module _ {D N : Type 0} (on_old : sectors.Ghosts D) (on_new : sectors.Ghosts N) 
 pub record TellsUsage (asked : List Text) (old new : World) (status : ℕ) : Type 0 where
   pub files : new.files ≡ old.files
   pub new_files : new.new_files ≡ old.new_files
+  pub disks : new.disks ≡ old.disks
   pub input : new.input ≡ old.input
   pub reads : new.reads ≡ old.reads
   pub help : status ≡ 0 → new.errors ≡ old.errors

@@ -17,13 +17,14 @@ use Rattle.command_serving.specs.declared.strict.Stopped.{Stopped}
 use Rattle.command_serving.specs.declared.strict.Stopped.TheVariants as stop
 use Rattle.command_text.specs.Readings.{IsReading, Reading}
 use Rattle.command_text.specs.Answers.{line}
-use Rattle.planner_cli.specs.Telling.{open_line, open_status, store_line, store_status}
+use Rattle.planner_cli.specs.Telling.{TellsFile, store_line, store_status}
 use Rattle.recover.specs.Applying.{IsBetween}
 use Rattle.recover.specs.Opening.{IsReplayed, Opens, StandsForNone}
 use Rattle.recover.specs.Sessions.{SessionValue}
 use Rattle.recover.specs.StandsFor.{StandsFor}
+use Rattle.sector_disk.specs.Disks.{IsNotTakenAt}
 use Rattle.sector_disk.specs.Sectors.{Throughout}
-use Rattle.sector_disk.specs.declared.file_device.FileFault.{FileFault}
+use Rattle.sector_disk.specs.declared.file_device.FileRefusal.{FileRefusal}
 use Rattle.sector_disk.specs.declared.sectors.Sectors as sectors
 use Rattle.state_codec.specs.declared.version.Version.TheVariants.{Two}
 
@@ -135,11 +136,11 @@ module _ {D : Type 0} (on : sectors.Ghosts D) where
   RunsDevice device is_strict given before after reader_failed writer_failed status =
       OpensDevice device (λ session replayed. RunsSession on session replayed is_strict given before after reader_failed writer_failed status) (λ later fault. TellsFault fault before.contents after.contents status)
 
-  -- The same for the device over a file, or it is told why there is none. `IsNew` is what is known of the device.
-  abbrev pub RunsStore : (D → Type 0) → List ℕ → Bool → Given → Stream → Stream → Bool → Bool → ℕ → Type 0
-  RunsStore IsNew path is_strict given before after reader_failed writer_failed status =
-      ((device : D) × IsNew device × RunsDevice device is_strict given before after reader_failed writer_failed status)
-      ⊎ ((fault : FileFault) × (status ≡ open_status fault) × Appends before.contents after.contents (open_line path fault))
+  -- The same for the device over the file at a path, or it is told why there is none. `IsOld` is what is known of the device.
+  abbrev pub RunsStore : (List ℕ → D → Type 0) → List ℕ → Bool → Given → Stream → Stream → Bool → Bool → ℕ → Type 0
+  RunsStore IsOld path is_strict given before after reader_failed writer_failed status =
+      ((device : D) × IsOld path device × RunsDevice device is_strict given before after reader_failed writer_failed status)
+      ⊎ ((refusal : FileRefusal) × IsNotTakenAt path refusal × TellsFile path refusal.fault before.contents after.contents status)
 
   -- Whatever came of it: the input was served over the session, or nothing was done to either, and this is the session then.
   abbrev pub ServesOver : SessionValue D → ℕ → Bool → Given → Stream → Stream → Bool → Bool → SessionValue D → Type 0
@@ -152,7 +153,8 @@ module _ {D : Type 0} (on : sectors.Ghosts D) where
       OpensDevice device (λ session replayed. (new : SessionValue D) × (left ≡ new.device) × ServesOver session replayed is_strict given before after reader_failed writer_failed new)
       (λ later fault. (left ≡ later) × IsUntouched given before after)
 
-  -- Whatever came of it, the same for the device over a file; or there was none, and nothing was read and put.
-  abbrev pub ServesStore : (D → Type 0) → Bool → Given → Stream → Stream → Bool → Bool → Type 0
-  ServesStore IsNew is_strict given before after reader_failed writer_failed =
-      ((device : D) × (left : D) × IsNew device × ServesDevice device is_strict given before after reader_failed writer_failed left) ⊎ IsUntouched given before after
+  -- Whatever came of it, the same for the device over the file at a path; or there was none, and nothing was read and put.
+  abbrev pub ServesStore : (List ℕ → D → Type 0) → List ℕ → Bool → Given → Stream → Stream → Bool → Bool → Type 0
+  ServesStore IsOld path is_strict given before after reader_failed writer_failed =
+      ((device : D) × (left : D) × IsOld path device × ServesDevice device is_strict given before after reader_failed writer_failed left)
+      ⊎ ((refusal : FileRefusal) × IsNotTakenAt path refusal × IsUntouched given before after)

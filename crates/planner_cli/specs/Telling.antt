@@ -13,8 +13,6 @@ use Rattle.instance_read.specs.declared.faults.ReadFaultKind.TheVariants as read
 use Rattle.recover.specs.Names.{denial_name}
 use Rattle.recover.specs.declared.denials.Denial.{Denial}
 use Rattle.recover.specs.declared.denials.Denial.TheVariants as denial
-use Rattle.recover.specs.declared.upgrading.UpgradeFault.{UpgradeFault}
-use Rattle.recover.specs.declared.upgrading.UpgradeFault.TheVariants as upgrade
 use Rattle.sector_disk.specs.declared.file_device.FileFault.{FileFault}
 use Rattle.sector_disk.specs.declared.file_device.FileFault.TheVariants as file
 use Rattle.command_text.specs.Answers.{line}
@@ -33,12 +31,18 @@ open_status file.BadLength = 2
 open_status file.OutOfMemory = 4
 open_status file.InUse = 3
 
+abbrev pub TellsFile : List ℕ → FileFault → Option (List ℕ) → Option (List ℕ) → ℕ → Type 0
+TellsFile path fault before after status = (status ≡ open_status fault) × Appends before after (open_line path fault)
+
 -- a new store's file, where an old store's was opened
 abbrev pub new_line : List ℕ → FileFault → List ℕ
 new_line path file.NoFile = line (codes "cannot read " ++ path)
 new_line path file.BadLength = line (codes "new BadLength")
 new_line path file.OutOfMemory = line (codes "new OutOfMemory")
 new_line path file.InUse = line (codes "new InUse")
+
+abbrev pub TellsNewFile : List ℕ → FileFault → Option (List ℕ) → Option (List ℕ) → ℕ → Type 0
+TellsNewFile path fault before after status = (status ≡ open_status fault) × Appends before after (new_line path fault)
 
 -- what came of a format
 abbrev pub format_line : Option FormatFault → List ℕ
@@ -91,16 +95,13 @@ instance_fault_status fault = if wants_memory fault.kind then 4 else 2
 abbrev pub TellsInstanceFault : ReadFault → Option (List ℕ) → Option (List ℕ) → ℕ → Type 0
 TellsInstanceFault fault before after status = (status ≡ instance_fault_status fault) × Appends before after (instance_fault_line fault)
 
--- what came of an upgrade
+-- what came of the new store of an upgrade
 abbrev pub unmade_line : FormatFault → List ℕ
 unmade_line fault = line (codes "new " ++ format_fault_name fault)
 
-abbrev pub upgrade_line : Option UpgradeFault → List ℕ
-upgrade_line None = line (codes "ok")
-upgrade_line (Some (upgrade.Old fault)) = store_line fault
-upgrade_line (Some (upgrade.New fault)) = unmade_line fault
+abbrev pub made_line : Option FormatFault → List ℕ
+made_line None = line (codes "ok")
+made_line (Some fault) = unmade_line fault
 
-abbrev pub upgrade_status : Option UpgradeFault → ℕ
-upgrade_status None = 0
-upgrade_status (Some (upgrade.Old fault)) = store_status fault
-upgrade_status (Some (upgrade.New fault)) = format_status (Some fault)
+abbrev pub TellsMade : Option FormatFault → Option (List ℕ) → Option (List ℕ) → ℕ → Type 0
+TellsMade fault before after status = (status ≡ format_status fault) × Appends before after (made_line fault)

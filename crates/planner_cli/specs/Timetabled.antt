@@ -78,7 +78,7 @@ TellsState form (Loaded job) before after status = (made : Result Explanation Al
 
 -- The store in the file is opened, and the timetable of its plan told, or why it can't be opened. `IsOld` is what is known of the device over
 -- the file. `left` is the device as it is left: as opening left it.
-abbrev pub TimetablesStore : {D : Type 0} → sectors.Ghosts D → (D → Type 0) → List ℕ → Form → Option (List ℕ) → Option (List ℕ) → ℕ → Type 0
+abbrev pub TimetablesStore : {D : Type 0} → sectors.Ghosts D → (List ℕ → D → Type 0) → List ℕ → Form → Option (List ℕ) → Option (List ℕ) → ℕ → Type 0
 TimetablesStore {D} on IsOld path form before after status =
-    OpensStore on IsOld (λ opened. (left : D) × (left ≡ opened.session.device) × TellsState form opened.session.state before after status)
+    OpensStore on IsOld path (λ opened. (left : D) × (left ≡ opened.session.device) × TellsState form opened.session.state before after status)
     (λ unopened. TellsUnopened path unopened before after status)

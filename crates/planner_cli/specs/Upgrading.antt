@@ -1,43 +1,54 @@
--- What the word `upgrade` does: it makes a store in a file, of the state that the store of version 1 in another file stands for.
-use Rattle.std.specs.Prelude.{◌≡◌, ◌≢◌, ◌⊎◌, ℕ, List, Option, Some, Result, IfErr, codes}
-use Rattle.std.specs.Result.{result_err}
+-- What the word `upgrade` does: it reads a store of version 1 whole, and then makes a store in another file of the state that it stands for. `told` is
+-- the status that goes with what was printed, if it could be; whatever came of that, the rest is so.
+use Rattle.std.specs.Prelude.{◌≡◌, ◌≢◌, ◌⊎◌, ℕ, Bool, true, false, List, ◌∷◌, Option, Result, IfOk, MatchResult, codes}
 use Rattle.std.specs.Io.KnownBytes.{Appends}
-use Rattle.checkpoint.specs.Layouts.{version_2, sectors_in}
-use Rattle.checkpoint.specs.declared.faults.FormatFault.TheVariants.{TooSmall}
-use Rattle.checkpoint.specs.declared.places.Place.{Place}
+use Rattle.checkpoint.specs.declared.faults.FormatFault.{FormatFault}
+use Rattle.checkpoint.specs.declared.faults.StoreFault.{StoreFault}
+use Rattle.command_core.specs.declared.states.State.{State}
 use Rattle.command_text.specs.Answers.{line}
-use Rattle.planner_cli.specs.Telling.{new_line, open_line, open_status, upgrade_line, upgrade_status}
-use Rattle.recover.specs.Upgrading.{IsMadeOfOld, IsReadOnly, IsRefusal, IsWrittenAnew, OnWritten}
-use Rattle.recover.specs.declared.upgrading.UpgradeFault.{UpgradeFault}
-use Rattle.recover.specs.declared.upgrading.UpgradeFault.TheVariants.{New}
-use Rattle.sector_disk.specs.declared.file_device.FileFault.{FileFault}
-use Rattle.sector_disk.specs.declared.file_device.FileFault.TheVariants.{BadLength}
+use Rattle.planner_cli.specs.Formatting.{MakesStoreAt}
+use Rattle.planner_cli.specs.Loading.{DisksAsked}
+use Rattle.planner_cli.specs.Running.{TellsFault}
+use Rattle.planner_cli.specs.Telling.{TellsFile, TellsMade, TellsNewFile}
+use Rattle.recover.specs.Upgrading.{ReadsOldStore}
+use Rattle.sector_disk.specs.Disks.{AreCompared, DiskEntry, IsNotTakenAt}
+use Rattle.sector_disk.specs.declared.disks.DiskCall.TheVariants.{Make, Take}
+use Rattle.sector_disk.specs.declared.file_device.FileRefusal.{FileRefusal}
 use Rattle.sector_disk.specs.declared.sectors.Sectors as sectors
 
 -- both words name one file
 abbrev pub TellsSame : Option (List ℕ) → Option (List ℕ) → ℕ → Type 0
 TellsSame before after status = (status ≡ 64) × Appends before after (line (codes "same store"))
 
-module _ {D E : Type 0} (on_old : sectors.Ghosts D) (on_new : sectors.Ghosts E) where
-  -- The old device was read, and the new one made of it, as `upgrade` of `recover` says it.
-  pub record IsUpgraded (old old_after : D) (new new_after : E) (made : Result Place UpgradeFault) : Type 0 where
-    pub refused : IfErr made (λ fault. IsRefusal on_old on_new fault old old_after new new_after)
-    pub reads : IsReadOnly on_old made old old_after
-    pub writes : IsWrittenAnew on_new made new new_after
-    pub makes : OnWritten made (IsMadeOfOld on_old on_new made old old_after new new_after)
+module _ {D E X : Type 0} (on_old : sectors.Ghosts D) (on_new : sectors.Ghosts E) (IsOld : List ℕ → D → Type 0) (IsNew : List ℕ → E → Type 0) where
+  -- A store of this state is made in the file at the path. `IsNew` is what is known of the device over that file.
+  abbrev pub MakesUpgraded : State → List ℕ → DisksAsked → Option (List ℕ) → Option (List ℕ) → Result ℕ X → Type 0
+  MakesUpgraded state path disks before after told =
+      (disks.now ≡ (Make, path) ∷ disks.was)
+      × MakesStoreAt on_new IsNew state path (λ fault. IfOk told (TellsMade fault before after)) (λ fault. IfOk told (TellsNewFile path fault before after))
 
-  -- The store on the device is upgraded into a file of 8,450 sectors, or it is told why there is none. `IsNew` is what is known of the device
-  -- over that file.
-  abbrev pub UpgradesOnto : (E → Type 0) → D → List ℕ → Option (List ℕ) → Option (List ℕ) → ℕ → Type 0
-  UpgradesOnto IsNew old path before after status =
-      ((old_after : D) × (new : E) × (new_after : E) × (made : Result Place UpgradeFault) × IsNew new × (on_new.len new ≡ sectors_in version_2) × IsUpgraded old old_after new new_after made
-      × (result_err made ≢ Some (New TooSmall)) × (status ≡ upgrade_status (result_err made)) × Appends before after (upgrade_line (result_err made)))
-      ⊎ ((fault : FileFault) × (fault ≢ BadLength) × (status ≡ open_status fault) × Appends before after (new_line path fault))
+  -- The store on the device is read whole. Where it stands for no state no file is asked for, else one of its state is made.
+  abbrev pub UpgradesOnto : D → List ℕ → DisksAsked → Option (List ℕ) → Option (List ℕ) → Result ℕ X → Type 0
+  UpgradesOnto old path disks before after told =
+      (left : D) × (read : Result State StoreFault) × ReadsOldStore on_old read old left
+      × MatchResult read (λ state. MakesUpgraded state path disks before after told) (λ fault. (disks.now ≡ disks.was) × IfOk told (TellsFault fault before after))
 
-  -- Both words name one file, as they do where they are the same; or the store in the old file is upgraded, or it is told why that can't be
-  -- opened. The new file is made where the old one was opened.
-  abbrev pub UpgradesStore : (D → Type 0) → (E → Type 0) → List ℕ → List ℕ → Option (List ℕ) → Option (List ℕ) → ℕ → Type 0
-  UpgradesStore IsOld IsNew path new_path before after status =
-      TellsSame before after status
-      ⊎ ((path ≢ new_path) × (((old : D) × IsOld old × UpgradesOnto IsNew old new_path before after status)
-      ⊎ ((fault : FileFault) × (status ≡ open_status fault) × Appends before after (open_line path fault))))
+  -- The old file is opened where it stands, or it is told why not. `taken` is what was asked by then.
+  abbrev pub UpgradesTaken : List ℕ → List ℕ → List DiskEntry → DisksAsked → Option (List ℕ) → Option (List ℕ) → Result ℕ X → Type 0
+  UpgradesTaken path new_path taken disks before after told =
+      (taken ≡ (Take, path) ∷ disks.was)
+      × (((old : D) × IsOld path old × UpgradesOnto old new_path (record { was = taken; now = disks.now }) before after told)
+      ⊎ ((refusal : FileRefusal) × IsNotTakenAt path refusal × (disks.now ≡ taken) × IfOk told (TellsFile path refusal.fault before after)))
+
+  -- The words differ, so it is asked whether they lead to one file.
+  abbrev pub UpgradesOther : List ℕ → List ℕ → List DiskEntry → Bool → DisksAsked → Option (List ℕ) → Option (List ℕ) → Result ℕ X → Type 0
+  UpgradesOther path new_path compared is_one disks before after told =
+      AreCompared path new_path is_one disks.was compared
+      × (((is_one ≡ true) × (disks.now ≡ compared) × IfOk told (TellsSame before after))
+      ⊎ ((is_one ≡ false) × ((taken : List DiskEntry) × UpgradesTaken path new_path taken (record { was = compared; now = disks.now }) before after told)))
+
+  -- Both words name one file, as they do where they are the same; or the store in the old file is upgraded into the new one.
+  abbrev pub UpgradesStore : List ℕ → List ℕ → DisksAsked → Option (List ℕ) → Option (List ℕ) → Result ℕ X → Type 0
+  UpgradesStore path new_path disks before after told =
+      ((path ≡ new_path) × (disks.now ≡ disks.was) × IfOk told (TellsSame before after))
+      ⊎ ((path ≢ new_path) × ((compared : List DiskEntry) × (is_one : Bool) × UpgradesOther path new_path compared is_one disks before after told))

@@ -1,6 +1,6 @@
 //! The picture of a solution in a file, or of the plan in a store, which is opened as for its timetable.
-ghost use Rattle.std.specs.Prelude.{◌≡◌, ◌≤◌, IfOk, None, Some, length};
-ghost use Rattle.sector_disk.specs.FileDevice.{IsUnused};
+ghost use Rattle.std.specs.Prelude.{◌≡◌, ◌≤◌, ◌∷◌, IfOk, None, Some, length};
+ghost use Rattle.sector_disk.specs.Disks.{IsTakenAt};
 ghost use Rattle.planner_cli.specs.Drawn.{DrawsState, DrawsStore, IsDrawing, IsDrawingOf, IsPictureOf, IsPlanDrawn, TellsDrawing, TellsDrawn, TellsResult, busy_after, busy_front};
 ghost use Rattle.auditor_cli.specs.Files.{AreReadInTurn};
 
@@ -16,12 +16,10 @@ use plan_audit::{Verdict, passes_are_local, plans_are_local};
 use plan_picture::{draw, draw_route};
 use plan_types::{Kind, OutOfMemory, Problem, Route};
 use route_sched::plan_cost;
-use sector_disk::{FileCalls, FileDevice, HostFile, Sectors, Start};
+use sector_disk::{DiskCall, Disks, FileCalls, FileDevice, HostFile, Sectors, Start};
 use std::alloc::Global;
-use std::fs::File;
 use std::io;
 use std::io::Write;
-use std::rt::Files;
 
 /// What comes of drawing a solution.
 #[derive(Debug, Drop)]
@@ -166,22 +164,24 @@ fn enlarged(
 
 /// Opens the store in the file, and draws its plan. The picture goes to `output`. How many search steps opening repeats is told
 /// on `errors` first, and so is whatever else is told.
-pub(crate) fn draw_store<R, T: Start, W: Write, E: Write>(
+pub(crate) fn draw_store<R, X: Disks, T: Start, W: Write, E: Write>(
     rt: &R,
+    disks: &mut X,
     start: T,
     store: &str,
     output: &mut W,
     errors: &mut E,
 ) -> io::Result<u8>
 where
-    R: Files<File = File> + Eprint + AllocGlobal,
+    R: Eprint + AllocGlobal,
     ensures status { IfOk result (λ status. status ≤ 4) }
+    ensures asks { X.asked disks.new ≡ (DiskCall.Take, store.now) ∷ X.asked disks.old }
     ensures told { IfOk result (DrawsStore ⟦<FileDevice<T> as Sectors>⟧
-        (IsUnused ⟦<HostFile as FileCalls>⟧.entries) store.now
+        (IsTakenAt ⟦<HostFile as FileCalls>⟧.entries) store.now
         (W.contents output.old) (W.contents output.new)
         (E.contents errors.old) (E.contents errors.new)) }
 {
-    match open_store(rt, start, store, errors) {
+    match open_store(rt, disks, start, store, errors) {
         Ok(opened) => {
             let told = draw_state(rt.alloc(), opened.session.state(), output, errors);
             close_store(rt, store, opened.session);

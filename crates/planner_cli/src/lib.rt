@@ -16,6 +16,7 @@
 //! - `drawn`, `timetabled`: the words `draw` and `timetable`
 //! - `solved`, `solved_list`: the words `solve` and `solves`
 //! - `laws`: what stops leave of the word `run`
+//! - `progress`: how far a long command of `run` is, on standard error
 //! - `stores`: the words `format`, `run` and `upgrade`
 //! - `made`: the opening of a store in a file that is made for it
 //! - `loaded`: the word `load`
@@ -59,6 +60,7 @@ mod loaded;
 mod made;
 mod opened;
 mod program;
+mod progress;
 mod solved;
 mod solved_list;
 mod stores;

@@ -2,8 +2,11 @@
 //!
 //! The instance is read first, so that a text that is refused leaves no store behind.
 ghost use Rattle.std.specs.Prelude.{◌≡◌, ◌≤◌, IfOk};
+ghost use Rattle.std.specs.IoError.{error_kind};
+ghost use Rattle.std.specs.Option.{option_map};
 ghost use Rattle.command_line.specs.Asked.{load_of};
-ghost use Rattle.sector_disk.specs.FileDevice.{IsUnused};
+ghost use Rattle.sector_disk.specs.Disks.{IsMadeAt, IsTakenAt};
+ghost use Rattle.planner_cli.specs.Opened.{is_not_found, wants_file};
 ghost use Rattle.planner_cli.specs.Loading.{BeginsOpening, BeginsSession, BeginsStore, TellsHeld, TellsLoad, holds_instance};
 ghost use Rattle.auditor_cli.specs.Reads.{IsRead};
 
@@ -16,16 +19,15 @@ use checkpoint::StoreFault;
 use command_core::{Command, State};
 use command_line::Loading;
 use recover::Opened;
-use sector_disk::{FileCalls, FileDevice, HostFile, Sectors, Start};
+use sector_disk::{Disks, FileCalls, FileDevice, HostFile, Sectors, Start};
 use std::alloc::Global;
-use std::fs::File;
 use std::io;
 use std::io::{ErrorKind, Write};
-use std::rt::Files;
 
 /// Reads an instance and begins the store in a file with it, which is made where there is none, and tells what came of it.
-pub(crate) fn load_read<F: ReadFiles, R, T: Start, U: Start, W: Write, E: Write>(
+pub(crate) fn load_read<F: ReadFiles, R, X: Disks, T: Start, U: Start, W: Write, E: Write>(
     rt: &R,
+    disks: &mut X,
     start: T,
     start_of_new: U,
     loading: Loading,
@@ -34,13 +36,14 @@ pub(crate) fn load_read<F: ReadFiles, R, T: Start, U: Start, W: Write, E: Write>
     errors: &mut E,
 ) -> io::Result<u8>
 where
-    R: Files<File = File> + Eprint + AllocGlobal,
+    R: Eprint + AllocGlobal,
     ensures status { IfOk result (λ status. status ≤ 4) }
     ensures reads { IsRead loading.entry.instance.now (F.reads files.old) (F.reads files.new) }
-    ensures loads { IfOk result (TellsLoad ⟦<FileDevice<T> as Sectors>⟧ ⟦<FileDevice<U> as Sectors>⟧
-        (IsUnused ⟦<HostFile as FileCalls>⟧.entries) (IsUnused ⟦<HostFile as FileCalls>⟧.entries)
+    ensures loads { TellsLoad ⟦<FileDevice<T> as Sectors>⟧ ⟦<FileDevice<U> as Sectors>⟧
+        (IsTakenAt ⟦<HostFile as FileCalls>⟧.entries) (IsMadeAt ⟦<HostFile as FileCalls>⟧.entries)
+        (record { was = X.asked disks.old; now = X.asked disks.new })
         (load_of loading.entry) (F.reads files.old) (F.reads files.new)
-        (W.contents output.old) (W.contents output.new)) }
+        (W.contents output.old) (W.contents output.new) result }
 {
     let text = match files.read(loading.instance) {
         Ok(text) => text,
@@ -53,6 +56,7 @@ where
     let command = Command::Load(problem, loading.seed);
     begin_store(
         rt,
+        disks,
         start,
         start_of_new,
         loading.store,
@@ -63,8 +67,9 @@ where
 }
 
 // Begins the store in the file with the command, or one in a new file where there is none or an empty one.
-fn begin_store<R, T: Start, U: Start, W: Write, E: Write>(
+fn begin_store<R, X: Disks, T: Start, U: Start, W: Write, E: Write>(
     rt: &R,
+    disks: &mut X,
     start: T,
     start_of_new: U,
     store: &str,
@@ -73,39 +78,44 @@ fn begin_store<R, T: Start, U: Start, W: Write, E: Write>(
     errors: &mut E,
 ) -> io::Result<u8>
 where
-    R: Files<File = File> + Eprint + AllocGlobal,
+    R: Eprint + AllocGlobal,
     ensures status { IfOk result (λ status. status ≤ 4) }
-    ensures begins { IfOk result (BeginsStore
-        ⟦<FileDevice<T> as Sectors>⟧ ⟦<FileDevice<U> as Sectors>⟧
-        (IsUnused ⟦<HostFile as FileCalls>⟧.entries) (IsUnused ⟦<HostFile as FileCalls>⟧.entries)
-        store.now command (W.contents output.old) (W.contents output.new)) }
+    ensures begins { BeginsStore ⟦<FileDevice<T> as Sectors>⟧ ⟦<FileDevice<U> as Sectors>⟧
+        (IsTakenAt ⟦<HostFile as FileCalls>⟧.entries) (IsMadeAt ⟦<HostFile as FileCalls>⟧.entries)
+        (record { was = X.asked disks.old; now = X.asked disks.new })
+        store.now command (W.contents output.old) (W.contents output.new) result }
 {
-    let opening = open_store(rt, start, store, errors);
-    if is_absent(&opening) || is_empty(&opening) {
+    let opening = open_store(rt, disks, start, store, errors);
+    if wants_file(&opening) {
         // Its lock is the next one's.
         drop(opening);
-        let opening = open_new(rt, start_of_new, store, errors);
+        let opening = open_new(rt, disks, start_of_new, store, errors);
         return begin_opening(rt, store, opening, command, output);
     }
     begin_opening(rt, store, opening, command, output)
 }
 
-// Whether the system said that there is no such file.
-fn is_absent<O, D>(opening: &Result<O, Unopened<D>>) -> bool {
+// Whether there is no such file, or one without a byte, as a load leaves it that found the disk full.
+fn wants_file<D: Sectors>(opening: &Result<Opened<D>, Unopened<D>>) -> bool
+    ensures { result ≡ wants_file D.Sectors opening.now }
+{
     match opening {
-        Err(Unopened::File(refusal)) => match refusal.cause {
-            Some(error) => error.kind() == ErrorKind::NotFound,
-            None => false,
-        },
+        Err(Unopened::File(refusal)) => is_not_found(refusal.cause),
+        Err(Unopened::Store(StoreFault::NotFormatted, device)) => device.len() == 0,
         _ => false,
     }
 }
 
-// Whether the file has no byte, as a load leaves it that found the disk full.
-fn is_empty<O, D: Sectors>(opening: &Result<O, Unopened<D>>) -> bool {
-    match opening {
-        Err(Unopened::Store(StoreFault::NotFormatted, device)) => device.len() == 0,
-        _ => false,
+// Whether the system said that there is no such file.
+fn is_not_found(cause: Option<io::Error>) -> bool
+    ensures { result ≡ is_not_found (option_map error_kind cause) }
+{
+    match cause {
+        Some(error) => match error.kind() {
+            ErrorKind::NotFound => true,
+            _ => false,
+        },
+        None => false,
     }
 }
 
@@ -118,8 +128,8 @@ fn begin_opening<R: Eprint + AllocGlobal, T: Start, W: Write>(
     output: &mut W,
 ) -> io::Result<u8>
     ensures status { IfOk result (λ status. status ≤ 4) }
-    ensures begins { IfOk result (BeginsOpening ⟦<FileDevice<T> as Sectors>⟧ opening store.now
-        command (W.contents output.old) (W.contents output.new)) }
+    ensures begins { BeginsOpening ⟦<FileDevice<T> as Sectors>⟧ opening store.now
+        command (W.contents output.old) (W.contents output.new) result }
 {
     match opening {
         Ok(opened) => {
@@ -139,8 +149,8 @@ fn begin_opened<D: Sectors + Drop, W: Write>(
     output: &mut W,
 ) -> (io::Result<u8>, D)
     ensures status { IfOk result.0 (λ status. status ≤ 4) }
-    ensures begins { IfOk result.0 (BeginsSession D.Sectors opened.session command
-        (W.contents output.old) (W.contents output.new) result.1) }
+    ensures begins { BeginsSession D.Sectors opened.session command
+        (W.contents output.old) (W.contents output.new) result.1 result.0 }
 {
     let mut session = opened.session;
     if holds_instance(session.state()) {

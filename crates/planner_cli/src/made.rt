@@ -2,32 +2,31 @@
 //!
 //! A file that was just made is opened before it is formatted, since another process may have made a store in it meanwhile: only
 //! what holds no store is formatted.
-ghost use Rattle.sector_disk.specs.FileDevice.{IsUnused};
+ghost use Rattle.std.specs.Prelude.{◌≡◌, ◌∷◌, List, ℕ};
+ghost use Rattle.sector_disk.specs.Disks.{IsMadeAt};
 ghost use Rattle.planner_cli.specs.Opened.{IsFoundBare, IsMade, IsNewOpening};
 
 use crate::opened::{Unopened, open_device, open_session};
 use crate::stores::format_device;
 use checkpoint::{SECTORS, StoreFault};
 use recover::Opened;
-use sector_disk::{FileCalls, FileDevice, HostFile, Sectors, Start};
+use sector_disk::{DiskCall, Disks, FileCalls, FileDevice, HostFile, Sectors, Start};
 use std::alloc::Global;
-use std::fs::File;
 use std::io::Write;
-use std::rt::Files;
 
 /// Makes the file, and opens the store in it, which is made where there is none.
-pub(crate) fn open_new<R, T: Start, E: Write>(
+pub(crate) fn open_new<R: AllocGlobal, X: Disks, T: Start, E: Write>(
     rt: &R,
+    disks: &mut X,
     start: T,
     store: &str,
     errors: &mut E,
 ) -> Result<Opened<FileDevice<T>>, Unopened<FileDevice<T>>>
-where
-    R: Files<File = File> + Eprint + AllocGlobal,
-    ensures { IsNewOpening ⟦<FileDevice<T> as Sectors>⟧
-        (IsUnused ⟦<HostFile as FileCalls>⟧.entries) result }
+    ensures asks { X.asked disks.new ≡ (DiskCall.Make, store.now) ∷ X.asked disks.old }
+    ensures opens { IsNewOpening ⟦<FileDevice<T> as Sectors>⟧
+        (IsMadeAt ⟦<HostFile as FileCalls>⟧.entries) store.now result }
 {
-    match FileDevice::create_or_cause(rt, store, SECTORS, start) {
+    match disks.make(store, SECTORS, start) {
         Ok(device) => open_made(rt.alloc(), device, errors),
         Err(refusal) => Err(Unopened::File(refusal)),
     }
@@ -39,10 +38,11 @@ fn open_made<T: Start, E: Write>(
     device: FileDevice<T>,
     errors: &mut E,
 ) -> Result<Opened<FileDevice<T>>, Unopened<FileDevice<T>>>
-    requires { IsMade ⟦<FileDevice<T> as Sectors>⟧
-        (IsUnused ⟦<HostFile as FileCalls>⟧.entries) device }
-    ensures { IsNewOpening ⟦<FileDevice<T> as Sectors>⟧
-        (IsUnused ⟦<HostFile as FileCalls>⟧.entries) result }
+    ensures { (path : List ℕ)
+        → IsMade ⟦<FileDevice<T> as Sectors>⟧
+        (IsMadeAt ⟦<HostFile as FileCalls>⟧.entries path) device
+        → IsNewOpening ⟦<FileDevice<T> as Sectors>⟧
+        (IsMadeAt ⟦<HostFile as FileCalls>⟧.entries) path result }
 {
     let opening = open_session(alloc, device, errors);
     match opening.into_opened() {
@@ -58,10 +58,11 @@ fn open_formatted<T: Start, E: Write>(
     device: FileDevice<T>,
     errors: &mut E,
 ) -> Result<Opened<FileDevice<T>>, Unopened<FileDevice<T>>>
-    requires { IsFoundBare ⟦<FileDevice<T> as Sectors>⟧
-        (IsUnused ⟦<HostFile as FileCalls>⟧.entries) device }
-    ensures { IsNewOpening ⟦<FileDevice<T> as Sectors>⟧
-        (IsUnused ⟦<HostFile as FileCalls>⟧.entries) result }
+    ensures { (path : List ℕ)
+        → IsFoundBare ⟦<FileDevice<T> as Sectors>⟧
+        (IsMadeAt ⟦<HostFile as FileCalls>⟧.entries path) device
+        → IsNewOpening ⟦<FileDevice<T> as Sectors>⟧
+        (IsMadeAt ⟦<HostFile as FileCalls>⟧.entries) path result }
 {
     let mut device = device;
     match format_device(alloc, &mut device) {

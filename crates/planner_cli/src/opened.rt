@@ -3,8 +3,8 @@
 //! Repeating the searches of a store can take long, so how many steps that is stands on standard error first. It is found by
 //! reading alone. Where reading is refused, opening is refused for the same cause: else one fault of the device would be
 //! counted twice.
-ghost use Rattle.std.specs.Prelude.{◌≡◌, ◌≤◌, IfErr, IfOk, MatchResult, OnOk};
-ghost use Rattle.sector_disk.specs.FileDevice.{IsUnused};
+ghost use Rattle.std.specs.Prelude.{◌≡◌, ◌≤◌, ◌∷◌, IfErr, IfOk, MatchResult, OnOk};
+ghost use Rattle.sector_disk.specs.Disks.{IsTakenAt};
 ghost use Rattle.planner_cli.specs.Foretold.{IsForetold, IsOfImage};
 ghost use Rattle.planner_cli.specs.Opened.{IsForetoldBefore, IsOpening, IsStoreOpening, TellsUnopened};
 ghost use Rattle.planner_cli.specs.Running.{IsOpened, IsRefused};
@@ -14,12 +14,10 @@ use crate::telling::{
 };
 use checkpoint::{FormatFault, StoreFault, images_hold_one_thing};
 use recover::{Opened, Session, steps_to_repeat};
-use sector_disk::{FileCalls, FileDevice, FileRefusal, HostFile, Sectors, Start};
+use sector_disk::{DiskCall, Disks, FileCalls, FileDevice, FileRefusal, HostFile, Sectors, Start};
 use std::alloc::Global;
-use std::fs::File;
 use std::io;
 use std::io::Write;
-use std::rt::Files;
 
 /// Why a store was not opened.
 #[derive(Drop)]
@@ -109,21 +107,21 @@ pub(crate) fn open_device<D: Sectors, E: Write>(
     }
 }
 
-/// Opens the store in the file, as `open_device` does.
-pub(crate) fn open_store<R, T: Start, E: Write>(
+/// Opens the store in the file, as `open_device` does. The file is opened where it stands, and none is made.
+pub(crate) fn open_store<R: AllocGlobal, X: Disks, T: Start, E: Write>(
     rt: &R,
+    disks: &mut X,
     start: T,
     store: &str,
     errors: &mut E,
 ) -> Result<Opened<FileDevice<T>>, Unopened<FileDevice<T>>>
-where
-    R: Files<File = File> + Eprint + AllocGlobal,
+    ensures asks { X.asked disks.new ≡ (DiskCall.Take, store.now) ∷ X.asked disks.old }
     ensures opens { IsStoreOpening ⟦<FileDevice<T> as Sectors>⟧
-        (IsUnused ⟦<HostFile as FileCalls>⟧.entries) result }
+        (IsTakenAt ⟦<HostFile as FileCalls>⟧.entries) store.now result }
     ensures foretold { IfErr result (λ unopened. IsForetoldBefore unopened
         (E.contents errors.old) (E.contents errors.new)) }
 {
-    match FileDevice::at_or_cause(rt, store, start) {
+    match disks.take(store, start) {
         Ok(device) => open_device(rt.alloc(), device, errors),
         Err(refusal) => Err(Unopened::File(refusal)),
     }

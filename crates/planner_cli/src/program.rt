@@ -1,13 +1,13 @@
 //! What the program does with its words: files are read and made, answers are printed.
 //!
-//! `run_words` takes what reads files and what makes them, the streams, and values of `T: Start` and `U: Start`, all of which `main`
+//! `run_words` takes what opens the files of stores, what reads files and what makes them, the streams, and values of `T: Start` and `U: Start`, all of which `main`
 //! makes: what the files of a store, and of one that a load or an upgrade makes, are as they are opened.
-ghost use Rattle.std.specs.Prelude.{◌≡◌, ◌≢◌, ◌≤◌, IfOk, drop, map};
+ghost use Rattle.std.specs.Prelude.{◌≡◌, ◌≢◌, ◌≤◌, ◌∷◌, IfOk, drop, map};
 ghost use Rattle.command_line.specs.Asked.{ArePositional, Asked, asked_by, asked_of, usage_status_of};
 ghost use Rattle.plan_types.specs.declared.requests.Kind.TheVariants.{LiLim};
 ghost use Rattle.command_serving.specs.Held.{given_by, held};
-ghost use Rattle.sector_disk.specs.FileDevice.{IsUnused};
-ghost use Rattle.planner_cli.specs.Program.{AreErrorsKept, AreMadeFor, AreReadFor, Does, EndsWith, IsInputKept, ServesFor, TellsUsage, seen};
+ghost use Rattle.sector_disk.specs.Disks.{IsMadeAt, IsTakenAt};
+ghost use Rattle.planner_cli.specs.Program.{AreAskedFor, AreErrorsKept, AreMadeFor, AreReadFor, Does, EndsWith, IsInputKept, ServesFor, TellsUsage, seen};
 ghost use Rattle.planner_cli.specs.Running.{RunsStore, ServesStore};
 ghost use Rattle.planner_cli.specs.Statuses.{CanEndWith};
 ghost use Rattle.auditor_cli.specs.Telling.{TellsAudit, example_instance, example_solution};
@@ -26,13 +26,11 @@ use auditor_cli::{
 use command_line::{Invocation, read_words};
 use command_serving::Watched;
 use command_text::HELP;
-use sector_disk::{FileCalls, FileDevice, HostFile, Sectors, Start};
+use sector_disk::{DiskCall, Disks, FileCalls, FileDevice, HostFile, Sectors, Start};
 use std::alloc::Global;
 use std::convert::AsStr;
-use std::fs::File;
 use std::io;
 use std::io::{Read, Write};
-use std::rt::Files;
 
 /// What the program reads commands from, what it prints answers to, and what it prints all else to.
 #[derive(Drop)]
@@ -49,6 +47,7 @@ pub fn run_words<
     R,
     T: Start,
     U: Start,
+    X: Disks,
     F: ReadFiles,
     N: WriteFiles,
     I: Read,
@@ -59,25 +58,31 @@ pub fn run_words<
     rt: &R,
     start: T,
     start_of_new: U,
+    disks: &mut X,
     files: &mut F,
     new_files: &mut N,
     streams: Streams<I, W, E>,
     words: &[S],
 ) -> (u8, Streams<I, W, E>)
 where
-    R: Files<File = File> + Eprint + AllocGlobal,
+    R: Eprint + AllocGlobal,
     ensures does { let asked = drop 1 (map S.text words.now) in
         (a : Asked) → ArePositional asked → asked_by asked ≡ Some a
         → EndsWith ⟦<FileDevice<T> as Sectors>⟧ ⟦<FileDevice<U> as Sectors>⟧
-        (IsUnused ⟦<HostFile as FileCalls>⟧.entries) (IsUnused ⟦<HostFile as FileCalls>⟧.entries) a
-        (seen F.reads N.writes I.remaining W.contents E.contents files.old new_files.old streams)
-        (seen F.reads N.writes I.remaining W.contents E.contents files.new new_files.new result.1)
+        (IsTakenAt ⟦<HostFile as FileCalls>⟧.entries) (IsMadeAt ⟦<HostFile as FileCalls>⟧.entries)
+        (IsMadeAt ⟦<HostFile as FileCalls>⟧.entries) a
+        (seen F.reads N.writes X.asked I.remaining W.contents E.contents files.old new_files.old
+        disks.old streams)
+        (seen F.reads N.writes X.asked I.remaining W.contents E.contents files.new new_files.new
+        disks.new result.1)
         result.0 }
     ensures usage { let asked = drop 1 (map S.text words.now) in
         ArePositional asked → asked_by asked ≡ None
         → TellsUsage asked
-        (seen F.reads N.writes I.remaining W.contents E.contents files.old new_files.old streams)
-        (seen F.reads N.writes I.remaining W.contents E.contents files.new new_files.new result.1)
+        (seen F.reads N.writes X.asked I.remaining W.contents E.contents files.old new_files.old
+        disks.old streams)
+        (seen F.reads N.writes X.asked I.remaining W.contents E.contents files.new new_files.new
+        disks.new result.1)
         result.0 }
 {
     match read_words(rt.alloc(), words, HELP) {
@@ -86,6 +91,7 @@ where
                 rt,
                 start,
                 start_of_new,
+                disks,
                 files,
                 new_files,
                 streams,
@@ -102,38 +108,56 @@ where
 }
 
 // Does what is asked for, and tells what came of it.
-fn do_asked<R, T: Start, U: Start, F: ReadFiles, N: WriteFiles, I: Read, W: Write, E: Write>(
+fn do_asked<
+    R,
+    T: Start,
+    U: Start,
+    X: Disks,
+    F: ReadFiles,
+    N: WriteFiles,
+    I: Read,
+    W: Write,
+    E: Write,
+>(
     rt: &R,
     start: T,
     start_of_new: U,
+    disks: &mut X,
     files: &mut F,
     new_files: &mut N,
     streams: Streams<I, W, E>,
     invocation: Invocation,
 ) -> (io::Result<u8>, Streams<I, W, E>)
 where
-    R: Files<File = File> + Eprint + AllocGlobal,
+    R: Eprint + AllocGlobal,
     ensures status { IfOk result.0 (CanEndWith (asked_of invocation.entry)) }
     ensures reads { AreReadFor (asked_of invocation.entry) (F.reads files.old) (F.reads files.new) }
     ensures makes { AreMadeFor (asked_of invocation.entry) (N.writes new_files.old)
         (N.writes new_files.new) }
+    ensures asks { AreAskedFor (asked_of invocation.entry) (X.asked disks.old) (X.asked disks.new) }
     ensures input { IsInputKept (asked_of invocation.entry)
-        (seen F.reads N.writes I.remaining W.contents E.contents files.old new_files.old streams)
-        (seen F.reads N.writes I.remaining W.contents E.contents files.new new_files.new result.1) }
+        (seen F.reads N.writes X.asked I.remaining W.contents E.contents files.old new_files.old
+        disks.old streams)
+        (seen F.reads N.writes X.asked I.remaining W.contents E.contents files.new new_files.new
+        disks.new result.1) }
     ensures errors { AreErrorsKept (asked_of invocation.entry)
-        (seen F.reads N.writes I.remaining W.contents E.contents files.old new_files.old streams)
-        (seen F.reads N.writes I.remaining W.contents E.contents files.new new_files.new result.1) }
-    ensures does { IfOk result.0 (Does ⟦<FileDevice<T> as Sectors>⟧ ⟦<FileDevice<U> as Sectors>⟧
-        (IsUnused ⟦<HostFile as FileCalls>⟧.entries) (IsUnused ⟦<HostFile as FileCalls>⟧.entries)
-        (asked_of invocation.entry)
-        (seen F.reads N.writes I.remaining W.contents E.contents files.old new_files.old streams)
-        (seen F.reads N.writes I.remaining W.contents E.contents files.new new_files.new
-        result.1)) }
+        (seen F.reads N.writes X.asked I.remaining W.contents E.contents files.old new_files.old
+        disks.old streams)
+        (seen F.reads N.writes X.asked I.remaining W.contents E.contents files.new new_files.new
+        disks.new result.1) }
+    ensures does { Does ⟦<FileDevice<T> as Sectors>⟧ ⟦<FileDevice<U> as Sectors>⟧
+        (IsTakenAt ⟦<HostFile as FileCalls>⟧.entries) (IsMadeAt ⟦<HostFile as FileCalls>⟧.entries)
+        (IsMadeAt ⟦<HostFile as FileCalls>⟧.entries) (asked_of invocation.entry)
+        (seen F.reads N.writes X.asked I.remaining W.contents E.contents files.old new_files.old
+        disks.old streams)
+        (seen F.reads N.writes X.asked I.remaining W.contents E.contents files.new new_files.new
+        disks.new result.1) result.0 }
     ensures serves { ServesFor ⟦<FileDevice<T> as Sectors>⟧
-        (IsUnused ⟦<HostFile as FileCalls>⟧.entries) (asked_of invocation.entry)
-        (seen F.reads N.writes I.remaining W.contents E.contents files.old new_files.old streams)
-        (seen F.reads N.writes I.remaining W.contents E.contents files.new new_files.new
-        result.1) }
+        (IsTakenAt ⟦<HostFile as FileCalls>⟧.entries) (asked_of invocation.entry)
+        (seen F.reads N.writes X.asked I.remaining W.contents E.contents files.old new_files.old
+        disks.old streams)
+        (seen F.reads N.writes X.asked I.remaining W.contents E.contents files.new new_files.new
+        disks.new result.1) }
 {
     let mut streams = streams;
     let alloc = rt.alloc();
@@ -174,7 +198,7 @@ where
         }
         Invocation::DrawStore { store } => {
             let Streams { output, errors, .. } = &mut streams;
-            let told = draw_store(rt, start, store, output, errors);
+            let told = draw_store(rt, disks, start, store, output, errors);
             (told, streams)
         }
         Invocation::Solve(task) => {
@@ -187,17 +211,36 @@ where
             (told, streams)
         }
         Invocation::Format { store } => {
-            let told = format_store(rt, start, store, &mut streams.output);
+            let told = format_store(rt, disks, start, store, &mut streams.output);
             (told, streams)
         }
         Invocation::Load(loading) => {
             let Streams { output, errors, .. } = &mut streams;
-            let told = load_read(rt, start, start_of_new, loading, files, output, errors);
+            let told = load_read(
+                rt,
+                disks,
+                start,
+                start_of_new,
+                loading,
+                files,
+                output,
+                errors,
+            );
             (told, streams)
         }
-        Invocation::Run { store, is_strict } => run_over(rt, start, store, is_strict, streams),
+        Invocation::Run { store, is_strict } => {
+            run_over(rt, disks, start, store, is_strict, streams)
+        }
         Invocation::Upgrade { old, new } => {
-            let told = upgrade_store(rt, start, start_of_new, old, new, &mut streams.output);
+            let told = upgrade_store(
+                rt,
+                disks,
+                start,
+                start_of_new,
+                old,
+                new,
+                &mut streams.output,
+            );
             (told, streams)
         }
         Invocation::Timetable { paths, is_tabbed } => {
@@ -207,30 +250,32 @@ where
         }
         Invocation::StoreTimetable { store, is_tabbed } => {
             let Streams { output, errors, .. } = &mut streams;
-            let told = timetable_store(rt, start, store, form_of(is_tabbed), output, errors);
+            let told = timetable_store(rt, disks, start, store, form_of(is_tabbed), output, errors);
             (told, streams)
         }
     }
 }
 
 // Serves the input over the store in the file.
-fn run_over<R, T: Start, I: Read, W: Write, E: Write>(
+fn run_over<R, X: Disks, T: Start, I: Read, W: Write, E: Write>(
     rt: &R,
+    disks: &mut X,
     start: T,
     store: &str,
     is_strict: bool,
     streams: Streams<I, W, E>,
 ) -> (io::Result<u8>, Streams<I, W, E>)
 where
-    R: Files<File = File> + Eprint + AllocGlobal,
+    R: Eprint + AllocGlobal,
     ensures status { IfOk result.0 (λ status. status ≤ 4) }
+    ensures asks { X.asked disks.new ≡ (DiskCall.Take, store.now) ∷ X.asked disks.old }
     ensures runs { IfOk result.0 (RunsStore ⟦<FileDevice<T> as Sectors>⟧
-        (IsUnused ⟦<HostFile as FileCalls>⟧.entries) store.now is_strict
+        (IsTakenAt ⟦<HostFile as FileCalls>⟧.entries) store.now is_strict
         (given_by I.remaining streams.input result.1.input) (held W.contents streams.output)
         (held W.contents result.1.output) result.1.input.has_failed
         result.1.output.has_failed) }
     ensures serves { ServesStore ⟦<FileDevice<T> as Sectors>⟧
-        (IsUnused ⟦<HostFile as FileCalls>⟧.entries) is_strict
+        (IsTakenAt ⟦<HostFile as FileCalls>⟧.entries) store.now is_strict
         (given_by I.remaining streams.input result.1.input) (held W.contents streams.output)
         (held W.contents result.1.output) result.1.input.has_failed
         result.1.output.has_failed }
@@ -240,7 +285,16 @@ where
         output,
         mut errors,
     } = streams;
-    let (told, output) = run_store(rt, start, store, is_strict, &mut input, output, &mut errors);
+    let (told, output) = run_store(
+        rt,
+        disks,
+        start,
+        store,
+        is_strict,
+        &mut input,
+        output,
+        &mut errors,
+    );
     let streams = Streams {
         input,
         output,

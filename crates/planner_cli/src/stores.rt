@@ -2,48 +2,52 @@
 //!
 //! What the system said of a file that can't be opened or made, and of a device's call that failed, is told on standard
 //! error; no clause speaks of it.
-ghost use Rattle.std.specs.Prelude.{◌≡◌, ◌≢◌, ◌≤◌, ◌<◌, ◌↔◌, Err, IfOk, IsErrOf, OnOk, false, true};
+ghost use Rattle.std.specs.Prelude.{◌≡◌, ◌≢◌, ◌≤◌, ◌<◌, ◌↔◌, ◌∷◌, Bool, Err, IfOk, IsErrOf, List, OnOk, false, true};
 ghost use Rattle.std.specs.Io.KnownBytes.{Appends};
 ghost use Rattle.command_serving.specs.Held.{given_by, held};
 ghost use Rattle.command_serving.specs.Strict.{TellsLast};
 ghost use Rattle.command_serving.specs.declared.answering.ServeFault.TheVariants.{ReadFault};
-ghost use Rattle.sector_disk.specs.FileDevice.{IsUnused};
+ghost use Rattle.sector_disk.specs.Disks.{DiskEntry, IsMadeAt, IsTakenAt};
 ghost use Rattle.checkpoint.specs.Layouts.{sectors_in, version_2};
-ghost use Rattle.planner_cli.specs.Formatting.{FormatsStore, IsFormatted};
+ghost use Rattle.planner_cli.specs.Formatting.{FormatsStore, IsFormatted, IsMadeWith, MakesStoreAt};
 ghost use Rattle.planner_cli.specs.Statuses.{IsUpgradeStatus};
-ghost use Rattle.planner_cli.specs.Upgrading.{TellsSame, UpgradesOnto, UpgradesStore};
+ghost use Rattle.planner_cli.specs.Telling.{TellsMade, TellsNewFile};
+ghost use Rattle.planner_cli.specs.Upgrading.{TellsSame, UpgradesOnto, UpgradesOther, UpgradesStore, UpgradesTaken};
 ghost use Rattle.planner_cli.specs.Running.{IsEnded, RunsSession, RunsStore, ServesOver, ServesStore, TellsEnded, TellsServed, opened_line, stop_unless};
 
 use crate::opened::{close_store, open_store, tell_unopened};
-use crate::telling::{tell_cause, tell_format, tell_new_refusal, tell_refusal, tell_upgrade};
+use crate::progress::Progress;
+use crate::telling::{
+    tell_cause, tell_format, tell_made, tell_new_refusal, tell_refusal, tell_store_fault,
+};
 use auditor_cli::status::{BROKEN, DONE, FILE, USAGE};
 use auditor_cli::write_line;
-use checkpoint::{FormatFault, Place, SECTORS, format};
+use checkpoint::{FormatFault, Place, SECTORS, format, format_with};
+use command_core::State;
 use command_serving::{ServeFault, Stopped, Strict, Watched, serve_source};
-use recover::{Opened, Session, upgrade};
-use sector_disk::{FileCalls, FileDevice, HostFile, Sectors, Start};
+use recover::{Opened, Session, read_version_1};
+use sector_disk::{DiskCall, Disks, FileCalls, FileDevice, HostFile, Sectors, Start};
 use std::alloc::Global;
-use std::fs::File;
+use std::io;
 use std::io::{Read, Write};
-use std::os::unix::fs::MetadataExt;
-use std::rt::Files;
-use std::{fs, io};
 
 /// Makes an empty store in the file, and tells what came of it.
-pub(crate) fn format_store<R, T: Start, W: Write>(
+pub(crate) fn format_store<R, X: Disks, T: Start, W: Write>(
     rt: &R,
+    disks: &mut X,
     start: T,
     store: &str,
     output: &mut W,
 ) -> io::Result<u8>
 where
-    R: Files<File = File> + Eprint + AllocGlobal,
+    R: Eprint + AllocGlobal,
     ensures status { IfOk result (λ status. status ≤ 4) }
-    ensures formats { IfOk result (FormatsStore ⟦<FileDevice<T> as Sectors>⟧
-        (IsUnused ⟦<HostFile as FileCalls>⟧.entries) store.now
-        (W.contents output.old) (W.contents output.new)) }
+    ensures asks { X.asked disks.new ≡ (DiskCall.Make, store.now) ∷ X.asked disks.old }
+    ensures formats { FormatsStore ⟦<FileDevice<T> as Sectors>⟧
+        (IsMadeAt ⟦<HostFile as FileCalls>⟧.entries) store.now
+        (W.contents output.old) (W.contents output.new) result }
 {
-    match FileDevice::create_or_cause(rt, store, SECTORS, start) {
+    match disks.make(store, SECTORS, start) {
         Ok(mut device) => {
             let made = format_device(rt.alloc(), &mut device);
             tell_cause(rt, store, device.cause());
@@ -64,8 +68,9 @@ pub(crate) fn format_device<D: Sectors>(alloc: Global, device: &mut D) -> Result
 
 /// Opens the store in the file, and serves the input over it, by `is_strict` up to the first answer that tells a refusal or a
 /// failed device. How many search steps opening repeats is told on `errors` first.
-pub(crate) fn run_store<R, T: Start, I: Read, W: Write, E: Write>(
+pub(crate) fn run_store<R, X: Disks, T: Start, I: Read, W: Write, E: Write>(
     rt: &R,
+    disks: &mut X,
     start: T,
     store: &str,
     is_strict: bool,
@@ -74,26 +79,28 @@ pub(crate) fn run_store<R, T: Start, I: Read, W: Write, E: Write>(
     errors: &mut E,
 ) -> (io::Result<u8>, Watched<W>)
 where
-    R: Files<File = File> + Eprint + AllocGlobal,
+    R: Eprint + AllocGlobal,
     ensures status { IfOk result.0 (λ status. status ≤ 4) }
+    ensures asks { X.asked disks.new ≡ (DiskCall.Take, store.now) ∷ X.asked disks.old }
     ensures runs { IfOk result.0 (RunsStore ⟦<FileDevice<T> as Sectors>⟧
-        (IsUnused ⟦<HostFile as FileCalls>⟧.entries) store.now is_strict
+        (IsTakenAt ⟦<HostFile as FileCalls>⟧.entries) store.now is_strict
         (given_by I.remaining input.old input.new)
         (held W.contents output) (held W.contents result.1)
         input.new.has_failed result.1.has_failed) }
     ensures serves { ServesStore ⟦<FileDevice<T> as Sectors>⟧
-        (IsUnused ⟦<HostFile as FileCalls>⟧.entries) is_strict
+        (IsTakenAt ⟦<HostFile as FileCalls>⟧.entries) store.now is_strict
         (given_by I.remaining input.old input.new)
         (held W.contents output) (held W.contents result.1)
         input.new.has_failed result.1.has_failed }
 {
-    match open_store(rt, start, store, errors) {
+    match open_store(rt, disks, start, store, errors) {
         Ok(opened) => {
             let Opened {
                 mut session,
                 replayed,
             } = opened;
             let (told, output) = serve_opened(
+                rt,
                 rt.alloc(),
                 &mut session,
                 replayed,
@@ -113,9 +120,10 @@ where
 }
 
 /// Makes a store in the new file, of the state that the store of version 1 in the old one stands for, and tells what came of
-/// it. The old file is opened before the new one is made, and neither is touched where both are one.
-pub(crate) fn upgrade_store<R, T: Start, U: Start, W: Write>(
+/// it. The old store is read whole before the new file is made, and neither is touched where both are one.
+pub(crate) fn upgrade_store<R, X: Disks, T: Start, U: Start, W: Write>(
     rt: &R,
+    disks: &mut X,
     start: T,
     start_of_new: U,
     old: &str,
@@ -123,34 +131,42 @@ pub(crate) fn upgrade_store<R, T: Start, U: Start, W: Write>(
     output: &mut W,
 ) -> io::Result<u8>
 where
-    R: Files<File = File> + Eprint + AllocGlobal,
+    R: Eprint + AllocGlobal,
     ensures status { IfOk result IsUpgradeStatus }
-    ensures upgrades { IfOk result (UpgradesStore ⟦<FileDevice<T> as Sectors>⟧
-        ⟦<FileDevice<U> as Sectors>⟧ (IsUnused ⟦<HostFile as FileCalls>⟧.entries)
-        (IsUnused ⟦<HostFile as FileCalls>⟧.entries) old.now new.now
-        (W.contents output.old) (W.contents output.new)) }
+    ensures upgrades { UpgradesStore ⟦<FileDevice<T> as Sectors>⟧ ⟦<FileDevice<U> as Sectors>⟧
+        (IsTakenAt ⟦<HostFile as FileCalls>⟧.entries) (IsMadeAt ⟦<HostFile as FileCalls>⟧.entries)
+        old.now new.now (record { was = X.asked disks.old; now = X.asked disks.new })
+        (W.contents output.old) (W.contents output.new) result }
 {
     if old == new {
         return tell_same(output);
     }
-    if are_one_file(rt, old, new) {
-        return tell_same(output);
-    }
-    match FileDevice::at_or_cause(rt, old, start) {
-        Ok(device) => upgrade_onto(rt, device, start_of_new, old, new, output),
-        Err(refusal) => tell_refusal(rt, output, old, refusal),
-    }
+    upgrade_other(rt, disks, start, start_of_new, old, new, output)
 }
 
-// Whether both paths lead to one file, by whatever links.
-fn are_one_file<R: Files>(rt: &R, old: &str, new: &str) -> bool {
-    let Ok(old) = fs::metadata(rt, old) else {
-        return false;
-    };
-    let Ok(new) = fs::metadata(rt, new) else {
-        return false;
-    };
-    old.dev() == new.dev() && old.ino() == new.ino()
+// The same for two words that differ, which may lead to one file all the same.
+fn upgrade_other<R, X: Disks, T: Start, U: Start, W: Write>(
+    rt: &R,
+    disks: &mut X,
+    start: T,
+    start_of_new: U,
+    old: &str,
+    new: &str,
+    output: &mut W,
+) -> io::Result<u8>
+where
+    R: Eprint + AllocGlobal,
+    ensures status { IfOk result IsUpgradeStatus }
+    ensures upgrades { (compared : List DiskEntry) × (is_one : Bool)
+        × UpgradesOther ⟦<FileDevice<T> as Sectors>⟧ ⟦<FileDevice<U> as Sectors>⟧
+        (IsTakenAt ⟦<HostFile as FileCalls>⟧.entries) (IsMadeAt ⟦<HostFile as FileCalls>⟧.entries)
+        old.now new.now compared is_one (record { was = X.asked disks.old; now = X.asked disks.new })
+        (W.contents output.old) (W.contents output.new) result }
+{
+    if disks.are_one(old, new) {
+        return tell_same(output);
+    }
+    upgrade_taken(rt, disks, start, start_of_new, old, new, output)
 }
 
 fn tell_same<W: Write>(output: &mut W) -> io::Result<u8>
@@ -160,9 +176,35 @@ fn tell_same<W: Write>(output: &mut W) -> io::Result<u8>
     Ok(USAGE)
 }
 
-// Makes the new file, and upgrades the store on the device over the old one into it.
-fn upgrade_onto<R, T: Start, U: Start, W: Write>(
+// Takes the old file, and upgrades the store in it.
+fn upgrade_taken<R, X: Disks, T: Start, U: Start, W: Write>(
     rt: &R,
+    disks: &mut X,
+    start: T,
+    start_of_new: U,
+    old: &str,
+    new: &str,
+    output: &mut W,
+) -> io::Result<u8>
+where
+    R: Eprint + AllocGlobal,
+    ensures status { IfOk result (λ status. status ≤ 4) }
+    ensures upgrades { (taken : List DiskEntry)
+        × UpgradesTaken ⟦<FileDevice<T> as Sectors>⟧ ⟦<FileDevice<U> as Sectors>⟧
+        (IsTakenAt ⟦<HostFile as FileCalls>⟧.entries) (IsMadeAt ⟦<HostFile as FileCalls>⟧.entries)
+        old.now new.now taken (record { was = X.asked disks.old; now = X.asked disks.new })
+        (W.contents output.old) (W.contents output.new) result }
+{
+    match disks.take(old, start) {
+        Ok(device) => upgrade_onto(rt, disks, device, start_of_new, old, new, output),
+        Err(refusal) => tell_refusal(rt, output, old, refusal),
+    }
+}
+
+// Reads the store of version 1 on the device over the old file, and makes one of its state in the new file.
+fn upgrade_onto<R, X: Disks, T: Start, U: Start, W: Write>(
+    rt: &R,
+    disks: &mut X,
     mut device: FileDevice<T>,
     start: U,
     old: &str,
@@ -170,25 +212,66 @@ fn upgrade_onto<R, T: Start, U: Start, W: Write>(
     output: &mut W,
 ) -> io::Result<u8>
 where
-    R: Files<File = File> + Eprint + AllocGlobal,
+    R: Eprint + AllocGlobal,
     ensures status { IfOk result (λ status. status ≤ 4) }
-    ensures upgrades { IfOk result (UpgradesOnto ⟦<FileDevice<T> as Sectors>⟧
-        ⟦<FileDevice<U> as Sectors>⟧ (IsUnused ⟦<HostFile as FileCalls>⟧.entries) device new.now
-        (W.contents output.old) (W.contents output.new)) }
+    ensures upgrades { UpgradesOnto ⟦<FileDevice<T> as Sectors>⟧ ⟦<FileDevice<U> as Sectors>⟧
+        (IsTakenAt ⟦<HostFile as FileCalls>⟧.entries) (IsMadeAt ⟦<HostFile as FileCalls>⟧.entries)
+        device new.now (record { was = X.asked disks.old; now = X.asked disks.new })
+        (W.contents output.old) (W.contents output.new) result }
 {
-    match FileDevice::create_or_cause(rt, new, SECTORS, start) {
+    let read = read_version_1(rt.alloc(), &mut device);
+    tell_cause(rt, old, device.cause());
+    match read {
+        Ok(state) => make_upgraded(rt, disks, start, new, &state, output),
+        Err(fault) => tell_store_fault(output, fault),
+    }
+}
+
+// Makes a store of the state in the new file. The device over the old one is held meanwhile, and so its lock.
+fn make_upgraded<R, X: Disks, U: Start, W: Write>(
+    rt: &R,
+    disks: &mut X,
+    start: U,
+    new: &str,
+    state: &State,
+    output: &mut W,
+) -> io::Result<u8>
+where
+    R: Eprint + AllocGlobal,
+    ensures status { IfOk result (λ status. status ≤ 4) }
+    ensures asks { X.asked disks.new ≡ (DiskCall.Make, new.now) ∷ X.asked disks.old }
+    ensures makes { MakesStoreAt ⟦<FileDevice<U> as Sectors>⟧
+        (IsMadeAt ⟦<HostFile as FileCalls>⟧.entries) state.now new.now
+        (λ fault. IfOk result (TellsMade fault (W.contents output.old) (W.contents output.new)))
+        (λ fault. IfOk result (TellsNewFile new.now fault (W.contents output.old)
+        (W.contents output.new))) }
+{
+    match disks.make(new, SECTORS, start) {
         Ok(mut made) => {
-            let upgraded = upgrade(rt.alloc(), &mut device, &mut made);
-            tell_cause(rt, old, device.cause());
+            let upgraded = make_device(rt.alloc(), &mut made, state);
             tell_cause(rt, new, made.cause());
-            tell_upgrade(output, upgraded.err())
+            tell_made(output, upgraded.err())
         }
         Err(refusal) => tell_new_refusal(rt, output, new, refusal),
     }
 }
 
+// Makes a store of the state on the device.
+fn make_device<D: Sectors>(
+    alloc: Global,
+    device: &mut D,
+    state: &State,
+) -> Result<Place, FormatFault>
+    ensures made { IsMadeWith D.Sectors state.now device.old device.new result }
+    ensures too_small { IsErrOf result FormatFault.TooSmall
+        ↔ D.len device.old < sectors_in version_2 }
+{
+    format_with(alloc, device, state)
+}
+
 // Tells how many steps were repeated, and serves the input.
-fn serve_opened<D: Sectors + Drop, I: Read, W: Write>(
+fn serve_opened<R: Eprint, D: Sectors + Drop, I: Read, W: Write>(
+    rt: &R,
     alloc: Global,
     session: &mut Session<D>,
     replayed: u64,
@@ -211,7 +294,7 @@ fn serve_opened<D: Sectors + Drop, I: Read, W: Write>(
     let output = Watched::again(writer, noted);
     match opened {
         Ok(()) => {
-            let ended = serve_input(alloc, session, is_strict, input, output);
+            let ended = serve_input(rt, alloc, session, is_strict, input, output);
             let (mut writer, noted) = ended.output.apart();
             let told = tell_ended(ended.served, ended.stopped, &mut writer);
             (told, Watched::again(writer, noted))
@@ -238,7 +321,8 @@ struct Ended<W: Write> {
 }
 
 // Serves the input.
-fn serve_input<D: Sectors + Drop, I: Read, W: Write>(
+fn serve_input<R: Eprint, D: Sectors + Drop, I: Read, W: Write>(
+    rt: &R,
     alloc: Global,
     session: &mut Session<D>,
     is_strict: bool,
@@ -250,10 +334,10 @@ fn serve_input<D: Sectors + Drop, I: Read, W: Write>(
         input.new.has_failed result.output.has_failed session.new }
 {
     if is_strict {
-        return serve_strictly(alloc, session, input, output);
+        return serve_strictly(rt, alloc, session, input, output);
     }
     let mut output = output;
-    let served = serve_source(alloc, session, input, &mut output);
+    let served = serve_source(&Progress(rt), alloc, session, input, &mut output);
     Ended {
         served,
         stopped: None,
@@ -262,7 +346,8 @@ fn serve_input<D: Sectors + Drop, I: Read, W: Write>(
 }
 
 // Serves the input up to the first answer that tells a refusal or a failed device.
-fn serve_strictly<D: Sectors + Drop, I: Read, W: Write>(
+fn serve_strictly<R: Eprint, D: Sectors + Drop, I: Read, W: Write>(
+    rt: &R,
     alloc: Global,
     session: &mut Session<D>,
     input: &mut Watched<I>,
@@ -273,7 +358,7 @@ fn serve_strictly<D: Sectors + Drop, I: Read, W: Write>(
         input.new.has_failed result.output.has_failed session.new }
 {
     let mut answers = Strict::new(output);
-    let served = serve_source(alloc, session, input, &mut answers);
+    let served = serve_source(&Progress(rt), alloc, session, input, &mut answers);
     let stopped = stop_of(&answers);
     Ended {
         served,

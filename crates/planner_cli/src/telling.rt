@@ -2,13 +2,13 @@
 ghost use Rattle.std.specs.Prelude.{◌≡◌, ◌≢◌, ◌≤◌, ◌++◌, ◌∷◌, [], IfOk, MatchResult, OnOk, codes};
 ghost use Rattle.std.specs.Io.KnownBytes.{Appends};
 ghost use Rattle.planner_cli.specs.Foretold.{repeating_line};
-ghost use Rattle.planner_cli.specs.Telling.{TellsAnswered, TellsInstanceFault, denial_line, denial_status, format_line, format_status, is_device_fault, new_line, open_line, open_status, store_line, store_status, unmade_line, upgrade_line, upgrade_status, wants_memory};
+ghost use Rattle.planner_cli.specs.Telling.{TellsAnswered, TellsMade, TellsInstanceFault, denial_line, denial_status, format_line, format_status, is_device_fault, new_line, open_line, open_status, store_line, store_status, unmade_line, wants_memory};
 
 use auditor_cli::status::{DONE, FILE, OUT_OF_MEMORY, REFUSED};
 use auditor_cli::{tell_want_of_memory, write_line};
 use checkpoint::{FormatFault, StoreFault};
 use instance_read::{ReadFault, ReadFaultKind};
-use recover::{Denial, UpgradeFault};
+use recover::Denial;
 use sector_disk::{FileFault, FileRefusal};
 use std::io;
 use std::io::Write;
@@ -225,18 +225,16 @@ fn wants_memory(kind: ReadFaultKind) -> bool
     }
 }
 
-/// Tells what came of an upgrade.
-pub(crate) fn tell_upgrade<W: Write>(output: &mut W, fault: Option<UpgradeFault>) -> io::Result<u8>
-    ensures { IfOk result (λ status. (status ≡ upgrade_status fault)
-        × Appends (W.contents output.old) (W.contents output.new) (upgrade_line fault)) }
+/// Tells what came of the new store of an upgrade.
+pub(crate) fn tell_made<W: Write>(output: &mut W, fault: Option<FormatFault>) -> io::Result<u8>
+    ensures { IfOk result (TellsMade fault (W.contents output.old) (W.contents output.new)) }
 {
-    let Some(fault) = fault else {
-        write_line(output, b"ok")?;
-        return Ok(DONE);
-    };
     match fault {
-        UpgradeFault::Old(fault) => tell_store_fault(output, fault),
-        UpgradeFault::New(fault) => tell_unmade(output, fault),
+        None => {
+            write_line(output, b"ok")?;
+            Ok(DONE)
+        }
+        Some(fault) => tell_unmade(output, fault),
     }
 }
 

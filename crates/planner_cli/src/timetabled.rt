@@ -2,9 +2,9 @@
 //!
 //! A store is opened as `run` opens it: under its lock, and the search steps that only its journal has are repeated in memory.
 //! Nothing of the store changes.
-ghost use Rattle.std.specs.Prelude.{◌≡◌, ◌≤◌, All, IfOk, string_bytes};
+ghost use Rattle.std.specs.Prelude.{◌≡◌, ◌≤◌, ◌∷◌, All, IfOk, string_bytes};
 ghost use Rattle.route_sched.specs.Route.{AreLiveOnce};
-ghost use Rattle.sector_disk.specs.FileDevice.{IsUnused};
+ghost use Rattle.sector_disk.specs.Disks.{IsTakenAt};
 ghost use Rattle.auditor_cli.specs.Answer.{IsAnswer, IsSolutionVerdict};
 ghost use Rattle.auditor_cli.specs.Examined.{HasVerdict};
 ghost use Rattle.auditor_cli.specs.Files.{AreReadInTurn};
@@ -22,13 +22,11 @@ use plan_audit::{Verdict, passes_are_local, plans_are_local};
 use plan_timetable::{Form, judged_timetable, timetable};
 use plan_types::{Kind, OutOfMemory, Problem, Route};
 use route_sched::plan_cost;
-use sector_disk::{FileCalls, FileDevice, HostFile, Sectors, Start};
+use sector_disk::{DiskCall, Disks, FileCalls, FileDevice, HostFile, Sectors, Start};
 use sol_text::Solution;
 use std::alloc::Global;
-use std::fs::File;
 use std::io;
 use std::io::Write;
-use std::rt::Files;
 
 /// How a timetable is laid out.
 pub(crate) fn form_of(is_tabbed: bool) -> Form
@@ -109,8 +107,9 @@ fn solution_text(
 
 /// Opens the store in the file, and tells the timetable of its plan. How many search steps opening repeats is told on `errors`
 /// first.
-pub(crate) fn timetable_store<R, T: Start, W: Write, E: Write>(
+pub(crate) fn timetable_store<R, X: Disks, T: Start, W: Write, E: Write>(
     rt: &R,
+    disks: &mut X,
     start: T,
     store: &str,
     form: Form,
@@ -118,13 +117,14 @@ pub(crate) fn timetable_store<R, T: Start, W: Write, E: Write>(
     errors: &mut E,
 ) -> io::Result<u8>
 where
-    R: Files<File = File> + Eprint + AllocGlobal,
+    R: Eprint + AllocGlobal,
     ensures status { IfOk result (λ status. status ≤ 4) }
+    ensures asks { X.asked disks.new ≡ (DiskCall.Take, store.now) ∷ X.asked disks.old }
     ensures told { IfOk result (TimetablesStore ⟦<FileDevice<T> as Sectors>⟧
-        (IsUnused ⟦<HostFile as FileCalls>⟧.entries) store.now form
+        (IsTakenAt ⟦<HostFile as FileCalls>⟧.entries) store.now form
         (W.contents output.old) (W.contents output.new)) }
 {
-    match open_store(rt, start, store, errors) {
+    match open_store(rt, disks, start, store, errors) {
         Ok(opened) => {
             let told = tell_state(rt.alloc(), opened.session.state(), form, output);
             close_store(rt, store, opened.session);

@@ -2,7 +2,7 @@
 use Rattle.std.proofs.Common.{◌≡◌, ℕ, List, [], ◌∷◌, take, sym, ◌∙◌, ap, subst}
 use Rattle.sector_disk.specs.declared.mem_device.MemDevice.{MemDevice}
 use Rattle.plan_audit.specs.Locality.{TestsSayPass}
-use Rattle.command_core.specs.Runs.{after, AreAccepted}
+use Rattle.command_core.specs.Runs.{IsState, after, AreAccepted}
 use Rattle.command_core.specs.RunLaws.{RunsKeepFacts, PlansNeverCostMore, RunsAreOneSearch, RunsAreOneAnnealing, IsNoWorse}
 use Rattle.command_core.specs.declared.states.State.{State}
 use Rattle.command_core.specs.declared.commands.Command.{Command}
@@ -54,12 +54,12 @@ begins [] (run ∷ runs) device left session are opened = elim are [ ]
 begins (round ∷ rounds) [] device left session are opened = elim are [ ]
 
 module _ (keep : RunsKeepFacts) (never_more : PlansNeverCostMore) (one_search : RunsAreOneSearch) (one_annealing : RunsAreOneAnnealing) (say : TestsSayPass) where
-  leads_to : (begun : State) (commands : List Command) (given : State) (image : List ℕ) → AreAccepted begun commands → given ≡ after begun commands → StandsFor Two image given
-      → LeadsTo begun commands given
-  leads_to begun commands given image accepted same stands = record {
+  -- of a state that keeps the facts of states
+  pub leads_to : (begun : State) (commands : List Command) (given : State) → IsState given → AreAccepted begun commands → given ≡ after begun commands → LeadsTo begun commands given
+  leads_to begun commands given facts accepted same = record {
     accepted = accepted;
     state = same;
-    plan = passing say given (stands_state keep never_more say image given stands);
+    plan = passing say given facts;
     cost = λ q from to. subst (λ (s : State). IsNoWorse (after begun (take q commands)) s) (sym same) (never_more begun commands q accepted from to).0;
     search = λ before searches job split all reached.
         same ∙ sym (ap (after begun) split) ∙ after-append begun before searches ∙ ap (λ (s : State). after s searches) reached ∙ one_search job searches all;
@@ -76,5 +76,5 @@ module _ (keep : RunsKeepFacts) (never_more : PlansNeverCostMore) (one_search : 
         stands = at.stands;
         counts = all.counts;
         one_each = all.one_each;
-        leads = leads_to at.begun (standing rounds runs all.counts) session.state (seen_in ends.left) all.accepted (ends.opened.alone _ all.stands) ends.opened.stands;
+        leads = leads_to at.begun (standing rounds runs all.counts) session.state (stands_state keep never_more say (seen_in ends.left) session.state ends.opened.stands) all.accepted (ends.opened.alone _ all.stands);
       }

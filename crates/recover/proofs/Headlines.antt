@@ -44,6 +44,7 @@ module _ (keep : RunsKeepFacts) (never_more : PlansNeverCostMore) (say : TestsSa
     all_acknowledged = stop.all_acknowledged;
     one_more = stop.one_more;
     within = stop.within;
+    accepted = stop.accepted;
     state = same;
     plan = passing say given (subst IsState (sym same) (stands_state image (after begun (take stop.count commands)) stop.stands));
     cost = λ q from to. costs q from to;

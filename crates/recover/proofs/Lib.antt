@@ -7,4 +7,5 @@ mod Openings
 mod Upgrades
 mod RoundLemmas
 mod FoldLemmas
+mod LinkLemmas
 mod Joins

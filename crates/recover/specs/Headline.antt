@@ -5,7 +5,7 @@ use Rattle.std.specs.Prelude.{◌≡◌, ℕ, ◌+◌, ◌≤◌, false, List, l
 use Rattle.plan_types.specs.declared.plans.Cost.{Cost}
 use Rattle.plan_audit.specs.Verdict.{planned, IsVerdict}
 use Rattle.plan_audit.specs.declared.rules.Verdict.TheVariants.{Pass}
-use Rattle.command_core.specs.Runs.{after, last_change}
+use Rattle.command_core.specs.Runs.{after, AreAccepted, last_change}
 use Rattle.command_core.specs.RunLaws.{IsNoWorse}
 use Rattle.command_core.specs.declared.states.State.{State}
 use Rattle.command_core.specs.declared.states.State.TheVariants.{Empty, Loaded}
@@ -25,13 +25,14 @@ abbrev pub HasPassingPlan : State → Type 0
 HasPassingPlan Empty = ⊤
 HasPassingPlan (Loaded job) = (cost : Cost) × IsVerdict job.problem (planned job.plan job.pins) (Pass cost)
 
--- The conclusion. The state given is the one after the first `count` of the commands that were kept: all acknowledged ones, and at most one
--- more. Its plan passes, and from the last change among these commands on, no incumbent had a lower cost.
+-- The conclusion, which knows no device. The state given is the one after the first `count` of the commands that were kept, each of them accepted in
+-- turn: all acknowledged ones, and at most one more. Its plan passes, and from the last change among these commands on, no incumbent had a lower cost.
 pub record IsRecovered (begun : State) (commands : List Command) (acknowledged : ℕ) (given : State) : Type 0 where
   pub count : ℕ
   pub all_acknowledged : acknowledged ≤ count
   pub one_more : count ≤ acknowledged + 1
   pub within : count ≤ length commands
+  pub accepted : AreAccepted begun (take count commands)
   pub state : given ≡ after begun (take count commands)
   pub plan : HasPassingPlan given
   pub cost : (q : ℕ) → last_change (take count commands) ≤ q → q ≤ count → IsNoWorse (after begun (take q commands)) given

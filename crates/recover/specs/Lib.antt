@@ -12,6 +12,7 @@ pub mod Reopening
 pub mod Joining
 pub mod Rounds
 pub mod Folds
+pub mod Links
 -- of private functions alone
 pub mod Committing
 pub mod Repeating

@@ -1,5 +1,5 @@
 -- What an upgrade answers, and what it makes of the two devices.
-use Rattle.std.specs.Prelude.{◌≡◌, ◌⊎◌, ℕ, ◌+◌, ◌<◌, List, [], Result, Ok, Err, OnOk, IfOk, ⊤}
+use Rattle.std.specs.Prelude.{◌≡◌, ◌⊎◌, ℕ, ◌+◌, ◌<◌, List, [], Result, Ok, Err, OnOk, IfOk, IfErr, IsErrOf, MatchResult, ⊤}
 use Rattle.sector_disk.specs.Sectors.{Throughout, more}
 use Rattle.sector_disk.specs.Calls.{Calls}
 use Rattle.sector_disk.specs.declared.sectors.Sectors as sectors
@@ -11,8 +11,9 @@ use Rattle.checkpoint.specs.Stores.{IsUnformatted}
 use Rattle.checkpoint.specs.Holds.{Holds}
 use Rattle.checkpoint.specs.Holdless.{IsOfLoad, UnlessUnread}
 use Rattle.checkpoint.specs.Moments.{IsInFormat}
-use Rattle.checkpoint.specs.Refused.{faults_of_store, faults_of_format}
+use Rattle.checkpoint.specs.Refused.{faults_after_reading, faults_of_store, faults_of_format}
 use Rattle.checkpoint.specs.declared.faults.FormatFault.TheVariants as format
+use Rattle.checkpoint.specs.declared.faults.StoreFault.{StoreFault}
 use Rattle.checkpoint.specs.declared.faults.StoreFault.TheVariants.{NotFormatted}
 use Rattle.checkpoint.specs.declared.places.Place.{Place}
 use Rattle.recover.specs.declared.upgrading.UpgradeFault.{UpgradeFault}
@@ -56,6 +57,16 @@ IsKeptByUpgrade (New format.DeviceFault) old old_after new new_after = ⊤
 IsKeptByUpgrade (New format.OutOfMemory) old old_after new new_after = new_after ≡ new
 
 module _ {D : Type 0} (on : sectors.Ghosts D) where
+  -- What is told of a store of version 1: the state that its image stands for, or why it stands for none, unless memory was refused or the device
+  -- failed. The device is synced and read, and never written to: at each moment each of its images is one of those at entry.
+  pub record ReadsOldStore (result : Result State StoreFault) (old after : D) : Type 0 where
+    pub found : on.honest after → MatchResult result (StandsFor One (on.seen old)) (UnlessUnread (StandsForNone One (on.seen old)))
+    pub fails : IfErr result IsOfLoad
+    pub called : Calls on (more result 1) (faults_after_reading result) old after
+    pub moments : on.honest after → Throughout on.clock on.possible_since old after (λ m image. IsBetween (on.calls old) (on.calls old + 1) m image × on.possible old image)
+    -- a device that is smaller than any store is not called
+    pub small : on.len old < least_sectors → (after ≡ old) × IsErrOf result NotFormatted
+
   -- The old device is synced and read, and never written to: at each moment each of its images is one of those at entry.
   pub record IsReadOnly {T : Type 0} (answer : Result T UpgradeFault) (old after : D) : Type 0 where
     pub called : Calls on (λ n m. OnRead answer (m ≡ n + 1)) (faults_of_old answer) old after

@@ -1,9 +1,10 @@
 //! What is known of stops and recovery, from the promises of `run` and of `open` alone.
 ghost use Rattle.recover.specs.Headline.{Headline};
 ghost use Rattle.recover.specs.Joining.{AppliesAreRuns, RunsJoin, RunsAddUp, HoldsOverStops, StoppedLeaveTheSame, RefusedAreStopped, RefusedAreRepeated};
+ghost use Rattle.recover.specs.Links.{LinksLeadOn};
 ghost use Rattle.recover.specs.Reopening.{Reopens, OpensNew};
 
-use command_core::{effects_keep_facts, plans_never_cost_more};
+use command_core::{annealings_add_up, effects_keep_facts, plans_never_cost_more, searches_add_up};
 use plan_audit::tests_say_pass;
 use sector_disk::Sectors;
 
@@ -37,6 +38,18 @@ pub fn stopped_openings_may_be_made_again<D: Sectors, E: Sectors>()
 {
     effects_keep_facts();
     plans_never_cost_more();
+    tests_say_pass();
+}
+
+/// Over any list of restarts, each of which begins with the state that the one before gave, the commands that stand, joined, led from the first
+/// state to the last: of each run all acknowledged ones, and at most one more. Each restart is what the headline gives, of whatever devices.
+pub fn restarts_add_up()
+    ensures { LinksLeadOn }
+{
+    effects_keep_facts();
+    plans_never_cost_more();
+    searches_add_up();
+    annealings_add_up();
     tests_say_pass();
 }
 

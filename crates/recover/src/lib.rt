@@ -1,7 +1,7 @@
 //! Sessions over a store: commands that are acknowledged once they are durable, and recovery after a stop at any moment.
 //!
 //! `Session::open` opens the store on a device, `apply` and `run` carry commands out, `close` gives the device back.
-//! `steps_to_repeat` tells beforehand how long opening takes. `upgrade` takes a store of version 1 over. `command_serving` serves a session by lines of text, `planner_cli` opens it.
+//! `steps_to_repeat` tells beforehand how long opening takes. `upgrade` takes a store of version 1 over, which `read_version_1` reads. `command_serving` serves a session by lines of text, `planner_cli` opens it.
 //!
 //! A command is checked and carried out in its place (`Planner` of `command_core`), and then committed: as one record, or
 //! for a command without one and where 256 records stand by a snapshot of that state. Only then is it answered;
@@ -21,8 +21,8 @@
 //! `specs/StandsFor.antt` says which state an image stands for by the bytes and limits of a version, `specs/Replies.antt` which
 //! commands are kept and acknowledged, `specs/Applying.antt` what `apply` promises, `specs/Moments.antt` what a stop within a run
 //! leaves, `specs/Opening.antt` what opening gives, `specs/Upgrading.antt` what an upgrade makes of both devices,
-//! `specs/Sessions.antt` what a session keeps, `specs/Headline.antt` the headline, `specs/Joining.antt` how it goes on,
-//! `specs/Reopening.antt` what opens with its state, `specs/Rounds.antt` and `specs/Folds.antt` what rounds leave. All is this
+//! `specs/Sessions.antt` what a session keeps, `specs/Headline.antt` the headline, `specs/Joining.antt` and `specs/Links.antt` how it
+//! goes on, `specs/Reopening.antt` what opens with its state, `specs/Rounds.antt` and `specs/Folds.antt` what rounds leave. All is this
 //! project's own.
 //!
 //! Proved:
@@ -36,13 +36,16 @@
 //!   and two for a record (`called`), and at each moment the state before the command or the one after it (`moments`).
 //! - `run`: each command is answered as `apply` answers it (`replies`); each moment leaves the state after a first part of
 //!   the kept commands that holds every acknowledged one (`moments`).
+//! - `read_version_1`: the state that a device's store of version 1 stands for, or why it stands for none, by reading alone
+//!   (`ReadsOldStore`).
 //! - `upgrade`: the old device's images are at each moment those at entry (`reads`), refused or not (`refused`). From the
 //!   new device's first sync to its header's write each image is unformatted; after `Ok` each stands for the state that the old
 //!   device stood for (`makes`), so that `a_new_store_opens_with_its_state` speaks of it.
 //! - The headline, from the promises of `run` and `open` alone: `recovery_keeps_every_acknowledged_command`. Runs of one
 //!   session are one run of the joined lists: `runs_add_up`. Openings may be stopped or refused before the one that gives the
 //!   state: `stopped_openings_may_be_made_again`. A session that is closed opens with its state:
-//!   `a_closed_session_opens_the_same`. So does a new store: `a_new_store_opens_with_its_state`.
+//!   `a_closed_session_opens_the_same`. So does a new store: `a_new_store_opens_with_its_state`. Runs and the openings behind
+//!   them, of whatever devices, add up: `restarts_add_up`.
 //! - `run_rounds`: over any list of stops and restarts of a device in memory, the state is the one after the commands that
 //!   stand, joined, of each round all acknowledged ones and at most one more (`fold`); of each round what `open`, `apply`
 //!   and a crash promise (`rounds`; alone `run_round`).
@@ -62,10 +65,11 @@ mod upgrading;
 pub use denials::Denial;
 pub use laws::{
     a_closed_session_opens_the_same, a_new_store_opens_with_its_state,
-    recovery_keeps_every_acknowledged_command, runs_add_up, stopped_openings_may_be_made_again,
+    recovery_keeps_every_acknowledged_command, restarts_add_up, runs_add_up,
+    stopped_openings_may_be_made_again,
 };
 pub use opening::{Opened, steps_to_repeat};
 pub use replies::{Reply, Run};
 pub use rounds::{Halt, Round, Rounds, RoundsFault, run_round, run_rounds};
 pub use sessions::Session;
-pub use upgrading::{UpgradeFault, upgrade};
+pub use upgrading::{UpgradeFault, read_version_1, upgrade};

@@ -13,6 +13,8 @@ use crate::denials::Denial;
 use crate::replies::Reply;
 use checkpoint::{LAST_SEQUENCE, Place};
 use command_core::{Command, Planner, State, accepted_commands_fit_records, check};
+use log::Log;
+use log::sink::Discard;
 use sector_disk::{MemDevice, Sectors};
 use std::alloc::Global;
 use std::marker::Model;
@@ -77,7 +79,15 @@ impl<D: Sectors> Session<D> {
         ensures { IsApplied D.len D.calls D.faults D.honest D.clock D.possible_since D.possible
             self.old command result self.new }
     {
-        let answer = self.answer(alloc, &command);
+        self.apply_logged(&Discard, alloc, command)
+    }
+
+    /// The same, where each try with fewer vehicles is logged as it ends.
+    pub fn apply_logged<R: Log>(&mut self, rt: &R, alloc: Global, command: Command) -> Reply
+        ensures { IsApplied D.len D.calls D.faults D.honest D.clock D.possible_since D.possible
+            self.old command result self.new }
+    {
+        let answer = self.answer(rt, alloc, &command);
         Reply {
             answer,
             calls: self.device.calls(),
@@ -85,7 +95,7 @@ impl<D: Sectors> Session<D> {
     }
 
     // What the command is answered.
-    fn answer(&mut self, alloc: Global, command: &Command) -> Result<(), Denial>
+    fn answer<R: Log>(&mut self, rt: &R, alloc: Global, command: &Command) -> Result<(), Denial>
         ensures answer { IsAnswer (denial self.old command.now) result }
         ensures makes { Makes result self.old command.now self.new }
         ensures called { Calls D.Sectors (more result (calls_of self.old.place command.now))
@@ -102,7 +112,7 @@ impl<D: Sectors> Session<D> {
         self.images_stand_for_the_state();
         match self.denial(command) {
             Some(denial) => Err(denial),
-            None => self.carry_out(alloc, command),
+            None => self.carry_out(rt, alloc, command),
         }
     }
 
@@ -124,7 +134,7 @@ impl<D: Sectors> Session<D> {
 
     // Carries out a command that is not denied: first the state after it, for which there may be no memory, and then the commit. Where that
     // fails, what stood before is put back.
-    fn carry_out(&mut self, alloc: Global, command: &Command) -> Result<(), Denial>
+    fn carry_out<R: Log>(&mut self, rt: &R, alloc: Global, command: &Command) -> Result<(), Denial>
         requires { denial self.old command.now ≡ None }
         ensures answer { IsAnswer None result }
         ensures makes { Makes result self.old command.now self.new }
@@ -140,7 +150,7 @@ impl<D: Sectors> Session<D> {
             (D.calls self.old.device + calls_of self.old.place command.now)) }
     {
         accepted_commands_fit_records();
-        let Ok(before) = self.planner.change_accepted(alloc, command) else {
+        let Ok(before) = self.planner.change_accepted(rt, alloc, command) else {
             return Err(Denial::OutOfMemory);
         };
         match commit(

@@ -1,14 +1,16 @@
 //! A store of version 1 is taken over into one of the version that is written.
 //!
 //! The old device is read as `open` reads one, by version 1's bytes and limits, and the new one made as `format` makes it, with the
-//! state that was read. So version 1 has no writer, and the old store stays as it was.
+//! state that was read. So version 1 has no writer, and the old store stays as it was. The two stand for themselves
+//! (`read_version_1`, `format_with` of `checkpoint`), so that who makes the new device first reads the old one whole.
 ghost use Rattle.std.specs.Prelude.{◌≡◌, ◌<◌, ◌↔◌, IfErr, IsErrOf};
 ghost use Rattle.checkpoint.specs.Layouts.{version_2, sectors_in};
 ghost use Rattle.recover.specs.Names.{upgrade_fault_name};
-ghost use Rattle.recover.specs.Upgrading.{OnWritten, IsMadeOfOld, IsReadOnly, IsRefusal, IsWrittenAnew};
+ghost use Rattle.recover.specs.Upgrading.{OnWritten, IsMadeOfOld, IsReadOnly, IsRefusal, IsWrittenAnew, ReadsOldStore};
 
 use crate::opening::recover;
 use checkpoint::{FormatFault, Place, SECTORS, StoreFault, format_with};
+use command_core::State;
 use sector_disk::Sectors;
 use state_codec::version::Version;
 use std::alloc::Global;
@@ -37,11 +39,24 @@ impl UpgradeFault {
     }
 }
 
+/// The state that the store of version 1 on the device stands for: what it holds, with the commands of its records repeated, all by version 1's
+/// limits. The device is synced and read, and never written to, so that it stands for its state at each moment, also where it is refused.
+///
+/// It is refused only where its image stands for no state of version 1, where memory is refused or where the device fails. A device of fewer
+/// than 802 sectors is `NotFormatted`, and is not called.
+pub fn read_version_1<D: Sectors>(alloc: Global, old: &mut D) -> Result<State, StoreFault>
+    ensures { ReadsOldStore D.Sectors result old.old old.new }
+{
+    match recover(alloc, old, Version::One) {
+        Ok(found) => Ok(found.state),
+        Err(fault) => Err(fault),
+    }
+}
+
 /// Makes a store on the new device, of the state that the old one's store of version 1 stands for.
 ///
-/// `New(TooSmall)` below 8,450 sectors, before either device is called. Then the old device is synced and read and the commands of its
-/// records are repeated, all by version 1's limits; it is never written to, so that it stands for its state at each moment, also where the
-/// upgrade is refused. Then the new device gets the six calls of a format. From its first sync to its header's write each image of it is
+/// `New(TooSmall)` below 8,450 sectors, before either device is called. Then the old device is read as `read_version_1` reads it. Then the new
+/// device gets the six calls of a format. From its first sync to its header's write each image of it is
 /// `NotFormatted`, and after `Ok` each stands for the old one's state. Want of memory for the snapshot comes before the first of these calls.
 pub fn upgrade<D: Sectors, E: Sectors>(
     alloc: Global,
@@ -60,11 +75,11 @@ pub fn upgrade<D: Sectors, E: Sectors>(
     if new.len() < SECTORS {
         return Err(UpgradeFault::New(FormatFault::TooSmall));
     }
-    let found = match recover(alloc, old, Version::One) {
-        Ok(found) => found,
+    let state = match read_version_1(alloc, old) {
+        Ok(state) => state,
         Err(fault) => return Err(UpgradeFault::Old(fault)),
     };
-    match format_with(alloc, new, &found.state) {
+    match format_with(alloc, new, &state) {
         Ok(place) => Ok(place),
         Err(fault) => Err(UpgradeFault::New(fault)),
     }

@@ -16,7 +16,7 @@ mod stores;
 
 use pieces::print_pieces;
 use planner_cli::{HostFiles, HostNewFiles, Streams, Watched, run_words};
-use sector_disk::Unknown;
+use sector_disk::{HostDisks, Unknown};
 use std::alloc::{AllocError, Global};
 use std::{fs, io};
 
@@ -42,6 +42,7 @@ fn print_answers(rt: &HostRuntime) -> io::Result<()> {
 
 // The status that the program ends with.
 fn status_of(rt: &HostRuntime, words: &[&str]) -> u8 {
+    let mut disks = HostDisks::new(rt);
     let mut files = HostFiles::new(rt);
     let mut new_files = HostNewFiles::new(rt);
     let streams = Streams {
@@ -53,6 +54,7 @@ fn status_of(rt: &HostRuntime, words: &[&str]) -> u8 {
         rt,
         Unknown,
         Unknown,
+        &mut disks,
         &mut files,
         &mut new_files,
         streams,

@@ -3,6 +3,7 @@
 
 use checkpoint::{SECTORS, format};
 use command_serving::{ServeFault, Sink, Stopped, Strict, Watched, serve_source};
+use log::sink::Discard;
 use recover::Session;
 use sector_disk::MemDevice;
 use std::alloc::Global;
@@ -89,7 +90,7 @@ struct Served {
 fn serve_strictly(alloc: Global, session: &mut Session<MemDevice>, input: &[u8]) -> Served {
     let mut reader: &[u8] = input;
     let mut writer = Strict::new(Watched::new(Vec::new(alloc)));
-    let fault = serve_source(alloc, session, &mut reader, &mut writer).err();
+    let fault = serve_source(&Discard, alloc, session, &mut reader, &mut writer).err();
     let stopped = writer.stopped();
     Served {
         text: writer.into_inner().into_inner(),

@@ -4,6 +4,7 @@ ghost use Rattle.plan_audit.specs.Passes.{passes};
 
 use crate::tests::builders::{Case, FOUR_BY_ONE, Given, case_of, stops_of};
 use fleet_tries::try_fleets;
+use log::sink::Discard;
 use plan_types::Kind;
 use std::alloc::Global;
 use std::test::Fail;
@@ -120,7 +121,16 @@ fn tried(alloc: Global, case: &Case, count: u32) -> Result<Option<(Vec<u32>, u64
     if pinned != case.problem.fleet as usize || !case.is_passing(alloc)? {
         return Ok(None);
     }
-    let tried = try_fleets(alloc, &case.problem, &case.pins, &case.plan, 0, 0, count)?;
+    let tried = try_fleets(
+        &Discard,
+        alloc,
+        &case.problem,
+        &case.pins,
+        &case.plan,
+        0,
+        0,
+        count,
+    )?;
     Ok(Some((stops_of(alloc, &tried.plan.routes)?, tried.step)))
 }
 

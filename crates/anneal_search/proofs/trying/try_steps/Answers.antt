@@ -1,10 +1,10 @@
 use Rattle.std.proofs.Common.{rules, ◌≡◌, ◌+◌, ◌-◌, ◌<◌, ◌==◌, true, false, sym, ap, ◌∙◌, arith}
-use Rattle.std.proofs.lemmas.Bool.{not-true}
+use Rattle.std.proofs.lemmas.Bool.{not-false, not-true}
 use Rattle.plan_types.specs.declared.plans.Plan.{Plan}
 use Rattle.seeded_search.specs.Generator.{NextStep}
 use Rattle.anneal_search.specs.Attempts.{trying_by}
 use Rattle.anneal_search.specs.Trying.{Trying, begun, try_steps}
-use Rattle.anneal_search.proofs.TryLemmas.{not_false, step_off, step_on}
+use Rattle.anneal_search.proofs.TryLemmas.{step_off, step_on}
 use Rattle.anneal_search.proofs.trying.try_steps.Goals.{then-loop-attempt-test+else-leaves_out, else-loop-attempt-test}
 use Rattle.anneal_search.proofs.trying.try_steps.Goals as goal
 
@@ -52,7 +52,7 @@ returns c =
     let is = c.loop-attempt.invariant in
     let off : last.made < c.args.most → (last.annealing.walk.best.unplanned == 0) ≡ true =
     λ some. elim c.loop-attempt-test.branch [
-      | then-loop-attempt-test+else-leaves_out w ↦ not_false (last.annealing.walk.best.unplanned == 0) (sym w.leaves_out.ensures ∙ w.if-leaves_out.false)
+      | then-loop-attempt-test+else-leaves_out w ↦ not-false (last.annealing.walk.best.unplanned == 0) (sym w.leaves_out.ensures ∙ w.if-leaves_out.false)
       | else-loop-attempt-test w ↦ absurd (omega (arith, some, w.loop-attempt-test.false))
     ] in
     let same =

@@ -10,28 +10,28 @@ use Rattle.command_core.proofs.ReduceLemmas.{reduced_is, tries_kept}
 use Rattle.command_core.proofs.reducing.reduce.Goals as goal
 
 pub begin-requires-clause-plan : goal.begin-requires-clause-plan
-begin-requires-clause-plan c =
+begin-requires-clause-plan g c =
     let job = c.job.inside in
     let j : JobValue = record { problem = job.problem; pins = job.pins.routes; plan = job.plan.routes; work = job.work.routes; deviation = job.deviation; seed = job.seed; steps = job.steps } in
     (tries_kept j c.args.count c.in_ok-tried.tried c.in_ok-tried.ensures c.tries_keep_plans.ensures c.job.invariant).0
 
 pub begin-requires-clause-work : goal.begin-requires-clause-work
-begin-requires-clause-work c =
+begin-requires-clause-work g c =
     let job = c.job.inside in
     let j : JobValue = record { problem = job.problem; pins = job.pins.routes; plan = job.plan.routes; work = job.work.routes; deviation = job.deviation; seed = job.seed; steps = job.steps } in
     (tries_kept j c.args.count c.in_ok-tried.tried c.in_ok-tried.ensures c.tries_keep_plans.ensures c.job.invariant).0
 
 pub anneal_to-requires-clause-order : goal.anneal_to-requires-clause-order
-anneal_to-requires-clause-order c =
+anneal_to-requires-clause-order g c =
     let job = c.job.inside in
     let j : JobValue = record { problem = job.problem; pins = job.pins.routes; plan = job.plan.routes; work = job.work.routes; deviation = job.deviation; seed = job.seed; steps = job.steps } in
     omega (arith, (tries_kept j c.args.count c.in_ok-tried.tried c.in_ok-tried.ensures c.tries_keep_plans.ensures c.job.invariant).1, c.from.ensures)
 
 pub anneal_to-requires-clause-last : goal.anneal_to-requires-clause-last
-anneal_to-requires-clause-last c = omega (arith, (fit 524288 c.args.job.now.steps c.args.count c.requires).1, ap (λ (i : JobValue). i.steps) c.job.view_is, c.from.ensures)
+anneal_to-requires-clause-last g c = omega (arith, (fit 524288 c.args.job.now.steps c.args.count c.requires).1, ap (λ (i : JobValue). i.steps) c.job.view_is, c.from.ensures)
 
 pub returns-clause-ok : goal.returns-clause-ok
-returns-clause-ok c =
+returns-clause-ok g c =
     let j = c.args.job.now in
     let tried = c.in_ok-tried.tried in
     let has = subst (λ (i : JobValue). HasTries (all_tries i.problem i.pins i.seed c.args.count i.steps i.plan) tried) c.job.view_is c.in_ok-tried.ensures in

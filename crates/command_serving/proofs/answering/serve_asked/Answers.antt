@@ -35,7 +35,7 @@ returns-in-Refused-clause-serves g c = λ reading rest how is fits known.
 
 pub returns-in-Plain-clause-serves : goal.returns-in-Plain-clause-serves
 returns-in-Plain-clause-serves g c = λ reading rest how is fits known.
-    line_on g.D.Sectors c.args.session.now _ _ _ _ reading rest c.in-Plain.is c.tell-in-Plain.result c.once-in-Plain.ensures refl known (answers_told c.tell-in-Plain.result _ _ c.applied-answer.ensures c.tell-in-Plain.ensures.told)
+    line_on g.D.Sectors c.args.session.now _ _ _ _ reading rest c.in-Plain.is c.tell-in-Plain.result c.once-in-Plain.ensures refl known (answers_told c.tell-in-Plain.result _ _ c.applied_with_hint-answer.ensures c.tell-in-Plain.ensures.told)
 
 pub returns-in-Steps-clause-serves : goal.returns-in-Steps-clause-serves
 returns-in-Steps-clause-serves g c = λ reading rest how is fits known.

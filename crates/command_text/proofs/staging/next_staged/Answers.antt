@@ -1,5 +1,5 @@
 -- By whether a deviation is set before the next steps.
-use Rattle.std.proofs.Common.{rules, ◌≡◌, ◌∙◌, ◌∷◌, List, [], Some, None, sym, ap, subst}
+use Rattle.std.proofs.Common.{rules, ◌≡◌, ◌∷◌, List, [], None, sym, subst}
 use Rattle.std.specs.Prelude.{MatchOption}
 use Rattle.command_core.specs.Effects.{effect}
 use Rattle.command_core.specs.declared.commands.Command.{Command}

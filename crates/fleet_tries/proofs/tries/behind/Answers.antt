@@ -9,7 +9,7 @@ use Rattle.fleet_tries.proofs.TryLemmas.{behind_is, chosen_routes}
 use Rattle.fleet_tries.proofs.tries.behind.Goals as goal
 
 pub returns : goal.returns
-returns c pins end has =
+returns g c pins end has =
     let p = c.args.problem.now in
     let t = c.args.tries in
     let crew = c.args.crew.now in

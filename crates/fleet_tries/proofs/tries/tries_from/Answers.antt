@@ -6,7 +6,7 @@ use Rattle.fleet_tries.proofs.tries.tries_from.Goals.{then-loop-tries-test+else-
 use Rattle.fleet_tries.proofs.tries.tries_from.Goals as goal
 
 pub loop-tries-init : goal.loop-tries-init
-loop-tries-init c =
+loop-tries-init g c =
     let laws = below_of c.picked_pass.ensures.picked c.picked_pass.ensures.back c.tries_keep_passing.ensures.passing c.tries_keep_passing.ensures.short in
     record {
       at =
@@ -17,10 +17,10 @@ loop-tries-init c =
     }
 
 pub next-requires-clause-few : goal.next-requires-clause-few
-next-requires-clause-few c = omega (arith, c.loop-tries.invariant.end, c.loop-tries.invariant.first)
+next-requires-clause-few g c = omega (arith, c.loop-tries.invariant.end, c.loop-tries.invariant.first)
 
 pub loop-tries-smaller : goal.loop-tries-smaller
-loop-tries-smaller c =
+loop-tries-smaller g c =
     let laws = below_of c.picked_pass.ensures.picked c.picked_pass.ensures.back c.tries_keep_passing.ensures.passing c.tries_keep_passing.ensures.short in
     let order = order_of c.costs_compare_part_by_part.ensures.below_tells c.costs_are_in_order.ensures.below_is_at_most in
     let p = c.args.problem.now in
@@ -31,7 +31,7 @@ loop-tries-smaller c =
     (at_next laws p pins c.requires.pins c.requires.kind.1 c.args.seed c.args.count end order c.requires.kind.0 _ t (tries_by c.in_ok-tries.tries) on c.in_ok-tries.ensures c.loop-tries.invariant.at).1
 
 pub loop-tries-preserved : goal.loop-tries-preserved
-loop-tries-preserved c =
+loop-tries-preserved g c =
     let laws = below_of c.picked_pass.ensures.picked c.picked_pass.ensures.back c.tries_keep_passing.ensures.passing c.tries_keep_passing.ensures.short in
     let order = order_of c.costs_compare_part_by_part.ensures.below_tells c.costs_are_in_order.ensures.below_is_at_most in
     let p = c.args.problem.now in
@@ -43,7 +43,7 @@ loop-tries-preserved c =
     record { at = next.0; end = c.loop-tries.invariant.end; first = omega (arith, c.loop-tries.invariant.first, next.2) }
 
 pub returns : goal.returns
-returns c =
+returns g c =
     let laws = below_of c.picked_pass.ensures.picked c.picked_pass.ensures.back c.tries_keep_passing.ensures.passing c.tries_keep_passing.ensures.short in
     let p = c.args.problem.now in
     let pins = c.args.pins.now.routes in

@@ -1,6 +1,5 @@
--- The session was empty, and answered the command.
-use Rattle.std.proofs.Common.{◌≡◌, List, ℕ, false, inr, rules}
-use Rattle.std.proofs.lemmas.Result.{IfOk-weaker}
+-- The session was empty, and answered the command, or holds an instance.
+use Rattle.std.proofs.Common.{◌≡◌, List, ℕ, false, inl, inr, rules}
 use Rattle.command_core.specs.declared.states.State.TheVariants.{Empty}
 use Rattle.planner_cli.specs.Loading.{holds_instance}
 use Rattle.planner_cli.proofs.TellLemmas.{begun, is_empty}
@@ -16,8 +15,7 @@ returns-clause-begins g c =
     let given = c.apply-reply.ensures in
     let holds_none : holds_instance old.state ≡ false = search rules in
     let empty : old.state ≡ Empty = is_empty old.state holds_none in
-    IfOk-weaker c.tell_answer.result _ _
-    (λ status told. inr (record {
+    inr (record {
       empty = empty;
       reply = c.apply-reply.result;
       new = new;
@@ -25,5 +23,5 @@ returns-clause-begins g c =
       device = c.close-2.ensures.device;
       stands = begun c.apply-reply.result.answer old new c.args.command
           (λ s. g.D.Sectors.honest left → (image : List ℕ) → g.D.Sectors.possible left image → StandsFor Two image s) empty given.makes c.close-2.ensures.stands;
-      told = told;
-    })) c.tell_answer.ensures
+      tells = c.tell_answer.ensures;
+    })

@@ -1,7 +1,7 @@
 -- The text can't be read.
-use Rattle.std.proofs.Common.{inr, subst}
+use Rattle.std.proofs.Common.{inr, refl, subst}
+use Rattle.std.specs.Prelude.{IfOk}
 use Rattle.std.specs.IoError.{error_kind}
-use Rattle.std.proofs.lemmas.Result.{IfOk-weaker}
 use Rattle.auditor_cli.specs.Telling.{TellsUnread}
 use Rattle.planner_cli.proofs.loaded.load_read.Goals as goal
 
@@ -10,5 +10,4 @@ returns-in-Err-clause-loads g c =
     let asked = c.args.loading in
     let before = g.W.Write.contents c.args.output.now in
     let after = g.W.Write.contents c.tell_unread.new.output in
-    IfOk-weaker c.tell_unread.result _ _
-    (λ status told. inr (error_kind c.in-Err.error, c.in-Err.ensures, subst (λ kind. TellsUnread asked.instance.now kind before after status) c.kind.ensures told)) c.tell_unread.ensures
+    inr (error_kind c.in-Err.error, c.in-Err.ensures, refl, subst (λ kind. IfOk c.tell_unread.result (TellsUnread asked.instance.now kind before after)) c.kind.ensures c.tell_unread.ensures)

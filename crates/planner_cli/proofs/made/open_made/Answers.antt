@@ -5,21 +5,22 @@ use Rattle.planner_cli.proofs.StoreLemmas.{found_bare}
 use Rattle.planner_cli.proofs.made.open_made.Goals as goal
 
 pub returns-in-Ok : goal.returns-in-Ok
-returns-in-Ok g c = record {
+returns-in-Ok g c = λ path made. record {
   device = c.args.device;
-  ready = inl c.requires;
+  ready = inl made;
   opens = MatchResult-at_ok _ _ c.in-Ok.opened (sym c.in-Ok.ensures) c.open_session-opening.ensures.opens;
 }
 
-pub open_formatted-requires : goal.open_formatted-requires
-open_formatted-requires g c =
+pub returns-in-Err-NotFormatted-default : goal.returns-in-Err-NotFormatted-default
+returns-in-Err-NotFormatted-default g c = λ path made.
     let refused = c.in-Err-NotFormatted-default in
-    found_bare _ _ c.args.device refused.device refused.field-0-0 c.requires refused.field-0-0-is
-    (MatchResult-at_err _ _ (refused.field-0-0, refused.device) (sym c.into_opened.ensures ∙ refused.is) c.open_session-opening.ensures.opens)
+    c.open_formatted.ensures path
+    (found_bare _ _ c.args.device refused.device refused.field-0-0 made refused.field-0-0-is
+    (MatchResult-at_err _ _ (refused.field-0-0, refused.device) (sym c.into_opened.ensures ∙ refused.is) c.open_session-opening.ensures.opens))
 
 pub returns-in-Err : goal.returns-in-Err
-returns-in-Err g c = record {
+returns-in-Err g c = λ path made. record {
   device = c.args.device;
-  ready = inl c.requires;
+  ready = inl made;
   refuses = MatchResult-at_err _ _ (c.in-Err.fault, c.in-Err.device) (sym c.into_opened.ensures ∙ c.in-Err.is) c.open_session-opening.ensures.opens;
 }

@@ -1,8 +1,29 @@
--- Words that ask for something are not read only for want of memory, and then nothing is told.
-use Rattle.std.proofs.Common.{inl, inr, refl}
+-- The words were read; or, where they ask for something, there was no memory for them, and then nothing is told.
+use Rattle.std.proofs.Common.{◌≡◌, inl, inr, refl, sym, subst}
+use Rattle.command_line.specs.Asked.{asked_of}
 use Rattle.clap.specs.Words.{kind_of}
 use Rattle.auditor_cli.proofs.UsageLemmas.{no_memory_told}
+use Rattle.planner_cli.proofs.TellLemmas.{status_can}
 use Rattle.planner_cli.proofs.program.run_words.Goals as goal
+
+pub returns-in-Ok-clause-does : goal.returns-in-Ok-clause-does
+returns-in-Ok-clause-does g c = λ a positional asks.
+    let read = c.in-Ok.ensures positional in
+    let same : a ≡ asked_of c.in-Ok.invocation = cc in
+    let told = c.do_asked-told.result.0 in
+    let done = c.do_asked-told.ensures in
+    rw same (inl (record {
+      told = told;
+      ends = c.status_of.ensures;
+      does = done.does;
+      serves = done.serves;
+      reads = done.reads;
+      makes = done.makes;
+      asks = done.asks;
+      input = done.input;
+      errors = done.errors;
+      statuses = status_can (asked_of c.in-Ok.invocation) told _ done.status c.status_of.ensures;
+    }))
 
 pub returns-in-Err-clause-does : goal.returns-in-Err-clause-does
 returns-in-Err-clause-does g c = λ a positional asks.

@@ -1,6 +1,0 @@
--- Nothing.
-use Rattle.std.proofs.Common.{[]}
-use Rattle.command_serving.proofs.log.Log.new.Given as goal
-
-abbrev pub ghost-of : goal.ghost-of
-ghost-of a = record { events = []; reads = [] }

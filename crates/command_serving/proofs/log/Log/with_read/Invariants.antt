@@ -1,6 +1,0 @@
--- One read more.
-use Rattle.std.proofs.Common.{◌∷◌}
-use Rattle.command_serving.proofs.log.Log.with_read.Given as goal
-
-abbrev pub ghost-of_read : goal.ghost-of_read
-ghost-of_read a = record { events = a.self.now.events; reads = a._piece.now ∷ a.self.now.reads }

@@ -1,0 +1,121 @@
+//! What is logged beside the answer to a command, for people: whom a build leaves out, and why a request can't be withdrawn. No clause
+//! speaks of it, and where memory for it is refused it is left out.
+
+use command_core::{Command, Job, Refusal, State, unplanned_names};
+use command_text::Answer;
+use log::{Log, info};
+use plan_types::{Problem, Request, Route};
+use recover::Session;
+use sector_disk::Sectors;
+use std::alloc::Global;
+use std::fmt;
+use std::fmt::{Display, Formatter};
+
+/// What may be logged beside the answer to a command.
+#[derive(Clone, Copy, Debug, PartialEq, Eq)]
+pub(crate) enum Hint {
+    Nothing,
+    /// Whom a build leaves out.
+    LeftOut,
+    /// Why the request of this name can't be withdrawn.
+    Withdrawal(u32),
+}
+
+impl Hint {
+    /// What may be logged beside the answer to this command.
+    pub(crate) fn of(command: &Command) -> Hint {
+        match command {
+            Command::Build => Hint::LeftOut,
+            Command::Withdraw(name) => Hint::Withdrawal(*name),
+            _ => Hint::Nothing,
+        }
+    }
+}
+
+/// Logs it, if the answer asks for it.
+pub(crate) fn log_hint<L: Log, D: Sectors>(
+    rt: &L,
+    alloc: Global,
+    session: &Session<D>,
+    hint: Hint,
+    answer: Answer,
+) {
+    let State::Loaded(job) = session.state() else {
+        return;
+    };
+    match (hint, answer) {
+        (Hint::LeftOut, Answer::Ok) => log_left_out(rt, alloc, job),
+        (Hint::Withdrawal(name), Answer::Refused(Refusal::NoSuchRequest)) => {
+            log_pickup(rt, &job.problem, name);
+        }
+        (Hint::Withdrawal(name), Answer::Refused(Refusal::Pinned)) => log_pin(rt, job, name),
+        _ => {}
+    }
+}
+
+// Names with a blank before each.
+#[derive(Drop)]
+struct Names<'a>(&'a [u32]);
+
+impl<'a> Display for Names<'a> {
+    fn fmt<W: fmt::Write>(&self, f: &mut Formatter<W>) -> fmt::Result {
+        for name in self.0 {
+            write!(f, " {name}")?;
+        }
+        Ok(())
+    }
+}
+
+// Logs which requests are in no route, as `solve` tells them.
+fn log_left_out<L: Log>(rt: &L, alloc: Global, job: &Job) {
+    let Ok(names) = unplanned_names(alloc, &job.problem, job.plan.routes.as_slice()) else {
+        return;
+    };
+    if names.is_empty() {
+        return;
+    }
+    let count = names.len();
+    let listed = Names(&names);
+    info!(rt; "unplanned {count}:{listed}");
+}
+
+// Logs whose delivery this stop is, if it is one.
+fn log_pickup<L: Log>(rt: &L, problem: &Problem, number: u32) {
+    for (name, request) in problem.requests.iter() {
+        if is_delivery(request, number) {
+            info!(rt; "withdraw {number}: stop {number} is the delivery of request {name}");
+            return;
+        }
+    }
+}
+
+fn is_delivery(request: &Request, number: u32) -> bool {
+    match request {
+        Request::Single(_) => false,
+        Request::Pair(_, delivery) => delivery.number == number,
+    }
+}
+
+// Logs in which vehicle's pin a stop of the request stands.
+fn log_pin<L: Log>(rt: &L, job: &Job, name: u32) {
+    let Some(request) = job.problem.requests.get(&name) else {
+        return;
+    };
+    for (index, pin) in job.pins.routes.as_slice().iter().enumerate() {
+        if has_stop_of(pin, request) {
+            let vehicle = index as u64 + 1;
+            info!(rt; "withdraw {name}: a stop of it is in the pin of vehicle {vehicle}");
+            return;
+        }
+    }
+}
+
+fn has_stop_of(pin: &Route, request: &Request) -> bool {
+    let stops = pin.as_slice();
+    match request {
+        Request::Single(stop) => stops.contains(&stop.number),
+        Request::Pair(pickup, delivery) => {
+            stops.contains(&pickup.number) || stops.contains(&delivery.number)
+        }
+    }
+}

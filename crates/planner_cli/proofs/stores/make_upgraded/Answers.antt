@@ -1,0 +1,31 @@
+-- What was made of the device over the new file, or why there is none.
+use Rattle.std.proofs.Common.{◌<◌, arith, inl, inr, subst}
+use Rattle.std.specs.Prelude.{◌^◌, IfOk}
+use Rattle.checkpoint.specs.Layouts.{version_2, sectors_in}
+use Rattle.checkpoint.specs.declared.faults.FormatFault.TheVariants.{TooSmall}
+use Rattle.planner_cli.specs.Telling.{TellsMade}
+use Rattle.planner_cli.proofs.TellLemmas.{not_too_small}
+use Rattle.planner_cli.proofs.stores.make_upgraded.Goals as goal
+
+pub returns-in-Ok-clause-makes : goal.returns-in-Ok-clause-makes
+returns-in-Ok-clause-makes g c =
+    let short : sectors_in version_2 < 2 ^ 54 = omega arith in
+    let upgraded = c.make_device-upgraded.result in
+    let given = c.make_device-upgraded.ensures in
+    let before = g.W.Write.contents c.args.output.now in
+    let after = g.W.Write.contents c.tell_made.new.output in
+    inl (
+      c.in-Ok.made,
+      c.make_device-upgraded.new.device,
+      upgraded,
+      c.in-Ok.ensures.told short,
+      c.in-Ok.ensures.len,
+      given.made,
+      not_too_small upgraded TooSmall _ given.too_small c.in-Ok.ensures.len,
+      subst (λ f. IfOk c.tell_made.result (TellsMade f before after)) c.err.ensures.value c.tell_made.ensures,
+    )
+
+pub returns-in-Err-clause-makes : goal.returns-in-Err-clause-makes
+returns-in-Err-clause-makes g c =
+    let short : sectors_in version_2 < 2 ^ 54 = omega arith in
+    inr (c.in-Err.refusal, c.in-Err.ensures.told short, c.in-Err.ensures.not_too_long short, c.tell_new_refusal.ensures)
