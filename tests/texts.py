@@ -147,7 +147,8 @@ EXPLAINED = [
         "visited twice: stop 1 stands at place 1 of route 1 first\n"
         "place   stop\n"
         "    1      1\n"
-        "places that break this rule: 1\n",
+        "places that break this rule: 1\n"
+        "places that break rule 4: 1\n",
     ),
     (
         "lilim",
@@ -722,7 +723,7 @@ REFUSED_SOLUTIONS = [
     ),
     (
         b"cost: 8.3e2\n",
-        "line 1: a word is not the number that has to stand there: the cost is 8.3e2, which has a fraction, allowed are whole numbers in 0..18446744073709551615. Each way is rounded to a whole number here: behind the word routes their sum is told, whatever is printed\n"
+        "line 1: a word is not the number that has to stand there: the cost is 8.3e2, allowed are whole numbers in 0..18446744073709551615. Each way is rounded to a whole number here: behind the word routes their sum is told, whatever is printed\n"
         "cost: 8.3e2\n",
     ),
     (
@@ -925,10 +926,21 @@ def check_refused(folder):
 
 
 def check_lengths(folder):
-    # A sentence and a heading of 90 bytes, 23 rows of 13, a count of 32, and 20 places: 8 of 25 bytes and 12 of 26.
+    # A sentence and a heading of 90 bytes, 23 rows of 13, a count of 32, 20 places: 8 of 25 bytes and 12 of 26, and counts of 29 and 28.
     solution = b"Route #1:" + 23 * b" 9" + b"\nCost 0\n"
     _, behind = answer(folder, "explain", "lilim", ONE_PAIR, solution)
-    expect("20 further places", (len(behind), behind.splitlines()[-1]), (933, "  route 1 place 21 stop 9"))
+    last = ["  route 1 place 21 stop 9", "places that break rule 2: 22", "places that break rule 3: 2"]
+    expect("20 further places", (len(behind), behind.splitlines()[-3:]), (990, last))
+    # 4,000 customers in one route, at two corners in turn: each way but the return is 2,828,427, and the sum has 11 digits.
+    count = 4000
+    nodes = ["1 -1000000 -1000000\n"] + [f"{n} {1000000 * (-1) ** n} {1000000 * (-1) ** n}\n" for n in range(2, count + 2)]
+    demands = [f"{n} 0\n" for n in range(1, count + 2)]
+    head = f"DIMENSION : {count + 1}\nEDGE_WEIGHT_TYPE : EUC_2D\nCAPACITY : 0\nNODE_COORD_SECTION\n"
+    instance = head + "".join(nodes) + "DEMAND_SECTION\n" + "".join(demands) + "DEPOT_SECTION\n1 -1\nEOF\n"
+    solution = "Route #1: " + " ".join(str(n) for n in range(1, count + 1)) + "\n"
+    _, behind = answer(folder, "explain", "vrp", instance.encode(), solution.encode(), "routes")
+    driven = 2828427 * count
+    expect("a long sum", behind.splitlines()[-1].split(), ["sum", str(count), str(driven), "0"])
     # A sentence of 62 bytes with its end, 200 bytes of the line, and its end.
     _, behind = answer(folder, "explain", "lilim", ONE_PAIR, 300 * b"x")
     expect("a long line", len(behind), 263)
