@@ -146,6 +146,7 @@ def check_refusals(folder):
     expect(3, f"cannot read {missing}", f"{missing}: {NO_FILE}", "upgrade", missing, new)
     if os.path.exists(new):
         fail("the new store was made where there is no old one")
+    expect(3, "cannot read /dev/null", "/dev/null: it is no plain file", "upgrade", "/dev/null", new)
     write(old, old_store()[: 801 * SECTOR])
     expect(2, "store NotFormatted", "", "upgrade", old, new)
     write(old, old_store()[:-1])

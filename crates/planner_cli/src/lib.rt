@@ -8,7 +8,7 @@
 //! How it works: each word of the program has one function over whatever reads and makes files, reader and writer: those of the words of
 //! an audit are `auditor_cli`'s, the others private here (`timetable_read`, `draw_read`, `solve_read`, `solves_read`, `load_read`,
 //! `format_store`, `run_store`, `timetable_store`, `draw_store`, `upgrade_store`).
-//! `run_words` hands them the paths, and what reads and makes files and the streams, which `main` makes.
+//! `run_words` hands them the paths, and what opens stores, what reads and makes files and the streams, which `main` makes.
 //!
 //! Modules, in reading order:
 //! - `telling`: lines for stores that can't be opened or made, and for what commands answer
@@ -26,7 +26,8 @@
 //! `Loading.antt`, `Running.antt`, `Timetabled.antt` and `Upgrading.antt`, which statuses by `Statuses.antt`, the opening of a store in a
 //! file by `Opened.antt`; of the words of an audit by the files of `auditor_cli`. Proved:
 //! - `run_words`, of words without hyphen that ask for something (`EndsWith`): which files were read, and in which order, of a
-//!   list the list first (`AreReadFor`); that none but `solves` makes a file beside a store (`AreMadeFor`); what was written to
+//!   list the list first (`AreReadFor`); that none but `solves` makes a file beside a store (`AreMadeFor`); which stores were opened
+//!   where they stand and which were made, by their paths (`AreAskedFor`, and what `load` and `upgrade` do); what was written to
 //!   the output and to the errors, and the status that goes with it, from what these files gave (`Does`), but for an answer that
 //!   could not be printed; that the input is read by `run` alone. Of words that ask for nothing (`TellsUsage`): no file is read
 //!   or made, help goes to the output alone, a mistake to the errors alone
@@ -37,7 +38,7 @@
 //!   leaves it
 //! - `timetable_read` (`TellsTimetable`), `timetable_store` (`TimetablesStore`): the audit's line and the timetable of the solution;
 //!   those of the plan in the store that opening the device gives, which is left as opening leaves it
-//! - `run_store` (`RunsStore`): the device that `FileDevice::at_or_cause` gives is opened, and what `serve_source` writes over that
+//! - `run_store` (`RunsStore`): the device over the file that stands at the path is opened, and what `serve_source` writes over that
 //!   session stands behind `opened N`; 3 where the reader or the writer failed, with `cannot read input` for the
 //!   reader. Whatever the status (`ServesStore`): what it read and put is of that serving, as far as it came
 //! - `stopped_runs_recover` (`ServedRunHeadline`, `RunHeadline`, `RunKeepsAnswers`, `ServedRunKeepsAnswers`): stopped at any
@@ -45,13 +46,14 @@
 //!   acknowledged by then, so with every one whose `ok` or `at` was handed on, and at most one more
 //! - `open_session` (`IsForetold`), by which `run` and `load` open: before a search step is repeated, the line of how many are
 //!   stands on standard error, and nothing where none are, unless a write of it failed
-//! - `format_store` (`FormatsStore`): a device of 8,450 sectors, and what `format` of `checkpoint` made of it
+//! - `format_store` (`FormatsStore`): a file of 8,450 sectors, and what `format` of `checkpoint` made of it, whatever could be
+//!   printed; so it is of `load_read` and `upgrade_store`
 //! - `load_read` (`TellsLoad`): the instance's first fault, before any store is opened; else a store that was found or made is
 //!   opened, left as it is where it holds an instance, and begun with `Load` where it is empty: after `ok` each image that a
-//!   stop may leave stands for the state that `Load` makes of the empty one. A device over a file that was just made is
-//!   formatted only where opening told that it holds no store (`IsMadeReady` of `open_new`)
-//! - `upgrade_store` (`UpgradesStore`): `same store` where the words are the same; a device over the old file, then one of
-//!   8,450 sectors over the new one, and what `upgrade` of `recover` made of both
+//!   stop may leave stands for the state that `Load` makes of the empty one. A file is made only where there is none, or over one
+//!   without a byte (`wants_file`), and formatted only where opening told that it holds no store (`IsMadeReady` of `open_new`)
+//! - `upgrade_store` (`UpgradesStore`): `same store` where the words are the same or lead to one file; the old store is read
+//!   whole, and only where it stands for a state a file is made, of 8,450 sectors, with a store of that state
 #![tactic(auto)]
 
 mod drawn;

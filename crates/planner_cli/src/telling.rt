@@ -24,7 +24,7 @@ pub(crate) fn tell_refusal<R: Eprint, W: Write>(
         × Appends (W.contents output.old) (W.contents output.new)
         (open_line path.now refusal.fault)) }
 {
-    tell_cause(rt, path, refusal.cause);
+    tell_reason(rt, path, refusal.fault, refusal.cause);
     tell_file_fault(output, path, refusal.fault)
 }
 
@@ -39,7 +39,7 @@ pub(crate) fn tell_new_refusal<R: Eprint, W: Write>(
         × Appends (W.contents output.old) (W.contents output.new)
         (new_line path.now refusal.fault)) }
 {
-    tell_cause(rt, path, refusal.cause);
+    tell_reason(rt, path, refusal.fault, refusal.cause);
     tell_new_fault(output, path, refusal.fault)
 }
 
@@ -97,6 +97,19 @@ fn tell_new_fault<W: Write>(output: &mut W, path: &str, fault: FileFault) -> io:
 pub(crate) fn tell_cause<R: Eprint>(rt: &R, path: &str, cause: Option<io::Error>) {
     if let Some(error) = cause {
         let _ = eprintln!(rt; "planner: {path}: {error}");
+    }
+}
+
+// Tells on standard error why a file was not opened or made: what the system said, or that it is no plain file.
+fn tell_reason<R: Eprint>(rt: &R, path: &str, fault: FileFault, cause: Option<io::Error>) {
+    match fault {
+        FileFault::NoFile => match cause {
+            Some(error) => tell_cause(rt, path, Some(error)),
+            None => {
+                let _ = eprintln!(rt; "planner: {path}: it is no plain file");
+            }
+        },
+        _ => tell_cause(rt, path, cause),
     }
 }
 
