@@ -175,11 +175,16 @@ NOT_GIVEN = "the following required arguments were not provided:"
 BAD_STEPS = "STEPS and DEVIATION are 0 to 1000000000 and SEED 0 to 18446744073709551615, in digits alone"
 BAD_SEED = "SEED is 0 to 18446744073709551615, in digits alone"
 BAD_TASKS = "STEPS is 0 to 1000000000 and SEED 0 to 18446744073709551615, in digits alone"
+BAD_AUDIT = "the words are KIND INSTANCE SOLUTION [routes], and KIND is lilim or vrp"
+BAD_AUDITS = "the words are KIND LIST [routes], and KIND is lilim or vrp"
 BAD_DRAWING = "the words are STORE or KIND INSTANCE SOLUTION [ROUTE], KIND is lilim or vrp, and ROUTE a number, in digits alone"
 BAD_TIMETABLE = "the words are STORE [tabs] or KIND INSTANCE SOLUTION [tabs], and KIND is lilim or vrp"
 REFUSED = [
     (["audit", "lilim", "a"], NOT_GIVEN),
-    (["audit", "lilim", "a", "b", "c"], "unexpected argument 'c' found"),
+    (["audit", "lilim", "a", "b", "c"], BAD_AUDIT),
+    (["audit", "lilim", "a", "b", "routes", "c"], "unexpected argument 'c' found"),
+    (["audits", "lilim", "a", "b"], BAD_AUDITS),
+    (["explain", "vrp", "a", "b", "Routes"], BAD_AUDIT),
     (["audit", "cvrp", "a", "b"], "invalid value 'cvrp' for '<KIND>'"),
     (["audit", "Vrp", "a", "b"], "invalid value 'Vrp' for '<KIND>'"),
     (["solve", "lilim", "a"], NOT_GIVEN),
@@ -210,7 +215,9 @@ REFUSED = [
 ]
 # The usage of each command. Where a value alone is wrong, none is told; of words that name no command, that of the program.
 USAGES = {
-    "audit": "<KIND> <INSTANCE> <SOLUTION>",
+    "audit": "<KIND> <INSTANCE> <SOLUTION> [routes]",
+    "audits": "<KIND> <LIST> [routes]",
+    "explain": "<KIND> <INSTANCE> <SOLUTION> [routes]",
     "draw": "<STORE|KIND> [INSTANCE] [SOLUTION] [ROUTE]",
     "format": "<STORE>",
     "load": "<STORE> <KIND> <INSTANCE> [SEED]",
@@ -220,7 +227,7 @@ USAGES = {
     "timetable": "<STORE|KIND> [tabs|INSTANCE] [SOLUTION] [tabs]",
     "upgrade": "<OLD> <NEW>",
 }
-NO_SOLUTION = f"error: {NOT_GIVEN}\n  <SOLUTION>\n\nUsage: planner audit <KIND> <INSTANCE> <SOLUTION>\n\nFor more information, try '--help'.\n"
+NO_SOLUTION = f"error: {NOT_GIVEN}\n  <SOLUTION>\n\nUsage: planner audit <KIND> <INSTANCE> <SOLUTION> [routes]\n\nFor more information, try '--help'.\n"
 
 # Lines over an empty store, and what is answered.
 NO_INSTANCE = "no NoInstance\n"
@@ -764,7 +771,7 @@ def check_strict(folder):
     strict = ["run", "day.store", "strict"]
     lines = load_line("lilim", ONE_PLACE) + "build\nnext\nwithdraw 2\nwithdraw 1\n"
     told = "opened 0\nok\nok\nnext 3\nok\nno NoSuchRequest\n"
-    expect("strict, a refusal", folder.planner(*strict, lines=lines), (1, told, ""))
+    expect("strict, a refusal", folder.planner(*strict, lines=lines), (1, told, "withdraw 2: stop 2 is the delivery of request 1\n"))
     told = "opened 0\nrequests 1 next 3\nsteps 0 place 0\nvehicle 1: 1 2\ncost 0 1 2\nok\nok\n"
     expect("strict, behind it", folder.planner(*strict, lines="show\nwithdraw 1\n"), (0, told, ""))
     folder.new_store()
