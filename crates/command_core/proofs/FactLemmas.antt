@@ -27,7 +27,7 @@ use Rattle.command_core.specs.declared.states.State.TheVariants.{Empty, Loaded}
 use Rattle.command_core.specs.declared.refusals.Refusal.{Refusal}
 use Rattle.command_core.specs.declared.refusals.Refusal.TheVariants.{NoSuchRequest, Pinned}
 use Rattle.command_core.specs.declared.commands.Command.{Command}
-use Rattle.command_core.specs.declared.commands.Command.TheVariants.{Load, Add, Add1, Withdraw, Pin, Unpin, Build, Search, Deviation, Anneal, Reduce}
+use Rattle.command_core.specs.declared.commands.Command.TheVariants.{Load, Add, Add1, Withdraw, Pin, Unpin, Build, Search, Deviation, Anneal, Reduce, Adopt}
 use Rattle.command_core.proofs.AddLemmas.{single_is_request, pair_is_request, IsNext, new_problem, same_at_live}
 use Rattle.command_core.proofs.PassLemmas.{passes_same, all_feasible_same, numbers_live, routes_live, pins_live}
 use Rattle.fleet_tries.proofs.PickedLemmas.{none_feasible}
@@ -215,6 +215,7 @@ module _ (laws : LowerLaws) (j : JobValue) (is : IsJob j) where
   }
   job_keeps_facts (Anneal count) command none = let t = asked _ _ _ none in annealed_job count (leb-true (j.steps + count) (2 ^ 60) (asked_last _ _ t.1))
   job_keeps_facts (Reduce count) command none = let t = asked _ _ _ none in reduced_job count (leb-true (j.steps + count) (2 ^ 60) (asked_last _ _ t.1))
+  job_keeps_facts (Adopt plan) command none = let t = asked _ _ _ none in with_plans j is plan.routes plan.routes t.0 t.0 j.steps (is.steps)
   job_keeps_facts c command none = is
 
 pub effects_keep_facts : LowerLaws → EffectsKeepFacts

@@ -3,6 +3,7 @@ mod AskedLemmas
 pub mod CountLemmas
 pub mod Examples
 pub mod FactLemmas
+mod JudgeLemmas
 pub mod ListLemmas
 pub mod MarkLemmas
 pub mod NumberLemmas

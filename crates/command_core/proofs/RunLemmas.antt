@@ -1,8 +1,9 @@
 -- What many commands keep: the plan's cost between changes, and the facts of states.
-use Rattle.std.proofs.Common.{◌≡◌, ℕ, zero, suc, ◌+◌, ◌-◌, ◌≤◌, ◌||◌, Bool, true, false, List, [], ◌∷◌, Some, None, refl, ◌∙◌, arith}
+use Rattle.std.proofs.Common.{◌≡◌, ℕ, zero, suc, ◌+◌, ◌-◌, ◌≤◌, ◌||◌, Bool, true, false, cond, not, IsTrue, List, [], ◌∷◌, Some, None, refl, ◌∙◌, arith}
 use Rattle.std.specs.List.{list_any}
 use Rattle.plan_types.specs.Cost.{CostsAreTotal, CostsAreTransitive, BelowIsAtMost}
 use Rattle.route_sched.specs.Cost.{cost_of}
+use Rattle.plan_audit.specs.Passes.{passes}
 use Rattle.seeded_search.specs.Steps.{unplanned_names, walked}
 use Rattle.seeded_search.specs.StepLaws.{IncumbentsNeverCostMore}
 use Rattle.anneal_search.specs.Annealing.{anneal_steps}
@@ -10,15 +11,16 @@ use Rattle.anneal_search.specs.AnnealLaws.{AnnealedNeverCostMore}
 use Rattle.fleet_tries.specs.Laws.{TriesNeverCostMore}
 use Rattle.fleet_tries.specs.Tries.{all_tries}
 use Rattle.command_core.specs.Effects.{effect}
-use Rattle.command_core.specs.Refusing.{refusal}
+use Rattle.command_core.specs.Refusing.{is_dearer, refusal}
 use Rattle.command_core.specs.Commands.{changes_requests, changes_pins, is_change}
 use Rattle.command_core.specs.Runs.{after, AreAccepted, last_change}
 use Rattle.command_core.specs.RunLaws.{EffectsKeepFacts, RunsKeepFacts, IsNoWorse, CostsNeverRise, HaveSamePins, PlansNeverCostMore}
 use Rattle.command_core.specs.declared.states.State.{State}
 use Rattle.command_core.specs.declared.states.State.TheVariants.{Empty, Loaded}
 use Rattle.command_core.specs.declared.refusals.Refusal.{Refusal}
+use Rattle.command_core.specs.declared.refusals.Refusal.TheVariants.{NotAPlan, Dearer}
 use Rattle.command_core.specs.declared.commands.Command.{Command}
-use Rattle.command_core.specs.declared.commands.Command.TheVariants.{Load, Add, Add1, Withdraw, Pin, Unpin, Build, Search, Anneal, Reduce}
+use Rattle.command_core.specs.declared.commands.Command.TheVariants.{Load, Add, Add1, Withdraw, Pin, Unpin, Build, Search, Anneal, Reduce, Adopt}
 use Rattle.command_core.proofs.PlacedLemmas.{same_cost, placed_all_cost}
 
 pub runs_keep_facts : EffectsKeepFacts → RunsKeepFacts
@@ -35,6 +37,12 @@ refused r h = absurd (let g = h in cc)
 not_loaded : {X : Type 0} (c : Command) → refusal Empty c ≡ None → changes_requests c ≡ false → X
 not_loaded (Load p seed) none kept = clash kept
 not_loaded c none kept = refused _ none
+
+-- what is adopted costs no more
+no_dearer : (passing dearer : Bool) → cond (not passing) (Some NotAPlan) (cond dearer (Some Dearer) None) ≡ None → IsTrue (not dearer)
+no_dearer true false none = refl
+no_dearer true true none = refused Dearer none
+no_dearer false dearer none = refused NotAPlan none
 
 module _ (total : CostsAreTotal) (transitive : CostsAreTransitive) (below : BelowIsAtMost) (search : IncumbentsNeverCostMore) (anneal : AnnealedNeverCostMore) (tries : TriesNeverCostMore) where
   pub costs_never_rise : CostsNeverRise
@@ -57,6 +65,7 @@ module _ (total : CostsAreTotal) (transitive : CostsAreTransitive) (below : Belo
             (anneal j.problem j.pins j.deviation j.seed t.step (j.steps + count - t.step) (walked t.plan t.plan))
             (tries j.problem j.pins j.plan j.seed count j.steps);
       }
+  costs_never_rise (Loaded j) (Adopt plan) none kept = record { problem = refl; cost = no_dearer (passes j.problem j.pins plan.routes) (is_dearer j.problem plan.routes j.plan) none }
   costs_never_rise (Loaded j) c none kept = record { problem = refl; cost = same_cost total transitive below j.problem j.pins j.plan }
   costs_never_rise Empty c none kept = not_loaded c none kept
 

@@ -14,7 +14,7 @@ use Rattle.command_core.specs.Wishes.{single_at, pair_at}
 use Rattle.command_core.specs.declared.states.State.{State}
 use Rattle.command_core.specs.declared.states.State.TheVariants.{Empty, Loaded}
 use Rattle.command_core.specs.declared.commands.Command.{Command}
-use Rattle.command_core.specs.declared.commands.Command.TheVariants.{Load, Add, Add1, Withdraw, Pin, Unpin, Build, Search, Checkpoint, Deviation, Anneal, Reduce}
+use Rattle.command_core.specs.declared.commands.Command.TheVariants.{Load, Add, Add1, Withdraw, Pin, Unpin, Build, Search, Checkpoint, Deviation, Anneal, Reduce, Adopt}
 
 -- a list for each vehicle, with no stop
 abbrev pub no_stops : Instance → List (List ℕ)
@@ -97,6 +97,10 @@ reduced j count =
 abbrev pub with_deviation : JobValue → ℕ → JobValue
 with_deviation j d = record j { work = j.plan; deviation = d }
 
+-- Adopt: these routes from elsewhere are the plan
+abbrev pub adopted : JobValue → List (List ℕ) → JobValue
+adopted j routes = record j { plan = routes; work = routes }
+
 -- what a command makes of a job
 abbrev pub job_after : JobValue → Command → JobValue
 job_after j (Load p seed) = loaded p seed
@@ -111,6 +115,7 @@ job_after j Checkpoint = j
 job_after j (Deviation d) = with_deviation j d
 job_after j (Anneal count) = annealed j count
 job_after j (Reduce count) = reduced j count
+job_after j (Adopt plan) = adopted j plan.routes
 
 -- What a command makes of a state. Before the first Load nothing else is accepted.
 abbrev pub effect : State → Command → State

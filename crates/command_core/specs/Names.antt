@@ -1,7 +1,7 @@
 -- The names of refusals.
 use Rattle.std.specs.Prelude.{ℕ, List, codes}
 use Rattle.command_core.specs.declared.refusals.Refusal.{Refusal}
-use Rattle.command_core.specs.declared.refusals.Refusal.TheVariants.{NoInstance, Range, NoSuchRequest, Pinned, NoSuchPlace, NotARoute, NumbersSpent, StepsSpent, NoTimes, OutOfMemory}
+use Rattle.command_core.specs.declared.refusals.Refusal.TheVariants.{NoInstance, Range, NoSuchRequest, Pinned, NoSuchPlace, NotARoute, NumbersSpent, StepsSpent, NoTimes, NoFormat, NotAPlan, Dearer, OutOfMemory}
 
 abbrev pub refusal_name : Refusal → List ℕ
 refusal_name NoInstance = codes "NoInstance"
@@ -13,4 +13,7 @@ refusal_name NotARoute = codes "NotARoute"
 refusal_name NumbersSpent = codes "NumbersSpent"
 refusal_name StepsSpent = codes "StepsSpent"
 refusal_name NoTimes = codes "NoTimes"
+refusal_name NoFormat = codes "NoFormat"
+refusal_name NotAPlan = codes "NotAPlan"
+refusal_name Dearer = codes "Dearer"
 refusal_name OutOfMemory = codes "OutOfMemory"

@@ -1,19 +1,20 @@
 -- Why a state refuses a command: the first cause, in the order in which the refusals are declared.
-use Rattle.std.specs.Prelude.{ℕ, ◌+◌, ◌^◌, nat_le, ◌&&◌, not, Bool, take, length, Option, Some, None, if◌then◌else◌}
+use Rattle.std.specs.Prelude.{ℕ, ◌+◌, ◌^◌, nat_le, ◌&&◌, not, Bool, List, take, length, Option, Some, None, if◌then◌else◌}
 use Rattle.std.specs.Option.{option_map_or}
 use Rattle.plan_types.specs.Instance.{Instance}
 use Rattle.plan_types.specs.declared.requests.Request.{Request}
-use Rattle.route_sched.specs.Cost.{is_planned}
-use Rattle.plan_audit.specs.Passes.{feasible_alone}
+use Rattle.plan_types.specs.Cost.{cost_below}
+use Rattle.route_sched.specs.Cost.{cost_of, is_planned}
+use Rattle.plan_audit.specs.Passes.{feasible_alone, passes}
 use Rattle.move_ops.specs.Insertion.{request_named, of_vehicle}
 use Rattle.command_core.specs.Job.{JobValue}
 use Rattle.command_core.specs.Wishes.{is_spot, is_demand}
 use Rattle.command_core.specs.declared.states.State.{State}
 use Rattle.command_core.specs.declared.states.State.TheVariants.{Empty, Loaded}
 use Rattle.command_core.specs.declared.commands.Command.{Command}
-use Rattle.command_core.specs.declared.commands.Command.TheVariants.{Load, Add, Add1, Withdraw, Pin, Unpin, Build, Search, Checkpoint, Deviation, Anneal, Reduce}
+use Rattle.command_core.specs.declared.commands.Command.TheVariants.{Load, Add, Add1, Withdraw, Pin, Unpin, Build, Search, Checkpoint, Deviation, Anneal, Reduce, Adopt}
 use Rattle.command_core.specs.declared.refusals.Refusal.{Refusal}
-use Rattle.command_core.specs.declared.refusals.Refusal.TheVariants.{NoInstance, Range, NoSuchRequest, Pinned, NoSuchPlace, NotARoute, NumbersSpent, StepsSpent}
+use Rattle.command_core.specs.declared.refusals.Refusal.TheVariants.{NoInstance, Range, NoSuchRequest, Pinned, NoSuchPlace, NotARoute, NumbersSpent, StepsSpent, NotAPlan, Dearer}
 
 -- so many new stops, where their fields keep the limits or not: no number is above 40,000
 abbrev pub add_refusal : Instance → Bool → ℕ → Option Refusal
@@ -51,6 +52,14 @@ steps_refusal most steps count =
 abbrev pub deviation_refusal : ℕ → Option Refusal
 deviation_refusal d = if nat_le d 1000000000 then None else Some Range
 
+-- a plan costs more than another
+abbrev pub is_dearer : Instance → List (List ℕ) → List (List ℕ) → Bool
+is_dearer p routes others = cost_below (cost_of p others) (cost_of p routes)
+
+-- routes from elsewhere must pass with the pins, and cost no more than the incumbent
+abbrev pub adopt_refusal : Instance → List (List ℕ) → List (List ℕ) → List (List ℕ) → Option Refusal
+adopt_refusal p pins incumbent routes = if not (passes p pins routes) then Some NotAPlan else if is_dearer p routes incumbent then Some Dearer else None
+
 -- why a job refuses a command
 abbrev pub job_refusal : JobValue → Command → Option Refusal
 job_refusal j (Load p seed) = None
@@ -65,6 +74,7 @@ job_refusal j Checkpoint = None
 job_refusal j (Deviation d) = deviation_refusal d
 job_refusal j (Anneal count) = steps_refusal 65536 j.steps count
 job_refusal j (Reduce count) = steps_refusal 524288 j.steps count
+job_refusal j (Adopt plan) = adopt_refusal j.problem j.pins j.plan plan.routes
 
 -- why a state does: before the first Load, nothing but a Load is accepted
 abbrev pub refusal : State → Command → Option Refusal

@@ -8,6 +8,7 @@ ghost use Rattle.command_core.specs.Commands.{IsCommand};
 ghost use Rattle.command_core.specs.Runs.{IsState};
 
 use crate::adding::{add, add_single};
+use crate::adopting::adopt;
 use crate::changes::{Change, JobChange};
 use crate::checking::check;
 use crate::commands::Command;
@@ -173,6 +174,7 @@ fn carry_out_without<R: Log>(
         Command::Deviation(deviation) => within(deviate(job, *deviation)),
         Command::Anneal(count) => walked(step(alloc, job, None, Asked::Anneal(*count))),
         Command::Reduce(count) => walked(reduce(rt, alloc, job, *count)),
+        Command::Adopt(plan) => within(adopt(job, plan)),
     }
 }
 

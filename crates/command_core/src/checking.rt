@@ -2,6 +2,7 @@
 ghost use Rattle.std.specs.Prelude.{◌≡◌, ◌≤◌, ◌^◌, None, Some, MatchResult};
 ghost use Rattle.command_core.specs.Refusing.{is_vehicle, add_refusal, withdraw_refusal, pin_refusal, unpin_refusal, steps_refusal, deviation_refusal, job_refusal, refusal};
 
+use crate::adopting::adopt_refusal;
 use crate::commands::Command;
 use crate::limits::{
     MAX_ANNEAL_COUNT, MAX_COUNT, MAX_DEVIATION, MAX_REDUCE_COUNT, MAX_STEPS, is_demand, is_spot,
@@ -64,6 +65,7 @@ fn job_refusal(job: &Job, command: &Command) -> Option<Refusal>
         Command::Deviation(deviation) => deviation_refusal(*deviation),
         Command::Anneal(count) => steps_refusal(MAX_ANNEAL_COUNT, job.steps, *count),
         Command::Reduce(count) => steps_refusal(MAX_REDUCE_COUNT, job.steps, *count),
+        Command::Adopt(plan) => adopt_refusal(problem, &job.pins, &job.plan, plan),
     }
 }
 

@@ -2,7 +2,7 @@
 ghost use Rattle.std.specs.Prelude.{◌≡◌, ◌≤◌};
 ghost use Rattle.command_core.specs.Commands.{is_recorded, makes_steps, steps_of, stops_added};
 
-use plan_types::Problem;
+use plan_types::{Plan, Problem};
 
 /// Where a new stop lies, and when and how long it is served: a stop but for its number and demand. To drive a distance
 /// takes as long as it is.
@@ -54,6 +54,9 @@ pub enum Command {
     /// So many steps, 1..=524,288, from the incumbent on: where vehicles count, first those of tries with fewer vehicles, or
     /// of one that puts the requests in which are left out; the others anneal. A store writes the whole state.
     Reduce(u32),
+    /// This plan from elsewhere, with a route for each vehicle, becomes the incumbent, which it may not cost more than. A store
+    /// writes the whole state.
+    Adopt(Plan),
 }
 
 impl Command {
@@ -63,8 +66,11 @@ impl Command {
         ensures { result ≡ is_recorded self.now }
     {
         match self {
-            Command::Load(..) | Command::Checkpoint | Command::Anneal(_) | Command::Reduce(_) =>
-                false,
+            Command::Load(..)
+            | Command::Checkpoint
+            | Command::Anneal(_)
+            | Command::Reduce(_)
+            | Command::Adopt(_) => false,
             Command::Add { .. }
             | Command::Add1 { .. }
             | Command::Withdraw(_)
@@ -76,7 +82,7 @@ impl Command {
         }
     }
 
-    /// How many steps it makes, of the search or of annealing.
+    /// How many steps it makes, of the search, of annealing or of tries.
     pub fn steps(&self) -> u64
         ensures { result ≡ steps_of self.now }
     {

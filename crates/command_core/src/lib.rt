@@ -6,12 +6,13 @@
 //! types, `command_text` the answers (`unplanned_names`).
 //!
 //! Source: this project's own. Requests come in (`Add`, `Add1`), go (`Withdraw`) and are planned (`Build`, `Search`,
-//! `Anneal`); `Pin` and `Unpin` say which stops a vehicle keeps at the front of its route.
+//! `Anneal`, `Reduce`); `Adopt` takes a plan from elsewhere. `Pin` and `Unpin` say which stops a vehicle keeps at the front of
+//! its route.
 //!
 //! How it works: a command makes what it changes beside the state (`Change`), so want of memory changes nothing. It is
 //! then put in, and what stood before comes out, to be put back where a commit fails. A planner keeps the walk of a
-//! search or annealing, whose tables the next one goes on by, until another command changes the job. Every command but
-//! `Search`, `Anneal` and `Checkpoint` sets the working plan to the incumbent that it leaves.
+//! search, of annealing or of a reduction, whose tables the next one goes on by, until another command changes the job.
+//! Every command but `Search`, `Anneal`, `Reduce` and `Checkpoint` sets the working plan to the incumbent that it leaves.
 //!
 //! Modules, in reading order:
 //! - `limits`: the limits of commands and states
@@ -24,6 +25,7 @@
 //! - `applying`: `apply`, and a line for each command
 //! - `planners`: `Planner`
 //! - `loading`, `adding`, `withdrawing`, `pinning`: requests and pins
+//! - `judging`, `adopting`: a plan from elsewhere
 //! - `marks`: which requests are unplanned
 //! - `placing`, `planning`, `walking`, `reducing`: `Build` and `Deviation`, `Search` and `Anneal`, `Reduce`
 //! - `laws`: what commands keep
@@ -49,10 +51,12 @@
 #![tactic(auto)]
 
 mod adding;
+mod adopting;
 mod applying;
 mod changes;
 mod checking;
 mod commands;
+mod judging;
 mod laws;
 mod limits;
 mod lists;

@@ -22,7 +22,7 @@ use std::mem;
 #[derive(Drop)]
 pub struct Planner {
     state: State,
-    /// The walk over its plans, where the last command that changed the state was a search or annealing.
+    /// The walk over its plans, where the last command that changed the state made steps.
     walk: Option<Walk>,
 }
 

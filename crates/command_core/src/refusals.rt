@@ -25,6 +25,12 @@ pub enum Refusal {
     StepsSpent,
     #[error("the instance has no times")]
     NoTimes,
+    #[error("the format of its kind can't say these requests")]
+    NoFormat,
+    #[error("the plan breaks a rule, or does not keep the pins")]
+    NotAPlan,
+    #[error("the plan costs more than the incumbent")]
+    Dearer,
     #[error("out of memory")]
     OutOfMemory,
 }
@@ -46,6 +52,9 @@ impl Refusal {
             Refusal::NumbersSpent => "NumbersSpent",
             Refusal::StepsSpent => "StepsSpent",
             Refusal::NoTimes => "NoTimes",
+            Refusal::NoFormat => "NoFormat",
+            Refusal::NotAPlan => "NotAPlan",
+            Refusal::Dearer => "Dearer",
             Refusal::OutOfMemory => "OutOfMemory",
         }
     }

@@ -117,8 +117,12 @@ fn put_command(version: Version, sector: &mut Sector, command: &Command)
             sector.put_u8(8);
             sector.put_u32(*deviation);
         }
-        // The others have no record.
-        _ => {}
+        // These have no record.
+        Command::Load(..)
+        | Command::Checkpoint
+        | Command::Anneal(_)
+        | Command::Reduce(_)
+        | Command::Adopt(_) => {}
     }
 }
 

@@ -1,0 +1,9 @@
+use Rattle.std.proofs.Common.{sym, ap, ◌∙◌}
+use Rattle.command_core.specs.Job.{JobValue}
+use Rattle.command_core.specs.Refusing.{adopt_refusal, job_refusal}
+use Rattle.command_core.proofs.checking.job_refusal.Goals as goal
+
+pub returns-in-Adopt : goal.returns-in-Adopt
+returns-in-Adopt c =
+    let plan = c.in-Adopt.plan in
+    c.adopt_refusal.ensures ∙ ap (λ (j : JobValue). adopt_refusal j.problem j.pins j.plan plan.routes) c.job.view_is ∙ ap (job_refusal c.args.job.now) (sym c.in-Adopt.is)
