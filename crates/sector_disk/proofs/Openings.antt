@@ -6,7 +6,7 @@ use Rattle.std.specs.declared.io.ErrorKind.{ErrorKind}
 use Rattle.sector_disk.specs.declared.file_device.FileFault.{FileFault}
 use Rattle.sector_disk.specs.declared.file_device.FileFault.TheVariants as faults
 use Rattle.sector_disk.specs.declared.system_call.SystemCall.{SystemCall}
-use Rattle.sector_disk.specs.declared.system_call.SystemCall.TheVariants.{Open, Lock, Measure, MeasureFailed, SetLen, ReadAt, ReadAtFailed, WriteAt, WriteAtFailed, SyncData, SyncAll, OpenFolder, SyncFolder}
+use Rattle.sector_disk.specs.declared.system_call.SystemCall.TheVariants.{Find, FindFailed, Open, Lock, Measure, MeasureFailed, SetLen, ReadAt, ReadAtFailed, WriteAt, WriteAtFailed, SyncData, SyncAll, OpenFolder, SyncFolder}
 use Rattle.sector_disk.specs.SystemCalls.{Noted, is_memory}
 use Rattle.sector_disk.specs.Opening.{Failure, fault_of, failure_in, failure_of, first_failure, folder_failure, is_in_use, is_not_offered, lock_failure, unsaid}
 
@@ -30,10 +30,13 @@ of_folder : (kind : ErrorKind) → is_length (folder_failure kind) ≡ false
 of_folder kind = cond_both (is_not_offered kind) None (Some (failure_of kind)) (λ failure. is_length failure ≡ false) (λ _. refl) (λ _. of_kind kind)
 
 of_call : (call : SystemCall) → is_length (failure_in call) ≡ false
-of_call (Open is_made None) = refl
-of_call (Open is_made (Some kind)) = of_kind kind
-of_call (Lock None) = refl
-of_call (Lock (Some kind)) = of_lock kind
+of_call (Find true) = refl
+of_call (Find false) = refl
+of_call (FindFailed kind) = of_kind kind
+of_call (Open access None) = refl
+of_call (Open access (Some kind)) = of_kind kind
+of_call (Lock is_shared None) = refl
+of_call (Lock is_shared (Some kind)) = of_lock kind
 of_call (Measure true len) = refl
 of_call (Measure false len) = refl
 of_call (MeasureFailed kind) = of_kind kind

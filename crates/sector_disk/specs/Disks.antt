@@ -10,7 +10,7 @@ use Rattle.sector_disk.specs.declared.file_device.FileRefusal.{FileRefusal}
 use Rattle.sector_disk.specs.declared.start.Start as starts
 use Rattle.sector_disk.specs.FileDevice.{IsUnused, calls_of_refusal, device_len, opening}
 use Rattle.sector_disk.specs.FileRecord.{Entry}
-use Rattle.sector_disk.specs.Opening.{IsMade, IsNotMade, IsNotTaken, IsTaken, failure_by}
+use Rattle.sector_disk.specs.Opening.{IsMade, IsNotMade, IsNotShared, IsNotTaken, IsShared, IsTaken, failure_by}
 
 -- what was asked, with the path
 abbrev pub DiskEntry : Type 0
@@ -42,6 +42,11 @@ module _ {S : Type 0} {start : starts.Ghosts S} {g : calls.Ghosts HostFile} wher
     pub unused : IsUnused entries device
     pub taken : IsTaken path (opening device.file) (512 * device_len device)
 
+  -- so for reading alone
+  pub record IsSharedAt (entries : HostFile → List Entry) (path : List ℕ) (device : FileDevice S HostFile start g) : Type 0 where
+    pub unused : IsUnused entries device
+    pub shared : IsShared path (opening device.file) (512 * device_len device)
+
   -- of one that was made where there was none
   pub record IsMadeAt (entries : HostFile → List Entry) (path : List ℕ) (device : FileDevice S HostFile start g) : Type 0 where
     pub unused : IsUnused entries device
@@ -49,6 +54,9 @@ module _ {S : Type 0} {start : starts.Ghosts S} {g : calls.Ghosts HostFile} wher
 
 abbrev pub IsNotTakenAt : List ℕ → FileRefusal → Type 0
 IsNotTakenAt path refusal = IsNotTaken path (calls_of_refusal refusal) (failure_by refusal.fault refusal.cause)
+
+abbrev pub IsNotSharedAt : List ℕ → FileRefusal → Type 0
+IsNotSharedAt path refusal = IsNotShared path (calls_of_refusal refusal) (failure_by refusal.fault refusal.cause)
 
 abbrev pub IsNotMadeAt : List ℕ → FileRefusal → Type 0
 IsNotMadeAt path refusal = IsNotMade path (calls_of_refusal refusal) (failure_by refusal.fault refusal.cause)

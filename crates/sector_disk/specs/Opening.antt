@@ -1,5 +1,5 @@
 -- What opening or making a file came to, by the calls that were made of the system.
-use Rattle.std.specs.Prelude.{◌≡◌, ℕ, ◌+◌, ◌%◌, max, Bool, true, false, ◌&&◌, List, [], ◌∷◌, drop, Option, Some, None, is_none, Result, Ok, Err, IfOk, if◌then◌else◌, ◌==◌, IsTrue, codes}
+use Rattle.std.specs.Prelude.{◌≡◌, ◌⊎◌, ℕ, ◌+◌, ◌%◌, max, Bool, true, false, ◌&&◌, List, [], ◌∷◌, drop, Option, Some, None, is_none, Result, Ok, Err, IfOk, if◌then◌else◌, ◌==◌, IsTrue, codes}
 use Rattle.std.specs.Option.{option_or, option_map}
 use Rattle.std.specs.Path.{path_parent}
 use Rattle.std.specs.IoError.{error_kind}
@@ -9,8 +9,10 @@ use Rattle.std.specs.declared.io.ErrorKind.TheVariants as kind
 use Rattle.sector_disk.specs.declared.file_device.FileFault.{FileFault}
 use Rattle.sector_disk.specs.declared.file_device.FileFault.TheVariants as faults
 use Rattle.sector_disk.specs.declared.opened_file.OpeningFault.{OpeningFault}
+use Rattle.sector_disk.specs.declared.system_call.Access.{Access}
+use Rattle.sector_disk.specs.declared.system_call.Access.TheVariants.{Read, Write, Make}
 use Rattle.sector_disk.specs.declared.system_call.SystemCall.{SystemCall}
-use Rattle.sector_disk.specs.declared.system_call.SystemCall.TheVariants.{Open, Lock, Measure, MeasureFailed, SetLen, ReadAt, ReadAtFailed, WriteAt, WriteAtFailed, SyncAll, OpenFolder, SyncFolder}
+use Rattle.sector_disk.specs.declared.system_call.SystemCall.TheVariants.{Find, FindFailed, Open, Lock, Measure, MeasureFailed, SetLen, ReadAt, ReadAtFailed, WriteAt, WriteAtFailed, SyncAll, OpenFolder, SyncFolder}
 use Rattle.sector_disk.specs.SystemCalls.{Noted, is_memory, answered}
 
 -- a failure of the system as a fault
@@ -54,8 +56,10 @@ folder_failure_in (Some kind) = folder_failure kind
 
 -- the failure that a call comes to, none where it did what was asked
 abbrev pub failure_in : SystemCall → Option Failure
-failure_in (Open is_made failed) = option_map failure_of failed
-failure_in (Lock failed) = option_map lock_failure failed
+failure_in (Find is_file) = if is_file then None else Some (unsaid faults.NoFile)
+failure_in (FindFailed kind) = Some (failure_of kind)
+failure_in (Open access failed) = option_map failure_of failed
+failure_in (Lock is_shared failed) = option_map lock_failure failed
 failure_in (Measure is_file len) = if is_file then None else Some (unsaid faults.NoFile)
 failure_in (MeasureFailed kind) = Some (failure_of kind)
 failure_in (SetLen len failed) = option_map failure_of failed
@@ -90,9 +94,9 @@ abbrev pub len_failure : Option ℕ → Option Failure
 len_failure None = None
 len_failure (Some len) = if len % 512 == 0 then None else Some (unsaid faults.BadLength)
 
--- What calls opened, by the paths, the newest first: files, each with whether it was to be made where there is none; and folders.
+-- What calls opened, by the paths, the newest first: files, each with how; and folders.
 pub record Opened : Type 0 where
-  pub files : List (Bool × List ℕ)
+  pub files : List (Access × List ℕ)
   pub folders : List (List ℕ)
 
 -- What calls did to files: which they opened, and whether they cut, wrote or synced one, or a folder.
@@ -103,21 +107,23 @@ pub record Touched : Type 0 where
 abbrev pub untouched : Touched
 untouched = record { opened = record { files = []; folders = [] }; is_changed = false }
 
-abbrev pub with_file : Bool → List ℕ → Opened → Opened
-with_file is_made path before = record { files = (is_made, path) ∷ before.files; folders = before.folders }
+abbrev pub with_file : Access → List ℕ → Opened → Opened
+with_file access path before = record { files = (access, path) ∷ before.files; folders = before.folders }
 
 abbrev pub with_folder : List ℕ → Opened → Opened
 with_folder path before = record { files = before.files; folders = path ∷ before.folders }
 
-abbrev pub with_opened : Bool → List ℕ → Touched → Touched
-with_opened is_made path before = record { opened = with_file is_made path before.opened; is_changed = before.is_changed }
+abbrev pub with_opened : Access → List ℕ → Touched → Touched
+with_opened access path before = record { opened = with_file access path before.opened; is_changed = before.is_changed }
 
 abbrev pub with_change : Touched → Touched
 with_change before = record { opened = before.opened; is_changed = true }
 
 abbrev pub touched_by : SystemCall → List ℕ → Touched → Touched
-touched_by (Open is_made failed) path before = with_opened is_made path before
-touched_by (Lock failed) bytes before = before
+touched_by (Find is_file) path before = before
+touched_by (FindFailed kind) path before = before
+touched_by (Open access failed) path before = with_opened access path before
+touched_by (Lock is_shared failed) bytes before = before
 touched_by (Measure is_file len) bytes before = before
 touched_by (MeasureFailed kind) bytes before = before
 touched_by (ReadAt offset moved) bytes before = before
@@ -185,29 +191,58 @@ pub record IsResized {T : Type 0} (result : Result T OpeningFault) (earlier call
 
 -- ---- of the file at a path
 
--- the calls that open it where it stands, take its lock and measure it, the newest first
-abbrev pub taking_calls : List ℕ → ℕ → List Noted
-taking_calls path len = (Measure true len, []) ∷ (Lock None, []) ∷ (Open false None, path) ∷ []
+-- who reads alone shares its lock with others that read
+abbrev pub is_shared : Access → Bool
+is_shared Read = true
+is_shared _ = false
 
--- These calls were made and no others, so nothing was made, cut or written. The file has this length, which is one of whole sectors.
-pub record IsTaken (path : List ℕ) (calls : List Noted) (len : ℕ) : Type 0 where
-  pub only : calls ≡ taking_calls path len
+-- who reads alone asks first whether it is a plain file, since it would have to wait for another kind
+abbrev pub finding_calls : Access → List ℕ → List Noted
+finding_calls Read path = (Find true, path) ∷ []
+finding_calls _ path = []
+
+-- the calls that open it so, take its lock and measure it, the newest first
+abbrev pub opening_calls : Access → List ℕ → ℕ → List Noted
+opening_calls access path len = (Measure true len, []) ∷ (Lock (is_shared access) None, []) ∷ (Open access None, path) ∷ finding_calls access path
+
+-- These calls were made and no others, so nothing was cut or written. The file has this length, which is one of whole sectors.
+pub record IsOpened (access : Access) (path : List ℕ) (calls : List Noted) (len : ℕ) : Type 0 where
+  pub only : calls ≡ opening_calls access path len
   pub no_fault : taking_failure calls ≡ None
   pub length : len_after (answered calls) ≡ Some len
 
--- It was not opened, for the failure that the calls tell. They opened it where it stands and no other, and made, cut or wrote nothing.
-pub record IsNotTaken (path : List ℕ) (calls : List Noted) (failure : Failure) : Type 0 where
+-- It was opened so and no other, and nothing was cut or written; for reading alone perhaps not even that, where no plain file was found.
+abbrev pub Touches : Access → List ℕ → Touched → Type 0
+Touches Read path touched = (touched ≡ untouched) ⊎ (touched ≡ with_opened Read path untouched)
+Touches access path touched = touched ≡ with_opened access path untouched
+
+-- It was not opened, for the failure that the calls tell.
+pub record IsNotOpened (access : Access) (path : List ℕ) (calls : List Noted) (failure : Failure) : Type 0 where
   pub told : taking_failure calls ≡ Some failure
-  pub touched : touched_in (answered calls) ≡ with_opened false path untouched
+  pub touched : Touches access path (touched_in (answered calls))
+
+-- opened where it stands, for reading and writing, so that nothing was made either; or not
+abbrev pub IsTaken : List ℕ → List Noted → ℕ → Type 0
+IsTaken path calls len = IsOpened Write path calls len
+
+abbrev pub IsNotTaken : List ℕ → List Noted → Failure → Type 0
+IsNotTaken path calls failure = IsNotOpened Write path calls failure
+
+-- for reading alone; or not
+abbrev pub IsShared : List ℕ → List Noted → ℕ → Type 0
+IsShared path calls len = IsOpened Read path calls len
+
+abbrev pub IsNotShared : List ℕ → List Noted → Failure → Type 0
+IsNotShared path calls failure = IsNotOpened Read path calls failure
 
 -- It was opened, and made where there was none, and no other. It was given this length, and then it and its folder were synced.
 pub record IsMade (path : List ℕ) (calls : List Noted) (len : ℕ) : Type 0 where
   pub no_fault : first_failure (answered calls) ≡ None
-  pub opened : opened_in calls ≡ record { files = (true, path) ∷ []; folders = folder_of path ∷ [] }
+  pub opened : opened_in calls ≡ record { files = (Make, path) ∷ []; folders = folder_of path ∷ [] }
   pub length : len_after (answered calls) ≡ Some len
   pub synced : IsTrue (is_synced (answered calls))
 
 -- It was not made, for the failure that the calls tell. They opened it, and no other file.
 pub record IsNotMade (path : List ℕ) (calls : List Noted) (failure : Failure) : Type 0 where
   pub told : first_failure (answered calls) ≡ Some failure
-  pub files : (opened_in calls).files ≡ (true, path) ∷ []
+  pub files : (opened_in calls).files ≡ (Make, path) ∷ []

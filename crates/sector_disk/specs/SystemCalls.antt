@@ -6,7 +6,7 @@ use Rattle.std.specs.declared.io.Error.{Error}
 use Rattle.std.specs.IoError.{error_kind}
 use Rattle.sector_disk.specs.declared.system.Extent.{Extent}
 use Rattle.sector_disk.specs.declared.system_call.SystemCall.{SystemCall}
-use Rattle.sector_disk.specs.declared.system_call.SystemCall.TheVariants.{Measure, MeasureFailed, ReadAt, ReadAtFailed, WriteAt, WriteAtFailed}
+use Rattle.sector_disk.specs.declared.system_call.SystemCall.TheVariants.{Find, FindFailed, Measure, MeasureFailed, ReadAt, ReadAtFailed, WriteAt, WriteAtFailed}
 
 -- a call with the bytes that were read or written, or the path that was opened
 abbrev pub Noted : Type 0
@@ -15,6 +15,10 @@ Noted = SystemCall × List ℕ
 abbrev pub kind_in : {T : Type 0} → Result T Error → Option ErrorKind
 kind_in (Ok _) = None
 kind_in (Err error) = Some (error_kind error)
+
+abbrev pub found : Result Bool Error → SystemCall
+found (Ok is_file) = Find is_file
+found (Err error) = FindFailed (error_kind error)
 
 abbrev pub measured : Result Extent Error → SystemCall
 measured (Ok extent) = Measure extent.is_file extent.len

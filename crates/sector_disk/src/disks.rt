@@ -1,6 +1,6 @@
 //! The files of devices, by their paths: what opens and makes them, and tells which it was asked for.
 ghost use Rattle.std.specs.Prelude.{◌≡◌, ◌≢◌, ◌*◌, ◌^◌, ◌<◌, ◌∷◌, [], List, IfOk, IfErr, MatchResult};
-ghost use Rattle.sector_disk.specs.Disks.{DiskEntry, AreCompared, are_one, IsTakenAt, IsMadeAt, IsNotTakenAt, IsNotMadeAt};
+ghost use Rattle.sector_disk.specs.Disks.{DiskEntry, AreCompared, are_one, IsTakenAt, IsSharedAt, IsMadeAt, IsNotTakenAt, IsNotSharedAt, IsNotMadeAt};
 ghost use Rattle.sector_disk.specs.FileDevice.{device_len};
 
 use crate::{FileCalls, FileDevice, FileFault, FileRefusal, HostFile, Start};
@@ -22,6 +22,8 @@ pub struct FileIdentity {
 pub enum DiskCall {
     /// To be opened where it stands.
     Take,
+    /// So, for reading alone.
+    Share,
     /// To be opened, and made where there is none.
     Make,
     /// To tell which file it is, if there is one.
@@ -38,6 +40,12 @@ pub trait Disks {
         ensures noted { asked self.new ≡ (DiskCall.Take, path.now) ∷ asked self.old }
         ensures told { MatchResult result
             (IsTakenAt ⟦<HostFile as FileCalls>⟧.entries path.now) (IsNotTakenAt path.now) };
+
+    /// A device over the file, as `FileDevice::shared_or_cause` gives one.
+    fn share<S: Start>(&mut self, path: &str, start: S) -> Result<FileDevice<S>, FileRefusal>
+        ensures noted { asked self.new ≡ (DiskCall.Share, path.now) ∷ asked self.old }
+        ensures told { MatchResult result
+            (IsSharedAt ⟦<HostFile as FileCalls>⟧.entries path.now) (IsNotSharedAt path.now) };
 
     /// A device over the file, as `FileDevice::create_or_cause` gives one.
     fn make<S: Start>(
@@ -131,6 +139,11 @@ impl<'a, R: Files<File = File>> Disks for HostDisks<'a, R> {
     fn take<S: Start>(&mut self, path: &str, start: S) -> Result<FileDevice<S>, FileRefusal> {
         self.noted.note(DiskCall::Take, path.as_bytes());
         FileDevice::at_or_cause(self.rt, path, start)
+    }
+
+    fn share<S: Start>(&mut self, path: &str, start: S) -> Result<FileDevice<S>, FileRefusal> {
+        self.noted.note(DiskCall::Share, path.as_bytes());
+        FileDevice::shared_or_cause(self.rt, path, start)
     }
 
     fn make<S: Start>(

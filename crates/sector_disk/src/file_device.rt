@@ -12,11 +12,12 @@
 //!   an opening it is what the first call that failed said.
 ghost use Rattle.std.specs.Prelude.{◌≡◌, ◌+◌, ◌-◌, ◌*◌, ◌%◌, ◌^◌, ◌<◌, ◌≤◌, ◌↔◌, [], List, ℕ, length, take, drop, OnOk, OnErr, IfOk, IfErr, IsErr, IsErrAnd, IsErrOf, IsTrue, min, ◌≢◌, MatchResult, Some};
 ghost use Rattle.sector_disk.specs.FileRecord.{all_inside};
-ghost use Rattle.sector_disk.specs.Opening.{failure_by, IsTaken, IsNotTaken, IsMade, IsNotMade};
+ghost use Rattle.sector_disk.specs.Opening.{failure_by, IsOpened, IsNotOpened, IsTaken, IsNotTaken, IsShared, IsNotShared, IsMade, IsNotMade};
 
 use crate::file_calls::{FileCalls, HostFile, SECTOR};
 use crate::opened_file::{OpeningFault, make_file, take_file};
 use crate::record::Record;
+use crate::system_call::Access;
 use crate::{DeviceFault, Sectors, Start};
 use std::fs::{File, Files};
 use std::io;
@@ -26,8 +27,8 @@ use thiserror::Error;
 /// Why a file is not opened as a device.
 #[derive(Clone, Copy, Debug, PartialEq, Eq, Error)]
 pub enum FileFault {
-    /// There is no plain file that can be opened for reading and writing.
-    #[error("no file that can be read and written")]
+    /// There is no plain file that can be opened so.
+    #[error("no file that can be opened")]
     NoFile,
     /// The length is no whole number of sectors, or no file can be so long.
     #[error("the length is no whole number of sectors")]
@@ -198,8 +199,39 @@ impl<S: Start> FileDevice<S> {
             (λ refusal. IsNotTaken path.now (calls_of_refusal refusal)
             (failure_by refusal.fault refusal.cause)) }
     {
+        FileDevice::opened(rt, path, Access::Write)
+    }
+
+    /// Opens the file at `path` for reading alone, so that it may be one that can't be written. Others may read it meanwhile. It
+    /// says with a fault what the system said. A write of the device fails.
+    pub fn shared_or_cause<R: Files<File = File>>(
+        rt: &R,
+        path: &str,
+        _start: S,
+    ) -> Result<FileDevice<S>, FileRefusal>
+        ensures unused { IfOk result (IsUnused ⟦<HostFile as FileCalls>⟧.entries) }
+        ensures told { MatchResult result
+            (λ device. IsShared path.now (opening device.file) (512 * device_len device))
+            (λ refusal. IsNotShared path.now (calls_of_refusal refusal)
+            (failure_by refusal.fault refusal.cause)) }
+    {
+        FileDevice::opened(rt, path, Access::Read)
+    }
+
+    // A device over the file where it stands.
+    fn opened<R: Files<File = File>>(
+        rt: &R,
+        path: &str,
+        access: Access,
+    ) -> Result<FileDevice<S>, FileRefusal>
+        ensures unused { IfOk result (IsUnused ⟦<HostFile as FileCalls>⟧.entries) }
+        ensures told { MatchResult result
+            (λ device. IsOpened access path.now (opening device.file) (512 * device_len device))
+            (λ refusal. IsNotOpened access path.now (calls_of_refusal refusal)
+            (failure_by refusal.fault refusal.cause)) }
+    {
         let mut noted = Record::new();
-        match take_file(rt, path, &mut noted) {
+        match take_file(rt, path, access, &mut noted) {
             Ok((file, sectors)) => Ok(FileDevice::over(HostFile::new(file, noted), sectors)),
             Err(refusal) => Err(FileRefusal::new(refusal, noted)),
         }

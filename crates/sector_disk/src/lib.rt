@@ -34,10 +34,10 @@
 //!   again; a failed sync stays one whatever comes behind it (`FileCalls` for `HostFile`).
 //! - The lock of a file is taken before its length is looked at or set. What is answered of an opening is what its calls came
 //!   to: each fault, with what the system said, and the length that the device has; and they opened the file at that path and
-//!   no other (`told` of `at_or_cause` and `create_or_cause`). Of a file that was opened where it stands these are the opening,
+//!   no other (`told` of `at_or_cause`, `shared_or_cause` and `create_or_cause`). Of a file that was opened where it stands these are the opening,
 //!   the lock and the measure alone (`IsTaken`), so that nothing was made, cut or written; so of one that was not
-//!   (`IsNotTaken`).
-//! - `HostDisks` tells which files it was asked for (`noted` of `take` and `make`).
+//!   (`IsNotTaken`), and of one for reading alone (`IsShared`, `IsNotShared`).
+//! - `HostDisks` tells which files it was asked for (`noted` of `take`, `share` and `make`).
 //!
 //! Trusted, since no proof shows it: that each function of `system` makes the one call that it notes, that the system keeps a
 //! lock, that nobody writes the file without asking for its lock, and that what the next opening finds is an image that the

@@ -2,16 +2,16 @@
 //! it, since another process that has the file may be writing it. Each step notes its calls, which say what its fault means.
 //!
 //! The lock is the system's advisory one on the whole file (`flock`). It is freed where the file is closed, so by the death of
-//! its process too, and keeps out those alone who ask for it.
+//! its process too, and keeps out those alone who ask for it. Who opens a file for reading alone shares it with others that read.
 ghost use Rattle.std.specs.Prelude.{◌≡◌, ◌*◌, ◌/◌, ◌%◌, ◌^◌, ◌<◌, ◌≤◌, ◌≢◌, IfOk, IfErr, IsTrue, IsErrOf, Ok, Some, None, false, true, List, [], ◌∷◌};
 ghost use Rattle.std.specs.IoError.{error_kind};
 ghost use Rattle.sector_disk.specs.SystemCalls.{answered};
-ghost use Rattle.sector_disk.specs.Opening.{lock_failure, folder_failure, failure_by, failure_told, first_failure, len_after, is_file_synced, is_synced, folder_of, folder_or_here, opened_in, touched_in, with_folder, with_opened, HasLen, IsResized, IsTaken, IsNotTaken, IsMade, IsNotMade};
+ghost use Rattle.sector_disk.specs.Opening.{lock_failure, folder_failure, failure_by, failure_told, first_failure, len_after, is_file_synced, is_synced, folder_of, folder_or_here, opened_in, finding_calls, touched_in, untouched, with_folder, with_opened, is_shared, HasLen, IsResized, IsOpened, IsNotOpened, IsMade, IsNotMade};
 
 use crate::file_calls::SECTOR;
 use crate::moving::write_some;
 use crate::record::Record;
-use crate::system_call::SystemCall;
+use crate::system_call::{Access, SystemCall};
 use crate::{FileFault, system};
 use std::fs::{File, Files};
 use std::io;
@@ -68,6 +68,13 @@ fn lock_refusal(error: io::Error) -> OpeningFault
     }
 }
 
+// Who reads alone shares its lock with others that read.
+fn is_shared(access: Access) -> bool
+    ensures { result ≡ is_shared access }
+{
+    matches!(access, Access::Read)
+}
+
 /// An open file, and whether its lock was taken.
 #[derive(Drop)]
 pub struct OpenedFile {
@@ -76,22 +83,22 @@ pub struct OpenedFile {
 }
 
 impl OpenedFile {
-    // Opens the file for reading and writing.
+    // Opens the file.
     fn open<R: Files<File = File>>(
         rt: &R,
         path: &str,
-        is_made: bool,
+        access: Access,
         noted: &mut Record,
     ) -> Result<OpenedFile, OpeningFault>
         requires no_fault { first_failure (answered noted.old) ≡ None }
         ensures unlocked { IfOk result (λ opened. opened.is_locked ≡ false) }
         ensures asked { IfOk result (λ _.
-            noted.new ≡ (SystemCall.Open is_made None, path.now) ∷ noted.old) }
+            noted.new ≡ (SystemCall.Open access None, path.now) ∷ noted.old) }
         ensures told { first_failure (answered noted.new) ≡ failure_told result }
         ensures touched { touched_in (answered noted.new)
-            ≡ with_opened is_made path.now (touched_in (answered noted.old)) }
+            ≡ with_opened access path.now (touched_in (answered noted.old)) }
     {
-        let file = system::open(rt, path, is_made, noted)?;
+        let file = system::open(rt, path, access, noted)?;
         Ok(OpenedFile {
             file,
             is_locked: false,
@@ -99,38 +106,39 @@ impl OpenedFile {
     }
 
     // Takes the lock, which another process may have.
-    fn lock(&mut self, noted: &mut Record) -> Result<(), OpeningFault>
+    fn lock(&mut self, is_shared: bool, noted: &mut Record) -> Result<(), OpeningFault>
         requires no_fault { first_failure (answered noted.old) ≡ None }
         ensures locked { IfOk result (λ _. IsTrue self.new.is_locked) }
         ensures asked { IfOk result (λ _.
-            noted.new ≡ (SystemCall.Lock None, []) ∷ noted.old) }
+            noted.new ≡ (SystemCall.Lock is_shared None, []) ∷ noted.old) }
         ensures told { first_failure (answered noted.new) ≡ failure_told result }
         ensures touched { touched_in (answered noted.new) ≡ touched_in (answered noted.old) }
     {
-        if let Err(error) = system::lock(&self.file, noted) {
+        if let Err(error) = system::lock(&self.file, is_shared, noted) {
             return Err(lock_refusal(error));
         }
         self.is_locked = true;
         Ok(())
     }
 
-    /// Opens the file for reading and writing, where there is none makes it if that is asked, and takes its lock.
+    /// Opens the file, and takes its lock.
     pub fn open_locked<R: Files<File = File>>(
         rt: &R,
         path: &str,
-        is_made: bool,
+        access: Access,
         noted: &mut Record,
     ) -> Result<OpenedFile, OpeningFault>
         requires no_fault { first_failure (answered noted.old) ≡ None }
         ensures locked { IfOk result (λ opened. IsTrue opened.is_locked) }
         ensures asked { IfOk result (λ _. noted.new
-            ≡ (SystemCall.Lock None, []) ∷ (SystemCall.Open is_made None, path.now) ∷ noted.old) }
+            ≡ (SystemCall.Lock (is_shared access) None, [])
+            ∷ (SystemCall.Open access None, path.now) ∷ noted.old) }
         ensures told { first_failure (answered noted.new) ≡ failure_told result }
         ensures touched { touched_in (answered noted.new)
-            ≡ with_opened is_made path.now (touched_in (answered noted.old)) }
+            ≡ with_opened access path.now (touched_in (answered noted.old)) }
     {
-        let mut opened = OpenedFile::open(rt, path, is_made, noted)?;
-        opened.lock(noted)?;
+        let mut opened = OpenedFile::open(rt, path, access, noted)?;
+        opened.lock(is_shared(access), noted)?;
         Ok(opened)
     }
 
@@ -236,19 +244,56 @@ fn sectors_of(len: u64) -> Result<u64, FileFault>
     }
 }
 
+// Looks whether a plain file stands there.
+fn find_file<R: Files>(rt: &R, path: &str, noted: &mut Record) -> Result<(), OpeningFault>
+    requires no_fault { first_failure (answered noted.old) ≡ None }
+    ensures asked { IfOk result (λ _.
+        noted.new ≡ (SystemCall.Find true, path.now) ∷ noted.old) }
+    ensures told { first_failure (answered noted.new) ≡ failure_told result }
+    ensures touched { touched_in (answered noted.new) ≡ touched_in (answered noted.old) }
+    ensures len { len_after (answered noted.new) ≡ len_after (answered noted.old) }
+{
+    if !system::find(rt, path, noted)? {
+        return Err(OpeningFault::from(FileFault::NoFile));
+    }
+    Ok(())
+}
+
+// The same where the file is opened for reading alone: of another kind it would have to be waited for, as of a FIFO.
+fn find_to_read<R: Files>(
+    rt: &R,
+    path: &str,
+    access: Access,
+    noted: &mut Record,
+) -> Result<(), OpeningFault>
+    requires first { noted.old ≡ [] }
+    ensures asked { IfOk result (λ _. noted.new ≡ finding_calls access path.now) }
+    ensures told { first_failure (answered noted.new) ≡ failure_told result }
+    ensures touched { touched_in (answered noted.new) ≡ untouched }
+    ensures len { len_after (answered noted.new) ≡ None }
+    ensures found { IfErr result (λ _. access ≡ Access.Read) }
+{
+    match access {
+        Access::Read => find_file(rt, path, noted),
+        Access::Write | Access::Make => Ok(()),
+    }
+}
+
 /// Opens a file as it is, and says how many sectors it has.
 pub fn take_file<R: Files<File = File>>(
     rt: &R,
     path: &str,
+    access: Access,
     noted: &mut Record,
 ) -> Result<(File, u64), OpeningFault>
     requires first { noted.old ≡ [] }
     ensures offsets { IfOk result (λ taken. 512 * taken.1 < 2 ^ 64) }
-    ensures taken { IfOk result (λ taken. IsTaken path.now noted.new (512 * taken.1)) }
-    ensures refused { IfErr result (λ refusal. IsNotTaken path.now noted.new
+    ensures taken { IfOk result (λ taken. IsOpened access path.now noted.new (512 * taken.1)) }
+    ensures refused { IfErr result (λ refusal. IsNotOpened access path.now noted.new
         (failure_by refusal.fault refusal.cause)) }
 {
-    let opened = OpenedFile::open_locked(rt, path, false, noted)?;
+    find_to_read(rt, path, access, noted)?;
+    let opened = OpenedFile::open_locked(rt, path, access, noted)?;
     let len = opened.measure(noted)?;
     let sectors = sectors_of(len)?;
     Ok((opened.into_file(), sectors))
@@ -266,7 +311,7 @@ pub fn make_file<R: Files<File = File>>(
     ensures refused { IfErr result (λ refusal. IsNotMade path.now noted.new
         (failure_by refusal.fault refusal.cause)) }
 {
-    let opened = OpenedFile::open_locked(rt, path, true, noted)?;
+    let opened = OpenedFile::open_locked(rt, path, Access::Make, noted)?;
     opened.resize(len, noted)?;
     sync_folder(rt, path, noted)?;
     Ok(opened.into_file())

@@ -2,14 +2,14 @@
 //! No contract says what a system does, so that each does make the call that it notes is trusted. Nothing else calls a `File`.
 ghost use Rattle.std.specs.Prelude.{◌≡◌, ◌≤◌, ◌<◌, length, List, [], ◌∷◌, IfOk};
 ghost use Rattle.std.specs.IoError.{error_kind};
-ghost use Rattle.sector_disk.specs.SystemCalls.{kind_in, measured, read_at_answer, write_at_answer, IsPart};
+ghost use Rattle.sector_disk.specs.SystemCalls.{found, kind_in, measured, read_at_answer, write_at_answer, IsPart};
 
 use crate::record::Record;
-use crate::system_call::SystemCall;
+use crate::system_call::{Access, SystemCall};
 use std::fs::{File, Files, OpenOptions};
-use std::io;
 use std::io::ErrorKind;
 use std::os::unix::fs::FileExt;
+use std::{fs, io};
 
 /// What is asked of a file's metadata.
 #[derive(Clone, Copy)]
@@ -28,32 +28,55 @@ fn kind_of<T>(answer: &io::Result<T>) -> Option<ErrorKind>
     }
 }
 
-/// Opens the file for reading and writing, and where there is none makes it if that is asked.
+/// Asks whether a plain file stands under the path.
+pub fn find<R: Files>(rt: &R, path: &str, noted: &mut Record) -> io::Result<bool>
+    ensures { noted.new ≡ (found result, path.now) ∷ noted.old }
+{
+    match fs::metadata(rt, path) {
+        Ok(metadata) => {
+            let is_file = metadata.is_file();
+            noted.note(&SystemCall::Find { is_file }, path.as_bytes());
+            Ok(is_file)
+        }
+        Err(error) => {
+            let kind = error.kind();
+            noted.note(&SystemCall::FindFailed { kind }, path.as_bytes());
+            Err(error)
+        }
+    }
+}
+
+/// Opens the file.
 pub fn open<R: Files<File = File>>(
     rt: &R,
     path: &str,
-    is_made: bool,
+    access: Access,
     noted: &mut Record,
 ) -> io::Result<File>
-    ensures { noted.new ≡ (SystemCall.Open is_made (kind_in result), path.now) ∷ noted.old }
+    ensures { noted.new ≡ (SystemCall.Open access (kind_in result), path.now) ∷ noted.old }
 {
     let opened = OpenOptions::new()
         .read(true)
-        .write(true)
-        .create(is_made)
+        .write(!matches!(access, Access::Read))
+        .create(matches!(access, Access::Make))
         .open(rt, path);
     let failed = kind_of(&opened);
-    noted.note(&SystemCall::Open { is_made, failed }, path.as_bytes());
+    noted.note(&SystemCall::Open { access, failed }, path.as_bytes());
     opened
 }
 
-/// Takes the file's lock; `WouldBlock` where another has it.
-pub fn lock(file: &File, noted: &mut Record) -> io::Result<()>
-    ensures { noted.new ≡ (SystemCall.Lock (kind_in result), []) ∷ noted.old }
+/// Takes the file's lock, shared or not; `WouldBlock` where another has it.
+pub fn lock(file: &File, is_shared: bool, noted: &mut Record) -> io::Result<()>
+    ensures { noted.new ≡ (SystemCall.Lock is_shared (kind_in result), []) ∷ noted.old }
 {
-    let locked = file.try_lock().map_err(io::Error::from);
+    let locked = if is_shared {
+        file.try_lock_shared()
+    } else {
+        file.try_lock()
+    };
+    let locked = locked.map_err(io::Error::from);
     let failed = kind_of(&locked);
-    noted.note(&SystemCall::Lock { failed }, &[]);
+    noted.note(&SystemCall::Lock { is_shared, failed }, &[]);
     locked
 }
 

@@ -1,17 +1,36 @@
 //! What is noted of a call of the system.
 use std::io::ErrorKind;
 
+/// How a file is opened.
+#[derive(Clone, Copy)]
+pub enum Access {
+    /// For reading alone, beside others that read it.
+    Read,
+    /// For reading and writing, where it stands.
+    Write,
+    /// For both, and made where there is none.
+    Make,
+}
+
 /// A call of the system, with what it was asked and what it answered. The bytes that were handed over, the buffer that was
 /// read into, or the path that was opened stand beside it.
 #[derive(Clone, Copy)]
 pub enum SystemCall {
-    /// The file at a path was opened, which was to be made where there is none if that was asked.
+    /// It was asked whether a plain file stands under a path.
+    Find {
+        is_file: bool,
+    },
+    FindFailed {
+        kind: ErrorKind,
+    },
+    /// The file at a path was opened.
     Open {
-        is_made: bool,
+        access: Access,
         failed: Option<ErrorKind>,
     },
-    /// Its lock was asked for; `WouldBlock` where another has it.
+    /// Its lock was asked for, to be shared or not; `WouldBlock` where another has it.
     Lock {
+        is_shared: bool,
         failed: Option<ErrorKind>,
     },
     /// Its metadata were asked for.
