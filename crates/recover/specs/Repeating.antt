@@ -1,8 +1,8 @@
 -- What repeating the commands of a store gives.
-use Rattle.std.specs.Prelude.{◌≡◌, ℕ, ◌+◌, ◌≤◌, List, sum_by, Result, ⊤}
+use Rattle.std.specs.Prelude.{◌≡◌, ℕ, ◌+◌, ◌-◌, ◌≤◌, List, sum_by, Result, ⊤}
 use Rattle.sector_disk.specs.declared.sectors.Sectors as sectors
 use Rattle.command_core.specs.Commands.{steps_of}
-use Rattle.command_core.specs.Runs.{after, AreAccepted}
+use Rattle.command_core.specs.Runs.{IsState, after, AreAccepted}
 use Rattle.command_core.specs.declared.states.State.{State}
 use Rattle.command_core.specs.declared.commands.Command.{Command}
 use Rattle.command_core.specs.declared.refusals.Refusal.{Refusal}
@@ -35,6 +35,14 @@ IsOfRepeating snapshot commands store.NotFormatted = ⊥
 IsOfRepeating snapshot commands store.BadVersion = ⊥
 IsOfRepeating snapshot commands store.Spent = ⊥
 IsOfRepeating snapshot commands store.DeviceFault = ⊥
+
+-- The commands are repeated from the snapshot on, and the journal goes on at this place.
+pub record IsRepeating (snapshot : State) (commands : List Command) (at : Place) (found : Recovered) : Type 0 where
+  pub accepted : AreAccepted snapshot commands
+  pub leads : after snapshot commands ≡ found.state
+  pub facts : IsState found.state
+  pub place : found.place ≡ at
+  pub replayed : found.replayed ≡ steps_in found.state - steps_in snapshot
 
 -- Of this image, whose place is this: the state after its commands, and how many steps they make.
 pub record IsRepeated (version : Version) (image : List ℕ) (state : State) (place : Place) (replayed : ℕ) : Type 0 where

@@ -68,7 +68,7 @@ pub use laws::{
     recovery_keeps_every_acknowledged_command, restarts_add_up, runs_add_up,
     stopped_openings_may_be_made_again,
 };
-pub use opening::{Opened, steps_to_repeat};
+pub use opening::{Opened, read_state, steps_to_repeat};
 pub use replies::{Reply, Run};
 pub use rounds::{Halt, Round, Rounds, RoundsFault, run_round, run_rounds};
 pub use sessions::Session;

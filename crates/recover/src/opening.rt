@@ -17,7 +17,7 @@ ghost use Rattle.checkpoint.specs.Refused.{faults_after_reading};
 ghost use Rattle.recover.specs.StandsFor.{StandsFor};
 ghost use Rattle.recover.specs.Applying.{IsBetween};
 ghost use Rattle.recover.specs.Opening.{Opens, Settles, StandsForNone, IsReplayed, IsToRepeat, IsOnlyRead, ReadsAgain, outcome, device_after};
-ghost use Rattle.recover.specs.Repeating.{TellsState};
+ghost use Rattle.recover.specs.Repeating.{IsOfRepeating, IsRepeating, TellsState};
 
 use crate::repeating::{repeat, steps_among, steps_in};
 use crate::sessions::Session;
@@ -58,6 +58,21 @@ fn read_settled<D: Sectors>(
     }
 }
 
+// What was read, with the commands of the records repeated.
+fn repeated(alloc: Global, loaded: Loaded) -> Result<Recovered, StoreFault>
+    requires { IsState loaded.state }
+    ensures ok { IfOk result (IsRepeating loaded.state loaded.commands.items loaded.place) }
+    ensures refused { IfErr result (IsOfRepeating loaded.state loaded.commands.items) }
+{
+    let begun = steps_in(&loaded.state);
+    let state = repeat(alloc, loaded.state, &loaded.commands)?;
+    Ok(Recovered {
+        replayed: steps_in(&state).saturating_sub(begun),
+        state,
+        place: loaded.place,
+    })
+}
+
 /// The state that the device's store of a version stands for: what is read, with the commands of the records repeated.
 pub(crate) fn recover<D: Sectors>(
     alloc: Global,
@@ -70,13 +85,24 @@ pub(crate) fn recover<D: Sectors>(
     ensures settles { D.honest device.new → Settles D.Sectors result device.old device.new }
 {
     let loaded = read_settled(alloc, device, version)?;
-    let begun = steps_in(&loaded.state);
-    let state = repeat(alloc, loaded.state, &loaded.commands)?;
-    Ok(Recovered {
-        replayed: steps_in(&state).saturating_sub(begun),
-        state,
-        place: loaded.place,
-    })
+    let found = repeated(alloc, loaded)?;
+    Ok(found)
+}
+
+/// The state that the device's store stands for, by reading alone: nothing is synced, so that a device which can't be written gives it too.
+/// What reads give may not be durable yet.
+///
+/// It is refused only where its image stands for no state, where memory is refused or where the device fails.
+pub fn read_state<D: Sectors>(alloc: Global, device: &mut D) -> Result<State, StoreFault>
+    ensures given { D.honest device.new → MatchResult result (StandsFor Two (D.seen device.old))
+        (UnlessUnread (StandsForNone Two (D.seen device.old))) }
+    ensures facts { IfOk result IsState }
+    ensures fails { IfErr result IsOfLoad }
+    ensures reads { IsOnlyRead D.Sectors result device.old device.new }
+{
+    let loaded = load(alloc, device, Version::Two)?;
+    let found = repeated(alloc, loaded)?;
+    Ok(found.state)
 }
 
 /// How many search steps opening this device is to repeat: those of the searches among the records, by reading alone, so that it can be
