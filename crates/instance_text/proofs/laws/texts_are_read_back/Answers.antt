@@ -1,0 +1,5 @@
+use Rattle.instance_text.proofs.ReadBack.{texts_are_read_back}
+use Rattle.instance_text.proofs.laws.texts_are_read_back.Goals as goal
+
+pub returns : goal.returns
+returns c = texts_are_read_back

@@ -1,0 +1,40 @@
+//! Why a problem is not written.
+ghost use Rattle.std.specs.Prelude.{◌≡◌};
+
+use std::alloc::AllocError;
+use thiserror::Error;
+
+/// Why a problem is not written.
+#[derive(Clone, Copy, Debug, PartialEq, Eq, Error)]
+pub enum WriteFault {
+    /// The format of its kind can't say one of its requests, or its depot.
+    #[error("the format of its kind can't say the problem")]
+    NoFormat,
+    #[error("out of memory")]
+    OutOfMemory,
+}
+
+impl WriteFault {
+    ghost use Rattle.instance_text.specs.Names.{fault_name};
+
+    /// Its name, as answers print it.
+    pub fn name(&self) -> &'static str
+        ensures { result.now ≡ fault_name self.now }
+    {
+        match self {
+            WriteFault::NoFormat => "NoFormat",
+            WriteFault::OutOfMemory => "OutOfMemory",
+        }
+    }
+}
+
+impl From<AllocError> for WriteFault {
+    ghost use Rattle.std.specs.Prelude.{◌≡◌};
+    ghost use Rattle.instance_text.specs.declared.faults.WriteFault.TheVariants.{OutOfMemory};
+
+    ghost from_gives = { λ _ fault. fault ≡ OutOfMemory };
+
+    fn from(_: AllocError) -> WriteFault {
+        WriteFault::OutOfMemory
+    }
+}

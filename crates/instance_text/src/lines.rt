@@ -1,0 +1,92 @@
+//! One line of an instance's text.
+ghost use Rattle.std.specs.Prelude.{◌≡◌, ◌++◌, ◌∷◌, [], OnOk};
+ghost use Rattle.std.specs.Fmt.{decimal, signed_decimal};
+ghost use Rattle.std.specs.List.{flat_map};
+ghost use Rattle.text_lines.specs.Lines.{ended};
+ghost use Rattle.instance_text.specs.Texts.{heading_text, keyed_line, numbers_text};
+
+use itoa::{Buffer, Integer};
+use std::alloc::AllocError;
+
+/// What stands in each `.vrp` text: whole lines, and the keys of two numbers.
+#[derive(Clone, Copy)]
+pub(crate) enum Heading {
+    Name,
+    ProblemType,
+    Dimension,
+    Weights,
+    Capacity,
+    Coordinates,
+    Demands,
+    Depots,
+    End,
+}
+
+impl Heading {
+    #[tactic(auto, unfolding(crate::specs::Texts::heading_text))]
+    fn text(self) -> &'static [u8]
+        ensures { result.now ≡ heading_text self }
+    {
+        match self {
+            Heading::Name => b"NAME : planner",
+            Heading::ProblemType => b"TYPE : CVRP",
+            Heading::Dimension => b"DIMENSION : ",
+            Heading::Weights => b"EDGE_WEIGHT_TYPE : EUC_2D",
+            Heading::Capacity => b"CAPACITY : ",
+            Heading::Coordinates => b"NODE_COORD_SECTION",
+            Heading::Demands => b"DEMAND_SECTION",
+            Heading::Depots => b"DEPOT_SECTION",
+            Heading::End => b"EOF",
+        }
+    }
+}
+
+/// A line that is the same in each text.
+pub(crate) fn put_heading(text: &mut Vec<u8>, heading: Heading) -> Result<(), AllocError>
+    ensures { OnOk result (text.new.items ≡ text.old.items ++ ended (heading_text heading)) }
+{
+    text.extend_from_slice(heading.text())?;
+    text.push(b'\n')?;
+    Ok(())
+}
+
+/// A key with its number.
+pub(crate) fn put_keyed(text: &mut Vec<u8>, key: Heading, number: u64) -> Result<(), AllocError>
+    ensures { OnOk result (text.new.items ≡ text.old.items ++ ended (keyed_line key number)) }
+{
+    text.extend_from_slice(key.text())?;
+    put_number(text, number)?;
+    text.push(b'\n')?;
+    Ok(())
+}
+
+/// A line of numbers with a blank between two.
+#[tactic(auto, unfolding(crate::specs::Texts::numbers_text))]
+pub(crate) fn put_line(text: &mut Vec<u8>, numbers: &[i64]) -> Result<(), AllocError>
+    ensures { OnOk result (text.new.items ≡ text.old.items ++ ended (numbers_text numbers.now)) }
+{
+    if let [first, more @ ..] = numbers {
+        put_number(text, *first)?;
+        put_more(text, more)?;
+    }
+    text.push(b'\n')?;
+    Ok(())
+}
+
+fn put_more(text: &mut Vec<u8>, numbers: &[i64]) -> Result<(), AllocError>
+    ensures { OnOk result (text.new.items
+        ≡ text.old.items ++ flat_map (λ n. 32 ∷ signed_decimal n) numbers.now) }
+{
+    for number in numbers {
+        text.push(b' ')?;
+        put_number(text, *number)?;
+    }
+    Ok(())
+}
+
+fn put_number<I: Integer>(text: &mut Vec<u8>, number: I) -> Result<(), AllocError>
+    ensures { OnOk result (text.new.items ≡ text.old.items ++ I.text number) }
+{
+    let mut buffer = Buffer::new();
+    text.extend_from_slice(buffer.format(number).as_bytes())
+}

@@ -1,0 +1,102 @@
+//! Writing the text of a problem.
+ghost use Rattle.std.specs.Prelude.{◌≡◌, ◌++◌, true, false, IfOk, OnOk, IsErrOf, IsOkUnless};
+ghost use Rattle.instance_read.specs.Readings.{SpellsInstance};
+ghost use Rattle.instance_text.specs.Formats.{has_format};
+ghost use Rattle.instance_text.specs.ReadBack.{as_read};
+ghost use Rattle.instance_text.specs.Texts.{end_lines, head_lines, instance_text, lilim_lines, lines_text, section_lines, vrp_lines};
+ghost use Rattle.instance_text.specs.declared.faults.WriteFault.TheVariants.{NoFormat, OutOfMemory};
+
+use crate::faults::WriteFault;
+use crate::formats::has_format;
+use crate::laws::texts_are_read_back;
+use crate::lines::{Heading, put_heading, put_keyed, put_line};
+use crate::stops::{Row, put_visits};
+use plan_types::{Kind, Problem};
+use std::alloc::{AllocError, Global};
+
+/// The text of a problem: an instance in Li and Lim's format where its kind is `LiLim`, a `.vrp` file of CVRPLIB where it
+/// is `Vrp`. The stops stand by rising number, each with its own. A `.vrp` file doesn't say the fleet.
+///
+/// # Errors
+///
+/// `NoFormat` where the format can't say the problem, as `has_format` tells, then `OutOfMemory`.
+pub fn write_instance(alloc: Global, problem: &Problem) -> Result<Vec<u8>, WriteFault>
+    ensures text { IfOk result (λ text. text.items ≡ instance_text problem.now) }
+    ensures spells { IfOk result (λ text. SpellsInstance problem.now.kind text.items
+        (as_read problem.now)) }
+    ensures no_format { has_format problem.now ≡ false → IsErrOf result NoFormat }
+    ensures format { has_format problem.now ≡ true → IsOkUnless result OutOfMemory }
+{
+    if !has_format(problem) {
+        return Err(WriteFault::NoFormat);
+    }
+    let text = write_lines(alloc, problem)?;
+    // By this law the text is read as what was written.
+    texts_are_read_back();
+    Ok(text)
+}
+
+fn write_lines(alloc: Global, problem: &Problem) -> Result<Vec<u8>, AllocError>
+    ensures { IfOk result (λ text. text.items ≡ instance_text problem.now) }
+{
+    match problem.kind {
+        Kind::LiLim => write_lilim(alloc, problem),
+        Kind::Vrp => write_vrp(alloc, problem),
+    }
+}
+
+fn write_lilim(alloc: Global, problem: &Problem) -> Result<Vec<u8>, AllocError>
+    ensures { IfOk result (λ text. text.items ≡ lines_text (lilim_lines problem.now)) }
+{
+    let mut text = Vec::new(alloc);
+    put_line(
+        &mut text,
+        &[i64::from(problem.fleet), i64::from(problem.capacity), 1],
+    )?;
+    put_visits(&mut text, problem, Row::Task)?;
+    Ok(text)
+}
+
+fn write_vrp(alloc: Global, problem: &Problem) -> Result<Vec<u8>, AllocError>
+    ensures { IfOk result (λ text. text.items ≡ lines_text (vrp_lines problem.now)) }
+{
+    let mut text = Vec::new(alloc);
+    put_head(&mut text, problem)?;
+    put_section(&mut text, problem, Heading::Coordinates, Row::Node)?;
+    put_section(&mut text, problem, Heading::Demands, Row::Demand)?;
+    put_end(&mut text)?;
+    Ok(text)
+}
+
+fn put_head(text: &mut Vec<u8>, problem: &Problem) -> Result<(), AllocError>
+    ensures { OnOk result (text.new.items
+        ≡ text.old.items ++ lines_text (head_lines problem.now)) }
+{
+    put_heading(text, Heading::Name)?;
+    put_heading(text, Heading::ProblemType)?;
+    put_keyed(text, Heading::Dimension, problem.requests.len() as u64 + 1)?;
+    put_heading(text, Heading::Weights)?;
+    put_keyed(text, Heading::Capacity, u64::from(problem.capacity))
+}
+
+fn put_section(
+    text: &mut Vec<u8>,
+    problem: &Problem,
+    heading: Heading,
+    row: Row,
+) -> Result<(), AllocError>
+    ensures { OnOk result (text.new.items
+        ≡ text.old.items ++ lines_text (section_lines problem.now heading row)) }
+{
+    put_heading(text, heading)?;
+    put_visits(text, problem, row)
+}
+
+fn put_end(text: &mut Vec<u8>) -> Result<(), AllocError>
+    ensures { OnOk result (text.new.items ≡ text.old.items ++ lines_text end_lines) }
+{
+    put_heading(text, Heading::Depots)?;
+    put_line(text, &[1])?;
+    put_line(text, &[-1])?;
+    put_heading(text, Heading::End)
+}

@@ -1,0 +1,5 @@
+pub mod ClaimLemmas
+pub mod FillLemmas
+pub mod FoundLemmas
+pub mod LawProofs
+pub mod VerdictLemmas

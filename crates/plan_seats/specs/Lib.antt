@@ -1,0 +1,5 @@
+-- what public contracts say
+pub mod Faults
+pub mod Laws
+pub mod Seating
+pub mod Seats

@@ -1,0 +1,12 @@
+//! Laws, for every problem, pins and text.
+ghost use Rattle.plan_seats.specs.Laws.{SeatingsAgree, SomeSeatingIs};
+
+use plan_audit::verdicts_are_unique;
+
+/// There is a function that tells of each problem, pins and text what plan the text is, or why it is none; and no other.
+pub fn texts_are_seated()
+    ensures some { SomeSeatingIs }
+    ensures one { SeatingsAgree }
+{
+    verdicts_are_unique();
+}
