@@ -1,25 +1,38 @@
 -- What is told of an audit that is explained.
-use Rattle.std.specs.Prelude.{◌≡◌, ◌⊎◌, ℕ, Bool, List, ◌++◌, codes, string_bytes, Option, Result, Ok, Err, IfOk}
+use Rattle.std.specs.Prelude.{◌≡◌, ◌⊎◌, ℕ, Bool, true, List, [], ◌++◌, codes, string_bytes, Option, Result, Ok, Err, IfOk}
 use Rattle.std.specs.Io.KnownBytes.{Appends}
 use Rattle.std.specs.declared.alloc.AllocError.{AllocError}
 use Rattle.std.specs.declared.io.ErrorKind.{ErrorKind}
 use Rattle.plan_types.specs.declared.requests.Kind.{Kind}
-use Rattle.plan_explain.specs.Explained.{verdict_text}
+use Rattle.plan_explain.specs.Explained.{driven_text, verdict_text}
 use Rattle.plan_explain.specs.Refused.{instance_fault_text, solution_fault_text}
 use Rattle.auditor_cli.specs.Answer.{IsAnswerBy}
 use Rattle.auditor_cli.specs.Examined.{IsExaminedBy, answer_of}
 use Rattle.auditor_cli.specs.Files.{AreBothRead, IsUnread}
 use Rattle.auditor_cli.specs.Reads.{FileRead}
+use Rattle.sol_text.specs.declared.faults.SolFault.{SolFault}
 use Rattle.text_lines.specs.Lines.{ended}
 use Rattle.auditor_cli.specs.Telling.{TellsUnread}
 use Rattle.auditor_cli.specs.declared.audit.Examined.{Examined}
 use Rattle.auditor_cli.specs.declared.audit.Examined.TheVariants.{BadInstance, BadSolution, Judged}
 use Rattle.auditor_cli.specs.declared.explained.Explanation.{Explanation}
 
+-- how far the routes alone drive, where they can be read
+abbrev pub driven_by : Examined → List ℕ
+driven_by (Judged problem plan verdict) = driven_text problem plan.routes verdict
+driven_by (BadSolution fault) = []
+driven_by (BadInstance fault) = []
+
+-- what is said of a solution that has this fault, and how far its routes drive
+pub record RestsOnFault (kind : Kind) (instance solution : List ℕ) (fault : SolFault) (text : List ℕ) : Type 0 where
+  pub routes : Examined
+  pub are_routes : IsExaminedBy true kind instance solution routes
+  pub told : text ≡ solution_fault_text solution fault ++ driven_by routes
+
 -- what the answer for two texts rests on, of which the instance was read as this kind: a fault and its line, or the verdict in figures
 abbrev pub RestsOn : Kind → List ℕ → List ℕ → Examined → List ℕ → Type 0
 RestsOn kind instance solution (BadInstance fault) text = text ≡ instance_fault_text kind instance fault
-RestsOn kind instance solution (BadSolution fault) text = text ≡ solution_fault_text solution fault
+RestsOn kind instance solution (BadSolution fault) text = RestsOnFault kind instance solution fault text
 RestsOn kind instance solution (Judged problem plan verdict) text = text ≡ verdict_text problem plan verdict
 
 -- the answer for what two texts are, of the routes alone or not, and what it rests on

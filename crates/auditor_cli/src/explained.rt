@@ -3,7 +3,7 @@ ghost use Rattle.std.specs.Prelude.{◌≡◌, ◌≤◌, IfOk, string_bytes};
 ghost use Rattle.auditor_cli.specs.Answer.{IsAnswerBy};
 ghost use Rattle.auditor_cli.specs.Behind.{TellsBehind};
 ghost use Rattle.auditor_cli.specs.Examined.{HasVerdictOfSome};
-ghost use Rattle.auditor_cli.specs.Explained.{IsExplanation, RestsOn, TellsExplained, TellsExplanation};
+ghost use Rattle.auditor_cli.specs.Explained.{IsExplanation, RestsOn, RestsOnFault, TellsExplained, TellsExplanation, driven_by};
 ghost use Rattle.auditor_cli.specs.Files.{AreReadInTurn};
 
 use crate::answer::AuditAnswer;
@@ -14,8 +14,11 @@ use crate::files::ReadFiles;
 use crate::telling::{tell_unread, tell_want_of_memory, write_line};
 use command_line::Paths;
 use plan_audit::routes_are_judged_by_true_cost;
-use plan_explain::{explain_instance_fault, explain_solution_fault, explain_verdict};
+use plan_explain::{
+    explain_driven, explain_instance_fault, explain_solution_fault, explain_verdict,
+};
 use plan_types::{Kind, OutOfMemory};
+use sol_text::SolFault;
 use std::alloc::Global;
 use std::io;
 use std::io::Write;
@@ -109,7 +112,39 @@ fn rests_on(
 {
     match examined {
         Examined::BadInstance(fault) => explain_instance_fault(alloc, kind, instance, *fault),
-        Examined::BadSolution(fault) => explain_solution_fault(alloc, solution, *fault),
+        Examined::BadSolution(fault) => { rests_on_fault(alloc, kind, instance, solution, *fault) }
         Examined::Judged(problem, plan, verdict) => explain_verdict(alloc, problem, plan, *verdict),
+    }
+}
+
+// What is said of a solution that is refused, and how far its routes alone drive.
+fn rests_on_fault(
+    alloc: Global,
+    kind: Kind,
+    instance: &[u8],
+    solution: &[u8],
+    fault: SolFault,
+) -> Result<String, OutOfMemory>
+    ensures { IfOk result (λ text. RestsOnFault kind instance.now solution.now fault
+        (string_bytes text)) }
+{
+    routes_are_judged_by_true_cost();
+    let routes = examine_by(alloc, kind, true, instance, solution)?;
+    let mut text = explain_solution_fault(alloc, solution, fault)?;
+    let driven = driven_by(alloc, &routes)?;
+    text.push_str(driven.as_str())?;
+    Ok(text)
+}
+
+// How far these routes drive, where they could be read.
+fn driven_by(alloc: Global, routes: &Examined) -> Result<String, OutOfMemory>
+    requires { HasVerdictOfSome routes.now }
+    ensures { IfOk result (λ text. string_bytes text ≡ driven_by routes.now) }
+{
+    match routes {
+        Examined::Judged(problem, plan, verdict) => {
+            explain_driven(alloc, problem, plan.routes.as_slice(), *verdict)
+        }
+        Examined::BadInstance(_) | Examined::BadSolution(_) => Ok(String::new(alloc)),
     }
 }

@@ -219,13 +219,16 @@ fn look_for_folder<R: Files>(rt: &R, path: &str) -> io::Result<()> {
     }
 }
 
-// Writes a new file and puts it on the disk. One that could not be written whole is removed.
+// Writes a new file and puts it and its name on the disk. One that could not be written whole is removed.
 fn write_under<R: Files<File = File>>(rt: &R, path: &str, text: &[u8]) -> io::Result<()> {
     let mut file = OpenOptions::new()
         .write(true)
         .create_new(true)
         .open(rt, path)?;
-    let written = write_whole(&mut file, text);
+    let written = match write_whole(&mut file, text) {
+        Ok(()) => sync_folder(rt, path),
+        failed => failed,
+    };
     if written.is_err() {
         let _ = fs::remove_file(rt, path);
     }
@@ -235,4 +238,16 @@ fn write_under<R: Files<File = File>>(rt: &R, path: &str, text: &[u8]) -> io::Re
 fn write_whole(file: &mut File, text: &[u8]) -> io::Result<()> {
     file.write_all(text)?;
     file.sync_all()
+}
+
+// Puts the names of the file's folder on the disk. Some file systems have no sync of a folder.
+fn sync_folder<R: Files<File = File>>(rt: &R, path: &str) -> io::Result<()> {
+    let folder = match Path::new(path).parent() {
+        Some(folder) if !folder.as_str().is_empty() => folder.as_str(),
+        _ => ".",
+    };
+    match File::open(rt, folder)?.sync_all() {
+        Err(error) if error.kind() == ErrorKind::InvalidInput => Ok(()),
+        synced => synced,
+    }
 }

@@ -1,7 +1,8 @@
 -- The rows of a route, one visit after another.
-use Rattle.std.proofs.Common.{◌≡◌, ℕ, zero, suc, ◌+◌, ◌-◌, ◌<◌, ◌≤◌, List, [], length, map, slice_get, Option, Some, None, ap, sym, arith, ◌∙◌}
+use Rattle.std.proofs.Common.{◌≡◌, ℕ, zero, suc, ◌+◌, ◌-◌, ◌<◌, ◌≤◌, List, [], length, map, slice_get, slice_index_or, Option, Some, None, ap, sym, arith, ◌∙◌}
 use Rattle.std.specs.List.{range_with_len}
 use Rattle.std.specs.Option.{option_map}
+use Rattle.std.proofs.lemmas.List.FromFn.{get_or-map-range_with_len, length-map-range_with_len}
 use Rattle.plan_types.specs.Instance.{Instance}
 use Rattle.plan_types.specs.declared.requests.Stop.{Stop}
 use Rattle.route_sched.specs.Route.{place}
@@ -11,8 +12,8 @@ use Rattle.route_sched.specs.declared.visits.Visit.{Visit}
 use Rattle.plan_audit.proofs.FirstLemmas.{none_some}
 use Rattle.plan_audit.proofs.VisitLemmas.{visits_from-step}
 use Rattle.route_sched.proofs.Steps.{start-next}
-use Rattle.plan_explain.specs.Rows.{row_after}
-use Rattle.plan_explain.specs.Tables.{arrival, row_behind}
+use Rattle.plan_explain.specs.Rows.{halt_with, row_after}
+use Rattle.plan_explain.specs.Tables.{arrival, halt_behind, row_behind, rows_of}
 use Rattle.plan_explain.specs.declared.rows.Row.{Row}
 
 -- nobody is served before the arrival
@@ -42,6 +43,20 @@ module _ (p : Instance) (route : List ℕ) (k : ℕ) (last visit : Visit) (stop 
   -- and its arrival is no later than the start
   pub in_time : last.start + last.stop.service + visit.leg ≤ visit.start
   in_time = omega (arith, arrival_is, arrives_before p route k, ap (λ (v : Visit). v.start) is)
+
+-- a route has a row for each stop, and one for the return
+pub rows_counted : (p : Instance) (route : List ℕ) (rows : List Row) → rows ≡ rows_of p route → length rows ≡ length route + 1
+rows_counted p route rows are = ap length are ∙ length-map-range_with_len (row_behind p route) 0 (length route + 1)
+
+pub row_within : (p : Instance) (route : List ℕ) (rows : List Row) (k : ℕ) → rows ≡ rows_of p route → k < length rows → k ≤ length route
+row_within p route rows k are lt = omega (arith, rows_counted p route rows are)
+
+-- the halt that is made of a row and its visit is that of the place
+pub halt_is : (p : Instance) (route : List ℕ) (rows : List Row) (k : ℕ) (d : Row) (visit : Visit) → rows ≡ rows_of p route → k < length rows → visit ≡ visit_after p route k → halt_with (slice_index_or rows k d) visit ≡ halt_behind p route k
+halt_is p route rows k d visit are lt is =
+    let within = row_within p route rows k are lt in
+    let row : slice_index_or rows k d ≡ row_behind p route k = ap (λ rs. slice_index_or rs k d) are ∙ get_or-map-range_with_len (row_behind p route) 0 (length route + 1) k k d (omega (arith, within)) (omega arith) in
+    ap (λ r. halt_with r visit) row ∙ ap (halt_with (row_behind p route k)) is
 
 nth-range : {X : Type 0} (f : ℕ → X) (a n k : ℕ) → k < n → slice_get (map f (range_with_len a n)) k ≡ Some (f (a + k))
 nth-range f a zero k lt = absurd (omega arith)

@@ -14,7 +14,7 @@ use Rattle.plan_explain.specs.Phrases.{phrase, text_if}
 use Rattle.plan_explain.specs.Tables.{rows_of}
 use Rattle.plan_explain.specs.declared.breaches.Breach.{Breach}
 use Rattle.plan_explain.specs.declared.phrases.Phrase.{Phrase}
-use Rattle.plan_explain.specs.declared.phrases.Phrase.TheVariants.{UnknownStop, DepotInRoute, NumbersTooHigh, NumbersTooLow, NumbersBelow, VisitedTwice, First, MissingStop, SplitPair, EarlyDelivery, OtherStop, ItsPickup, Stop as StopWord, Stands, There, Nowhere, AtPlace, OfRoute, Overload, DemandIs, LoadIs, Capacity, LateService, StartsAt, LateReturn, BackAt, Latest, LateBy, TooManyVehicles, Fleet, WrongCost, Driven}
+use Rattle.plan_explain.specs.declared.phrases.Phrase.TheVariants.{UnknownStop, DepotInRoute, NumbersTooHigh, NumbersTooLow, NumbersBelow, VisitedTwice, First, MissingStop, SplitPair, EarlyDelivery, OtherStop, ItsPickup, Stop as StopWord, Is, Stands, Nowhere, AtPlace, OfRoute, Overload, DemandIs, LoadIs, Capacity, LateService, StartsAt, LateReturn, BackAt, Latest, LateBy, TooManyVehicles, Fleet, WrongCost, Driven}
 use Rattle.plan_explain.specs.declared.rows.Row.{Row}
 use Rattle.plan_explain.specs.declared.seats.Seat.{Seat}
 
@@ -36,12 +36,12 @@ seat_text (Some s) = phrase AtPlace ++ decimal s.place ++ phrase OfRoute ++ deci
 
 -- where a stop stands first
 abbrev pub stands_text : List (List ℕ) → ℕ → List ℕ
-stands_text routes n = phrase StopWord ++ decimal n ++ phrase Stands ++ seat_text (first_seat routes n)
+stands_text routes n = phrase StopWord ++ decimal n ++ phrase Is ++ seat_text (first_seat routes n)
 
 -- and another stop beside it, if there is one
 abbrev pub beside_text : List (List ℕ) → Phrase → Option ℕ → List ℕ
 beside_text routes words None = []
-beside_text routes words (Some m) = phrase words ++ decimal m ++ phrase There ++ seat_text (first_seat routes m)
+beside_text routes words (Some m) = phrase words ++ decimal m ++ phrase Stands ++ seat_text (first_seat routes m)
 
 -- a stop, and the other one of its pair
 abbrev pub pair_text : Instance → List (List ℕ) → ℕ → List ℕ
@@ -102,9 +102,9 @@ load_sentence p (Some row) = stop_text p Overload row.stop ++ (phrase LoadIs ++ 
 abbrev pub late_text : ℕ → ℕ → List ℕ
 late_text start latest = decimal start ++ phrase Latest ++ decimal latest ++ phrase LateBy ++ decimal (start - latest)
 
-abbrev pub late_sentence : Instance → Option Row → List ℕ
-late_sentence p None = []
-late_sentence p (Some row) = stop_text p LateService row.stop ++ phrase StartsAt ++ late_text row.start row.latest
+abbrev pub late_sentence : Option Row → List ℕ
+late_sentence None = []
+late_sentence (Some row) = (phrase LateService ++ decimal row.stop) ++ phrase StartsAt ++ late_text row.start row.latest
 
 -- the last of these stops; this one, where there is none
 abbrev pub last_from : ℕ → List ℕ → ℕ
@@ -117,7 +117,7 @@ last_stop route = last_from 0 route
 
 -- 8: the last stop, and when the vehicle is back behind it
 abbrev pub return_text : Instance → ℕ → ℕ → List ℕ
-return_text p n back = stop_text p LateReturn n ++ phrase BackAt ++ late_text back p.depot.latest
+return_text p n back = (phrase LateReturn ++ decimal n) ++ phrase BackAt ++ late_text back p.depot.latest
 
 unfoldable pub return_sentence : Instance → List ℕ → List ℕ
 return_sentence p route = return_text p (last_stop route) (start p route (length route + 1))
@@ -142,7 +142,7 @@ sentence p plan rule breach =
     else if rule == 4 then split_sentence p plan.routes breach.stop
     else if rule == 5 then early_sentence p plan.routes breach.stop
     else if rule == 6 then load_sentence p (row_told p (route_told plan.routes breach.route) breach.place)
-    else if rule == 7 then late_sentence p (row_told p (route_told plan.routes breach.route) breach.place)
+    else if rule == 7 then late_sentence (row_told p (route_told plan.routes breach.route) breach.place)
     else if rule == 8 then return_sentence p (route_told plan.routes breach.route)
     else if rule == 9 then fleet_sentence p plan.routes
     else if rule == 11 then cost_sentence p plan

@@ -2,7 +2,7 @@
 use Rattle.std.specs.Prelude.{ℕ, ◌+◌, ◌-◌, ℤ, pos, List, [], ◌∷◌, ◌++◌, map, length, fold, sum_by, codes}
 use Rattle.std.specs.Int.{int_max}
 use Rattle.plan_types.specs.Instance.{Instance}
-use Rattle.route_sched.specs.Schedule.{route_length, start}
+use Rattle.route_sched.specs.Schedule.{leg, route_length, start}
 use Rattle.route_sched.specs.Cost.{total_length}
 use Rattle.text_lines.specs.Lines.{ended}
 use Rattle.plan_explain.specs.Columns.{cell, right, right_signed}
@@ -25,13 +25,13 @@ waiting p route = sum_by wait (rows_of p route)
 abbrev pub greatest_load : Instance → List ℕ → ℤ
 greatest_load p route = fold int_max (pos 0) (map (λ r. r.load) (rows_of p route))
 
--- the first start of service is that of the first stop, and the last one the return
+-- It sets off so that it comes to the first stop just when service starts; the last start is the return.
 abbrev pub summary_of : Instance → List ℕ → Summary
 summary_of p route = record {
   stops = length route;
   distance = route_length p route;
   load = greatest_load p route;
-  start = start p route 1;
+  set_off = start p route 1 - leg p route 0;
   back = start p route (length route + 1);
   waiting = waiting p route;
 }
@@ -40,7 +40,7 @@ unfoldable pub way_text : ℕ → Summary → List ℕ
 way_text k s = cell 5 k ++ cell 6 s.stops ++ cell 10 s.distance ++ right_signed 9 s.load ++ codes " "
 
 unfoldable pub day_text : Summary → List ℕ
-day_text s = ended (cell 10 s.start ++ cell 10 s.back ++ right 10 s.waiting)
+day_text s = ended (cell 10 s.set_off ++ cell 10 s.back ++ right 10 s.waiting)
 
 abbrev pub summary_line : ℕ → Summary → List ℕ
 summary_line k s = way_text k s ++ day_text s

@@ -1,5 +1,5 @@
 -- A route as a table: a row for each place, the return to the depot last. Places count from 1.
-use Rattle.std.specs.Prelude.{ℕ, ◌+◌, Bool, false, nat_lt, List, [], ◌∷◌, ◌++◌, map, length, codes, pos, int_lt}
+use Rattle.std.specs.Prelude.{ℕ, ◌+◌, ◌-◌, Bool, false, nat_lt, List, [], ◌∷◌, ◌++◌, map, length, codes, pos, int_lt}
 use Rattle.std.specs.List.{flat_map, range_with_len}
 use Rattle.plan_types.specs.Instance.{Instance}
 use Rattle.plan_types.specs.declared.requests.Kind.{Kind}
@@ -9,6 +9,7 @@ use Rattle.route_sched.specs.Schedule.{leg, load, start}
 use Rattle.text_lines.specs.Lines.{ended}
 use Rattle.plan_explain.specs.Columns.{cell, left, right, right_signed}
 use Rattle.plan_explain.specs.Phrases.{phrase, text_if}
+use Rattle.plan_explain.specs.declared.halts.Halt.{Halt}
 use Rattle.plan_explain.specs.declared.phrases.Phrase.TheVariants.{LoadsHeading, MarkLate, MarkOverload, StopsHeading, TimesHeading}
 use Rattle.plan_explain.specs.declared.rows.Row.{Row}
 
@@ -32,27 +33,39 @@ row_behind p route k = record {
 abbrev pub rows_of : Instance → List ℕ → List Row
 rows_of p route = map (row_behind p route) (range_with_len 0 (length route + 1))
 
--- A problem of kind `Vrp` asks for no times: its rows leave the start and the window out.
+-- the place behind place k, with the way to it and the service there
+abbrev pub halt_behind : Instance → List ℕ → ℕ → Halt
+halt_behind p route k = record { row = row_behind p route k; leg = leg p route k; service = (place p route (k + 1)).service }
+
+-- those of a route
+abbrev pub halts_of : Instance → List ℕ → List Halt
+halts_of p route = map (halt_behind p route) (range_with_len 0 (length route + 1))
+
+-- when a vehicle that comes just when service starts leaves the place before
+abbrev pub set_off : Halt → ℕ
+set_off h = h.row.start - h.leg
+
+-- A problem of kind `Vrp` asks for no times: its rows leave start, window and service out.
 abbrev pub heading : Kind → List ℕ
 heading LiLim = phrase TimesHeading
 heading Vrp = phrase LoadsHeading
 
--- where and when the vehicle comes
-unfoldable pub arrival_text : Row → List ℕ
-arrival_text r = cell 5 r.place ++ cell 6 r.stop ++ cell 10 r.arrival
+-- where the vehicle comes, how far that is and when
+unfoldable pub arrival_text : Halt → List ℕ
+arrival_text h = cell 5 h.row.place ++ cell 6 h.row.stop ++ cell 8 h.leg ++ cell 10 h.row.arrival
 
-unfoldable pub times_text : Row → List ℕ
-times_text r = arrival_text r ++ cell 10 r.start
+unfoldable pub times_text : Halt → List ℕ
+times_text h = arrival_text h ++ cell 10 h.row.start
 
 unfoldable pub window_text : Row → List ℕ
-window_text r = right 10 r.earliest ++ codes ".." ++ left 10 r.latest ++ codes " " ++ right_signed 9 r.load
+window_text r = right 10 r.earliest ++ codes ".." ++ left 10 r.latest ++ codes " "
 
-unfoldable pub load_text : Row → List ℕ
-load_text r = arrival_text r ++ right_signed 9 r.load
+unfoldable pub load_text : Halt → List ℕ
+load_text h = cell 8 h.service ++ right_signed 9 h.row.load
 
-abbrev pub figures_text : Kind → Row → List ℕ
-figures_text LiLim r = times_text r ++ window_text r
-figures_text Vrp r = load_text r
+abbrev pub figures_text : Kind → Halt → List ℕ
+figures_text LiLim h = times_text h ++ window_text h.row ++ load_text h
+figures_text Vrp h = arrival_text h ++ right_signed 9 h.row.load
 
 -- the vehicle carries more than it can after that place
 abbrev pub is_overload : Instance → Row → Bool
@@ -67,11 +80,11 @@ abbrev pub is_late : Instance → Row → Bool
 is_late p r = late_in p.kind r
 
 -- a row, with a mark where the vehicle carries too much, and one where it is late
-abbrev pub row_text : Instance → Row → List ℕ
-row_text p r = figures_text p.kind r ++ text_if (is_overload p r) MarkOverload ++ text_if (is_late p r) MarkLate ++ codes "\n"
+abbrev pub row_text : Instance → Halt → List ℕ
+row_text p h = figures_text p.kind h ++ text_if (is_overload p h.row) MarkOverload ++ text_if (is_late p h.row) MarkLate ++ codes "\n"
 
 abbrev pub table_text : Instance → List ℕ → List ℕ
-table_text p route = heading p.kind ++ flat_map (row_text p) (rows_of p route)
+table_text p route = heading p.kind ++ flat_map (row_text p) (halts_of p route)
 
 -- Where a stop is unknown or stands twice, nobody knows when the vehicle comes: places and stops alone.
 abbrev pub stop_rows : ℕ → List ℕ → List ℕ

@@ -1,15 +1,15 @@
 //! What a person needs to mend a solution, behind the line of its audit: figures in place of numbers of rules.
 //!
 //! Entry functions: `explain_verdict` for a verdict, `explain_instance_fault` and `explain_solution_fault` for a
-//! text that is refused; called by `auditor_cli` (the word `explain`), which prints the audit's line first, with
-//! its status. `rows_of`, `wait` and `summary_of` give the figures of a route; `plan_timetable` tells them too.
+//! text that is refused, `explain_driven` for the routes of one that may be read; called by `auditor_cli` (the word `explain`), which prints the audit's line first, with
+//! its status. `rows_of`, `halts_of`, `wait`, `set_off` and `summary_of` give the figures of a route; `plan_timetable` tells them too.
 //!
 //! Source: this project's own. Each figure is `route_sched`'s start, load, length or cost.
 //!
 //! How it works: for a broken rule a sentence with its figures, then the route that is told as a table, then how often the
 //! rule is broken and where else. Where a stop of that route is unknown or stands twice, the table has places and stops
-//! alone. For a wrong cost, or a solution that passes, a line for each route and the sums. The "start" in such a line is
-//! the start of service at the route's first stop, since each vehicle leaves at the depot's earliest time.
+//! alone. For a wrong cost, or a solution that passes, a line for each route and the sums. Where a line says when a vehicle
+//! sets off, it is as late as service starts no later for it; arrivals and waiting are those of one that leaves at once.
 //!
 //! A refused text is read once more, up to the line of its fault, for what that line has of it: the field, the limits,
 //! the section, the other task of a pair. The readers tell the kind of a fault and its line alone.
@@ -19,12 +19,14 @@
 //! - `told`: a text that is told piece by piece
 //! - `seats`: where a stop stands first
 //! - `rows`: what happens at the places of a route
+//! - `halts`: the same with the ways between them and the services
 //! - `tables`: a route as a table
 //! - `summaries`: a line for each route, and the sums
 //! - `sentences`, `shifts`: the sentence on a broken rule; numbers that are all one too high or too low
 //! - `firsts`: the first items of a list
 //! - `breaches`, `further`, `others`: all places that break a rule, how they are told, and how many break each rule behind it
 //! - `verdicts`: what is said of a verdict
+//! - `driven`: how far the routes of a refused text drive
 //! - `cited`, `told_lines`, `numbers`: bytes, lines and words of a refused text
 //! - `layouts`, `words_told`: what numbers a line has, and what is said of a wrong one
 //! - `pair_faults`, `lilim_faults`: what is said of a fault of a Li-Lim text
@@ -38,19 +40,22 @@
 //!
 //! Said by `specs/Explained.antt`, `Sentences.antt`, `Tables.antt`, `Further.antt`, `Summaries.antt` and `Refused.antt`. Proved:
 //! - `explain_verdict`: for each verdict on a printed solution the bytes are those of `verdict_text`
+//! - `explain_driven`: how far routes drive, for each verdict on them, as `driven_text`
 //! - `explain_instance_fault`, `explain_solution_fault`: for each text and fault the bytes are those of
 //!   `instance_fault_text` and `solution_fault_text`
 //! - `line_behind_cost`: the first line that is not blank behind the cost line of a solution's text, which its reader passes over
 //!   (`reading_ends_at_the_cost_line`)
 //! - `unasked_limit`: the first line of an instance whose key names a limit that is not asked
-//! - `rows_of`, `wait`, `summary_of`: the rows of a route, and what it comes to
+//! - `rows_of`, `halts_of`, `wait`, `set_off`, `summary_of`: the rows of a route, when a vehicle leaves for them, and what it comes to
 #![tactic(auto)]
 
 mod behind;
 mod breaches;
 mod cited;
+mod driven;
 mod firsts;
 mod further;
+mod halts;
 mod laws;
 mod layouts;
 mod lilim_faults;
@@ -78,6 +83,8 @@ mod vrp_walk;
 mod words_told;
 
 pub use behind::line_behind_cost;
+pub use driven::explain_driven;
+pub use halts::{Halt, halts_of, set_off};
 pub use laws::reading_ends_at_the_cost_line;
 pub use refused::{explain_instance_fault, explain_solution_fault};
 pub use rows::{Row, rows_of};

@@ -70,7 +70,7 @@ pub(crate) fn put_twice(text: &mut Told, routes: &[Route], stop: u32)
     put_phrase(text, Phrase::First);
 }
 
-/// Appends that a stop stands nowhere, and where the other one of its pair stands.
+/// Appends that a stop is in no route, and where the other one of its pair is.
 pub(crate) fn put_missing(text: &mut Told, problem: &Problem, routes: &[Route], stop: u32)
     ensures { text.new ≡ text.old ++ missing_sentence problem.now routes.now stop }
 {
@@ -106,7 +106,7 @@ fn put_stands(text: &mut Told, routes: &[Route], stop: u32)
     ensures { text.new ≡ text.old ++ stands_text routes.now stop }
 {
     put_named(text, Phrase::Stop, u64::from(stop));
-    put_phrase(text, Phrase::Stands);
+    put_phrase(text, Phrase::Is);
     put_seat(text, first_seat(routes, stop));
 }
 
@@ -118,7 +118,7 @@ fn put_beside(text: &mut Told, routes: &[Route], words: Phrase, stop: Option<u32
         return;
     };
     put_named(text, words, u64::from(stop));
-    put_phrase(text, Phrase::There);
+    put_phrase(text, Phrase::Stands);
     put_seat(text, first_seat(routes, stop));
 }
 
@@ -171,13 +171,13 @@ fn put_demand_of(text: &mut Told, stop: &Stop)
 }
 
 /// Appends the start of service at the place of this row, and the latest there.
-pub(crate) fn put_late(text: &mut Told, problem: &Problem, row: Option<Row>)
-    ensures { text.new ≡ text.old ++ late_sentence problem.now row }
+pub(crate) fn put_late(text: &mut Told, row: Option<Row>)
+    ensures { text.new ≡ text.old ++ late_sentence row }
 {
     let Some(row) = row else {
         return;
     };
-    put_stop(text, problem, Phrase::LateService, row.stop);
+    put_named(text, Phrase::LateService, u64::from(row.stop));
     put_phrase(text, Phrase::StartsAt);
     put_lateness(text, row.start, row.latest);
 }
@@ -196,7 +196,7 @@ pub(crate) fn put_late_return(text: &mut Told, problem: &Problem, route: &[u32])
 fn put_return(text: &mut Told, problem: &Problem, stop: u32, back: u64)
     ensures { text.new ≡ text.old ++ return_text problem.now stop back }
 {
-    put_stop(text, problem, Phrase::LateReturn, stop);
+    put_named(text, Phrase::LateReturn, u64::from(stop));
     put_phrase(text, Phrase::BackAt);
     put_lateness(text, back, problem.depot.latest);
 }

@@ -21,8 +21,8 @@ pub struct Summary {
     pub distance: u64,
     /// The most that the vehicle carries.
     pub load: i64,
-    /// When the first service starts.
-    pub start: u64,
+    /// When the vehicle leaves the depot, where it comes to the first stop just when service starts.
+    pub set_off: u64,
     /// When the vehicle is back at the depot.
     pub back: u64,
     /// How long the vehicle waits.
@@ -82,11 +82,12 @@ pub fn summary_of(alloc: Global, problem: &Problem, route: &[u32]) -> Result<Sum
     ensures { IfOk result (λ summary. summary ≡ summary_of problem.now route.now) }
 {
     let rows = rows_of(alloc, problem, route)?;
+    let first = visit_behind(problem, route, 0);
     Ok(Summary {
         stops: route.len() as u64,
         distance: route_distance(problem, route),
         load: greatest_load(rows.as_slice()),
-        start: visit_behind(problem, route, 0).start,
+        set_off: first.start.saturating_sub(u64::from(first.leg)),
         back: visit_behind(problem, route, route.len()).start,
         waiting: waiting(problem, route, rows.as_slice()),
     })
@@ -152,7 +153,7 @@ fn put_way(text: &mut Told, route: u64, summary: &Summary)
 fn put_day(text: &mut Told, summary: &Summary)
     ensures { text.new ≡ text.old ++ day_text summary.now }
 {
-    text.push_cell(10, u128::from(summary.start));
+    text.push_cell(10, u128::from(summary.set_off));
     text.push_cell(10, u128::from(summary.back));
     text.push_right(10, u128::from(summary.waiting));
     text.push_str("\n");

@@ -7,14 +7,15 @@ ghost use Rattle.plan_explain.specs.Columns.{cell, right};
 ghost use Rattle.plan_explain.specs.Phrases.{phrase};
 ghost use Rattle.plan_explain.specs.Tables.{arrival_text, figures_text, heading, is_late, is_overload, load_text, row_text, stop_rows, stops_table, table_text, times_text, window_text};
 
+use crate::halts::{Halt, halts_of};
 use crate::phrases::Phrase;
-use crate::rows::{Row, rows_of};
+use crate::rows::Row;
 use crate::sentences::{put_mark, put_phrase};
 use crate::told::Told;
 use plan_types::{Kind, OutOfMemory, Problem};
 use std::alloc::Global;
 
-/// Appends the table of a route: each place with its times, window and load, the return last.
+/// Appends the table of a route: each place with the way to it, its times, window, service and load, the return last.
 pub(crate) fn put_table(
     alloc: Global,
     text: &mut Told,
@@ -24,9 +25,9 @@ pub(crate) fn put_table(
     requires { AreLiveOnce problem.now route.now }
     ensures { OnOk result (text.new ≡ text.old ++ table_text problem.now route.now) }
 {
-    let rows = rows_of(alloc, problem, route)?;
+    let halts = halts_of(alloc, problem, route)?;
     put_phrase(text, heading(problem.kind));
-    put_rows(text, problem, rows.as_slice());
+    put_rows(text, problem, halts.as_slice());
     Ok(())
 }
 
@@ -39,21 +40,21 @@ fn heading(kind: Kind) -> Phrase
     }
 }
 
-fn put_rows(text: &mut Told, problem: &Problem, rows: &[Row])
-    ensures { text.new ≡ text.old ++ flat_map (row_text problem.now) rows.now }
+fn put_rows(text: &mut Told, problem: &Problem, halts: &[Halt])
+    ensures { text.new ≡ text.old ++ flat_map (row_text problem.now) halts.now }
 {
-    for row in rows {
-        put_row(text, problem, row);
+    for halt in halts {
+        put_row(text, problem, halt);
     }
 }
 
 // A row, with a mark where the vehicle carries too much, and one where it is late.
-fn put_row(text: &mut Told, problem: &Problem, row: &Row)
-    ensures { text.new ≡ text.old ++ row_text problem.now row.now }
+fn put_row(text: &mut Told, problem: &Problem, halt: &Halt)
+    ensures { text.new ≡ text.old ++ row_text problem.now halt.now }
 {
-    put_figures(text, problem.kind, row);
-    put_mark(text, is_overload(problem, row), Phrase::MarkOverload);
-    put_mark(text, is_late(problem, row), Phrase::MarkLate);
+    put_figures(text, problem.kind, halt);
+    put_mark(text, is_overload(problem, &halt.row), Phrase::MarkOverload);
+    put_mark(text, is_late(problem, &halt.row), Phrase::MarkLate);
     text.push_str("\n");
 }
 
@@ -74,34 +75,39 @@ pub(crate) fn is_late(problem: &Problem, row: &Row) -> bool
     }
 }
 
-fn put_figures(text: &mut Told, kind: Kind, row: &Row)
-    ensures { text.new ≡ text.old ++ figures_text kind row.now }
+fn put_figures(text: &mut Told, kind: Kind, halt: &Halt)
+    ensures { text.new ≡ text.old ++ figures_text kind halt.now }
 {
     match kind {
         Kind::LiLim => {
-            put_times(text, row);
-            put_window(text, row);
+            put_times(text, halt);
+            put_window(text, &halt.row);
+            put_load(text, halt);
         }
-        Kind::Vrp => put_load(text, row),
+        Kind::Vrp => {
+            put_arrival(text, halt);
+            text.push_right_signed(9, halt.row.load);
+        }
     }
 }
 
 #[tactic(auto, unfolding(crate::specs::Tables::times_text))]
-fn put_times(text: &mut Told, row: &Row)
-    ensures { text.new ≡ text.old ++ times_text row.now }
+fn put_times(text: &mut Told, halt: &Halt)
+    ensures { text.new ≡ text.old ++ times_text halt.now }
 {
-    put_arrival(text, row);
-    text.push_cell(10, u128::from(row.start));
+    put_arrival(text, halt);
+    text.push_cell(10, u128::from(halt.row.start));
 }
 
-// Where and when the vehicle comes.
+// Where the vehicle comes, how far that is and when.
 #[tactic(auto, unfolding(crate::specs::Tables::arrival_text))]
-fn put_arrival(text: &mut Told, row: &Row)
-    ensures { text.new ≡ text.old ++ arrival_text row.now }
+fn put_arrival(text: &mut Told, halt: &Halt)
+    ensures { text.new ≡ text.old ++ arrival_text halt.now }
 {
-    text.push_cell(5, u128::from(row.place));
-    text.push_cell(6, u128::from(row.stop));
-    text.push_cell(10, u128::from(row.arrival));
+    text.push_cell(5, u128::from(halt.row.place));
+    text.push_cell(6, u128::from(halt.row.stop));
+    text.push_cell(8, u128::from(halt.leg));
+    text.push_cell(10, u128::from(halt.row.arrival));
 }
 
 #[tactic(auto, unfolding(crate::specs::Tables::window_text))]
@@ -112,15 +118,14 @@ fn put_window(text: &mut Told, row: &Row)
     text.push_str("..");
     text.push_left(10, u128::from(row.latest));
     text.push_str(" ");
-    text.push_right_signed(9, row.load);
 }
 
 #[tactic(auto, unfolding(crate::specs::Tables::load_text))]
-fn put_load(text: &mut Told, row: &Row)
-    ensures { text.new ≡ text.old ++ load_text row.now }
+fn put_load(text: &mut Told, halt: &Halt)
+    ensures { text.new ≡ text.old ++ load_text halt.now }
 {
-    put_arrival(text, row);
-    text.push_right_signed(9, row.load);
+    text.push_cell(8, u128::from(halt.service));
+    text.push_right_signed(9, halt.row.load);
 }
 
 /// Appends the places of a route with their stops, without times.

@@ -97,11 +97,7 @@ fn put_sentence(
             problem,
             row_told(alloc, problem, stops, breach.place)?,
         ),
-        7 => say::put_late(
-            text,
-            problem,
-            row_told(alloc, problem, stops, breach.place)?,
-        ),
+        7 => say::put_late(text, row_told(alloc, problem, stops, breach.place)?),
         8 => say::put_late_return(text, problem, stops),
         9 => say::put_fleet(text, problem, routes),
         11 => say::put_cost(text, problem, solution),

@@ -11,8 +11,8 @@ use Rattle.route_sched.specs.Route.{place}
 use Rattle.route_sched.specs.Schedule.{load, start}
 use Rattle.plan_audit.specs.Passes.{feasible_alone, has_whole_pairs, is_back_in_time, keeps_capacity, keeps_times, keeps_windows, picks_up_first}
 use Rattle.slack_tables.specs.Insertion.{KeepsLimits}
-use Rattle.plan_explain.specs.Tables.{row_behind, rows_of}
-use Rattle.plan_explain.specs.declared.rows.Row.{Row}
+use Rattle.plan_explain.specs.Tables.{halt_behind, halts_of}
+use Rattle.plan_explain.specs.declared.halts.Halt.{Halt}
 use Rattle.plan_timetable.specs.Timed.{IsRowIn}
 
 -- ---- tests of all places
@@ -56,9 +56,9 @@ kept_limits p route used feasible =
       ];
     }
 
--- each row of a route is that of a stop or of the return
-pub row_in : (p : Instance) (route : List ℕ) (rows : List Row) (k : ℕ) (d : Row) → rows ≡ rows_of p route → k < length rows → IsRowIn p route (slice_index_or rows k d)
-row_in p route rows k d are lt =
-    let few : length rows ≡ length route + 1 = ap length are ∙ length-map-range_with_len (row_behind p route) 0 (length route + 1) in
-    let row : slice_index_or rows k d ≡ row_behind p route k = ap (λ rs. slice_index_or rs k d) are ∙ get_or-map-range_with_len (row_behind p route) 0 (length route + 1) k k d (omega (arith, few)) (omega arith) in
-    subst (IsRowIn p route) (sym row) (record { within = omega (arith, few); latest = refl })
+-- the row of each halt of a route is that of a stop or of the return
+pub row_in : (p : Instance) (route : List ℕ) (halts : List Halt) (k : ℕ) (d : Halt) → halts ≡ halts_of p route → k < length halts → IsRowIn p route (slice_index_or halts k d).row
+row_in p route halts k d are lt =
+    let few : length halts ≡ length route + 1 = ap length are ∙ length-map-range_with_len (halt_behind p route) 0 (length route + 1) in
+    let halt : slice_index_or halts k d ≡ halt_behind p route k = ap (λ hs. slice_index_or hs k d) are ∙ get_or-map-range_with_len (halt_behind p route) 0 (length route + 1) k k d (omega (arith, few)) (omega arith) in
+    subst (λ h. IsRowIn p route h.row) (sym halt) (record { within = omega (arith, few); latest = refl })

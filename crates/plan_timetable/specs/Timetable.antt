@@ -9,6 +9,7 @@ use Rattle.text_lines.specs.Lines.{ended}
 use Rattle.plan_audit.specs.declared.rules.Verdict.{Verdict}
 use Rattle.plan_audit.specs.declared.rules.Verdict.TheVariants.{Broken, Pass}
 use Rattle.plan_explain.specs.Summaries.{summary_of, wait}
+use Rattle.plan_explain.specs.Tables.{set_off}
 use Rattle.plan_explain.specs.declared.summaries.Summary.{Summary}
 use Rattle.plan_why.specs.Why.{reason_text}
 use Rattle.plan_why.specs.declared.leads.Lead.{Lead}
@@ -22,7 +23,7 @@ use Rattle.plan_timetable.specs.declared.entries.Role.TheVariants as role
 use Rattle.plan_timetable.specs.declared.forms.Form.{Form}
 use Rattle.plan_timetable.specs.declared.forms.Form.TheVariants.{Columns, Tabs}
 use Rattle.plan_timetable.specs.declared.words.Word.{Word}
-use Rattle.plan_timetable.specs.declared.words.Word.TheVariants.{Vehicle, Stops, Distance, Load, Start, Return, Waiting, TimesHeading, LoadsHeading, Stop, Pickup, Delivery, Single, Back, PinMayEnd, PinMayNotEnd, Gap, Unplanned}
+use Rattle.plan_timetable.specs.declared.words.Word.TheVariants.{Vehicle, Stops, Distance, Load, SetOff, Return, Waiting, TimesHeading, LoadsHeading, Stop, Pickup, Delivery, Single, Back, PinMayEnd, PinMayNotEnd, Gap, Unplanned}
 
 -- by tabs each line of a stop names its vehicle
 abbrev pub lead : Form → ℕ → List ℕ
@@ -41,23 +42,27 @@ pin_word false = PinMayNotEnd
 
 -- where the vehicle is, and what for
 abbrev pub where_text : Form → ℕ → Entry → List ℕ
-where_text form v e = lead form v ++ number form 5 e.row.place ++ number form 5 e.row.stop
+where_text form v e = lead form v ++ number form 5 e.halt.row.place ++ number form 5 e.halt.row.stop
 
 abbrev pub what_text : Form → Entry → List ℕ
 what_text form e = word form (role_word e.role) ++ number_or_nothing form e.partner
 
--- when it comes, starts and has to start; how long it waits
+-- when the vehicle leaves the place before, comes and starts; how long it waits
 abbrev pub times_text : Form → Entry → List ℕ
-times_text form e = number form 8 e.row.arrival ++ number form 8 e.row.start ++ number form 8 (wait e.row) ++ number_or_nothing form e.latest
+times_text form e = number form 8 (set_off e.halt) ++ number form 8 e.halt.row.arrival ++ number form 8 e.halt.row.start ++ number form 8 (wait e.halt.row)
+
+-- how long service takes, when it may start at all, and when it has to
+abbrev pub window_text : Form → Entry → List ℕ
+window_text form e = number form 8 e.halt.service ++ number form 8 e.halt.row.earliest ++ number form 8 e.halt.row.latest ++ number_or_nothing form e.latest
 
 -- a problem of kind `Vrp` asks for no times
 abbrev pub when_text : Form → Kind → Entry → List ℕ
-when_text form LiLim e = times_text form e
-when_text form Vrp e = number form 8 e.row.arrival
+when_text form LiLim e = times_text form e ++ window_text form e
+when_text form Vrp e = number form 8 e.halt.row.arrival
 
 -- what it carries then, and whether a pin may end there
 abbrev pub load_text : Form → Entry → List ℕ
-load_text form e = ended (load_cell form e.row.load ++ word form (pin_word e.may_end))
+load_text form e = ended (load_cell form e.halt.row.load ++ word form (pin_word e.may_end))
 
 -- the line of a place
 abbrev pub entry_text : Form → Kind → ℕ → Entry → List ℕ
@@ -71,7 +76,7 @@ abbrev pub top_load_text : Form → Summary → List ℕ
 top_load_text form s = word form Load ++ signed_decimal s.load
 
 abbrev pub day_text : Form → Kind → Summary → List ℕ
-day_text form LiLim s = named form Start s.start ++ named form Return s.back ++ named form Waiting s.waiting
+day_text form LiLim s = named form SetOff s.set_off ++ named form Return s.back ++ named form Waiting s.waiting
 day_text form Vrp s = []
 
 abbrev pub vehicle_line : Form → Kind → ℕ → Summary → List ℕ

@@ -10,7 +10,7 @@
 //! How it works: a block for each vehicle that is used, a line for each of its stops and one for the return, and at the end
 //! each unplanned request, with why it is so (`plan_why`). `Form` says whether it stands in columns under headings, or by tabs: then the first word of a line
 //! says what the line is of, and a vehicle's number stands in each of its lines. A problem of kind `Vrp` asks for no times: its
-//! lines leave start, waiting and latest start out.
+//! lines leave all other times out than arrivals.
 //!
 //! A latest start is told where the route alone is feasible: else something is late, or too heavy, already.
 //!

@@ -1,13 +1,13 @@
 //! The line of a place.
 ghost use Rattle.std.specs.Prelude.{◌≡◌, ◌++◌, OnOk, string_bytes};
 ghost use Rattle.std.specs.List.{flat_map};
-ghost use Rattle.plan_timetable.specs.Timetable.{entry_text, lead, load_text, pin_word, role_word, times_text, what_text, when_text, where_text};
+ghost use Rattle.plan_timetable.specs.Timetable.{entry_text, lead, load_text, pin_word, role_word, times_text, what_text, when_text, where_text, window_text};
 
 use crate::cells::{put_load, put_named, put_number, put_number_or_nothing, put_word};
 use crate::entries::{Entry, Role};
 use crate::forms::Form;
 use crate::words::Word;
-use plan_explain::wait;
+use plan_explain::{set_off, wait};
 use plan_types::{Kind, OutOfMemory};
 
 /// Appends the line of each place.
@@ -35,8 +35,9 @@ fn put_where(text: &mut String, form: Form, vehicle: u64, entry: &Entry) -> Resu
         ≡ string_bytes text.old ++ where_text form vehicle entry.now) }
 {
     put_lead(text, form, vehicle)?;
-    put_number(text, form, 5, entry.row.place)?;
-    put_number(text, form, 5, u64::from(entry.row.stop))
+    let row = &entry.halt.row;
+    put_number(text, form, 5, row.place)?;
+    put_number(text, form, 5, u64::from(row.stop))
 }
 
 fn put_lead(text: &mut String, form: Form, vehicle: u64) -> Result<(), OutOfMemory>
@@ -73,8 +74,11 @@ fn put_when(text: &mut String, form: Form, kind: Kind, entry: &Entry) -> Result<
         ≡ string_bytes text.old ++ when_text form kind entry.now) }
 {
     match kind {
-        Kind::LiLim => put_times(text, form, entry),
-        Kind::Vrp => put_number(text, form, 8, entry.row.arrival),
+        Kind::LiLim => {
+            put_times(text, form, entry)?;
+            put_window(text, form, entry)
+        }
+        Kind::Vrp => put_number(text, form, 8, entry.halt.row.arrival),
     }
 }
 
@@ -82,9 +86,21 @@ fn put_times(text: &mut String, form: Form, entry: &Entry) -> Result<(), OutOfMe
     ensures { OnOk result (string_bytes text.new
         ≡ string_bytes text.old ++ times_text form entry.now) }
 {
-    put_number(text, form, 8, entry.row.arrival)?;
-    put_number(text, form, 8, entry.row.start)?;
-    put_number(text, form, 8, wait(&entry.row))?;
+    let row = &entry.halt.row;
+    put_number(text, form, 8, set_off(&entry.halt))?;
+    put_number(text, form, 8, row.arrival)?;
+    put_number(text, form, 8, row.start)?;
+    put_number(text, form, 8, wait(row))
+}
+
+fn put_window(text: &mut String, form: Form, entry: &Entry) -> Result<(), OutOfMemory>
+    ensures { OnOk result (string_bytes text.new
+        ≡ string_bytes text.old ++ window_text form entry.now) }
+{
+    let row = &entry.halt.row;
+    put_number(text, form, 8, u64::from(entry.halt.service))?;
+    put_number(text, form, 8, u64::from(row.earliest))?;
+    put_number(text, form, 8, u64::from(row.latest))?;
     put_number_or_nothing(text, form, entry.latest)
 }
 
@@ -92,7 +108,7 @@ fn put_load_and_pin(text: &mut String, form: Form, entry: &Entry) -> Result<(), 
     ensures { OnOk result (string_bytes text.new
         ≡ string_bytes text.old ++ load_text form entry.now) }
 {
-    put_load(text, form, entry.row.load)?;
+    put_load(text, form, entry.halt.row.load)?;
     put_word(text, form, pin_word(entry.may_end))?;
     text.push_str("\n")
 }

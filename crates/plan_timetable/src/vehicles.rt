@@ -145,7 +145,7 @@ fn put_day(text: &mut String, form: Form, kind: Kind, summary: &Summary) -> Resu
 {
     match kind {
         Kind::LiLim => {
-            put_named(text, form, Word::Start, summary.start)?;
+            put_named(text, form, Word::SetOff, summary.set_off)?;
             put_named(text, form, Word::Return, summary.back)?;
             put_named(text, form, Word::Waiting, summary.waiting)
         }

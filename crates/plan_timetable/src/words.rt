@@ -11,7 +11,7 @@ pub(crate) enum Word {
     Stops,
     Distance,
     Load,
-    Start,
+    SetOff,
     Return,
     Waiting,
     TimesHeading,
@@ -39,12 +39,12 @@ impl Word {
             Word::Stops => in_form(form, ": stops ", "\t"),
             Word::Distance => in_form(form, ", distance ", "\t"),
             Word::Load => in_form(form, ", load ", "\t"),
-            Word::Start => in_form(form, ", start ", "\t"),
+            Word::SetOff => in_form(form, ", set off ", "\t"),
             Word::Return => in_form(form, ", return ", "\t"),
             Word::Waiting => in_form(form, ", waiting ", "\t"),
             Word::TimesHeading => in_form(
                 form,
-                " place  stop  kind      partner  arrival    start  waiting   latest     load\n",
+                " place  stop  kind      partner  set off  arrival    start  waiting  service     from       to   latest     load\n",
                 "",
             ),
             Word::LoadsHeading => in_form(

@@ -1,7 +1,7 @@
 -- Why a request is where it is, or in no route, as text. Vehicles and places count from 1.
 use Rattle.std.specs.Prelude.{ℕ, ◌+◌, ◌==◌, if◌then◌else◌, Bool, List, [], ◌∷◌, ◌++◌, map, filter, length, is_some, Option, Some, None}
 use Rattle.std.specs.List.{flat_map}
-use Rattle.plan_types.specs.Instance.{Instance}
+use Rattle.plan_types.specs.Instance.{Instance, request_with}
 use Rattle.plan_types.specs.Request.{stop_in, stops_of}
 use Rattle.plan_types.specs.declared.requests.Kind.{Kind}
 use Rattle.plan_types.specs.declared.requests.Kind.TheVariants.{LiLim, Vrp}
@@ -21,7 +21,7 @@ use Rattle.plan_why.specs.declared.missed.Limit.{Limit}
 use Rattle.plan_why.specs.declared.missed.Limit.TheVariants.{Capacity, Start, Return}
 use Rattle.plan_why.specs.declared.missed.Miss.{Miss}
 use Rattle.plan_why.specs.declared.trials.Trial.{Trial}
-use Rattle.plan_why.specs.declared.words.Word.TheVariants.{AloneStop, AloneBack, AloneFits, Needs, VehicleTakes, StartsAt, Latest, Vehicle, Stop, WouldStart, Back, Late, Behind, WouldCarry, TooMuch, FitsAtPlace, FitsAtPlaces, And, AtPlace, Fleet, Of, VehiclesUsed}
+use Rattle.plan_why.specs.declared.words.Word.TheVariants.{AloneStop, AloneBack, AloneFits, Needs, VehicleTakes, StartsAt, WouldStartAt, Latest, Vehicle, Stop, WouldStart, Back, Late, Behind, WouldCarry, TooMuch, FitsAtPlace, FitsAtPlaces, And, AtPlace, Fleet, Of, VehiclesUsed}
 
 -- a vehicle that serves the request and nothing else
 abbrev pub alone_route : Request → List ℕ
@@ -30,7 +30,7 @@ alone_route r = map (λ s. s.number) (stops_of r)
 -- the first limit that it exceeds, in figures
 abbrev pub alone_by : Limit → Miss → List ℕ
 alone_by Capacity m = named AloneStop m.stop ++ named Needs m.figure ++ named VehicleTakes m.most
-alone_by Start m = named AloneStop m.stop ++ named StartsAt m.figure ++ named Latest m.most
+alone_by Start m = named AloneStop m.stop ++ named WouldStartAt m.figure ++ named Latest m.most
 alone_by Return m = named AloneBack m.figure ++ named Latest m.most
 
 -- each line stands behind a lead
@@ -117,6 +117,6 @@ services_from p r v (route ∷ routes) = services_text p r v route ++ services_f
 abbrev pub why_text : Instance → List (List ℕ) → List (List ℕ) → Request → List ℕ
 why_text p pins routes r = if is_planned routes r then services_from p r 1 routes else unplanned_text [] p pins routes r
 
--- of the live request of this name
-abbrev pub why_named : Instance → List (List ℕ) → List (List ℕ) → ℕ → Option (List ℕ)
-why_named p pins routes name = option_map (why_text p pins routes) (request_named p name)
+-- of the request that has this stop
+abbrev pub why_at : Instance → List (List ℕ) → List (List ℕ) → ℕ → Option (List ℕ)
+why_at p pins routes n = option_map (why_text p pins routes) (request_with p n)

@@ -5,11 +5,12 @@ use Rattle.plan_why.specs.declared.words.Word.TheVariants as the
 
 unfoldable pub word : Word → List ℕ
 word the.AloneStop = codes "alone: stop "
-word the.AloneBack = codes "alone: back at "
+word the.AloneBack = codes "alone: would be back at "
 word the.AloneFits = codes "alone: a vehicle can serve it\n"
 word the.Needs = codes " needs "
 word the.VehicleTakes = codes ", a vehicle takes "
 word the.StartsAt = codes " starts at "
+word the.WouldStartAt = codes " would start at "
 word the.Latest = codes ", latest "
 word the.Vehicle = codes "vehicle "
 word the.Stop = codes ": stop "

@@ -1,6 +1,7 @@
 //! The whole answer.
 ghost use Rattle.std.specs.Prelude.{◌≡◌, ◌++◌, ◌+◌, true, false, All, IfOk, IfSome, OnOk, string_bytes};
 ghost use Rattle.std.specs.Option.{option_copied, option_map};
+ghost use Rattle.plan_types.specs.Instance.{request_with};
 ghost use Rattle.route_sched.specs.Cost.{is_planned};
 ghost use Rattle.route_sched.specs.Route.{AreLiveOnce};
 ghost use Rattle.plan_audit.specs.Passes.{passes};
@@ -8,7 +9,7 @@ ghost use Rattle.move_ops.specs.Insertion.{request_named};
 ghost use Rattle.plan_why.specs.Missed.{miss_of};
 ghost use Rattle.plan_why.specs.Tried.{MayBeTried};
 ghost use Rattle.plan_why.specs.Trials.{MayTake};
-ghost use Rattle.plan_why.specs.Why.{alone_route, alone_text, is_stop_of, reason_text, services_from, services_in, services_text, tried_text, unplanned_text, used_trial, vehicles_from, why_named};
+ghost use Rattle.plan_why.specs.Why.{alone_route, alone_text, is_stop_of, reason_text, services_from, services_in, services_text, tried_text, unplanned_text, used_trial, vehicles_from, why_at};
 
 use crate::leads::Lead;
 use crate::missed::{Miss, miss_of};
@@ -22,7 +23,7 @@ use plan_types::{OutOfMemory, Pins, Plan, Problem, Request, Route, requests_are_
 use route_sched::is_planned;
 use std::alloc::Global;
 
-/// Why the request of this name is where it is, or in no route, in whole lines; none where no live request has the name. Of a planned
+/// Why the request that has this stop is where it is, or in no route, in whole lines; none where no request has it. Of a planned
 /// one: where its vehicle serves it, and when. Of an unplanned one: the first limit that a vehicle of its own exceeds; where there is
 /// none, the place with each vehicle that is used where it misses least, and how many vehicles are used.
 ///
@@ -33,13 +34,13 @@ pub fn why(
     problem: &Problem,
     pins: &Pins,
     plan: &Plan,
-    name: u32,
+    stop: u32,
 ) -> Result<Option<String>, OutOfMemory>
     requires { passes problem.now pins.now.routes plan.now.routes ≡ true }
     ensures { IfOk result (λ text. option_map string_bytes text
-        ≡ why_named problem.now pins.now.routes plan.now.routes name) }
+        ≡ why_at problem.now pins.now.routes plan.now.routes stop) }
 {
-    let Some(request) = live_request(problem, name) else {
+    let Some(request) = request_at(problem, stop) else {
         return Ok(None);
     };
     let routes = passing_routes(problem, pins, plan);
@@ -94,6 +95,17 @@ fn live_request(problem: &Problem, name: u32) -> Option<&Request>
 {
     requests_are_found_by_stop();
     problem.requests.get(&name)
+}
+
+// The request that has this stop; the same of it.
+fn request_at(problem: &Problem, stop: u32) -> Option<&Request>
+    ensures found { option_copied result ≡ request_with problem.now stop }
+    ensures tried { IfSome result (λ request. MayBeTried problem.now request.now) }
+{
+    match problem.name_of(stop) {
+        Some(name) => live_request(problem, name),
+        None => None,
+    }
 }
 
 // Where a planned request is served, and when.

@@ -26,7 +26,7 @@
 //! - `laws`: what the best trial means, and what is told of a request alone
 //!
 //! Said by `specs/Why.antt`, `Trials.antt`, `Missed.antt`, `Leads.antt`, `Words.antt` and `Laws.antt`. Proved:
-//! - `why`: the bytes are those of `why_named`, or want of memory
+//! - `why`: the bytes are those of `why_at`, or want of memory
 //! - `reason`: the same of an unplanned request in any routes whose stops are live and stand once in each (`reason_text`)
 //! - `no_trial_is_better`: the trial that is told of a vehicle misses least
 //! - `what_is_alone_is_judged_by_the_rules`: no limit is told of a request alone exactly where its route is feasible by the auditor

@@ -32,7 +32,7 @@ fn put_alone_by(text: &mut String, limit: Limit, miss: &Miss) -> Result<(), OutO
         }
         Limit::Start => {
             put_named(text, Word::AloneStop, u64::from(miss.stop))?;
-            put_named(text, Word::StartsAt, miss.figure)?;
+            put_named(text, Word::WouldStartAt, miss.figure)?;
             put_named(text, Word::Latest, miss.most)
         }
         Limit::Return => {

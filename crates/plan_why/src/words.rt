@@ -13,6 +13,7 @@ pub(crate) enum Word {
     Needs,
     VehicleTakes,
     StartsAt,
+    WouldStartAt,
     Latest,
     Vehicle,
     Stop,
@@ -42,11 +43,12 @@ impl Word {
     {
         match self {
             Word::AloneStop => "alone: stop ",
-            Word::AloneBack => "alone: back at ",
+            Word::AloneBack => "alone: would be back at ",
             Word::AloneFits => "alone: a vehicle can serve it\n",
             Word::Needs => " needs ",
             Word::VehicleTakes => ", a vehicle takes ",
             Word::StartsAt => " starts at ",
+            Word::WouldStartAt => " would start at ",
             Word::Latest => ", latest ",
             Word::Vehicle => "vehicle ",
             Word::Stop => ": stop ",

@@ -4,5 +4,5 @@ use Rattle.plan_explain.specs.Tables.{row_text}
 use Rattle.plan_explain.proofs.tables.put_rows.Given as goal
 
 -- the text so far and that of the rows to come
-abbrev pub invariant-loop-row : goal.invariant-loop-row
-invariant-loop-row l = l.text ++ flat_map (row_text l.problem) (drop l.row-index l.rows) ≡ l.fn.text ++ flat_map (row_text l.problem) l.rows
+abbrev pub invariant-loop-halt : goal.invariant-loop-halt
+invariant-loop-halt l = l.text ++ flat_map (row_text l.problem) (drop l.halt-index l.halts) ≡ l.fn.text ++ flat_map (row_text l.problem) l.halts

@@ -2,4 +2,4 @@ use Rattle.plan_timetable.proofs.RouteLemmas.{row_in}
 use Rattle.plan_timetable.proofs.entries.entries_at.Goals as goal
 
 pub entry_of-requires-clause-row : goal.entry_of-requires-clause-row
-entry_of-requires-clause-row c = row_in c.args.problem.now c.args.route.now c.args.rows.now c.loop-row.row-index _ c.requires.rows c.loop-row-test.true
+entry_of-requires-clause-row c = row_in c.args.problem.now c.args.route.now c.args.halts.now c.loop-halt.halt-index _ c.requires.halts c.loop-halt-test.true

@@ -1,0 +1,49 @@
+//! How far the routes of a text drive that is refused for its cost.
+ghost use Rattle.std.specs.Prelude.{◌≡◌, ◌++◌, ℕ, IfOk, string_bytes};
+ghost use Rattle.plan_audit.specs.Verdict.{IsVerdict, printed};
+ghost use Rattle.plan_explain.specs.Explained.{driven_text, knows_ways};
+
+use crate::phrases::Phrase;
+use crate::sentences::put_named;
+use crate::told::Told;
+use plan_audit::Verdict;
+use plan_types::{OutOfMemory, Problem, Route};
+use route_sched::total_distance;
+use std::alloc::Global;
+
+/// How far routes drive, as a line, in the problem's unit; none where a stop is unknown or stands twice, since nobody knows it
+/// then. The verdict is that on these routes, whatever cost they are printed with.
+pub fn explain_driven(
+    alloc: Global,
+    problem: &Problem,
+    routes: &[Route],
+    verdict: Verdict,
+) -> Result<String, OutOfMemory>
+    requires { (cost : ℕ) × IsVerdict problem.now (printed routes.now cost) verdict }
+    ensures { IfOk result (λ text. string_bytes text
+        ≡ driven_text problem.now routes.now verdict) }
+{
+    let mut text = Told::new(alloc);
+    put_driven(&mut text, problem, routes, verdict);
+    text.into_string()
+}
+
+fn put_driven(text: &mut Told, problem: &Problem, routes: &[Route], verdict: Verdict)
+    requires { (cost : ℕ) × IsVerdict problem.now (printed routes.now cost) verdict }
+    ensures { text.new ≡ text.old ++ driven_text problem.now routes.now verdict }
+{
+    if knows_ways(verdict) {
+        put_named(text, Phrase::RoutesDrive, total_distance(problem, routes));
+        text.push_str("\n");
+    }
+}
+
+// Whether no stop is unknown or stands twice.
+fn knows_ways(verdict: Verdict) -> bool
+    ensures { result ≡ knows_ways verdict }
+{
+    match verdict {
+        Verdict::Pass(_) => true,
+        Verdict::Broken { rule, .. } => rule > 2,
+    }
+}
