@@ -3,25 +3,25 @@ use Rattle.std.proofs.Common.{◌≡◌, ◌∙◌, ℕ, ◌<◌, Bool, true, fa
 use Rattle.std.specs.Prelude.{◌^◌, ◌≤◌, IfSome, MatchResult, nat_lt, if◌then◌else◌, ⊤}
 use Rattle.std.proofs.lemmas.Bool.{lt-ltb, ltb-true}
 use Rattle.std.proofs.lemmas.List.{take-append-le, drop-append-le, drop_all, take_all}
-use Rattle.plan_types.specs.declared.requests.Kind.{Kind}
+use Rattle.command_text.specs.declared.asked.Purpose.{Purpose}
 use Rattle.command_core.specs.declared.commands.Command.{Command}
 use Rattle.command_text.specs.Answering.{Fate, Reply, Serving, asked_reply, carried_all, joined_replies, reply, served}
 use Rattle.command_text.specs.Cutting.{Piece, is_short, pieces_of}
 use Rattle.command_text.specs.Laws.{StatesFollow, cut_at}
 use Rattle.command_text.specs.Readings.{Reading}
 use Rattle.command_text.specs.declared.asked.Asked.{Asked}
-use Rattle.command_text.specs.declared.asked.Asked.TheVariants.{Load, Nothing}
+use Rattle.command_text.specs.declared.asked.Asked.TheVariants.{Text, Nothing}
 use Rattle.recover.specs.Sessions.{SessionValue}
-use Rattle.command_serving.specs.Input.{CountsTaken, Cuts, CutsNext, Loads}
+use Rattle.command_serving.specs.Input.{CountsTaken, Cuts, CutsNext, TakesAll}
 use Rattle.command_serving.specs.Acts.{Turn, carried_of, events_by, fates_of, kept_of, unfailed}
 use Rattle.command_serving.specs.Streams.{Extends, Stream}
 use Rattle.command_serving.specs.Served.{AreAnswered, AreTold, HasCause, IsCutShort, IsServed, Leads, Tells, as_serving, preceded, still}
-use Rattle.command_serving.specs.Serving.{Answers, CutOff, GoesOn, IsCause, Serves, ServesOn, goes_behind, goes_on, load_told, pieces_behind, silent, still_carried}
+use Rattle.command_serving.specs.Serving.{Answers, CutOff, GoesOn, IsCause, Serves, ServesOn, goes_behind, goes_on, text_told, pieces_behind, silent, still_carried}
 use Rattle.command_serving.specs.declared.answering.Goes.{Goes}
 use Rattle.command_serving.specs.declared.answering.ServeFault.{ServeFault}
 use Rattle.command_serving.specs.declared.answering.Goes.TheVariants.{On, ToEnd}
-use Rattle.command_serving.specs.declared.input.LoadText.{LoadText}
-use Rattle.command_serving.specs.declared.input.LoadText.TheVariants.{Dropped, Short, Whole}
+use Rattle.command_serving.specs.declared.input.AnnouncedText.{AnnouncedText}
+use Rattle.command_serving.specs.declared.input.AnnouncedText.TheVariants.{Dropped, Short, Whole}
 use Rattle.command_serving.specs.declared.answering.ServeFault.TheVariants as fault
 use Rattle.command_serving.proofs.ActLemmas.{begins_as, begins_before}
 use Rattle.command_serving.proofs.CutLemmas.{CutLaws, cut_pieces}
@@ -303,7 +303,7 @@ module _ {D E : Type 0} {line a : Asked} {known : Option (List ℕ)} (on : secto
       subst (λ b. GoesOn on r reading old (cut_at b rest) x y new known) (sym asks_for)
       (once_told on reading a rest old new x y known r told ToEnd [] is cut answers (line_served_last reading a rest old new x y known cut known_is))
 
--- ---- a load
+-- ---- a text that a line announces
 
 pub not_short : (len : ℕ) (bytes : List ℕ) → length bytes ≡ len → nat_lt (length bytes) len ≡ false
 not_short len bytes is = at (nat_lt (length bytes) len) refl
@@ -318,76 +318,76 @@ take_front len bytes rest is = take-append-le len bytes rest (omega (arith, is))
 pub drop_front : (len : ℕ) (bytes rest : List ℕ) → length bytes ≡ len → drop len (bytes ++ rest) ≡ rest
 drop_front len bytes rest is = drop-append-le len bytes rest (omega (arith, is)) ∙ ap (λ (b : List ℕ). b ++ rest) (drop_all len bytes (omega (arith, is)))
 
-load_cut : (kind : Kind) (seed len : ℕ) (bytes rest : List ℕ) → length bytes ≡ len → cut_at (Load kind seed len) (bytes ++ rest) ≡ record { asked = Load kind seed len; text = bytes } ∷ pieces_of rest
-load_cut kind seed len bytes rest is =
-    ap₂ {C = List Piece} (λ (text behind : List ℕ). record { asked = Load kind seed len; text = text } ∷ (if nat_lt (length text) len then [] else pieces_of behind)) (take_front len bytes rest is) (drop_front len bytes rest is)
-    ∙ ap (λ (b : Bool). record { asked = Load kind seed len; text = bytes } ∷ (if b then [] else pieces_of rest)) (not_short len bytes is)
+text_cut : (purpose : Purpose) (len : ℕ) (bytes rest : List ℕ) → length bytes ≡ len → cut_at (Text purpose len) (bytes ++ rest) ≡ record { asked = Text purpose len; text = bytes } ∷ pieces_of rest
+text_cut purpose len bytes rest is =
+    ap₂ {C = List Piece} (λ (text behind : List ℕ). record { asked = Text purpose len; text = text } ∷ (if nat_lt (length text) len then [] else pieces_of behind)) (take_front len bytes rest is) (drop_front len bytes rest is)
+    ∙ ap (λ (b : Bool). record { asked = Text purpose len; text = bytes } ∷ (if b then [] else pieces_of rest)) (not_short len bytes is)
 
-short_cut : (kind : Kind) (seed len : ℕ) (bytes : List ℕ) → length bytes < len → cut_at (Load kind seed len) bytes ≡ record { asked = Load kind seed len; text = bytes } ∷ []
-short_cut kind seed len bytes less =
-    ap (λ (text : List ℕ). record { asked = Load kind seed len; text = text } ∷ (if nat_lt (length text) len then [] else pieces_of (drop len bytes))) (take_all len bytes (omega (arith, less)))
-    ∙ ap (λ (b : Bool). record { asked = Load kind seed len; text = bytes } ∷ (if b then [] else pieces_of (drop len bytes))) (lt-ltb (length bytes) len less)
+short_cut : (purpose : Purpose) (len : ℕ) (bytes : List ℕ) → length bytes < len → cut_at (Text purpose len) bytes ≡ record { asked = Text purpose len; text = bytes } ∷ []
+short_cut purpose len bytes less =
+    ap (λ (text : List ℕ). record { asked = Text purpose len; text = text } ∷ (if nat_lt (length text) len then [] else pieces_of (drop len bytes))) (take_all len bytes (omega (arith, less)))
+    ∙ ap (λ (b : Bool). record { asked = Text purpose len; text = bytes } ∷ (if b then [] else pieces_of (drop len bytes))) (lt-ltb (length bytes) len less)
 
-module _ {D : Type 0} (on : sectors.Ghosts D) (reading : Reading) (kind : Kind) (seed len : ℕ) (old new : SessionValue D) (x y : Stream) (r : Result Goes ServeFault) where
-  abbrev load_of : List ℕ → Piece
-  load_of bytes = record { asked = Load kind seed len; text = bytes }
+module _ {D : Type 0} (on : sectors.Ghosts D) (reading : Reading) (purpose : Purpose) (len : ℕ) (old new : SessionValue D) (x y : Stream) (r : Result Goes ServeFault) where
+  abbrev text_piece : List ℕ → Piece
+  text_piece bytes = record { asked = Text purpose len; text = bytes }
 
-  same_reply : (bytes : List ℕ) (b : Bool) → is_short (load_of bytes) ≡ b → (f : Serving → Reply) → ((s : Serving) → asked_reply reading s (Load kind seed len) bytes b ≡ f s)
-      → (fates : List Fate) → asked_reply reading (as_serving old fates) (Load kind seed len) bytes (is_short (load_of bytes)) ≡ f (as_serving old fates)
-  same_reply bytes b is f same fates = ap (asked_reply reading (as_serving old fates) (Load kind seed len) bytes) is ∙ same (as_serving old fates)
+  same_reply : (bytes : List ℕ) (b : Bool) → is_short (text_piece bytes) ≡ b → (f : Serving → Reply) → ((s : Serving) → asked_reply reading s (Text purpose len) bytes b ≡ f s)
+      → (fates : List Fate) → asked_reply reading (as_serving old fates) (Text purpose len) bytes (is_short (text_piece bytes)) ≡ f (as_serving old fates)
+  same_reply bytes b is f same fates = ap (asked_reply reading (as_serving old fates) (Text purpose len) bytes) is ∙ same (as_serving old fates)
 
   -- told, with the bytes that came
   told_of : {E : Type 0} (told : Result ⊤ E) (to : Goes) (bytes : List ℕ) (ps : List Piece) (rest left : List ℕ) → MatchResult told (λ _. r ≡ Ok to) (λ _. r ≡ Err fault.WriteFault)
-      → cut_at (Load kind seed len) rest ≡ load_of bytes ∷ ps → Answers on told old (λ s. asked_reply reading s (Load kind seed len) bytes (is_short (load_of bytes))) x y new silent
-      → (Serves on old (λ s. served reading s (load_of bytes ∷ ps)) x y new (λ s. served reading s ps) → Serves on old (λ s. served reading s (load_of bytes ∷ ps)) x y new (goes_on reading to left))
-      → ps ≡ pieces_behind to left → GoesOn on r reading old (cut_at (Load kind seed len) rest) x y new (Some left)
+      → cut_at (Text purpose len) rest ≡ text_piece bytes ∷ ps → Answers on told old (λ s. asked_reply reading s (Text purpose len) bytes (is_short (text_piece bytes))) x y new silent
+      → (Serves on old (λ s. served reading s (text_piece bytes ∷ ps)) x y new (λ s. served reading s ps) → Serves on old (λ s. served reading s (text_piece bytes ∷ ps)) x y new (goes_on reading to left))
+      → ps ≡ pieces_behind to left → GoesOn on r reading old (cut_at (Text purpose len) rest) x y new (Some left)
   told_of (Ok done) to bytes ps rest left is cut answers ends behind =
-      let all = subst (λ qs. Serves on old (λ s. served reading s qs) x y new (goes_on reading to left)) (sym cut) (ends (asked_serves reading old new (load_of bytes) ps x y answers)) in
-      let split = cut ∙ ap (λ qs. load_of bytes ∷ qs) behind in
-      subst (λ r. GoesOn on r reading old (cut_at (Load kind seed len) rest) x y new (Some left)) (sym is)
+      let all = subst (λ qs. Serves on old (λ s. served reading s qs) x y new (goes_on reading to left)) (sym cut) (ends (asked_serves reading old new (text_piece bytes) ps x y answers)) in
+      let split = cut ∙ ap (λ qs. text_piece bytes ∷ qs) behind in
+      subst (λ r. GoesOn on r reading old (cut_at (Text purpose len) rest) x y new (Some left)) (sym is)
       (record {
         left = left;
         is_known = refl;
-        front = load_of bytes ∷ [];
+        front = text_piece bytes ∷ [];
         split = split;
         serves = all;
-        lines = piece_answered reading old new (load_of bytes) (cut_at (Load kind seed len) rest) all.text to left split all.leads;
+        lines = piece_answered reading old new (text_piece bytes) (cut_at (Text purpose len) rest) all.text to left split all.leads;
       })
   told_of (Err failed) to bytes ps rest left is cut answers ends behind =
-      subst (λ r. GoesOn on r reading old (cut_at (Load kind seed len) rest) x y new (Some left)) (sym is)
-      (subst (λ qs. IsCutShort on reading old qs x y new) (sym cut) (asked_cut on reading old new (load_of bytes) ps x y answers))
+      subst (λ r. GoesOn on r reading old (cut_at (Text purpose len) rest) x y new (Some left)) (sym is)
+      (subst (λ qs. IsCutShort on reading old qs x y new) (sym cut) (asked_cut on reading old new (text_piece bytes) ps x y answers))
 
   module _ {E : Type 0} (told : Result ⊤ E) where
     whole_on : (bytes rest left : List ℕ) → rest ≡ bytes ++ left → length bytes ≡ len → MatchResult told (λ _. r ≡ Ok On) (λ _. r ≡ Err fault.WriteFault)
-        → Answers on told old (load_told Dropped reading kind seed bytes) x y new silent → GoesOn on r reading old (cut_at (Load kind seed len) rest) x y new (Some left)
+        → Answers on told old (text_told Dropped reading purpose bytes) x y new silent → GoesOn on r reading old (cut_at (Text purpose len) rest) x y new (Some left)
     whole_on bytes rest left moves is once answers =
-        told_of told On bytes (pieces_of left) rest left once (ap (cut_at (Load kind seed len)) moves ∙ load_cut kind seed len bytes left is)
-        (answers_as on told old new (load_told Dropped reading kind seed bytes) (λ s. asked_reply reading s (Load kind seed len) bytes (is_short (load_of bytes))) silent x y
-        (same_reply bytes false (not_short len bytes is) (load_told Dropped reading kind seed bytes) (λ s. refl)) answers)
+        told_of told On bytes (pieces_of left) rest left once (ap (cut_at (Text purpose len)) moves ∙ text_cut purpose len bytes left is)
+        (answers_as on told old new (text_told Dropped reading purpose bytes) (λ s. asked_reply reading s (Text purpose len) bytes (is_short (text_piece bytes))) silent x y
+        (same_reply bytes false (not_short len bytes is) (text_told Dropped reading purpose bytes) (λ s. refl)) answers)
         (λ serves. serves) refl
 
     short_on : (bytes rest left : List ℕ) → rest ≡ bytes ++ left → left ≡ [] → length bytes < len → MatchResult told (λ _. r ≡ Ok ToEnd) (λ _. r ≡ Err fault.WriteFault)
-        → Answers on told old (load_told Short reading kind seed bytes) x y new silent → GoesOn on r reading old (cut_at (Load kind seed len) rest) x y new (Some left)
+        → Answers on told old (text_told Short reading purpose bytes) x y new silent → GoesOn on r reading old (cut_at (Text purpose len) rest) x y new (Some left)
     short_on bytes rest left moves end less once answers =
-        told_of told ToEnd bytes [] rest left once (ap (cut_at (Load kind seed len)) (moves ∙ ap (λ l. bytes ++ l) end ∙ append-nil bytes) ∙ short_cut kind seed len bytes less)
-        (answers_as on told old new (load_told Short reading kind seed bytes) (λ s. asked_reply reading s (Load kind seed len) bytes (is_short (load_of bytes))) silent x y
-        (same_reply bytes true (lt-ltb (length bytes) len less) (load_told Short reading kind seed bytes) (λ s. refl)) answers)
-        (λ serves. ended_serves reading old new (λ s. served reading s (load_of bytes ∷ [])) x y serves) refl
+        told_of told ToEnd bytes [] rest left once (ap (cut_at (Text purpose len)) (moves ∙ ap (λ l. bytes ++ l) end ∙ append-nil bytes) ∙ short_cut purpose len bytes less)
+        (answers_as on told old new (text_told Short reading purpose bytes) (λ s. asked_reply reading s (Text purpose len) bytes (is_short (text_piece bytes))) silent x y
+        (same_reply bytes true (lt-ltb (length bytes) len less) (text_told Short reading purpose bytes) (λ s. refl)) answers)
+        (λ serves. ended_serves reading old new (λ s. served reading s (text_piece bytes ∷ [])) x y serves) refl
 
-    load_by : (rest : List ℕ) (text : LoadText) (known : Option (List ℕ)) → Loads len (Some rest) known text → MatchResult told (λ _. r ≡ Ok (goes_behind text)) (λ _. r ≡ Err fault.WriteFault)
-        → ((bytes : List ℕ) → Answers on told old (load_told text reading kind seed bytes) x y new silent) → GoesOn on r reading old (cut_at (Load kind seed len) rest) x y new known
-    load_by rest (Whole text) None l once answers = absurd l.0
-    load_by rest (Whole text) (Some left) l once answers = whole_on text.items rest left l.0 l.1 once (answers text.items)
-    load_by rest Dropped None l once answers = absurd l.1
-    load_by rest Dropped (Some left) l once answers = whole_on l.0 rest left l.1 l.2 once (answers l.0)
-    load_by rest Short None l once answers = absurd l.1
-    load_by rest Short (Some left) l once answers = short_on l.0 rest left l.1 l.3 l.2 once (answers l.0)
+    text_by : (rest : List ℕ) (text : AnnouncedText) (known : Option (List ℕ)) → TakesAll len (Some rest) known text → MatchResult told (λ _. r ≡ Ok (goes_behind text)) (λ _. r ≡ Err fault.WriteFault)
+        → ((bytes : List ℕ) → Answers on told old (text_told text reading purpose bytes) x y new silent) → GoesOn on r reading old (cut_at (Text purpose len) rest) x y new known
+    text_by rest (Whole text) None l once answers = absurd l.0
+    text_by rest (Whole text) (Some left) l once answers = whole_on text.items rest left l.0 l.1 once (answers text.items)
+    text_by rest Dropped None l once answers = absurd l.1
+    text_by rest Dropped (Some left) l once answers = whole_on l.0 rest left l.1 l.2 once (answers l.0)
+    text_by rest Short None l once answers = absurd l.1
+    text_by rest Short (Some left) l once answers = short_on l.0 rest left l.1 l.3 l.2 once (answers l.0)
 
-    pub load_on : (rest : List ℕ) (text : LoadText) (goes : Goes) (before known : Option (List ℕ)) → before ≡ Some rest → Loads len before known text → goes ≡ goes_behind text
-        → MatchResult told (λ _. r ≡ Ok goes) (λ _. r ≡ Err fault.WriteFault) → ((bytes : List ℕ) → Answers on told old (load_told text reading kind seed bytes) x y new silent)
-        → GoesOn on r reading old (cut_at (Load kind seed len) rest) x y new known
-    load_on rest text goes before known is l to once answers =
-        load_by rest text known (subst (λ b. Loads len b known text) is l) (subst (λ g. MatchResult told (λ _. r ≡ Ok g) (λ _. r ≡ Err fault.WriteFault)) to once) answers
+    pub text_on : (rest : List ℕ) (text : AnnouncedText) (goes : Goes) (before known : Option (List ℕ)) → before ≡ Some rest → TakesAll len before known text → goes ≡ goes_behind text
+        → MatchResult told (λ _. r ≡ Ok goes) (λ _. r ≡ Err fault.WriteFault) → ((bytes : List ℕ) → Answers on told old (text_told text reading purpose bytes) x y new silent)
+        → GoesOn on r reading old (cut_at (Text purpose len) rest) x y new known
+    text_on rest text goes before known is l to once answers =
+        text_by rest text known (subst (λ b. TakesAll len b known text) is l) (subst (λ g. MatchResult told (λ _. r ≡ Ok g) (λ _. r ≡ Err fault.WriteFault)) to once) answers
 
 -- ---- the end
 

@@ -5,8 +5,8 @@ use mathlib.Core.Bool.{true≢false}
 use Rattle.std.proofs.lemmas.Bool.{leb-true, ltb-false, ltb-true}
 use Rattle.std.specs.Str.Lines.{strip_carriage_return}
 use Rattle.text_lines.specs.Words.{words_of}
-use Rattle.command_text.specs.Asking.{asked, begins_load}
-use Rattle.command_text.specs.declared.asked.Asked.TheVariants.{BadLine, BadLoad}
+use Rattle.command_text.specs.Asking.{asked, announces_text}
+use Rattle.command_text.specs.declared.asked.Asked.TheVariants.{BadLine, BadText}
 use Rattle.std.proofs.lemmas.List.{take-append-le}
 use Rattle.std.proofs.Math.Seq.{take-append-add}
 
@@ -75,7 +75,7 @@ stripped_len l = at (slice_index l (length l - 1) == 13)
     at true = let e : length (take (length l - 1) l) ≡ length l - 1 = length-take-le (length l - 1) l (omega arith) in omega (arith, e)
     at false = omega arith
 
-asked_long : (l : List ℕ) (b : Bool) → nat_le (length l) 1024 ≡ false → begins_load (words_of l) ≡ b → asked l ≡ (if b then BadLoad else BadLine)
+asked_long : (l : List ℕ) (b : Bool) → nat_le (length l) 1024 ≡ false → announces_text (words_of l) ≡ b → asked l ≡ (if b then BadText else BadLine)
 unfolding asked
 asked_long l b long e = rw (long, e) refl
 
@@ -91,7 +91,7 @@ pub asked_kept : (kept line : List ℕ) → kept ≡ take 1026 line → length k
 asked_kept kept line is short = ap (λ l. asked (strip_carriage_return l)) (is ∙ kept_short 1026 line (omega (arith, short, ap length is)))
 
 -- and one that is too long
-pub asked_too_long : (kept line : List ℕ) (b : Bool) → kept ≡ take 1026 line → 1026 ≤ length kept → b ≡ begins_load (words_of (strip_carriage_return line)) → (if b then BadLoad else BadLine) ≡ asked (strip_carriage_return line)
+pub asked_too_long : (kept line : List ℕ) (b : Bool) → kept ≡ take 1026 line → 1026 ≤ length kept → b ≡ announces_text (words_of (strip_carriage_return line)) → (if b then BadText else BadLine) ≡ asked (strip_carriage_return line)
 asked_too_long kept line b is long e =
     let more : 1026 ≤ length line = kept_long 1026 line (omega (arith, long, ap length is)) in
     let over : 1024 < length (strip_carriage_return line) = omega (arith, more, stripped_len line) in

@@ -1,36 +1,47 @@
--- What is answered to loads, and to lines that change nothing.
+-- What is answered to lines that announce a text, and to lines that change nothing.
 use Rattle.std.proofs.Common.{◌≡◌, ◌∙◌, ℕ, Bool, true, false, List, [], ◌∷◌, ◌++◌, inl, inr, Option, Some, None, Result, Ok, Err, refl, sym, ap, subst, append-nil, arith}
 use Rattle.plan_types.specs.Instance.{Instance}
+use Rattle.plan_types.specs.declared.plans.Plan.{Plan}
+use Rattle.plan_seats.specs.declared.faults.Unseated.{Unseated}
+use Rattle.plan_seats.specs.declared.faults.Unseated.TheVariants as unseated
 use Rattle.instance_read.specs.Faults.{no_memory}
 use Rattle.instance_read.specs.declared.faults.ReadFault.{ReadFault}
 use Rattle.command_core.specs.Job.{JobValue}
 use Rattle.command_core.specs.Refusing.{refusal}
+use Rattle.command_core.specs.declared.commands.Command.{Command}
 use Rattle.command_core.specs.declared.commands.Command.TheVariants as command
 use Rattle.command_core.specs.declared.refusals.Refusal.TheVariants as core
 use Rattle.command_core.specs.declared.states.State.{State}
 use Rattle.command_core.specs.declared.states.State.TheVariants.{Empty, Loaded}
-use Rattle.command_text.specs.Answering.{Fate, Done, NoMemory, Failed, Reply, Serving, answered, by_fate, informed, load, next_fate, plain, printed, stated, told, told_unless, tried, unless_broken, with_text}
+use Rattle.command_text.specs.Answering.{Fate, Done, NoMemory, Failed, Reply, Serving, adopt, adopt_on, adopted_unless, answered, by_fate, informed, instance_told, load, next_fate, plain, printed, stated, told, told_unless, tried, unless_broken, with_text}
 use Rattle.command_text.specs.Answering.{Spent as SpentFate}
 use Rattle.command_text.specs.Answers.{answer_text, line}
 use Rattle.command_text.specs.Questions.{question_refusal, question_text}
-use Rattle.command_text.specs.Readings.{IsUnlessMemory}
+use Rattle.instance_read.specs.Readings.{IsUnlessMemory}
+use Rattle.command_text.specs.Readings.{IsPlanUnlessMemory, Reading}
 use Rattle.command_text.specs.Showing.{print_text}
 use Rattle.route_sched.specs.Cost.{unplanned_count}
 use Rattle.sol_text.specs.declared.faults.WriteSolFault.{WriteSolFault}
 use Rattle.sol_text.specs.declared.faults.WriteSolFault.TheVariants as write
 use Rattle.std.specs.Prelude.{◌<◌, ◌==◌, IsErrOf, IsOkUnless}
-use Rattle.std.proofs.lemmas.Bool.{eqb-false, eqb-true}
+use Rattle.std.proofs.lemmas.Bool.{cases_Bool, eqb-false, eqb-true}
+use Rattle.instance_text.specs.Formats.{has_format}
+use Rattle.instance_text.specs.Texts.{instance_text}
+use Rattle.instance_text.specs.declared.faults.WriteFault.{WriteFault}
+use Rattle.instance_text.specs.declared.faults.WriteFault.TheVariants as instance_fault
 use Rattle.command_core.specs.declared.refusals.Refusal.{Refusal}
 use Rattle.command_text.specs.declared.questions.Question.{Question}
 use Rattle.command_text.specs.declared.answers.Answer.{Answer}
 use Rattle.command_text.specs.declared.answers.Answer.TheVariants as answer
 use Rattle.recover.specs.Sessions.{SessionValue}
-use Rattle.command_serving.specs.Acts.{Act, Text, fates_of}
-use Rattle.command_serving.specs.Served.{Tells, as_serving}
-use Rattle.command_serving.specs.Serving.{HasNoJob, load_reply, silent}
+use Rattle.command_serving.specs.Acts.{Act, IsTry, Text, carried_of, commands_of, fates_of, fates_in, replies_of}
+use Rattle.std.specs.List.{AllByRecursion}
+use Rattle.recover.specs.Joining.{IsRunOn}
+use Rattle.command_serving.specs.Served.{Tells, as_serving, preceded}
+use Rattle.command_serving.specs.Serving.{HasNoJob, silent}
 use Rattle.command_serving.proofs.ActLemmas.{begins_at_all}
 use Rattle.sector_disk.specs.declared.sectors.Sectors as sectors
-use Rattle.command_serving.proofs.ServingLemmas.{answered_is, carried_tried, tells_as}
+use Rattle.command_serving.proofs.ServingLemmas.{answered_is, carried_refused, carried_tried, tells_as}
 use Rattle.command_serving.proofs.TryLemmas.{asked_nothing, asked_text}
 
 -- ---- what a session says that is not broken, or is
@@ -94,6 +105,10 @@ pub with_job : (g : Serving → State → Reply) (s : Serving) (j : JobValue) �
 with_job g s j whole is = when_whole s (g s s.state) whole ∙ ap (g s) is
 
 -- ---- a load
+
+-- the answer to one, by what its text spells
+abbrev pub load_reply : ℕ → Result Instance ReadFault → Serving → Reply
+load_reply seed found s = unless_broken s (load (next_fate s.fates) s seed found)
 
 load_accepted : (state : State) (p : Instance) (seed : ℕ) → refusal state (command.Load p seed) ≡ None
 load_accepted Empty p seed = refl
@@ -174,6 +189,72 @@ module _ {D : Type 0} {on : sectors.Ghosts D} (g : Serving → State → Reply) 
   pub job_stated : (text : List ℕ) → ((t : Serving) → g t (Loaded j) ≡ stated t text) → Tells on s (says g) (line text ++ line (answer_text answer.Ok)) s silent
   job_stated text tells = tells_stated s (says g) text (λ later. with_job g (as_serving s later) j whole is ∙ tells (as_serving s later))
 
+-- ---- a plan to be adopted
+
+-- what is no try, and has no fate
+no_try : (acts : List Act) → AllByRecursion IsTry acts → fates_of acts ≡ [] → acts ≡ []
+no_try [] tries none = refl
+no_try (act ∷ acts) tries none = let here : fates_in act ≡ tries.0.0 ∷ [] = tries.0.1 in absurd cc
+
+-- a refused command leaves the session as it was, and that is all that is told
+refused_stays : {D : Type 0} (on : sectors.Ghosts D) (old new : SessionValue D) (c : Command) (r : Refusal) (text : List ℕ) → old.is_broken ≡ false → refusal old.state c ≡ Some r
+    → Tells on old (λ s. plain s c) text new silent → (text ≡ line (answer_text (answer.Refused r))) × (new ≡ old)
+refused_stays on old new c r text whole refused p =
+    let a = answer.Refused r in
+    let says : answered (as_serving old (fates_of p.acts ++ [])) a ≡ preceded text (carried_of p.acts) (silent (as_serving new [])) =
+    sym (carried_refused (as_serving old (fates_of p.acts ++ [])) c (λ t. answered t answer.Ok) r whole refused) ∙ p.says [] in
+    let told : line (answer_text a) ≡ text ++ [] = ap (λ (r : Reply). r.text) says in
+    let fates : fates_of p.acts ++ [] ≡ [] = ap (λ (r : Reply). r.left.fates) says in
+    let none : p.acts ≡ [] = no_try p.acts p.asked.tries (sym (append-nil (fates_of p.acts)) ∙ fates) in
+    (sym (append-nil text) ∙ sym told, subst (λ acts. IsRunOn on old (commands_of acts) (replies_of acts) new) none p.run)
+
+module _ {D : Type 0} (reading : Reading) (bytes : List ℕ) (s : SessionValue D) (j : JobValue) (whole : s.is_broken ≡ false) (is : s.state ≡ Loaded j) where
+  -- a plan that the state accepts is answered as the command is
+  accepted : (plan : Plan) → refusal s.state (command.Adopt plan) ≡ None → (fates : List Fate) → adopt (next_fate fates) (as_serving s fates) (Ok plan) ≡ plain (as_serving s fates) (command.Adopt plan)
+  accepted plan none fates = by_fates fates ∙ sym (carried_tried (as_serving s fates) (command.Adopt plan) (λ t. answered t answer.Ok) whole none)
+    where
+      unless : (fates : List Fate) → adopted_unless (refusal s.state (command.Adopt plan)) (as_serving s fates) plan ≡ by_fate (next_fate fates) (tried (as_serving s fates)) (command.Adopt plan) (λ t. answered t answer.Ok)
+      unless fates = ap (λ r. adopted_unless r (as_serving s fates) plan) none
+
+      by_fates : (fates : List Fate) → adopt (next_fate fates) (as_serving s fates) (Ok plan) ≡ by_fate (next_fate fates) (tried (as_serving s fates)) (command.Adopt plan) (λ t. answered t answer.Ok)
+      by_fates [] = unless []
+      by_fates (Done ∷ fates) = unless (Done ∷ fates)
+      by_fates (NoMemory ∷ fates) = refl
+      by_fates (SpentFate ∷ fates) = unless (SpentFate ∷ fates)
+      by_fates (Failed ∷ fates) = unless (Failed ∷ fates)
+
+  -- the reply, as of what was read
+  of_found : (found : Result Plan Unseated) → found ≡ reading.plan j.problem j.pins bytes → (fates : List Fate) → says (adopt_on reading bytes) (as_serving s fates) ≡ adopt (next_fate fates) (as_serving s fates) found
+  of_found found e fates = with_job (adopt_on reading bytes) (as_serving s fates) j whole is ∙ ap (adopt (next_fate fates) (as_serving s fates)) (sym e)
+
+module _ {D : Type 0} {on : sectors.Ghosts D} (reading : Reading) (bytes : List ℕ) (s : SessionValue D) (j : JobValue) (whole : s.is_broken ≡ false) (is : s.state ≡ Loaded j) where
+  pub adopt_dropped : Tells on s (says (adopt_on reading bytes)) (line (answer_text (answer.Refused core.OutOfMemory))) s silent
+  adopt_dropped = tells_fate s (says (adopt_on reading bytes)) (Some false) (answer.Refused core.OutOfMemory) (λ later. with_job (adopt_on reading bytes) (as_serving s (NoMemory ∷ later)) j whole is)
+
+  pub adopt_unread : (why : Unseated) → IsPlanUnlessMemory (Err why) (reading.plan j.problem j.pins bytes) → Tells on s (says (adopt_on reading bytes)) (line (answer_text (answer.Unseated why))) s silent
+  adopt_unread why (inl e) =
+      tells_fate s (says (adopt_on reading bytes)) (Some true) (answer.Unseated why) (λ later. of_found reading bytes s j whole is (Err why) e (Done ∷ later))
+  adopt_unread why (inr none) =
+      let memory : why ≡ unseated.OutOfMemory = cc in
+      subst (λ w. Tells on s (says (adopt_on reading bytes)) (line (answer_text (answer.Unseated w))) s silent) (sym memory) adopt_dropped
+
+  pub adopt_read : (plan : Plan) (new : SessionValue D) (text : List ℕ) → IsPlanUnlessMemory (Ok plan) (reading.plan j.problem j.pins bytes) → Tells on s (λ t. plain t (command.Adopt plan)) text new silent
+      → Tells on s (says (adopt_on reading bytes)) text new silent
+  adopt_read plan new text (inr none) tells = absurd cc
+  adopt_read plan new text (inl e) tells = by (refusal s.state (command.Adopt plan)) refl
+    where
+      by : (r : Option Refusal) → refusal s.state (command.Adopt plan) ≡ r → Tells on s (says (adopt_on reading bytes)) text new silent
+      by None none =
+          tells_as s new (λ t. plain t (command.Adopt plan)) (says (adopt_on reading bytes)) silent text
+          (λ fates. of_found reading bytes s j whole is (Ok plan) e fates ∙ accepted reading bytes s j whole is plan none fates) tells
+      by (Some r) refused =
+          let stays = refused_stays on s new (command.Adopt plan) r text whole refused tells in
+          let told : Tells on s (says (adopt_on reading bytes)) (line (answer_text (answer.Refused r))) s silent =
+          tells_fate s (says (adopt_on reading bytes)) (Some true) (answer.Refused r)
+          (λ later. of_found reading bytes s j whole is (Ok plan) e (Done ∷ later) ∙ ap (λ r. adopted_unless r (as_serving s (Done ∷ later)) plan) refused) in
+          subst (λ t. Tells on s (says (adopt_on reading bytes)) t new silent) (sym stays.0)
+          (subst (λ n. Tells on s (says (adopt_on reading bytes)) (line (answer_text (answer.Refused r))) n silent) (sym stays.1) told)
+
 -- what `print` and a question tell of a job
 pub planned_is : (j : JobValue) → (unplanned_count j.problem j.plan == 0) ≡ true → (t : Serving) → printed t (Loaded j) ≡ told (next_fate t.fates) (tried t) (print_text j)
 planned_is j e t = rw e refl
@@ -183,6 +264,26 @@ unplanned_is j e t = rw e refl
 
 pub by_refusal : (j : JobValue) (q : Question) (r : Option Refusal) → question_refusal j q ≡ r → (t : Serving) → informed q t (Loaded j) ≡ told_unless r t (question_text j q)
 by_refusal j q r e t = ap (λ o. told_unless o t (question_text j q)) e
+
+pub sayable_is : (j : JobValue) → has_format j.problem ≡ true → (t : Serving) → instance_told t (Loaded j) ≡ told (next_fate t.fates) (tried t) (instance_text j.problem)
+sayable_is j e t = rw e refl
+
+pub unsayable_is : (j : JobValue) → has_format j.problem ≡ false → (t : Serving) → instance_told t (Loaded j) ≡ answered t (answer.Refused core.NoFormat)
+unsayable_is j e t = rw e refl
+
+-- the format can say a problem whose text was made, or for which memory ran out, and can't where that is told
+module _ {T : Type 0} (b : Bool) (r : Result T WriteFault) (none : b ≡ false → IsErrOf r instance_fault.NoFormat) (some : b ≡ true → IsOkUnless r instance_fault.OutOfMemory) where
+  pub sayable_ok : (x : T) → r ≡ Ok x → b ≡ true
+  sayable_ok x e = elim (cases_Bool b) [ inl t ↦ t | inr f ↦ absurd (let other : r ≡ Err instance_fault.NoFormat = none f in cc) ]
+
+  pub sayable_unmade : r ≡ Err instance_fault.OutOfMemory → b ≡ true
+  sayable_unmade e = elim (cases_Bool b) [ inl t ↦ t | inr f ↦ absurd (let other : r ≡ Err instance_fault.NoFormat = none f in cc) ]
+
+  pub unsayable_told : r ≡ Err instance_fault.NoFormat → b ≡ false
+  unsayable_told e = elim (cases_Bool b) [
+    | inl t ↦ absurd (let other : instance_fault.NoFormat ≡ instance_fault.OutOfMemory = subst (λ q. IsOkUnless q instance_fault.OutOfMemory) e (some t) in cc)
+    | inr f ↦ f
+  ]
 
 -- all are planned where the text was made or memory ran out, and some is not where that is told
 module _ {T : Type 0} (n : ℕ) (r : Result T WriteSolFault) (some : 0 < n → IsErrOf r (write.Unplanned n)) (none : n ≡ 0 → IsOkUnless r write.OutOfMemory) where

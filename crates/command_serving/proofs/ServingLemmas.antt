@@ -194,7 +194,7 @@ carried_broken : (s : Serving) (c : Command) (done : Serving → Reply) → s.is
 unfolding carried
 carried_broken s c done e = rw e refl
 
-carried_refused : (s : Serving) (c : Command) (done : Serving → Reply) (r : Refusal) → s.is_broken ≡ false → refusal s.state c ≡ Some r → carried s c done ≡ answered s (answer.Refused r)
+pub carried_refused : (s : Serving) (c : Command) (done : Serving → Reply) (r : Refusal) → s.is_broken ≡ false → refusal s.state c ≡ Some r → carried s c done ≡ answered s (answer.Refused r)
 unfolding carried
 carried_refused s c done r e f = rw (e, f) refl
 

@@ -1,12 +1,12 @@
 -- What the serving takes of an input: whole pieces, and at its end all, or a line that ends it.
 use Rattle.std.proofs.Common.{◌≡◌, ◌∙◌, ℕ, ◌+◌, ◌<◌, ◌≤◌, Bool, true, false, List, [], ◌∷◌, ◌++◌, ◌⊎◌, inl, inr, Option, Some, None, Result, Ok, Err, length, refl, sym, ap, ap₂, subst, arith, append-nil, append_assoc, length-append}
 use Rattle.std.specs.Prelude.{IfOk, IfSome, MatchResult, nat_lt, if◌then◌else◌, ⊤}
-use Rattle.plan_types.specs.declared.requests.Kind.{Kind}
+use Rattle.command_text.specs.declared.asked.Purpose.{Purpose}
 use Rattle.command_text.specs.Cutting.{Piece, announced, is_end, pieces_of}
 use Rattle.command_text.specs.Laws.{PiecesFollow, cut_at}
 use Rattle.command_text.specs.declared.asked.Asked.{Asked}
-use Rattle.command_text.specs.declared.asked.Asked.TheVariants.{Load}
-use Rattle.command_serving.specs.Input.{Between, CountsAll, CountsExactly, Cuts, CutsLine, Loads, left_of}
+use Rattle.command_text.specs.declared.asked.Asked.TheVariants.{Text}
+use Rattle.command_serving.specs.Input.{Between, CountsAll, CountsExactly, Cuts, CutsLine, TakesAll, left_of}
 use Rattle.command_serving.specs.Served.{ArePieces, IsTaken}
 use Rattle.command_serving.specs.Serving.{TakesBehind, TakesBytes, TakesKnown, TakesKnownPieces, TakesPieces, goes_behind}
 use Rattle.command_serving.specs.declared.answering.Goes.{Goes}
@@ -14,8 +14,8 @@ use Rattle.command_serving.specs.declared.answering.Goes.TheVariants.{On, ToEnd}
 use Rattle.command_serving.specs.declared.answering.ServeFault.{ServeFault}
 use Rattle.command_serving.specs.declared.answering.ServeFault.TheVariants as fault
 use Rattle.command_serving.specs.declared.input.Input.{Input}
-use Rattle.command_serving.specs.declared.input.LoadText.{LoadText}
-use Rattle.command_serving.specs.declared.input.LoadText.TheVariants.{Dropped, Short, Whole}
+use Rattle.command_serving.specs.declared.input.AnnouncedText.{AnnouncedText}
+use Rattle.command_serving.specs.declared.input.AnnouncedText.TheVariants.{Dropped, Short, Whole}
 use Rattle.command_serving.specs.declared.streams.Source as sources
 use Rattle.command_serving.proofs.AskedLemmas.{drop_front, not_short, take_front}
 use Rattle.command_serving.proofs.CutLemmas.{all_nothing}
@@ -152,22 +152,22 @@ module _ {R : Type 0} (on : sources.Ghosts R) where
     pub told_to_end : MatchResult told (λ _. r ≡ Ok ToEnd) (λ _. r ≡ Err fault.WriteFault) → is_end a false ≡ true → IfOk r (TakesBehind on line input reader input reader)
     told_to_end is ends = once_takes told r ToEnd (TakesBehind on line input reader input reader) is (line_ends line input reader (ap (λ b. is_end b false) asks_for ∙ ends))
 
-  loads_takes : (kind : Kind) (seed len : ℕ) (text : LoadText) (old new : Option (List ℕ)) → Loads len old new text → TakesKnown (Load kind seed len) (goes_behind text) old new
-  loads_takes kind seed len (Whole text) None new l = tt
-  loads_takes kind seed len (Whole text) (Some xs) None l = absurd l.0
-  loads_takes kind seed len (Whole text) (Some xs) (Some ys) l = (text.items, l.0, l.1, refl)
-  loads_takes kind seed len Dropped None new l = tt
-  loads_takes kind seed len Dropped (Some xs) None l = absurd l.1
-  loads_takes kind seed len Dropped (Some xs) (Some ys) l = (l.0, l.1, l.2, refl)
-  loads_takes kind seed len Short None new l = tt
-  loads_takes kind seed len Short (Some xs) None l = absurd l.1
-  loads_takes kind seed len Short (Some xs) (Some ys) l = inl l.3
+  text_takes : (purpose : Purpose) (len : ℕ) (text : AnnouncedText) (old new : Option (List ℕ)) → TakesAll len old new text → TakesKnown (Text purpose len) (goes_behind text) old new
+  text_takes purpose len (Whole text) None new l = tt
+  text_takes purpose len (Whole text) (Some xs) None l = absurd l.0
+  text_takes purpose len (Whole text) (Some xs) (Some ys) l = (text.items, l.0, l.1, refl)
+  text_takes purpose len Dropped None new l = tt
+  text_takes purpose len Dropped (Some xs) None l = absurd l.1
+  text_takes purpose len Dropped (Some xs) (Some ys) l = (l.0, l.1, l.2, refl)
+  text_takes purpose len Short None new l = tt
+  text_takes purpose len Short (Some xs) None l = absurd l.1
+  text_takes purpose len Short (Some xs) (Some ys) l = inl l.3
 
-  pub told_load : {E : Type 0} (told : Result ⊤ E) (r : Result Goes ServeFault) (kind : Kind) (seed len : ℕ) (text : LoadText) (goes : Goes) (a : Asked) (old new : Input) (before later : R)
-      → MatchResult told (λ _. r ≡ Ok goes) (λ _. r ≡ Err fault.WriteFault) → goes ≡ goes_behind text → a ≡ Load kind seed len → new.left ≤ old.left → CountsExactly on old before new later
-      → Between on old before new later (λ o n. Loads len o n text) → IfOk r (TakesBehind on a old before new later)
-  told_load told r kind seed len text goes a old new before later is to asks less exact loads =
+  pub told_text : {E : Type 0} (told : Result ⊤ E) (r : Result Goes ServeFault) (purpose : Purpose) (len : ℕ) (text : AnnouncedText) (goes : Goes) (a : Asked) (old new : Input) (before later : R)
+      → MatchResult told (λ _. r ≡ Ok goes) (λ _. r ≡ Err fault.WriteFault) → goes ≡ goes_behind text → a ≡ Text purpose len → new.left ≤ old.left → CountsExactly on old before new later
+      → Between on old before new later (λ o n. TakesAll len o n text) → IfOk r (TakesBehind on a old before new later)
+  told_text told r purpose len text goes a old new before later is to asks less exact loads =
       once_takes told r goes (TakesBehind on a old before new later) is
       (subst (TakesBehind on a old before new later) (sym to)
       (subst (λ d. TakesBehind on d old before new later (goes_behind text)) (sym asks)
-      (record { less = less; exact = exact; takes = λ how fits. loads_takes kind seed len text (left_of on how old before) (left_of on how new later) (loads how fits) })))
+      (record { less = less; exact = exact; takes = λ how fits. text_takes purpose len text (left_of on how old before) (left_of on how new later) (loads how fits) })))

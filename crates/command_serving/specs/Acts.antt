@@ -9,7 +9,7 @@ use Rattle.recover.specs.declared.denials.Denial.TheVariants as denial
 use Rattle.recover.specs.declared.replies.Reply.{Reply}
 use Rattle.command_serving.specs.Streams.{Event, Flushed, Put}
 
--- A command was tried, and the session gave this reply. Or memory was asked for a text, to read the one behind a `load` or to make one for
+-- A command was tried, and the session gave this reply. Or memory was asked for a text, to read the one that a line announced or to make one for
 -- `show` or `print`, and there was some or none.
 pub data Act : Type 0 where
   Applied : Command → Reply → Act

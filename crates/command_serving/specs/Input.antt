@@ -6,8 +6,8 @@ use Rattle.command_text.specs.Scanning.{scanned}
 use Rattle.std.specs.Str.Lines.{strip_carriage_return}
 use Rattle.command_text.specs.Asking.{asked}
 use Rattle.command_text.specs.declared.asked.Asked.{Asked}
-use Rattle.command_serving.specs.declared.input.LoadText.{LoadText}
-use Rattle.command_serving.specs.declared.input.LoadText.TheVariants.{Whole, Dropped, Short}
+use Rattle.command_serving.specs.declared.input.AnnouncedText.{AnnouncedText}
+use Rattle.command_serving.specs.declared.input.AnnouncedText.TheVariants.{Whole, Dropped, Short}
 use Rattle.command_serving.specs.declared.input.TextSoFar.{TextSoFar}
 use Rattle.command_serving.specs.declared.input.LineSoFar.{LineSoFar}
 use Rattle.command_serving.specs.declared.input.Input.{Input}
@@ -146,7 +146,7 @@ pub record IsTextPart (len : ℕ) (old now : Option (List ℕ)) (text : TextSoFa
   pub kept : IsTextSoFar len seen text
 
 -- so many bytes were consumed, or all that were left, and these are fewer
-abbrev pub Loads : ℕ → Option (List ℕ) → Option (List ℕ) → LoadText → Type 0
-Loads len old new (Whole text) = Consumes old new text.items × (length text.items ≡ len)
-Loads len old new Dropped = (bytes : List ℕ) × Consumes old new bytes × (length bytes ≡ len)
-Loads len old new Short = (bytes : List ℕ) × Consumes old new bytes × (length bytes < len) × OnSome old (IsAtEnd new)
+abbrev pub TakesAll : ℕ → Option (List ℕ) → Option (List ℕ) → AnnouncedText → Type 0
+TakesAll len old new (Whole text) = Consumes old new text.items × (length text.items ≡ len)
+TakesAll len old new Dropped = (bytes : List ℕ) × Consumes old new bytes × (length bytes ≡ len)
+TakesAll len old new Short = (bytes : List ℕ) × Consumes old new bytes × (length bytes < len) × OnSome old (IsAtEnd new)

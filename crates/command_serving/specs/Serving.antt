@@ -1,13 +1,11 @@
 -- What a session did and what was written, as replies say it.
-use Rattle.std.specs.Prelude.{◌≡◌, ◌≤◌, ◌++◌, ◌⊎◌, ℕ, Bool, true, false, if◌then◌else◌, List, [], length, Option, Some, None, Result, Ok, Err, MatchResult, ⊤}
-use Rattle.command_text.specs.Answering.{Reply, Serving, answered, carried_all, load, next_fate, progress_text, served, unless_broken}
+use Rattle.std.specs.Prelude.{◌≡◌, ◌≤◌, ◌++◌, ◌⊎◌, ℕ, Bool, true, false, List, [], length, Option, Some, None, Result, Ok, Err, MatchResult, ⊤}
+use Rattle.command_text.specs.Answering.{Reply, Serving, answered, carried_all, progress_text, served, text_reply, unless_broken}
 use Rattle.command_text.specs.Answers.{answer_text, line}
 use Rattle.command_text.specs.declared.answers.Answer.{Answer}
 use Rattle.command_text.specs.declared.answers.Progress.{Progress}
 use Rattle.command_text.specs.declared.answers.Answer.TheVariants as answer
 use Rattle.command_core.specs.declared.refusals.Refusal.TheVariants as refusal
-use Rattle.plan_types.specs.Instance.{Instance}
-use Rattle.instance_read.specs.declared.faults.ReadFault.{ReadFault}
 use Rattle.command_core.specs.declared.states.State.{State}
 use Rattle.command_core.specs.declared.states.State.TheVariants.{Empty}
 use Rattle.recover.specs.Applying.{IsApplied}
@@ -27,12 +25,12 @@ use Rattle.command_text.specs.declared.asked.Asked.{Asked}
 use Rattle.recover.specs.declared.denials.Denial.{Denial}
 use Rattle.recover.specs.declared.denials.Denial.TheVariants as denial
 use Rattle.command_text.specs.Readings.{Reading}
-use Rattle.plan_types.specs.declared.requests.Kind.{Kind}
+use Rattle.command_text.specs.declared.asked.Purpose.{Purpose}
 use Rattle.command_serving.specs.declared.answering.Goes.{Goes}
 use Rattle.command_serving.specs.declared.answering.Goes.TheVariants.{On, ToEnd}
 use Rattle.command_serving.specs.declared.input.Input.{Input}
-use Rattle.command_serving.specs.declared.input.LoadText.{LoadText}
-use Rattle.command_serving.specs.declared.input.LoadText.TheVariants.{Whole, Dropped, Short}
+use Rattle.command_serving.specs.declared.input.AnnouncedText.{AnnouncedText}
+use Rattle.command_serving.specs.declared.input.AnnouncedText.TheVariants.{Whole, Dropped, Short}
 
 -- what `apply` promises of a command and its reply
 abbrev pub IsAppliedOn : {D : Type 0} → sectors.Ghosts D → SessionValue D → Command → SessionReply → SessionValue D → Type 0
@@ -101,17 +99,17 @@ progress_of told s = progress_text told s.state
 abbrev pub HasNoJob : Bool → State → Answer → Type 0
 HasNoJob is_broken state a = ((is_broken ≡ true) × (a ≡ answer.Broken)) ⊎ ((is_broken ≡ false) × (state ≡ Empty) × (a ≡ answer.Refused refusal.NoInstance))
 
--- the answer to a load, by what its text spells
-abbrev pub load_reply : ℕ → Result Instance ReadFault → Serving → Reply
-load_reply seed found s = unless_broken s (load (next_fate s.fates) s seed found)
+-- the answer to a line that announces these bytes
+abbrev pub bytes_reply : Reading → Purpose → List ℕ → Serving → Reply
+bytes_reply reading purpose bytes s = unless_broken s (text_reply reading purpose bytes s)
 
--- the answer to a load whose bytes came so; the bytes themselves, where no memory was found for them
-abbrev pub load_told : LoadText → Reading → Kind → ℕ → List ℕ → Serving → Reply
-load_told Short reading kind seed bytes s = answered s answer.Truncated
-load_told Dropped reading kind seed bytes s = load_reply seed (reading kind bytes) s
-load_told (Whole text) reading kind seed bytes s = load_reply seed (reading kind text.items) s
+-- the answer to one whose bytes came so; the bytes themselves, where no memory was found for them
+abbrev pub text_told : AnnouncedText → Reading → Purpose → List ℕ → Serving → Reply
+text_told Short reading purpose bytes s = answered s answer.Truncated
+text_told Dropped reading purpose bytes s = bytes_reply reading purpose bytes s
+text_told (Whole text) reading purpose bytes s = bytes_reply reading purpose text.items s
 
-abbrev pub goes_behind : LoadText → Goes
+abbrev pub goes_behind : AnnouncedText → Goes
 goes_behind Short = ToEnd
 goes_behind _ = On
 

@@ -1,8 +1,7 @@
 //! Commands by lines of text, over a session: `serve_source`, and what it does for each kind of line.
 ghost use Rattle.std.specs.Prelude.{◌≡◌, ◌<◌, ◌++◌, ◌^◌, [], IfErr, IfOk, OnErr, OnOk, MatchResult, ℕ, List, Result, Ok, Err, Some, true, false, length};
-ghost use Rattle.plan_types.specs.Instance.{Instance};
-ghost use Rattle.instance_read.specs.declared.faults.ReadFault.{ReadFault};
-ghost use Rattle.command_text.specs.Answering.{at_line, carried_all, commands_of, informed, made_or, next_stated, plain, printed, refused, shown, steps_to_make, unless_broken};
+ghost use Rattle.plan_types.specs.declared.requests.Kind.{Kind};
+ghost use Rattle.command_text.specs.Answering.{at_line, carried_all, commands_of, informed, instance_told, made_or, next_stated, plain, printed, refused, shown, steps_to_make, unless_broken};
 ghost use Rattle.command_text.specs.Laws.{cut_at};
 ghost use Rattle.command_text.specs.Readings.{IsReading, Reading};
 ghost use Rattle.command_text.specs.Answers.{answer_text, line};
@@ -11,18 +10,18 @@ ghost use Rattle.command_serving.specs.Input.{Counts, left_of};
 ghost use Rattle.command_serving.specs.Knowing.{Fits, How};
 ghost use Rattle.command_serving.specs.Streams.{HandsOn};
 ghost use Rattle.command_serving.specs.Served.{EndsOrIsCut, HasCause, IsInputOf, IsTaken, Tells};
-ghost use Rattle.command_serving.specs.Serving.{Answers, GoesOn, HasNoJob, IsAppliedOn, IsCause, TakesBehind, denied, goes_behind, load_reply, load_told, made_text, progress_of, silent};
+ghost use Rattle.command_serving.specs.Serving.{Answers, GoesOn, HasNoJob, IsAppliedOn, IsCause, TakesBehind, bytes_reply, denied, goes_behind, made_text, progress_of, silent, text_told};
 ghost use Rattle.command_serving.specs.Stopped.{RunsLeave};
 ghost use Rattle.command_serving.specs.declared.answering.ServeFault.TheVariants.{WriteFault};
 
-use crate::hints::{Hint, log_hint};
-use crate::input::{Input, LoadText, Unread};
+use crate::hints::{Hint, log_hint, log_unseated};
+use crate::input::{AnnouncedText, Input, Unread};
 use crate::streams::{Failed, Sink, Source};
 use command_core::{Command, Job, Refusal, State};
 use command_text::{
-    Answer, Asked, Goal, Progress, Question, Steps, Text, at_line, help_lines, next_command,
-    next_line, pieces_follow, pin_line, print, progress_behind, question_refusal, question_text,
-    read_instance, show, states_follow, steps_to_make,
+    Answer, Asked, Goal, Progress, Purpose, Question, Steps, Text, at_line, help_lines,
+    next_command, next_line, pieces_follow, pin_line, print, print_instance, progress_behind,
+    question_refusal, question_text, read_instance, read_plan, show, states_follow, steps_to_make,
 };
 use log::Log;
 use plan_types::Kind;
@@ -70,7 +69,7 @@ enum Goes {
     ToEnd,
 }
 
-/// Does what each line of the input asks for, and writes its answer, until the input ends, or a `load` line leaves open
+/// Does what each line of the input asks for, and writes its answer, until the input ends, or a line that announces a text leaves open
 /// how many bytes follow it. Takes no memory to read lines.
 ///
 /// `ok` and `at` stand behind the last sync of what they acknowledge. Each try with fewer vehicles is logged as it ends. Where all of the input is served, what is written is the
@@ -162,14 +161,14 @@ fn serve_asked<L: Log, D: Sectors, R: Source, W: Sink>(
         reader.new) }
 {
     match asked {
-        Asked::Load { kind, seed, len } => {
-            let text = input.load_text(reader, len as usize)?;
+        Asked::Text { purpose, len } => {
+            let text = input.announced_text(reader, len as usize)?;
             let goes = goes_behind(&text);
-            let answer = load_answer(rt, alloc, session, kind, seed, text);
+            let answer = text_answer(rt, alloc, session, purpose, text);
             once(tell(session, writer, answer), goes)
         }
-        Asked::BadLoad => once(tell(session, writer, Answer::BadLine), Goes::ToEnd),
-        Asked::LoadRange => once(
+        Asked::BadText => once(tell(session, writer, Answer::BadLine), Goes::ToEnd),
+        Asked::TextRange => once(
             tell(session, writer, Answer::Refused(Refusal::Range)),
             Goes::ToEnd,
         ),
@@ -185,6 +184,10 @@ fn serve_asked<L: Log, D: Sectors, R: Source, W: Sink>(
         Asked::Steps(goal) => once(serve_steps(rt, alloc, session, writer, goal), Goes::On),
         Asked::Print => once(
             tell_made(session, writer, printed(alloc, session)),
+            Goes::On,
+        ),
+        Asked::PrintInstance => once(
+            tell_made(session, writer, instance_told(alloc, session)),
             Goes::On,
         ),
         Asked::Show => once(tell_made(session, writer, shown(alloc, session)), Goes::On),
@@ -380,46 +383,85 @@ fn job_of<D: Sectors>(session: &Session<D>) -> Result<&Job, Answer>
     }
 }
 
-// Whether there is more to serve behind the text of a `load`.
-fn goes_behind(text: &LoadText) -> Goes
+// Whether there is more to serve behind a text that was announced.
+fn goes_behind(text: &AnnouncedText) -> Goes
     ensures { result ≡ goes_behind text.now }
 {
     match text {
-        LoadText::Short => Goes::ToEnd,
-        LoadText::Dropped | LoadText::Whole(_) => Goes::On,
+        AnnouncedText::Short => Goes::ToEnd,
+        AnnouncedText::Dropped | AnnouncedText::Whole(_) => Goes::On,
     }
 }
 
-// What is answered to a load whose bytes came so.
-fn load_answer<L: Log, D: Sectors>(
+// What is answered to a line whose announced bytes came so.
+fn text_answer<L: Log, D: Sectors>(
     rt: &L,
     alloc: Global,
     session: &mut Session<D>,
-    kind: Kind,
-    seed: u64,
-    text: LoadText,
+    purpose: Purpose,
+    text: AnnouncedText,
 ) -> Answer
     ensures { (reading : Reading) (bytes : List ℕ) → IsReading reading
-        → Tells D.Sectors session.old (load_told text reading kind seed bytes)
+        → Tells D.Sectors session.old (text_told text reading purpose bytes)
         (line (answer_text result)) session.new silent }
 {
     match text {
-        LoadText::Short => Answer::Truncated,
-        LoadText::Dropped => dropped(session),
-        LoadText::Whole(text) => loaded(rt, alloc, session, kind, seed, &text),
+        AnnouncedText::Short => Answer::Truncated,
+        AnnouncedText::Dropped => dropped(session, purpose),
+        AnnouncedText::Whole(text) => bytes_answer(rt, alloc, session, purpose, &text),
     }
 }
 
 // What is answered to a text for which no memory was found.
-fn dropped<D: Sectors>(session: &Session<D>) -> Answer
-    ensures { (seed : ℕ) (found : Result Instance ReadFault)
-        → Tells D.Sectors session.now (load_reply seed found)
+fn dropped<D: Sectors>(session: &Session<D>, purpose: Purpose) -> Answer
+    ensures { (reading : Reading) (bytes : List ℕ)
+        → Tells D.Sectors session.now (bytes_reply reading purpose bytes)
+        (line (answer_text result)) session.now silent }
+{
+    match purpose {
+        Purpose::Load { .. } => unloaded(session),
+        Purpose::Adopt => unadopted(session),
+    }
+}
+
+fn unloaded<D: Sectors>(session: &Session<D>) -> Answer
+    ensures { (reading : Reading) (kind : Kind) (seed : ℕ) (bytes : List ℕ)
+        → Tells D.Sectors session.now (bytes_reply reading (Purpose.Load kind seed) bytes)
         (line (answer_text result)) session.now silent }
 {
     if session.is_broken() {
         Answer::Broken
     } else {
         Answer::Refused(Refusal::OutOfMemory)
+    }
+}
+
+fn unadopted<D: Sectors>(session: &Session<D>) -> Answer
+    ensures { (reading : Reading) (bytes : List ℕ)
+        → Tells D.Sectors session.now (bytes_reply reading Purpose.Adopt bytes)
+        (line (answer_text result)) session.now silent }
+{
+    match job_of(session) {
+        Ok(_) => Answer::Refused(Refusal::OutOfMemory),
+        Err(answer) => answer,
+    }
+}
+
+// Does what a text is for.
+fn bytes_answer<L: Log, D: Sectors>(
+    rt: &L,
+    alloc: Global,
+    session: &mut Session<D>,
+    purpose: Purpose,
+    text: &[u8],
+) -> Answer
+    ensures { (reading : Reading) → IsReading reading
+        → Tells D.Sectors session.old (bytes_reply reading purpose text.now)
+        (line (answer_text result)) session.new silent }
+{
+    match purpose {
+        Purpose::Load { kind, seed } => loaded(rt, alloc, session, kind, seed, text),
+        Purpose::Adopt => adopted(rt, alloc, session, text),
     }
 }
 
@@ -433,7 +475,7 @@ fn loaded<L: Log, D: Sectors>(
     text: &[u8],
 ) -> Answer
     ensures { (reading : Reading) → IsReading reading
-        → Tells D.Sectors session.old (load_reply seed (reading kind text.now))
+        → Tells D.Sectors session.old (bytes_reply reading (Purpose.Load kind seed) text.now)
         (line (answer_text result)) session.new silent }
 {
     if session.is_broken() {
@@ -442,6 +484,30 @@ fn loaded<L: Log, D: Sectors>(
     match read_instance(alloc, kind, text) {
         Ok(problem) => applied(rt, alloc, session, Command::Load(problem, seed)),
         Err(fault) => Answer::Read(fault),
+    }
+}
+
+// Reads the solution and takes its plan over.
+fn adopted<L: Log, D: Sectors>(
+    rt: &L,
+    alloc: Global,
+    session: &mut Session<D>,
+    text: &[u8],
+) -> Answer
+    ensures { (reading : Reading) → IsReading reading
+        → Tells D.Sectors session.old (bytes_reply reading Purpose.Adopt text.now)
+        (line (answer_text result)) session.new silent }
+{
+    let job = match job_of(session) {
+        Ok(job) => job,
+        Err(answer) => return answer,
+    };
+    match read_plan(alloc, job, text) {
+        Ok(plan) => applied(rt, alloc, session, Command::Adopt(plan)),
+        Err(why) => {
+            log_unseated(rt, why);
+            Answer::Unseated(why)
+        }
     }
 }
 
@@ -535,6 +601,20 @@ fn printed<D: Sectors>(alloc: Global, session: &Session<D>) -> Result<Text, Answ
         Ok(text) => Ok(text),
         Err(WriteSolFault::Unplanned(_)) => Err(Answer::Unplanned),
         Err(WriteSolFault::OutOfMemory) => Err(Answer::Refused(Refusal::OutOfMemory)),
+    }
+}
+
+fn instance_told<D: Sectors>(alloc: Global, session: &Session<D>) -> Result<Text, Answer>
+    ensures { Tells D.Sectors session.now (λ s. unless_broken s (instance_told s s.state))
+        (made_text result) session.now silent }
+{
+    let job = job_of(session)?;
+    match print_instance(alloc, job) {
+        Ok(text) => Ok(text),
+        Err(instance_text::WriteFault::NoFormat) => Err(Answer::Refused(Refusal::NoFormat)),
+        Err(instance_text::WriteFault::OutOfMemory) => {
+            Err(Answer::Refused(Refusal::OutOfMemory))
+        }
     }
 }
 

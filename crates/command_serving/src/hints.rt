@@ -1,9 +1,11 @@
-//! What is logged beside the answer to a command, for people: whom a build leaves out, and why a request can't be withdrawn. No clause
+//! What is logged beside the answer to a command, for people: whom a build leaves out, why a request can't be withdrawn, and whose
+//! pin no route of a solution begins with. No clause
 //! speaks of it, and where memory for it is refused it is left out.
 
 use command_core::{Command, Job, Refusal, State, unplanned_names};
 use command_text::Answer;
 use log::{Log, info};
+use plan_seats::Unseated;
 use plan_types::{Problem, Request, Route};
 use recover::Session;
 use sector_disk::Sectors;
@@ -50,6 +52,13 @@ pub(crate) fn log_hint<L: Log, D: Sectors>(
         }
         (Hint::Withdrawal(name), Answer::Refused(Refusal::Pinned)) => log_pin(rt, job, name),
         _ => {}
+    }
+}
+
+/// Logs which vehicle's pin no route of a solution begins with.
+pub(crate) fn log_unseated<L: Log>(rt: &L, why: Unseated) {
+    if let Unseated::Pinned(vehicle) = why {
+        info!(rt; "adopt: no route that is left begins with the pin of vehicle {vehicle}");
     }
 }
 

@@ -5,7 +5,7 @@
 ghost use Rattle.std.specs.Prelude.{◌≡◌, ◌≤◌, ◌<◌, ◌+◌, ◌-◌, ◌++◌, IfOk, MatchResult, OnErr, OnOk, OnSome, ℕ, List, [], length};
 ghost use Rattle.std.specs.Str.Lines.{strip_carriage_return};
 ghost use Rattle.command_text.specs.Asking.{asked};
-ghost use Rattle.command_serving.specs.Input.{Between, Counts, CountsExactly, CutsNext, EndsFree, IsLast, IsLineSoFar, IsTextSoFar, IsUnread, Loads, TakesLess, TakesMore, TakesPart, TakesShown, TakesText};
+ghost use Rattle.command_serving.specs.Input.{Between, Counts, CountsExactly, CutsNext, EndsFree, IsLast, IsLineSoFar, IsTextSoFar, IsUnread, TakesAll, TakesLess, TakesMore, TakesPart, TakesShown, TakesText};
 
 use crate::ahead::Ahead;
 use crate::streams::{Failed, Source};
@@ -63,8 +63,8 @@ impl LineSoFar {
         if self.kept.len() < KEPT {
             return read_line(without_return(self.kept.as_slice()));
         }
-        if self.first_word.is_load() {
-            Asked::BadLoad
+        if self.first_word.announces_text() {
+            Asked::BadText
         } else {
             Asked::BadLine
         }
@@ -129,7 +129,7 @@ fn take_part(ahead: &mut Ahead, line: &mut LineSoFar) -> Part
     }
 }
 
-/// The text behind a `load` line, so far. Where no memory is found for it, its bytes are dropped.
+/// The text that a line announced, so far. Where no memory is found for it, its bytes are dropped.
 #[derive(Drop)]
 pub(crate) struct TextSoFar {
     bytes: Vec<u8>,
@@ -179,9 +179,9 @@ fn take_text(ahead: &mut Ahead, text: &mut TextSoFar) -> usize
     taken
 }
 
-/// What came of the bytes behind a `load` line.
+/// What came of the bytes that a line announced.
 #[derive(Drop)]
-pub(crate) enum LoadText {
+pub(crate) enum AnnouncedText {
     Whole(Vec<u8>),
     /// They came, but no memory was found for them.
     Dropped,
@@ -262,13 +262,13 @@ impl Input {
     }
 
     /// The next `len` bytes.
-    pub(crate) fn load_text<R: Source>(
+    pub(crate) fn announced_text<R: Source>(
         &mut self,
         reader: &mut R,
         len: usize,
-    ) -> Result<LoadText, Unread>
-        ensures loads { IfOk result (λ text. Between R.Source self.old reader.old
-            self.new reader.new (λ old new. Loads len old new text)) }
+    ) -> Result<AnnouncedText, Unread>
+        ensures takes { IfOk result (λ text. Between R.Source self.old reader.old
+            self.new reader.new (λ old new. TakesAll len old new text)) }
         ensures counted { Counts R.Source self.old reader.old self.new reader.new }
         ensures exact { OnOk result
             (CountsExactly R.Source self.old reader.old self.new reader.new) }
@@ -278,13 +278,13 @@ impl Input {
         let mut text = TextSoFar::new(self.alloc, len);
         while text.left > 0 {
             if !self.take_more(reader, &mut text)? {
-                return Ok(LoadText::Short);
+                return Ok(AnnouncedText::Short);
             }
         }
         if text.is_whole {
-            Ok(LoadText::Whole(text.bytes))
+            Ok(AnnouncedText::Whole(text.bytes))
         } else {
-            Ok(LoadText::Dropped)
+            Ok(AnnouncedText::Dropped)
         }
     }
 

@@ -7,8 +7,8 @@
 //! Source: this project's own. What lines ask for and what is answered is `command_text`'s.
 //!
 //! How it works: bytes are read in blocks of 8,192, a line is kept up to 1,026 bytes in an array, and of a longer
-//! one only what tells whether its first word is `load`. So lines take no memory, and no want of it looks like a
-//! reader that failed; the text behind a `load` does. `ok` and `at` are written behind the last sync of what they
+//! one only what tells whether its first word announces a text. So lines take no memory, and no want of it looks like a
+//! reader that failed; the text that a line announces does. `ok` and `at` are written behind the last sync of what they
 //! acknowledge, and each answer is flushed. Each call of a sink is handed the session, so that clauses see what was put and
 //! flushed when how many calls of the device had finished. What reads of a source gave is noted, for clauses alone.
 //!

@@ -28,7 +28,7 @@ use Rattle.command_text.proofs.StagingLemmas.{due, no_load, none_is, some_is, st
 
 -- ---- what is carried out is a first part
 
-record IsCutAt (begun_at : State) (commands : List Command) (left : State) : Type 0 where
+pub record IsCutAt (begun_at : State) (commands : List Command) (left : State) : Type 0 where
   pub count : ℕ
   pub is : left ≡ after begun_at (take count commands)
 
@@ -56,7 +56,7 @@ unfolding carried
 carried_cut s c cs done rest =
     broken_cut s.is_broken s (c ∷ cs) _ (unless_refused (refusal s.state c) s c done) (at_none s.state (c ∷ cs)) (refused_cut (refusal s.state c) s c cs done rest)
 
-all_cut : (s : Serving) (cs : List Command) → IsCutAt s.state cs (carried_all s cs).left.state
+pub all_cut : (s : Serving) (cs : List Command) → IsCutAt s.state cs (carried_all s cs).left.state
 unfolding carried_all
 all_cut s [] = at_none s.state []
 all_cut s (c ∷ cs) = carried_cut s c cs (λ t. with_text (told_behind c t.state) (carried_all t cs)) (λ t. all_cut t cs)
@@ -67,7 +67,7 @@ carried_whole : (s : State) (c : Command) (done : Serving → Reply) → refusal
 unfolding carried
 carried_whole s c done free = ap (λ r. (unless_refused r (begun s []) c done).left) free
 
-all_whole : (s : State) (cs : List Command) → AreAccepted s cs → (carried_all (begun s []) cs).left.state ≡ after s cs
+pub all_whole : (s : State) (cs : List Command) → AreAccepted s cs → (carried_all (begun s []) cs).left.state ≡ after s cs
 unfolding carried_all
 all_whole s [] accepted = refl
 all_whole s (c ∷ cs) accepted =

@@ -6,6 +6,8 @@ use Rattle.plan_types.specs.declared.requests.Kind.TheVariants.{LiLim, Vrp}
 use Rattle.instance_read.specs.Readable.{IsOneWay, SpellsOrFails, TextsAreRead, TextsAreReadOneWay}
 use Rattle.instance_read.specs.declared.faults.ReadFault.{ReadFault}
 use Rattle.instance_read.specs.Readings.{InstanceFault, IsFound, SpellsInstance}
+use Rattle.instance_read.specs.Readings.{Reading as InstanceReading, IsReading as IsInstanceReading}
+use Rattle.plan_seats.specs.Laws.{SeatingsAgree, SomeSeatingIs}
 use Rattle.command_text.specs.Laws.{ReadingsAgree, SomeReadingIs}
 
 abbrev Reads : Kind → List ℕ → Type 0
@@ -25,8 +27,13 @@ module _ (law : TextsAreRead) where
   is_found kind text (inl spelled) = spelled.1
   is_found kind text (inr first) = first.1
 
-  pub some_reading : SomeReadingIs
-  some_reading = ((λ kind text. read_as kind text (reads kind text)), (λ kind text. is_found kind text (reads kind text)))
+  some_instances : (reading : InstanceReading) × IsInstanceReading reading
+  some_instances = ((λ kind text. read_as kind text (reads kind text)), (λ kind text. is_found kind text (reads kind text)))
+
+pub some_reading : TextsAreRead → SomeSeatingIs → SomeReadingIs
+some_reading law seats =
+    let instances = some_instances law in
+    (record { instance = instances.0; plan = seats.0 }, record { instances = instances.1; plans = seats.1 })
 
 module _ (law : TextsAreReadOneWay) where
   one_way : (kind : Kind) (text : List ℕ) → IsOneWay (SpellsInstance kind text) (InstanceFault kind text)
@@ -39,5 +46,8 @@ module _ (law : TextsAreReadOneWay) where
   same kind text (Err f) (Ok p) a b = absurd ((one_way kind text).either p f b a)
   same kind text (Err f) (Err g) a b = ap (λ x. Err x) ((one_way kind text).faults f g a b)
 
-  pub readings_agree : ReadingsAgree
-  readings_agree reading other a b kind text = same kind text (reading kind text) (other kind text) (a kind text) (b kind text)
+pub readings_agree : TextsAreReadOneWay → SeatingsAgree → ReadingsAgree
+readings_agree law seats reading other a b = record {
+  instances = λ kind text. same law kind text (reading.instance kind text) (other.instance kind text) (a.instances kind text) (b.instances kind text);
+  plans = λ p pins text valid. seats p pins text (reading.plan p pins text) (other.plan p pins text) (a.plans p pins text valid) (b.plans p pins text valid);
+}

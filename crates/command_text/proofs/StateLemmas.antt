@@ -11,17 +11,24 @@ use Rattle.command_core.specs.declared.states.State.TheVariants.{Empty, Loaded}
 use Rattle.command_core.specs.declared.commands.Command.{Command}
 use Rattle.command_core.specs.declared.commands.Command.TheVariants as command
 use Rattle.command_core.specs.declared.refusals.Refusal.{Refusal}
-use Rattle.command_text.specs.Answering.{Fate, Done, NoMemory, Spent, Failed, Serving, Reply, answered, by_fate, carried, informed, load, loaded, next_fate, next_stated, asked_reply, printed, refused, reply, steps_to_make, commands_of, carried_all, made_or, served, shown, told, told_behind, told_unless, tried, unless_broken, unless_refused, with_text}
+use Rattle.command_text.specs.Answering.{Fate, Done, NoMemory, Spent, Failed, Serving, Reply, answered, by_fate, carried, informed, load, loaded, next_fate, next_stated, asked_reply, printed, refused, reply, steps_to_make, commands_of, carried_all, made_or, served, shown, told, told_behind, told_unless, tried, unless_broken, unless_refused, with_text, instance_told, adopt, adopt_on, adopted, adopted_unless, text_reply}
 use Rattle.command_text.specs.Cutting.{Piece, is_short}
 use Rattle.command_text.specs.Laws.{StatesFollow}
 use Rattle.command_text.specs.Questions.{question_refusal, question_text}
-use Rattle.instance_read.specs.Readings.{Reading}
+use Rattle.command_text.specs.Readings.{Reading}
+use Rattle.instance_text.specs.Formats.{has_format}
+use Rattle.instance_text.specs.Texts.{instance_text}
+use Rattle.command_core.specs.declared.refusals.Refusal.TheVariants.{NoFormat}
+use Rattle.plan_types.specs.declared.plans.Plan.{Plan}
+use Rattle.plan_seats.specs.declared.faults.Unseated.{Unseated}
+use Rattle.command_text.specs.declared.asked.Purpose.{Purpose}
+use Rattle.command_text.specs.declared.asked.Purpose.TheVariants as purpose
 use Rattle.command_text.specs.Showing.{print_text, show_text}
 use Rattle.command_text.specs.declared.answers.Answer.TheVariants as answer
 use Rattle.command_text.specs.declared.asked.Asked.{Asked}
 use Rattle.command_text.specs.declared.questions.Question.{Question}
 use Rattle.command_text.specs.declared.steps.Steps.{Steps as StepsLeft}
-use Rattle.command_text.specs.declared.asked.Asked.TheVariants.{Nothing, BadLine, BadLoad, LoadRange, Load, Plain, Refused, Steps, Print, Show, Tell, Next, Help}
+use Rattle.command_text.specs.declared.asked.Asked.TheVariants.{Nothing, BadLine, BadText, TextRange, Text, Plain, Refused, Steps, Print, PrintInstance, Show, Tell, Next, Help}
 
 abbrev Follows : Serving → Reply → Type 0
 Follows s r = r.left.state ≡ after s.state r.commands
@@ -68,6 +75,11 @@ prints s Empty = refl
 prints s (Loaded j) =
     one_of (unplanned_count j.problem j.plan == 0) s (told (next_fate s.fates) (tried s) (print_text j)) (answered s answer.Unplanned) (tells (next_fate s.fates) (tried s) (print_text j)) refl
 
+tells_instance : (s : Serving) (state : State) → Follows s (instance_told s state)
+tells_instance s Empty = refl
+tells_instance s (Loaded j) =
+    one_of (has_format j.problem) s (told (next_fate s.fates) (tried s) (instance_text j.problem)) (answered s (answer.Refused NoFormat)) (tells (next_fate s.fates) (tried s) (instance_text j.problem)) refl
+
 tells_unless : (r : Option Refusal) (s : Serving) (text : List ℕ) → Follows s (told_unless r s text)
 tells_unless (Some r) s text = refl
 tells_unless None s text = tells (next_fate s.fates) (tried s) text
@@ -94,21 +106,44 @@ loads NoMemory s seed found = refl
 loads Spent s seed found = is_loaded s seed found
 loads Failed s seed found = is_loaded s seed found
 
+adopts_unless : (r : Option Refusal) (s : Serving) (plan : Plan) → Follows s (adopted_unless r s plan)
+adopts_unless (Some r) s plan = refl
+adopts_unless None s plan = with_fate (next_fate s.fates) (tried s) (command.Adopt plan) (λ t. answered t answer.Ok) (λ t. refl)
+
+is_adopted : (s : Serving) (found : Result Plan Unseated) → Follows s (adopted s found)
+is_adopted s (Ok plan) = adopts_unless (refusal s.state (command.Adopt plan)) s plan
+is_adopted s (Err why) = refl
+
+adopts : (fate : Fate) (s : Serving) (found : Result Plan Unseated) → Follows s (adopt fate s found)
+adopts Done s found = is_adopted s found
+adopts NoMemory s found = refl
+adopts Spent s found = is_adopted s found
+adopts Failed s found = is_adopted s found
+
+adopts_on : (reading : Reading) (text : List ℕ) (s : Serving) (state : State) → Follows s (adopt_on reading text s state)
+adopts_on reading text s Empty = refl
+adopts_on reading text s (Loaded j) = adopts (next_fate s.fates) s (reading.plan j.problem j.pins text)
+
+takes : (reading : Reading) (purpose : Purpose) (text : List ℕ) (s : Serving) → Follows s (text_reply reading purpose text s)
+takes reading (purpose.Load kind seed) text s = loads (next_fate s.fates) s seed (reading.instance kind text)
+takes reading purpose.Adopt text s = adopts_on reading text s s.state
+
 unbroken : (s : Serving) (r : Reply) → Follows s r → Follows s (unless_broken s r)
 unbroken s r follows = one_of s.is_broken s (answered s answer.Broken) r refl follows
 
 answers : (reading : Reading) (s : Serving) (a : Asked) (text : List ℕ) (short : Bool) → Follows s (asked_reply reading s a text short)
 answers reading s Nothing text short = refl
 answers reading s BadLine text short = refl
-answers reading s BadLoad text short = refl
-answers reading s LoadRange text short = refl
-answers reading s (Load kind seed len) text short =
-    one_of short s (answered s answer.Truncated) (unless_broken s (load (next_fate s.fates) s seed (reading kind text))) refl
-    (unbroken s (load (next_fate s.fates) s seed (reading kind text)) (loads (next_fate s.fates) s seed (reading kind text)))
+answers reading s BadText text short = refl
+answers reading s TextRange text short = refl
+answers reading s (Text purpose len) text short =
+    one_of short s (answered s answer.Truncated) (unless_broken s (text_reply reading purpose text s)) refl
+    (unbroken s (text_reply reading purpose text s) (takes reading purpose text s))
 answers reading s (Plain c) text short = carries s c (λ t. answered t answer.Ok) (λ t. refl)
 answers reading s (Refused r) text short = unbroken s (refused s s.state r) (refuses s s.state r)
 answers reading s (Steps g) text short = unbroken s (made_or s (steps_to_make s.state g)) (makes_or s (steps_to_make s.state g))
 answers reading s Print text short = unbroken s (printed s s.state) (prints s s.state)
+answers reading s PrintInstance text short = unbroken s (instance_told s s.state) (tells_instance s s.state)
 answers reading s Show text short = unbroken s (shown s s.state) (shows s s.state)
 answers reading s (Tell q) text short = unbroken s (informed q s s.state) (informs q s s.state)
 answers reading s Next text short = unbroken s (next_stated s s.state) (states_next s s.state)

@@ -5,6 +5,8 @@ use Rattle.plan_types.specs.declared.requests.Kind.{Kind}
 use Rattle.plan_types.specs.declared.requests.Kind.TheVariants.{LiLim, Vrp}
 use Rattle.route_sched.specs.Cost.{unplanned_count}
 use Rattle.instance_read.specs.declared.faults.ReadFault.{ReadFault}
+use Rattle.instance_text.specs.Formats.{has_format}
+use Rattle.instance_text.specs.Texts.{instance_text}
 use Rattle.command_core.specs.Commands.{makes_steps}
 use Rattle.command_core.specs.Effects.{effect}
 use Rattle.command_core.specs.Job.{JobValue}
@@ -14,12 +16,14 @@ use Rattle.command_core.specs.declared.states.State.TheVariants.{Empty, Loaded}
 use Rattle.command_core.specs.declared.commands.Command.{Command}
 use Rattle.command_core.specs.declared.commands.Command.TheVariants as command
 use Rattle.command_core.specs.declared.refusals.Refusal.{Refusal}
-use Rattle.command_core.specs.declared.refusals.Refusal.TheVariants.{NoInstance, Range, StepsSpent, NoTimes, OutOfMemory}
+use Rattle.command_core.specs.declared.refusals.Refusal.TheVariants.{NoInstance, Range, StepsSpent, NoTimes, NoFormat, OutOfMemory}
+use Rattle.plan_types.specs.declared.plans.Plan.{Plan}
+use Rattle.plan_seats.specs.declared.faults.Unseated.{Unseated}
 use Rattle.command_text.specs.Answers.{answer_text, at_text, help_text, line, next_text, pin_text}
 use Rattle.command_text.specs.Cutting.{Piece, is_short, pieces_of}
 use Rattle.command_text.specs.Freezing.{freeze_commands}
 use Rattle.command_text.specs.Questions.{question_refusal, question_text}
-use Rattle.instance_read.specs.Readings.{Reading}
+use Rattle.command_text.specs.Readings.{Reading}
 use Rattle.command_text.specs.Showing.{print_text, show_text}
 use Rattle.command_text.specs.Staging.{commands_in_stage, stage_commands}
 use Rattle.command_text.specs.declared.answers.Answer.{Answer}
@@ -27,7 +31,9 @@ use Rattle.command_text.specs.declared.answers.Answer.TheVariants as answer
 use Rattle.command_text.specs.declared.answers.Progress.{Progress}
 use Rattle.command_text.specs.declared.answers.Progress.TheVariants as progress
 use Rattle.command_text.specs.declared.asked.Asked.{Asked}
-use Rattle.command_text.specs.declared.asked.Asked.TheVariants.{Nothing, BadLine, BadLoad, LoadRange, Load, Plain, Refused, Steps, Print, Show, Tell, Next, Help}
+use Rattle.command_text.specs.declared.asked.Purpose.{Purpose}
+use Rattle.command_text.specs.declared.asked.Purpose.TheVariants as purpose
+use Rattle.command_text.specs.declared.asked.Asked.TheVariants.{Nothing, BadLine, BadText, TextRange, Text, Plain, Refused, Steps, Print, PrintInstance, Show, Tell, Next, Help}
 use Rattle.command_text.specs.declared.questions.Question.{Question}
 use Rattle.command_text.specs.declared.steps.Goal.{Goal}
 use Rattle.command_text.specs.declared.steps.Goal.TheVariants as goal
@@ -35,7 +41,7 @@ use Rattle.command_text.specs.declared.steps.Steps.{Steps as StepsLeft}
 use Rattle.command_text.specs.declared.steps.Steps.TheVariants as makes
 
 -- What became of a try: it was done; memory was refused; there is no room left in the store; the device failed. A try is a command that session
--- and state accept, the text of a `load`, or a line that has something to tell, as `show` and `timetable`.
+-- and state accept, the text that a line announces, or a line that has something to tell, as `show` and `timetable`.
 pub data Fate : Type 0 where
   Done : Fate
   NoMemory : Fate
@@ -192,6 +198,11 @@ printed s Empty = answered s (answer.Refused NoInstance)
 printed s (Loaded j) =
     if unplanned_count j.problem j.plan == 0 then told (next_fate s.fates) (tried s) (print_text j) else answered s answer.Unplanned
 
+-- the problem as the text of an instance, where the format of its kind can say it
+abbrev pub instance_told : Serving → State → Reply
+instance_told s Empty = answered s (answer.Refused NoInstance)
+instance_told s (Loaded j) = if has_format j.problem then told (next_fate s.fates) (tried s) (instance_text j.problem) else answered s (answer.Refused NoFormat)
+
 -- what a job is asked, unless it refuses to tell it
 abbrev pub told_unless : Option Refusal → Serving → List ℕ → Reply
 told_unless (Some r) s text = answered s (answer.Refused r)
@@ -219,6 +230,31 @@ abbrev pub load : Fate → Serving → ℕ → Result Instance ReadFault → Rep
 load NoMemory s seed found = answered (tried s) (answer.Refused OutOfMemory)
 load _ s seed found = loaded s seed found
 
+-- a plan that was read: the state may refuse it, as it does a command; the text was the try
+abbrev pub adopted_unless : Option Refusal → Serving → Plan → Reply
+adopted_unless (Some r) s plan = answered (tried s) (answer.Refused r)
+adopted_unless None s plan = by_fate (next_fate s.fates) (tried s) (command.Adopt plan) (λ t. answered t answer.Ok)
+
+-- the text of a plan to be adopted, by what it is
+abbrev pub adopted : Serving → Result Plan Unseated → Reply
+adopted s (Ok plan) = adopted_unless (refusal s.state (command.Adopt plan)) s plan
+adopted s (Err why) = answered (tried s) (answer.Unseated why)
+
+-- want of memory comes before what is wrong with the text, as of a load
+abbrev pub adopt : Fate → Serving → Result Plan Unseated → Reply
+adopt NoMemory s found = answered (tried s) (answer.Refused OutOfMemory)
+adopt _ s found = adopted s found
+
+-- a plan is of a problem with its pins
+abbrev pub adopt_on : Reading → List ℕ → Serving → State → Reply
+adopt_on reading text s Empty = answered s (answer.Refused NoInstance)
+adopt_on reading text s (Loaded j) = adopt (next_fate s.fates) s (reading.plan j.problem j.pins text)
+
+-- the text that a line announces, by what it is for
+abbrev pub text_reply : Reading → Purpose → List ℕ → Serving → Reply
+text_reply reading (purpose.Load kind seed) text s = load (next_fate s.fates) s seed (reading.instance kind text)
+text_reply reading purpose.Adopt text s = adopt_on reading text s s.state
+
 -- the answer of a session, unless it is broken
 abbrev pub unless_broken : Serving → Reply → Reply
 unless_broken s r = if s.is_broken then answered s answer.Broken else r
@@ -227,14 +263,14 @@ unless_broken s r = if s.is_broken then answered s answer.Broken else r
 abbrev pub asked_reply : Reading → Serving → Asked → List ℕ → Bool → Reply
 asked_reply reading s Nothing text short = record { text = []; commands = []; left = s }
 asked_reply reading s BadLine text short = answered s answer.BadLine
-asked_reply reading s BadLoad text short = answered s answer.BadLine
-asked_reply reading s LoadRange text short = answered s (answer.Refused Range)
-asked_reply reading s (Load kind seed len) text short =
-    if short then answered s answer.Truncated else unless_broken s (load (next_fate s.fates) s seed (reading kind text))
+asked_reply reading s BadText text short = answered s answer.BadLine
+asked_reply reading s TextRange text short = answered s (answer.Refused Range)
+asked_reply reading s (Text purpose len) text short = if short then answered s answer.Truncated else unless_broken s (text_reply reading purpose text s)
 asked_reply reading s (Plain c) text short = plain s c
 asked_reply reading s (Refused r) text short = unless_broken s (refused s s.state r)
 asked_reply reading s (Steps g) text short = unless_broken s (made_or s (steps_to_make s.state g))
 asked_reply reading s Print text short = unless_broken s (printed s s.state)
+asked_reply reading s PrintInstance text short = unless_broken s (instance_told s s.state)
 asked_reply reading s Show text short = unless_broken s (shown s s.state)
 asked_reply reading s (Tell q) text short = unless_broken s (informed q s s.state)
 asked_reply reading s Next text short = unless_broken s (next_stated s s.state)

@@ -7,9 +7,14 @@ use Rattle.command_core.specs.Names.{refusal_name}
 use Rattle.instance_read.specs.Names.{kind_name}
 use Rattle.instance_read.specs.declared.faults.ReadFaultKind.{ReadFaultKind}
 use Rattle.instance_read.specs.declared.faults.ReadFaultKind.TheVariants.{OutOfMemory}
+use Rattle.sol_text.specs.Names.{kind_name as sol_name}
+use Rattle.sol_text.specs.declared.faults.SolFaultKind.{SolFaultKind}
+use Rattle.sol_text.specs.declared.faults.SolFaultKind.TheVariants as sol
+use Rattle.plan_seats.specs.declared.faults.Unseated.{Unseated as UnseatedBy}
+use Rattle.plan_seats.specs.declared.faults.Unseated.TheVariants as unseated
 use Rattle.command_text.specs.declared.help.TheConstants.{HELP}
 use Rattle.command_text.specs.declared.answers.Answer.{Answer}
-use Rattle.command_text.specs.declared.answers.Answer.TheVariants.{Ok, BadLine, Truncated, Broken, Refused, Read, Unplanned, Spent, DeviceFault}
+use Rattle.command_text.specs.declared.answers.Answer.TheVariants.{Ok, BadLine, Truncated, Broken, Refused, Read, Unseated, Unplanned, Spent, DeviceFault}
 
 -- with its line feed
 abbrev pub line : List ℕ → List ℕ
@@ -24,7 +29,23 @@ abbrev pub read_text : ReadFaultKind → ℕ → List ℕ
 read_text OutOfMemory number = no_text (codes "OutOfMemory")
 read_text kind number = no_text (kind_name kind) ++ codes " " ++ decimal number
 
--- the line that ends the answer to a command, without its line feed
+-- a fault of a solution's text: `no NAME LINE`; want of memory is in no line
+abbrev pub sol_fault_text : SolFaultKind → ℕ → List ℕ
+sol_fault_text sol.OutOfMemory number = no_text (codes "OutOfMemory")
+sol_fault_text kind number = no_text (sol_name kind) ++ codes " " ++ decimal number
+
+-- the rule that a solution breaks: `broken RULE route R place P stop S`
+abbrev pub broken_text : ℕ → ℕ → ℕ → ℕ → List ℕ
+broken_text rule route place stop = codes "broken " ++ decimal rule ++ codes " route " ++ decimal route ++ codes " place " ++ decimal place ++ codes " stop " ++ decimal stop
+
+-- why a solution is no plan: its text's fault; the auditor's line and, as a second one, `no NotAPlan`; or `no Pinned`
+abbrev pub unseated_text : UnseatedBy → List ℕ
+unseated_text (unseated.Sol fault) = sol_fault_text fault.kind fault.line
+unseated_text (unseated.Broken rule route place stop) = line (broken_text rule route place stop) ++ no_text (codes "NotAPlan")
+unseated_text (unseated.Pinned vehicle) = no_text (codes "Pinned")
+unseated_text unseated.OutOfMemory = no_text (codes "OutOfMemory")
+
+-- the line that ends the answer to a command, without its line feed; where the auditor is asked, the line before it too
 abbrev pub answer_text : Answer → List ℕ
 answer_text Ok = codes "ok"
 answer_text BadLine = no_text (codes "BadLine")
@@ -32,6 +53,7 @@ answer_text Truncated = no_text (codes "Truncated")
 answer_text Broken = no_text (codes "Broken")
 answer_text (Refused refusal) = no_text (refusal_name refusal)
 answer_text (Read fault) = read_text fault.kind fault.line
+answer_text (Unseated why) = unseated_text why
 answer_text Unplanned = no_text (codes "Unplanned")
 answer_text Spent = no_text (codes "Spent")
 answer_text DeviceFault = codes "fault device"

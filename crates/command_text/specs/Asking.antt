@@ -1,5 +1,5 @@
 -- What a line of the command text asks for. A line has neither its line feed nor the one carriage return before it.
-use Rattle.std.specs.Prelude.{ℕ, ◌^◌, ◌&&◌, Bool, false, nat_le, int_le, int_lt, if◌then◌else◌, List, [], ◌∷◌, length, codes, bytes_eq, ℤ, pos, negsuc, Option, Some, None}
+use Rattle.std.specs.Prelude.{ℕ, ◌^◌, ◌&&◌, ◌||◌, Bool, false, nat_le, int_le, int_lt, if◌then◌else◌, List, [], ◌∷◌, length, codes, bytes_eq, ℤ, pos, negsuc, Option, Some, None}
 use Rattle.std.specs.Int.RustNames.{unsigned_abs}
 use Rattle.std.specs.Option.{option_and_then, option_map, option_map_or}
 use Rattle.text_lines.specs.Words.{words_of}
@@ -15,7 +15,9 @@ use Rattle.command_text.specs.declared.fields.Field.{Field}
 use Rattle.command_text.specs.declared.verbs.Verb.{Verb}
 use Rattle.command_text.specs.declared.verbs.Verb.TheVariants as verb
 use Rattle.command_text.specs.declared.asked.Asked.{Asked}
-use Rattle.command_text.specs.declared.asked.Asked.TheVariants.{Nothing, BadLine, BadLoad, LoadRange, Load, Plain, Refused, Steps, Print, Show, Tell, Next, Help}
+use Rattle.command_text.specs.declared.asked.Purpose.{Purpose}
+use Rattle.command_text.specs.declared.asked.Purpose.TheVariants as purpose
+use Rattle.command_text.specs.declared.asked.Asked.TheVariants.{Nothing, BadLine, BadText, TextRange, Text, Plain, Refused, Steps, Print, PrintInstance, Show, Tell, Next, Help}
 use Rattle.command_text.specs.declared.questions.Question.{Question}
 use Rattle.command_text.specs.declared.questions.Question.TheVariants as question
 use Rattle.command_text.specs.declared.steps.Goal.{Goal}
@@ -105,6 +107,7 @@ abbrev pub bare_asked : Verb → Asked
 bare_asked verb.Build = Plain command.Build
 bare_asked verb.Checkpoint = Plain command.Checkpoint
 bare_asked verb.Print = Print
+bare_asked verb.Instance = PrintInstance
 bare_asked verb.Show = Show
 bare_asked verb.Timetable = Tell question.Timetable
 bare_asked verb.Next = Next
@@ -154,25 +157,35 @@ numbers_asked v _ = BadLine
 abbrev pub kind_named : List ℕ → Option Kind
 kind_named word = if bytes_eq (codes "lilim") word then Some LiLim else if bytes_eq (codes "vrp") word then Some Vrp else None
 
--- SEED in 0..2^64 - 1, LEN in 0..16,777,216
+-- LEN in 0..16,777,216
+abbrev pub text_within : Purpose → Option ℕ → Asked
+text_within purpose (Some len) = Text purpose len
+text_within purpose None = TextRange
+
+-- SEED in 0..2^64 - 1
 abbrev pub load_within : Kind → Option ℕ → Option ℕ → Asked
-load_within kind (Some seed) (Some len) = Load kind seed len
-load_within kind None len = LoadRange
-load_within kind (Some seed) None = LoadRange
+load_within kind (Some seed) len = text_within (purpose.Load kind seed) len
+load_within kind None len = TextRange
 
 abbrev pub load_of : Option Kind → Option (List Field) → Asked
 load_of (Some kind) (Some (seed ∷ len ∷ [])) = load_within kind seed.unsigned (below 16777217 len.unsigned)
-load_of _ _ = BadLoad
+load_of _ _ = BadText
 
 -- the words behind `load`: KIND SEED LEN
 abbrev pub load_asked : List (List ℕ) → Asked
-load_asked [] = BadLoad
+load_asked [] = BadText
 load_asked (kind ∷ words) = load_of (kind_named kind) (fields_of words)
+
+-- the words behind `adopt`: LEN
+abbrev pub adopt_of : Option (List Field) → Asked
+adopt_of (Some (len ∷ [])) = text_within purpose.Adopt (below 16777217 len.unsigned)
+adopt_of _ = BadText
 
 -- the command that a word names
 unfoldable pub verb_named : List ℕ → Option Verb
 verb_named word =
     if bytes_eq (codes "load") word then Some verb.Load else
+    if bytes_eq (codes "adopt") word then Some verb.Adopt else
     if bytes_eq (codes "add") word then Some verb.Add else
     if bytes_eq (codes "add1") word then Some verb.Add1 else
     if bytes_eq (codes "withdraw") word then Some verb.Withdraw else
@@ -187,6 +200,7 @@ verb_named word =
     if bytes_eq (codes "anneal") word then Some verb.Anneal else
     if bytes_eq (codes "reduce") word then Some verb.Reduce else
     if bytes_eq (codes "print") word then Some verb.Print else
+    if bytes_eq (codes "instance") word then Some verb.Instance else
     if bytes_eq (codes "show") word then Some verb.Show else
     if bytes_eq (codes "timetable") word then Some verb.Timetable else
     if bytes_eq (codes "why") word then Some verb.Why else
@@ -197,18 +211,19 @@ verb_named word =
 abbrev pub verb_asked : Option Verb → List (List ℕ) → Asked
 verb_asked None words = BadLine
 verb_asked (Some verb.Load) words = load_asked words
+verb_asked (Some verb.Adopt) words = adopt_of (fields_of words)
 verb_asked (Some v) words = option_map_or (numbers_asked v) (fields_of words) BadLine
 
 abbrev pub words_asked : List (List ℕ) → Asked
 words_asked [] = Nothing
 words_asked (word ∷ words) = verb_asked (verb_named word) words
 
--- the first word is `load`
-abbrev pub begins_load : List (List ℕ) → Bool
-begins_load [] = false
-begins_load (word ∷ words) = bytes_eq (codes "load") word
+-- the first word announces a text: it is `load` or `adopt`
+abbrev pub announces_text : List (List ℕ) → Bool
+announces_text [] = false
+announces_text (word ∷ words) = bytes_eq (codes "load") word || bytes_eq (codes "adopt") word
 
 -- A line of more than 1,024 bytes is a bad one, whatever stands in it.
 unfoldable pub asked : List ℕ → Asked
 asked line =
-    if nat_le (length line) 1024 then words_asked (words_of line) else if begins_load (words_of line) then BadLoad else BadLine
+    if nat_le (length line) 1024 then words_asked (words_of line) else if announces_text (words_of line) then BadText else BadLine

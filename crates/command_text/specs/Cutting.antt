@@ -1,10 +1,10 @@
--- An input cut into lines, each `load` line with the bytes that it announces.
+-- An input cut into lines, each with the bytes that it announces.
 use Rattle.std.specs.Prelude.{ℕ, zero, suc, ◌+◌, ◌==◌, nat_lt, Bool, true, if◌then◌else◌, List, [], ◌∷◌, length, take, drop}
 use Rattle.std.specs.List.{position_or_len}
 use Rattle.std.specs.Str.Lines.{strip_carriage_return}
 use Rattle.command_text.specs.Asking.{asked}
 use Rattle.command_text.specs.declared.asked.Asked.{Asked}
-use Rattle.command_text.specs.declared.asked.Asked.TheVariants.{BadLoad, LoadRange, Load}
+use Rattle.command_text.specs.declared.asked.Asked.TheVariants.{BadText, TextRange, Text}
 
 -- A line, by what it asks for, and the bytes that it announces, or as many of them as there are.
 pub record Piece : Type 0 where
@@ -13,7 +13,7 @@ pub record Piece : Type 0 where
 
 -- how many bytes a line announces
 abbrev pub announced : Asked → ℕ
-announced (Load kind seed len) = len
+announced (Text purpose len) = len
 announced _ = 0
 
 -- the input ended before the announced bytes did
@@ -21,11 +21,11 @@ abbrev pub is_short : Piece → Bool
 is_short piece = nat_lt (length piece.text) (announced piece.asked)
 
 abbrev pub is_end : Asked → Bool → Bool
-is_end BadLoad short = true
-is_end LoadRange short = true
+is_end BadText short = true
+is_end TextRange short = true
 is_end _ short = short
 
--- The serving ends behind it: a bad `load`, one out of range, or one whose bytes are not all there.
+-- The serving ends behind it: a bad line that announces a text, one out of range, or one whose bytes are not all there.
 abbrev pub ends : Piece → Bool
 ends piece = is_end piece.asked (is_short piece)
 

@@ -2,6 +2,7 @@
 use Rattle.std.specs.Prelude.{◌≡◌, ℕ, ◌<◌, ◌≤◌, ◌^◌, List, [], ◌∷◌, ◌++◌, take, drop, length, if◌then◌else◌}
 use Rattle.std.specs.Str.Lines.{strip_carriage_return}
 use Rattle.text_lines.specs.Lines.{HasNoFeed}
+use Rattle.plan_types.specs.Instance.{Instance, IsInstance}
 use Rattle.plan_types.specs.declared.requests.Kind.{Kind}
 use Rattle.command_core.specs.Job.{JobValue}
 use Rattle.command_core.specs.Runs.{after}
@@ -10,7 +11,7 @@ use Rattle.command_core.specs.declared.states.State.TheVariants.{Loaded}
 use Rattle.command_text.specs.Answering.{Fate, Serving, begun, commands_of, made_or, served, steps_to_make}
 use Rattle.command_text.specs.Asking.{asked}
 use Rattle.command_text.specs.Cutting.{Piece, announced, ends, pieces_of}
-use Rattle.instance_read.specs.Readings.{IsReading, Reading}
+use Rattle.command_text.specs.Readings.{IsReading, Reading}
 use Rattle.command_text.specs.Staging.{stage_commands}
 use Rattle.command_text.specs.declared.asked.Asked.{Asked}
 use Rattle.command_text.specs.declared.steps.Goal.{Goal}
@@ -51,10 +52,20 @@ abbrev pub StagedLinesMayBeCut : Type 0
 StagedLinesMayBeCut = (from to : ℕ) (state : State) (fates : List Fate) → to ≤ 2 ^ 60
     → left_behind (goal.Stages from to) (left_behind (goal.Stages from to) state fates) [] ≡ left_behind (goal.Stages from to) state []
 
+-- A line that makes the steps up to a number, whatever becomes of its tries, ends where the uncut one ends, where it is asked for again and no try fails.
+abbrev pub ReachedLinesMayBeCut : Type 0
+ReachedLinesMayBeCut = (n : ℕ) (state : State) (fates : List Fate) → n ≤ 2 ^ 60
+    → left_behind (goal.Reach n) (left_behind (goal.Reach n) state fates) [] ≡ left_behind (goal.Reach n) state []
+
 -- there is a function that tells of each text what it spells
 abbrev pub SomeReadingIs : Type 0
 SomeReadingIs = (reading : Reading) × IsReading reading
 
+-- the same is told of each text
+pub record TellTheSame (reading other : Reading) : Type 0 where
+  pub instances : (kind : Kind) (text : List ℕ) → reading.instance kind text ≡ other.instance kind text
+  pub plans : (p : Instance) (pins : List (List ℕ)) (text : List ℕ) → IsInstance p → reading.plan p pins text ≡ other.plan p pins text
+
 -- and no other
 abbrev pub ReadingsAgree : Type 0
-ReadingsAgree = (reading other : Reading) → IsReading reading → IsReading other → (kind : Kind) (text : List ℕ) → reading kind text ≡ other kind text
+ReadingsAgree = (reading other : Reading) → IsReading reading → IsReading other → TellTheSame reading other

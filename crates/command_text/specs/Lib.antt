@@ -6,10 +6,10 @@ pub mod Cutting
 pub mod Freezing
 pub mod Laws
 pub mod Questions
+pub mod Readings
 pub mod Scanning
 pub mod Showing
 pub mod Staging
-pub use Rattle.instance_read.specs.Readings
 -- of private functions alone
 pub mod Lines
 pub mod Numbers

@@ -2,15 +2,17 @@
 ghost use Rattle.std.specs.Prelude.{◌≡◌, ◌≤◌, ◌+◌, ◌++◌, [], codes, decimal, length};
 ghost use Rattle.instance_read.specs.Names.{kind_name};
 ghost use Rattle.route_sched.specs.Cost.{cost_of};
-ghost use Rattle.command_text.specs.Answers.{at_text, cost_text, next_text, no_text, pin_text, read_text};
+ghost use Rattle.command_text.specs.Answers.{at_text, broken_text, cost_text, next_text, no_text, pin_text, read_text, sol_fault_text, unseated_text};
 ghost use Rattle.command_text.specs.Answering.{progress_behind};
 
 use command_core::{Command, Job, Refusal};
 use instance_read::{ReadFault, ReadFaultKind};
 use itoa::Buffer;
 use plan_audit::passes_are_local;
+use plan_seats::Unseated;
 use plan_types::Cost;
 use route_sched::plan_cost;
+use sol_text::{SolFault, SolFaultKind};
 use std::marker::Model;
 
 /// A short line without its line feed, in a place of its own: an answer to what was carried out must not want memory.
@@ -93,6 +95,8 @@ pub enum Answer {
     Refused(Refusal),
     /// The text of an instance has this fault.
     Read(ReadFault),
+    /// The text of a solution is no plan.
+    Unseated(Unseated),
     /// Requests are in no route, so there is no solution to be printed.
     Unplanned,
     /// The store can't be written any more.
@@ -104,7 +108,7 @@ pub enum Answer {
 impl Answer {
     ghost use Rattle.command_text.specs.Answers.{answer_text};
 
-    /// Its line: `ok`, `no NAME`, `no NAME LINE` or `fault device`.
+    /// Its line: `ok`, `no NAME`, `no NAME LINE` or `fault device`; of a solution that breaks a rule two lines, the auditor's first.
     pub fn line(&self) -> Line
         ensures { result ≡ answer_text self.now }
     {
@@ -115,6 +119,7 @@ impl Answer {
             Answer::Broken => no_line("Broken"),
             Answer::Refused(refusal) => no_line(refusal.name()),
             Answer::Read(fault) => fault_line(*fault),
+            Answer::Unseated(why) => unseated_line(*why),
             Answer::Unplanned => no_line("Unplanned"),
             Answer::Spent => no_line("Spent"),
             Answer::DeviceFault => words("fault device"),
@@ -154,6 +159,57 @@ fn fault_line(fault: ReadFault) -> Line
             line
         }
     }
+}
+
+// Why a solution's text is no plan.
+fn unseated_line(why: Unseated) -> Line
+    ensures { result ≡ unseated_text why }
+{
+    match why {
+        Unseated::Sol(fault) => sol_fault_line(fault),
+        Unseated::Broken {
+            rule,
+            route,
+            place,
+            stop,
+        } => {
+            let mut line = broken_line(rule, route, place, stop);
+            line.put("\nno NotAPlan");
+            line
+        }
+        Unseated::Pinned(_) => no_line("Pinned"),
+        Unseated::OutOfMemory => no_line("OutOfMemory"),
+    }
+}
+
+fn sol_fault_line(fault: SolFault) -> Line
+    ensures { result ≡ sol_fault_text fault.kind fault.line }
+{
+    match fault.kind {
+        SolFaultKind::OutOfMemory => no_line("OutOfMemory"),
+        _ => {
+            let mut line = no_line(fault.name());
+            line.put(" ");
+            line.put_number(fault.line);
+            line
+        }
+    }
+}
+
+fn broken_line(rule: u32, route: u64, place: u64, stop: u32) -> Line
+    ensures text { result ≡ broken_text rule route place stop }
+    ensures len { length result ≤ 107 }
+{
+    let mut line = Line::new();
+    line.put("broken ");
+    line.put_number(u64::from(rule));
+    line.put(" route ");
+    line.put_number(route);
+    line.put(" place ");
+    line.put_number(place);
+    line.put(" stop ");
+    line.put_number(u64::from(stop));
+    line
 }
 
 /// What the incumbent costs.

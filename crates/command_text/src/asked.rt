@@ -3,7 +3,7 @@ ghost use Rattle.std.specs.Prelude.{◌≡◌};
 ghost use Rattle.std.specs.Option.{option_map_or};
 ghost use Rattle.text_lines.specs.Words.{words_of};
 ghost use Rattle.text_lines.specs.Numbers.{below};
-ghost use Rattle.command_text.specs.Asking.{asked, begins_load, fields_of, load_asked, load_of, load_within, numbers_asked, verb_asked, words_asked};
+ghost use Rattle.command_text.specs.Asking.{adopt_of, announces_text, asked, fields_of, load_asked, load_of, load_within, numbers_asked, text_within, verb_asked, words_asked};
 
 use crate::fields::{Field, Fields, integers};
 use crate::questions::Question;
@@ -18,10 +18,19 @@ use text_lines::Words;
 
 /// The most bytes of a line, without its line end.
 pub const MAX_LINE: usize = 1024;
-/// The most bytes of an instance's text.
+/// The most bytes of a text that a line announces.
 pub const MAX_LEN: u64 = 16_777_216;
 /// The most steps that one line asks for.
 pub const MAX_SEARCH: u64 = 1_000_000_000;
+
+/// What the text is for that a line announces.
+#[derive(Clone, Copy, Debug, PartialEq, Eq)]
+pub enum Purpose {
+    /// It is an instance, to begin anew with.
+    Load { kind: Kind, seed: u64 },
+    /// It is a solution, whose plan is taken over.
+    Adopt,
+}
 
 /// What a line asks for.
 #[derive(Debug, Drop)]
@@ -29,12 +38,12 @@ pub enum Asked {
     /// There is no word.
     Nothing,
     BadLine,
-    /// A bad line whose first word is `load`. How many bytes follow it is not known, so the serving ends.
-    BadLoad,
-    /// A `load` whose seed or length is outside its limits. The serving ends.
-    LoadRange,
-    /// The next `len` bytes are the text of an instance.
-    Load { kind: Kind, seed: u64, len: u32 },
+    /// A bad line whose first word announces a text: `load` or `adopt`. How many bytes follow it is not known, so the serving ends.
+    BadText,
+    /// A line that announces a text, with a seed or a length outside its limits. The serving ends.
+    TextRange,
+    /// The next `len` bytes are a text.
+    Text { purpose: Purpose, len: u32 },
     /// One command, but no `Load` and none that makes steps.
     Plain(Command),
     /// A command with a number that its field can't hold. A session that can take commands, with an instance, tells this.
@@ -42,6 +51,8 @@ pub enum Asked {
     /// Steps of the search, of annealing or of tries of fewer vehicles, or the pins of what has begun.
     Steps(Goal),
     Print,
+    /// The store's problem as the text of an instance.
+    PrintInstance,
     Show,
     /// Something about the plan.
     Tell(Question),
@@ -60,18 +71,18 @@ pub fn read_line(line: &[u8]) -> Asked
     if line.len() <= MAX_LINE {
         return words_asked(&mut words);
     }
-    if begins_load(&mut words) {
-        Asked::BadLoad
+    if announces_text(&mut words) {
+        Asked::BadText
     } else {
         Asked::BadLine
     }
 }
 
-fn begins_load(words: &mut Words<'_>) -> bool
-    ensures { result ≡ begins_load words.old }
+fn announces_text(words: &mut Words<'_>) -> bool
+    ensures { result ≡ announces_text words.old }
 {
     match words.next() {
-        Some(word) => is_word(word, b"load"),
+        Some(word) => is_word(word, b"load") || is_word(word, b"adopt"),
         None => false,
     }
 }
@@ -91,6 +102,7 @@ fn verb_asked(verb: Option<Verb>, words: &mut Words<'_>) -> Asked
     match verb {
         None => Asked::BadLine,
         Some(Verb::Load) => load_asked(words),
+        Some(Verb::Adopt) => adopt_of(integers(words)),
         Some(verb) => numbers_of_words(verb, words),
     }
 }
@@ -130,7 +142,7 @@ fn load_asked(words: &mut Words<'_>) -> Asked
     ensures { result ≡ load_asked words.old }
 {
     let Some(kind) = words.next() else {
-        return Asked::BadLoad;
+        return Asked::BadText;
     };
     load_of(kind_named(kind), integers(words))
 }
@@ -139,26 +151,47 @@ fn load_of(kind: Option<Kind>, fields: Option<Fields>) -> Asked
     ensures { result ≡ load_of kind fields }
 {
     let Some(kind) = kind else {
-        return Asked::BadLoad;
+        return Asked::BadText;
     };
     let Some(fields) = fields else {
-        return Asked::BadLoad;
+        return Asked::BadText;
     };
     match fields.as_slice() {
         [seed, len] => load_within(kind, seed.unsigned, len.unsigned),
-        _ => Asked::BadLoad,
+        _ => Asked::BadText,
     }
 }
 
 fn load_within(kind: Kind, seed: Option<u64>, len: Option<u64>) -> Asked
     ensures { result ≡ load_within kind seed (below 16777217 len) }
 {
-    match (seed, len) {
-        (Some(seed), Some(len)) if len <= MAX_LEN => Asked::Load {
-            kind,
-            seed,
+    match seed {
+        Some(seed) => text_within(Purpose::Load { kind, seed }, len),
+        None => Asked::TextRange,
+    }
+}
+
+// What the words behind `adopt` ask for.
+fn adopt_of(fields: Option<Fields>) -> Asked
+    ensures { result ≡ adopt_of fields }
+{
+    let Some(fields) = fields else {
+        return Asked::BadText;
+    };
+    match fields.as_slice() {
+        [len] => text_within(Purpose::Adopt, len.unsigned),
+        _ => Asked::BadText,
+    }
+}
+
+fn text_within(purpose: Purpose, len: Option<u64>) -> Asked
+    ensures { result ≡ text_within purpose (below 16777217 len) }
+{
+    match len {
+        Some(len) if len <= MAX_LEN => Asked::Text {
+            purpose,
             len: len as u32,
         },
-        _ => Asked::LoadRange,
+        _ => Asked::TextRange,
     }
 }

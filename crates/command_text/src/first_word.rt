@@ -2,8 +2,8 @@
 ghost use Rattle.std.specs.Prelude.{◌≡◌, ℕ, List, ◌++◌, []};
 ghost use Rattle.std.specs.Str.Lines.{strip_carriage_return};
 ghost use Rattle.text_lines.specs.Words.{words_of};
-ghost use Rattle.command_text.specs.Asking.{begins_load};
-ghost use Rattle.command_text.specs.Scanning.{says_load, scanned, scanned_byte, scanned_on};
+ghost use Rattle.command_text.specs.Asking.{announces_text};
+ghost use Rattle.command_text.specs.Scanning.{says_whole, scanned, scanned_byte, scanned_on};
 
 use text_lines::words_make_the_line;
 
@@ -12,15 +12,21 @@ use text_lines::words_make_the_line;
 pub enum FirstWord {
     /// Blanks alone.
     Nothing,
-    /// Behind blanks, `l`, `lo`, `loa` or `load`.
+    /// Behind blanks, a front of `load`.
     L,
     Lo,
     Loa,
-    Load,
-    /// `load` and a carriage return, which belongs to the word unless the line ends with it.
-    LoadAndReturn,
-    /// `load` and a blank.
-    LoadOver,
+    /// A front of `adopt`.
+    A,
+    Ad,
+    Ado,
+    Adop,
+    /// The whole of either.
+    Whole,
+    /// It and a carriage return, which belongs to the word unless the line ends with it.
+    WholeAndReturn,
+    /// It and a blank.
+    Over,
     Other,
 }
 
@@ -56,30 +62,35 @@ impl FirstWord {
         match (self, byte) {
             (FirstWord::Nothing, b' ' | b'\t') => FirstWord::Nothing,
             (FirstWord::Nothing, b'l') => FirstWord::L,
+            (FirstWord::Nothing, b'a') => FirstWord::A,
             (FirstWord::L, b'o') => FirstWord::Lo,
             (FirstWord::Lo, b'a') => FirstWord::Loa,
-            (FirstWord::Loa, b'd') => FirstWord::Load,
-            (FirstWord::Load, b'\r') => FirstWord::LoadAndReturn,
-            (FirstWord::Load, b' ' | b'\t') => FirstWord::LoadOver,
-            (FirstWord::LoadOver, _) => FirstWord::LoadOver,
+            (FirstWord::Loa, b'd') => FirstWord::Whole,
+            (FirstWord::A, b'd') => FirstWord::Ad,
+            (FirstWord::Ad, b'o') => FirstWord::Ado,
+            (FirstWord::Ado, b'p') => FirstWord::Adop,
+            (FirstWord::Adop, b't') => FirstWord::Whole,
+            (FirstWord::Whole, b'\r') => FirstWord::WholeAndReturn,
+            (FirstWord::Whole, b' ' | b'\t') => FirstWord::Over,
+            (FirstWord::Over, _) => FirstWord::Over,
             _ => FirstWord::Other,
         }
     }
 
-    /// Whether the line, all of whose bytes before its line feed were taken, has the first word `load`.
-    pub fn is_load(self) -> bool
+    /// Whether the first word of the line, all of whose bytes before its line feed were taken, announces a text.
+    pub fn announces_text(self) -> bool
         ensures { (piece : List ℕ) → self ≡ scanned piece
-            → result ≡ begins_load (words_of (strip_carriage_return piece)) }
+            → result ≡ announces_text (words_of (strip_carriage_return piece)) }
     {
         words_make_the_line();
-        self.says_load()
+        self.says_whole()
     }
 
-    fn says_load(self) -> bool
-        ensures { result ≡ says_load self }
+    fn says_whole(self) -> bool
+        ensures { result ≡ says_whole self }
     {
         match self {
-            FirstWord::Load | FirstWord::LoadAndReturn | FirstWord::LoadOver => true,
+            FirstWord::Whole | FirstWord::WholeAndReturn | FirstWord::Over => true,
             _ => false,
         }
     }

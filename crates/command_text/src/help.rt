@@ -5,6 +5,7 @@ ghost use Rattle.command_text.specs.Answers.{help_text};
 /// The lines that are read, how they are answered, and why one is refused; without the line feed at the end.
 pub const HELP: &str = "Each line asks for one thing:\n  \
     load lilim|vrp SEED LEN    a new instance: the LEN bytes behind this line\n  \
+    adopt LEN                  a better plan: the LEN bytes behind this line, a solution's text\n  \
     build                      puts each unplanned request at its best place\n  \
     search N, reach N          N search steps, or as many as lead to step N\n  \
     anneal N                   N annealing steps, which find better plans\n  \
@@ -17,14 +18,15 @@ pub const HELP: &str = "Each line asks for one thing:\n  \
     pin V K, unpin V           keeps the first K stops of vehicle V as they are, or none\n  \
     freeze T                   pins what has begun by time T: the stops that each vehicle has set off to\n  \
     show, print                the state, or the plan as a solution's text\n  \
+    instance                   the problem as it is now, as an instance's text\n  \
     timetable, timetable V     when each vehicle, or vehicle V, is where\n  \
-    why R                      where and when request R is served, or why it is in no route\n  \
+    why R                      where and when the request with stop R is served, or why it is in no route\n  \
     next                       `next N`: the number that the next order gets, its pickup's if a pair\n  \
     checkpoint                 a snapshot, so that less is repeated at the next run\n  \
     help                       these lines\n\n\
     Each answer ends with one of these lines:\n  \
     ok                         it is done, and no stop loses it\n  \
-    no NAME                    it is refused and changes nothing; of an instance: no NAME LINE\n  \
+    no NAME                    it is refused and changes nothing; of a text: no NAME LINE\n  \
     fault device               the store failed; it may be there or not at the next run\n\n\
     Steps tell `at STEPS UNPLANNED VEHICLES DISTANCE` before that, piece by piece: these steps\n\
     stand, whatever is answered behind them. `freeze` tells `pin V K` so, for each longer pin.\n\n\
@@ -34,13 +36,16 @@ pub const HELP: &str = "Each line asks for one thing:\n  \
     Broken         the device failed before in this run\n  \
     NoInstance     nothing is loaded yet\n  \
     Range          a number is outside its limits, or a window ends before it begins\n  \
-    NoSuchRequest  no request has this name; a pair's is the number of its pickup\n  \
-    Pinned         a stop of the request is pinned\n  \
+    NoSuchRequest  no request has this name, a pair's is the number of its pickup; of `why`: this stop\n  \
+    Pinned         a stop of the request is pinned, or no route begins with a vehicle's pin\n  \
     NoSuchPlace    there is no such vehicle, or its route has fewer stops\n  \
     NotARoute      the first K stops alone are no route: goods are still aboard, or a stop is late\n  \
     NumbersSpent   a stop would get a number above 40,000\n  \
     StepsSpent     the steps would pass 2^60\n  \
     NoTimes        the instance has no times, so nothing has begun by one\n  \
+    NoFormat       the format of the instance's kind can't say the problem as it is now\n  \
+    NotAPlan       the solution breaks the rule that the line before tells\n  \
+    Dearer         the solution costs more than the plan\n  \
     Unplanned      a request is in no route, so there is no solution to print\n  \
     Spent          the store can't be written any more\n  \
     OutOfMemory    memory was refused; the same line may be asked again";

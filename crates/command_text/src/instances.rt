@@ -1,5 +1,6 @@
 //! The text of an instance, which follows a `load` line.
-ghost use Rattle.instance_read.specs.Readings.{IsReading, IsUnlessMemory, Reading};
+ghost use Rattle.instance_read.specs.Readings.{IsUnlessMemory};
+ghost use Rattle.command_text.specs.Readings.{IsReading, Reading};
 
 use instance_read::ReadFault;
 use plan_types::{Kind, Problem};
@@ -8,7 +9,7 @@ use std::alloc::Global;
 /// Reads the text of an instance of this kind: the problem that it spells, or its first fault, unless memory runs out.
 pub fn read_instance(alloc: Global, kind: Kind, text: &[u8]) -> Result<Problem, ReadFault>
     ensures { (reading : Reading) → IsReading reading
-        → IsUnlessMemory result (reading kind text.now) }
+        → IsUnlessMemory result (reading.instance kind text.now) }
 {
     instance_read::read_instance(alloc, kind, text)
 }

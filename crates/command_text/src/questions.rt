@@ -1,13 +1,14 @@
 //! What is told of a job where a line asks: what it refuses to tell, and the text.
 ghost use Rattle.std.specs.Prelude.{◌≡◌, [], All, IfOk, string_bytes, true, unwrap_or};
+ghost use Rattle.plan_types.specs.Instance.{name_at};
 ghost use Rattle.route_sched.specs.Route.{AreLiveOnce};
 ghost use Rattle.plan_timetable.specs.declared.forms.Form.TheVariants.{Columns};
 ghost use Rattle.plan_timetable.specs.Timetable.{timetable_text, vehicle_text};
 ghost use Rattle.plan_audit.specs.Passes.{passes};
-ghost use Rattle.plan_why.specs.Why.{why_named};
-ghost use Rattle.move_ops.specs.Insertion.{of_vehicle, request_named};
+ghost use Rattle.plan_why.specs.Why.{why_at};
+ghost use Rattle.move_ops.specs.Insertion.{of_vehicle};
 ghost use Rattle.seeded_search.specs.Steps.{unplanned_names};
-ghost use Rattle.command_text.specs.Questions.{name_refusal, question_refusal, question_text, vehicle_refusal};
+ghost use Rattle.command_text.specs.Questions.{question_refusal, question_text, stop_refusal, vehicle_refusal};
 
 use crate::showing::Text;
 use command_core::{Job, Refusal, unplanned_names};
@@ -25,18 +26,18 @@ pub enum Question {
     Timetable,
     /// When this vehicle is where; they count from 1.
     VehicleTimetable(u32),
-    /// Why the request of this name is where it is, or in no route.
+    /// Why the request that has this stop is where it is, or in no route.
     Why(u32),
 }
 
-/// Why a job leaves a question open: `Range` of a vehicle that the fleet has not, `NoSuchRequest` of a name that no live request has.
+/// Why a job leaves a question open: `Range` of a vehicle that the fleet has not, `NoSuchRequest` of a stop that no request has.
 pub fn question_refusal(job: &Job, question: Question) -> Option<Refusal>
     ensures { result ≡ question_refusal job.now question }
 {
     match question {
         Question::Timetable => None,
         Question::VehicleTimetable(vehicle) => vehicle_refusal(&job.problem, vehicle),
-        Question::Why(name) => name_refusal(&job.problem, name),
+        Question::Why(stop) => stop_refusal(&job.problem, stop),
     }
 }
 
@@ -50,10 +51,10 @@ fn vehicle_refusal(problem: &Problem, vehicle: u32) -> Option<Refusal>
     }
 }
 
-fn name_refusal(problem: &Problem, name: u32) -> Option<Refusal>
-    ensures { result ≡ name_refusal (request_named problem.now name) }
+fn stop_refusal(problem: &Problem, stop: u32) -> Option<Refusal>
+    ensures { result ≡ stop_refusal (name_at problem.now stop) }
 {
-    match problem.requests.get(&name) {
+    match problem.name_of(stop) {
         Some(_) => None,
         None => Some(Refusal::NoSuchRequest),
     }
@@ -79,7 +80,7 @@ fn told(alloc: Global, job: &Job, question: Question) -> Result<String, OutOfMem
             whole_timetable(alloc, problem, pins, routes)
         }
         Question::VehicleTimetable(vehicle) => vehicle_day(alloc, problem, routes, vehicle),
-        Question::Why(name) => reason(alloc, problem, &job.pins, &job.plan, name),
+        Question::Why(stop) => reason(alloc, problem, &job.pins, &job.plan, stop),
     }
 }
 
@@ -113,19 +114,19 @@ fn vehicle_day(
     vehicle_timetable(alloc, problem, vehicle, route, Form::Columns)
 }
 
-// Why the request of this name is where it is; no line where there is none.
+// Why the request that has this stop is where it is; no line where there is none.
 fn reason(
     alloc: Global,
     problem: &Problem,
     pins: &Pins,
     plan: &Plan,
-    name: u32,
+    stop: u32,
 ) -> Result<String, OutOfMemory>
     requires { passes problem.now pins.now.routes plan.now.routes ≡ true }
     ensures { IfOk result (λ text. string_bytes text
-        ≡ unwrap_or (why_named problem.now pins.now.routes plan.now.routes name) []) }
+        ≡ unwrap_or (why_at problem.now pins.now.routes plan.now.routes stop) []) }
 {
-    match why(alloc, problem, pins, plan, name)? {
+    match why(alloc, problem, pins, plan, stop)? {
         Some(text) => Ok(text),
         None => Ok(String::new(alloc)),
     }

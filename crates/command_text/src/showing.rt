@@ -1,6 +1,9 @@
-//! What `show` and `print` write.
-ghost use Rattle.std.specs.Prelude.{◌≡◌, ◌<◌, ◌≤◌, ◌*◌, ◌^◌, ◌++◌, [], IfOk, OnOk, IsErrOf, IsOkUnless, codes, decimal, string_bytes};
+//! What `show`, `print` and `instance` write.
+ghost use Rattle.std.specs.Prelude.{◌≡◌, ◌<◌, ◌≤◌, ◌*◌, ◌^◌, ◌++◌, [], true, false, IfOk, OnOk, IsErrOf, IsOkUnless, codes, decimal, string_bytes};
 ghost use Rattle.route_sched.specs.Cost.{cost_of, unplanned_count};
+ghost use Rattle.instance_text.specs.Formats.{has_format};
+ghost use Rattle.instance_text.specs.Texts.{instance_text};
+ghost use Rattle.instance_text.specs.declared.faults.WriteFault.TheVariants as instance_fault;
 ghost use Rattle.sol_text.specs.Faults.{Spells};
 ghost use Rattle.sol_text.specs.Written.{customers_text};
 ghost use Rattle.sol_text.specs.declared.faults.WriteSolFault.TheVariants as write;
@@ -10,6 +13,7 @@ ghost use Rattle.command_text.specs.Showing.{counts_text, list_text, lists_text,
 
 use crate::answers::cost;
 use command_core::{Job, unplanned_names};
+use instance_text::{WriteFault, write_instance};
 use itoa::Buffer;
 use plan_audit::passes_are_local;
 use plan_types::{Cost, OutOfMemory, Route};
@@ -207,6 +211,24 @@ pub fn print(alloc: Global, job: &Job) -> Result<Text, WriteSolFault>
 {
     passes_are_local();
     match write_sol(alloc, &job.problem, &job.plan) {
+        Ok(bytes) => Ok(Text { bytes }),
+        Err(fault) => Err(fault),
+    }
+}
+
+/// The problem as the text of an instance, as `instance_text` writes it.
+///
+/// # Errors
+///
+/// `NoFormat` where the format of its kind can't say it, then `OutOfMemory`.
+pub fn print_instance(alloc: Global, job: &Job) -> Result<Text, WriteFault>
+    ensures text { IfOk result (λ text. text ≡ instance_text job.now.problem) }
+    ensures no_format { has_format job.now.problem ≡ false
+        → IsErrOf result instance_fault.NoFormat }
+    ensures format { has_format job.now.problem ≡ true
+        → IsOkUnless result instance_fault.OutOfMemory }
+{
+    match write_instance(alloc, &job.problem) {
         Ok(bytes) => Ok(Text { bytes }),
         Err(fault) => Err(fault),
     }

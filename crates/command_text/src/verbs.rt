@@ -1,4 +1,4 @@
-//! The lines but `load`: their names, and what each asks for with its numbers.
+//! The lines but those that announce a text: their names, and what each asks for with its numbers.
 ghost use Rattle.std.specs.Prelude.{◌≡◌, bytes_eq};
 ghost use Rattle.command_text.specs.Asking.{add1_of, add_of, anneal_of, bare_asked, count_of, double_asked, freeze_of, kind_named, pin_of, plain_or, reach_of, reduce_of, search_of, single_asked, spot_asked, spot_of, spots_asked, stages_of, steps_or, verb_named};
 
@@ -14,6 +14,7 @@ use plan_types::limits::MAX_TIME;
 #[derive(Clone, Copy, Debug, PartialEq, Eq)]
 pub(crate) enum Verb {
     Load,
+    Adopt,
     Add,
     Add1,
     Withdraw,
@@ -28,6 +29,7 @@ pub(crate) enum Verb {
     Anneal,
     Reduce,
     Print,
+    Instance,
     Show,
     Timetable,
     Why,
@@ -42,6 +44,9 @@ pub(crate) fn verb_named(word: &[u8]) -> Option<Verb>
 {
     if is_word(word, b"load") {
         return Some(Verb::Load);
+    }
+    if is_word(word, b"adopt") {
+        return Some(Verb::Adopt);
     }
     if is_word(word, b"add") {
         return Some(Verb::Add);
@@ -84,6 +89,9 @@ pub(crate) fn verb_named(word: &[u8]) -> Option<Verb>
     }
     if is_word(word, b"print") {
         return Some(Verb::Print);
+    }
+    if is_word(word, b"instance") {
+        return Some(Verb::Instance);
     }
     if is_word(word, b"show") {
         return Some(Verb::Show);
@@ -129,6 +137,7 @@ pub(crate) fn bare_asked(verb: Verb) -> Asked
         Verb::Build => Asked::Plain(Command::Build),
         Verb::Checkpoint => Asked::Plain(Command::Checkpoint),
         Verb::Print => Asked::Print,
+        Verb::Instance => Asked::PrintInstance,
         Verb::Show => Asked::Show,
         Verb::Timetable => Asked::Tell(Question::Timetable),
         Verb::Next => Asked::Next,

@@ -8,7 +8,7 @@ use Rattle.sol_text.specs.declared.read.Solution.{Solution}
 use Rattle.plan_audit.specs.Laws.{AreAllPlanned, IsSoundPlan}
 use Rattle.plan_audit.specs.Verdict.{IsVerdict, printed}
 use Rattle.plan_audit.specs.declared.rules.Verdict.TheVariants.{Pass}
-use Rattle.command_text.specs.Readings.{SpellsInstance}
+use Rattle.instance_read.specs.Readings.{SpellsInstance}
 use Rattle.plan_solve.specs.Solved.{IsSolved}
 use Rattle.plan_solve.specs.declared.solving.Solved.{Solved}
 

@@ -20,7 +20,7 @@ use Rattle.command_core.specs.declared.states.State.TheVariants.{Empty, Loaded}
 use Rattle.command_text.specs.Answering.{commands_of}
 use Rattle.command_text.specs.Answers.{at_text, line}
 use Rattle.command_text.specs.Laws.{left_behind}
-use Rattle.command_text.specs.Readings.{InstanceFault, SpellsInstance}
+use Rattle.instance_read.specs.Readings.{InstanceFault, SpellsInstance}
 use Rattle.command_text.specs.Showing.{print_text, solution_of}
 use Rattle.command_text.specs.declared.steps.Goal.TheVariants as goal
 use Rattle.command_text.specs.declared.steps.Steps.TheVariants as makes

@@ -1,16 +1,16 @@
--- No memory for the text is what the reply says of a try that found none.
-use Rattle.std.proofs.Common.{◌≡◌, ◌∙◌, false, true, sym}
-use Rattle.command_serving.proofs.ReplyLemmas.{load_broken, load_dropped}
+-- By what the text was for.
+use Rattle.std.proofs.Common.{subst, sym}
+use Rattle.command_text.specs.Answers.{answer_text, line}
+use Rattle.command_serving.specs.Served.{Tells}
+use Rattle.command_serving.specs.Serving.{bytes_reply, silent}
 use Rattle.command_serving.proofs.answering.dropped.Goals as goal
 
-pub returns-then-is_broken : goal.returns-then-is_broken
-returns-then-is_broken g c = λ seed found.
+pub returns-in-Load : goal.returns-in-Load
+returns-in-Load g c = λ reading bytes.
     let session = c.args.session.now in
-    let broken : session.is_broken ≡ true = sym c.is_broken.ensures.broken ∙ c.if-is_broken.true in
-    load_broken session seed found broken
+    subst (λ p. Tells g.D.Sectors session (bytes_reply reading p bytes) (line (answer_text c.unloaded.result)) session silent) (sym c.in-Load.is) (c.unloaded.ensures reading _ _ bytes)
 
-pub returns-else-is_broken : goal.returns-else-is_broken
-returns-else-is_broken g c = λ seed found.
+pub returns-in-Adopt : goal.returns-in-Adopt
+returns-in-Adopt g c = λ reading bytes.
     let session = c.args.session.now in
-    let whole : session.is_broken ≡ false = sym c.is_broken.ensures.broken ∙ c.if-is_broken.false in
-    load_dropped session seed found whole
+    subst (λ p. Tells g.D.Sectors session (bytes_reply reading p bytes) (line (answer_text c.unadopted.result)) session silent) (sym c.in-Adopt.is) (c.unadopted.ensures reading bytes)

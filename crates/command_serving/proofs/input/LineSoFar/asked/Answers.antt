@@ -11,14 +11,14 @@ returns-then-len-lt-KEPT c = λ line is.
     let short : length kept < 1026 = search rules in
     c.read_line.ensures ∙ ap asked c.without_return.ensures ∙ ap (λ l. asked (strip_carriage_return l)) c.as_slice.ensures.value ∙ asked_kept kept line is.0 short
 
-pub returns-then-is_load : goal.returns-then-is_load
-returns-then-is_load c = λ line is.
+pub returns-then-announces_text : goal.returns-then-announces_text
+returns-then-announces_text c = λ line is.
     let kept = c.args.self.now.kept.items in
     let long : 1026 ≤ length kept = search rules in
-    asked_too_long kept line true is.0 long (sym c.if-is_load.true ∙ c.is_load.ensures line is.1)
+    asked_too_long kept line true is.0 long (sym c.if-announces_text.true ∙ c.announces_text.ensures line is.1)
 
-pub returns-else-is_load : goal.returns-else-is_load
-returns-else-is_load c = λ line is.
+pub returns-else-announces_text : goal.returns-else-announces_text
+returns-else-announces_text c = λ line is.
     let kept = c.args.self.now.kept.items in
     let long : 1026 ≤ length kept = search rules in
-    asked_too_long kept line false is.0 long (sym c.if-is_load.false ∙ c.is_load.ensures line is.1)
+    asked_too_long kept line false is.0 long (sym c.if-announces_text.false ∙ c.announces_text.ensures line is.1)

@@ -3,7 +3,7 @@ use Rattle.std.proofs.Common.{subst, ◌≡◌, true, arith, rules}
 use Rattle.command_serving.specs.Input.{TakesMore, left_of}
 use Rattle.command_serving.specs.Knowing.{Beforehand}
 use Rattle.command_serving.proofs.CutLemmas.{all_behind, counts_behind, text_more}
-use Rattle.command_serving.proofs.input.Input.load_text.Goals as goal
+use Rattle.command_serving.proofs.input.Input.announced_text.Goals as goal
 
 pub loop-text-preserved : goal.loop-text-preserved
 loop-text-preserved g c =

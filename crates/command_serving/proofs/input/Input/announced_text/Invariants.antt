@@ -1,7 +1,7 @@
 -- So much of the text has come.
 use Rattle.std.proofs.Common.{◌≤◌}
 use Rattle.command_serving.specs.Input.{Between, Counts, CountsExactly, IsTextPart}
-use Rattle.command_serving.proofs.input.Input.load_text.Given as goal
+use Rattle.command_serving.proofs.input.Input.announced_text.Given as goal
 
 abbrev pub invariant-loop-text : goal.invariant-loop-text
 invariant-loop-text g l =

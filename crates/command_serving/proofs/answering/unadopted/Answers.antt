@@ -1,0 +1,11 @@
+-- No memory for the text is what the reply says of a try that found none.
+use Rattle.std.proofs.Common.{refl}
+use Rattle.command_text.specs.Answering.{adopt_on}
+use Rattle.command_serving.proofs.ReplyLemmas.{adopt_dropped, tells_none}
+use Rattle.command_serving.proofs.answering.unadopted.Goals as goal
+
+pub returns-in-Ok : goal.returns-in-Ok
+returns-in-Ok g c = λ reading bytes. adopt_dropped reading bytes c.args.session.now c.in-Ok.field-0.now c.in-Ok.ensures.job.0 c.in-Ok.ensures.job.1
+
+pub returns-in-Err : goal.returns-in-Err
+returns-in-Err g c = λ reading bytes. tells_none (adopt_on reading bytes) c.args.session.now c.in-Err.answer (λ t. refl) c.in-Err.ensures.none

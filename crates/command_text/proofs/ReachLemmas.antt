@@ -1,0 +1,133 @@
+-- A line that makes the steps up to a number, cut off by whatever becomes of its tries and asked for again, ends where an uncut one ends.
+use Rattle.std.proofs.Common.{◌≡◌, ◌∙◌, inl, inr, ℕ, zero, suc, ◌+◌, ◌-◌, ◌^◌, ◌<◌, ◌≤◌, Bool, true, false, None, if◌then◌else◌, List, [], ◌∷◌, map, Ok, Err, refl, sym, ap, subst, arith}
+use Rattle.std.specs.Prelude.{nat_le, sum_by, take}
+use Rattle.std.specs.List.{list_all}
+use Rattle.std.proofs.lemmas.Bool.{and_parts, cases_Bool, le-leb, leb-true}
+use Rattle.std.proofs.lemmas.Bool.Decides.{leb_tells}
+use Rattle.std.proofs.lemmas.List.Sums.{sum_by-cons}
+use Rattle.command_core.specs.Commands.{is_searching, steps_of}
+use Rattle.command_core.specs.Effects.{searched}
+use Rattle.command_core.specs.Job.{JobValue}
+use Rattle.command_core.specs.Refusing.{refusal}
+use Rattle.command_core.specs.RunLaws.{RunsAreOneSearch, SearchesAddUp}
+use Rattle.command_core.specs.Runs.{AreAccepted}
+use Rattle.command_core.specs.declared.commands.Command.{Command}
+use Rattle.command_core.specs.declared.commands.Command.TheVariants.{Search}
+use Rattle.command_core.specs.declared.refusals.Refusal.TheVariants.{Range}
+use Rattle.command_core.specs.declared.states.State.{State}
+use Rattle.command_core.specs.declared.states.State.TheVariants.{Empty, Loaded}
+use Rattle.command_text.specs.Answering.{Fate, Serving, begun, carried_all, counts_of, made_or, steps_to_make}
+use Rattle.command_text.specs.Laws.{ReachedLinesMayBeCut}
+use Rattle.command_text.specs.declared.steps.Goal.TheVariants as goal
+use Rattle.command_text.specs.declared.steps.Steps.TheVariants as makes
+use Rattle.command_text.proofs.AgainLemmas.{all_cut, all_whole}
+use Rattle.command_text.proofs.StepLemmas.{large_count, no_counts, small_count}
+
+-- the commands of so many steps of the search
+abbrev searches : ℕ → List Command
+searches n = map Search (counts_of 256 n)
+
+-- they are accepted, are searches, and make so many steps
+record AreSearches (j : JobValue) (n : ℕ) (cs : List Command) : Type 0 where
+  pub accepted : (0 < n → j.steps + n ≤ 2 ^ 60) → AreAccepted (Loaded j) cs
+  pub searching : list_all is_searching cs ≡ true
+  pub sum : sum_by steps_of cs ≡ n
+
+free : (j : JobValue) (count : ℕ) → 1 ≤ count → count ≤ 256 → j.steps + count ≤ 2 ^ 60 → refusal (Loaded j) (Search count) ≡ None
+free j count least most room =
+    let a = le-leb 1 count least in
+    let b = le-leb count 256 most in
+    let c = le-leb (j.steps + count) (2 ^ 60) room in
+    rw (a, b, c) refl
+
+next_searches : (j : JobValue) (count n : ℕ) (cs : List Command) → 1 ≤ count → count ≤ 256 → AreSearches (searched j count) n cs → AreSearches j (count + n) (Search count ∷ cs)
+next_searches j count n cs least most rest = record {
+  accepted = λ room. let all = room (omega arith) in (tt, free j count least most (omega arith), rest.accepted (λ some. omega arith));
+  searching = rest.searching;
+  sum = sum_by-cons steps_of (Search count) cs ∙ ap (λ k. count + k) rest.sum;
+}
+
+none_left : (j : JobValue) → AreSearches j 0 []
+none_left j = record { accepted = λ room. tt; searching = refl; sum = refl }
+
+all_searches : (fuel n : ℕ) → n ≤ fuel → (j : JobValue) → AreSearches j n (searches n)
+all_searches fuel zero within j = subst (λ (counts : List ℕ). AreSearches j 0 (map Search counts)) (sym (no_counts 256)) (none_left j)
+all_searches zero (suc n) within j = absurd (omega arith)
+all_searches (suc fuel) (suc n) within j = elim (leb_tells 256 (suc n)) [
+  | inl t ↦ (
+      let large = t.1 in
+      let rest = all_searches fuel (suc n - 256) (omega arith) (searched j 256) in
+      let whole = next_searches j 256 (suc n - 256) (searches (suc n - 256)) (omega arith) (omega arith) rest in
+      let sum : 256 + (suc n - 256) ≡ suc n = omega arith in
+      let counts = large_count 256 (suc n) (omega arith) large in
+      subst (λ (counts : List ℕ). AreSearches j (suc n) (map Search counts)) (sym counts)
+      (subst (λ (k : ℕ). AreSearches j k (Search 256 ∷ searches (suc n - 256))) sum whole))
+  | inr t ↦ (
+      let small = t.1 in
+      let rest = all_searches fuel (suc n - suc n) (omega arith) (searched j (suc n)) in
+      let whole = next_searches j (suc n) (suc n - suc n) (searches (suc n - suc n)) (omega arith) (omega arith) rest in
+      let sum : suc n + (suc n - suc n) ≡ suc n = omega arith in
+      let counts = small_count 256 (suc n) (omega arith) small in
+      subst (λ (counts : List ℕ). AreSearches j (suc n) (map Search counts)) (sym counts)
+      (subst (λ (k : ℕ). AreSearches j k (Search (suc n) ∷ searches (suc n - suc n))) sum whole))
+]
+
+-- a first part of searches makes no more steps
+record IsFront (cs front : List Command) : Type 0 where
+  pub searching : list_all is_searching front ≡ true
+  pub sum : sum_by steps_of front ≤ sum_by steps_of cs
+
+fronts : (count : ℕ) (cs : List Command) → list_all is_searching cs ≡ true → IsFront cs (take count cs)
+fronts zero cs all = record { searching = refl; sum = omega arith }
+fronts (suc count) [] all = record { searching = refl; sum = omega arith }
+fronts (suc count) (c ∷ cs) all =
+    let both = and_parts (is_searching c) (list_all is_searching cs) all in
+    let rest = fronts count cs both.1 in
+    let more = rest.sum in
+    let one = sum_by-cons steps_of c cs in
+    let other = sum_by-cons steps_of c (take count cs) in
+    record { searching = rw (both.0, rest.searching) refl; sum = omega (arith, more, one, other) }
+
+module _ (one : RunsAreOneSearch) (add_up : SearchesAddUp) (n : ℕ) (room : n ≤ 2 ^ 60) where
+  abbrev left_by : Serving → State
+  left_by s = (made_or s (steps_to_make s.state (goal.Reach n))).left.state
+
+  abbrev is_asked : JobValue → Bool
+  is_asked j = nat_le n (j.steps + 1000000000)
+
+  not_begun : (j : JobValue) (fates : List Fate) → is_asked j ≡ false → left_by (begun (Loaded j) fates) ≡ Loaded j
+  not_begun j fates e = ap (λ b. (made_or (begun (Loaded j) fates) (if b then Ok (makes.Search (n - j.steps)) else Err Range)).left.state) e
+
+  is_begun : (j : JobValue) (fates : List Fate) → is_asked j ≡ true → left_by (begun (Loaded j) fates) ≡ (carried_all (begun (Loaded j) fates) (searches (n - j.steps))).left.state
+  is_begun j fates e = ap (λ b. (made_or (begun (Loaded j) fates) (if b then Ok (makes.Search (n - j.steps)) else Err Range)).left.state) e
+
+  all_of : (j : JobValue) → AreSearches j (n - j.steps) (searches (n - j.steps))
+  all_of j = all_searches (n - j.steps) (n - j.steps) (omega arith) j
+
+  uncut : (j : JobValue) → is_asked j ≡ true → left_by (begun (Loaded j) []) ≡ Loaded (searched j (n - j.steps))
+  uncut j e =
+      let all = all_of j in
+      let cs = searches (n - j.steps) in
+      is_begun j [] e ∙ all_whole (Loaded j) cs (all.accepted (λ some. omega arith)) ∙ one j cs all.searching ∙ ap (λ k. Loaded (searched j k)) all.sum
+
+  line_cut : (j : JobValue) (fates : List Fate) → is_asked j ≡ true → left_by (begun (left_by (begun (Loaded j) fates)) []) ≡ left_by (begun (Loaded j) [])
+  line_cut j fates e =
+      let all = all_of j in
+      let cs = searches (n - j.steps) in
+      let cut = all_cut (begun (Loaded j) fates) cs in
+      let front = fronts cut.count cs all.searching in
+      let made = sum_by steps_of (take cut.count cs) in
+      let few : made ≤ n - j.steps = subst (λ (k : ℕ). made ≤ k) all.sum front.sum in
+      let left : left_by (begun (Loaded j) fates) ≡ Loaded (searched j made) = is_begun j fates e ∙ cut.is ∙ one j (take cut.count cs) front.searching in
+      let asked = leb-true n (j.steps + 1000000000) e in
+      let still : is_asked (searched j made) ≡ true = le-leb n (j.steps + made + 1000000000) (omega (arith, asked)) in
+      let sum : made + (n - (j.steps + made)) ≡ n - j.steps = omega (arith, few) in
+      ap (λ (s : State). left_by (begun s [])) left ∙ uncut (searched j made) still ∙ ap Loaded (add_up j made (n - (j.steps + made)))
+      ∙ ap (λ k. Loaded (searched j k)) sum ∙ sym (uncut j e)
+
+pub reached_lines_may_be_cut : RunsAreOneSearch → SearchesAddUp → ReachedLinesMayBeCut
+reached_lines_may_be_cut one add_up n Empty fates room = refl
+reached_lines_may_be_cut one add_up n (Loaded j) fates room = elim (cases_Bool (is_asked one add_up n room j)) [
+  | inl t ↦ line_cut one add_up n room j fates t
+  | inr f ↦ ap (λ (s : State). left_by one add_up n room (begun s [])) (not_begun one add_up n room j fates f)
+]

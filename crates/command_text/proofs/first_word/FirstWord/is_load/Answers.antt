@@ -1,7 +1,0 @@
-use Rattle.std.proofs.Common.{◌∙◌, ap}
-use Rattle.command_text.specs.Scanning.{says_load}
-use Rattle.command_text.proofs.ScanLemmas.{says_first_word}
-use Rattle.command_text.proofs.first_word.FirstWord.is_load.Goals as goal
-
-pub returns : goal.returns
-returns c piece is = c.says_load.ensures ∙ ap says_load is ∙ says_first_word c.words_make_the_line.ensures piece
