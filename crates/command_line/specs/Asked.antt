@@ -12,7 +12,7 @@ use Rattle.plan_types.specs.declared.requests.Kind.TheVariants.{LiLim, Vrp}
 use Rattle.text_lines.specs.Numbers.{below, digits_of, integer_of}
 use Rattle.command_line.specs.declared.words.Paths.{Paths}
 use Rattle.command_line.specs.declared.words.Invocation.{Invocation}
-use Rattle.command_line.specs.declared.words.Invocation.TheVariants.{Audit, Audits, BuiltIn, Draw, DrawStore, Explain, Format, Load, Run, Solve, Solves, StoreTimetable, Timetable, Upgrade}
+use Rattle.command_line.specs.declared.words.Invocation.TheVariants.{Adopt, Audit, Audits, BuiltIn, Draw, DrawStore, Explain, Format, Load, Run, Solve, Solves, StoreInstance, StoreTimetable, Timetable, Upgrade}
 use Rattle.command_line.specs.declared.words.Loading.{Loading}
 use Rattle.command_line.specs.declared.words.Task.{Task}
 use Rattle.command_line.specs.declared.words.Tasks.{Tasks}
@@ -47,20 +47,22 @@ pub record LoadAsked : Type 0 where
 
 -- The audit of the two built-in texts, or of two files; the audits of a list; the audit of two files with what it rests on, each of them also of
 -- the routes alone; the picture of a
--- solution, or of its route with this number, or of the plan in a store; the solving of an instance, or of each that a list names; a store made in a file, an instance loaded
--- into one, or commands over one; a store made of an old one; the timetable of a solution, or of the plan in a store, by tabs or in columns.
+-- solution, or of its route with this number, or of the plan in a store, or of the route of its vehicle with this number; the solving of an instance, or of each that a list names; a store made in a file, an instance loaded
+-- into one, or commands over one; a solution that a store is to have for its plan; the instance in a store; a store made of an old one; the timetable of a solution, or of the plan in a store, by tabs or in columns.
 pub data Asked : Type 0 where
   built_in : Asked
   audit : PathsAsked → Bool → Asked
   audits : Kind → Text → Bool → Asked
   explain : PathsAsked → Bool → Asked
   draw : PathsAsked → Option ℕ → Asked
-  draw_store : Text → Asked
+  draw_store : Text → Option ℕ → Asked
   solve : TaskAsked → Asked
   solves : TasksAsked → Asked
   format : Text → Asked
   load : LoadAsked → Asked
   run : Text → Bool → Asked
+  adopt : Text → Text → Asked
+  store_instance : Text → Asked
   upgrade : Text → Text → Asked
   timetable : PathsAsked → Bool → Asked
   store_timetable : Text → Bool → Asked
@@ -83,12 +85,14 @@ asked_of (Audit paths routes_alone) = audit (paths_of paths) routes_alone
 asked_of (Audits kind list routes_alone) = audits kind list.now routes_alone
 asked_of (Explain paths routes_alone) = explain (paths_of paths) routes_alone
 asked_of (Draw paths route) = draw (paths_of paths) route
-asked_of (DrawStore store) = draw_store store.now
+asked_of (DrawStore store route) = draw_store store.now route
 asked_of (Solve task) = solve (task_of task)
 asked_of (Solves tasks) = solves (tasks_of tasks)
 asked_of (Format store) = format store.now
 asked_of (Load loading) = load (load_of loading)
 asked_of (Run store is_strict) = run store.now is_strict
+asked_of (Adopt store solution) = adopt store.now solution.now
+asked_of (StoreInstance store) = store_instance store.now
 asked_of (Upgrade old new) = upgrade old.now new.now
 asked_of (Timetable paths is_tabbed) = timetable (paths_of paths) is_tabbed
 asked_of (StoreTimetable store is_tabbed) = store_timetable store.now is_tabbed
@@ -212,6 +216,11 @@ load_asked (store ∷ kind ∷ instance ∷ []) = load_from store (kind_named ki
 load_asked (store ∷ kind ∷ instance ∷ seed ∷ []) = load_from store (kind_named kind) instance (seed_named seed)
 load_asked _ = None
 
+-- `STORE SOLUTION`
+abbrev pub adopt_asked : List Text → Option Asked
+adopt_asked (store ∷ solution ∷ []) = Some (adopt store solution)
+adopt_asked _ = None
+
 -- `OLD NEW`
 abbrev pub upgrade_asked : List Text → Option Asked
 upgrade_asked (old ∷ new ∷ []) = Some (upgrade old new)
@@ -241,6 +250,10 @@ abbrev pub route_or_none : Option Text → Option (Option ℕ)
 route_or_none None = Some None
 route_or_none (Some word) = option_map (λ n. Some n) (below (2 ^ 32) (digits_of word))
 
+-- `STORE [ROUTE]`
+abbrev pub store_draw_from : Text → Option Text → Option Asked
+store_draw_from store last = option_map (draw_store store) (route_or_none last)
+
 -- `KIND INSTANCE SOLUTION [ROUTE]`
 abbrev pub draw_from : Text → Text → Text → Option Text → Option Asked
 draw_from kind instance solution last = do
@@ -248,9 +261,10 @@ draw_from kind instance solution last = do
   route ← route_or_none last
   Some (draw paths route)
 
--- one word of a store, three or four of a solution
+-- one or two words of a store, three or four of a solution
 abbrev pub draw_asked : List Text → Option Asked
-draw_asked (store ∷ []) = Some (draw_store store)
+draw_asked (store ∷ []) = store_draw_from store None
+draw_asked (store ∷ last ∷ []) = store_draw_from store (Some last)
 draw_asked (kind ∷ instance ∷ solution ∷ []) = draw_from kind instance solution None
 draw_asked (kind ∷ instance ∷ solution ∷ route ∷ []) = draw_from kind instance solution (Some route)
 draw_asked _ = None
@@ -267,7 +281,9 @@ asked_with words command = if bytes_eq (codes "audit") command then judged_asked
     else (if bytes_eq (codes "run") command then run_asked words
     else (if bytes_eq (codes "upgrade") command then upgrade_asked words
     else (if bytes_eq (codes "timetable") command then timetable_asked words
-    else (if bytes_eq (codes "solves") command then option_map solves (tasks_asked words) else None))))))))))
+    else (if bytes_eq (codes "adopt") command then adopt_asked words
+    else (if bytes_eq (codes "instance") command then option_map store_instance (store_asked words)
+    else (if bytes_eq (codes "solves") command then option_map solves (tasks_asked words) else None))))))))))))
 
 -- no words, or a command with its own
 abbrev pub asked_by : List Text → Option Asked
@@ -333,6 +349,13 @@ load_in rows = do
   seed ← seed_in rows
   Some (record { store = store; kind = kind; instance = instance; seed = seed })
 
+-- those of `STORE SOLUTION`
+abbrev pub adopt_in : List Row → Option Asked
+adopt_in rows = do
+  store ← store_in rows
+  solution ← first_of (codes "SOLUTION") rows
+  Some (adopt store solution)
+
 -- those of `OLD NEW`
 abbrev pub upgrade_in : List Row → Option Asked
 upgrade_in rows = do
@@ -349,21 +372,23 @@ abbrev pub timetable_in : List Row → Option Asked
 timetable_in rows = first_of (codes "STORE|KIND") rows >>= (λ first.
     timetable_with first (first_of (codes "tabs|INSTANCE") rows) (first_of (codes "SOLUTION") rows) (first_of (codes "tabs") rows))
 
--- those of `STORE`, or of `KIND INSTANCE SOLUTION [ROUTE]`
+-- those of `STORE [ROUTE]`, or of `KIND INSTANCE SOLUTION [ROUTE]`
 abbrev pub draw_with : Text → Option Text → Option Text → Option Text → Option Asked
-draw_with store None _ _ = Some (draw_store store)
-draw_with kind (Some instance) solution route = solution >>= (λ solution. draw_from kind instance solution route)
+draw_with store last None _ = store_draw_from store last
+draw_with kind second (Some solution) last = second >>= (λ instance. draw_from kind instance solution last)
 
 abbrev pub draw_in : List Row → Option Asked
 draw_in rows = first_of (codes "STORE|KIND") rows >>= (λ first.
-    draw_with first (first_of (codes "INSTANCE") rows) (first_of (codes "SOLUTION") rows) (first_of (codes "ROUTE") rows))
+    draw_with first (first_of (codes "ROUTE|INSTANCE") rows) (first_of (codes "SOLUTION") rows) (first_of (codes "ROUTE") rows))
 
--- what `format`, `load`, `upgrade` or `run` asks for
+-- what `format`, `load`, `adopt`, `instance`, `upgrade` or `run` asks for
 abbrev pub told_of_store : Text → List Row → Option Asked
 told_of_store name rows =
     if bytes_eq (codes "format") name then option_map format (store_in rows)
     else (if bytes_eq (codes "load") name then option_map load (load_in rows)
-    else (if bytes_eq (codes "upgrade") name then upgrade_in rows else run_in rows))
+    else (if bytes_eq (codes "adopt") name then adopt_in rows
+    else (if bytes_eq (codes "instance") name then option_map store_instance (store_in rows)
+    else (if bytes_eq (codes "upgrade") name then upgrade_in rows else run_in rows))))
 
 -- what a subcommand asks for whose words are not `KIND INSTANCE SOLUTION [routes]`; there is no other one than these
 abbrev pub told_by_other : Text → List Row → Option Asked

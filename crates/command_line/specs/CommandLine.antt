@@ -58,6 +58,10 @@ abbrev pub load_app : Bor (List (Bor Text)) → App
 load_app names =
     with_rule (with_rule (with_rule (with_rule (new_app (codes "load")) (word_rule (codes "STORE"))) (kind_rule names)) (word_rule (codes "INSTANCE"))) (new_rule (codes "SEED"))
 
+-- `adopt STORE SOLUTION`
+abbrev pub adopt_app : App
+adopt_app = with_rule (with_rule (new_app (codes "adopt")) (word_rule (codes "STORE"))) (word_rule (codes "SOLUTION"))
+
 -- `upgrade OLD NEW`
 abbrev pub upgrade_app : App
 upgrade_app = with_rule (with_rule (new_app (codes "upgrade")) (word_rule (codes "OLD"))) (word_rule (codes "NEW"))
@@ -70,9 +74,9 @@ with_plan_rules a second last = with_rule (with_rule (with_rule (with_rule a (wo
 abbrev pub timetable_app : App
 timetable_app = with_plan_rules (new_app (codes "timetable")) (new_rule (codes "tabs|INSTANCE")) (new_rule (codes "tabs"))
 
--- `draw STORE` or `draw KIND INSTANCE SOLUTION [ROUTE]`
+-- `draw STORE [ROUTE]` or `draw KIND INSTANCE SOLUTION [ROUTE]`
 abbrev pub draw_app : App
-draw_app = with_plan_rules (new_app (codes "draw")) (new_rule (codes "INSTANCE")) (new_rule (codes "ROUTE"))
+draw_app = with_plan_rules (new_app (codes "draw")) (new_rule (codes "ROUTE|INSTANCE")) (new_rule (codes "ROUTE"))
 
 -- a command that tells its version
 abbrev pub versioned_app : Text → App
@@ -94,7 +98,8 @@ with_search_apps names above = with_subcommand (with_subcommand above (solve_app
 abbrev pub with_store_apps : Bor (List (Bor Text)) → Bor (List (Bor Text)) → App → App
 with_store_apps names modes above =
     let load = with_subcommand (with_subcommand above (store_app (codes "format")).top) (load_app names).top in
-    with_subcommand (with_subcommand load (run_app modes).top) upgrade_app.top
+    let adopt = with_subcommand (with_subcommand load (run_app modes).top) adopt_app.top in
+    with_subcommand (with_subcommand adopt (store_app (codes "instance")).top) upgrade_app.top
 
 -- one level of subcommands
 abbrev pub planner_app : Bor (List (Bor Text)) → Bor (List (Bor Text)) → App

@@ -1,13 +1,14 @@
 //! What `clap` is told of the words: the commands, the words behind each, and the errors for words that it lets pass.
 ghost use Rattle.std.specs.Prelude.{◌≡◌, IfOk, codes};
 ghost use Rattle.clap.specs.Words.{App, Rule, app_of, kind_of, new_app, new_rule, with_rule, with_subcommand};
-ghost use Rattle.command_line.specs.CommandLine.{IsKindNames, IsLeafCommand, IsModeNames, IsPlannerCommand, IsWord, audits_app, draw_app, load_app, mode_rule, paths_app, kind_rule, run_app, solve_app, solves_app, store_app, timetable_app, upgrade_app, with_plan_rules, with_search_apps, with_solution_apps, with_store_apps, word_rule};
+ghost use Rattle.command_line.specs.CommandLine.{IsKindNames, IsLeafCommand, IsModeNames, IsPlannerCommand, IsWord, adopt_app, audits_app, draw_app, load_app, mode_rule, paths_app, kind_rule, run_app, solve_app, solves_app, store_app, timetable_app, upgrade_app, with_plan_rules, with_search_apps, with_solution_apps, with_store_apps, word_rule};
 
 use crate::help::{
-    ABOUT, AUDIT_ABOUT, AUDIT_ANSWERS, AUDITS_ABOUT, AUDITS_ANSWERS, DRAW_ABOUT, DRAW_ANSWERS,
-    EXPLAIN_ABOUT, EXPLAIN_ANSWERS, FORMAT_ABOUT, FORMAT_ANSWERS, LOAD_ABOUT, LOAD_ANSWERS,
-    RUN_ABOUT, SOLVE_ABOUT, SOLVE_ANSWERS, SOLVES_ABOUT, SOLVES_ANSWERS, STATUSES, TIMETABLE_ABOUT,
-    TIMETABLE_ANSWERS, UPGRADE_ABOUT, UPGRADE_ANSWERS, VERSION,
+    ABOUT, ADOPT_ABOUT, ADOPT_ANSWERS, AUDIT_ABOUT, AUDIT_ANSWERS, AUDITS_ABOUT, AUDITS_ANSWERS,
+    DRAW_ABOUT, DRAW_ANSWERS, EXPLAIN_ABOUT, EXPLAIN_ANSWERS, FORMAT_ABOUT, FORMAT_ANSWERS,
+    INSTANCE_ABOUT, INSTANCE_ANSWERS, LOAD_ABOUT, LOAD_ANSWERS, RUN_ABOUT, SOLVE_ABOUT,
+    SOLVE_ANSWERS, SOLVES_ABOUT, SOLVES_ANSWERS, STATUSES, TIMETABLE_ABOUT, TIMETABLE_ANSWERS,
+    UPGRADE_ABOUT, UPGRADE_ANSWERS, VERSION,
 };
 use clap::error::ErrorKind;
 use clap::{Arg, ArgMatches, Command, Error};
@@ -27,7 +28,7 @@ const BAD_TASKS: &str =
     "STEPS is 0 to 1000000000 and SEED 0 to 18446744073709551615, in digits alone";
 
 const BAD_DRAWING: &str =
-    "the words are STORE or KIND INSTANCE SOLUTION [ROUTE], KIND is lilim or vrp, and ROUTE a number, in digits alone";
+    "the words are STORE [ROUTE] or KIND INSTANCE SOLUTION [ROUTE], KIND is lilim or vrp, and ROUTE a number, in digits alone";
 
 const BAD_TIMETABLE: &str =
     "the words are STORE [tabs] or KIND INSTANCE SOLUTION [tabs], and KIND is lilim or vrp";
@@ -99,6 +100,9 @@ fn with_store_commands<'a>(
     let above = with_command(above, format);
     let above = with_command(above, load_command(alloc, kinds));
     let above = with_command(above, run_command(alloc, modes, lines));
+    let above = with_command(above, adopt_command(alloc));
+    let instance = store_command(alloc, "instance", INSTANCE_ABOUT, INSTANCE_ANSWERS);
+    let above = with_command(above, instance);
     with_command(above, upgrade_command(alloc))
 }
 
@@ -154,6 +158,14 @@ fn load_command<'a>(alloc: Global, kinds: &'a [&'a str]) -> CommandResult<'a>
     with_word(command, seed_word(alloc))
 }
 
+fn adopt_command<'a>(alloc: Global) -> CommandResult<'a>
+    ensures { IfOk result (IsLeafCommand adopt_app) }
+{
+    let command = Ok(bare_command(alloc, "adopt", ADOPT_ABOUT, ADOPT_ANSWERS));
+    let command = with_word(command, word(alloc, "STORE", "The file of the store"));
+    with_word(command, required_solution_word(alloc))
+}
+
 fn upgrade_command<'a>(alloc: Global) -> CommandResult<'a>
     ensures { IfOk result (IsLeafCommand upgrade_app) }
 {
@@ -205,14 +217,7 @@ fn paths_command<'a>(
     let command = Ok(bare_command(alloc, name, about, answers));
     let command = with_word(command, kind_word(alloc, kinds));
     let command = with_word(command, instance_word(alloc));
-    let command = with_word(
-        command,
-        word(
-            alloc,
-            "SOLUTION",
-            "The file of the solution; - is standard input",
-        ),
-    );
+    let command = with_word(command, required_solution_word(alloc));
     with_word(command, routes_word(alloc))
 }
 
@@ -275,6 +280,16 @@ fn instance_word<'a>(alloc: Global) -> Arg<'a>
     )
 }
 
+fn required_solution_word<'a>(alloc: Global) -> Arg<'a>
+    ensures { IsWord (word_rule (codes "SOLUTION")) result }
+{
+    word(
+        alloc,
+        "SOLUTION",
+        "The file of the solution; - is standard input",
+    )
+}
+
 fn list_word<'a>(alloc: Global) -> Arg<'a>
     ensures { IsWord (word_rule (codes "LIST")) result }
 {
@@ -296,10 +311,10 @@ fn deviation_word<'a>(alloc: Global) -> Arg<'a>
 }
 
 fn drawn_word<'a>(alloc: Global) -> Arg<'a>
-    ensures { IsWord (new_rule (codes "INSTANCE")) result }
+    ensures { IsWord (new_rule (codes "ROUTE|INSTANCE")) result }
 {
-    Arg::new(alloc, "INSTANCE").help(
-        "Behind a format the file of the instance; - is standard input",
+    Arg::new(alloc, "ROUTE|INSTANCE").help(
+        "Behind a store the number of a route; behind a format the instance",
     )
 }
 

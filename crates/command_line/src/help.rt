@@ -10,7 +10,7 @@ pub(crate) const ABOUT: &str =
 pub(crate) const STATUSES: &str =
     "Answers go to standard output. The status says how the program ended:\n  \
     0   done; of an audit: the solution keeps all rules\n  \
-    1   the solution breaks a rule, requests stay unplanned, or `run strict` ended at a refusal\n  \
+    1   the solution breaks a rule or is not adopted, requests stay unplanned, or `run strict` ended at a refusal\n  \
     2   a text or a store is refused\n  \
     3   a file or a device failed, is in use or stands there already, or an answer could not be written\n  \
     4   there was no memory\n  \
@@ -71,6 +71,39 @@ pub(crate) const LOAD_ANSWERS: &str =
 
 pub(crate) const RUN_ABOUT: &str = "Opens a store and does the commands of standard input";
 
+pub(crate) const ADOPT_ABOUT: &str = "Makes a solution the plan of a store";
+
+pub(crate) const ADOPT_ANSWERS: &str =
+    "The solution is read first, and audited against the store's instance. Each vehicle with a pin gets the first route left that\n\
+    begins with it, the others the routes that are left, in order. It does what the line `adopt` of `run` does, and prints:\n  \
+    ok                                  it is the store's plan, and no stop loses it (status 0)\n  \
+    broken RULE route R place P stop S  the first rule that it breaks, as of `audit`, and behind it `no NotAPlan` (status 1)\n  \
+    no NotAPlan                         it is no plan of the store (status 1)\n  \
+    no Pinned                           no route left begins with the pin of a vehicle (status 1)\n  \
+    no Dearer                           it costs more than the store's plan (status 1)\n  \
+    no NAME LINE                        the first fault of the solution's text, as of `audit` (status 2)\n  \
+    no NoInstance                       nothing was loaded into the store (status 2)\n  \
+    cannot read PATH                    the file can't be read, or that of the store not be opened (status 3)\n  \
+    store NAME                          why the store was not opened, as `run` tells it (status 2, 3 or 4)\n  \
+    fault device                        a write or a sync of the plan failed; `run` tells whether it is there (status 3)\n  \
+    no Spent                            the store can't be written any more (status 2)\n  \
+    no OutOfMemory                      (status 4)\n\n\
+    Behind any `no` the store stays as it is. What the system says of a file or a device that failed stands on standard error.";
+
+pub(crate) const INSTANCE_ABOUT: &str = "Prints the instance that a store holds";
+
+pub(crate) const INSTANCE_ANSWERS: &str =
+    "It prints the text of an instance of the kind that was loaded, with the requests that were added and without those that were\n\
+    withdrawn, so that other programs can solve it and audit its solutions (status 0). The plan and its pins are no part of it.\n\
+    Else it prints one line:\n  \
+    no NoInstance     nothing was loaded into the store (status 2)\n  \
+    no NoFormat       the format of its kind can't say the requests (status 2)\n  \
+    store NAME        why the store was not opened, as `run` tells it (status 2, 3 or 4)\n  \
+    cannot read PATH  the file can't be opened to be read (status 3)\n  \
+    out of memory     (status 4)\n\n\
+    The format of lilim can't say a request of one stop; that of vrp no pair, window or service, no numbers that do not run from 1\n\
+    on, and no instance without a request.";
+
 pub(crate) const UPGRADE_ABOUT: &str = "Takes a store of version 1 over into a new one";
 
 pub(crate) const UPGRADE_ANSWERS: &str =
@@ -114,15 +147,17 @@ pub(crate) const TIMETABLE_ANSWERS: &str =
     "Its words are STORE [tabs] or KIND INSTANCE SOLUTION [tabs]. It prints the line of `audit`, with its status,\n\
     and under it a block for each vehicle that is used, with a line for each stop:\n  \
     place stop kind partner    its place in the route, and what it is; partner is the other stop of its pair\n  \
-    arrival start waiting      when the vehicle comes, starts, and how long it waits\n  \
+    set off                    when the vehicle leaves the place before, to come just when service starts\n  \
+    arrival start waiting      when it comes if it leaves there at once, when service starts, and how long it waits between\n  \
+    service from to            how long service takes, and the times from which and to which it may start\n  \
     latest                     the latest start from which nothing from there on is late; - where the route breaks a rule\n  \
     load                       what it carries then\n  \
     pin                        `pin VEHICLE PLACE` is taken here (a line of `run`)\n\
     and then `unplanned R` for each request in no route, and what `why R` of `run` tells of it, behind `why R: `.\n\
     A .vrp instance has no times but arrivals.\n\n\
     By `tabs` the fields have tabs between them, `-` stands for nothing, and each line begins with what it is of:\n  \
-    vehicle    VEHICLE STOPS DISTANCE LOAD START RETURN WAITING\n  \
-    stop       VEHICLE PLACE STOP KIND PARTNER ARRIVAL START WAITING LATEST LOAD PIN\n  \
+    vehicle    VEHICLE STOPS DISTANCE LOAD SET_OFF RETURN WAITING\n  \
+    stop       VEHICLE PLACE STOP KIND PARTNER SET_OFF ARRIVAL START WAITING SERVICE FROM TO LATEST LOAD PIN\n  \
     unplanned  REQUEST\n  \
     why        REQUEST LINE\n\n\
     Where a stop is unknown or stands twice, and where a text or a store is refused, the first line stands alone:\n  \
@@ -133,15 +168,15 @@ pub(crate) const TIMETABLE_ANSWERS: &str =
 pub(crate) const DRAW_ABOUT: &str = "Draws a solution, or the plan of a store, as a picture in SVG";
 
 pub(crate) const DRAW_ANSWERS: &str =
-    "Its words are STORE or KIND INSTANCE SOLUTION [ROUTE]. It prints a picture of the depot, the stops, and each route\n\
-    with its figures; of a lilim instance also the day of each vehicle. By ROUTE it is that of one route alone, larger;\n\
-    routes count from 1. What breaks a rule is drawn too, and marked (status 0). Where there is no picture, it prints\n\
-    on standard error:\n  \
+    "Its words are STORE [ROUTE] or KIND INSTANCE SOLUTION [ROUTE]. It prints a picture of the depot, the stops, and each\n\
+    route with its figures; of a lilim instance also the day of each vehicle. By ROUTE it is that of one route alone,\n\
+    larger; routes count from 1, and of a store ROUTE is a vehicle, up to the last one that is used. What breaks a rule\n\
+    is drawn too, and marked (status 0). Where there is no picture, it prints on standard error:\n  \
     instance NAME LINE  the first fault of the instance's text (status 2)\n  \
     solution NAME LINE  the first fault of the solution's text (status 2)\n  \
     store NAME          why the store was not opened, as `run` tells it (status 2, 3 or 4)\n  \
     no NoInstance       nothing was loaded into the store (status 2)\n  \
-    no NoSuchRoute      the solution has no route of this number (status 2)\n  \
+    no NoSuchRoute      there is no route of this number (status 2)\n  \
     cannot read PATH    the file can't be read (status 3)\n  \
     out of memory       (status 4)";
 

@@ -2,7 +2,7 @@
 ghost use Rattle.std.specs.Prelude.{◌≡◌, option_and_then, option_map};
 ghost use Rattle.clap.specs.Words.{first_of, found_of, rows_of, subcommand_rows_of};
 ghost use Rattle.text_lines.specs.Numbers.{integer_of};
-ghost use Rattle.command_line.specs.Asked.{as_u64, asked_of, audit, explain, judged_in, paths_from, paths_in, paths_of, run_in, kind_named, list_in, load_in, load_of, deviation_or_none, draw_in, flag_named, route_or_none, seed_in, seed_named, steps_named, store_timetable_from, task_in, task_of, tasks_in, tasks_of, timetable_in, told_by, told_by_other, told_of, told_of_store, upgrade_in};
+ghost use Rattle.command_line.specs.Asked.{adopt_in, as_u64, asked_of, audit, explain, judged_in, paths_from, paths_in, paths_of, run_in, kind_named, list_in, load_in, load_of, deviation_or_none, draw_in, flag_named, route_or_none, seed_in, seed_named, steps_named, store_draw_from, store_timetable_from, task_in, task_of, tasks_in, tasks_of, timetable_in, told_by, told_by_other, told_of, told_of_store, upgrade_in};
 
 use crate::words::{Invocation, Loading, Paths, Task, Tasks};
 use clap::ArgMatches;
@@ -74,7 +74,7 @@ fn other_words<'a>(name: &str, words: &ArgMatches<'a>) -> Option<Invocation<'a>>
     }
 }
 
-// What the words behind `format`, `load`, `run` or `upgrade` ask for.
+// What the words behind `format`, `load`, `run`, `adopt`, `instance` or `upgrade` ask for.
 fn store_words<'a>(name: &str, words: &ArgMatches<'a>) -> Option<Invocation<'a>>
     ensures { option_map asked_of result ≡ told_of_store name.now (rows_of (found_of words.now)) }
 {
@@ -83,6 +83,10 @@ fn store_words<'a>(name: &str, words: &ArgMatches<'a>) -> Option<Invocation<'a>>
             store: value_of(words, "STORE")?,
         }),
         "load" => Some(Invocation::Load(loading_words(words)?)),
+        "adopt" => adopt_words(words),
+        "instance" => Some(Invocation::StoreInstance {
+            store: value_of(words, "STORE")?,
+        }),
         "upgrade" => upgrade_words(words),
         _ => run_words(words),
     }
@@ -95,6 +99,15 @@ fn run_words<'a>(matches: &ArgMatches<'a>) -> Option<Invocation<'a>>
     let store = value_of(matches, "STORE")?;
     let is_strict = flag_of_word("strict", value_of(matches, "strict"))?;
     Some(Invocation::Run { store, is_strict })
+}
+
+// `None` where a path is missing.
+fn adopt_words<'a>(matches: &ArgMatches<'a>) -> Option<Invocation<'a>>
+    ensures { option_map asked_of result ≡ adopt_in (rows_of (found_of matches.now)) }
+{
+    let store = value_of(matches, "STORE")?;
+    let solution = value_of(matches, "SOLUTION")?;
+    Some(Invocation::Adopt { store, solution })
 }
 
 // `None` where a path is missing.
@@ -122,19 +135,29 @@ fn timetable_words<'a>(matches: &ArgMatches<'a>) -> Option<Invocation<'a>>
     }
 }
 
-// One word is of a store, three or four are of a solution; `None` where they are of neither.
+// One or two words are of a store, three or four of a solution; `None` where they are of neither.
 fn draw_words<'a>(matches: &ArgMatches<'a>) -> Option<Invocation<'a>>
     ensures { option_map asked_of result ≡ draw_in (rows_of (found_of matches.now)) }
 {
     let first = value_of(matches, "STORE|KIND")?;
-    match value_of(matches, "INSTANCE") {
-        None => Some(Invocation::DrawStore { store: first }),
-        Some(instance) => {
-            let paths = paths_named(first, instance, value_of(matches, "SOLUTION")?)?;
+    let second = value_of(matches, "ROUTE|INSTANCE");
+    match value_of(matches, "SOLUTION") {
+        None => store_drawing(first, second),
+        Some(solution) => {
+            let paths = paths_named(first, second?, solution)?;
             let route = route_of_word(value_of(matches, "ROUTE"))?;
             Some(Invocation::Draw { paths, route })
         }
     }
+}
+
+// `None` where the last word is no number.
+fn store_drawing<'a>(store: &'a str, last: Option<&str>) -> Option<Invocation<'a>>
+    ensures { option_map asked_of result
+        ≡ store_draw_from store.now (option_map (λ w. w.now) last.entry) }
+{
+    let route = route_of_word(last)?;
+    Some(Invocation::DrawStore { store, route })
 }
 
 // The number of a route that a last word names, if there is one; `None` where it is no number.

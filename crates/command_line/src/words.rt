@@ -78,9 +78,10 @@ pub enum Invocation<'a> {
         paths: Paths<'a>,
         route: Option<u32>,
     },
-    /// `draw STORE`: that of the plan in the store in this file.
+    /// `draw STORE [ROUTE]`: that of the plan in the store in this file, or of the route of its vehicle with this number.
     DrawStore {
         store: &'a str,
+        route: Option<u32>,
     },
     /// `solve KIND INSTANCE STEPS [SEED [DEVIATION]]`: a solution of the instance in this file.
     Solve(Task<'a>),
@@ -97,6 +98,15 @@ pub enum Invocation<'a> {
     Run {
         store: &'a str,
         is_strict: bool,
+    },
+    /// `adopt STORE SOLUTION`: the plan of the store in this file becomes the one of the solution in the other file.
+    Adopt {
+        store: &'a str,
+        solution: &'a str,
+    },
+    /// `instance STORE`: the instance that the store in this file holds.
+    StoreInstance {
+        store: &'a str,
     },
     /// `upgrade OLD NEW`: a store in the file NEW, of the state that the store of version 1 in OLD stands for.
     Upgrade {

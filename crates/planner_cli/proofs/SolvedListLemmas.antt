@@ -11,12 +11,12 @@ use Rattle.planner_cli.specs.Solving.{unplanned_line}
 use Rattle.planner_cli.specs.SolvedList.{AreGrown, FilesDone, IsAuditOf, IsToldPlan, IsUnwritten, TellsPlaced, with_read}
 use Rattle.auditor_cli.specs.declared.answer.AuditAnswer.{AuditAnswer}
 
-abbrev pub the_done : List FileRead → List FileWrite → FilesDone
-the_done reads writes = record { reads = reads; writes = writes }
+abbrev pub the_done : List FileRead → List FileWrite → Option (List ℕ) → FilesDone
+the_done reads writes errors = record { reads = reads; writes = writes; errors = errors }
 
-pub done_as : (was now : List FileRead) (made : List FileWrite) (read : FileRead) → now ≡ read ∷ was
-    → the_done now made ≡ with_read read (the_done was made)
-done_as was now made read e = ap (λ (reads : List FileRead). the_done reads made) e
+pub done_as : (was now : List FileRead) (made : List FileWrite) (errors : Option (List ℕ)) (read : FileRead) → now ≡ read ∷ was
+    → the_done now made errors ≡ with_read read (the_done was made errors)
+done_as was now made errors read e = ap (λ (reads : List FileRead). the_done reads made errors) e
 
 pub all_grown : (was next now : FilesDone) → AreGrown was next → AreGrown next now → AreGrown was now
 all_grown was next now a b = (grown_twice was.reads next.reads now.reads a.0 b.0, grown_twice was.writes next.writes now.writes a.1 b.1)

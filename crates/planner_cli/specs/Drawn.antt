@@ -16,7 +16,8 @@ use Rattle.auditor_cli.specs.Examined.{IsExamined, answer_of}
 use Rattle.auditor_cli.specs.Files.{AreBothRead, IsUnread}
 use Rattle.auditor_cli.specs.Reads.{FileRead}
 use Rattle.command_text.specs.Answers.{line}
-use Rattle.planner_cli.specs.Opened.{IsForetoldBefore, OpensStore, TellsUnopened}
+use Rattle.planner_cli.specs.Looked.{LooksIntoStore}
+use Rattle.planner_cli.specs.Opened.{IsForetoldBefore, TellsUnopened}
 use Rattle.auditor_cli.specs.Telling.{TellsUnread}
 use Rattle.auditor_cli.specs.declared.audit.Examined.{Examined}
 use Rattle.auditor_cli.specs.declared.audit.Examined.TheVariants.{BadInstance, BadSolution, Judged}
@@ -83,20 +84,20 @@ busy_after count before (route ∷ routes) = busy_after (if length route == 0 th
 abbrev pub busy_front : List (List ℕ) → List (List ℕ)
 busy_front routes = take (busy_after 0 0 routes) routes
 
--- the picture of a job's plan, which passes, without the idle vehicles at its end
-abbrev pub IsPlanDrawn : JobValue → Drawing → Type 0
-IsPlanDrawn job drawing = IsPictureOf None job.problem (busy_front job.plan) (Pass (cost_of job.problem job.plan)) drawing
+-- the picture of a job's plan, which passes, or of one route, without the idle vehicles at its end
+abbrev pub IsPlanDrawn : Option ℕ → JobValue → Drawing → Type 0
+IsPlanDrawn route job drawing = IsPictureOf route job.problem (busy_front job.plan) (Pass (cost_of job.problem job.plan)) drawing
 
 -- that of a state's plan, or that nothing was loaded, which is written to the errors
-abbrev pub DrawsState : State → Option (List ℕ) → Option (List ℕ) → Option (List ℕ) → Option (List ℕ) → ℕ → Type 0
-DrawsState Empty output after errors later status = (status ≡ 2) × Appends errors later (line (codes "no NoInstance")) × Appends output after []
-DrawsState (Loaded job) output after errors later status = (drawn : Result Drawing AllocError) × IfOk drawn (IsPlanDrawn job) × TellsResult drawn output after errors later status
+abbrev pub DrawsState : Option ℕ → State → Option (List ℕ) → Option (List ℕ) → Option (List ℕ) → Option (List ℕ) → ℕ → Type 0
+DrawsState route Empty output after errors later status = (status ≡ 2) × Appends errors later (line (codes "no NoInstance")) × Appends output after []
+DrawsState route (Loaded job) output after errors later status = (drawn : Result Drawing AllocError) × IfOk drawn (IsPlanDrawn route job) × TellsResult drawn output after errors later status
 
--- The store in the file is opened, and its plan drawn; or it is told on the errors why there is no picture. `IsOld` is what is known of the
--- device over the file, and `foretold` is what the errors hold behind the line of how many search steps are repeated. `left` is the device as it
--- is left: as opening left it.
-abbrev pub DrawsStore : {D : Type 0} → sectors.Ghosts D → (List ℕ → D → Type 0) → List ℕ → Option (List ℕ) → Option (List ℕ) → Option (List ℕ) → Option (List ℕ) → ℕ → Type 0
-DrawsStore {D} on IsOld path output after errors later status =
+-- The store in the file is looked into, and its plan drawn, or the route of its vehicle with this number; or it is told on the errors why there is no
+-- picture. `IsShared` is what is known of the device over the file, and `foretold` is what the errors hold behind the line of how many search steps are
+-- repeated.
+abbrev pub DrawsStore : {D : Type 0} → sectors.Ghosts D → (List ℕ → D → Type 0) → List ℕ → Option ℕ → Option (List ℕ) → Option (List ℕ) → Option (List ℕ) → Option (List ℕ) → ℕ → Type 0
+DrawsStore {D} on IsShared path route output after errors later status =
     (foretold : Option (List ℕ))
-    × OpensStore on IsOld path (λ opened. (left : D) × (left ≡ opened.session.device) × DrawsState opened.session.state output after foretold later status)
+    × LooksIntoStore on IsShared path (λ looked. DrawsState route looked.state output after foretold later status)
     (λ unopened. IsForetoldBefore unopened errors foretold × TellsUnopened path unopened foretold later status × Appends output after [])

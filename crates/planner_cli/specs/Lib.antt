@@ -1,7 +1,9 @@
 -- what public contracts reach
+pub mod Adopting
 pub mod Drawn
 pub mod Formatting
 pub mod Loading
+pub mod Looked
 pub mod Opened
 pub mod Program
 pub mod Recovering
@@ -12,6 +14,7 @@ pub mod Statuses
 pub mod Telling
 pub mod Timetabled
 pub mod Upgrading
+pub mod Written
 pub use Rattle.command_line.specs.Asked
 pub use Rattle.command_serving.specs.Served
 pub use Rattle.command_serving.specs.Streams

@@ -13,7 +13,7 @@ use Rattle.command_core.specs.declared.states.State.{State}
 use Rattle.command_core.specs.declared.states.State.TheVariants.{Empty, Loaded}
 use Rattle.command_line.specs.Asked.{LoadAsked}
 use Rattle.command_text.specs.Answers.{line}
-use Rattle.command_text.specs.Readings.{InstanceFault, SpellsInstance}
+use Rattle.instance_read.specs.Readings.{InstanceFault, SpellsInstance}
 use Rattle.auditor_cli.specs.Reads.{FileRead}
 use Rattle.planner_cli.specs.Opened.{IsNewOpening, IsStoreOpening, TellsUnopened, wants_file}
 use Rattle.planner_cli.specs.Telling.{TellsAnswered, TellsInstanceFault}

@@ -3,11 +3,12 @@
 use Rattle.std.specs.Prelude.{◌≡◌, ◌⊎◌, ℕ, Bool, false, List, ◌∷◌, Option, Result, IfOk, MatchResult}
 use Rattle.std.specs.declared.io.Error.{Error}
 use Rattle.clap.specs.Words.{Text}
-use Rattle.command_line.specs.Asked.{Asked, IsUsageStatus, asks_help, audit, audits, built_in, draw, draw_store, explain, format, load, run, solve, solves, store_timetable, timetable, upgrade}
+use Rattle.command_line.specs.Asked.{Asked, IsUsageStatus, adopt, asks_help, audit, audits, built_in, draw, draw_store, explain, format, load, run, solve, solves, store_instance, store_timetable, timetable, upgrade}
 use Rattle.plan_types.specs.declared.requests.Kind.TheVariants.{LiLim}
 use Rattle.command_serving.specs.Held.{held, reads_of}
 use Rattle.command_serving.specs.Streams.{Given, Stream}
 use Rattle.auditor_cli.specs.Behind.{TellsBehind}
+use Rattle.planner_cli.specs.Adopting.{TellsAdopt}
 use Rattle.planner_cli.specs.Drawn.{DrawsStore, TellsDrawn}
 use Rattle.auditor_cli.specs.Explained.{TellsExplained}
 use Rattle.auditor_cli.specs.Files.{AreReadInTurn, TellsFiles}
@@ -22,9 +23,10 @@ use Rattle.planner_cli.specs.Statuses.{CanEndWith}
 use Rattle.auditor_cli.specs.Telling.{TellsAudit, example_instance, example_solution}
 use Rattle.planner_cli.specs.Timetabled.{TellsTimetable, TimetablesStore, form_of}
 use Rattle.planner_cli.specs.Upgrading.{UpgradesStore}
+use Rattle.planner_cli.specs.Written.{WritesStore}
 use Rattle.planner_cli.specs.declared.program.Streams.{Streams}
 use Rattle.sector_disk.specs.Disks.{DiskEntry}
-use Rattle.sector_disk.specs.declared.disks.DiskCall.TheVariants.{Make, Take}
+use Rattle.sector_disk.specs.declared.disks.DiskCall.TheVariants.{Make, Share, Take}
 use Rattle.sector_disk.specs.declared.sectors.Sectors as sectors
 
 -- What the program reads and writes, as far as it is known: the files that were read and those that were to be made beside stores, and what was asked
@@ -59,9 +61,9 @@ seen reads writes asked remaining written told files new_files disks streams = r
 abbrev pub given_in : World → World → Given
 given_in old new = record { known = old.input; before = old.reads; after = new.reads }
 
--- the files that were read and made
+-- the files that were read and made, and what the errors hold
 abbrev pub done_in : World → FilesDone
-done_in w = record { reads = w.files; writes = w.new_files }
+done_in w = record { reads = w.files; writes = w.new_files; errors = w.errors }
 
 -- what was asked of the files of stores
 abbrev pub disks_in : World → World → DisksAsked
@@ -74,12 +76,14 @@ AreReadFor (audit paths routes_alone) was now = AreReadInTurn paths.instance pat
 AreReadFor (audits kind list routes_alone) was now = IsReadFirst list was now
 AreReadFor (explain paths routes_alone) was now = AreReadInTurn paths.instance paths.solution was now
 AreReadFor (draw paths route) was now = AreReadInTurn paths.instance paths.solution was now
-AreReadFor (draw_store store) was now = now ≡ was
+AreReadFor (draw_store store route) was now = now ≡ was
 AreReadFor (solve task) was now = IsRead task.instance was now
 AreReadFor (solves tasks) was now = IsReadFirst tasks.list was now
 AreReadFor (format store) was now = now ≡ was
 AreReadFor (load asked) was now = IsRead asked.instance was now
 AreReadFor (run store is_strict) was now = now ≡ was
+AreReadFor (adopt store solution) was now = IsRead solution was now
+AreReadFor (store_instance store) was now = now ≡ was
 AreReadFor (upgrade old new) was now = now ≡ was
 AreReadFor (timetable paths is_tabbed) was now = AreReadInTurn paths.instance paths.solution was now
 AreReadFor (store_timetable store is_tabbed) was now = now ≡ was
@@ -89,15 +93,17 @@ abbrev pub AreMadeFor : Asked → List FileWrite → List FileWrite → Type 0
 AreMadeFor (solves tasks) was now = IsGrown was now
 AreMadeFor _ was now = now ≡ was
 
--- Which files of stores a word asks for, and which it may make, also where an answer can't be printed. `load` and `upgrade` ask for a file by what
--- they find (`TellsLoad`, `UpgradesStore`).
+-- Which files of stores a word asks for, and which it may make, also where an answer can't be printed. `load`, `adopt` and `upgrade` ask for a
+-- file by what they find (`TellsLoad`, `TellsAdopt`, `UpgradesStore`).
 abbrev pub AreAskedFor : Asked → List DiskEntry → List DiskEntry → Type 0
-AreAskedFor (draw_store store) was now = now ≡ (Take, store) ∷ was
+AreAskedFor (draw_store store route) was now = now ≡ (Share, store) ∷ was
 AreAskedFor (format store) was now = now ≡ (Make, store) ∷ was
 AreAskedFor (load asked) was now = Unit {0}
 AreAskedFor (run store is_strict) was now = now ≡ (Take, store) ∷ was
+AreAskedFor (adopt store solution) was now = Unit {0}
+AreAskedFor (store_instance store) was now = now ≡ (Share, store) ∷ was
 AreAskedFor (upgrade old new) was now = Unit {0}
-AreAskedFor (store_timetable store is_tabbed) was now = now ≡ (Take, store) ∷ was
+AreAskedFor (store_timetable store is_tabbed) was now = now ≡ (Share, store) ∷ was
 AreAskedFor _ was now = now ≡ was
 
 -- only `run` reads the input
@@ -111,10 +117,13 @@ AreErrorsKept (audit paths routes_alone) old new = Unit {0}
 AreErrorsKept (audits kind list routes_alone) old new = Unit {0}
 AreErrorsKept (explain paths routes_alone) old new = Unit {0}
 AreErrorsKept (draw paths route) old new = Unit {0}
-AreErrorsKept (draw_store store) old new = Unit {0}
+AreErrorsKept (draw_store store route) old new = Unit {0}
 AreErrorsKept (solve task) old new = Unit {0}
+AreErrorsKept (solves tasks) old new = Unit {0}
 AreErrorsKept (load asked) old new = Unit {0}
 AreErrorsKept (run store is_strict) old new = Unit {0}
+AreErrorsKept (adopt store solution) old new = Unit {0}
+AreErrorsKept (store_instance store) old new = Unit {0}
 AreErrorsKept (store_timetable store is_tabbed) old new = Unit {0}
 AreErrorsKept _ old new = new.errors ≡ old.errors
 
@@ -123,9 +132,9 @@ abbrev pub ServesFor : {D : Type 0} → sectors.Ghosts D → (List ℕ → D →
 ServesFor on IsOld (run store is_strict) old new = ServesStore on IsOld store is_strict (given_in old new) old.output new.output new.input_failed new.output_failed
 ServesFor on IsOld _ old new = Unit {0}
 
-module _ {D N : Type 0} (on_old : sectors.Ghosts D) (on_new : sectors.Ghosts N) (IsOld IsMade : List ℕ → D → Type 0) (IsNew : List ℕ → N → Type 0) where
-  -- What was asked for was done, and told, if it could be printed: `told` is the status that goes with it. `IsOld` and `IsMade` are what is known
-  -- of the device over the file at a path that is opened or made, `IsNew` of one over a file that is made beside it.
+module _ {D N : Type 0} (on_old : sectors.Ghosts D) (on_new : sectors.Ghosts N) (IsOld IsShared IsMade : List ℕ → D → Type 0) (IsNew : List ℕ → N → Type 0) where
+  -- What was asked for was done, and told, if it could be printed: `told` is the status that goes with it. `IsOld`, `IsShared` and `IsMade` are
+  -- what is known of the device over the file at a path that is opened, opened for reading alone, or made, `IsNew` of one over a file that is made beside it.
   abbrev pub Does : {X : Type 0} → Asked → World → World → Result ℕ X → Type 0
   Does built_in old new told = IfOk told (TellsAudit LiLim example_instance example_solution old.output.contents new.output.contents)
   Does (audit paths routes_alone) old new told =
@@ -139,19 +148,21 @@ module _ {D N : Type 0} (on_old : sectors.Ghosts D) (on_new : sectors.Ghosts N) 
       (λ status. TellsExplained routes_alone paths.kind paths.instance paths.solution old.files new.files old.output.contents new.output.contents status
       × TellsBehind paths.kind paths.instance paths.solution old.files new.files old.errors new.errors)
   Does (draw paths route) old new told = IfOk told (TellsDrawn paths.kind route paths.instance paths.solution old.files new.files old.output.contents new.output.contents old.errors new.errors)
-  Does (draw_store store) old new told = IfOk told (DrawsStore on_old IsOld store old.output.contents new.output.contents old.errors new.errors)
+  Does (draw_store store route) old new told = IfOk told (DrawsStore on_old IsShared store route old.output.contents new.output.contents old.errors new.errors)
   Does (solve task) old new told = IfOk told (TellsTask task old.files new.files old.output.contents new.output.contents old.errors new.errors)
   Does (solves tasks) old new told =
       IfOk told (SolvesList tasks (done_in old) (done_in new) old.output.contents new.output.contents)
   Does (format store) old new told = FormatsStore on_old IsMade store old.output.contents new.output.contents told
   Does (load asked) old new told = TellsLoad on_old on_new IsOld IsNew (disks_in old new) asked old.files new.files old.output.contents new.output.contents told
   Does (run store is_strict) old new told = IfOk told (RunsStore on_old IsOld store is_strict (given_in old new) old.output new.output new.input_failed new.output_failed)
+  Does (adopt store solution) old new told = TellsAdopt on_old IsOld (disks_in old new) store solution old.files new.files old.output.contents new.output.contents told
+  Does (store_instance store) old new told = IfOk told (WritesStore on_old IsShared store old.output.contents new.output.contents)
   Does (upgrade path new_path) old new told = UpgradesStore on_old on_new IsOld IsNew path new_path (disks_in old new) old.output.contents new.output.contents told
   Does (timetable paths is_tabbed) old new told =
       IfOk told (TellsTimetable paths.kind (form_of is_tabbed) paths.instance paths.solution old.files new.files old.output.contents new.output.contents)
-  Does (store_timetable store is_tabbed) old new told = IfOk told (TimetablesStore on_old IsOld store (form_of is_tabbed) old.output.contents new.output.contents)
+  Does (store_timetable store is_tabbed) old new told = IfOk told (TimetablesStore on_old IsShared store (form_of is_tabbed) old.output.contents new.output.contents)
 
-  -- The words were read. Where an answer could not be printed, the status is 3; what `format`, `load` and `upgrade` did is said all the same.
+  -- The words were read. Where an answer could not be printed, the status is 3; what `format`, `load`, `adopt` and `upgrade` did is said all the same.
   pub record Works (asked : Asked) (old new : World) (status : ℕ) : Type 0 where
     pub told : Result ℕ Error
     pub ends : MatchResult told (λ printed. status ≡ printed) (λ error. status ≡ 3)

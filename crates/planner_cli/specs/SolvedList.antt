@@ -11,23 +11,25 @@ use Rattle.plan_solve.specs.declared.solving.Solved.{Solved}
 use Rattle.command_line.specs.Asked.{TasksAsked}
 use Rattle.command_text.specs.Answers.{line}
 use Rattle.auditor_cli.specs.Answer.{IsAnswer}
+use Rattle.auditor_cli.specs.Behind.{limit_line}
 use Rattle.auditor_cli.specs.Listed.{IsBadLine, IsPair, TellsListBy, pair_text}
 use Rattle.auditor_cli.specs.Reads.{FileRead, FileWrite, IsGrown}
 use Rattle.planner_cli.specs.Solving.{fault_line, fault_status, unplanned_line}
 use Rattle.auditor_cli.specs.Telling.{unread_line, unread_status, unwritten_line, unwritten_status}
 use Rattle.auditor_cli.specs.declared.answer.AuditAnswer.{AuditAnswer}
 
--- the files that were read, and those that were to be made
+-- the files that were read, and those that were to be made, and what the errors hold
 pub record FilesDone : Type 0 where
   pub reads : List FileRead
   pub writes : List FileWrite
+  pub errors : Option (List ℕ)
 
--- what `F` and `N` tell of them
-abbrev pub files_done : {F N : Type 0} → (F → List FileRead) → (N → List FileWrite) → F → N → FilesDone
-files_done reads writes files new_files = record { reads = reads files; writes = writes new_files }
+-- what `F`, `N` and `E` tell of them
+abbrev pub files_done : {F N E : Type 0} → (F → List FileRead) → (N → List FileWrite) → (E → Option (List ℕ)) → F → N → E → FilesDone
+files_done reads writes told files new_files errors = record { reads = reads files; writes = writes new_files; errors = told errors }
 
 abbrev pub with_read : FileRead → FilesDone → FilesDone
-with_read read was = record { reads = read ∷ was.reads; writes = was.writes }
+with_read read was = record { reads = read ∷ was.reads; writes = was.writes; errors = was.errors }
 
 -- the instance's text was solved, and this is what was found; its lines of progress are of no account
 pub record Finds (tasks : TasksAsked) (text : List ℕ) (found : Result Solved SolveFault) : Type 0 where
@@ -72,13 +74,15 @@ pub record IsUnreadTask (path : List ℕ) (was now : FilesDone) (told : List ℕ
   pub error : ErrorKind
   pub noted : now.reads ≡ (path, Err error) ∷ was.reads
   pub same : now.writes ≡ was.writes
+  pub silent : now.errors ≡ was.errors
   pub line : told ≡ unread_line path error
   pub status_is : status ≡ unread_status error
 
--- it was read and solved, and what was found was placed
+-- it was read and solved, and what was found was placed; a limit that it names and that is not asked is told on the errors
 pub record IsSolvedInto (tasks : TasksAsked) (instance path : List ℕ) (was now : FilesDone) (told : List ℕ) (status : ℕ) : Type 0 where
   pub x : List ℕ
   pub noted : now.reads ≡ (instance, Ok x) ∷ was.reads
+  pub limit : Appends was.errors now.errors (limit_line tasks.kind instance x)
   pub found : Result Solved SolveFault
   pub finds : Finds tasks x found
   pub placed : IsPlaced tasks.kind x path found was.writes now.writes told status
@@ -86,6 +90,7 @@ pub record IsSolvedInto (tasks : TasksAsked) (instance path : List ℕ) (was now
 -- it was known beforehand that no file can be made there, and nothing was read
 pub record IsSpared (path : List ℕ) (was now : FilesDone) (told : List ℕ) (status : ℕ) : Type 0 where
   pub same : now.reads ≡ was.reads
+  pub silent : now.errors ≡ was.errors
   pub unwritten : IsUnwritten path was.writes now.writes told status
 
 abbrev pub IsToldOfTask : TasksAsked → List ℕ → List ℕ → FilesDone → FilesDone → List ℕ → ℕ → Type 0

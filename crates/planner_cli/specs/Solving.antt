@@ -13,6 +13,7 @@ use Rattle.plan_solve.specs.declared.faults.SolveFault.TheVariants as fault
 use Rattle.plan_solve.specs.declared.solving.Solved.{Solved}
 use Rattle.sol_text.specs.Written.{customers_text}
 use Rattle.auditor_cli.specs.AnswerText.{fault_text}
+use Rattle.auditor_cli.specs.Behind.{limit_line}
 use Rattle.command_line.specs.Asked.{TaskAsked}
 use Rattle.auditor_cli.specs.Reads.{FileRead}
 use Rattle.command_text.specs.Answers.{line}
@@ -68,10 +69,10 @@ pub record TellsSolving (task : TaskAsked) (text : List ℕ) (output after error
   pub solves : MatchResult found (IsSolved task.kind text task.seed task.steps task.deviation errors searched) (Fails task.kind text errors searched)
   pub told : TellsSolved found output after searched later status
 
--- the file was read, and the instance solved
+-- the file was read, and the instance solved; a limit that it names and that is not asked is told on the errors first
 abbrev pub SolvesText : TaskAsked → List FileRead → List FileRead → Option (List ℕ) → Option (List ℕ) → Option (List ℕ) → Option (List ℕ) → ℕ → Type 0
 SolvesText task was now output after errors later status =
-    (x : List ℕ) × (now ≡ (task.instance, Ok x) ∷ was) × TellsSolving task x output after errors later status
+    (x : List ℕ) × (noted : Option (List ℕ)) × (now ≡ (task.instance, Ok x) ∷ was) × Appends errors noted (limit_line task.kind task.instance x) × TellsSolving task x output after noted later status
 
 -- or it can't be read
 abbrev pub TellsNoTask : TaskAsked → List FileRead → List FileRead → Option (List ℕ) → Option (List ℕ) → Option (List ℕ) → Option (List ℕ) → ℕ → Type 0

@@ -20,7 +20,8 @@ use Rattle.auditor_cli.specs.Examined.{IsExamined, answer_of}
 use Rattle.auditor_cli.specs.Explained.{TellsExplanation, TellsNotRead}
 use Rattle.auditor_cli.specs.Files.{AreBothRead}
 use Rattle.auditor_cli.specs.Reads.{FileRead}
-use Rattle.planner_cli.specs.Opened.{OpensStore, TellsUnopened}
+use Rattle.planner_cli.specs.Looked.{LooksIntoStore}
+use Rattle.planner_cli.specs.Opened.{TellsUnopened}
 use Rattle.auditor_cli.specs.declared.audit.Examined.{Examined}
 use Rattle.auditor_cli.specs.declared.audit.Examined.TheVariants.{BadInstance, BadSolution, Judged}
 use Rattle.auditor_cli.specs.declared.explained.Explanation.{Explanation}
@@ -76,9 +77,8 @@ abbrev pub TellsState : Form → State → Option (List ℕ) → Option (List �
 TellsState form Empty before after status = (status ≡ 2) × Appends before after (line (codes "no NoInstance"))
 TellsState form (Loaded job) before after status = (made : Result Explanation AllocError) × IfOk made (IsPlanTold form job) × TellsExplanation made before after status
 
--- The store in the file is opened, and the timetable of its plan told, or why it can't be opened. `IsOld` is what is known of the device over
--- the file. `left` is the device as it is left: as opening left it.
+-- The store in the file is looked into, and the timetable of its plan told, or why it can't be. `IsShared` is what is known of the device over the
+-- file.
 abbrev pub TimetablesStore : {D : Type 0} → sectors.Ghosts D → (List ℕ → D → Type 0) → List ℕ → Form → Option (List ℕ) → Option (List ℕ) → ℕ → Type 0
-TimetablesStore {D} on IsOld path form before after status =
-    OpensStore on IsOld path (λ opened. (left : D) × (left ≡ opened.session.device) × TellsState form opened.session.state before after status)
-    (λ unopened. TellsUnopened path unopened before after status)
+TimetablesStore {D} on IsShared path form before after status =
+    LooksIntoStore on IsShared path (λ looked. TellsState form looked.state before after status) (λ unopened. TellsUnopened path unopened before after status)

@@ -1,10 +1,11 @@
 //! The picture of a solution in a file, or of the plan in a store, which is opened as for its timetable.
 ghost use Rattle.std.specs.Prelude.{◌≡◌, ◌≤◌, ◌∷◌, IfOk, None, Some, length};
-ghost use Rattle.sector_disk.specs.Disks.{IsTakenAt};
+ghost use Rattle.sector_disk.specs.Disks.{IsSharedAt};
 ghost use Rattle.planner_cli.specs.Drawn.{DrawsState, DrawsStore, IsDrawing, IsDrawingOf, IsPictureOf, IsPlanDrawn, TellsDrawing, TellsDrawn, TellsResult, busy_after, busy_front};
 ghost use Rattle.auditor_cli.specs.Files.{AreReadInTurn};
 
-use crate::opened::{close_store, open_store, tell_unopened};
+use crate::looked::{leave_store, look_into_store};
+use crate::opened::tell_unopened;
 use auditor_cli::status::{DONE, REFUSED};
 use auditor_cli::{
     AuditAnswer, Examined, ReadFiles, answer_of, examine, read_both, tell_unread,
@@ -162,44 +163,46 @@ fn enlarged(
     }
 }
 
-/// Opens the store in the file, and draws its plan. The picture goes to `output`. How many search steps opening repeats is told
-/// on `errors` first, and so is whatever else is told.
+/// Looks into the store in the file, and draws its plan, or the route of its vehicle with this number. The picture goes to `output`. How
+/// many search steps are repeated is told on `errors` first, and so is whatever else is told.
 pub(crate) fn draw_store<R, X: Disks, T: Start, W: Write, E: Write>(
     rt: &R,
     disks: &mut X,
     start: T,
     store: &str,
+    route: Option<u32>,
     output: &mut W,
     errors: &mut E,
 ) -> io::Result<u8>
 where
     R: Eprint + AllocGlobal,
     ensures status { IfOk result (λ status. status ≤ 4) }
-    ensures asks { X.asked disks.new ≡ (DiskCall.Take, store.now) ∷ X.asked disks.old }
+    ensures asks { X.asked disks.new ≡ (DiskCall.Share, store.now) ∷ X.asked disks.old }
     ensures told { IfOk result (DrawsStore ⟦<FileDevice<T> as Sectors>⟧
-        (IsTakenAt ⟦<HostFile as FileCalls>⟧.entries) store.now
+        (IsSharedAt ⟦<HostFile as FileCalls>⟧.entries) store.now route
         (W.contents output.old) (W.contents output.new)
         (E.contents errors.old) (E.contents errors.new)) }
 {
-    match open_store(rt, disks, start, store, errors) {
-        Ok(opened) => {
-            let told = draw_state(rt.alloc(), opened.session.state(), output, errors);
-            close_store(rt, store, opened.session);
+    match look_into_store(rt, disks, start, store, errors) {
+        Ok(looked) => {
+            let told = draw_state(rt.alloc(), route, &looked.state, output, errors);
+            leave_store(rt, store, looked);
             told
         }
         Err(unopened) => tell_unopened(rt, errors, store, unopened),
     }
 }
 
-// Draws a state's plan, or tells that nothing was loaded.
+// Draws a state's plan or its one route with this number, or tells that nothing was loaded.
 fn draw_state<W: Write, E: Write>(
     alloc: Global,
+    route: Option<u32>,
     state: &State,
     output: &mut W,
     errors: &mut E,
 ) -> io::Result<u8>
     ensures status { IfOk result (λ status. status ≤ 4) }
-    ensures told { IfOk result (DrawsState state.now
+    ensures told { IfOk result (DrawsState route state.now
         (W.contents output.old) (W.contents output.new)
         (E.contents errors.old) (E.contents errors.new)) }
 {
@@ -208,19 +211,20 @@ fn draw_state<W: Write, E: Write>(
             write_line(errors, b"no NoInstance")?;
             Ok(REFUSED)
         }
-        State::Loaded(job) => tell_drawn(&draw_job(alloc, job), output, errors),
+        State::Loaded(job) => tell_drawn(&draw_job(alloc, route, job), output, errors),
     }
 }
 
-// The picture of a job's plan, which passes. A vehicle keeps its number, so only the idle ones at the end are left out.
-fn draw_job(alloc: Global, job: &Job) -> Result<Drawing, OutOfMemory>
-    ensures { IfOk result (IsPlanDrawn job.now) }
+// The picture of a job's plan, which passes, or of its one route with this number. A vehicle keeps its number, so only the idle ones
+// at the end are left out.
+fn draw_job(alloc: Global, route: Option<u32>, job: &Job) -> Result<Drawing, OutOfMemory>
+    ensures { IfOk result (IsPlanDrawn route job.now) }
 {
     passes_are_local();
     plans_are_local();
     let verdict = Verdict::Pass(plan_cost(&job.problem, &job.plan));
     let routes = busy_front(job.plan.routes.as_slice());
-    picture_of(alloc, None, &job.problem, routes, verdict)
+    picture_of(alloc, route, &job.problem, routes, verdict)
 }
 
 // The vehicles up to the last one with a stop.

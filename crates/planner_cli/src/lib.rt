@@ -7,7 +7,7 @@
 //!
 //! How it works: each word of the program has one function over whatever reads and makes files, reader and writer: those of the words of
 //! an audit are `auditor_cli`'s, the others private here (`timetable_read`, `draw_read`, `solve_read`, `solves_read`, `load_read`,
-//! `format_store`, `run_store`, `timetable_store`, `draw_store`, `upgrade_store`).
+//! `adopt_read`, `format_store`, `run_store`, `timetable_store`, `draw_store`, `write_store`, `upgrade_store`).
 //! `run_words` hands them the paths, and what opens stores, what reads and makes files and the streams, which `main` makes.
 //!
 //! Modules, in reading order:
@@ -20,20 +20,22 @@
 //! - `stores`: the words `format`, `run` and `upgrade`
 //! - `made`: the opening of a store in a file that is made for it
 //! - `loaded`: the word `load`
+//! - `adopted`, `written`: the words `adopt` and `instance`
 //! - `program`: `run_words`
 //!
-//! Said by `specs/Program.antt`, and word by word by `Drawn.antt`, `Solving.antt`, `SolvedList.antt`, `Formatting.antt`, `Foretold.antt`,
-//! `Loading.antt`, `Running.antt`, `Timetabled.antt` and `Upgrading.antt`, which statuses by `Statuses.antt`, the opening of a store in a
+//! Said by `specs/Program.antt`, and word by word by `Adopting.antt`, `Drawn.antt`, `Solving.antt`, `SolvedList.antt`, `Formatting.antt`, `Foretold.antt`,
+//! `Loading.antt`, `Running.antt`, `Timetabled.antt`, `Upgrading.antt` and `Written.antt`, which statuses by `Statuses.antt`, the opening of a store in a
 //! file by `Opened.antt`; of the words of an audit by the files of `auditor_cli`. Proved:
 //! - `run_words`, of words without hyphen that ask for something (`EndsWith`): which files were read, and in which order, of a
 //!   list the list first (`AreReadFor`); that none but `solves` makes a file beside a store (`AreMadeFor`); which stores were opened
-//!   where they stand and which were made, by their paths (`AreAskedFor`, and what `load` and `upgrade` do); what was written to
+//!   where they stand and which were made, by their paths (`AreAskedFor`, and what `load`, `adopt` and `upgrade` do); what was written to
 //!   the output and to the errors, and the status that goes with it, from what these files gave (`Does`), but for an answer that
 //!   could not be printed; that the input is read by `run` alone. Of words that ask for nothing (`TellsUsage`): no file is read
 //!   or made, help goes to the output alone, a mistake to the errors alone
-//! - `draw_read` (`TellsDrawn`), `solve_read` (`TellsTask`): the picture; the text of a solution, or why there is none
+//! - `draw_read` (`TellsDrawn`), `solve_read` (`TellsTask`): the picture; the text of a solution, or why there is none, behind the
+//!   line of a limit that is not asked, if the instance names one
 //! - `solves_read` (`SolvesList`): of each line what was written where, which is what `solve` prints, or why nothing was; the
-//!   audit of what was written, or what it leaves out; the greatest status
+//!   audit of what was written, or what it leaves out; the greatest status; on the errors such a line of each instance that is solved
 //! - `draw_store` (`DrawsStore`): the picture of the plan in the store that opening the device gives, which is left as opening
 //!   leaves it
 //! - `timetable_read` (`TellsTimetable`), `timetable_store` (`TimetablesStore`): the audit's line and the timetable of the solution;
@@ -52,13 +54,20 @@
 //!   opened, left as it is where it holds an instance, and begun with `Load` where it is empty: after `ok` each image that a
 //!   stop may leave stands for the state that `Load` makes of the empty one. A file is made only where there is none, or over one
 //!   without a byte (`wants_file`), and formatted only where opening told that it holds no store (`IsMadeReady` of `open_new`)
+//! - `adopt_read` (`TellsAdopt`): the solution's file is read before the store is opened where it stands. The plan that its text is over
+//!   the store's instance and pins is offered to the session by `Adopt`, of which all is said that `apply` promises, so that behind `ok`
+//!   each image that a stop may leave stands for the state with this plan; else the session stays as it is
+//! - `write_store` (`WritesStore`): the text of the instance of the store that opening the device gives, which is left as opening leaves
+//!   it, or that its format can't say it
 //! - `upgrade_store` (`UpgradesStore`): `same store` where the words are the same or lead to one file; the old store is read
 //!   whole, and only where it stands for a state a file is made, of 8,450 sectors, with a store of that state
 #![tactic(auto)]
 
+mod adopted;
 mod drawn;
 mod laws;
 mod loaded;
+mod looked;
 mod made;
 mod opened;
 mod program;
@@ -68,6 +77,7 @@ mod solved_list;
 mod stores;
 mod telling;
 mod timetabled;
+mod written;
 
 pub use auditor_cli::{
     AuditAnswer, HostFiles, HostNewFiles, Line, ReadFiles, WriteFiles, audit_text, command_words,

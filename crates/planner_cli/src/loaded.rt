@@ -1,30 +1,37 @@
 //! The loading of the instance in a file into a store in another one.
 //!
 //! The instance is read first, so that a text that is refused leaves no store behind.
-ghost use Rattle.std.specs.Prelude.{◌≡◌, ◌≤◌, IfOk};
+ghost use Rattle.std.specs.Prelude.{◌≡◌, ◌≤◌, IfErr, IfOk, OnOk};
+ghost use Rattle.std.specs.Io.KnownBytes.{Appends};
 ghost use Rattle.std.specs.IoError.{error_kind};
 ghost use Rattle.std.specs.Option.{option_map};
+ghost use Rattle.instance_read.specs.Faults.{TellsFirstFault};
+ghost use Rattle.instance_read.specs.Readings.{InstanceFault, SpellsInstance};
 ghost use Rattle.command_line.specs.Asked.{load_of};
 ghost use Rattle.sector_disk.specs.Disks.{IsMadeAt, IsTakenAt};
 ghost use Rattle.planner_cli.specs.Opened.{is_not_found, wants_file};
 ghost use Rattle.planner_cli.specs.Loading.{BeginsOpening, BeginsSession, BeginsStore, TellsHeld, TellsLoad, holds_instance};
+ghost use Rattle.auditor_cli.specs.Behind.{limit_line};
 ghost use Rattle.auditor_cli.specs.Reads.{IsRead};
 
 use crate::made::open_new;
 use crate::opened::{Unopened, open_store, tell_unopened};
 use crate::telling::{tell_answer, tell_cause, tell_instance_fault};
 use auditor_cli::status::REFUSED;
-use auditor_cli::{ReadFiles, read_instance, tell_unread, write_line};
+use auditor_cli::{ReadFiles, read_instance, tell_limit, tell_unread, write_line};
 use checkpoint::StoreFault;
 use command_core::{Command, State};
 use command_line::Loading;
+use instance_read::ReadFault;
+use plan_types::Problem;
 use recover::Opened;
 use sector_disk::{Disks, FileCalls, FileDevice, HostFile, Sectors, Start};
 use std::alloc::Global;
 use std::io;
 use std::io::{ErrorKind, Write};
 
-/// Reads an instance and begins the store in a file with it, which is made where there is none, and tells what came of it.
+/// Reads an instance and begins the store in a file with it, which is made where there is none, and tells what came of it. A limit
+/// of the instance that is not asked is told on `errors` first.
 pub(crate) fn load_read<F: ReadFiles, R, X: Disks, T: Start, U: Start, W: Write, E: Write>(
     rt: &R,
     disks: &mut X,
@@ -49,7 +56,8 @@ where
         Ok(text) => text,
         Err(error) => return tell_unread(output, loading.instance, error.kind()),
     };
-    let problem = match read_instance(rt.alloc(), loading.kind, &text) {
+    let noted = read_noted(rt.alloc(), loading, &text, errors);
+    let problem = match noted.into_problem() {
         Ok(problem) => problem,
         Err(fault) => return tell_instance_fault(output, fault),
     };
@@ -64,6 +72,43 @@ where
         output,
         errors,
     )
+}
+
+// An instance that was read.
+#[derive(Drop)]
+struct NotedInstance {
+    // Whether it could be told that it names a limit that is not asked. Whoever can't be told loses nothing else.
+    told: io::Result<()>,
+    problem: Result<Problem, ReadFault>,
+}
+
+impl NotedInstance {
+    // The instance: what was told is of no account for it.
+    fn into_problem(self) -> Result<Problem, ReadFault>
+        ensures { result ≡ self.problem }
+    {
+        let NotedInstance { problem, .. } = self;
+        problem
+    }
+}
+
+// Reads an instance's text, and tells a limit that it names and that is not asked.
+fn read_noted<E: Write>(
+    alloc: Global,
+    loading: Loading,
+    text: &[u8],
+    errors: &mut E,
+) -> NotedInstance
+    ensures value { IfOk result.problem (SpellsInstance loading.entry.kind text.now) }
+    ensures fault { IfErr result.problem
+        (TellsFirstFault (InstanceFault loading.entry.kind text.now)) }
+    ensures told { OnOk result.told (Appends (E.contents errors.old) (E.contents errors.new)
+        (limit_line loading.entry.kind loading.entry.instance.now text.now)) }
+{
+    NotedInstance {
+        told: tell_limit(loading.kind, loading.instance, text, errors),
+        problem: read_instance(alloc, loading.kind, text),
+    }
 }
 
 // Begins the store in the file with the command, or one in a new file where there is none or an empty one.

@@ -2,23 +2,22 @@
 //!
 //! `run_words` takes what opens the files of stores, what reads files and what makes them, the streams, and values of `T: Start` and `U: Start`, all of which `main`
 //! makes: what the files of a store, and of one that a load or an upgrade makes, are as they are opened.
-ghost use Rattle.std.specs.Prelude.{◌≡◌, ◌≢◌, ◌≤◌, ◌∷◌, IfOk, drop, map};
-ghost use Rattle.command_line.specs.Asked.{ArePositional, Asked, asked_by, asked_of, usage_status_of};
-ghost use Rattle.plan_types.specs.declared.requests.Kind.TheVariants.{LiLim};
+ghost use Rattle.std.specs.Prelude.{◌≡◌, ◌≤◌, ◌∷◌, IfOk, drop, map};
+ghost use Rattle.command_line.specs.Asked.{ArePositional, Asked, asked_by, asked_of};
 ghost use Rattle.command_serving.specs.Held.{given_by, held};
-ghost use Rattle.sector_disk.specs.Disks.{IsMadeAt, IsTakenAt};
+ghost use Rattle.sector_disk.specs.Disks.{IsMadeAt, IsSharedAt, IsTakenAt};
 ghost use Rattle.planner_cli.specs.Program.{AreAskedFor, AreErrorsKept, AreMadeFor, AreReadFor, Does, EndsWith, IsInputKept, ServesFor, TellsUsage, seen};
 ghost use Rattle.planner_cli.specs.Running.{RunsStore, ServesStore};
 ghost use Rattle.planner_cli.specs.Statuses.{CanEndWith};
-ghost use Rattle.auditor_cli.specs.Telling.{TellsAudit, example_instance, example_solution};
 
+use crate::adopted::adopt_read;
 use crate::drawn::{draw_read, draw_store};
 use crate::loaded::load_read;
 use crate::solved::solve_read;
 use crate::solved_list::solves_read;
 use crate::stores::{format_store, run_store, upgrade_store};
 use crate::timetabled::{form_of, timetable_read, timetable_store};
-use auditor_cli::status::{DONE, OUT_OF_MEMORY, USAGE};
+use crate::written::write_store;
 use auditor_cli::{
     ReadFiles, WriteFiles, audit_example, audit_noted, audits_read, explain_read, status_of,
     tell_usage,
@@ -27,7 +26,6 @@ use command_line::{Invocation, read_words};
 use command_serving::Watched;
 use command_text::HELP;
 use sector_disk::{DiskCall, Disks, FileCalls, FileDevice, HostFile, Sectors, Start};
-use std::alloc::Global;
 use std::convert::AsStr;
 use std::io;
 use std::io::{Read, Write};
@@ -69,7 +67,8 @@ where
     ensures does { let asked = drop 1 (map S.text words.now) in
         (a : Asked) → ArePositional asked → asked_by asked ≡ Some a
         → EndsWith ⟦<FileDevice<T> as Sectors>⟧ ⟦<FileDevice<U> as Sectors>⟧
-        (IsTakenAt ⟦<HostFile as FileCalls>⟧.entries) (IsMadeAt ⟦<HostFile as FileCalls>⟧.entries)
+        (IsTakenAt ⟦<HostFile as FileCalls>⟧.entries)
+        (IsSharedAt ⟦<HostFile as FileCalls>⟧.entries) (IsMadeAt ⟦<HostFile as FileCalls>⟧.entries)
         (IsMadeAt ⟦<HostFile as FileCalls>⟧.entries) a
         (seen F.reads N.writes X.asked I.remaining W.contents E.contents files.old new_files.old
         disks.old streams)
@@ -146,7 +145,8 @@ where
         (seen F.reads N.writes X.asked I.remaining W.contents E.contents files.new new_files.new
         disks.new result.1) }
     ensures does { Does ⟦<FileDevice<T> as Sectors>⟧ ⟦<FileDevice<U> as Sectors>⟧
-        (IsTakenAt ⟦<HostFile as FileCalls>⟧.entries) (IsMadeAt ⟦<HostFile as FileCalls>⟧.entries)
+        (IsTakenAt ⟦<HostFile as FileCalls>⟧.entries)
+        (IsSharedAt ⟦<HostFile as FileCalls>⟧.entries) (IsMadeAt ⟦<HostFile as FileCalls>⟧.entries)
         (IsMadeAt ⟦<HostFile as FileCalls>⟧.entries) (asked_of invocation.entry)
         (seen F.reads N.writes X.asked I.remaining W.contents E.contents files.old new_files.old
         disks.old streams)
@@ -196,9 +196,9 @@ where
             let told = draw_read(alloc, paths, route, files, output, errors);
             (told, streams)
         }
-        Invocation::DrawStore { store } => {
+        Invocation::DrawStore { store, route } => {
             let Streams { output, errors, .. } = &mut streams;
-            let told = draw_store(rt, disks, start, store, output, errors);
+            let told = draw_store(rt, disks, start, store, route, output, errors);
             (told, streams)
         }
         Invocation::Solve(task) => {
@@ -207,7 +207,8 @@ where
             (told, streams)
         }
         Invocation::Solves(tasks) => {
-            let told = solves_read(alloc, tasks, files, new_files, &mut streams.output);
+            let Streams { output, errors, .. } = &mut streams;
+            let told = solves_read(alloc, tasks, files, new_files, output, errors);
             (told, streams)
         }
         Invocation::Format { store } => {
@@ -230,6 +231,16 @@ where
         }
         Invocation::Run { store, is_strict } => {
             run_over(rt, disks, start, store, is_strict, streams)
+        }
+        Invocation::Adopt { store, solution } => {
+            let Streams { output, errors, .. } = &mut streams;
+            let told = adopt_read(rt, disks, start, store, solution, files, output, errors);
+            (told, streams)
+        }
+        Invocation::StoreInstance { store } => {
+            let Streams { output, errors, .. } = &mut streams;
+            let told = write_store(rt, disks, start, store, output, errors);
+            (told, streams)
         }
         Invocation::Upgrade { old, new } => {
             let told = upgrade_store(

@@ -8,7 +8,7 @@ ghost use Rattle.planner_cli.specs.Solving.{IsToldFault, TellsPlan, TellsReasons
 ghost use Rattle.auditor_cli.specs.Reads.{IsRead};
 
 use auditor_cli::status::{BROKEN, DONE, REFUSED};
-use auditor_cli::{ReadFiles, tell_unread, tell_want_of_memory};
+use auditor_cli::{ReadFiles, tell_limit, tell_unread, tell_want_of_memory};
 use command_core::Job;
 use command_line::Task;
 use plan_audit::{passes_are_local, plans_are_local};
@@ -19,7 +19,8 @@ use std::alloc::Global;
 use std::io;
 use std::io::Write;
 
-/// Reads an instance and solves it. The plan goes to `output`, and whatever else is told to `errors`.
+/// Reads an instance and solves it. The plan goes to `output`, and whatever else is told to `errors`, a limit of the instance that is
+/// not asked first.
 pub(crate) fn solve_read<F: ReadFiles, W: Write, E: Write>(
     alloc: Global,
     task: Task,
@@ -38,6 +39,7 @@ pub(crate) fn solve_read<F: ReadFiles, W: Write, E: Write>(
         Ok(text) => text,
         Err(error) => return tell_unread(errors, task.instance, error.kind()),
     };
+    tell_limit(task.kind, task.instance, &text, errors)?;
     let solved = solve(
         alloc,
         task.kind,

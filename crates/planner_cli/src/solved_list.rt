@@ -11,8 +11,8 @@ ghost use Rattle.planner_cli.specs.SolvedList.{AreGrown, Ends, Finds, HasStatus,
 use crate::solved::{tell_fault, tell_unplanned};
 use auditor_cli::status::{BROKEN, DONE};
 use auditor_cli::{
-    AuditAnswer, ReadFiles, WriteFiles, audit_text, greater, pair_of, tell_bad_line, tell_unread,
-    tell_unwritten, write_line,
+    AuditAnswer, ReadFiles, WriteFiles, audit_text, greater, pair_of, tell_bad_line, tell_limit,
+    tell_unread, tell_unwritten, write_line,
 };
 use command_line::Tasks;
 use plan_solve::{SolveFault, Solved, solve};
@@ -23,26 +23,27 @@ use std::io::Write;
 use text_lines::Lines;
 
 /// Reads a list, and solves the instance that each of its lines names into the new file that it names. Gives the greatest
-/// status.
-pub(crate) fn solves_read<F: ReadFiles, N: WriteFiles, W: Write>(
+/// status. A limit of an instance that is not asked is told on `errors`.
+pub(crate) fn solves_read<F: ReadFiles, N: WriteFiles, W: Write, E: Write>(
     alloc: Global,
     tasks: Tasks,
     files: &mut F,
     new_files: &mut N,
     output: &mut W,
+    errors: &mut E,
 ) -> io::Result<u8>
     ensures status { IfOk result (λ status. status ≤ 4) }
     ensures reads { IsReadFirst tasks.entry.list.now (F.reads files.old) (F.reads files.new) }
     ensures makes { IsGrown (N.writes new_files.old) (N.writes new_files.new) }
     ensures told { IfOk result (SolvesList (tasks_of tasks.entry)
-        (files_done F.reads N.writes files.old new_files.old)
-        (files_done F.reads N.writes files.new new_files.new)
+        (files_done F.reads N.writes E.contents files.old new_files.old errors.old)
+        (files_done F.reads N.writes E.contents files.new new_files.new errors.new)
         (W.contents output.old) (W.contents output.new)) }
 {
     match files.read(tasks.list) {
         Ok(text) => {
             let solver = Solver { alloc, tasks };
-            solver.solve_lines(Lines::new(&text), files, new_files, output)
+            solver.solve_lines(Lines::new(&text), files, new_files, output, errors)
         }
         Err(error) => tell_unread(output, tasks.list, error.kind()),
     }
@@ -57,58 +58,61 @@ struct Solver<'a> {
 
 impl Solver<'_> {
     // Solves the instance that each line names, and tells what came of it before it goes on.
-    fn solve_lines<F: ReadFiles, N: WriteFiles, W: Write>(
+    fn solve_lines<F: ReadFiles, N: WriteFiles, W: Write, E: Write>(
         &self,
         lines: Lines<'_>,
         files: &mut F,
         new_files: &mut N,
         output: &mut W,
+        errors: &mut E,
     ) -> io::Result<u8>
         ensures status { IfOk result (λ status. status ≤ 4) }
         ensures does { Ends AreGrown (TellsLines (IsSolvedLine (tasks_of self.now.tasks)) lines.entry)
-            (files_done F.reads N.writes files.old new_files.old)
-            (files_done F.reads N.writes files.new new_files.new)
+            (files_done F.reads N.writes E.contents files.old new_files.old errors.old)
+            (files_done F.reads N.writes E.contents files.new new_files.new errors.new)
             (W.contents output.old) (W.contents output.new) result }
     {
         let mut greatest = DONE;
         for line in lines {
-            let status = self.solve_line(line, files, new_files, output)?;
+            let status = self.solve_line(line, files, new_files, output, errors)?;
             greatest = greater(greatest, status);
         }
         Ok(greatest)
     }
 
     // Tells what came of the instance that the line names, and flushes it.
-    fn solve_line<F: ReadFiles, N: WriteFiles, W: Write>(
+    fn solve_line<F: ReadFiles, N: WriteFiles, W: Write, E: Write>(
         &self,
         line: &[u8],
         files: &mut F,
         new_files: &mut N,
         output: &mut W,
+        errors: &mut E,
     ) -> io::Result<u8>
         ensures status { IfOk result (λ status. status ≤ 4) }
         ensures does { Ends AreGrown (TellsLine (IsSolvedLine (tasks_of self.now.tasks)) line.now)
-            (files_done F.reads N.writes files.old new_files.old)
-            (files_done F.reads N.writes files.new new_files.new)
+            (files_done F.reads N.writes E.contents files.old new_files.old errors.old)
+            (files_done F.reads N.writes E.contents files.new new_files.new errors.new)
             (W.contents output.old) (W.contents output.new) result }
     {
-        let status = self.solve_named(line, files, new_files, output)?;
+        let status = self.solve_named(line, files, new_files, output, errors)?;
         output.flush()?;
         Ok(status)
     }
 
     // Tells what came of the instance that the line names.
-    fn solve_named<F: ReadFiles, N: WriteFiles, W: Write>(
+    fn solve_named<F: ReadFiles, N: WriteFiles, W: Write, E: Write>(
         &self,
         line: &[u8],
         files: &mut F,
         new_files: &mut N,
         output: &mut W,
+        errors: &mut E,
     ) -> io::Result<u8>
         ensures status { IfOk result (λ status. status ≤ 4) }
         ensures does { Ends AreGrown (TellsLine (IsSolvedLine (tasks_of self.now.tasks)) line.now)
-            (files_done F.reads N.writes files.old new_files.old)
-            (files_done F.reads N.writes files.new new_files.new)
+            (files_done F.reads N.writes E.contents files.old new_files.old errors.old)
+            (files_done F.reads N.writes E.contents files.new new_files.new errors.new)
             (W.contents output.old) (W.contents output.new) result }
     {
         let (instance, path) = match pair_of(line) {
@@ -116,49 +120,52 @@ impl Solver<'_> {
             None => return tell_bad_line(output),
         };
         write!(output, "{instance}\t{path}\t")?;
-        self.solve_into(instance, path, files, new_files, output)
+        self.solve_into(instance, path, files, new_files, output, errors)
     }
 
     // Solves the instance into a new file under the path.
-    fn solve_into<F: ReadFiles, N: WriteFiles, W: Write>(
+    fn solve_into<F: ReadFiles, N: WriteFiles, W: Write, E: Write>(
         &self,
         instance: &str,
         path: &str,
         files: &mut F,
         new_files: &mut N,
         output: &mut W,
+        errors: &mut E,
     ) -> io::Result<u8>
         ensures status { IfOk result (λ status. status ≤ 4) }
         ensures does { Ends AreGrown (TellsOfTask (tasks_of self.now.tasks) instance.now path.now)
-            (files_done F.reads N.writes files.old new_files.old)
-            (files_done F.reads N.writes files.new new_files.new)
+            (files_done F.reads N.writes E.contents files.old new_files.old errors.old)
+            (files_done F.reads N.writes E.contents files.new new_files.new errors.new)
             (W.contents output.old) (W.contents output.new) result }
     {
         match new_files.look(path) {
-            Ok(()) => self.solve_file(instance, path, files, new_files, output),
+            Ok(()) => self.solve_file(instance, path, files, new_files, output, errors),
             Err(error) => tell_unwritten(output, path, error.kind()),
         }
     }
 
-    // Reads the instance, solves it, and places what is found under the path.
-    fn solve_file<F: ReadFiles, N: WriteFiles, W: Write>(
+    // Reads the instance, tells a limit of it that is not asked, solves it, and places what is found under the path.
+    fn solve_file<F: ReadFiles, N: WriteFiles, W: Write, E: Write>(
         &self,
         instance: &str,
         path: &str,
         files: &mut F,
         new_files: &mut N,
         output: &mut W,
+        errors: &mut E,
     ) -> io::Result<u8>
         ensures status { IfOk result (λ status. status ≤ 4) }
         ensures does { Ends AreGrown (TellsOfTask (tasks_of self.now.tasks) instance.now path.now)
-            (files_done F.reads N.writes files.old new_files.old)
-            (files_done F.reads N.writes files.new new_files.new)
+            (files_done F.reads N.writes E.contents files.old new_files.old errors.old)
+            (files_done F.reads N.writes E.contents files.new new_files.new errors.new)
             (W.contents output.old) (W.contents output.new) result }
     {
         let text = match files.read(instance) {
             Ok(text) => text,
             Err(error) => return tell_unread(output, instance, error.kind()),
         };
+        tell_limit(self.tasks.kind, instance, &text, errors)?;
         let found = self.find(&text);
         self.place(&text, path, &found, new_files, output)
     }

@@ -1,5 +1,5 @@
 //! What the program prints of stores and their files, and the status that goes with it.
-ghost use Rattle.std.specs.Prelude.{◌≡◌, ◌≢◌, ◌≤◌, ◌++◌, ◌∷◌, [], IfOk, MatchResult, OnOk, codes};
+ghost use Rattle.std.specs.Prelude.{◌≡◌, IfOk, OnOk};
 ghost use Rattle.std.specs.Io.KnownBytes.{Appends};
 ghost use Rattle.planner_cli.specs.Foretold.{repeating_line};
 ghost use Rattle.planner_cli.specs.Telling.{TellsAnswered, TellsMade, TellsInstanceFault, denial_line, denial_status, format_line, format_status, is_device_fault, new_line, open_line, open_status, store_line, store_status, unmade_line, wants_memory};
@@ -183,7 +183,8 @@ pub(crate) fn tell_answer<W: Write>(output: &mut W, answer: Result<(), Denial>) 
     }
 }
 
-fn tell_denial<W: Write>(output: &mut W, denial: Denial) -> io::Result<u8>
+/// Tells why a command was denied.
+pub(crate) fn tell_denial<W: Write>(output: &mut W, denial: Denial) -> io::Result<u8>
     ensures { IfOk result (λ status. (status ≡ denial_status denial)
         × Appends (W.contents output.old) (W.contents output.new) (denial_line denial)) }
 {
@@ -205,7 +206,8 @@ fn is_device_fault(denial: Denial) -> bool
     }
 }
 
-fn denial_status(denial: Denial) -> u8
+/// The status of a command that was denied.
+pub(crate) fn denial_status(denial: Denial) -> u8
     ensures { result ≡ denial_status denial }
 {
     match denial {

@@ -1,16 +1,16 @@
 //! The timetable of a solution in a file, or of the plan in a store.
 //!
-//! A store is opened as `run` opens it: under its lock, and the search steps that only its journal has are repeated in memory.
-//! Nothing of the store changes.
+//! A store is opened for reading alone, and the search steps that only its journal has are repeated in memory.
 ghost use Rattle.std.specs.Prelude.{◌≡◌, ◌≤◌, ◌∷◌, All, IfOk, string_bytes};
 ghost use Rattle.route_sched.specs.Route.{AreLiveOnce};
-ghost use Rattle.sector_disk.specs.Disks.{IsTakenAt};
+ghost use Rattle.sector_disk.specs.Disks.{IsSharedAt};
 ghost use Rattle.auditor_cli.specs.Answer.{IsAnswer, IsSolutionVerdict};
 ghost use Rattle.auditor_cli.specs.Examined.{HasVerdict};
 ghost use Rattle.auditor_cli.specs.Files.{AreReadInTurn};
 ghost use Rattle.planner_cli.specs.Timetabled.{IsPlanTold, IsTimetable, IsTimetableOf, TellsState, TellsTimetable, TimetablesStore, form_of, plan_text, solution_text};
 
-use crate::opened::{close_store, open_store, tell_unopened};
+use crate::looked::{leave_store, look_into_store};
+use crate::opened::tell_unopened;
 use auditor_cli::status::{DONE, REFUSED};
 use auditor_cli::{
     AuditAnswer, Examined, Explanation, ReadFiles, answer_of, examine, pass_line, read_both,
@@ -105,7 +105,7 @@ fn solution_text(
     judged_timetable(alloc, problem, plan, verdict, unplanned.as_slice(), form)
 }
 
-/// Opens the store in the file, and tells the timetable of its plan. How many search steps opening repeats is told on `errors`
+/// Looks into the store in the file, and tells the timetable of its plan. How many search steps are repeated is told on `errors`
 /// first.
 pub(crate) fn timetable_store<R, X: Disks, T: Start, W: Write, E: Write>(
     rt: &R,
@@ -119,15 +119,15 @@ pub(crate) fn timetable_store<R, X: Disks, T: Start, W: Write, E: Write>(
 where
     R: Eprint + AllocGlobal,
     ensures status { IfOk result (λ status. status ≤ 4) }
-    ensures asks { X.asked disks.new ≡ (DiskCall.Take, store.now) ∷ X.asked disks.old }
+    ensures asks { X.asked disks.new ≡ (DiskCall.Share, store.now) ∷ X.asked disks.old }
     ensures told { IfOk result (TimetablesStore ⟦<FileDevice<T> as Sectors>⟧
-        (IsTakenAt ⟦<HostFile as FileCalls>⟧.entries) store.now form
+        (IsSharedAt ⟦<HostFile as FileCalls>⟧.entries) store.now form
         (W.contents output.old) (W.contents output.new)) }
 {
-    match open_store(rt, disks, start, store, errors) {
-        Ok(opened) => {
-            let told = tell_state(rt.alloc(), opened.session.state(), form, output);
-            close_store(rt, store, opened.session);
+    match look_into_store(rt, disks, start, store, errors) {
+        Ok(looked) => {
+            let told = tell_state(rt.alloc(), &looked.state, form, output);
+            leave_store(rt, store, looked);
             told
         }
         Err(unopened) => tell_unopened(rt, output, store, unopened),

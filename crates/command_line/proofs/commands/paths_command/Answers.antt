@@ -10,5 +10,5 @@ returns c =
     let instance = with_rule kind (word_rule (codes "INSTANCE")) in
     let one = c.with_word-command.ensures (new_app c.args.name.now) (kind_rule c.args.kinds) c.bare_command.ensures c.kind_word.ensures in
     let two = c.with_word-command-2.ensures kind (word_rule (codes "INSTANCE")) one c.instance_word.ensures in
-    let three = c.with_word-command-3.ensures instance (word_rule (codes "SOLUTION")) two c.word.ensures in
+    let three = c.with_word-command-3.ensures instance (word_rule (codes "SOLUTION")) two c.required_solution_word.ensures in
     c.with_word.ensures (with_rule instance (word_rule (codes "SOLUTION"))) (new_rule (codes "routes")) three c.routes_word.ensures

@@ -1,7 +1,7 @@
 -- The commands are added in turn.
 use Rattle.std.proofs.Common.{codes}
 use Rattle.clap.specs.Words.{with_subcommand}
-use Rattle.command_line.specs.CommandLine.{load_app, run_app, store_app, upgrade_app}
+use Rattle.command_line.specs.CommandLine.{adopt_app, load_app, run_app, store_app, upgrade_app}
 use Rattle.command_line.proofs.commands.with_store_commands.Goals as goal
 
 pub returns : goal.returns
@@ -10,7 +10,11 @@ returns c = λ a is.
     let format = with_subcommand a (store_app (codes "format")).top in
     let load = with_subcommand format (load_app names).top in
     let run = with_subcommand load (run_app c.args.modes).top in
+    let adopt = with_subcommand run adopt_app.top in
+    let instance = with_subcommand adopt (store_app (codes "instance")).top in
     let one = c.with_command-above.ensures a (store_app (codes "format")) is c.store_command-format.ensures in
     let two = c.with_command-above-2.ensures format (load_app names) one c.load_command.ensures in
     let three = c.with_command-above-3.ensures load (run_app c.args.modes) two c.run_command.ensures in
-    c.with_command.ensures run upgrade_app three c.upgrade_command.ensures
+    let four = c.with_command-above-4.ensures run adopt_app three c.adopt_command.ensures in
+    let five = c.with_command-above-5.ensures adopt (store_app (codes "instance")) four c.store_command-instance.ensures in
+    c.with_command.ensures instance upgrade_app five c.upgrade_command.ensures

@@ -33,3 +33,6 @@ returns-in-DrawStore-clause-does g c = rw c.in-DrawStore.is c.draw_store-told.en
 
 pub returns-in-Draw-clause-does : goal.returns-in-Draw-clause-does
 returns-in-Draw-clause-does g c = rw c.in-Draw.is c.draw_read-told.ensures.told
+
+pub returns-in-Adopt-clause-does : goal.returns-in-Adopt-clause-does
+returns-in-Adopt-clause-does g c = rw c.in-Adopt.is c.adopt_read-told.ensures.adopts

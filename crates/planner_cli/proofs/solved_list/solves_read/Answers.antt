@@ -23,16 +23,17 @@ returns-in-Ok-clause-told g c =
     let after = g.W.Write.contents c.solve_lines.new.output in
     let was = g.F.ReadFiles.reads c.args.files.now in
     let mid = g.F.ReadFiles.reads c.read.new.self in
-    let now = the_done (g.F.ReadFiles.reads c.solve_lines.new.files) (g.N.WriteFiles.writes c.solve_lines.new.new_files) in
+    let now = the_done (g.F.ReadFiles.reads c.solve_lines.new.files) (g.N.WriteFiles.writes c.solve_lines.new.new_files) (g.E.Write.contents c.solve_lines.new.errors) in
     let made = g.N.WriteFiles.writes c.args.new_files.now in
+    let errors = g.E.Write.contents c.args.errors.now in
     let text = c.in-Ok.text.items in
-    let e = done_as was mid made (c.args.tasks.list.now, Ok text) c.in-Ok.ensures in
+    let e = done_as was mid made errors (c.args.tasks.list.now, Ok text) c.in-Ok.ensures in
     let are : c.new.result ≡ lines_of text = c.new.ensures.lines ∙ ap lines_of c.deref.ensures.value in
     IfOk-weaker c.solve_lines.result _ _
     (λ status told. inl (
       text,
-      read_as (IsSolvedLine tasks) (lines_of text) (the_done mid made) _ now before after status e
-          (lines_as (IsSolvedLine tasks) c.new.result (lines_of text) (the_done mid made) now before after status are told),
+      read_as (IsSolvedLine tasks) (lines_of text) (the_done mid made errors) _ now before after status e
+          (lines_as (IsSolvedLine tasks) c.new.result (lines_of text) (the_done mid made errors) now before after status are told),
     ))
     c.solve_lines.ensures.does.told
 
@@ -54,6 +55,6 @@ returns-in-Err-clause-told g c =
     IfOk-weaker c.tell_unread.result _ _
     (λ status told. inr (
       error,
-      done_as was now made (path, Err error) c.in-Err.ensures,
+      done_as was now made (g.E.Write.contents c.args.errors.now) (path, Err error) c.in-Err.ensures,
       subst (λ kind. TellsUnread path kind before after status) c.kind.ensures told,
     )) c.tell_unread.ensures

@@ -13,14 +13,15 @@ pub returns-in-Ok-clause-does : goal.returns-in-Ok-clause-does
 returns-in-Ok-clause-does g c =
     let tasks = tasks_of c.args.self.now.tasks in
     let reads = g.F.ReadFiles.reads c.args.files.now in
-    let now = files_done g.F.ReadFiles.reads g.N.WriteFiles.writes c.solve_file.new.files c.solve_file.new.new_files in
+    let errors = g.E.Write.contents c.args.errors.now in
+    let now = files_done g.F.ReadFiles.reads g.N.WriteFiles.writes g.E.Write.contents c.solve_file.new.files c.solve_file.new.new_files c.solve_file.new.errors in
     let before = g.W.Write.contents c.args.output.now in
     let after = g.W.Write.contents c.solve_file.new.output in
     let does = c.solve_file.ensures.does in
     record {
       kept = (does.kept.0, subst (λ made. IsGrown made (g.N.WriteFiles.writes c.solve_file.new.new_files)) c.in-Ok.ensures does.kept.1);
       told = IfOk-weaker c.solve_file.result _ _
-          (λ status told. subst (λ made. TellsOfTask tasks c.args.instance.now c.args.path.now (the_done reads made) now before after status) c.in-Ok.ensures told) does.told;
+          (λ status told. subst (λ made. TellsOfTask tasks c.args.instance.now c.args.path.now (the_done reads made errors) now before after status) c.in-Ok.ensures told) does.told;
     }
 
 pub returns-in-Err-clause-does : goal.returns-in-Err-clause-does
@@ -32,6 +33,6 @@ returns-in-Err-clause-does g c =
       told = IfOk-weaker c.tell_unwritten.result _ _
           (λ status told.
           let so = unwritten path _ c.kind.result _ _ _ _ status c.kind.ensures c.in-Err.ensures told in
-          (unwritten_line path error, inl (record { same = refl; unwritten = so.0 }), so.1))
+          (unwritten_line path error, inl (record { same = refl; silent = refl; unwritten = so.0 }), so.1))
           c.tell_unwritten.ensures.told;
     }

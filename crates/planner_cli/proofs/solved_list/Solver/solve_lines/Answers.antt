@@ -9,7 +9,7 @@ use Rattle.planner_cli.proofs.solved_list.Solver.solve_lines.Goals as goal
 pub loop-line-init : goal.loop-line-init
 loop-line-init g c =
     let before = g.W.Write.contents c.args.output.now in
-    let was = files_done g.F.ReadFiles.reads g.N.WriteFiles.writes c.args.files.now c.args.new_files.now in
+    let was = files_done g.F.ReadFiles.reads g.N.WriteFiles.writes g.E.Write.contents c.args.files.now c.args.new_files.now c.args.errors.now in
     let same : c.args.lines ≡ c.into_iter-line-iterator.result = search rules in (
       left_as _ _ _ _ was before c.args.lines c.into_iter-line-iterator.result 0 same (nothing_told (IsSolvedLine (tasks_of c.args.self.now.tasks)) c.args.lines was before),
       omega arith,
@@ -19,13 +19,13 @@ loop-line-init g c =
 pub loop-line-preserved : goal.loop-line-preserved
 loop-line-preserved g c =
     let does = IsSolvedLine (tasks_of c.args.self.now.tasks) in
-    let at = files_done g.F.ReadFiles.reads g.N.WriteFiles.writes in
+    let at = files_done g.F.ReadFiles.reads g.N.WriteFiles.writes g.E.Write.contents in
     let before = g.W.Write.contents c.args.output.now in
     let now = g.W.Write.contents c.loop-line.output in
     let after = g.W.Write.contents c.solve_line.new.output in
-    let was = at c.args.files.now c.args.new_files.now in
-    let next = at c.loop-line.files c.loop-line.new_files in
-    let later = at c.solve_line.new.files c.solve_line.new.new_files in
+    let was = at c.args.files.now c.args.new_files.now c.args.errors.now in
+    let next = at c.loop-line.files c.loop-line.new_files c.loop-line.errors in
+    let later = at c.solve_line.new.files c.solve_line.new.new_files c.solve_line.new.errors in
     let rest = c.next.new.self in
     let line = c.in-Some.line.now in
     let status = c.in_ok-status.status in
@@ -40,16 +40,16 @@ loop-line-preserved g c =
 
 pub returns-in_err-status-clause-does : goal.returns-in_err-status-clause-does
 returns-in_err-status-clause-does g c =
-    let at = files_done g.F.ReadFiles.reads g.N.WriteFiles.writes in
+    let at = files_done g.F.ReadFiles.reads g.N.WriteFiles.writes g.E.Write.contents in
     record {
-      kept = all_grown (at c.args.files.now c.args.new_files.now) (at c.loop-line.files c.loop-line.new_files) (at c.solve_line.new.files c.solve_line.new.new_files) c.loop-line.invariant.2 c.solve_line.ensures.does.kept;
+      kept = all_grown (at c.args.files.now c.args.new_files.now c.args.errors.now) (at c.loop-line.files c.loop-line.new_files c.loop-line.errors) (at c.solve_line.new.files c.solve_line.new.new_files c.solve_line.new.errors) c.loop-line.invariant.2 c.solve_line.ensures.does.kept;
       told = search rules;
     }
 
 pub returns-clause-does : goal.returns-clause-does
 returns-clause-does g c =
     let now = g.W.Write.contents c.loop-line.output in
-    let next = files_done g.F.ReadFiles.reads g.N.WriteFiles.writes c.loop-line.files c.loop-line.new_files in
+    let next = files_done g.F.ReadFiles.reads g.N.WriteFiles.writes g.E.Write.contents c.loop-line.files c.loop-line.new_files c.loop-line.errors in
     let none_left : c.loop-line.line-iterator ≡ [] = search rules in
     record {
       kept = c.loop-line.invariant.2;

@@ -7,8 +7,8 @@ use Rattle.planner_cli.proofs.solved_list.Solver.solve_lines.Given as goal
 
 abbrev pub invariant-loop-line : goal.invariant-loop-line
 invariant-loop-line g l =
-    let was = files_done g.F.ReadFiles.reads g.N.WriteFiles.writes l.fn.files l.fn.new_files in
-    let now = files_done g.F.ReadFiles.reads g.N.WriteFiles.writes l.files l.new_files in
+    let was = files_done g.F.ReadFiles.reads g.N.WriteFiles.writes g.E.Write.contents l.fn.files l.fn.new_files l.fn.errors in
+    let now = files_done g.F.ReadFiles.reads g.N.WriteFiles.writes g.E.Write.contents l.files l.new_files l.errors in
     IsSoFar (IsSolvedLine (tasks_of l.fn.self.tasks)) l.fn.lines was (g.W.Write.contents l.fn.output) now (g.W.Write.contents l.output) l.line-iterator l.greatest
     × (l.greatest ≤ 4)
     × AreGrown was now

@@ -1,0 +1,18 @@
+-- The plan was found, and the session answered; or there is none.
+use Rattle.std.proofs.Common.{Ok, Err, refl, subst}
+use Rattle.planner_cli.specs.Adopting.{FindsPlan}
+use Rattle.planner_cli.proofs.adopted.adopt_over.Goals as goal
+
+pub returns-in-Ok-clause-adopts : goal.returns-in-Ok-clause-adopts
+returns-in-Ok-clause-adopts g c = (
+  Ok c.in-Ok.plan,
+  subst (λ state. FindsPlan state c.args.text.now (Ok c.in-Ok.plan)) c.state.ensures.state c.in-Ok.ensures,
+  record { reply = c.apply-reply.result; applied = c.apply-reply.ensures; tells = c.tell_adopted.ensures },
+)
+
+pub returns-in-Err-clause-adopts : goal.returns-in-Err-clause-adopts
+returns-in-Err-clause-adopts g c = (
+  Err c.in-Err.unadopted,
+  subst (λ state. FindsPlan state c.args.text.now (Err c.in-Err.unadopted)) c.state.ensures.state c.in-Err.ensures,
+  (refl, c.tell_unadopted.ensures),
+)
