@@ -1,8 +1,8 @@
 #!/bin/sh
-# Checks which calls of the system a store in a file makes, and in which order: `format` takes the file's lock, writes
-# zeros where it gets longer, and syncs the file and its folder; each write of the store is at its offset, and each sync is
-# the file's own. The zeros are written in pieces, and count as one write; behind the first sync each write of the store is
-# one of the system. Wants strace, and the program that rt ci leaves.
+# Checks which calls of the system a store in a file makes, and in which order: `format` takes the file's lock, for itself
+# alone and without waiting, writes zeros where it gets longer, and syncs the file and its folder, however its path is told; each
+# write of the store is at its offset, and each sync is the file's own. The zeros are written in pieces, and count as one write;
+# behind the first sync each write of the store is one of the system. Wants strace, and the program that rt ci leaves.
 set -u
 
 top=$(CDPATH='' cd -- "$(dirname -- "$0")/.." && pwd -P) || exit 1
@@ -55,7 +55,7 @@ calls_of() {
                     next
                 }
                 call = call " " numbers[1] " at " numbers[2]
-            } else if (call == "ftruncate") call = call substr(words[2], 1)
+            } else if (call == "ftruncate" || call == "flock") call = call words[2]
             if (call ~ /sync$/) synced = 1
             tell_writes()
             print call " " kind[words[1]]
@@ -67,7 +67,7 @@ calls_of() {
 # store is opened it is read once more: the steps that are to be repeated are told first.
 cat >"$folder/wanted" <<'END'
 open file
-flock file
+flock LOCK_EX|LOCK_NB file
 pwrite64 4326400 at 0 file
 fsync file
 open folder
@@ -79,7 +79,7 @@ fdatasync file
 pwrite64 512 at 512 file
 fdatasync file
 open file
-flock file
+flock LOCK_EX|LOCK_NB file
 pread64 132096 at 0 file
 pread64 512 at 2229248 file
 fdatasync file
@@ -105,4 +105,33 @@ if ! diff "$folder/wanted" "$folder/got"; then
     echo "device_calls: the calls (>) are not those that are wanted (<)"
     exit 1
 fi
+
+# Words that read a store alone: they share its lock, and write and sync nothing. It is read twice, as above.
+cat >"$folder/wanted" <<'END'
+open file
+flock LOCK_SH|LOCK_NB file
+pread64 132096 at 0 file
+pread64 512 at 132096 file
+pread64 132096 at 0 file
+pread64 512 at 132096 file
+END
+for word in timetable draw instance; do
+    calls_of "$word" "$store" >"$folder/got"
+    if ! diff "$folder/wanted" "$folder/got" || ! grep -q "openat(.*/new.store\", O_RDONLY" "$folder/calls"; then
+        echo "device_calls: the calls of $word (>) are not those that are wanted (<), for reading alone"
+        exit 1
+    fi
+done
+
+# The folder that is synced, behind the file.
+mkdir -- "$folder/sub" || exit 1
+for name in bare.store sub/new.store ./sub/../here.store "$folder/sub/last.store"; do
+    (cd -- "$folder" && strace -o calls -e trace=open,openat,fsync "$program" format "$name" >answers) || exit 1
+    synced=$(awk '/^open/ { path[$NF] = $0; sub(/^[^"]*"/, "", path[$NF]); sub(/".*/, "", path[$NF]) }
+        /^fsync/ { file = substr($1, 7) + 0; print path[file] }' "$folder/calls")
+    if [ "$synced" != "$(printf '%s\n%s\n' "$name" "$(dirname -- "$name")")" ]; then
+        echo "device_calls: format $name syncs $synced"
+        exit 1
+    fi
+done
 echo "device_calls: the calls of the system are those of the store, in their order"

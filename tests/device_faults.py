@@ -13,6 +13,7 @@ A day's commands are run over a store while strace makes one call fail.
 
 Wants strace, and the program that rt ci leaves.
 """
+import errno
 import os
 import re
 import shutil
@@ -28,15 +29,6 @@ TOP = os.path.dirname(os.path.dirname(os.path.abspath(__file__)))
 PROGRAM = os.path.join(TOP, "crates", "planner", "out", "planner")
 CALLS = "openat,flock,fstat,newfstatat,statx,ftruncate,pread64,pwrite64,fsync,fdatasync"
 STORE_BYTES = 4_326_400
-# What the system says of an error.
-WORDS = {
-    "EACCES": "Permission denied",
-    "EIO": "Input/output error",
-    "ENOLCK": "No locks available",
-    "ENOMEM": "Cannot allocate memory",
-    "ENOSPC": "No space left on device",
-    "EROFS": "Read-only file system",
-}
 INSTANCE = b"""NAME : t3
 TYPE : CVRP
 DIMENSION : 4
@@ -73,6 +65,12 @@ COMMANDS = [
 def fail(text):
     print("device_faults: " + text)
     sys.exit(1)
+
+
+def told_of(path, error):
+    """What standard error tells of a call on this path that failed so."""
+    number = getattr(errno, error)
+    return f"planner: {path}: {os.strerror(number)} (os error {number})\n"
 
 
 def traced(folder, words, lines, inject=None, paths=None):
@@ -151,7 +149,7 @@ def check_failed_call(store, name, number, error):
     """1. of a call of the run, the first of which has number 1."""
     what = f"{name} {number} with {error}"
     status, output, errors, _ = store.run(f"{name}:error={error}:when={number}")
-    if WORDS[error] not in errors:
+    if told_of(store.path, error) not in errors:
         fail(f"{what}: {errors!r} on standard error")
     if output == "store DeviceFault\n":
         if (status, store.shown()) != (3, store.states[0]):
@@ -175,7 +173,8 @@ def check_failed_calls(store):
     met = {"opening": 0, "command": 0}
     for name in ("pwrite64", "fdatasync"):
         for number in range(1, count_of(store.calls, name) + 1):
-            for error in ("EIO", "ENOSPC"):
+            # EINVAL is what a file system says that has no sync.
+            for error in ("EIO", "ENOSPC", "EINVAL")[: 3 if name == "fdatasync" else 2]:
                 met[check_failed_call(store, name, number, error)] += 1
     for number in range(1, count_of(store.calls, "pread64") + 1):
         met[check_failed_call(store, "pread64", number, "EIO")] += 1
@@ -284,7 +283,7 @@ def check_format(making, before):
                 wanted = 3, "store DeviceFault\n"
             else:
                 wanted = (4, "store OutOfMemory\n") if error == "ENOMEM" else (3, f"cannot read {making.path}\n")
-            if (status, output) != wanted or WORDS[error] not in errors:
+            if (status, output, errors) != (*wanted, told_of(making.path, error)):
                 fail(f"{what}: status {status}, {output!r}, {errors!r}")
             check_made(making, what, before, calls, name, number)
     return calls
@@ -300,6 +299,11 @@ def check_formats(store):
         calls = check_format(making, before)
         if bool(count_of(calls, "ftruncate")) != (len(before or b"") >= STORE_BYTES):
             fail(f"format over {before and len(before)} bytes cuts it {count_of(calls, 'ftruncate')} times")
+    # A file that the system can't sync, as it is made and as it is written.
+    for name, output in (("fsync", f"cannot read {making.path}\n"), ("fdatasync", "store DeviceFault\n")):
+        got = making.run(None, f"{name}:error=EINVAL:when=1")[:3]
+        if got != (3, output, told_of(making.path, "EINVAL")):
+            fail(f"a file without {name}: {got}")
     # A folder that the system can't sync.
     status, output, errors, _ = making.run(None, "fsync:error=EINVAL:when=2")
     if (status, output, errors, making.left()) != (0, "ok\n", "", making.made(None)):
@@ -310,12 +314,18 @@ def check_formats(store):
 def check_opening(store):
     """4. of a store that is opened."""
     cases = [(name, number, error) for name, number in numbered(store.calls) if name not in ("pread64", "pwrite64", "fdatasync")
-             for error in ("EACCES", "ENOLCK", "ENOMEM", "EROFS")]
+             for error in ("EACCES", "EINVAL", "ENOLCK", "ENOMEM", "EOPNOTSUPP", "EROFS")]
     for name, number, error in cases:
         status, output, errors, _ = store.run(f"{name}:error={error}:when={number}")
         wanted = (4, "store OutOfMemory\n") if error == "ENOMEM" else (3, f"cannot read {store.path}\n")
-        if (status, output) != wanted or WORDS[error] not in errors:
+        if (status, output, errors) != (*wanted, told_of(store.path, error)):
             fail(f"run, {name} {number} with {error}: status {status}, {output!r}, {errors!r}")
+    for word in ("timetable", "draw"):
+        store.renew()
+        status, output, errors, _ = traced(store.folder, [word, store.path], b"", "pread64:error=EIO:when=1")
+        told = "store DeviceFault\n", told_of(store.path, "EIO")
+        if (status, output, errors) != (3, *(told if word == "timetable" else ("", "".join(told)))):
+            fail(f"{word} of a store that can't be read: status {status}, {output!r}, {errors!r}")
     status, output, _, _ = store.run("flock:error=EAGAIN:when=1")
     if (status, output) != (3, "store InUse\n"):
         fail(f"a lock that another has: status {status}, {output!r}")
@@ -344,7 +354,7 @@ def check_load(store, before):
     for name, number in numbered(calls):
         what = f"load, {name} {number} of {count_of(calls, name)}"
         status, output, errors, _ = run(f"{name}:error=EIO:when={number}")
-        if status != 3 or output not in told or WORDS["EIO"] not in errors:
+        if status != 3 or output not in told or errors != told_of(path, "EIO"):
             fail(f"{what}: status {status}, {output!r}, {errors!r}")
         told[output] += 1
         if before is not None and (output == "fault device\n") != (name == "pwrite64" or name == "fdatasync" and number > 1):
@@ -382,7 +392,7 @@ def check_upgrade(store):
                     wanted = 3, f"{side} DeviceFault\n"
                 else:
                     wanted = (4, f"{side} OutOfMemory\n") if error == "ENOMEM" else (3, f"cannot read {path}\n")
-                if (status, output) != wanted or WORDS[error] not in errors:
+                if (status, output, errors) != (*wanted, told_of(path, error)):
                     fail(f"upgrade, {name} {number} of {path} with {error}: status {status}, {output!r}, {errors!r}")
                 if contents(old) != old_store():
                     fail(f"upgrade, {name} {number} of {path} with {error}: the old store was changed")

@@ -4,7 +4,8 @@
 1. audit: rule by rule, texts that are refused, and one route of 40,000 customers.
 2. Words: what they ask for, which numbers are taken, and how other words are refused, with the usage of their command.
 3. Lines of run: which are read, over an empty store and over a loaded one; lines that are too long, and `load` in them.
-4. Sessions: pins, routes and next numbers as they are shown; timetables, and why a request is where it is; refusals.
+4. Sessions: pins, routes and next numbers as they are shown; timetables, and why a request is where it is; refusals. adopt and
+   instance: solutions become a store's plan, and what a store holds is read back.
 5. Steps: their pieces, how far `reach` goes, and the stages of annealing, made by hand, and cut and said again.
 6. solve: plans, what is left out, and tries of fewer vehicles. solves: a solution that can't be written whole.
 
@@ -164,6 +165,13 @@ TAKEN = [
     (["timetable", "lilim"], "", 0, "pass 3 0 0\n"),
     (["timetable", *A_VRP, "tabs"], "", 0, "pass 0 0 30\nvehicle\t1\t2\t20\t10\n"),
     (["draw", "lilim"], "", 0, "<svg "),
+    (["draw", "lilim", "1"], "", 2, ""),
+    (["draw", "lilim", "4294967295"], "", 2, ""),
+    (["adopt", "lilim", "c.sol"], "", 0, "ok\n"),
+    (["adopt", "lilim", "-"], "Route #1: 1 2\nRoute #2: 3\nCost 30\n", 0, "ok\n"),
+    (["draw", "lilim", "2"], "", 0, "<svg "),
+    (["draw", "lilim", "3"], "", 2, ""),
+    (["instance", "lilim"], "", 0, "NAME : "),
     (["solve", "lilim", "no.txt", "1000000000", "7"], "", 3, ""),
     (["solve", "vrp", "no.vrp", "5", "7", "1000000000"], "", 3, ""),
     (["solves", "lilim", "-", "1000000000"], "no.txt\tno.sol\n", 3, "no.txt\tno.sol\tcannot read no.txt\n"),
@@ -177,7 +185,7 @@ BAD_SEED = "SEED is 0 to 18446744073709551615, in digits alone"
 BAD_TASKS = "STEPS is 0 to 1000000000 and SEED 0 to 18446744073709551615, in digits alone"
 BAD_AUDIT = "the words are KIND INSTANCE SOLUTION [routes], and KIND is lilim or vrp"
 BAD_AUDITS = "the words are KIND LIST [routes], and KIND is lilim or vrp"
-BAD_DRAWING = "the words are STORE or KIND INSTANCE SOLUTION [ROUTE], KIND is lilim or vrp, and ROUTE a number, in digits alone"
+BAD_DRAWING = "the words are STORE [ROUTE] or KIND INSTANCE SOLUTION [ROUTE], KIND is lilim or vrp, and ROUTE a number, in digits alone"
 BAD_TIMETABLE = "the words are STORE [tabs] or KIND INSTANCE SOLUTION [tabs], and KIND is lilim or vrp"
 REFUSED = [
     (["audit", "lilim", "a"], NOT_GIVEN),
@@ -197,6 +205,8 @@ REFUSED = [
     (["solves", "vrp", "a.list", "1", "2", "3"], "unexpected argument '3' found"),
     (["draw"], NOT_GIVEN),
     (["draw", "lilim", "a"], BAD_DRAWING),
+    (["draw", "day.store", "4294967296"], BAD_DRAWING),
+    (["draw", "day.store", "-1"], "unexpected argument '-1' found"),
     (["draw", "Vrp", "a", "b"], BAD_DRAWING),
     (["draw", "vrp", "a", "b", "4294967296"], BAD_DRAWING),
     (["draw", "vrp", "a", "b", "first"], BAD_DRAWING),
@@ -209,6 +219,10 @@ REFUSED = [
     (["load", "a", "vrp", "b", "18446744073709551616"], BAD_SEED),
     (["format"], NOT_GIVEN),
     (["upgrade", "a"], NOT_GIVEN),
+    (["adopt", "a"], NOT_GIVEN),
+    (["adopt", "a", "b", "c"], "unexpected argument 'c' found"),
+    (["instance"], NOT_GIVEN),
+    (["instance", "a", "b"], "unexpected argument 'b' found"),
     (["timetable", "a", "b"], BAD_TIMETABLE),
     (["timetable", "Vrp", "a", "b"], BAD_TIMETABLE),
     (["timetable", "vrp", "a", "b", "tabs", "c"], "unexpected argument 'c' found"),
@@ -218,8 +232,10 @@ USAGES = {
     "audit": "<KIND> <INSTANCE> <SOLUTION> [routes]",
     "audits": "<KIND> <LIST> [routes]",
     "explain": "<KIND> <INSTANCE> <SOLUTION> [routes]",
-    "draw": "<STORE|KIND> [INSTANCE] [SOLUTION] [ROUTE]",
+    "adopt": "<STORE> <SOLUTION>",
+    "draw": "<STORE|KIND> [ROUTE|INSTANCE] [SOLUTION] [ROUTE]",
     "format": "<STORE>",
+    "instance": "<STORE>",
     "load": "<STORE> <KIND> <INSTANCE> [SEED]",
     "run": "<STORE> [strict]",
     "solve": "<KIND> <INSTANCE> <STEPS> [SEED] [DEVIATION]",
@@ -331,32 +347,34 @@ SESSIONS = [
     ("pairs before a plan", "lilim", TWO_PAIRS, [
         ("show", "requests 2 next 5\nsteps 0 place 0\nunplanned 1\nunplanned 3\ncost 2 0 0\n"),
         ("timetable", "\nunplanned 1\nwhy 1: alone: a vehicle can serve it\nwhy 1: fleet: 0 of 1 vehicles are used\n"
-            "unplanned 3\nwhy 3: alone: stop 3 starts at 3, latest 2\n"),
+            "unplanned 3\nwhy 3: alone: stop 3 would start at 3, latest 2\n"),
         ("timetable 1", ""),
         ("timetable 0", RANGE),
         ("timetable 2", RANGE),
         ("why 1", "alone: a vehicle can serve it\nfleet: 0 of 1 vehicles are used\n"),
-        ("why 2", NO_REQUEST),
-        ("why 3", "alone: stop 3 starts at 3, latest 2\n"),
+        ("why 2", "alone: a vehicle can serve it\nfleet: 0 of 1 vehicles are used\n"),
+        ("why 5", NO_REQUEST),
+        ("why 3", "alone: stop 3 would start at 3, latest 2\n"),
         ("deviation 1000000001", RANGE),
         ("add1 1 0 0 9 8 0", RANGE),
     ]),
     ("pairs without the first", "lilim", TWO_PAIRS, [
         ("withdraw 1", ""),
-        ("why 3", "alone: stop 3 starts at 3, latest 2\n"),
+        ("why 3", "alone: stop 3 would start at 3, latest 2\n"),
     ]),
     ("pairs, withdrawn by one", "lilim", TWO_PAIRS, [
         ("build", ""),
         ("show", "requests 2 next 5\nsteps 0 place 0\n" + PAIRS_ROUTE),
-        ("timetable 1", "\nvehicle 1: stops 4, distance 4, load 2, start 1, return 4, waiting 0\n"
-            " place  stop  kind      partner  arrival    start  waiting   latest     load\n"
-            "     1     1  pickup          2        1        1        0        1        1\n"
-            "     2     3  pickup          4        2        2        0        2        2\n"
-            "     3     4  delivery        3        2        2        0       49        1\n"
-            "     4     2  delivery        1        3        3        0       50        0 pin\n"
-            "     5     0  return          -        4        4        0      100        0\n"),
+        ("timetable 1", "\nvehicle 1: stops 4, distance 4, load 2, set off 0, return 4, waiting 0\n"
+            " place  stop  kind      partner  set off  arrival    start  waiting  service     from       to   latest     load\n"
+            "     1     1  pickup          2        0        1        1        0        0        0       50        1        1\n"
+            "     2     3  pickup          4        1        2        2        0        0        0        2        2        2\n"
+            "     3     4  delivery        3        2        2        2        0        0        0       50       49        1\n"
+            "     4     2  delivery        1        2        3        3        0        0        0       50       50        0 pin\n"
+            "     5     0  return          -        3        4        4        0        0        0      100      100        0\n"),
         ("why 3", "vehicle 1: stop 3 at place 2 starts at 2\nvehicle 1: stop 4 at place 3 starts at 2\n"),
         ("why 1", "vehicle 1: stop 1 at place 1 starts at 1\nvehicle 1: stop 2 at place 4 starts at 3\n"),
+        ("why 2", "vehicle 1: stop 1 at place 1 starts at 1\nvehicle 1: stop 2 at place 4 starts at 3\n"),
         ("pin 1 4", ""),
         ("show", "requests 2 next 5\nsteps 0 place 0\npin 1: 1 3 4 2\n" + PAIRS_ROUTE),
         ("withdraw 3", "no Pinned\n"),
@@ -368,7 +386,7 @@ SESSIONS = [
         # The direct way to stop 3 takes 3, and its latest time is 2.
         ("withdraw 1", ""),
         ("show", "requests 1 next 5\nsteps 0 place 0\nunplanned 3\ncost 1 0 0\n"),
-        ("timetable", "\nunplanned 3\nwhy 3: alone: stop 3 starts at 3, latest 2\n"),
+        ("timetable", "\nunplanned 3\nwhy 3: alone: stop 3 would start at 3, latest 2\n"),
         ("print", "no Unplanned\n"),
         # The numbers of requests that are gone are not given again.
         ("withdraw 3", ""),
@@ -444,8 +462,8 @@ SESSIONS = [
         ("why 3", "alone: a vehicle can serve it\nvehicle 1: would be back 4 late\nfleet: 1 of 1 vehicles are used\n"),
     ]),
     ("too heavy alone", "lilim", TOO_HEAVY, [("why 1", "alone: stop 1 needs 11, a vehicle takes 10\n")]),
-    ("too far alone", "lilim", TOO_FAR, [("why 1", "alone: stop 1 starts at 10, latest 8\n")]),
-    ("too long alone", "lilim", TOO_LONG, [("why 1", "alone: back at 20, latest 15\n")]),
+    ("too far alone", "lilim", TOO_FAR, [("why 1", "alone: stop 1 would start at 10, latest 8\n")]),
+    ("too long alone", "lilim", TOO_LONG, [("why 1", "alone: would be back at 20, latest 15\n")]),
     # Loads of 10 and 5 stand in two routes, and the new customer beside stop 3 has 5. A pin leaves the place behind it alone.
     ("singles", "vrp", THREE_CUSTOMERS, [
         ("why 1", "alone: a vehicle can serve it\nfleet: 0 of 3 vehicles are used\n"),
@@ -758,6 +776,67 @@ def check_hints(folder):
         expect(f"hints of {lines!r}", (status, errors), (0, told))
 
 
+# A store of the four customers: solutions one after another, each with its answer, status and hint, and the plan that is then shown.
+TWO_ROUTES = "vehicle 1: 1\nvehicle 2: 4 2 3\n"
+ADOPTED = [
+    ("Route #1: 1\nRoute #2: 2 3\nRoute #3: 4\nCost 54\n", "ok\n", 0, "", "vehicle 1: 1\nvehicle 2: 2 3\nvehicle 3: 4\n"),
+    ("Route #1: 1\nRoute #2: 4 2 3\nCost 44\n", "ok\n", 0, "", TWO_ROUTES),
+    ("Route #1: 1\nRoute #2: 2 3\nRoute #3: 4\nCost 54\n", "no Dearer\n", 1, "", TWO_ROUTES),
+    ("Route #1: 1\nRoute #2: 4 2\nCost 44\n", "broken 3 route 0 place 0 stop 3\nno NotAPlan\n", 1, "", TWO_ROUTES),
+    ("Route #1: 1\nRoute #2: 4 2 3\nCost 43\n", "broken 11 route 0 place 0 stop 0\nno NotAPlan\n", 1, "", TWO_ROUTES),
+    ("Route #1: 1\nRoute #2: 4 2 3\n", "no NoCost 3\n", 2, "", TWO_ROUTES),
+    ("Rout #1: 1\n", "no BadLine 1\n", 2, "", TWO_ROUTES),
+]
+# Vehicle 2 has stop 4 in its pin: then one whose routes begin with others, and one that has them in another order.
+ADOPTED_PINNED = [
+    ("Route #1: 1\nRoute #2: 3 2 4\nCost 44\n", "no Pinned\n", 1, "adopt: no route that is left begins with the pin of vehicle 2\n", TWO_ROUTES),
+    ("Route #1: 4 2 3\nRoute #2: 1\nCost 44\n", "ok\n", 0, "", TWO_ROUTES),
+]
+
+
+def check_adopted(folder):
+    """Solutions that become a store's plan, and those that don't."""
+    folder.new_store()
+    expect("adopt over an empty store", folder.planner("adopt", "day.store", folder.write("sol", BOTH)), (2, "no NoInstance\n", ""))
+    folder.run(load_line("vrp", FOUR))
+    for pins, solutions in (("", ADOPTED), ("pin 2: 4\n", ADOPTED_PINNED)):
+        if pins:
+            folder.run("pin 2 1\n")
+        for text, answer, status, hint, shown in solutions:
+            got = folder.planner("adopt", "day.store", folder.write("sol", text))
+            expect(f"adopt of {text!r}", got, (status, answer, hint))
+            told = folder.run("show\n").split("place 0\n")[1]
+            expect(f"the plan behind {text!r}", told.split("cost")[0], pins + shown)
+    expect("adopt of no file", folder.planner("adopt", "day.store", "nowhere")[:2], (3, "cannot read nowhere\n"))
+    expect("adopt over no store", folder.planner("adopt", "nowhere", "sol")[:2], (3, "cannot read nowhere\n"))
+    expect("adopt over no store's file", folder.planner("adopt", "sol", "sol")[:2], (2, "store BadLength\n"))
+
+
+def check_instances(folder):
+    """What a store holds is printed as an instance, which is loaded again, and by which its solution is audited."""
+    folder.new_store()
+    expect("the instance of an empty store", folder.planner("instance", "day.store"), (2, "no NoInstance\n", ""))
+    for kind, instance, lines in [
+        ("lilim", DAY, "add 1 5 5 0 900 5 6 6 0 900 5\nwithdraw 3\nbuild\n"),
+        ("lilim", DEPOT_ALONE, ""),
+        ("vrp", FOUR, "build\n"),
+    ]:
+        folder.new_store()
+        folder.run(load_line(kind, instance) + lines)
+        status, text, errors = folder.planner("instance", "day.store")
+        expect(f"the instance behind {lines!r}", (status, errors), (0, ""))
+        solution = folder.write("sol", folder.run("print\n").removesuffix("ok\n"))
+        told = folder.planner("audit", kind, folder.write("held", text), solution)
+        expect(f"the audit by it behind {lines!r}", (told[0], told[1][:7], told[2]), (0, "pass 0 ", ""))
+        os.path.exists(folder.file("again.store")) and os.remove(folder.file("again.store"))
+        expect("the instance loaded again", folder.planner("load", "again.store", kind, "held")[:2], (0, "ok\n"))
+        expect("its instance", folder.planner("instance", "again.store"), (0, text, ""))
+    folder.new_store()
+    folder.run(load_line("lilim", DAY) + "add1 1 5 5 0 900 5\n")
+    expect("an instance with a single stop", folder.planner("instance", "day.store"), (2, "no NoFormat\n", ""))
+    expect("the instance of no store", folder.planner("instance", "nowhere")[:2], (3, "cannot read nowhere\n"))
+
+
 def check_reopened(folder):
     """What a run has loaded is there in the next one."""
     folder.new_store()
@@ -857,6 +936,8 @@ def main():
         check_loads(folder)
         check_sessions(folder)
         check_hints(folder)
+        check_adopted(folder)
+        check_instances(folder)
         check_reopened(folder)
         check_strict(folder)
         check_same_search(folder)

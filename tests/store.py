@@ -14,6 +14,7 @@
 8. Search steps that are repeated: how many stands on standard error before, by `run` and `load`, and nothing where none are.
    Standard streams that are closed: the store is not taken for one of them.
 9. Tries with fewer vehicles are told on standard error. README's commands for what has begun, as they stand there.
+10. A copy of a store that is open behind a `checkpoint` is whole. One whose end is gone is refused, left alone, and opens where that is made up by zeros.
 
 Words: how often the program is stopped (200 where there are none). Wants the program that rt ci leaves.
 """
@@ -187,7 +188,9 @@ def day_of(store):
             day[fields[1]], last = [], "0"
         elif fields[0] == "stop" and fields[3] != "0":
             way = math.floor(math.dist(places[last], places[fields[3]]) + 0.5)
-            day[fields[1]].append((fields[3], int(fields[7]) - way))
+            if int(fields[6]) != int(fields[8]) - way:
+                fail(f"timetable: sets off to stop {fields[3]} at {fields[6]}, {way} before {fields[8]}")
+            day[fields[1]].append((fields[3], int(fields[6])))
             last = fields[3]
     return day
 
@@ -406,9 +409,34 @@ def check_cuts(folder, kind, instance, lines):
     print(f"store: stages of {kind}, cut at each of {syncs} syncs and said again, lead to one state")
 
 
+def check_copies(folder):
+    store, copy = os.path.join(folder, "copied.store"), os.path.join(folder, "copy.store")
+    load(store, 0, b"ok")
+    with subprocess.Popen([PROGRAM, "run", store], stdin=subprocess.PIPE, stdout=subprocess.PIPE) as process:
+        process.stdin.write(b"build\nsearch 10\ncheckpoint\n")
+        process.stdin.flush()
+        told = [process.stdout.readline() for _ in range(5)]
+        if told[0] != b"opened 0\n" or told[4] != b"ok\n":
+            fail(f"copies: {told}")
+        shutil.copyfile(store, copy)
+        process.communicate(b"search 10\n")
+    whole, shown = contents(copy), run(copy, b"show\n")
+    if not shown.startswith("requests 53 next 107\nsteps 10 ") or not run(store, b"show\n").startswith("requests 53 next 107\nsteps 20 "):
+        fail(f"copies: a copy behind a checkpoint shows {shown[:80]!r}")
+    os.truncate(copy, STORE_BYTES - 512)
+    for words in [["run", copy], ["load", copy, "lilim", INSTANCE]]:
+        got = subprocess.run([PROGRAM, *words], input=b"build\n", capture_output=True)
+        if (got.returncode, got.stdout, got.stderr) != (2, b"store NotFormatted\n", b"") or contents(copy) != whole[:-512]:
+            fail(f"copies: {words} without the end: status {got.returncode}, {got.stdout!r}, {got.stderr!r}")
+    os.truncate(copy, STORE_BYTES)
+    if run(copy, b"show\n") != shown:
+        fail("copies: a store that is made long again has another state")
+    print("store: a copy behind a checkpoint is whole, and one without its end is left alone")
+
+
 def refused(*words):
     """These words answer that the store is in use."""
-    got = subprocess.run([PROGRAM, *words], input=b"build\n", capture_output=True)
+    got = subprocess.run([PROGRAM, *words], input=b"build\n", capture_output=True, timeout=60)
     if (got.returncode, got.stdout, got.stderr) != (3, b"store InUse\n", b""):
         fail(f"{words} beside a run: status {got.returncode}, {got.stdout!r}, {got.stderr!r}")
 
@@ -509,6 +537,7 @@ def main():
         check_readme(folder)
         check_calls(folder)
         check_stages(folder)
+        check_copies(folder)
         check_two_at_once(folder)
         check_full(folder)
         check_stops(folder, stops)

@@ -144,7 +144,7 @@ EXPLAINED = [
         b"Route #2: 1\n"
         b"Cost 20\n",
         2,
-        "visited twice: stop 1 stands at place 1 of route 1 first\n"
+        "visited twice: stop 1 is at place 1 of route 1 already\n"
         "place   stop\n"
         "    1      1\n"
         "places that break this rule: 1\n"
@@ -155,7 +155,7 @@ EXPLAINED = [
         ONE_PAIR,
         b"Cost 0\n",
         3,
-        "missing stop: stop 1 stands nowhere, and the other stop of its pair, stop 2, nowhere\n"
+        "missing stop: stop 1 is in no route; the other stop of its pair, stop 2, is in no route\n"
         "stops in no route: 2\n"
         "  stop 1\n"
         "  stop 2\n",
@@ -166,10 +166,10 @@ EXPLAINED = [
         b"Route #1: 2\n"
         b"Cost 20\n",
         3,
-        "missing stop: stop 1 stands nowhere, and the other stop of its pair, stop 2, at place 1 of route 1\n"
-        "place   stop    arrival      start         window              load\n"
-        "    1      2         10         10          0..60                -4\n"
-        "    2      0         22         22          0..100               -4\n"
+        "missing stop: stop 1 is in no route; the other stop of its pair, stop 2, is at place 1 of route 1\n"
+        "place   stop      leg    arrival      start         window          service      load\n"
+        "    1      2       10         10         10          0..60                2        -4\n"
+        "    2      0       10         22         22          0..100               0        -4\n"
         "stops in no route: 1\n"
         "  stop 1\n",
     ),
@@ -180,10 +180,10 @@ EXPLAINED = [
         b"Route #2: 2\n"
         b"Cost 30\n",
         4,
-        "split pair: stop 1 stands at place 1 of route 1, and the other stop of its pair, stop 2, at place 1 of route 2\n"
-        "place   stop    arrival      start         window              load\n"
-        "    1      1          5          5          0..50                 4\n"
-        "    2      0         12         12          0..100                4\n"
+        "split pair: stop 1 is at place 1 of route 1; the other stop of its pair, stop 2, is at place 1 of route 2\n"
+        "place   stop      leg    arrival      start         window          service      load\n"
+        "    1      1        5          5          5          0..50                2         4\n"
+        "    2      0        5         12         12          0..100               0         4\n"
         "places that break this rule: 2\n"
         "  route 2 place 1 stop 2\n",
     ),
@@ -193,11 +193,11 @@ EXPLAINED = [
         b"Route #1: 2 1\n"
         b"Cost 20\n",
         5,
-        "early delivery: stop 2 stands at place 1 of route 1, and its pickup, stop 1, at place 2 of route 1\n"
-        "place   stop    arrival      start         window              load\n"
-        "    1      2         10         10          0..60                -4\n"
-        "    2      1         17         17          0..50                 0\n"
-        "    3      0         24         24          0..100                0\n"
+        "early delivery: stop 2 is at place 1 of route 1; its pickup, stop 1, is at place 2 of route 1\n"
+        "place   stop      leg    arrival      start         window          service      load\n"
+        "    1      2       10         10         10          0..60                2        -4\n"
+        "    2      1        5         17         17          0..50                2         0\n"
+        "    3      0        5         24         24          0..100               0         0\n"
         "places that break this rule: 1\n",
     ),
     (
@@ -206,10 +206,10 @@ EXPLAINED = [
         BOTH,
         6,
         "overload: after stop 1, demand 4, the load is 4, the capacity 3\n"
-        "place   stop    arrival      start         window              load\n"
-        "    1      1          5          5          0..50                 4  overload\n"
-        "    2      2         12         12          0..60                 0\n"
-        "    3      0         24         24          0..100                0\n"
+        "place   stop      leg    arrival      start         window          service      load\n"
+        "    1      1        5          5          5          0..50                2         4  overload\n"
+        "    2      2        5         12         12          0..60                2         0\n"
+        "    3      0       10         24         24          0..100               0         0\n"
         "places that break this rule: 1\n",
     ),
     (
@@ -217,11 +217,11 @@ EXPLAINED = [
         LATEST_11,
         BOTH,
         7,
-        "late service: stop 2, demand -4, starts at 12, latest 11: late by 1\n"
-        "place   stop    arrival      start         window              load\n"
-        "    1      1          5          5          0..50                 4\n"
-        "    2      2         12         12          0..11                 0  late\n"
-        "    3      0         24         24          0..100                0\n"
+        "late service: stop 2 starts at 12, latest 11: late by 1\n"
+        "place   stop      leg    arrival      start         window          service      load\n"
+        "    1      1        5          5          5          0..50                2         4\n"
+        "    2      2        5         12         12          0..11                2         0  late\n"
+        "    3      0       10         24         24          0..100               0         0\n"
         "places that break this rule: 1\n",
     ),
     (
@@ -229,11 +229,11 @@ EXPLAINED = [
         RETURN_23,
         BOTH,
         8,
-        "late return: after stop 2, demand -4, the vehicle is back at 24, latest 23: late by 1\n"
-        "place   stop    arrival      start         window              load\n"
-        "    1      1          5          5          0..50                 4\n"
-        "    2      2         12         12          0..60                 0\n"
-        "    3      0         24         24          0..23                 0  late\n"
+        "late return: after stop 2 the vehicle is back at 24, latest 23: late by 1\n"
+        "place   stop      leg    arrival      start         window          service      load\n"
+        "    1      1        5          5          5          0..50                2         4\n"
+        "    2      2        5         12         12          0..60                2         0\n"
+        "    3      0       10         24         24          0..23                0         0  late\n"
         "places that break this rule: 1\n",
     ),
     (
@@ -244,10 +244,10 @@ EXPLAINED = [
         b"Cost 8\n",
         9,
         "too many vehicles: 2 are used, the fleet has 1\n"
-        "place   stop    arrival      start         window              load\n"
-        "    1      3          3          3          0..50                 1\n"
-        "    2      4          3          3          0..50                 0\n"
-        "    3      0          6          6          0..100                0\n",
+        "place   stop      leg    arrival      start         window          service      load\n"
+        "    1      3        3          3          3          0..50                0         1\n"
+        "    2      4        0          3          3          0..50                0         0\n"
+        "    3      0        3          6          6          0..100               0         0\n",
     ),
     (
         "lilim",
@@ -256,11 +256,11 @@ EXPLAINED = [
         b"Route #2: 3 4\n"
         b"Cost 40\n",
         7,
-        "late service: stop 2, demand -4, starts at 12, latest 11: late by 1\n"
-        "place   stop    arrival      start         window              load\n"
-        "    1      1          5          5          0..50                 4\n"
-        "    2      2         12         12          0..11                 0  late\n"
-        "    3      0         24         24          0..100                0\n"
+        "late service: stop 2 starts at 12, latest 11: late by 1\n"
+        "place   stop      leg    arrival      start         window          service      load\n"
+        "    1      1        5          5          5          0..50                2         4\n"
+        "    2      2        5         12         12          0..11                2         0  late\n"
+        "    3      0       10         24         24          0..100               0         0\n"
         "places that break this rule: 2\n"
         "  route 2 place 2 stop 4\n",
     ),
@@ -269,8 +269,8 @@ EXPLAINED = [
         EARLIEST_8,
         BOTH,
         0,
-        "route  stops   distance      load      start     return    waiting\n"
-        "    1      2         20         4          8         27          3\n"
+        "route  stops   distance      load    set off     return    waiting\n"
+        "    1      2         20         4          3         27          3\n"
         "  sum      2         20                                          3\n",
     ),
     (
@@ -281,8 +281,8 @@ EXPLAINED = [
         b"Cost 21\n",
         11,
         "wrong cost: 21 is printed, the distance driven is 20\n"
-        "route  stops   distance      load      start     return    waiting\n"
-        "    1      2         20         4          5         24          0\n"
+        "route  stops   distance      load    set off     return    waiting\n"
+        "    1      2         20         4          0         24          0\n"
         "    2      0          0         0          0          0          0\n"
         "  sum      2         20                                          0\n",
     ),
@@ -293,9 +293,9 @@ EXPLAINED = [
         b"Route #2: 3\n"
         b"Cost 30\n",
         0,
-        "route  stops   distance      load      start     return    waiting\n"
-        "    1      2         20        10         10         20          0\n"
-        "    2      1         10         5          5         10          0\n"
+        "route  stops   distance      load    set off     return    waiting\n"
+        "    1      2         20        10          0         20          0\n"
+        "    2      1         10         5          0         10          0\n"
         "  sum      3         30                                          0\n",
     ),
     (
@@ -305,11 +305,11 @@ EXPLAINED = [
         b"Cost 0\n",
         6,
         "overload: after stop 3, demand 5, the load is 15, the capacity 10\n"
-        "place   stop    arrival      load\n"
-        "    1      1          5         6\n"
-        "    2      2         10        10\n"
-        "    3      3         17        15  overload\n"
-        "    4      0         22        15  overload\n"
+        "place   stop      leg    arrival      load\n"
+        "    1      1        5          5         6\n"
+        "    2      2        5         10        10\n"
+        "    3      3        7         17        15  overload\n"
+        "    4      0        5         22        15  overload\n"
         "places that break this rule: 1\n",
     ),
     # Several bugs at once: each rule behind the first one is counted, too.
@@ -322,10 +322,10 @@ EXPLAINED = [
         BOTH,
         6,
         "overload: after stop 1, demand 4, the load is 4, the capacity 3\n"
-        "place   stop    arrival      start         window              load\n"
-        "    1      1          5          5          0..50                 4  overload\n"
-        "    2      2         12         12          0..11                 0  late\n"
-        "    3      0         24         24          0..23                 0  late\n"
+        "place   stop      leg    arrival      start         window          service      load\n"
+        "    1      1        5          5          5          0..50                2         4  overload\n"
+        "    2      2        5         12         12          0..11                2         0  late\n"
+        "    3      0       10         24         24          0..23                0         0  late\n"
         "places that break this rule: 1\n"
         "places that break rule 7: 1\n"
         "places that break rule 8: 1\n",
@@ -718,13 +718,15 @@ REFUSED_SOLUTIONS = [
     (
         b"Route #1: 1\n"
         b"Cost 828.94\n",
-        "line 2: a word is not the number that has to stand there: the cost is 828.94, which has a fraction, allowed are whole numbers in 0..18446744073709551615. Each way is rounded to a whole number here: behind the word routes their sum is told, whatever is printed\n"
-        "Cost 828.94\n",
+        "line 2: a word is not the number that has to stand there: the cost is 828.94, which has a fraction, allowed are whole numbers in 0..18446744073709551615. Each way is rounded to a whole number here; behind the word routes no cost is asked\n"
+        "Cost 828.94\n"
+        "distance that the routes drive, each way rounded: 10\n",
     ),
     (
         b"cost: 8.3e2\n",
-        "line 1: a word is not the number that has to stand there: the cost is 8.3e2, allowed are whole numbers in 0..18446744073709551615. Each way is rounded to a whole number here: behind the word routes their sum is told, whatever is printed\n"
-        "cost: 8.3e2\n",
+        "line 1: a word is not the number that has to stand there: the cost is 8.3e2, allowed are whole numbers in 0..18446744073709551615. Each way is rounded to a whole number here; behind the word routes no cost is asked\n"
+        "cost: 8.3e2\n"
+        "distance that the routes drive, each way rounded: 0\n",
     ),
     (
         b"Route #1: 1\n"
@@ -748,7 +750,8 @@ REFUSED_SOLUTIONS = [
     (
         b"cost: -5\n",
         "line 1: a word is not the number that has to stand there: the cost is -5, allowed are whole numbers in 0..18446744073709551615\n"
-        "cost: -5\n",
+        "cost: -5\n"
+        "distance that the routes drive, each way rounded: 0\n",
     ),
     (
         b"Cost : 12 13\n",
@@ -769,7 +772,8 @@ REFUSED_SOLUTIONS = [
     ),
     (
         b"Route #1: 1\n",
-        "line 2: there is no cost line\n",
+        "line 2: there is no cost line\n"
+        "distance that the routes drive, each way rounded: 10\n",
     ),
 ]
 
@@ -782,11 +786,11 @@ TIMETABLES = [
         BOTH,
         [],
         "\n"
-        "vehicle 1: stops 2, distance 20, load 4, start 5, return 24, waiting 0\n"
-        " place  stop  kind      partner  arrival    start  waiting   latest     load\n"
-        "     1     1  pickup          2        5        5        0       50        4\n"
-        "     2     2  delivery        1       12       12        0       60        0 pin\n"
-        "     3     0  return          -       24       24        0      100        0\n",
+        "vehicle 1: stops 2, distance 20, load 4, set off 0, return 24, waiting 0\n"
+        " place  stop  kind      partner  set off  arrival    start  waiting  service     from       to   latest     load\n"
+        "     1     1  pickup          2        0        5        5        0        2        0       50       50        4\n"
+        "     2     2  delivery        1        7       12       12        0        2        0       60       60        0 pin\n"
+        "     3     0  return          -       14       24       24        0        0        0      100      100        0\n",
     ),
     (
         "vrp",
@@ -812,30 +816,30 @@ TIMETABLES = [
         LATEST_20,
         BOTH,
         ["tabs"],
-        "vehicle\t1\t2\t20\t4\t8\t27\t3\n"
-        "stop\t1\t1\t1\tpickup\t2\t5\t8\t3\t13\t4\t-\n"
-        "stop\t1\t2\t2\tdelivery\t1\t15\t15\t0\t20\t0\tpin\n"
-        "stop\t1\t3\t0\treturn\t-\t27\t27\t0\t100\t0\t-\n",
+        "vehicle\t1\t2\t20\t4\t3\t27\t3\n"
+        "stop\t1\t1\t1\tpickup\t2\t3\t5\t8\t3\t2\t8\t50\t13\t4\t-\n"
+        "stop\t1\t2\t2\tdelivery\t1\t10\t15\t15\t0\t2\t0\t20\t20\t0\tpin\n"
+        "stop\t1\t3\t0\treturn\t-\t17\t27\t27\t0\t0\t0\t100\t100\t0\t-\n",
     ),
     (
         "lilim",
         RETURN_66,
         BOTH,
         ["tabs"],
-        "vehicle\t1\t2\t20\t4\t5\t24\t0\n"
-        "stop\t1\t1\t1\tpickup\t2\t5\t5\t0\t47\t4\t-\n"
-        "stop\t1\t2\t2\tdelivery\t1\t12\t12\t0\t54\t0\tpin\n"
-        "stop\t1\t3\t0\treturn\t-\t24\t24\t0\t66\t0\t-\n",
+        "vehicle\t1\t2\t20\t4\t0\t24\t0\n"
+        "stop\t1\t1\t1\tpickup\t2\t0\t5\t5\t0\t2\t0\t50\t47\t4\t-\n"
+        "stop\t1\t2\t2\tdelivery\t1\t7\t12\t12\t0\t2\t0\t60\t54\t0\tpin\n"
+        "stop\t1\t3\t0\treturn\t-\t14\t24\t24\t0\t0\t0\t66\t66\t0\t-\n",
     ),
     (
         "lilim",
         LATEST_11,
         BOTH,
         ["tabs"],
-        "vehicle\t1\t2\t20\t4\t5\t24\t0\n"
-        "stop\t1\t1\t1\tpickup\t2\t5\t5\t0\t-\t4\t-\n"
-        "stop\t1\t2\t2\tdelivery\t1\t12\t12\t0\t-\t0\t-\n"
-        "stop\t1\t3\t0\treturn\t-\t24\t24\t0\t-\t0\t-\n",
+        "vehicle\t1\t2\t20\t4\t0\t24\t0\n"
+        "stop\t1\t1\t1\tpickup\t2\t0\t5\t5\t0\t2\t0\t50\t-\t4\t-\n"
+        "stop\t1\t2\t2\tdelivery\t1\t7\t12\t12\t0\t2\t0\t11\t-\t0\t-\n"
+        "stop\t1\t3\t0\treturn\t-\t14\t24\t24\t0\t0\t0\t100\t-\t0\t-\n",
     ),
     (
         "lilim",
@@ -843,12 +847,12 @@ TIMETABLES = [
         b"Route #1: 1 2 3 4\n"
         b"Cost 5\n",
         ["tabs"],
-        "vehicle\t1\t4\t5\t1\t1\t5\t0\n"
-        "stop\t1\t1\t1\tpickup\t2\t1\t1\t0\t49\t1\t-\n"
-        "stop\t1\t2\t2\tdelivery\t1\t1\t1\t0\t49\t0\tpin\n"
-        "stop\t1\t3\t3\tpickup\t4\t2\t2\t0\t50\t1\t-\n"
-        "stop\t1\t4\t4\tdelivery\t3\t2\t2\t0\t50\t0\tpin\n"
-        "stop\t1\t5\t0\treturn\t-\t5\t5\t0\t100\t0\t-\n",
+        "vehicle\t1\t4\t5\t1\t0\t5\t0\n"
+        "stop\t1\t1\t1\tpickup\t2\t0\t1\t1\t0\t0\t0\t50\t49\t1\t-\n"
+        "stop\t1\t2\t2\tdelivery\t1\t1\t1\t1\t0\t0\t0\t50\t49\t0\tpin\n"
+        "stop\t1\t3\t3\tpickup\t4\t1\t2\t2\t0\t0\t0\t50\t50\t1\t-\n"
+        "stop\t1\t4\t4\tdelivery\t3\t2\t2\t2\t0\t0\t0\t50\t50\t0\tpin\n"
+        "stop\t1\t5\t0\treturn\t-\t2\t5\t5\t0\t0\t0\t100\t100\t0\t-\n",
     ),
     (
         "vrp",

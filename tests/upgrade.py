@@ -48,7 +48,7 @@ def old_store():
 
 def expect(status, line, told, *words):
     """The program ends so, prints this line, and tells this on standard error."""
-    got = subprocess.run([PROGRAM, *words], capture_output=True, text=True)
+    got = subprocess.run([PROGRAM, *words], capture_output=True, text=True, timeout=60)
     wanted = (status, line + "\n", f"planner: {told}\n" if told else "")
     if (got.returncode, got.stdout, got.stderr) != wanted:
         fail(f"{words}: {got.returncode}, {got.stdout!r}, {got.stderr!r}; wanted {wanted}")

@@ -73,6 +73,11 @@ $why 9: bad line: a path is not UTF-8" ] || fail "audits: not why lines are bad"
 sed '2i vehicles : 5' P-n16-k8.vrp >"$folder/limited.vrp"
 expect 0 'pass 0 0 450' "planner: $folder/limited.vrp: line 2 names a limit that is not asked" audit vrp "$folder/limited.vrp" P-n16-k8.sol
 expect 0 'pass 0 0 450' "planner: $folder/limited.vrp: line 2 names a limit that is not asked" explain vrp "$folder/limited.vrp" P-n16-k8.sol routes
+limit="planner: $folder/limited.vrp: line 2 names a limit that is not asked"
+[ "$("$program" solve vrp "$folder/limited.vrp" 0 2>&1 >/dev/null | head -n 1)" = "$limit" ] || fail "solve: not the limit that is not asked"
+expect 0 'ok' "$limit" load "$folder/limited.store" vrp "$folder/limited.vrp"
+printf 'P-n16-k8.vrp\t%s\n%s\t%s\n' "$folder/free.sol" "$folder/limited.vrp" "$folder/limited.sol" >"$folder/tasks"
+[ "$("$program" solves vrp "$folder/tasks" 0 2>&1 >/dev/null)" = "$limit" ] || fail "solves: not the limit that is not asked"
 { cat P-n16-k8.vrp && echo 'MAX_DURATION : 30'; } >"$folder/limited.vrp"
 expect 0 'pass 0 0 450' '' audit vrp "$folder/limited.vrp" P-n16-k8.sol
 printf 'P-n16-k8.vrp\tP-n16-k8.sol\t8 450\n' >"$folder/pairs"
@@ -120,7 +125,7 @@ done
 for words in -h --help help -V --version check 'help check' 'help --help' 'help audit more' --frob audit 'audit --frob' 'audit lilim one-pair.txt' \
     'audit lilim one-pair.txt one-pair.sol more' 'audit lilim one-pair.txt one-pair.sol routes more' 'explain lilim a b more' 'audits vrp a more' \
     'audit LILIM one-pair.txt one-pair.sol' audits 'solve lilim one-pair.txt' load upgrade \
-    'run day.store careful' timetable 'draw lilim a b 1 more'; do
+    'run day.store careful' timetable 'draw lilim a b 1 more' adopt 'adopt day.store' 'adopt day.store a more' instance; do
     # shellcheck disable=SC2086 # several words
     alike $words
 done
@@ -132,15 +137,17 @@ expect 3 'cannot read nowhere' 'planner: nowhere: No such file or directory (os 
 got=$("$program" explain vrp lc101.txt lc101.sol | tail -n 1)
 [ "$got" = 'the text looks like a Li-Lim instance, and is read as vrp' ] || fail "explain of lc101 as vrp: $got"
 got=$(sed 's/^Cost .*/Cost 828.94/' lc101.sol | "$program" explain lilim lc101.txt - | sed -n 2p)
-[ "$got" = 'line 11: a word is not the number that has to stand there: the cost is 828.94, which has a fraction, allowed are whole numbers in 0..18446744073709551615. Each way is rounded to a whole number here: behind the word routes their sum is told, whatever is printed' ] ||
+[ "$got" = 'line 11: a word is not the number that has to stand there: the cost is 828.94, which has a fraction, allowed are whole numbers in 0..18446744073709551615. Each way is rounded to a whole number here; behind the word routes no cost is asked' ] ||
     fail "explain of a cost with a fraction: $got"
+got=$(sed 's/^Cost .*/Cost 828.94/' lc101.sol | "$program" explain lilim lc101.txt - | tail -n 1)
+[ "$got" = 'distance that the routes drive, each way rounded: 829' ] || fail "explain of a cost with a fraction: $got"
 got=$(sed 's/^Route #5:.*//' lc101.sol | "$program" explain lilim lc101.txt - | sed -n 3p)
 [ "$got" = 'stops in no route: 14' ] || fail "explain of lc101 without a route: $got"
 expect 0 'pass 0 10 829' '' timetable lilim lc101.txt lc101.sol
 expect 1 'broken 5 route 1 place 1 stop 2' '' timetable lilim one-pair.txt one-pair-reversed.sol tabs
 expect 3 'cannot read nowhere' 'planner: nowhere: No such file or directory (os error 2)' timetable nowhere tabs
 expect 64 '' 'error: the words are STORE [tabs] or KIND INSTANCE SOLUTION [tabs], and KIND is lilim or vrp' timetable lilim one-pair.txt
-[ "$("$program" timetable lilim lc101.txt lc101.sol tabs | sed -n 3p)" = "$(printf 'stop\t1\t1\t5\tpickup\t7\t15\t15\t0\t36\t10\t-')" ] || fail "timetable: not the first stop"
+[ "$("$program" timetable lilim lc101.txt lc101.sol tabs | sed -n 3p)" = "$(printf 'stop\t1\t1\t5\tpickup\t7\t0\t15\t15\t0\t90\t15\t67\t36\t10\t-')" ] || fail "timetable: not the first stop"
 expect 0 "$(head -n 1 lc101.svg)" '' draw lilim lc101.txt lc101.sol
 expect 2 '' 'solution BadLine 1' draw lilim one-pair.txt one-pair.txt
 expect 2 '' 'no NoSuchRoute' draw lilim lc101.txt lc101.sol 11
@@ -274,7 +281,20 @@ done
 "$program" draw lilim lc101.txt "$folder/drawn.sol" >"$folder/drawn.svg"
 [ -s "$folder/drawn.svg" ] && "$program" draw "$folder/drawn.store" | cmp -s -- "$folder/drawn.svg" - || fail "draw: not the store's plan"
 expect 3 '' 'planner: nowhere: No such file or directory (os error 2)' draw nowhere
-expect 64 '' 'error: the words are STORE or KIND INSTANCE SOLUTION [ROUTE], KIND is lilim or vrp, and ROUTE a number, in digits alone' draw lilim one-pair.txt
+[ "$("$program" draw "$folder/drawn.store" 3)" = "$("$program" draw lilim lc101.txt "$folder/drawn.sol" 3)" ] || fail "draw: not the route of the store's vehicle"
+expect 2 '' 'no NoSuchRoute' draw "$folder/drawn.store" 26
+expect 64 '' 'error: the words are STORE [ROUTE] or KIND INSTANCE SOLUTION [ROUTE], KIND is lilim or vrp, and ROUTE a number, in digits alone' draw lilim one-pair.txt
+
+# A solution on standard input becomes the store's plan, and what the store holds is an instance that audits its plan.
+[ "$("$program" adopt "$folder/drawn.store" - <lc101.sol)" = 'ok' ] || fail "adopt of a solution on standard input"
+[ "$(echo print | "$program" run "$folder/drawn.store" | sed '1d;$d')" = "$(cat lc101.sol)" ] || fail "adopt: not the plan that was adopted"
+"$program" instance "$folder/drawn.store" >"$folder/held.txt" || fail "instance: status $?"
+[ "$("$program" audit lilim "$folder/held.txt" lc101.sol)" = 'pass 0 10 829' ] || fail "instance: not the instance that was loaded"
+sed 's/^Route #5:.*//' lc101.sol >"$folder/missing.sol"
+expect 1 'broken 3 route 0 place 0 stop 42' '' adopt "$folder/drawn.store" "$folder/missing.sol"
+expect 0 'ok' '' format "$folder/no.store"
+expect 2 'no NoInstance' '' adopt "$folder/no.store" lc101.sol
+expect 2 'no NoInstance' '' instance "$folder/no.store"
 
 # A path is taken only as UTF-8.
 latin=$(printf 'caf\351.sol')

@@ -425,7 +425,7 @@ function read_place(line, part,    stop, came, start) {
     stop += 0
     came = time + way(last_stop, stop)
     start = came < earliest[stop] ? earliest[stop] : came
-    if (part[7] != came || part[8] != start || start > latest[stop] || !is_carried(stop))
+    if (part[8] != came || part[9] != start || start > latest[stop] || !is_carried(stop))
         refuse("timetable", "OtherOrders", line, "stop " stop " is otherwise by these orders and settings")
     keep_place(stop, came, start)
 }
@@ -527,7 +527,7 @@ function print_rest(    row, count) {
         printf "\norder %s, %d boxes, stops %d and %d\n", order[row], boxes[row], 2 * row - 1, 2 * row
         printf "  pick up %s  %s  %s\n", window(2 * row - 1), phone[2 * row - 1], place[2 * row - 1]
         printf "  deliver %s  %s  %s\n", window(2 * row), phone[2 * row], place[2 * row]
-        printf "%s", reason[2 * row - 1]
+        printf "%s", reason[2 * row - 1] != "" ? reason[2 * row - 1] : "  withdrawn\n"
     }
     if (count)
         print "day.sh: orders in no van: " count | "cat 1>&2"
