@@ -33,28 +33,28 @@ const TOLD: [Row; 4] = [
         SECOND_PAIR,
         1,
         Form::Columns,
-        "\nvehicle 2: stops 2, distance 6, load 1, start 3, return 6, waiting 0\n place  stop  kind      partner  arrival    start  waiting   latest     load\n     1     3  pickup          4        3        3        0       50        1\n     2     4  delivery        3        3        3        0       50        0 pin\n     3     0  return          -        6        6        0      100        0\n\nunplanned 1\nwhy 1: alone: a vehicle can serve it\nwhy 1: vehicle 2: fits at places 1 and 4\nwhy 1: fleet: 1 of 2 vehicles are used\n",
+        "\nvehicle 2: stops 2, distance 6, load 1, set off 0, return 6, waiting 0\n place  stop  kind      partner  set off  arrival    start  waiting  service     from       to   latest     load\n     1     3  pickup          4        0        3        3        0        0        0       50       50        1\n     2     4  delivery        3        3        3        3        0        0        0       50       50        0 pin\n     3     0  return          -        3        6        6        0        0        0      100      100        0\n\nunplanned 1\nwhy 1: alone: a vehicle can serve it\nwhy 1: vehicle 2: fits at places 1 and 4\nwhy 1: fleet: 1 of 2 vehicles are used\n",
     ),
     (
         TWO_PAIRS,
         SECOND_PAIR,
         1,
         Form::Tabs,
-        "vehicle\t2\t2\t6\t1\t3\t6\t0\nstop\t2\t1\t3\tpickup\t4\t3\t3\t0\t50\t1\t-\nstop\t2\t2\t4\tdelivery\t3\t3\t3\t0\t50\t0\tpin\nstop\t2\t3\t0\treturn\t-\t6\t6\t0\t100\t0\t-\nunplanned\t1\nwhy\t1\talone: a vehicle can serve it\nwhy\t1\tvehicle 2: fits at places 1 and 4\nwhy\t1\tfleet: 1 of 2 vehicles are used\n",
+        "vehicle\t2\t2\t6\t1\t0\t6\t0\nstop\t2\t1\t3\tpickup\t4\t0\t3\t3\t0\t0\t0\t50\t50\t1\t-\nstop\t2\t2\t4\tdelivery\t3\t3\t3\t3\t0\t0\t0\t50\t50\t0\tpin\nstop\t2\t3\t0\treturn\t-\t3\t6\t6\t0\t0\t0\t100\t100\t0\t-\nunplanned\t1\nwhy\t1\talone: a vehicle can serve it\nwhy\t1\tvehicle 2: fits at places 1 and 4\nwhy\t1\tfleet: 1 of 2 vehicles are used\n",
     ),
     (
         ONE_TOO_FAR,
         BOTH,
         3,
         Form::Tabs,
-        "vehicle\t1\t2\t20\t4\t5\t24\t0\nstop\t1\t1\t1\tpickup\t2\t5\t5\t0\t50\t4\t-\nstop\t1\t2\t2\tdelivery\t1\t12\t12\t0\t60\t0\tpin\nstop\t1\t3\t0\treturn\t-\t24\t24\t0\t100\t0\t-\nunplanned\t3\nwhy\t3\talone: stop 3 starts at 10, latest 8\n",
+        "vehicle\t1\t2\t20\t4\t0\t24\t0\nstop\t1\t1\t1\tpickup\t2\t0\t5\t5\t0\t2\t0\t50\t50\t4\t-\nstop\t1\t2\t2\tdelivery\t1\t7\t12\t12\t0\t2\t0\t60\t60\t0\tpin\nstop\t1\t3\t0\treturn\t-\t14\t24\t24\t0\t0\t0\t100\t100\t0\t-\nunplanned\t3\nwhy\t3\talone: stop 3 would start at 10, latest 8\n",
     ),
     (
         ONE_TOO_FAR,
         LATE,
         1,
         Form::Tabs,
-        "vehicle\t1\t2\t20\t1\t10\t20\t0\nstop\t1\t1\t3\tpickup\t4\t10\t10\t0\t-\t1\t-\nstop\t1\t2\t4\tdelivery\t3\t10\t10\t0\t-\t0\t-\nstop\t1\t3\t0\treturn\t-\t20\t20\t0\t-\t0\t-\nunplanned\t1\nwhy\t1\talone: a vehicle can serve it\nwhy\t1\tvehicle 1: stop 3 would start 2 late\nwhy\t1\tfleet: 1 of 1 vehicles are used\n",
+        "vehicle\t1\t2\t20\t1\t0\t20\t0\nstop\t1\t1\t3\tpickup\t4\t0\t10\t10\t0\t0\t0\t8\t-\t1\t-\nstop\t1\t2\t4\tdelivery\t3\t10\t10\t10\t0\t0\t0\t50\t-\t0\t-\nstop\t1\t3\t0\treturn\t-\t10\t20\t20\t0\t0\t0\t100\t-\t0\t-\nunplanned\t1\nwhy\t1\talone: a vehicle can serve it\nwhy\t1\tvehicle 1: stop 3 would start 2 late\nwhy\t1\tfleet: 1 of 1 vehicles are used\n",
     ),
 ];
 
