@@ -20,12 +20,13 @@ use Rattle.slack_tables.specs.Insertion.{KeepsLimits}
 use Rattle.slack_tables.specs.RequestFloors.{AreWays}
 use Rattle.slack_tables.specs.declared.request.RequestWays.{RequestWays}
 use Rattle.slack_tables.proofs.InsertLemmas.{request-valid}
-use Rattle.move_ops.specs.Insertion.{of_vehicle, best_insertion}
+use Rattle.move_ops.specs.Insertion.{of_vehicle}
 use Rattle.move_ops.specs.Laws.{PlansPassWithoutPins}
 use Rattle.move_ops.specs.Refreshing.{AreWithin}
 use Rattle.move_ops.specs.Tables.{plan_of, AreTablesIn}
-use Rattle.move_ops.specs.Choosing.{place_found, InsertionLaws, IsAsked, IsBestAmongThese, IsEntryOf, IsLookable, IsLookedAt, IsNamed, IsNamedOrUpTo, HasIdle, IsBetter, IsReach}
+use Rattle.move_ops.specs.Choosing.{place_found, InsertionLaws, IsAsked, IsBestAmongThese, IsBestWithin, IsEntryOf, IsLookable, IsLookedAt, IsNamed, IsNamedOrUpTo, HasIdle, IsBetter, IsReach}
 use Rattle.move_ops.specs.declared.tables.Found.{Found}
+use Rattle.move_ops.specs.declared.tables.Limit.{Limit}
 use Rattle.move_ops.proofs.Fitting.{route_limits}
 use Rattle.move_ops.proofs.Replacing.{parts}
 use Rattle.move_ops.proofs.Times.{none_some, some_same}
@@ -90,31 +91,31 @@ module _ (laws : InsertionLaws) {p : Instance} {pins : List (List ℕ)} {courses
     ]
 
     -- before the first vehicle those are looked at that are named
-    pub from_named : (best : Option Found) → IsBestAmongThese p pins (plan_of courses) r (IsNamed (plan_of courses) entries (length entries)) best → IsBestAmongThese p pins (plan_of courses) r (Looked 0) best
-    from_named best first = these_same p pins (plan_of courses) r (IsNamed (plan_of courses) entries (length entries)) (Looked 0) (λ u named. inr named) (λ u seen. elim seen [ inl none ↦ absurd (let low = none.0 in let high = none.1 in omega arith) | inr named ↦ named ]) best first
+    pub from_named : (l : Limit) (best : Option Found) → IsBestAmongThese p pins (plan_of courses) r l (IsNamed (plan_of courses) entries (length entries)) best → IsBestAmongThese p pins (plan_of courses) r l (Looked 0) best
+    from_named l best first = these_same p pins (plan_of courses) r l (IsNamed (plan_of courses) entries (length entries)) (Looked 0) (λ u named. inr named) (λ u seen. elim seen [ inl none ↦ absurd (let low = none.0 in let high = none.1 in omega arith) | inr named ↦ named ]) best first
 
-    pub answered : (answer : Option Found) → IsBestAmongThese p pins (plan_of courses) r (Looked (length courses)) answer
-        → option_map place_found answer ≡ best_insertion p pins (plan_of courses) (request_name r)
-    answered answer up =
-        answer_is laws asked (Looked (length courses)) (λ v from high. inl (from, (let e = length-map courses route_of in omega arith))) answer up
+    pub answered : (l : Limit) (answer : Option Found) → IsBestAmongThese p pins (plan_of courses) r l (Looked (length courses)) answer
+        → IsBestWithin p pins (plan_of courses) r l (option_map place_found answer)
+    answered l answer up =
+        answer_is laws asked l (Looked (length courses)) (λ v from high. inl (from, (let e = length-map courses route_of in omega arith))) answer up
 
     -- vehicles that are not looked at, all as one that was
-    rest_skipped : (left k : ℕ) → k + left ≡ length (plan_of courses)
+    rest_skipped : (l : Limit) (left k : ℕ) → k + left ≡ length (plan_of courses)
         → ((v : ℕ) → k < v → v ≤ length (plan_of courses) → HasIdle (plan_of courses) k × (length (of_vehicle (plan_of courses) v) ≡ 0))
-        → (best : Option Found) → IsBestAmongThese p pins (plan_of courses) r (Looked k) best → IsBestAmongThese p pins (plan_of courses) r (Looked (length courses)) best
-    rest_skipped zero k all idle best old =
+        → (best : Option Found) → IsBestAmongThese p pins (plan_of courses) r l (Looked k) best → IsBestAmongThese p pins (plan_of courses) r l (Looked (length courses)) best
+    rest_skipped l zero k all idle best old =
         let e = length-map courses route_of in
-        subst (λ n. IsBestAmongThese p pins (plan_of courses) r (Looked n) best) (omega arith) old
-    rest_skipped (suc left) k all idle best old =
+        subst (λ n. IsBestAmongThese p pins (plan_of courses) r l (Looked n) best) (omega arith) old
+    rest_skipped l (suc left) k all idle best old =
         let here = idle (k + 1) (omega arith) (omega arith) in
-        rest_skipped left (k + 1) (omega arith) (λ v above within. let h = idle v (omega arith) within in (idle_more (plan_of courses) k h.0, h.1)) best
-        (skipped laws asked (Looked k) (Looked (k + 1)) (k + 1) (omega arith) (omega arith) (one_on k) (one_off k) (inl (omega arith, omega arith)) here.1 k (omega arith) (λ u from le. inl (from, le)) here.0 best old)
+        rest_skipped l left (k + 1) (omega arith) (λ v above within. let h = idle v (omega arith) within in (idle_more (plan_of courses) k h.0, h.1)) best
+        (skipped laws asked l (Looked k) (Looked (k + 1)) (k + 1) (omega arith) (omega arith) (one_on k) (one_off k) (inl (omega arith, omega arith)) here.1 k (omega arith) (λ u from le. inl (from, le)) here.0 best old)
 
-    pub beyond : (end : ℕ) → end ≤ length courses → IsReach (plan_of courses) end → (best : Option Found) → IsBestAmongThese p pins (plan_of courses) r (Looked end) best
-        → IsBestAmongThese p pins (plan_of courses) r (Looked (length courses)) best
-    beyond end within reach best old =
+    pub beyond : (l : Limit) (end : ℕ) → end ≤ length courses → IsReach (plan_of courses) end → (best : Option Found) → IsBestAmongThese p pins (plan_of courses) r l (Looked end) best
+        → IsBestAmongThese p pins (plan_of courses) r l (Looked (length courses)) best
+    beyond l end within reach best old =
         let e = length-map courses route_of in
-        rest_skipped (length (plan_of courses) - end) end (omega arith) reach best old
+        rest_skipped l (length (plan_of courses) - end) end (omega arith) reach best old
 
   module _ (k : ℕ) (c : Course) (is : c ≡ get_or courses k c) (in_range : k < length courses) where
     pin_fits : length (of_vehicle pins (k + 1)) ≤ length c.stops
@@ -148,9 +149,9 @@ module _ (laws : InsertionLaws) {p : Instance} {pins : List (List ℕ)} {courses
     few_stops few = let g = ap length (route_at courses k c is in_range) in let h = stops_long courses k c is in_range in omega arith
 
     -- what is said by the table, said by the plan
-    by_plan : (best result : Option Found) → IsBetter p (route_of c) r (length (of_vehicle pins (k + 1))) (k + 1) best result
-        → IsBetter p (of_vehicle (plan_of courses) (k + 1)) r (length (of_vehicle pins (k + 1))) (k + 1) best result
-    by_plan best result better = subst (λ (l : List ℕ). IsBetter p l r (length (of_vehicle pins (k + 1))) (k + 1) best result) (sym (route_at courses k c is in_range)) better
+    by_plan : (l : Limit) (best result : Option Found) → IsBetter p (route_of c) r (length (of_vehicle pins (k + 1))) (k + 1) l best result
+        → IsBetter p (of_vehicle (plan_of courses) (k + 1)) r (length (of_vehicle pins (k + 1))) (k + 1) l best result
+    by_plan l best result better = subst (λ (route : List ℕ). IsBetter p route r (length (of_vehicle pins (k + 1))) (k + 1) l best result) (sym (route_at courses k c is in_range)) better
 
     module _ (entries : List (ℕ × Course)) where
       named_on : (n u : ℕ) → IsNamed (plan_of courses) entries n u → IsNamed (plan_of courses) entries (n + 1) u
@@ -166,21 +167,21 @@ module _ (laws : InsertionLaws) {p : Instance} {pins : List (List ℕ)} {courses
       ]
 
       -- a vehicle of the list more
-      pub named_more : (n : ℕ) (e : ℕ × Course) → slice_get entries n ≡ Some e → e.0 ≡ k + 1 → 1 ≤ length c.stops → length c.stops ≤ 40001 → (best result : Option Found)
-          → IsBestAmongThese p pins (plan_of courses) r (IsNamed (plan_of courses) entries n) best → IsLookedAt p (route_of c) r (length (of_vehicle pins (k + 1))) [] (k + 1) best result
-          → IsBestAmongThese p pins (plan_of courses) r (IsNamed (plan_of courses) entries (n + 1)) result
-      named_more n e at same some few best result old looked =
+      pub named_more : (l : Limit) (n : ℕ) (e : ℕ × Course) → slice_get entries n ≡ Some e → e.0 ≡ k + 1 → 1 ≤ length c.stops → length c.stops ≤ 40001 → (best result : Option Found)
+          → IsBestAmongThese p pins (plan_of courses) r l (IsNamed (plan_of courses) entries n) best → IsLookedAt p (route_of c) r (length (of_vehicle pins (k + 1))) [] (k + 1) l best result
+          → IsBestAmongThese p pins (plan_of courses) r l (IsNamed (plan_of courses) entries (n + 1)) result
+      named_more l n e at same some few best result old looked =
           let g = ap length (route_at courses k c is in_range) in
           let h = stops_long courses k c is in_range in
-          bettered laws asked (IsNamed (plan_of courses) entries n) (IsNamed (plan_of courses) entries (n + 1)) (k + 1) (omega arith) high (named_on n) (named_off n e at same)
+          bettered laws asked l (IsNamed (plan_of courses) entries n) (IsNamed (plan_of courses) entries (n + 1)) (k + 1) (omega arith) high (named_on n) (named_off n e at same)
           (record { place = n; entry = e; below = omega arith; at = at; same = same; some = omega arith }) (few_stops few) best result old
-          (by_plan best result (elim looked [ inl better ↦ better | inr known ↦ absurd (no_entry known.1.0 known.1.1 known.1.2) ]))
+          (by_plan l best result (elim looked [ inl better ↦ better | inr known ↦ absurd (no_entry known.1.0 known.1.1 known.1.2) ]))
 
       -- one without stops
-      pub named_idle : (n : ℕ) (e : ℕ × Course) → slice_get entries n ≡ Some e → e.0 ≡ k + 1 → length c.stops ≡ 0 → (best : Option Found)
-          → IsBestAmongThese p pins (plan_of courses) r (IsNamed (plan_of courses) entries n) best → IsBestAmongThese p pins (plan_of courses) r (IsNamed (plan_of courses) entries (n + 1)) best
-      named_idle n e at same none best old =
-          these_same p pins (plan_of courses) r (IsNamed (plan_of courses) entries n) (IsNamed (plan_of courses) entries (n + 1)) (named_on n) back best old
+      pub named_idle : (l : Limit) (n : ℕ) (e : ℕ × Course) → slice_get entries n ≡ Some e → e.0 ≡ k + 1 → length c.stops ≡ 0 → (best : Option Found)
+          → IsBestAmongThese p pins (plan_of courses) r l (IsNamed (plan_of courses) entries n) best → IsBestAmongThese p pins (plan_of courses) r l (IsNamed (plan_of courses) entries (n + 1)) best
+      named_idle l n e at same none best old =
+          these_same p pins (plan_of courses) r l (IsNamed (plan_of courses) entries n) (IsNamed (plan_of courses) entries (n + 1)) (named_on n) back best old
         where
           back : (u : ℕ) → IsNamed (plan_of courses) entries (n + 1) u → IsNamed (plan_of courses) entries n u
           back u was = elim (named_off n e at same u was) [
@@ -188,20 +189,20 @@ module _ (laws : InsertionLaws) {p : Instance} {pins : List (List ℕ)} {courses
             | inr before ↦ before
           ]
 
-      pub one_more : length c.stops ≤ 40001 → (best result : Option Found) → IsBestAmongThese p pins (plan_of courses) r (Looked entries k) best
-          → IsLookedAt p (route_of c) r (length (of_vehicle pins (k + 1))) entries (k + 1) best result → IsBestAmongThese p pins (plan_of courses) r (Looked entries (k + 1)) result
-      one_more few best result old looked = elim looked [
-        | inl better ↦ bettered laws asked (Looked entries k) (Looked entries (k + 1)) (k + 1) (omega arith) high (one_on entries k) (one_off entries k) (inl (omega arith, omega arith)) (few_stops few) best result old (by_plan best result better)
-        | inr known ↦ subst (IsBestAmongThese p pins (plan_of courses) r (Looked entries (k + 1))) (sym known.2)
-            (these_same p pins (plan_of courses) r (Looked entries k) (Looked entries (k + 1)) (one_on entries k) (λ u seen. elim (one_off entries k u seen) [ inl here ↦ subst (Looked entries k) (sym here) (inr (there known.0 known.1)) | inr before ↦ before ]) best old)
+      pub one_more : (l : Limit) → length c.stops ≤ 40001 → (best result : Option Found) → IsBestAmongThese p pins (plan_of courses) r l (Looked entries k) best
+          → IsLookedAt p (route_of c) r (length (of_vehicle pins (k + 1))) entries (k + 1) l best result → IsBestAmongThese p pins (plan_of courses) r l (Looked entries (k + 1)) result
+      one_more l few best result old looked = elim looked [
+        | inl better ↦ bettered laws asked l (Looked entries k) (Looked entries (k + 1)) (k + 1) (omega arith) high (one_on entries k) (one_off entries k) (inl (omega arith, omega arith)) (few_stops few) best result old (by_plan l best result better)
+        | inr known ↦ subst (IsBestAmongThese p pins (plan_of courses) r l (Looked entries (k + 1))) (sym known.2)
+            (these_same p pins (plan_of courses) r l (Looked entries k) (Looked entries (k + 1)) (one_on entries k) (λ u seen. elim (one_off entries k u seen) [ inl here ↦ subst (Looked entries k) (sym here) (inr (there known.0 known.1)) | inr before ↦ before ]) best old)
       ]
         where
           there : 1 ≤ length (route_of c) → IsEntryOf entries (k + 1) → IsNamed (plan_of courses) entries (length entries) (k + 1)
           there long entry = record { place = entry.0; entry = entry.1; below = slice_get_within entries entry.0 entry.1 entry.2; at = entry.2; same = entry.3; some = (let g = ap length (route_at courses k c is in_range) in omega arith) }
 
-      pub one_skipped : length c.stops ≡ 0 → HasIdle (plan_of courses) k → (best : Option Found) → IsBestAmongThese p pins (plan_of courses) r (Looked entries k) best → IsBestAmongThese p pins (plan_of courses) r (Looked entries (k + 1)) best
-      one_skipped none idle best old =
-          skipped laws asked (Looked entries k) (Looked entries (k + 1)) (k + 1) (omega arith) high (one_on entries k) (one_off entries k) (inl (omega arith, omega arith)) (empty_at none) k (omega arith) (λ u from le. inl (from, le)) idle best old
+      pub one_skipped : (l : Limit) → length c.stops ≡ 0 → HasIdle (plan_of courses) k → (best : Option Found) → IsBestAmongThese p pins (plan_of courses) r l (Looked entries k) best → IsBestAmongThese p pins (plan_of courses) r l (Looked entries (k + 1)) best
+      one_skipped l none idle best old =
+          skipped laws asked l (Looked entries k) (Looked entries (k + 1)) (k + 1) (omega arith) high (one_on entries k) (one_off entries k) (inl (omega arith, omega arith)) (empty_at none) k (omega arith) (λ u from le. inl (from, le)) idle best old
 
 -- a table can be built of each route of a plan that passes
 module _ (local : PassesAreLocal) (plans : PlansAreLocal) (says : TestsSayFeasible) (p : Instance) (pins routes : List (List ℕ)) (good : passes p pins routes ≡ true) (k : ℕ) (route : List ℕ) (is : route ≡ get_or routes k route) (in_range : k < length routes) where

@@ -1,5 +1,5 @@
 -- The best insertion over the first vehicles, and over one more.
-use Rattle.std.proofs.Common.{◌≡◌, ℕ, zero, suc, ◌+◌, ◌-◌, ◌<◌, ◌≤◌, ℤ, pos, ◌+ℤ◌, ◌-ℤ◌, ◌<ℤ◌, ◌≤ℤ◌, eqb, ltb, leb, cond, ◌&&◌, Bool, true, false, not, List, [], ◌∷◌, length, length-append, take, drop, get_or, slice_get, Option, Some, None, refl, sym, ap, subst, ◌∙◌, inl, inr, arith, nat_eq}
+use Rattle.std.proofs.Common.{◌≡◌, ℕ, zero, suc, ◌+◌, ◌-◌, ◌<◌, ◌≤◌, ℤ, pos, ◌+ℤ◌, ◌-ℤ◌, ◌<ℤ◌, ◌≤ℤ◌, eqb, ltb, leb, cond, ◌&&◌, Bool, true, false, List, [], ◌∷◌, length, length-append, take, drop, get_or, slice_get, Option, Some, None, refl, sym, ap, subst, ◌∙◌, inl, inr, arith, nat_eq}
 use Rattle.std.specs.List.{AllByRecursion, Contains, insert}
 use Rattle.std.specs.Map.{lookup}
 use Rattle.std.specs.Prelude.{◌⊎◌, ◌≢◌, nat_lt, ◌==◌, MatchOption, unwrap_or}
@@ -29,9 +29,10 @@ use Rattle.slack_tables.specs.Insertion.{request_named, KeepsLimits, ArePlaces, 
 use Rattle.slack_tables.specs.declared.scan.Addition.{Addition}
 use Rattle.move_ops.specs.Insertion.{Insertion, is_no_later, of_vehicle, are_places, is_place_of, insertions_of, insertions, best_insertion, cost_with, is_no_worse}
 use Rattle.move_ops.specs.Laws.{IsBest}
-use Rattle.move_ops.specs.Choosing.{opens, bound_beside, bound_of, place_found, found_at, InsertionLaws, IsAsked, IsBestAmong, IsBestAmongThese, IsLoose, HasIdle, IsBetterBelow, IsBetter}
+use Rattle.move_ops.specs.Choosing.{opens, gain, IsWithin, IsAllowed, IsBestWithin, bound_beside, bound_over, bound_of, place_found, found_at, InsertionLaws, IsAsked, IsBestAmong, IsBestAmongThese, IsLoose, HasIdle, IsBetterBelow, IsBetter}
 use Rattle.move_ops.specs.Tables.{plan_of}
 use Rattle.move_ops.specs.declared.tables.Found.{Found}
+use Rattle.move_ops.specs.declared.tables.Limit.{Limit}
 use Rattle.move_ops.proofs.Times.{none_some, some_same, times}
 use Rattle.move_ops.proofs.Inserting.{numbers_of, nowhere, passes_where_feasible}
 use Rattle.move_ops.proofs.BestLemmas.{said_later, both_transitive}
@@ -50,7 +51,7 @@ name_of (e ∷ es) name r named at = elim (eqb_tells name e.0) [
 ]
 
 -- ---- places
-to_places : (q : Request) (kept n i j : ℕ) → are_places q kept n i j ≡ true → ArePlaces q n i j × (kept < i)
+pub to_places : (q : Request) (kept n i j : ℕ) → are_places q kept n i j ≡ true → ArePlaces q n i j × (kept < i)
 to_places (Single s) kept n i j t =
     let a = and_parts (ltb kept i) (leb i (n + 1) && eqb i j) t in
     let b = and_parts (leb i (n + 1)) (eqb i j) a.1 in
@@ -123,14 +124,10 @@ module _ (law : NamedAreFound) (stand : RequestsStandByName) (local : PassesAreL
       contained (insertions_of p pins routes r) x
       (to_list p pins routes r x free place (passes_where_feasible law local says p pins routes valid good name r named free x place true (sym feasible)))
 
-  -- the distance that is added
-  abbrev pub gain : Insertion → ℤ
-  gain x = pos (route_length p (inserted r x.1 x.2 (of_vehicle routes x.0))) -ℤ pos (route_length p (of_vehicle routes x.0))
-
   gain_is : (a b : ℕ) → pos a ≡ pos b +ℤ (pos a -ℤ pos b)
   gain_is a b = omega (arith, ints)
 
-  pub priced : (x : Insertion) → Fits x → IsPriced p routes r x (opens p.kind (of_vehicle routes x.0)) (gain x)
+  pub priced : (x : Insertion) → Fits x → IsPriced p routes r x (opens p.kind (of_vehicle routes x.0)) (gain p routes r x)
   priced x f = record {
     from = f.from;
     within = f.within;
@@ -140,7 +137,7 @@ module _ (law : NamedAreFound) (stand : RequestsStandByName) (local : PassesAreL
   }
 
   -- in a route of not too many stops the distance added is far below the greatest number
-  pub gain_small : (x : Insertion) → length (inserted r x.1 x.2 (of_vehicle routes x.0)) ≤ 40003 → gain x <ℤ pos 9223372036854775807
+  pub gain_small : (x : Insertion) → length (inserted r x.1 x.2 (of_vehicle routes x.0)) ≤ 40003 → gain p routes r x <ℤ pos 9223372036854775807
   gain_small x few =
       let h = route_small p valid (inserted r x.1 x.2 (of_vehicle routes x.0)) in
       by (route_length p (inserted r x.1 x.2 (of_vehicle routes x.0))) (route_length p (of_vehicle routes x.0)) (omega arith)
@@ -179,39 +176,46 @@ pub used_opens : (kind : Kind) (route : List ℕ) → (length route == 0) ≡ fa
 used_opens LiLim route some = some
 used_opens Vrp route some = refl
 
+-- a route at which a request opens a vehicle has no stops
+pub opened_empty : (kind : Kind) (route : List ℕ) → opens kind route ≡ true → length route ≡ 0
+opened_empty LiLim route is = eqb-true (length route) 0 is
+opened_empty Vrp route is = absurd (let h : false ≡ true = is in cc)
+
 -- where nothing adds less than a greater bound, the best so far stays
-pub still : (p : Instance) (route : List ℕ) (r : Request) (kept v : ℕ) (best : Option Found) (below : ℤ) → IsLoose v best below → ((a : Addition) → Adds p route r kept below a → ⊥) → IsBetterBelow p route r kept v false best best (bound_of v false best)
-still p route r kept v best below loose empty = by (bound_of v false best) refl
+pub still : (p : Instance) (route : List ℕ) (r : Request) (kept v : ℕ) (l : Limit) (best : Option Found) (below : ℤ) → IsLoose v l best below → ((a : Addition) → Adds p route r kept below a → ⊥)
+    → IsBetterBelow p route r kept v false best best (bound_of v false l best)
+still p route r kept v l best below loose empty = by (bound_of v false l best) refl
   where
-    by : (o : Option ℤ) → bound_of v false best ≡ o → IsBetterBelow p route r kept v false best best o
+    by : (o : Option ℤ) → bound_of v false l best ≡ o → IsBetterBelow p route r kept v false best best o
     by None is = refl
     by (Some b) is = (None, (λ a adds. empty a (record { places = adds.places; behind = adds.behind; added = adds.added; cheaper = (let le = loose v (omega arith) b is in let less = adds.cheaper in omega (arith, ints)) })), refl)
 
 -- so it is at a vehicle with stops of which a look tells that the request fits nowhere
-pub passed_over : (p : Instance) (r : Request) (c : Course) (kept v : ℕ) (best : Option Found) (below : ℤ) → IsInstance p → IsCourseIn p c → request_named p (request_name r) ≡ Some r → (length c.stops ≡ 0 → ⊥)
-    → FitsNowhere c r below → IsLoose v best below → IsBetter p (route_of c) r kept v best best
-passed_over p r c kept v best below valid course named stops out loose =
+pub passed_over : (p : Instance) (r : Request) (c : Course) (kept v : ℕ) (l : Limit) (best : Option Found) (below : ℤ) → IsInstance p → IsCourseIn p c → request_named p (request_name r) ≡ Some r → (length c.stops ≡ 0 → ⊥)
+    → FitsNowhere c r below → IsLoose v l best below → IsBetter p (route_of c) r kept v l best best
+passed_over p r c kept v l best below valid course named stops out loose =
     let long = length-map c.stops (λ s. s.number) in
     let some : eqb (length (route_of c)) 0 ≡ false = elim (eqb_tells (length (route_of c)) 0) [
       | inl t ↦ absurd (stops (let none = t.1 in omega arith))
       | inr t ↦ t.0
     ] in
-    subst (λ o. IsBetterBelow p (route_of c) r kept v o best best (bound_of v o best)) (sym (used_opens p.kind (route_of c) some))
-    (still p (route_of c) r kept v best below loose (out p (request_name r) kept valid course named))
+    subst (λ o. IsBetterBelow p (route_of c) r kept v o best best (bound_of v o l best)) (sym (used_opens p.kind (route_of c) some))
+    (still p (route_of c) r kept v l best below loose (out p (request_name r) kept valid course named))
 
 -- so it is at a vehicle into whose route the request fits at no price
-pub passed_by : (p : Instance) (r : Request) (c : Course) (kept v : ℕ) (best : Option Found) → IsInstance p → IsCourseIn p c → request_named p (request_name r) ≡ Some r → ((below : ℤ) → FitsNowhere c r below) → IsBetter p (route_of c) r kept v best best
-passed_by p r c kept v best valid course named out = by (bound_of v (opens p.kind (route_of c)) best)
+pub passed_by : (p : Instance) (r : Request) (c : Course) (kept v : ℕ) (l : Limit) (best : Option Found) → IsInstance p → IsCourseIn p c → request_named p (request_name r) ≡ Some r → ((below : ℤ) → FitsNowhere c r below)
+    → IsBetter p (route_of c) r kept v l best best
+passed_by p r c kept v l best valid course named out = by (bound_of v (opens p.kind (route_of c)) l best)
   where
     by : (o : Option ℤ) → IsBetterBelow p (route_of c) r kept v (opens p.kind (route_of c)) best best o
     by None = refl
     by (Some below) = (None, out below p (request_name r) kept valid course named, refl)
 
 -- the same vehicles, said otherwise
-pub these_same : (p : Instance) (pins routes : List (List ℕ)) (r : Request) (These Others : ℕ → Type 0) → ((u : ℕ) → These u → Others u) → ((u : ℕ) → Others u → These u)
-    → (best : Option Found) → IsBestAmongThese p pins routes r These best → IsBestAmongThese p pins routes r Others best
-these_same p pins routes r These Others there back None none = λ y c others. none y c (back y.0 others)
-these_same p pins routes r These Others there back (Some g) was = record { among = was.among; seen = there g.vehicle was.seen; opens = was.opens; added = was.added; least = λ y c others. was.least y c (back y.0 others) }
+pub these_same : (p : Instance) (pins routes : List (List ℕ)) (r : Request) (l : Limit) (These Others : ℕ → Type 0) → ((u : ℕ) → These u → Others u) → ((u : ℕ) → Others u → These u)
+    → (best : Option Found) → IsBestAmongThese p pins routes r l These best → IsBestAmongThese p pins routes r l Others best
+these_same p pins routes r l These Others there back None none = λ y c others allowed. none y c (back y.0 others) allowed
+these_same p pins routes r l These Others there back (Some g) was = record { among = was.among; seen = there g.vehicle was.seen; allowed = was.allowed; opens = was.opens; added = was.added; least = λ y c others allowed. was.least y c (back y.0 others) allowed }
 
 -- ---- one vehicle more
 module _ (laws : InsertionLaws) {p : Instance} {pins : List (List ℕ)} {courses : List Course} {r : Request} (asked : IsAsked p pins courses r) where
@@ -222,7 +226,10 @@ module _ (laws : InsertionLaws) {p : Instance} {pins : List (List ℕ)} {courses
   IsFit x = Fits laws.found laws.stand laws.local laws.says p pins routes asked.valid asked.good (request_name r) r asked.named asked.free x
 
   abbrev adds : Insertion → ℤ
-  adds x = gain laws.found laws.stand laws.local laws.says p pins routes asked.valid asked.good (request_name r) r asked.named asked.free x
+  adds x = gain p routes r x
+
+  abbrev IsLet : Limit → Insertion → Type 0
+  IsLet l x = IsAllowed p routes r l x
 
   fit : (x : Insertion) → Contains (insertions_of p pins routes r) x → IsFit x
   fit x c = insertion_fits laws.found laws.stand laws.local laws.says p pins routes asked.valid asked.good (request_name r) r asked.named asked.free x c
@@ -233,6 +240,9 @@ module _ (laws : InsertionLaws) {p : Instance} {pins : List (List ℕ)} {courses
   price : (x : Insertion) → IsFit x → IsPriced p routes r x (opens p.kind (of_vehicle routes x.0)) (adds x)
   price x f = priced laws.found laws.stand laws.local laws.says p pins routes asked.valid asked.good (request_name r) r asked.named asked.free x f
 
+  pub priced_at : (x : Insertion) → Contains (insertions_of p pins routes r) x → IsPriced p routes r x (opens p.kind (of_vehicle routes x.0)) (gain p routes r x)
+  priced_at x c = price x (fit x c)
+
   no_worse_than : (x y : Insertion) (a b : Bool) (d e : ℤ) → IsPriced p routes r x a d → IsPriced p routes r y b e → Ahead p routes r x a d y b e → is_no_worse p routes r x y ≡ true
   no_worse_than x y a b d e one two ahead = no_worse p routes r laws.below_tells laws.at_most_tells x y a b d e one two ahead
 
@@ -240,8 +250,8 @@ module _ (laws : InsertionLaws) {p : Instance} {pins : List (List ℕ)} {courses
   follow x y z h k =
       both_transitive laws.total laws.transitive laws.below_then_at_most laws.at_most_then_below laws.below_is_at_most (cost_with p routes r x) (cost_with p routes r y) (cost_with p routes r z) x y z h k
 
-  price_found : (These : ℕ → Type 0) (f : Found) → IsBestAmong p pins routes r These f → IsPriced p routes r (place_found f) f.opens f.addition.distance
-  price_found These f best =
+  price_found : (l : Limit) (These : ℕ → Type 0) (f : Found) → IsBestAmong p pins routes r l These f → IsPriced p routes r (place_found f) f.opens f.addition.distance
+  price_found l These f best =
       let at = fit (place_found f) (best.among) in
       let plain = price (place_found f) at in
       record { from = at.from; within = at.within; some = plain.some; opens = best.opens; added = (best.added).1 }
@@ -268,7 +278,7 @@ module _ (laws : InsertionLaws) {p : Instance} {pins : List (List ℕ)} {courses
       )))
 
   -- some vehicles, and one more that may be among them
-  module _ (These More : ℕ → Type 0) (v : ℕ) (low : 1 ≤ v) (high : v ≤ length routes) (grow : (u : ℕ) → These u → More u) (split : (u : ℕ) → More u → (u ≡ v) ⊎ These u) (last : More v) where
+  module _ (l : Limit) (These More : ℕ → Type 0) (v : ℕ) (low : 1 ≤ v) (high : v ≤ length routes) (grow : (u : ℕ) → These u → More u) (split : (u : ℕ) → More u → (u ≡ v) ⊎ These u) (last : More v) where
     abbrev old_route : List ℕ
     old_route = of_vehicle routes v
 
@@ -296,78 +306,113 @@ module _ (laws : InsertionLaws) {p : Instance} {pins : List (List ℕ)} {courses
         record { from = f.from; within = f.within; some = plain.some; opens = ap (λ u. opens p.kind (of_vehicle routes u)) same ∙ is_open; added = plain.added }
 
     -- what was found stays the best, where it is no worse than those at this vehicle
-    keeps : (g : Found) → IsBestAmong p pins routes r These g → ((y : Insertion) → Contains (insertions_of p pins routes r) y → y.0 ≡ v → is_no_worse p routes r (place_found g) y ≡ true)
-        → IsBestAmong p pins routes r More g
+    keeps : (g : Found) → IsBestAmong p pins routes r l These g → ((y : Insertion) → Contains (insertions_of p pins routes r) y → y.0 ≡ v → IsLet l y → is_no_worse p routes r (place_found g) y ≡ true)
+        → IsBestAmong p pins routes r l More g
     keeps g was no_better = record {
       among = was.among;
       seen = grow g.vehicle was.seen;
+      allowed = was.allowed;
       opens = was.opens;
       added = was.added;
-      least = λ y c these. elim (split y.0 these) [ inl same ↦ no_better y c same | inr before ↦ was.least y c before ];
+      least = λ y c these let_in. elim (split y.0 these) [ inl same ↦ no_better y c same let_in | inr before ↦ was.least y c before let_in ];
     }
 
     -- with a bound that tells what is better than the best so far
-    module _ (few : length old_route ≤ 40001) (o : Bool) (is_open : opens p.kind old_route ≡ o) (best : Option Found) (old : IsBestAmongThese p pins routes r These best) (below : ℤ)
+    module _ (few : length old_route ≤ 40001) (o : Bool) (is_open : opens p.kind old_route ≡ o) (best : Option Found) (old : IsBestAmongThese p pins routes r l These best) (below : ℤ)
+        (allows : (d : ℤ) → d <ℤ below → IsWithin l o d)
         (beats : (f : Found) → best ≡ Some f → (d : ℤ) → d <ℤ below → (x : Insertion) → x.0 ≡ v → Ahead p routes r x o d (place_found f) f.opens f.addition.distance)
         (keeps_up : (f : Found) → best ≡ Some f → (y : Insertion) → y.0 ≡ v → v ≢ f.vehicle → adds y <ℤ pos 9223372036854775807 → below ≤ℤ adds y → Ahead p routes r (place_found f) f.opens f.addition.distance y o (adds y))
-        (all_below : best ≡ None → (y : Insertion) → adds y <ℤ pos 9223372036854775807 → adds y <ℤ below) where
+        (all_below : best ≡ None → (y : Insertion) → IsWithin l o (adds y) → adds y <ℤ pos 9223372036854775807 → adds y <ℤ below) where
       small : (y : Insertion) → IsFit y → y.0 ≡ v → adds y <ℤ pos 9223372036854775807
       small y f same =
           let e = few_more r y.1 y.2 (of_vehicle routes y.0) in
           let g = ap (λ u. length (of_vehicle routes u)) same in
           gain_small laws.found laws.stand laws.local laws.says p pins routes asked.valid asked.good (request_name r) r asked.named asked.free y (omega arith)
 
+      -- what is let in here opens a vehicle where the others do
+      as_here : (y : Insertion) → y.0 ≡ v → IsLet l y → IsWithin l o (adds y)
+      as_here y same let_in = subst (λ b. IsWithin l b (adds y)) (ap (λ u. opens p.kind (of_vehicle routes u)) same ∙ is_open) let_in
+
       -- nothing below the bound here
-      stays : (b : Option Found) → best ≡ b → IsBestAmongThese p pins routes r These b → ((a : Addition) → Adds p old_route r pinned below a → ⊥) → IsBestAmongThese p pins routes r More b
-      stays None is none empty = λ y c these. elim (split y.0 these) [
-        | inl same ↦ (let f = fit y c in empty (record { distance = adds y; pickup = y.1; delivery = y.2 }) (here y below f same (all_below is y (small y f same))))
-        | inr before ↦ none y c before
+      stays : (b : Option Found) → best ≡ b → IsBestAmongThese p pins routes r l These b → ((a : Addition) → Adds p old_route r pinned below a → ⊥) → IsBestAmongThese p pins routes r l More b
+      stays None is none empty = λ y c these let_in. elim (split y.0 these) [
+        | inl same ↦ (let f = fit y c in empty (record { distance = adds y; pickup = y.1; delivery = y.2 }) (here y below f same (all_below is y (as_here y same let_in) (small y f same))))
+        | inr before ↦ none y c before let_in
       ]
-      stays (Some g) is was empty = keeps g was (λ y c same. elim (eqb_tells v g.vehicle) [
-        | inl t ↦ was.least y c (subst These (sym (same ∙ t.1)) was.seen)
+      stays (Some g) is was empty = keeps g was (λ y c same let_in. elim (eqb_tells v g.vehicle) [
+        | inl t ↦ was.least y c (subst These (sym (same ∙ t.1)) was.seen) let_in
         | inr t ↦ (
             let f = fit y c in
             by_lt_z {P = is_no_worse p routes r (place_found g) y ≡ true} (adds y) below
             (λ cheap. absurd (empty (record { distance = adds y; pickup = y.1; delivery = y.2 }) (here y below f same cheap)))
-            (λ dear. no_worse_than (place_found g) y g.opens o g.addition.distance (adds y) (price_found These g was) (price_at y o is_open f same) (keeps_up g is y same t.1 (small y f same) dear)))
+            (λ dear. no_worse_than (place_found g) y g.opens o g.addition.distance (adds y) (price_found l These g was) (price_at y o is_open f same) (keeps_up g is y same t.1 (small y f same) dear)))
       ])
 
       -- the first below the bound here
-      changes : (b : Option Found) → best ≡ b → IsBestAmongThese p pins routes r These b → (a : Addition) → Adds p old_route r pinned below a
-          → ((e : Addition) → Adds p old_route r pinned below e → ComesFirst a e) → IsBestAmongThese p pins routes r More (Some (found_at v o a))
+      changes : (b : Option Found) → best ≡ b → IsBestAmongThese p pins routes r l These b → (a : Addition) → Adds p old_route r pinned below a
+          → ((e : Addition) → Adds p old_route r pinned below e → ComesFirst a e) → IsBestAmongThese p pins routes r l More (Some (found_at v o a))
       changes b is was a adds_a first = record {
         among = listed_fit (v, a.pickup, a.delivery) (fit_of a below adds_a);
         seen = last;
+        allowed = allows a.distance adds_a.cheaper;
         opens = is_open;
         added = adds_a.added;
-        least = λ y c these. elim (split y.0 these) [
+        least = λ y c these let_in. elim (split y.0 these) [
           | inl same ↦ (
               let f = fit y c in
               no_worse_than (v, a.pickup, a.delivery) y o o a.distance (adds y) (price_of a below o is_open adds_a) (price_at y o is_open f same)
               (by_lt_z {P = Ahead p routes r (v, a.pickup, a.delivery) o a.distance y o (adds y)} (adds y) below
               (λ cheap. subst (λ u. Ahead p routes r (v, a.pickup, a.delivery) o a.distance (u, y.1, y.2) o (adds y)) (sym same) (first_ahead v o a (record { distance = adds y; pickup = y.1; delivery = y.2 }) (first (record { distance = adds y; pickup = y.1; delivery = y.2 }) (here y below f same cheap))))
               (λ dear. (let less = adds_a.cheaper in inr (refl, inl (omega (arith, ints)))))))
-          | inr these_before ↦ before b is was y c these_before
+          | inr these_before ↦ before b is was y c these_before let_in
         ];
       }
         where
-          before : (b : Option Found) → best ≡ b → IsBestAmongThese p pins routes r These b → (y : Insertion) → Contains (insertions_of p pins routes r) y → These y.0 → is_no_worse p routes r (v, a.pickup, a.delivery) y ≡ true
-          before None is none y c these = absurd (none y c these)
-          before (Some g) is was y c these =
+          before : (b : Option Found) → best ≡ b → IsBestAmongThese p pins routes r l These b → (y : Insertion) → Contains (insertions_of p pins routes r) y → These y.0 → IsLet l y
+              → is_no_worse p routes r (v, a.pickup, a.delivery) y ≡ true
+          before None is none y c these let_in = absurd (none y c these let_in)
+          before (Some g) is was y c these let_in =
               follow (v, a.pickup, a.delivery) (place_found g) y
-              (no_worse_than (v, a.pickup, a.delivery) (place_found g) o g.opens a.distance g.addition.distance (price_of a below o is_open adds_a) (price_found These g was) (beats g is a.distance (adds_a.cheaper) (v, a.pickup, a.delivery) refl))
-              (was.least y c these)
+              (no_worse_than (v, a.pickup, a.delivery) (place_found g) o g.opens a.distance g.addition.distance (price_of a below o is_open adds_a) (price_found l These g was) (beats g is a.distance (adds_a.cheaper) (v, a.pickup, a.delivery) refl))
+              (was.least y c these let_in)
 
-      pub chosen : (answer : Option Addition) → IsBestAddition p old_route r pinned below answer → IsBestAmongThese p pins routes r More (option_or (option_map (found_at v o) answer) best)
+      pub chosen : (answer : Option Addition) → IsBestAddition p old_route r pinned below answer → IsBestAmongThese p pins routes r l More (option_or (option_map (found_at v o) answer) best)
       chosen None empty = stays best refl old empty
       chosen (Some a) first = changes best refl old a first.0 first.1
 
     module _ (few : length old_route ≤ 40001) where
       -- among these vehicles and this one
-      pub bettered : (best result : Option Found) → IsBestAmongThese p pins routes r These best → IsBetter p old_route r pinned v best result → IsBestAmongThese p pins routes r More result
-      bettered None result old better =
-          subst (IsBestAmongThese p pins routes r More) (sym better.2)
-          (chosen few (opens p.kind old_route) refl None old (pos 9223372036854775807) (λ f is. absurd (none_some f is)) (λ f is. absurd (none_some f is)) (λ is y small. small) better.0 better.1)
+      pub bettered : (best result : Option Found) → IsBestAmongThese p pins routes r l These best → IsBetter p old_route r pinned v l best result → IsBestAmongThese p pins routes r l More result
+      bettered None result old better = by l.opens (opens p.kind old_route) refl refl better
+        where
+          -- the limit alone
+          from_limit : (c o : Bool) → l.opens ≡ c → opens p.kind old_route ≡ o → o ≡ c
+              → (answer : Option Addition) × IsBestAddition p old_route r pinned l.below answer × (result ≡ option_or (option_map (found_at v o) answer) None) → IsBestAmongThese p pins routes r l More result
+          from_limit c o is_c is_o same better =
+              subst (IsBestAmongThese p pins routes r l More) (sym better.2)
+              (chosen few o is_o None old l.below (λ d less. inr (same ∙ sym is_c, less)) (λ f is. absurd (none_some f is)) (λ f is. absurd (none_some f is))
+              (λ is y let_in small. elim let_in [ inl none ↦ absurd (let h : true ≡ false = sym none.1 ∙ (is_c ∙ (sym same ∙ none.0)) in cc) | inr less ↦ less.1 ]) better.0 better.1)
+
+          by : (c o : Bool) → l.opens ≡ c → opens p.kind old_route ≡ o → IsBetterBelow p old_route r pinned v o None result (bound_over c l.below o) → IsBestAmongThese p pins routes r l More result
+          by true true is_c is_o better = from_limit true true is_c is_o refl better
+          by false false is_c is_o better = from_limit false false is_c is_o refl better
+          by true false is_c is_o better =
+              subst (IsBestAmongThese p pins routes r l More) (sym better.2)
+              (chosen few false is_o None old (pos 9223372036854775807) (λ d less. inl (refl, is_c)) (λ f is. absurd (none_some f is)) (λ f is. absurd (none_some f is)) (λ is y let_in small. small) better.0 better.1)
+          by false true is_c is_o better =
+              subst (IsBestAmongThese p pins routes r l More) (sym better) (λ y c these let_in. elim (split y.0 these) [
+                | inl same ↦ absurd (shut y same let_in)
+                | inr before ↦ old y c before let_in
+              ])
+            where
+              is_open : (y : Insertion) → y.0 ≡ v → opens p.kind (of_vehicle routes y.0) ≡ true
+              is_open y same = ap (λ u. opens p.kind (of_vehicle routes u)) same ∙ is_o
+
+              shut : (y : Insertion) → y.0 ≡ v → IsLet l y → ⊥
+              shut y same let_in = elim let_in [
+                | inl none ↦ (let h : true ≡ false = sym (is_open y same) ∙ none.0 in absurd (let g : ⊥ = cc in g))
+                | inr alike ↦ (let h : true ≡ false = sym (is_open y same) ∙ (alike.0 ∙ is_c) in absurd (let g : ⊥ = cc in g))
+              ]
       bettered (Some f) result old better = by f.opens (opens p.kind old_route) refl refl better
         where
           same_opens : (g : Found) → Some f ≡ Some g → g.opens ≡ f.opens
@@ -410,24 +455,41 @@ module _ (laws : InsertionLaws) {p : Instance} {pins : List (List ℕ)} {courses
               as_dear : nat_lt v f.vehicle ≡ false → f.addition.distance ≤ℤ adds y
               as_dear later = subst (λ b. (cond b (f.addition.distance +ℤ pos 1) f.addition.distance) ≤ℤ adds y) later le
 
-          by : (c o : Bool) → f.opens ≡ c → opens p.kind old_route ≡ o
-              → IsBetterBelow p old_route r pinned v o (Some f) result (cond (c && not o) (Some (pos 9223372036854775807)) (cond (o && not c) None (Some (bound_beside v f)))) → IsBestAmongThese p pins routes r More result
+          -- what is ahead of it costs less than the limit, too
+          as_near : (o : Bool) → f.opens ≡ o → (d : ℤ) → d <ℤ bound_beside v f → IsWithin l o d
+          as_near o same d less = elim old.allowed [
+            | inl opened ↦ inl (sym same ∙ opened.0, opened.1)
+            | inr alike ↦ inr (sym same ∙ alike.0, (let near = alike.1 in let le = no_more in omega (arith, ints)))
+          ]
+            where
+              no_more : d ≤ℤ f.addition.distance
+              no_more = elim (leb_tells (suc v) f.vehicle) [
+                | inl t ↦ (let h : d <ℤ (f.addition.distance +ℤ pos 1) = subst (λ b. d <ℤ (cond b (f.addition.distance +ℤ pos 1) f.addition.distance)) t.0 less in omega (arith, ints))
+                | inr t ↦ (let h : d <ℤ f.addition.distance = subst (λ b. d <ℤ (cond b (f.addition.distance +ℤ pos 1) f.addition.distance)) t.0 less in omega (arith, ints))
+              ]
+
+          -- where it opens a vehicle, those that open none are let in
+          used_too : f.opens ≡ true → l.opens ≡ true
+          used_too is_c = elim old.allowed [ inl opened ↦ opened.1 | inr alike ↦ sym alike.0 ∙ is_c ]
+
+          by : (c o : Bool) → f.opens ≡ c → opens p.kind old_route ≡ o → IsBetterBelow p old_route r pinned v o (Some f) result (bound_over c (bound_beside v f) o) → IsBestAmongThese p pins routes r l More result
           by true true is_c is_o better =
-              subst (IsBestAmongThese p pins routes r More) (sym better.2)
-              (chosen few true is_o (Some f) old (bound_beside v f) (below_found true is_c) (no_less true is_c) (λ is. absurd (none_some f (sym is))) better.0 better.1)
+              subst (IsBestAmongThese p pins routes r l More) (sym better.2)
+              (chosen few true is_o (Some f) old (bound_beside v f) (as_near true is_c) (below_found true is_c) (no_less true is_c) (λ is. absurd (none_some f (sym is))) better.0 better.1)
           by false false is_c is_o better =
-              subst (IsBestAmongThese p pins routes r More) (sym better.2)
-              (chosen few false is_o (Some f) old (bound_beside v f) (below_found false is_c) (no_less false is_c) (λ is. absurd (none_some f (sym is))) better.0 better.1)
+              subst (IsBestAmongThese p pins routes r l More) (sym better.2)
+              (chosen few false is_o (Some f) old (bound_beside v f) (as_near false is_c) (below_found false is_c) (no_less false is_c) (λ is. absurd (none_some f (sym is))) better.0 better.1)
           by true false is_c is_o better =
-              subst (IsBestAmongThese p pins routes r More) (sym better.2)
-              (chosen few false is_o (Some f) old (pos 9223372036854775807) (λ g is d less x at. inl (refl, same_opens g is ∙ is_c)) (λ g is y at other little much. absurd (omega (arith, ints)))
-              (λ is. absurd (none_some f (sym is))) better.0 better.1)
+              subst (IsBestAmongThese p pins routes r l More) (sym better.2)
+              (chosen few false is_o (Some f) old (pos 9223372036854775807) (λ d less. inl (refl, used_too is_c)) (λ g is d less x at. inl (refl, same_opens g is ∙ is_c))
+              (λ g is y at other little much. absurd (omega (arith, ints))) (λ is. absurd (none_some f (sym is))) better.0 better.1)
           by false true is_c is_o better =
-              subst (IsBestAmongThese p pins routes r More) (sym better)
-              (keeps f old (λ y c same. no_worse_than (place_found f) y f.opens true f.addition.distance (adds y) (price_found These f old) (price_at y true is_o (fit y c) same) (inl (is_c, refl))))
+              subst (IsBestAmongThese p pins routes r l More) (sym better)
+              (keeps f old (λ y c same let_in. no_worse_than (place_found f) y f.opens true f.addition.distance (adds y) (price_found l These f old) (price_at y true is_o (fit y c) same) (inl (is_c, refl))))
 
     -- an empty vehicle, where one was looked at before
-    pub skipped : length old_route ≡ 0 → (k : ℕ) → k < v → ((u : ℕ) → 1 ≤ u → u ≤ k → These u) → HasIdle routes k → (best : Option Found) → IsBestAmongThese p pins routes r These best → IsBestAmongThese p pins routes r More best
+    pub skipped : length old_route ≡ 0 → (k : ℕ) → k < v → ((u : ℕ) → 1 ≤ u → u ≤ k → These u) → HasIdle routes k → (best : Option Found) → IsBestAmongThese p pins routes r l These best
+        → IsBestAmongThese p pins routes r l More best
     skipped none k ahead known idle best old = by best old
       where
         alike : of_vehicle routes idle.0 ≡ old_route
@@ -457,32 +519,102 @@ module _ (laws : InsertionLaws) {p : Instance} {pins : List (List ℕ)} {courses
             no_worse_than (idle.0, y.1, y.2) y (opens p.kind (of_vehicle routes idle.0)) (opens p.kind (of_vehicle routes y.0)) (adds (idle.0, y.1, y.2)) (adds y) (price (idle.0, y.1, y.2) (other y f same)) (price y f)
             (inr (ap (opens p.kind) one, inr (ap (λ (l : List ℕ). pos (route_length p (inserted r y.1 y.2 l)) -ℤ pos (route_length p l)) one, said_later (idle.0, y.1, y.2) y (inl (omega arith)))))
 
-        by : (b : Option Found) → IsBestAmongThese p pins routes r These b → IsBestAmongThese p pins routes r More b
-        by None empty = λ y c these. elim (split y.0 these) [
-          | inl same ↦ (let f = fit y c in empty (idle.0, y.1, y.2) (listed_fit (idle.0, y.1, y.2) (other y f same)) (known idle.0 idle.1 idle.2))
-          | inr before_it ↦ empty y c before_it
+        -- and let in
+        let_too : (y : Insertion) → y.0 ≡ v → IsLet l y → IsLet l (idle.0, y.1, y.2)
+        let_too y same let_in =
+            let one : of_vehicle routes y.0 ≡ of_vehicle routes idle.0 = ap (of_vehicle routes) same ∙ sym alike in
+            subst (λ (route : List ℕ). IsWithin l (opens p.kind route) (pos (route_length p (inserted r y.1 y.2 route)) -ℤ pos (route_length p route))) one let_in
+
+        by : (b : Option Found) → IsBestAmongThese p pins routes r l These b → IsBestAmongThese p pins routes r l More b
+        by None empty = λ y c these let_in. elim (split y.0 these) [
+          | inl same ↦ (let f = fit y c in empty (idle.0, y.1, y.2) (listed_fit (idle.0, y.1, y.2) (other y f same)) (known idle.0 idle.1 idle.2) (let_too y same let_in))
+          | inr before_it ↦ empty y c before_it let_in
         ]
-        by (Some g) was = keeps g was (λ y c same.
-            follow (place_found g) (idle.0, y.1, y.2) y (was.least (idle.0, y.1, y.2) (listed_fit (idle.0, y.1, y.2) (other y (fit y c) same)) (known idle.0 idle.1 idle.2)) (before y (fit y c) same))
+        by (Some g) was = keeps g was (λ y c same let_in.
+            follow (place_found g) (idle.0, y.1, y.2) y (was.least (idle.0, y.1, y.2) (listed_fit (idle.0, y.1, y.2) (other y (fit y c) same)) (known idle.0 idle.1 idle.2) (let_too y same let_in)) (before y (fit y c) same))
+
+  -- what costs less than the limit is ahead of what doesn't
+  abbrev LetOrBehind : Limit → Found → Insertion → Bool → Type 0
+  LetOrBehind l f y o = IsLet l y ⊎ Ahead p routes r (place_found f) f.opens f.addition.distance y o (adds y)
+
+  let_or_behind : (l : Limit) (f : Found) → IsWithin l f.opens f.addition.distance → (y : Insertion) (o : Bool) → opens p.kind (of_vehicle routes y.0) ≡ o → LetOrBehind l f y o
+  let_or_behind l f near y o is_open = by l.opens o refl refl
+    where
+      let_so : IsWithin l o (adds y) → LetOrBehind l f y o
+      let_so within_it = inl (subst (λ b. IsWithin l b (adds y)) (sym is_open) within_it)
+
+      -- both open as many as the limit
+      alike : l.opens ≡ f.opens → f.opens ≡ o → LetOrBehind l f y o
+      alike limit same = by_lt_z {P = LetOrBehind l f y o} (adds y) l.below (λ less. let_so (inr (sym same ∙ sym limit, less)))
+          (λ more. inr (inr (
+            same,
+            inl (elim near [
+              | inl opened ↦ absurd (let h : true ≡ false = sym opened.1 ∙ (limit ∙ opened.0) in cc)
+              | inr less ↦ (let h = less.1 in omega (arith, ints))
+            ]),
+          )))
+
+      used : (c : Bool) → f.opens ≡ c → l.opens ≡ true → o ≡ true → LetOrBehind l f y o
+      used false found limit opened = inr (inl (found, opened))
+      used true found limit opened = alike (limit ∙ sym found) (found ∙ sym opened)
+
+      none_opened : l.opens ≡ false → f.opens ≡ false
+      none_opened limit = elim near [ inl opened ↦ opened.0 | inr same ↦ same.0 ∙ limit ]
+
+      by : (b c : Bool) → l.opens ≡ b → o ≡ c → LetOrBehind l f y o
+      by true false limit opened = let_so (inl (opened, limit))
+      by true true limit opened = used f.opens refl limit opened
+      by false true limit opened = inr (inl (none_opened limit, opened))
+      by false false limit opened = alike (limit ∙ sym (none_opened limit)) (none_opened limit ∙ sym opened)
+
+  nothing : insertions p pins routes (request_name r) ≡ [] → (x : Insertion) → Contains (insertions_of p pins routes r) x → ⊥
+  nothing none x c =
+      let same : insertions p pins routes (request_name r) ≡ insertions_of p pins routes r = ap (λ (o : Option Request). option_map_or (insertions_of p pins routes) o []) asked.named in
+      within [] x (subst (λ (xs : List Insertion). Contains xs x) (sym same ∙ none) c)
 
   -- among all vehicles
-  pub answer_is : (These : ℕ → Type 0) → ((v : ℕ) → 1 ≤ v → v ≤ length routes → These v) → (answer : Option Found) → IsBestAmongThese p pins routes r These answer
-      → option_map place_found answer ≡ best_insertion p pins routes (request_name r)
-  answer_is These all answer up = by_best (best_insertion p pins routes (request_name r)) refl (laws.least p pins routes (request_name r) r asked.named)
+  pub answer_is : (l : Limit) (These : ℕ → Type 0) → ((v : ℕ) → 1 ≤ v → v ≤ length routes → These v) → (answer : Option Found) → IsBestAmongThese p pins routes r l These answer
+      → IsBestWithin p pins routes r l (option_map place_found answer)
+  answer_is l These all None none = λ y c let_in. none y c (let f = fit y c in all y.0 f.from f.within) let_in
+  answer_is l These all (Some f) up = (by (best_insertion p pins routes (request_name r)) refl (laws.least p pins routes (request_name r) r asked.named), near)
     where
-      all_seen : (x : Insertion) → Contains (insertions_of p pins routes r) x → These x.0
-      all_seen x c = let f = fit x c in all x.0 f.from f.within
+      least : (y : Insertion) → Contains (insertions_of p pins routes r) y → is_no_worse p routes r (place_found f) y ≡ true
+      least y c =
+          let fits = fit y c in
+          let o = opens p.kind (of_vehicle routes y.0) in
+          elim (let_or_behind l f up.allowed y o refl) [
+            | inl let_in ↦ up.least y c (all y.0 fits.from fits.within) let_in
+            | inr ahead ↦ no_worse_than (place_found f) y f.opens o f.addition.distance (adds y) (price_found l These f up) (price y fits) ahead
+          ]
 
-      nothing : insertions p pins routes (request_name r) ≡ [] → (x : Insertion) → Contains (insertions_of p pins routes r) x → ⊥
-      nothing none x c =
-          let same : insertions p pins routes (request_name r) ≡ insertions_of p pins routes r = ap (λ (o : Option Request). option_map_or (insertions_of p pins routes) o []) asked.named in
-          within [] x (subst (λ (l : List Insertion). Contains l x) (sym same ∙ none) c)
+      by : (o : Option Insertion) → best_insertion p pins routes (request_name r) ≡ o → MatchOption o (insertions p pins routes (request_name r) ≡ []) (IsBest p pins routes r) → o ≡ Some (place_found f)
+      by None is none = absurd (nothing none (place_found f) up.among)
+      by (Some x) is best = ap Some (laws.unique p pins routes r x (place_found f) best (record { among = up.among; least = least }))
 
-      by : (a : Option Found) (o : Option Insertion) → IsBestAmongThese p pins routes r These a → best_insertion p pins routes (request_name r) ≡ o → MatchOption o (insertions p pins routes (request_name r) ≡ []) (IsBest p pins routes r) → option_map place_found a ≡ o
-      by None None up is best = refl
-      by None (Some x) up is best = absurd (up x (best.among) (all_seen x (best.among)))
-      by (Some f) None up is none = absurd (nothing none (place_found f) (up.among))
-      by (Some f) (Some x) up is best = ap Some (laws.unique p pins routes r (place_found f) x (record { among = up.among; least = λ y c. up.least y c (all_seen y c) }) best)
+      added : adds (place_found f) ≡ f.addition.distance
+      added = same (route_length p (inserted r f.addition.pickup f.addition.delivery (of_vehicle routes f.vehicle))) (route_length p (of_vehicle routes f.vehicle)) f.addition.distance up.added.1
+        where
+          same : (a b : ℕ) (d : ℤ) → pos a ≡ pos b +ℤ d → pos a -ℤ pos b ≡ d
+          same a b d is = omega (arith, ints)
 
-      by_best : (o : Option Insertion) → best_insertion p pins routes (request_name r) ≡ o → MatchOption o (insertions p pins routes (request_name r) ≡ []) (IsBest p pins routes r) → option_map place_found answer ≡ best_insertion p pins routes (request_name r)
-      by_best o is best = by answer o up is best ∙ sym is
+      near : IsLet l (place_found f)
+      near = subst (λ b. IsWithin l b (adds (place_found f))) (sym up.opens) (subst (λ d. IsWithin l f.opens d) (sym added) up.allowed)
+
+  -- where the limit lets all in, the best insertion itself
+  pub unlimited : (l : Limit) → l.opens ≡ true → l.below ≡ pos 9223372036854775807 → (answer : Option Insertion) → IsBestWithin p pins routes r l answer → answer ≡ best_insertion p pins routes (request_name r)
+  unlimited l opens_all most (Some x) is = sym is.0
+  unlimited l opens_all most None none = by (best_insertion p pins routes (request_name r)) refl (laws.least p pins routes (request_name r) r asked.named)
+    where
+      -- a route without stops gets few
+      let_all : (x : Insertion) → IsFit x → (o : Bool) → opens p.kind (of_vehicle routes x.0) ≡ o → IsLet l x
+      let_all x f false is = inl (is, opens_all)
+      let_all x f true is = inr (
+        is ∙ sym opens_all,
+        subst (λ b. adds x <ℤ b) (sym most)
+            (gain_small laws.found laws.stand laws.local laws.says p pins routes asked.valid asked.good (request_name r) r asked.named asked.free x
+            (let e = few_more r x.1 x.2 (of_vehicle routes x.0) in let none = opened_empty p.kind (of_vehicle routes x.0) is in omega arith)),
+      )
+
+      by : (o : Option Insertion) → best_insertion p pins routes (request_name r) ≡ o → MatchOption o (insertions p pins routes (request_name r) ≡ []) (IsBest p pins routes r) → None ≡ o
+      by None is best = refl
+      by (Some x) is best = absurd (none x best.among (let_all x (fit x best.among) (opens p.kind (of_vehicle routes x.0)) refl))

@@ -67,7 +67,7 @@ used_or : (b : Bool) → cond (not b) 1 0 + cond b 1 0 ≡ 1
 used_or true = refl
 used_or false = refl
 
-used_some : (new : List ℕ) → (length new ≡ 0 → ⊥) → used new ≡ 1
+pub used_some : (new : List ℕ) → (length new ≡ 0 → ⊥) → used new ≡ 1
 used_some new some = elim (eqb_tells (length new) 0) [
   | inl t ↦ absurd (some t.1)
   | inr t ↦ rw t.0 refl
@@ -102,12 +102,12 @@ module _ (p : Instance) (routes : List (List ℕ)) (r : Request) where
   abbrev pub Ahead : Insertion → Bool → ℤ → Insertion → Bool → ℤ → Type 0
   Ahead x a d y b e = ((a ≡ false) × (b ≡ true)) ⊎ ((a ≡ b) × ((d <ℤ e) ⊎ ((d ≡ e) × (is_no_later x y ≡ true))))
 
-  distance_with : (x : Insertion) (o : Bool) (d : ℤ) → IsPriced x o d → pos (cost_with p routes r x).distance ≡ pos (total_length p routes) +ℤ d
+  pub distance_with : (x : Insertion) (o : Bool) (d : ℤ) → IsPriced x o d → pos (cost_with p routes r x).distance ≡ pos (total_length p routes) +ℤ d
   distance_with x o d is =
       let e = replaced (route_length p) routes x.0 (new_route x) (is.from) (is.within) in
       omega (arith, ints)
 
-  used_with : (x : Insertion) (o : Bool) (d : ℤ) → IsPriced x o d → (cost_with p routes r x).vehicles ≡ vehicle_count p.kind routes + cond o 1 0
+  pub used_with : (x : Insertion) (o : Bool) (d : ℤ) → IsPriced x o d → (cost_with p routes r x).vehicles ≡ vehicle_count p.kind routes + cond o 1 0
   used_with x o d is = vehicles_with p.kind routes x.0 (new_route x) (is.from) (is.within) (is.some) ∙ ap (λ (b : Bool). vehicle_count p.kind routes + cond b 1 0) (is.opens)
 
   module _ (below : BelowTells) (at_most : AtMostTells) where

@@ -1,6 +1,7 @@
 pub mod Applying
 pub mod Asked
 pub mod BestLemmas
+pub mod Bounding
 pub mod Bounds
 pub mod Changing
 pub mod Choosing
@@ -33,6 +34,7 @@ pub mod Rerouting
 pub mod Replacing
 pub mod Restoring
 pub mod Rooming
+pub mod Saving
 pub mod Seating
 pub mod TakenOut
 pub mod Times

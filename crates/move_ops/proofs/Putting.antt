@@ -17,12 +17,14 @@ use Rattle.move_ops.specs.Laws.{BestInsertionsAreLeast, IsBest}
 use Rattle.move_ops.specs.Tables.{plan_of, AreTablesIn}
 use Rattle.move_ops.specs.Drafts.{Drafted, draft_of, IsDraftOf, IsMade, placed}
 use Rattle.move_ops.specs.Changes.{IsPut}
+use Rattle.move_ops.specs.Choosing.{IsBestWithin}
+use Rattle.move_ops.specs.declared.tables.Limit.{Limit}
 use Rattle.move_ops.proofs.Choosing.{name_of}
 use Rattle.move_ops.proofs.Places.{within, listed}
 use Rattle.move_ops.proofs.Placing.{is_put}
 use Rattle.move_ops.proofs.Drafting.{plan_with, tables_with}
 
-placed_none : (p : Instance) (pins routes : List (List ℕ)) (name : ℕ) → None ≡ best_insertion p pins routes name → routes ≡ placed p pins routes name
+pub placed_none : (p : Instance) (pins routes : List (List ℕ)) (name : ℕ) → None ≡ best_insertion p pins routes name → routes ≡ placed p pins routes name
 placed_none p pins routes name none = rw (sym none) refl
 
 -- the best insertion can be put in
@@ -34,6 +36,13 @@ best_put law stand local says below least p pins routes valid good r named (Some
     let is : IsBest p pins routes r x = subst (λ (o : Option Insertion). MatchOption o (insertions p pins routes (request_name r) ≡ []) (IsBest p pins routes r)) best (least p pins routes (request_name r) r named) in
     let told = listed p pins routes r x (within (insertions_of p pins routes r) x is.among) in
     is_put law stand local says below p pins routes valid good r named x told.0 told.1 told.2
+
+-- so it can where it costs less than a limit
+pub within_put : NamedAreFound → RequestsStandByName → PassesAreLocal → TestsSayFeasible → StopsAreBelowNext → BestInsertionsAreLeast
+    → (p : Instance) (pins routes : List (List ℕ)) → IsInstance p → passes p pins routes ≡ true → (r : Request) → request_named p (request_name r) ≡ Some r
+    → (l : Limit) (o : Option Insertion) → IsBestWithin p pins routes r l o → IfSome o (IsPut p pins routes r)
+within_put law stand local says below least p pins routes valid good r named l None best = tt
+within_put law stand local says below least p pins routes valid good r named l (Some x) best = best_put law stand local says below least p pins routes valid good r named (Some x) best.0
 
 placed_is : (p : Instance) (pins routes : List (List ℕ)) (r : Request) (x : Insertion) → best_insertion p pins routes (request_name r) ≡ Some x → IsPut p pins routes r x
     → placed p pins routes (request_name r) ≡ with_request_at routes r x

@@ -125,7 +125,7 @@ module _ (p : Instance) (from to : List ℕ) (c d : ℕ) (c_within : c ≤ lengt
       let f : d + 1 + k ≡ suc (d + k) = omega arith in
       rw (e, f) (ap (stop_numbered p) (joined_behind c from (drop d to) k c_within ∙ get_or-drop d to k 0))
 
-  length_joined : route_length p (joined from c to d) + (length_along (place p to) d + way_across p to d to (d + 1)) ≡ route_length p to + (length_along (place p from) c + way_across p from c to (d + 1))
+  pub length_joined : route_length p (joined from c to d) + (length_along (place p to) d + way_across p to d to (d + 1)) ≡ route_length p to + (length_along (place p from) c + way_across p from c to (d + 1))
   length_joined =
       let end : d + 1 + (length to - d) ≡ length to + 1 = omega arith in
       let end_new : c + 1 + (length to - d) ≡ length (joined from c to d) + 1 = omega (arith, length-append (take c from) (drop d to), length-take-le c from c_within, length-drop d to) in

@@ -1,9 +1,11 @@
 -- what public contracts say
+pub mod Bounded
 pub mod Drafts
 pub mod Foreseen
 pub mod Insertion
 pub mod Laws
 pub mod Moves
+pub mod Savings
 pub mod Tables
 -- what those of private functions say
 pub mod Changes

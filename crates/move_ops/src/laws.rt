@@ -1,12 +1,14 @@
 //! What the best insertion is: the least by a test that compares costs and then places. The list of insertions rises, but
 //! nothing rests on that. A request that is taken out has one, since it fits where it was.
 ghost use Rattle.move_ops.specs.Choosing.{InsertionLaws};
+ghost use Rattle.move_ops.specs.Savings.{PlacementsSaveLittle};
 ghost use Rattle.move_ops.specs.Laws.{BestInsertionsAreLeast, BestInsertionsAreUnique, InsertionsCanBePutIn, LimitsAreRules, PlansPassWithoutPins, RelocationsNeverCostMore, RequestsKeepTheirPlaces};
 
+use nint_dist::detours_save_at_most_one;
 use plan_audit::{a_passing_plan_is_sound, passes_are_local, tests_say_feasible, tests_say_pass};
 use plan_types::{
-    costs_are_in_order, costs_compare_part_by_part, requests_are_found_by_stop,
-    requests_stand_by_name,
+    costs_are_in_order, costs_compare_part_by_part, numbers_are_below_the_next,
+    requests_are_found_by_stop, requests_stand_by_name,
 };
 
 /// The best insertion of a request is one of its insertions, and no other costs less, or as much at an earlier vehicle, pickup place or
@@ -51,6 +53,19 @@ pub fn relocations_never_cost_more()
     tests_say_pass();
     best_insertions_are_least();
     costs_are_in_order();
+}
+
+/// A request that is put in where it is best leaves one request fewer out at most, uses no vehicle fewer, and saves 1 of the distance at
+/// most for each of its stops. So of a plan that wants more requests it is known what it costs at least once they are in.
+pub fn placements_save_little()
+    ensures { PlacementsSaveLittle }
+{
+    requests_are_found_by_stop();
+    requests_stand_by_name();
+    passes_are_local();
+    tests_say_feasible();
+    numbers_are_below_the_next();
+    detours_save_at_most_one();
 }
 
 /// A plan that passes with its pins passes with none.

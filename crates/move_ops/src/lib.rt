@@ -4,7 +4,8 @@
 //! The search (`seeded_search`) works on a `Draft`, a plan that is changed in its place over kept tables, and
 //! so do the commands that put requests in. `insert_at`, `remove`, `exchange`, `two_opt_star` and
 //! `best_insertion` are the same from plan to plan: each makes a draft of the plan and asks it. `Tables` finds
-//! where requests are put in best, and leaves the plan to its caller. `of_vehicle`, `request_named` and `marks`
+//! where requests are put in best, and leaves the plan to its caller: for one who keeps it himself, as the
+//! program does not. `of_vehicle`, `request_named` and `marks`
 //! look for a vehicle's route or pin, for the request of a name, and for the stops that routes have.
 //!
 //! Modules, in reading order:
@@ -14,11 +15,12 @@
 //!   it changes alone.
 //! - `lists`, `insert`, `removal`, `swap`: routes and pins by vehicle, and the stops of new routes.
 //! - `pairing`, `tour`, `tours`, `changes`: a route with its table, and what is asked of a new one.
+//! - `savings`: what a request that is put in saves at most.
 //! - `seats`, `naming`: where to look for a stop, marks at the stops of routes, and the request of a name.
 //! - `rooms`: what a single may ask of each vehicle at most.
 //! - `facts`: what is known of a problem that is only handed on.
 //! - `tables`: the best insertion, by a table for each vehicle.
-//! - `laws`: what the best insertion is, and that a request which is taken out has one, without code.
+//! - `laws`: what the best insertion is and saves, and that a request which is taken out has one, without code.
 //!
 //! Specs: `Insertion` and `Moves` name the plan of each move, `Tables` and `Drafts` say what is kept, `Laws`
 //! what the best insertion is; the others follow the modules.
@@ -39,13 +41,14 @@
 //!   old ones;
 //! - `Draft`: `remove`, `exchange`, `cross` and `place` make a candidate by the same definitions (`IsMade`,
 //!   `placed`), `cost` is what it costs, `take` makes it the base and `drop_draft` forgets it, without
-//!   memory; `cost_exchanged` and `cost_crossed`, where they tell, are what the plan of the move costs, if it
-//!   makes one;
+//!   memory; `place_below` does what `place` does exactly where the result opens no vehicle and drives less
+//!   than so much more, else nothing (`IsPlacedBelow`); `cost_exchanged` and `cost_crossed`, where they tell,
+//!   are what the plan of the move costs, if it makes one;
 //! - `of_vehicle` and `request_named` are the definitions of these names, and `marks` has for each number below
 //!   its length what `has_stop` says of it;
 //! - the laws: the best insertion is the least and the only one; the list of insertions holds those that can
 //!   be put in and no others; a request that is taken out fits where it was, and relocated the plan costs no
-//!   more; a plan that passes with its pins passes without them; the limits of which tables speak are the
+//!   more; one that is put in saves little (`placements_save_little`, `most_saved`); a plan that passes with its pins passes without them; the limits of which tables speak are the
 //!   auditor's rules on load and time.
 #![tactic(auto)]
 
@@ -60,6 +63,7 @@ mod pairing;
 mod plan_moves;
 mod removal;
 mod rooms;
+mod savings;
 mod seats;
 mod swap;
 mod tables;
@@ -69,11 +73,12 @@ mod tours;
 pub use draft::Draft;
 pub use laws::{
     best_insertions_are_least, best_insertions_are_unique, insertions_can_be_put_in,
-    limits_are_rules, plans_pass_without_pins, relocations_never_cost_more,
+    limits_are_rules, placements_save_little, plans_pass_without_pins, relocations_never_cost_more,
     requests_keep_their_places,
 };
 pub use lists::of_vehicle;
 pub use naming::request_named;
 pub use plan_moves::{best_insertion, exchange, insert_at, remove, two_opt_star};
+pub use savings::most_saved;
 pub use seats::marks;
 pub use tables::Tables;

@@ -5,6 +5,9 @@
 //! has changed are asked first, since what was taken out of them mostly fits there best: behind them most others
 //! are ruled out. So at a vehicle before that of the best so far an equal distance is better, too.
 //!
+//! A limit stands where the best so far will, before there is one: what doesn't cost less is none. As it is compared
+//! in the same way, what is left is a front of all insertions by their order, so what is found is the best of all.
+//!
 //! Tables need a plan that passes with no pins, so `build` and `refresh` are given none; the law
 //! `plans_pass_without_pins` leads there from a plan that passes with its own.
 ghost use Rattle.std.specs.Prelude.{◌≡◌, ◌+◌, ◌<ℤ◌, pos, true, false, [], map, Some, IfOk, IsSome, length};
@@ -17,7 +20,7 @@ ghost use Rattle.move_ops.specs.Insertion.{request_named, of_vehicle, best_inser
 ghost use Rattle.plan_audit.specs.Passes.{passes};
 ghost use Rattle.move_ops.specs.Refreshing.{fresh_of, AreWithin};
 ghost use Rattle.move_ops.specs.Tables.{plan_of, AreVehicles};
-ghost use Rattle.move_ops.specs.Choosing.{opens, bound_of, place_found, IsAsked, IsAskedOver, IsBestAmongThese, IsLookable, IsLookedAt, IsLoose, bound_beside, IsBetter, IsEntryOf, IsNamed, IsShort};
+ghost use Rattle.move_ops.specs.Choosing.{opens, bound_of, bound_over, place_found, IsAsked, IsAskedOver, IsBestAmongThese, IsBestWithin, IsLookable, IsLookedAt, IsLoose, bound_beside, IsBetter, IsEntryOf, IsNamed, IsShort};
 
 use crate::facts::problem_keeps_limits;
 use crate::laws::insertion_laws;
@@ -63,6 +66,19 @@ impl Found {
     }
 }
 
+/// What an insertion has to cost less than: one that uses one vehicle more or not, and adds so much to the distance.
+#[derive(Clone, Copy)]
+pub(crate) struct Limit {
+    pub opens: bool,
+    pub below: i64,
+}
+
+/// Each insertion costs less.
+pub(crate) const NO_LIMIT: Limit = Limit {
+    opens: true,
+    below: i64::MAX,
+};
+
 impl Tables {
     ghost use Rattle.std.specs.Prelude.{OnOk, OnErr};
     ghost use Rattle.std.specs.Option.{IsSomeAnd};
@@ -90,10 +106,12 @@ impl Tables {
             (λ r. is_planned (plan_of self.now) r ≡ false) }
         ensures { result ≡ best_insertion problem.now pins.now.routes (plan_of self.now) name }
     {
+        insertion_laws();
         let request = live_request(problem, name);
         let tables = self.tables.as_slice();
         let pins = pins.routes.as_slice();
-        best_of(problem, pins, tables, &[], tables.len(), &[], request)
+        let end = tables.len();
+        best_within(problem, pins, tables, &[], end, &[], request, &NO_LIMIT)
     }
 
     /// Builds the tables of these vehicles anew, for a plan whose other routes are those of the tables. Vehicles count from 1; the list
@@ -167,8 +185,8 @@ fn live_request(problem: &Problem, name: u32) -> &Request
     problem.requests.get(&name).unwrap()
 }
 
-/// The best insertion over all vehicles, where those of `first` are asked before the others.
-pub(crate) fn best_of(
+/// The best insertion over all vehicles, where that costs less than the limit; those of `first` are asked before the others.
+pub(crate) fn best_within(
     problem: &Problem,
     pins: &[Route],
     tables: &[Tour],
@@ -176,14 +194,18 @@ pub(crate) fn best_of(
     end: usize,
     first: &[(u32, Tour)],
     request: &Request,
+    limit: &Limit,
 ) -> Option<(u64, u64, u64)>
     requires { IsAskedOver problem.now pins.now tables.now rooms.now end first.now request.now }
-    ensures { result
-        ≡ best_insertion problem.now pins.now (plan_of tables.now) (request_name request.now) }
+    ensures { IsBestWithin problem.now pins.now (plan_of tables.now) request.now limit.now result }
 {
     let found = match request {
-        Request::Single(_) => best_by_rooms(problem, pins, tables, rooms, end, first, request),
-        Request::Pair(_, _) => best_by_rooms(problem, pins, tables, &[], end, first, request),
+        Request::Single(_) => best_by_rooms(
+            problem, pins, tables, rooms, end, first, request, limit,
+        ),
+        Request::Pair(_, _) => {
+            best_by_rooms(problem, pins, tables, &[], end, first, request, limit)
+        }
     };
     match found {
         Some(found) => Some(found.place()),
@@ -203,15 +225,16 @@ fn best_by_rooms(
     end: usize,
     first: &[(u32, Tour)],
     request: &Request,
+    limit: &Limit,
 ) -> Option<Found>
     requires { IsAskedOver problem.now pins.now tables.now rooms.now end first.now request.now }
-    ensures { option_map place_found result
-        ≡ best_insertion problem.now pins.now (plan_of tables.now) (request_name request.now) }
+    ensures { IsBestWithin problem.now pins.now (plan_of tables.now) request.now limit.now
+        (option_map place_found result) }
 {
     insertion_laws();
     let ways = RequestWays::of(&problem.depot, request);
-    let mut best = best_of_first(problem, pins, tables, first, request, &ways);
-    let mut below = bound_from(&best, 1);
+    let mut best = best_of_first(problem, pins, tables, first, request, &ways, limit);
+    let mut below = bound_from(limit, &best, 1);
     let mut has_idle = false;
     for k in 0..end {
         let table = &tables[k];
@@ -227,7 +250,7 @@ fn best_by_rooms(
             has_idle = true;
         }
         below = look_at(
-            problem, request, &ways, table, pins, first, vehicle, below, &mut best,
+            problem, request, &ways, table, pins, first, vehicle, below, limit, &mut best,
         );
     }
     best
@@ -242,11 +265,12 @@ fn best_of_first(
     first: &[(u32, Tour)],
     request: &Request,
     ways: &RequestWays,
+    limit: &Limit,
 ) -> Option<Found>
     requires asked { IsAsked problem.now pins.now tables.now request.now }
     requires ways { AreWays problem.now.depot request.now ways.now }
     requires first { AreWithin (length tables.now) first.now }
-    ensures best { IsBestAmongThese problem.now pins.now (plan_of tables.now) request.now
+    ensures best { IsBestAmongThese problem.now pins.now (plan_of tables.now) request.now limit.now
         (IsNamed (plan_of tables.now) first.now (length first.now)) result }
     ensures short { IsShort result }
 {
@@ -257,7 +281,7 @@ fn best_of_first(
         let index = (vehicle - 1) as usize;
         let table = &tables[index];
         if table.stop_count() != 0 {
-            let below = bound_from(&best, vehicle);
+            let below = bound_from(limit, &best, vehicle);
             look_at(
                 problem,
                 request,
@@ -267,6 +291,7 @@ fn best_of_first(
                 &[],
                 vehicle,
                 below,
+                limit,
                 &mut best,
             );
         }
@@ -287,14 +312,15 @@ fn look_at(
     first: &[(u32, Tour)],
     vehicle: u64,
     below: i64,
+    limit: &Limit,
     best: &mut Option<Found>,
 ) -> i64
     requires vehicle { IsLookable problem.now pins.now request.now ways.now vehicle table.now }
-    requires below { IsLoose vehicle best.old below }
+    requires below { IsLoose vehicle limit.now best.old below }
     requires short { IsShort best.old }
     ensures looked { IsLookedAt problem.now (route_of table.now) request.now
-        (length (of_vehicle pins.now vehicle)) first.now vehicle best.old best.new }
-    ensures below { IsLoose vehicle best.new result }
+        (length (of_vehicle pins.now vehicle)) first.now vehicle limit.now best.old best.new }
+    ensures below { IsLoose vehicle limit.now best.new result }
     ensures short { IsShort best.new }
 {
     if table.stop_count() != 0 {
@@ -302,11 +328,11 @@ fn look_at(
             return below;
         }
         if is_among(first, vehicle) {
-            return bound_from(best, vehicle);
+            return bound_from(limit, best, vehicle);
         }
     }
-    look_closer(problem, request, ways, table, pins, vehicle, best);
-    bound_from(best, vehicle)
+    look_closer(problem, request, ways, table, pins, vehicle, limit, best);
+    bound_from(limit, best, vehicle)
 }
 
 // The same, at each place of a vehicle that isn't ruled out. It is written in its place, and the pin is looked up of such vehicles alone.
@@ -318,16 +344,17 @@ fn look_closer(
     table: &Tour,
     pins: &[Route],
     vehicle: u64,
+    limit: &Limit,
     best: &mut Option<Found>,
 )
     requires vehicle { IsLookable problem.now pins.now request.now ways.now vehicle table.now }
     requires short { IsShort best.old }
     ensures better { IsBetter problem.now (route_of table.now) request.now
-        (length (of_vehicle pins.now vehicle)) vehicle best.old best.new }
+        (length (of_vehicle pins.now vehicle)) vehicle limit.now best.old best.new }
     ensures short { IsShort best.new }
 {
     let opens = opens(problem.kind, table);
-    let Some(below) = bound(vehicle, opens, best) else {
+    let Some(below) = bound(vehicle, opens, limit, best) else {
         return;
     };
     let kept = of_vehicle(pins, vehicle).len() as u64;
@@ -363,24 +390,30 @@ fn opens(kind: Kind, table: &Tour) -> bool
     }
 }
 
-// What an insertion at a vehicle must add less than to be better than the best so far.
+// What an insertion at a vehicle must add less than to be better than the best so far, or than the limit.
 #[inline(always)]
-fn bound(vehicle: u64, opens: bool, best: &Option<Found>) -> Option<i64>
+fn bound(vehicle: u64, opens: bool, limit: &Limit, best: &Option<Found>) -> Option<i64>
     requires { IsShort best.now }
-    ensures { result ≡ bound_of vehicle opens best.now }
+    ensures { result ≡ bound_of vehicle opens limit.now best.now }
 {
     match best {
-        None => Some(i64::MAX),
-        Some(best) => {
-            if best.opens && !opens {
-                return Some(i64::MAX);
-            }
-            if opens && !best.opens {
-                return None;
-            }
-            Some(bound_at(vehicle, best))
-        }
+        None => bound_over(limit.opens, limit.below, opens),
+        Some(best) => bound_over(best.opens, bound_at(vehicle, best), opens),
     }
+}
+
+// What an insertion must add less than to be better than what opens a vehicle or not and adds so much.
+#[inline(always)]
+fn bound_over(rival_opens: bool, distance: i64, opens: bool) -> Option<i64>
+    ensures { result ≡ bound_over rival_opens distance opens }
+{
+    if rival_opens && !opens {
+        return Some(i64::MAX);
+    }
+    if opens && !rival_opens {
+        return None;
+    }
+    Some(distance)
 }
 
 // The same beside an insertion that opens as many vehicles.
@@ -396,14 +429,19 @@ fn bound_at(vehicle: u64, best: &Found) -> i64
     }
 }
 
-// What no insertion at a used vehicle from this one on needs to add less than to be better than the best so far.
+// What no insertion at a used vehicle from this one on needs to add less than to be better than the best so far, or than the limit.
 #[inline(always)]
-fn bound_from(best: &Option<Found>, vehicle: u64) -> i64
+fn bound_from(limit: &Limit, best: &Option<Found>, vehicle: u64) -> i64
     requires { IsShort best.now }
-    ensures { IsLoose vehicle best.now result }
+    ensures { IsLoose vehicle limit.now best.now result }
 {
     match best {
-        None => i64::MAX,
+        None => {
+            if limit.opens {
+                return i64::MAX;
+            }
+            limit.below
+        }
         Some(best) => {
             if best.opens {
                 return i64::MAX;

@@ -9,20 +9,22 @@ ghost use Rattle.route_sched.specs.Cost.{cost_of, total_length, unplanned_count}
 ghost use Rattle.slack_tables.specs.Course.{course_of, route_of};
 ghost use Rattle.move_ops.specs.Tables.{AreTablesIn};
 ghost use Rattle.move_ops.specs.Changes.{IsPut};
+ghost use Rattle.move_ops.specs.Choosing.{IsBestWithin};
 ghost use Rattle.plan_types.specs.Request.{request_name};
 ghost use Rattle.move_ops.specs.Insertion.{best_insertion, is_place_of, put_in, request_named, with_request_at, with_route};
 ghost use Rattle.route_sched.specs.Route.{AreLiveOnce};
 ghost use Rattle.slack_tables.specs.Insertion.{KeepsLimits};
 ghost use Rattle.move_ops.specs.Logged.{HasRoute};
 ghost use Rattle.move_ops.specs.Refreshing.{AreWithin};
+ghost use Rattle.move_ops.specs.Bounded.{IsPlacedBelow};
 ghost use Rattle.move_ops.specs.Drafts.{undone, draft_of, base_of, IsDraftOf, IsMade, placed};
 
 use super::Draft;
 use crate::insert::{are_places, put_into};
-use crate::laws::best_insertions_are_least;
+use crate::laws::{best_insertions_are_least, insertion_laws};
 use crate::lists::of_vehicle;
 use crate::naming::request_named;
-use crate::tables::best_of;
+use crate::tables::{Limit, NO_LIMIT, best_within};
 use crate::tour::{Tour, tour_of};
 use plan_audit::{passes_are_local, tests_say_feasible};
 use plan_types::{
@@ -52,6 +54,37 @@ impl Draft {
             Some(place) => self.put(problem, pins, &request, place),
             None => Ok(()),
         }
+    }
+
+    /// Puts a request into the draft where it is best, where that adds less than `below` to the distance and opens no vehicle. Answers
+    /// whether it did; else the draft stays.
+    pub fn place_below(
+        &mut self,
+        problem: &Problem,
+        pins: &Pins,
+        name: u32,
+        below: i64,
+    ) -> Result<bool, OutOfMemory>
+        requires { IsDraftOf problem.now pins.now.routes self.old }
+        ensures is { OnOk result (IsDraftOf problem.now pins.now.routes self.new) }
+        ensures base { OnOk result (base_of self.new ≡ base_of self.old) }
+        ensures placed { IfOk result (λ made. IsPlacedBelow problem.now pins.now.routes name below
+            made (draft_of self.old) (draft_of self.new)) }
+        ensures err { OnErr result (self.new ≡ self.old) }
+    {
+        insertion_laws();
+        let Some(request) = request_named(problem, name) else {
+            return Ok(false);
+        };
+        let limit = Limit {
+            opens: false,
+            below,
+        };
+        let Some(place) = self.best_within(problem, pins, &request, &limit) else {
+            return Ok(false);
+        };
+        self.put(problem, pins, &request, place)?;
+        Ok(true)
     }
 
     /// Puts a request into the draft at this place, as `insert_at` does; answers whether it did.
@@ -91,6 +124,25 @@ impl Draft {
         ensures put { IfSome result
             (IsPut problem.now pins.now.routes (draft_of self.now) request.now) }
     {
+        insertion_laws();
+        self.best_within(problem, pins, request, &NO_LIMIT)
+    }
+
+    // The same, where that costs less than the limit.
+    fn best_within(
+        &self,
+        problem: &Problem,
+        pins: &Pins,
+        request: &Request,
+        limit: &Limit,
+    ) -> Option<(u64, u64, u64)>
+        requires is { IsDraftOf problem.now pins.now.routes self.now }
+        requires request { request_named problem.now (request_name request.now) ≡ Some request.now }
+        ensures best { IsBestWithin problem.now pins.now.routes (draft_of self.now) request.now
+            limit.now result }
+        ensures put { IfSome result
+            (IsPut problem.now pins.now.routes (draft_of self.now) request.now) }
+    {
         passes_are_local();
         tests_say_feasible();
         best_insertions_are_least();
@@ -101,7 +153,7 @@ impl Draft {
             return None;
         }
         let kept = pins.routes.as_slice();
-        best_of(
+        best_within(
             problem,
             kept,
             &self.tours,
@@ -109,6 +161,7 @@ impl Draft {
             self.reach(),
             self.first_asked(),
             request,
+            limit,
         )
     }
 

@@ -6,8 +6,8 @@ use Rattle.move_ops.proofs.tables.best_by_rooms.Given as goal
 -- the best among the vehicles so far, what a used vehicle must add less than, and whether one so far has no stops
 abbrev pub invariant-loop-k : goal.invariant-loop-k
 invariant-loop-k l = record {
-  best : IsBestAmongThese l.problem l.pins (plan_of l.tables) l.request (IsNamedOrUpTo (plan_of l.tables) l.first l.k) l.best;
-  below : IsLoose (l.k + 1) l.best l.below;
+  best : IsBestAmongThese l.problem l.pins (plan_of l.tables) l.request l.limit (IsNamedOrUpTo (plan_of l.tables) l.first l.k) l.best;
+  below : IsLoose (l.k + 1) l.limit l.best l.below;
   short : IsShort l.best;
   idle : l.has_idle ≡ true → HasIdle (plan_of l.tables) l.k;
 }

@@ -22,16 +22,16 @@ loop-j-preserved c =
     record {
       best = elim c.if-stop_count-ne0.branch [
         | then-stop_count-ne0 w ↦ (
-            subst (IsBestAmongThese c.args.problem.now c.args.pins.now (plan_of c.args.tables.now) c.args.request.now (IsNamed (plan_of c.args.tables.now) c.args.first.now (c.loop-j.j + 1))) (sym w.best-is)
-            (named_more c.insertion_laws.ensures c.requires.asked (v - 1) table c.index-tables-index.is e.3 c.args.first.now c.loop-j.j (get_or c.args.first.now c.loop-j.j c.index-first-j.result) e.0 e.1 (omega arith) (omega arith) c.loop-j.best w.look_at.new.best c.loop-j.invariant.best
-            (subst (λ u. IsLookedAt c.args.problem.now (route_of table) c.args.request.now (length (of_vehicle c.args.pins.now u)) [] u c.loop-j.best w.look_at.new.best) e.2 w.look_at.ensures.looked)))
+            subst (IsBestAmongThese c.args.problem.now c.args.pins.now (plan_of c.args.tables.now) c.args.request.now c.args.limit.now (IsNamed (plan_of c.args.tables.now) c.args.first.now (c.loop-j.j + 1))) (sym w.best-is)
+            (named_more c.insertion_laws.ensures c.requires.asked (v - 1) table c.index-tables-index.is e.3 c.args.first.now c.args.limit.now c.loop-j.j (get_or c.args.first.now c.loop-j.j c.index-first-j.result) e.0 e.1 (omega arith) (omega arith) c.loop-j.best w.look_at.new.best c.loop-j.invariant.best
+            (subst (λ u. IsLookedAt c.args.problem.now (route_of table) c.args.request.now (length (of_vehicle c.args.pins.now u)) [] u c.args.limit.now c.loop-j.best w.look_at.new.best) e.2 w.look_at.ensures.looked)))
         | else-stop_count-ne0 w ↦ (
-            subst (IsBestAmongThese c.args.problem.now c.args.pins.now (plan_of c.args.tables.now) c.args.request.now (IsNamed (plan_of c.args.tables.now) c.args.first.now (c.loop-j.j + 1))) (sym w.best-is)
-            (named_idle c.insertion_laws.ensures c.requires.asked (v - 1) table c.index-tables-index.is e.3 c.args.first.now c.loop-j.j (get_or c.args.first.now c.loop-j.j c.index-first-j.result) e.0 e.1 (omega arith) c.loop-j.best c.loop-j.invariant.best))
+            subst (IsBestAmongThese c.args.problem.now c.args.pins.now (plan_of c.args.tables.now) c.args.request.now c.args.limit.now (IsNamed (plan_of c.args.tables.now) c.args.first.now (c.loop-j.j + 1))) (sym w.best-is)
+            (named_idle c.insertion_laws.ensures c.requires.asked (v - 1) table c.index-tables-index.is e.3 c.args.first.now c.args.limit.now c.loop-j.j (get_or c.args.first.now c.loop-j.j c.index-first-j.result) e.0 e.1 (omega arith) c.loop-j.best c.loop-j.invariant.best))
       ];
       short = search rules;
     }
 
 pub returns-clause-best : goal.returns-clause-best
 returns-clause-best c =
-    subst (λ n. IsBestAmongThese c.args.problem.now c.args.pins.now (plan_of c.args.tables.now) c.args.request.now (IsNamed (plan_of c.args.tables.now) c.args.first.now n) c.loop-j.best) (search rules) c.loop-j.invariant.best
+    subst (λ n. IsBestAmongThese c.args.problem.now c.args.pins.now (plan_of c.args.tables.now) c.args.request.now c.args.limit.now (IsNamed (plan_of c.args.tables.now) c.args.first.now n) c.loop-j.best) (search rules) c.loop-j.invariant.best

@@ -5,6 +5,6 @@ use Rattle.move_ops.proofs.tables.best_of_first.Given as goal
 -- the best among the vehicles of the entries so far
 abbrev pub invariant-loop-j : goal.invariant-loop-j
 invariant-loop-j l = record {
-  best : IsBestAmongThese l.problem l.pins (plan_of l.tables) l.request (IsNamed (plan_of l.tables) l.first l.j) l.best;
+  best : IsBestAmongThese l.problem l.pins (plan_of l.tables) l.request l.limit (IsNamed (plan_of l.tables) l.first l.j) l.best;
   short : IsShort l.best;
 }

@@ -1,23 +1,7 @@
-use Rattle.std.proofs.Common.{rules, List, sym, subst}
-use Rattle.slack_tables.specs.Course.{Course}
-use Rattle.move_ops.specs.Choosing.{IsReach}
-use Rattle.move_ops.specs.Drafts.{draft_of}
-use Rattle.move_ops.specs.Tables.{plan_of}
-use Rattle.move_ops.proofs.Putting.{best_put}
+use Rattle.std.proofs.Common.{refl}
+use Rattle.move_ops.proofs.Bounding.{unbounded}
 use Rattle.move_ops.proofs.draft.Draft.best.Goals as goal
 
-pub best_of-requires : goal.best_of-requires
-best_of-requires c =
-    record {
-      asked = search rules;
-      within = search rules;
-      rooms = search rules;
-      reach = subst (λ (t : List Course). IsReach (plan_of t) c.reach.result) (sym (search rules)) c.reach.ensures.reach;
-      first = search rules;
-    }
-
-pub returns-clause-put : goal.returns-clause-put
-returns-clause-put c =
-    let is = c.requires.is in
-    best_put c.requests_are_found_by_stop.ensures c.requests_stand_by_name.ensures c.passes_are_local.ensures c.tests_say_feasible.ensures c.numbers_are_below_the_next.ensures.stops c.best_insertions_are_least.ensures
-    c.args.problem.now c.args.pins.now.routes (draft_of c.args.self.now) is.valid is.draft c.args.request.now c.requires.request c.best_of.result (search rules)
+pub returns-clause-best : goal.returns-clause-best
+returns-clause-best c =
+    unbounded c.insertion_laws.ensures c.args.problem.now c.args.pins.now.routes c.args.self.now c.requires.is c.args.request.now c.requires.request _ refl refl c.best_within.result c.best_within.ensures.best

@@ -1,0 +1,9 @@
+use Rattle.std.proofs.Common.{rules, refl}
+use Rattle.move_ops.specs.Choosing.{IsAsked}
+use Rattle.move_ops.proofs.Choosing.{unlimited}
+use Rattle.move_ops.proofs.tables.Tables.best.Goals as goal
+
+pub returns : goal.returns
+returns c =
+    let asked : IsAsked c.args.problem.now c.as_slice-pins.result.now c.as_slice-tables.result.now c.live_request-request.result.now = search rules in
+    search (unlimited c.insertion_laws.ensures asked _ refl refl c.best_within.result c.best_within.ensures, rules)
