@@ -13,28 +13,34 @@ use Rattle.move_ops.proofs.Times.{none_some, some_same}
 use Rattle.seeded_search.specs.Words.{step_words}
 use Rattle.seeded_search.specs.Steps.{unplanned_names, is_near}
 use Rattle.seeded_search.specs.StepLaws.{BothPass}
-use Rattle.seeded_search.specs.Working.{walked_by, HasTaken}
+use Rattle.seeded_search.specs.Working.{walked_by, HasTaken, IsMadeIfNear}
 use Rattle.seeded_search.specs.declared.walk.Walk.{Walk}
 use Rattle.seeded_search.proofs.WalkLemmas.{Passes, removed_passes, placed_all_passes, same_cost, noted_walk, taken_walk}
 use Rattle.anneal_search.specs.Orders.{ordered}
 use Rattle.anneal_search.specs.Strings.{ruined_names}
 use Rattle.anneal_search.specs.Annealing.{Walked, walked, recreated, candidate, followed, annealed, annealed_by, anneal_step}
-use Rattle.anneal_search.specs.Going.{HasImproved, IsGoing}
+use Rattle.anneal_search.specs.Going.{ruined, HasImproved, IsGoing}
 
 -- ---- the candidate
-module _ (p : Instance) (pins routes : List (List ℕ)) (words names : List ℕ) (ruined : names ≡ ruined_names p pins routes words) where
-  pub none_ruined : length names ≡ 0 → candidate p pins routes words ≡ None
+module _ (p : Instance) (pins routes : List (List ℕ)) (words : List ℕ) where
+  -- what is left is put in again
+  pub candidate_is : option_map (recreated p pins (slice_index words 2)) (ruined p pins routes words) ≡ candidate p pins routes words
   unfolding candidate
-  none_ruined none =
-      ap (λ b. cond b None (option_map (recreated p pins (slice_index words 2)) (removed p pins routes (ruined_names p pins routes words))))
-      (eq-eqb (length (ruined_names p pins routes words)) 0 (ap length (sym ruined) ∙ none))
+  candidate_is = by (length (ruined_names p pins routes words) == 0) (removed p pins routes (ruined_names p pins routes words))
+    where
+      by : (b : Bool) (o : Option (List (List ℕ))) → option_map (recreated p pins (slice_index words 2)) (cond b None o) ≡ cond b None (option_map (recreated p pins (slice_index words 2)) o)
+      by true o = refl
+      by false o = refl
 
-  pub some_ruined : (length names == 0) ≡ false → candidate p pins routes words ≡ option_map (recreated p pins (slice_index words 2)) (removed p pins routes names)
-  unfolding candidate
-  some_ruined some =
-      ap (λ b. cond b None (option_map (recreated p pins (slice_index words 2)) (removed p pins routes (ruined_names p pins routes words))))
-      (ap (λ (ns : List ℕ). length ns == 0) (sym ruined) ∙ some)
-      ∙ ap (λ ns. option_map (recreated p pins (slice_index words 2)) (removed p pins routes ns)) (sym ruined)
+  module _ (names : List ℕ) (drawn : names ≡ ruined_names p pins routes words) where
+    pub none_ruined : length names ≡ 0 → ruined p pins routes words ≡ None
+    none_ruined none =
+        ap (λ b. cond b None (removed p pins routes (ruined_names p pins routes words))) (eq-eqb (length (ruined_names p pins routes words)) 0 (ap length (sym drawn) ∙ none))
+
+    pub some_ruined : (length names == 0) ≡ false → ruined p pins routes words ≡ removed p pins routes names
+    some_ruined some =
+        ap (λ b. cond b None (removed p pins routes (ruined_names p pins routes words))) (ap (λ (ns : List ℕ). length ns == 0) (sym drawn) ∙ some)
+        ∙ ap (removed p pins routes) (sym drawn)
 
 -- nothing is removed
 pub not_removed : (f : List (List ℕ) → List (List ℕ)) (answer : Option (List (List ℕ))) (made : Bool) (old new : Drafted) → IsMade answer made old new → made ≡ false → IsMade (option_map f answer) false old new
@@ -73,6 +79,14 @@ pub near_follows : (p : Instance) (deviation : ℕ) (s : Walked) (c : List (List
 near_follows p deviation s c cost work cost_is work_is near =
     let there : is_near deviation (cost_of p c) (cost_of p s.working) ≡ true = ap (λ a. is_near deviation a (cost_of p s.working)) (sym cost_is) ∙ (ap (is_near deviation cost) (sym work_is) ∙ near) in
     sym (ap (λ b. cond b (followed p s c) s) there)
+
+-- without a candidate, or with one that is far, nothing changes
+pub far_stays : (p : Instance) (deviation : ℕ) (work : Cost) (answer : Option (List (List ℕ))) (made : Bool) (old new : Drafted) → IsMadeIfNear p deviation work answer made old new → made ≡ false
+    → (s : Walked) → work ≡ cost_of p s.working → s ≡ annealed_by p deviation s answer
+far_stays p deviation work None made old new h is s work_is = refl
+far_stays p deviation work (Some c) made old new h is s work_is =
+    let far : is_near deviation (cost_of p c) (cost_of p s.working) ≡ false = ap (is_near deviation (cost_of p c)) (sym work_is) ∙ h.far is in
+    sym (ap (λ b. cond b (followed p s c) s) far)
 
 -- ---- steps
 module _ (p : Instance) (pins : List (List ℕ)) (deviation seed : ℕ) where

@@ -1,5 +1,5 @@
 -- What the loops of a step go by, and what annealing keeps of its plans from step to step.
-use Rattle.std.specs.Prelude.{◌≡◌, ℕ, ◌+◌, ◌-◌, nat_lt, ◌<◌, ◌≤◌, Bool, List, [], ◌∷◌, Option, Some, None, IfSome, IsTrue, length, slice_get, if◌then◌else◌}
+use Rattle.std.specs.Prelude.{◌≡◌, ℕ, ◌+◌, ◌-◌, ◌==◌, nat_lt, ◌<◌, ◌≤◌, Bool, List, [], ◌∷◌, Option, Some, None, IfSome, IsTrue, length, slice_get, if◌then◌else◌}
 use Rattle.std.specs.Option.{option_or}
 use Rattle.plan_types.specs.Cost.{cost_at_most}
 use Rattle.plan_types.specs.Instance.{Instance}
@@ -7,9 +7,11 @@ use Rattle.plan_types.specs.declared.requests.Stop.{Stop}
 use Rattle.route_sched.specs.Cost.{cost_of}
 use Rattle.move_ops.specs.Drafts.{base_of, draft_of}
 use Rattle.move_ops.specs.Insertion.{of_vehicle}
+use Rattle.move_ops.specs.Moves.{removed}
 use Rattle.seeded_search.specs.Working.{KeepsWalk, IsWalk}
 use Rattle.seeded_search.specs.declared.walk.Walk.{Walk}
 use Rattle.anneal_search.specs.Nearest.{is_nearer, near}
+use Rattle.anneal_search.specs.Strings.{ruined_names}
 use Rattle.anneal_search.specs.declared.routes.Near.{Near}
 use Rattle.anneal_search.specs.declared.strings.Cut.{Cut}
 use Rattle.anneal_search.specs.declared.search.Annealing.{Annealing}
@@ -53,6 +55,10 @@ pub record IsCutOf (n : ℕ) (cut : Cut) : Type 0 where
   pub ordered : cut.first ≤ cut.end
   pub within : cut.end ≤ n
   pub kept : IfSome cut.kept (λ kept. (cut.first ≤ kept) × (kept < cut.end))
+
+-- the plan without the requests that the words take out, where they take any
+abbrev pub ruined : Instance → List (List ℕ) → List (List ℕ) → List ℕ → Option (List (List ℕ))
+ruined p pins routes words = let names = ruined_names p pins routes words in if length names == 0 then None else removed p pins routes names
 
 -- the candidate has become the incumbent where it costs no more, and whether it has
 pub record HasImproved (p : Instance) (pins : List (List ℕ)) (old new : Walk) (improved : Bool) : Type 0 where

@@ -8,9 +8,9 @@ ghost use Rattle.seeded_search.specs.Working.{walked_by, KeepsWalk, IsWalk};
 ghost use Rattle.anneal_search.specs.Annealing.{walked, candidate, followed, annealed, annealed_by, anneal_step, anneal_steps};
 ghost use Rattle.anneal_search.specs.Going.{HasImproved, KeepsGoing, IsGoing};
 
-use crate::candidates::make;
+use crate::candidates::make_near;
 use plan_types::{Cost, OutOfMemory, Pins, Plan, Problem, costs_compare_part_by_part};
-use seeded_search::{Found, StepWords, Walk, is_near};
+use seeded_search::{Found, Near, StepWords, Walk, is_near};
 use std::alloc::Global;
 
 /// One annealing step, from an incumbent and a working plan. The words of the step make a candidate of the working plan. It becomes the
@@ -94,15 +94,19 @@ impl Annealing {
             (candidate problem.now pins.now.routes (base_of self.old.walk.draft) words.now)) }
         ensures going { OnOk result (IsGoing problem.now pins.now.routes self.new) }
     {
-        let made = make(
+        let near = Near {
+            deviation,
+            best: &self.work,
+        };
+        if !make_near(
             alloc,
             problem,
             pins,
             &mut self.walk.draft,
             &self.walk.lists,
             words,
-        )?;
-        if made.is_none() {
+            &near,
+        )? {
             return Ok(());
         }
         self.settle(alloc, problem, pins, deviation)

@@ -125,7 +125,8 @@ fn totals_of(draft: &Draft) -> Totals
     Totals { stops, used }
 }
 
-// How many routes are cut.
+// How many routes are cut. Christiaens and Vanden Berghe draw between 1 and 4 * 10 / (1 + longest), where about ten stops are to go on
+// average: one always, and a part of 4 * 10 - (1 + longest) in pieces of 1 + longest.
 fn route_count(longest: usize, word: u32) -> usize
     requires { longest ≤ 10 }
     ensures value { result ≡ route_count longest word }

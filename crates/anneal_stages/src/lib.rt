@@ -1,7 +1,8 @@
 //! The twenty stages that annealing goes through: where each begins, and how far the working plan may be from the
 //! incumbent in it.
 //!
-//! Entry functions: `boundary`, `stage_of` and `share`; called by `plan_solve`.
+//! Entry functions: `boundary`, `hundredths`, `stage_of` and `share`; called by `command_text`, for the line `anneal` and
+//! the word `solve`; `fleet_tries` takes `share` alone, for the deviation of its tries.
 //!
 //! Source: this project's own schedule; thresholds that fall (Dueck and Scheuer, Threshold Accepting, 1990).
 //!

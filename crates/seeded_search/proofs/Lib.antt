@@ -3,6 +3,7 @@ mod DrawLemmas
 mod Examples
 pub mod NameLemmas
 mod PickLemmas
+pub mod PlacingLemmas
 mod RouteLemmas
 mod StepExamples
 mod StepLemmas

@@ -1,12 +1,15 @@
 -- What a search keeps of its plans.
-use Rattle.std.specs.Prelude.{◌≡◌, ℕ, Bool, true, false, List, Option, MatchOption, IsTrue}
+use Rattle.std.specs.Prelude.{◌≡◌, ◌⊎◌, ℕ, ◌+◌, ◌<◌, pos, ◌+ℤ◌, Bool, true, false, List, Option, MatchOption, IsTrue}
 use Rattle.plan_types.specs.Instance.{Instance}
 use Rattle.plan_types.specs.declared.plans.Cost.{Cost}
 use Rattle.route_sched.specs.Cost.{cost_of}
 use Rattle.plan_audit.specs.Passes.{passes}
-use Rattle.move_ops.specs.Drafts.{base_of, draft_of, AreIdleBehind, Drafted, IsDraftOf}
-use Rattle.seeded_search.specs.Steps.{movable_names, unplanned_names, is_near, Walked, walked}
+use Rattle.move_ops.specs.Drafts.{base_of, draft_of, AreIdleBehind, Drafted, IsDraftOf, placed}
+use Rattle.move_ops.specs.Savings.{SavesAtMost}
+use Rattle.seeded_search.specs.Steps.{movable_names, unplanned_names, placed_all, is_near, Walked, walked}
 use Rattle.seeded_search.specs.declared.lists.Lists.{Lists}
+use Rattle.seeded_search.specs.declared.near.Outlook.{Outlook}
+use Rattle.seeded_search.specs.declared.near.Outlook.TheVariants.{Far, Open, Below}
 use Rattle.seeded_search.specs.declared.walk.Walk.{Walk}
 
 -- the lists that a step draws from are those of these routes
@@ -37,6 +40,26 @@ pub record IsMadeOrFar (p : Instance) (deviation : ℕ) (best : Cost) (routes : 
 abbrev pub IsMadeIfNear : Instance → ℕ → Cost → Option (List (List ℕ)) → Bool → Drafted → Drafted → Type 0
 IsMadeIfNear p deviation best answer made old new =
     MatchOption answer ((made ≡ false) × (draft_of new ≡ draft_of old)) (λ routes. IsMadeOrFar p deviation best routes made old new)
+
+-- what is known of a draft that costs so much and gets one request, and then so many behind it, which save `rest` at most: it may leave
+-- too many out, use too many vehicles, or be near only below a bound
+abbrev pub IsOutlook : ℕ → Cost → Cost → ℕ → ℕ → Outlook → Type 0
+IsOutlook deviation best cost behind rest Far =
+    (best.unplanned + behind + 1 < cost.unplanned) ⊎ ((cost.unplanned ≡ best.unplanned + behind + 1) × (best.vehicles < cost.vehicles))
+IsOutlook deviation best cost behind rest Open = Unit {0}
+IsOutlook deviation best cost behind rest (Below most) =
+    (cost.unplanned ≡ best.unplanned + behind + 1) × (cost.vehicles ≡ best.vehicles) × (pos cost.distance +ℤ most ≡ pos (best.distance + deviation + rest + 1))
+
+-- the request is put in where it is best; or then no plan is near that so many more make of it, which save `rest` at most
+pub record IsPlacedOrFar (p : Instance) (pins : List (List ℕ)) (deviation : ℕ) (best : Cost) (name behind rest : ℕ) (made : Bool) (old new : List (List ℕ)) : Type 0 where
+  pub put : made ≡ true → new ≡ placed p pins old name
+  pub far : made ≡ false → (last : Cost) → SavesAtMost behind rest (cost_of p (placed p pins old name)) last → is_near deviation last best ≡ false
+
+-- all these requests are put in; or the draft is the base again, since the plan with them is not near
+pub record AreAllPlacedOrFar (p : Instance) (pins : List (List ℕ)) (deviation : ℕ) (best : Cost) (names : List ℕ) (made : Bool) (old new : Drafted) : Type 0 where
+  pub put : made ≡ true → draft_of new ≡ placed_all p pins (draft_of old) names
+  pub dropped : made ≡ false → draft_of new ≡ base_of old
+  pub far : made ≡ false → is_near deviation (cost_of p (placed_all p pins (draft_of old) names)) best ≡ false
 
 -- a walk between two steps, without a candidate
 pub record IsWalk (p : Instance) (pins : List (List ℕ)) (w : Walk) : Type 0 where

@@ -11,6 +11,7 @@
 //! - `draws`: what a step's words draw of lists.
 //! - `lists`: the lists that a step draws from.
 //! - `near`: which candidates are walked on from.
+//! - `placing`: requests put in, and given up where the plan would be far.
 //! - `operators`: the candidate that a step's words make.
 //! - `walk`: what a search keeps from step to step, and what a candidate replaces.
 //! - `incumbent`: the incumbent's routes, copied where they differ.
@@ -27,10 +28,11 @@
 //! of `move_ops`. A candidate that costs no more than the incumbent becomes incumbent and working plan. One
 //! that leaves out as many requests, uses as many vehicles and drives at most the deviation more becomes the
 //! working plan alone. Otherwise nothing changes. What an exchange or 2-opt* would cost is often foreseen by the
-//! few ways that change; where that is too much, it is not made, and not asked whether it passes.
+//! few ways that change; where that is too much, it is not made, and not asked whether it passes. A candidate that requests
+//! are put into is dropped once it can't come near (`placing`).
 //!
 //! What a step of another kind needs too is public: `Walk` with its `Lists` begins, ends and takes a candidate,
-//! `StepWords` gives the words of one step after another, `place_all` recreates, `Walk::improve` and `is_near` settle.
+//! `StepWords` gives the words of one step after another, `place_all` and `place_all_near` recreate, `Walk::improve` and `is_near` settle.
 //! A walk may be kept between searches (`command_core`): `walk_on` makes further steps, `plans` copies both plans.
 //!
 //! The definition of a step knows nothing of the code: commands and the journal speak of `step` and `steps`
@@ -58,6 +60,7 @@ mod laws;
 mod lists;
 mod near;
 mod operators;
+mod placing;
 mod search;
 mod stream;
 mod walk;
@@ -67,8 +70,8 @@ pub use laws::{
     steps_are_blocks, steps_keep_passing, working_stays_near,
 };
 pub use lists::Lists;
-pub use near::is_near;
-pub use operators::place_all;
+pub use near::{Near, is_near};
+pub use placing::{place_all, place_all_near};
 pub use search::{Found, search_step, search_steps, walk_on};
 pub use stream::{StepWords, words};
 pub use walk::Walk;

@@ -1,6 +1,7 @@
 //! Which candidates a search walks on from: those that are near the incumbent (record-to-record travel, Dueck 1993).
-ghost use Rattle.std.specs.Prelude.{◌≡◌, false, IsTrue, IsSomeAnd};
+ghost use Rattle.std.specs.Prelude.{◌≡◌, ◌+◌, pos, ◌+ℤ◌, false, IfSome, IsTrue, IsSomeAnd};
 ghost use Rattle.seeded_search.specs.Steps.{is_near};
+ghost use Rattle.seeded_search.specs.Working.{IsOutlook};
 
 use plan_types::Cost;
 
@@ -17,11 +18,23 @@ pub fn is_near(deviation: u32, cost: &Cost, best: &Cost) -> bool
     cost.distance.saturating_sub(best.distance) <= u64::from(deviation)
 }
 
-/// What a candidate has to be near: an incumbent that costs so much, by this deviation.
+/// What a candidate has to be near: a plan that costs so much, by this deviation.
 #[derive(Clone, Copy)]
-pub(crate) struct Near<'a> {
+pub struct Near<'a> {
+    /// How much more it may drive.
     pub deviation: u32,
+    /// What the plan costs.
     pub best: &'a Cost,
+}
+
+/// What is known of a draft that gets more requests, one after another.
+pub(crate) enum Outlook {
+    /// Wherever they are put, it is not near in the end.
+    Far,
+    /// It may be near wherever the next one is put.
+    Open,
+    /// It is near only if the next one adds less than this, and opens no vehicle.
+    Below(i64),
 }
 
 impl Near<'_> {
@@ -34,5 +47,39 @@ impl Near<'_> {
             Some(cost) => !is_near(self.deviation, &cost, self.best),
             None => false,
         }
+    }
+
+    /// What is known of a draft of this cost that gets one request, and then so many `behind` it, which save `rest` of the distance at
+    /// most. Where it may come to leave fewer out than `best`, or uses fewer vehicles, it may be near wherever they are put.
+    pub(crate) fn outlook(&self, cost: &Cost, behind: u64, rest: u128) -> Outlook
+        ensures { IsOutlook self.now.deviation self.now.best.now cost.now behind rest result }
+    {
+        let most = u128::from(self.best.unplanned) + u128::from(behind) + 1;
+        let unplanned = u128::from(cost.unplanned);
+        if unplanned > most {
+            return Outlook::Far;
+        }
+        if unplanned < most || cost.vehicles < self.best.vehicles {
+            return Outlook::Open;
+        }
+        if cost.vehicles > self.best.vehicles {
+            return Outlook::Far;
+        }
+        match self.bound(cost, rest) {
+            Some(below) => Outlook::Below(below),
+            None => Outlook::Open,
+        }
+    }
+
+    // What the next request has to add less than, where those behind it save `rest` at most; none where the numbers are too large.
+    fn bound(&self, cost: &Cost, rest: u128) -> Option<i64>
+        ensures { IfSome result (λ below. pos cost.now.distance +ℤ below
+            ≡ pos (self.now.best.now.distance + self.now.deviation + rest + 1)) }
+    {
+        let most = self.best.distance.checked_add(u64::from(self.deviation))?;
+        let most = most.checked_add(u64::try_from(rest).ok()?)?.checked_add(1)?;
+        let most = i64::try_from(most).ok()?;
+        let distance = i64::try_from(cost.distance).ok()?;
+        Some(most - distance)
     }
 }

@@ -5,14 +5,15 @@
 //! no more (`relocated_never_cost_more`).
 ghost use Rattle.std.specs.Prelude.{◌≡◌, ◌+◌, IfOk, OnOk, take, drop, slice_index};
 ghost use Rattle.seeded_search.specs.Words.{pick};
-ghost use Rattle.move_ops.specs.Drafts.{base_of, draft_of, IsDraftOf, IsMade};
+ghost use Rattle.move_ops.specs.Drafts.{base_of, draft_of, IsDraftOf};
 ghost use Rattle.seeded_search.specs.Working.{AreListsOf, IsMadeIfNear};
-ghost use Rattle.seeded_search.specs.Steps.{candidate, drawn, movable_names, placed_all, relocated, exchanged_by, crossed_by, cut_by, recreated_by};
+ghost use Rattle.seeded_search.specs.Steps.{candidate, drawn, movable_names, relocated, exchanged_by, crossed_by, cut_by, recreated_by};
 
 use crate::draws::{drawn, picked, picked_vehicle, place};
 use crate::lists::{Lists, used_vehicles};
 use crate::near::Near;
 use crate::pick;
+use crate::placing::place_all_near;
 use move_ops::{Draft, of_vehicle};
 use plan_audit::passes_are_local;
 use plan_types::{OutOfMemory, Pins, Problem};
@@ -32,6 +33,7 @@ pub(crate) fn make(
     near: &Near,
 ) -> Result<bool, OutOfMemory>
     requires draft { IsDraftOf problem.now pins.now.routes draft.old }
+    requires settled { draft_of draft.old ≡ base_of draft.old }
     requires lists { AreListsOf problem.now pins.now.routes (draft_of draft.old) lists.now }
     ensures is { OnOk result (IsDraftOf problem.now pins.now.routes draft.new) }
     ensures base { OnOk result (base_of draft.new ≡ base_of draft.old) }
@@ -41,28 +43,32 @@ pub(crate) fn make(
         draft.old draft.new) }
 {
     match pick(words[0], 4) {
-        0 => relocate(problem, pins, draft, &lists.movable, words[1]),
+        0 => relocate(problem, pins, draft, &lists.movable, words[1], near),
         1 => exchange(problem, pins, draft, &lists.movable, words, near),
         2 => cross(alloc, problem, pins, draft, words, near),
-        _ => recreate(alloc, problem, pins, draft, lists, words),
+        _ => recreate(alloc, problem, pins, draft, lists, words, near),
     }
 }
 
-// A request is removed, and put in again where it is best.
+// A request is removed, and put in again where it is best, unless the draft is far from the incumbent then.
+#[tactic(auto, using(crate::proofs::WalkLemmas::made_near))]
 fn relocate(
     problem: &Problem,
     pins: &Pins,
     draft: &mut Draft,
     movable: &[u32],
     word: u32,
+    near: &Near,
 ) -> Result<bool, OutOfMemory>
     requires draft { IsDraftOf problem.now pins.now.routes draft.old }
+    requires settled { draft_of draft.old ≡ base_of draft.old }
     requires movable { movable.now
         ≡ movable_names problem.now pins.now.routes (draft_of draft.old) }
     ensures is { OnOk result (IsDraftOf problem.now pins.now.routes draft.new) }
     ensures base { OnOk result (base_of draft.new ≡ base_of draft.old) }
     ensures made { IfOk result (λ made.
-        IsMade (relocated problem.now pins.now.routes (draft_of draft.old) word) made draft.old
+        IsMadeIfNear problem.now near.now.deviation near.now.best.now
+        (relocated problem.now pins.now.routes (draft_of draft.old) word) made draft.old
         draft.new) }
 {
     let Some(name) = picked(word, movable) else {
@@ -71,8 +77,7 @@ fn relocate(
     if !draft.remove(problem, pins, &[name])? {
         return Ok(false);
     }
-    draft.place(problem, pins, name)?;
-    Ok(true)
+    place_all_near(problem, pins, draft, &[name], near)
 }
 
 // Two requests take one another's places, unless the draft is seen to be far from the incumbent then.
@@ -150,7 +155,9 @@ fn cut(pins: &Pins, draft: &Draft, vehicle: u64, word: u32) -> u64
     (kept + place(word, free + 1)) as u64
 }
 
-// Requests are removed, and each of them, and then each that was unplanned before, is put in again where it is best.
+// Requests are removed, and each of them, and then each that was unplanned before, is put in again where it is best, unless the draft is
+// far from the incumbent then.
+#[tactic(auto, using(crate::proofs::WalkLemmas::made_near))]
 fn recreate(
     alloc: Global,
     problem: &Problem,
@@ -158,13 +165,16 @@ fn recreate(
     draft: &mut Draft,
     lists: &Lists,
     words: &[u32; 16],
+    near: &Near,
 ) -> Result<bool, OutOfMemory>
     requires draft { IsDraftOf problem.now pins.now.routes draft.old }
+    requires settled { draft_of draft.old ≡ base_of draft.old }
     requires lists { AreListsOf problem.now pins.now.routes (draft_of draft.old) lists.now }
     ensures is { OnOk result (IsDraftOf problem.now pins.now.routes draft.new) }
     ensures base { OnOk result (base_of draft.new ≡ base_of draft.old) }
     ensures made { IfOk result (λ made.
-        IsMade (recreated_by problem.now pins.now.routes (draft_of draft.old) words.now) made
+        IsMadeIfNear problem.now near.now.deviation near.now.best.now
+        (recreated_by problem.now pins.now.routes (draft_of draft.old) words.now) made
         draft.old draft.new) }
 {
     let mut names = ruined_names(alloc, &lists.movable, words)?;
@@ -175,8 +185,7 @@ fn recreate(
         return Ok(false);
     }
     names.extend_from_slice(&lists.unplanned)?;
-    place_all(problem, pins, draft, &names)?;
-    Ok(true)
+    place_all_near(problem, pins, draft, &names, near)
 }
 
 // The requests that are removed, one to eight, in the order drawn.
@@ -186,23 +195,4 @@ fn ruined_names(alloc: Global, movable: &[u32], words: &[u32; 16]) -> Result<Vec
 {
     let count = 1 + pick(words[1], 8) as usize;
     drawn(alloc, &words[2..2 + count], movable)
-}
-
-/// Puts the requests in, one after another, each where it is best then; a request without a place stays unplanned.
-pub fn place_all(
-    problem: &Problem,
-    pins: &Pins,
-    draft: &mut Draft,
-    names: &[u32],
-) -> Result<(), OutOfMemory>
-    requires { IsDraftOf problem.now pins.now.routes draft.old }
-    ensures is { OnOk result (IsDraftOf problem.now pins.now.routes draft.new) }
-    ensures base { OnOk result (base_of draft.new ≡ base_of draft.old) }
-    ensures draft { OnOk result (draft_of draft.new
-        ≡ placed_all problem.now pins.now.routes (draft_of draft.old) names.now) }
-{
-    for name in names {
-        draft.place(problem, pins, *name)?;
-    }
-    Ok(())
 }

@@ -52,7 +52,8 @@ impl StepWords {
 
 /// The sixteen words of a step of a search: words `16 * step` to `16 * step + 15` of ChaCha20's key
 /// stream (RFC 8439), whose key is the seed in 8 bytes, the low byte first, and 24 zero bytes. The last
-/// four words of the block function's state are the low and the high half of the block's number, 0 and 0.
+/// four words of the block function's state are the low and the high half of the block's number, 0 and 0. For one who asks for a single
+/// step: searches take their words from a `StepWords`.
 pub fn words(seed: u64, step: u64) -> [u32; 16]
     requires { step < 2 ^ 60 }
     ensures { result ≡ step_words seed step }

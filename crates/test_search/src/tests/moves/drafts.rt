@@ -4,7 +4,7 @@ ghost use Rattle.move_ops.specs.Drafts.{IsDraftOf};
 
 use crate::tests::builders::{Case, FOUR, Given, case_of, stops_of};
 use move_ops::Draft;
-use plan_types::{OutOfMemory, Pins, Problem};
+use plan_types::{Kind, OutOfMemory, Pins, Problem};
 use std::alloc::Global;
 use std::test::Fail;
 
@@ -12,6 +12,8 @@ use std::test::Fail;
 #[derive(Clone, Copy)]
 enum Edit {
     Relocate(u32),
+    /// An unplanned request, where that adds less than so much and opens no vehicle.
+    PlaceBelow(u32, i64),
     Exchange(u32, u32),
     Cross(u64, u64, u64, u64),
 }
@@ -27,6 +29,7 @@ fn make(draft: &mut Draft, problem: &Problem, pins: &Pins, edit: Edit) -> Result
             draft.place(problem, pins, name)?;
             Ok(is_made)
         }
+        Edit::PlaceBelow(name, below) => draft.place_below(problem, pins, name, below),
         Edit::Exchange(a, b) => draft.exchange(problem, pins, a, b),
         Edit::Cross(a, a_cut, b, b_cut) => draft.cross(problem, pins, a, a_cut, b, b_cut),
     }
@@ -37,7 +40,7 @@ fn foreseen(draft: &Draft, problem: &Problem, pins: &Pins, edit: Edit) -> u32
     requires { IsDraftOf problem.now pins.now.routes draft.now }
 {
     let cost = match edit {
-        Edit::Relocate(_) => None,
+        Edit::Relocate(_) | Edit::PlaceBelow(_, _) => None,
         Edit::Exchange(a, b) => draft.cost_exchanged(problem, pins, a, b),
         Edit::Cross(a, a_cut, b, b_cut) => { draft.cost_crossed(problem, pins, a, a_cut, b, b_cut) }
     };
@@ -72,7 +75,10 @@ fn stops_of_draft(alloc: Global, draft: &Draft) -> Result<Vec<u32>, Fail> {
 /// A problem, a plan, an edit, whether it is taken then, and what is told.
 type Example = (Given, &'static [u32], Edit, bool, &'static [u32]);
 
-const EXAMPLES: [Example; 12] = [
+/// Two customers 3 from one another, and between them, at the depot, a third.
+const DETOUR: Given = Given::Customers(10, 1, &[(1, 1, 1), (-1, -1, 1), (0, 0, 1)]);
+
+const EXAMPLES: [Example; 20] = [
     (
         FOUR,
         &[1, 0, 2, 3, 0, 4, 0, 0],
@@ -161,6 +167,65 @@ const EXAMPLES: [Example; 12] = [
         Edit::Exchange(1, 3),
         false,
         &[1, 3, 4, 2, 0, 0, 4, 0, 1, 3, 4, 2, 0],
+    ),
+    // In the used route 2 adds 1 + 3 + 1 - 2. A vehicle more would add 2, and is opened only where none is counted.
+    (
+        Given::Opposite(Kind::LiLim),
+        &[0, 1, 0, 0],
+        Edit::PlaceBelow(2, 4),
+        false,
+        &[0, 2, 1, 0, 0, 1, 5, 0, 0, 1, 0, 0],
+    ),
+    (
+        Given::Opposite(Kind::LiLim),
+        &[0, 1, 0, 0],
+        Edit::PlaceBelow(2, 3),
+        false,
+        &[0, 1, 0, 0, 0, 2, 0, 0, 1, 0, 0],
+    ),
+    (
+        Given::Opposite(Kind::LiLim),
+        &[0, 0, 0],
+        Edit::PlaceBelow(2, 1_000),
+        false,
+        &[0, 0, 0, 0, 0, 0, 0, 0, 0],
+    ),
+    (
+        Given::Opposite(Kind::Vrp),
+        &[0, 1, 0, 0],
+        Edit::PlaceBelow(2, 3),
+        false,
+        &[2, 0, 1, 0, 0, 1, 4, 0, 0, 1, 0, 0],
+    ),
+    (
+        Given::Opposite(Kind::Vrp),
+        &[0, 1, 0, 0],
+        Edit::PlaceBelow(2, 2),
+        false,
+        &[0, 1, 0, 0, 0, 2, 0, 0, 1, 0, 0],
+    ),
+    // Over the depot it is nearer: 1 + 1 in place of 3.
+    (
+        DETOUR,
+        &[1, 2, 0],
+        Edit::PlaceBelow(3, 0),
+        false,
+        &[1, 3, 2, 0, 1, 4, 0, 1, 2, 0],
+    ),
+    (
+        DETOUR,
+        &[1, 2, 0],
+        Edit::PlaceBelow(3, -1),
+        false,
+        &[1, 2, 0, 0, 5, 0, 1, 2, 0],
+    ),
+    // A planned request.
+    (
+        FOUR,
+        &[1, 0, 2, 3, 0, 4, 0, 0],
+        Edit::PlaceBelow(3, 1_000),
+        false,
+        &[1, 0, 2, 3, 0, 4, 0, 0, 0, 54, 0, 1, 0, 2, 3, 0, 4, 0, 0],
     ),
 ];
 

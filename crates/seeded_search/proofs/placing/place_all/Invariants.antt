@@ -1,0 +1,12 @@
+use Rattle.std.proofs.Common.{◌≡◌, drop}
+use Rattle.move_ops.specs.Drafts.{base_of, draft_of, IsDraftOf}
+use Rattle.seeded_search.specs.Steps.{placed_all}
+use Rattle.seeded_search.proofs.placing.place_all.Given as goal
+
+-- the requests left, put into the draft so far, make the plan with all of them
+abbrev pub invariant-loop-name : goal.invariant-loop-name
+invariant-loop-name l = record {
+  is : IsDraftOf l.problem l.pins.routes l.draft;
+  base : base_of l.draft ≡ base_of l.fn.draft;
+  left : placed_all l.problem l.pins.routes (draft_of l.draft) (drop l.name-index l.names) ≡ placed_all l.problem l.pins.routes (draft_of l.fn.draft) l.names;
+}
