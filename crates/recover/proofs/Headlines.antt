@@ -37,7 +37,7 @@ module _ (keep : RunsKeepFacts) (never_more : PlansNeverCostMore) (say : TestsSa
   pub stands_state : (image : List ℕ) (state : State) → StandsFor Two image state → IsState state
   stands_state image state stands = subst IsState stands.leads (keep stands.snapshot stands.commands stands.holds.facts stands.accepted)
 
-  recovered : (begun : State) (commands : List Command) (acknowledged : ℕ) (image : List ℕ) → (stop : StandsForSome begun commands acknowledged image)
+  pub recovered : (begun : State) (commands : List Command) (acknowledged : ℕ) (image : List ℕ) → (stop : StandsForSome begun commands acknowledged image)
       → (given : State) → given ≡ after begun (take stop.count commands) → IsRecovered begun commands acknowledged given
   recovered begun commands acknowledged image stop given same = record {
     count = stop.count;

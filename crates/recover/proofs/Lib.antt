@@ -8,4 +8,5 @@ mod Upgrades
 mod RoundLemmas
 mod FoldLemmas
 mod LinkLemmas
+mod RestartLemmas
 mod Joins

@@ -27,6 +27,7 @@ use Rattle.recover.specs.Opening.{IsReplayed}
 use Rattle.recover.specs.Sessions.{SessionValue}
 use Rattle.recover.specs.Applying.{faults_after_answer}
 use Rattle.recover.specs.Rounds.{seen_in, IsMemoryRun, count_ok, is_device_fault, count_device_faults, IsOpened, IsSet, IsLeft, IsRound, IsUnbegun, AreRounds, CutsRounds}
+use Rattle.recover.specs.Restarts.{CarriesOut}
 use Rattle.recover.proofs.RunLemmas.{unacked, one_acked, counted_from}
 
 -- what reads give is a possible image
@@ -130,6 +131,23 @@ module _ (device : MemDevice) (round : Round) (replies : List Reply) (session fi
         faults = λ below. let all = all_faults round.commands.items replies first last run (omega (arith, below, counted)) in
             let now = begun.faults in omega (arith, all, counted, now);
       }
+
+-- a session that was opened, a run, and its device
+pub carries_out : (device : MemDevice) (commands : List Command) (replies : List Reply) (first last : SessionValue MemDevice) (handed : MemDevice)
+    → IsOpened device first → IsMemoryRun first commands replies last
+    → Throughout (λ d. clock_of (memory d)) (λ d. MayHaveLeft (memory d)) first.device last.device (RunLeaves first.state commands replies)
+    → handed ≡ last.device → CarriesOut device commands replies handed
+carries_out device commands replies first last handed opened run moments closed = record {
+  first = first;
+  last = last;
+  opened = opened;
+  run = run;
+  closed = closed;
+  images = λ image possible. images_at_the_end commands replies first last run moments image (subst (λ (d : MemDevice). MayLeave (memory d) image) closed possible);
+  faults = λ below. let counted = ap (λ (d : MemDevice). (memory d).faults) closed in
+      let all = all_faults commands replies first last run (omega (arith, below, counted)) in
+      let now = opened.faults in omega (arith, all, counted, now);
+}
 
 -- one round more
 pub rounds_more : (rounds : List Round) (runs : List Run) (device mid left : MemDevice) (round : Round) (run : Run) → AreRounds device rounds runs mid → IsRound mid round run.replies.items left

@@ -13,6 +13,7 @@ pub mod Joining
 pub mod Rounds
 pub mod Folds
 pub mod Links
+pub mod Restarts
 -- of private functions alone
 pub mod Committing
 pub mod Repeating

@@ -17,13 +17,14 @@
 //! - `upgrading`: a store of version 1 read by the same code, and a new store of its state
 //! - `laws`: the headline, how it goes on over runs and openings, and what opens with its state
 //! - `rounds`: the headline over any list of stops and restarts of a device in memory, with no premise left
+//! - `restarts`: the same with kills, and with openings that are stopped or refused
 //!
 //! `specs/StandsFor.antt` says which state an image stands for by the bytes and limits of a version, `specs/Replies.antt` which
 //! commands are kept and acknowledged, `specs/Applying.antt` what `apply` promises, `specs/Moments.antt` what a stop within a run
 //! leaves, `specs/Opening.antt` what opening gives, `specs/Upgrading.antt` what an upgrade makes of both devices,
 //! `specs/Sessions.antt` what a session keeps, `specs/Headline.antt` the headline, `specs/Joining.antt` and `specs/Links.antt` how it
-//! goes on, `specs/Reopening.antt` what opens with its state, `specs/Rounds.antt` and `specs/Folds.antt` what rounds leave. All is this
-//! project's own.
+//! goes on, `specs/Reopening.antt` what opens with its state, `specs/Rounds.antt` and `specs/Folds.antt` what rounds leave,
+//! `specs/Restarts.antt` what restarts do. All is this project's own.
 //!
 //! Proved:
 //! - Unless a session is broken, each image that a stop may leave of an honest device stands for its state (its invariant).
@@ -49,6 +50,8 @@
 //! - `run_rounds`: over any list of stops and restarts of a device in memory, the state is the one after the commands that
 //!   stand, joined, of each round all acknowledged ones and at most one more (`fold`); of each round what `open`, `apply`
 //!   and a crash promise (`rounds`; alone `run_round`).
+//! - `run_restarts`: the same where processes are killed, within an opening too, and where openings are refused: each restart that was
+//!   opened is a link, and the links lead on (`joined`); of each restart what it did (`restarts`).
 #![tactic(auto)]
 
 mod commits;
@@ -57,6 +60,7 @@ mod laws;
 mod opening;
 mod repeating;
 mod replies;
+mod restarts;
 mod rounds;
 mod runs;
 mod sessions;
@@ -70,6 +74,7 @@ pub use laws::{
 };
 pub use opening::{Opened, read_state, steps_to_repeat};
 pub use replies::{Reply, Run};
+pub use restarts::{Ending, Restart, Restarts, run_restarts};
 pub use rounds::{Halt, Round, Rounds, RoundsFault, run_round, run_rounds};
 pub use sessions::Session;
 pub use upgrading::{UpgradeFault, read_version_1, upgrade};

@@ -6,7 +6,7 @@
 ghost use Rattle.std.specs.Prelude.{◌≡◌, List, ℕ, IfOk, IfErr};
 ghost use Rattle.sector_disk.specs.MemDevice.{memory};
 ghost use Rattle.sector_disk.specs.Memory.{MayLeave};
-ghost use Rattle.recover.specs.Rounds.{seen_in, IsOpened, IsLeft, IsRound, IsUnbegun, EndsRounds, CutsRounds};
+ghost use Rattle.recover.specs.Rounds.{seen_in, IsOpened, IsLeft, IsRound, IsUnopened, IsUnbegun, EndsRounds, CutsRounds};
 ghost use Rattle.recover.specs.Folds.{IsFold};
 
 use crate::replies::Run;
@@ -102,13 +102,30 @@ fn leave(device: &mut MemDevice, stop: &Option<Halt>)
     }
 }
 
-// Opens the store on a device in memory.
-fn reopen(alloc: Global, device: MemDevice) -> Result<Session<MemDevice>, (RoundsFault, MemDevice)>
+/// Opens the store on a device in memory.
+pub(crate) fn open_store(
+    alloc: Global,
+    device: MemDevice,
+) -> Result<Session<MemDevice>, (StoreFault, MemDevice)>
     ensures opened { IfOk result (λ s. IsOpened device s) }
-    ensures refused { IfErr result (λ e. IsUnbegun device e.0 e.1) }
+    ensures refused { IfErr result (λ e. IsUnopened device e.0 e.1) }
 {
     match Session::open(alloc, device) {
         Ok(opened) => Ok(opened.session),
+        Err((fault, device)) => Err((fault, device)),
+    }
+}
+
+/// The same, with its fault as one of rounds.
+pub(crate) fn reopen(
+    alloc: Global,
+    device: MemDevice,
+) -> Result<Session<MemDevice>, (RoundsFault, MemDevice)>
+    ensures opened { IfOk result (λ s. IsOpened device s) }
+    ensures refused { IfErr result (λ e. IsUnbegun device e.0 e.1) }
+{
+    match open_store(alloc, device) {
+        Ok(session) => Ok(session),
         Err((fault, device)) => Err((RoundsFault::Open(fault), device)),
     }
 }

@@ -7,7 +7,7 @@
 //! - A write or sync that finds no memory leaves all but `faults` as before, and moves neither `fuse` nor `fail_once`.
 //! - A write that fails only at the last count adds no content.
 //! - A fuse that is set again starts anew.
-ghost use Rattle.std.specs.Prelude.{◌≡◌, ◌+◌, ◌-◌, ◌*◌, ◌/◌, ◌%◌, ◌^◌, ◌<◌, ◌≤◌, ◌≢◌, ◌↔◌, ◌++◌, ◌∷◌, [], List, ℕ, length, map, take, drop, slice_get, slice_index, Some, OnOk, OnErr, IfOk, IfSome, IsErr, IsTrue, false, if◌then◌else◌};
+ghost use Rattle.std.specs.Prelude.{◌≡◌, ◌+◌, ◌-◌, ◌*◌, ◌/◌, ◌%◌, ◌^◌, ◌<◌, ◌≤◌, ◌≢◌, ◌↔◌, ◌++◌, ◌∷◌, [], List, ℕ, length, map, take, drop, slice_get, slice_index, Some, None, OnOk, OnErr, IfOk, IfSome, IsErr, IsTrue, false, if◌then◌else◌};
 ghost use Rattle.std.specs.Option.{option_copied};
 ghost use Rattle.std.specs.List.{flat_map, filter_map, list_all};
 ghost use Rattle.sector_disk.specs.Image.{sector, written};
@@ -153,8 +153,8 @@ impl MemDevice {
         })
     }
 
-    /// After `k` more finished writes and syncs every call fails, until the device is crashed. The sectors of the first
-    /// write that fails so are possible contents.
+    /// After `k` more finished writes and syncs every call fails, until the device is crashed or revived. The sectors of the
+    /// first write that fails so are possible contents.
     pub fn fuse(&mut self, k: u64)
         ensures set { memory self.new ≡ record (memory self.old) { fuse = Some k; torn = false } }
         ensures same { IsSameDevice (memory self.old) (memory self.new) }
@@ -169,6 +169,21 @@ impl MemDevice {
         ensures same { IsSameDevice (memory self.old) (memory self.new) }
     {
         self.once = Some(k);
+    }
+
+    /// Nothing is to fail any more, and all else stays: as where a process was killed, and its device was not. What a stop may leave is what
+    /// it might have left before.
+    pub fn revive(&mut self)
+        ensures set { memory self.new ≡ record (memory self.old) {
+          fuse = None;
+          torn = false;
+          once = None;
+        } }
+        ensures same { IsSameDevice (memory self.old) (memory self.new) }
+    {
+        self.fuse = None;
+        self.torn = false;
+        self.once = None;
     }
 
     /// Stops the device. Sector `i` takes its possible content number `choices[i]`, modulo their count: 0 is the synced

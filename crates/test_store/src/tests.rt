@@ -5,6 +5,7 @@
 //! - `checkpoints`: what a device holds
 //! - `recoveries`: sessions, stops and opening
 //! - `rounds`: a store that is stopped and opened again and again
+//! - `restarts`: the same with kills, and with openings that fail
 //! - `upgrades`: stores of version 1, taken over
 
 mod builders;
@@ -13,5 +14,6 @@ mod codecs;
 mod devices;
 mod files;
 mod recoveries;
+mod restarts;
 mod rounds;
 mod upgrades;

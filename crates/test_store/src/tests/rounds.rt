@@ -13,7 +13,7 @@ use test_examples::THREE_CUSTOMERS;
 
 /// What a round does.
 #[derive(Clone, Copy)]
-enum Step {
+pub enum Step {
     Load,
     Build,
     Search(u16),
@@ -27,7 +27,8 @@ fn command_of(alloc: Global, step: Step) -> Result<Command, Fail> {
     }
 }
 
-fn commands_of(alloc: Global, steps: &[Step]) -> Result<Vec<Command>, Fail> {
+/// The commands of these steps.
+pub fn commands_of(alloc: Global, steps: &[Step]) -> Result<Vec<Command>, Fail> {
     let mut commands = Vec::new(alloc);
     for step in steps {
         commands.push(command_of(alloc, *step)?)?;

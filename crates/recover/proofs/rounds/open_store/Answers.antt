@@ -1,7 +1,7 @@
 use Rattle.sector_disk.specs.MemDevice.{memory}
 use Rattle.sector_disk.specs.Memory.{clock_of}
 use Rattle.recover.proofs.RoundLemmas.{counts_now}
-use Rattle.recover.proofs.rounds.reopen.Goals as goal
+use Rattle.recover.proofs.rounds.open_store.Goals as goal
 
 pub returns-in-Ok-clause-opened : goal.returns-in-Ok-clause-opened
 returns-in-Ok-clause-opened c =
