@@ -59,7 +59,7 @@ length_cleared n zeros image is long room =
     length-written 0 258 zeros image whole (omega (arith, room))
 
 -- the zeros of a front are those of its size
-size_is : 132096 ≡ front_size
+pub size_is : 132096 ≡ front_size
 unfolding front_size
 size_is = refl
 

@@ -56,7 +56,7 @@ module _ (layout : Layout) (sectors : ℕ) (front image : List ℕ) (whole : IsI
 
 -- the header that counts, by what the two sectors have
 module _ (layout : Layout) (image : List ℕ) where
-  same_sector : (a b : Header) → a.sequence % 2 ≡ b.sequence % 2 → IsValid layout image a → IsValid layout image b → a.sequence ≡ b.sequence
+  pub same_sector : (a b : Header) → a.sequence % 2 ≡ b.sequence % 2 → IsValid layout image a → IsValid layout image b → a.sequence ≡ b.sequence
   same_sector a b of valid_a valid_b = same_sequence layout.version a b (omega (arith, valid_a.last)) (omega (arith, valid_b.last))
       (sym valid_a.bytes ∙ ap (λ (i : ℕ). sector i image) of ∙ valid_b.bytes)
 

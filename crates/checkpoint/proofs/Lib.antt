@@ -12,6 +12,8 @@ mod NewStore
 mod Journals
 mod Fresh
 mod Heads
+mod Doubting
+mod Agreeing
 mod Led
 mod Loading
 mod OneThing

@@ -11,6 +11,7 @@ pub mod Reads
 pub mod Holdless
 pub mod Refused
 pub mod Loads
+pub mod Doubts
 pub mod Changes
 pub mod Making
 pub mod Names

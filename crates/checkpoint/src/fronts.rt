@@ -20,8 +20,8 @@ use state_codec::version::Version;
 use state_codec::{decode_record, decode_record_v1};
 use std::alloc::{AllocError, Global};
 
-// A sector of the front of a device.
-fn sector_at(front: &[u8], i: usize) -> [u8; SECTOR_SIZE]
+/// A sector of the front of a device.
+pub(crate) fn sector_at(front: &[u8], i: usize) -> [u8; SECTOR_SIZE]
     requires { 512 * i + 512 ≤ length front.now }
     ensures { result ≡ sector i front.now }
 {
@@ -43,8 +43,13 @@ fn is_allowed(layout: Layout, sectors: u64, header: Header, index: u64) -> bool
     1 <= header.length && header.length <= 512 * u64::from(layout.half)
 }
 
-// The valid header in one of the first two sectors.
-fn valid_header(layout: Layout, sectors: u64, front: &[u8], index: usize) -> Option<Header>
+/// The valid header in one of the first two sectors.
+pub(crate) fn valid_header(
+    layout: Layout,
+    sectors: u64,
+    front: &[u8],
+    index: usize,
+) -> Option<Header>
     requires front { length front.now ≡ 512 * front_sectors }
     requires index { index < 2 }
     ensures fits { IfSome result (FitsLayout layout sectors) }
@@ -121,8 +126,8 @@ pub(crate) fn current_header(
     }
 }
 
-// The command whose record of this sequence and index a sector is, if it is one.
-fn command_in(
+/// The command whose record of this sequence and index a sector is, if it is one.
+pub(crate) fn command_in(
     version: Version,
     sector: &[u8; SECTOR_SIZE],
     sequence: u64,

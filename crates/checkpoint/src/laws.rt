@@ -1,5 +1,5 @@
 //! What holds of every image.
-ghost use Rattle.checkpoint.specs.Laws.{HoldAtMostOne, NeverBoth, HaveOneCause, HoldOrHaveACause};
+ghost use Rattle.checkpoint.specs.Laws.{HoldAtMostOne, NeverBoth, HaveOneCause, HoldOrHaveACause, AgreeingIsUndoubted, RecordsKeepAgreement, SnapshotsKeepAgreement, HeadersKeepAgreement, FormatsAgree};
 
 use state_codec::{bytes_have_one_answer, encodings_tell_values_apart};
 
@@ -19,3 +19,12 @@ pub fn images_hold_or_have_a_cause()
 {
     bytes_have_one_answer();
 }
+
+/// A new store agrees with itself, and so does each image that a stop within a commit leaves of one that did; there is no reason to doubt it.
+pub fn commits_leave_no_doubt()
+    ensures undoubted { AgreeingIsUndoubted }
+    ensures records { RecordsKeepAgreement }
+    ensures snapshots { SnapshotsKeepAgreement }
+    ensures headers { HeadersKeepAgreement }
+    ensures formats { FormatsAgree }
+{}

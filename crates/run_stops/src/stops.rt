@@ -2,7 +2,7 @@
 
 use crate::examples::{Example, bytes_of, commands_of, failed, states_of};
 use crate::tables::print_row;
-use checkpoint::{SECTORS, format};
+use checkpoint::{SECTORS, doubts_about, format};
 use command_core::Command;
 use recover::{Denial, Opened, Reply, Session};
 use sector_disk::MemDevice;
@@ -23,7 +23,7 @@ struct Table {
 
 const TABLES: [Table; 3] = [
     Table {
-        title: "five commands stopped, by calls: acknowledged; how often their state, one more, another; with steps repeated",
+        title: "five commands stopped, by calls: acknowledged; how often their state, one more, another; with steps repeated; in doubt",
         example: Example::Five,
         first: 0,
         last: 14,
@@ -66,7 +66,7 @@ fn print_table<R: Print>(rt: &R, alloc: Global, table: &Table) -> io::Result<()>
 }
 
 // What the stops after so many calls come to.
-fn row_of(alloc: Global, table: &Table, calls: u64) -> io::Result<[u64; 5]> {
+fn row_of(alloc: Global, table: &Table, calls: u64) -> io::Result<[u64; 6]> {
     let states = states_of(alloc, table.example)?;
     let mut tally = Tally::default();
     for choice in 0..table.choices {
@@ -134,6 +134,8 @@ pub(crate) struct Ended {
     pub bytes: Vec<u8>,
     /// How many search steps it repeated.
     pub replayed: u64,
+    /// Whether there was a reason to doubt the store before.
+    pub is_doubted: bool,
 }
 
 impl Ended {
@@ -147,17 +149,32 @@ impl Ended {
         let run = session.run(alloc, commands);
         let mut device = session.close();
         device.crash(choices);
-        Ended::with(alloc, &run?.replies, &open(alloc, device)?)
+        let is_doubted = is_doubted(alloc, &mut device);
+        Ended::with(alloc, &run?.replies, &open(alloc, device)?, is_doubted?)
     }
 
-    fn with(alloc: Global, replies: &[Reply], opened: &Opened<MemDevice>) -> io::Result<Ended> {
+    fn with(
+        alloc: Global,
+        replies: &[Reply],
+        opened: &Opened<MemDevice>,
+        is_doubted: bool,
+    ) -> io::Result<Ended> {
         Ok(Ended {
             acknowledged: count_of(replies, Ok(())),
             faults: count_of(replies, Err(Denial::DeviceFault)),
             refused: count_of(replies, Err(Denial::Broken)),
             bytes: bytes_of(alloc, opened.session.state())?,
             replayed: opened.replayed,
+            is_doubted,
         })
+    }
+}
+
+// Whether there is a reason to doubt the store on the device.
+fn is_doubted(alloc: Global, device: &mut MemDevice) -> io::Result<bool> {
+    match doubts_about(alloc, device) {
+        Ok(doubts) => Ok(!doubts.is_empty()),
+        Err(_) => Err(failed()),
     }
 }
 
@@ -215,6 +232,8 @@ struct Tally {
     other: u64,
     /// How many of them repeated search steps.
     replayed: u64,
+    /// How many of them there was a reason to doubt.
+    doubted: u64,
 }
 
 impl Tally {
@@ -231,15 +250,19 @@ impl Tally {
         if ended.replayed > 0 {
             self.replayed = self.replayed.saturating_add(1);
         }
+        if ended.is_doubted {
+            self.doubted = self.doubted.saturating_add(1);
+        }
     }
 
-    fn row(self) -> [u64; 5] {
+    fn row(self) -> [u64; 6] {
         [
             self.acknowledged,
             self.same,
             self.one_more,
             self.other,
             self.replayed,
+            self.doubted,
         ]
     }
 }
