@@ -1,6 +1,7 @@
 pub mod ExaminedLemmas
 pub mod FileLemmas
 pub mod ListLemmas
+pub mod PartialLemmas
 pub mod RoutesLemmas
 pub mod SpelledLemmas
 pub mod TakenLemmas

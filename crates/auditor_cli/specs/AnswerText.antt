@@ -1,10 +1,18 @@
 -- The lines that answer an audit, byte by byte. Numbers are in decimal.
-use Rattle.std.specs.Prelude.{ℕ, List, ◌++◌, codes, decimal}
+use Rattle.std.specs.Prelude.{ℕ, ◌==◌, List, ◌++◌, codes, decimal, if◌then◌else◌}
 use Rattle.plan_types.specs.declared.plans.Cost.{Cost}
 
 -- no rule is broken: `pass UNPLANNED VEHICLES DISTANCE`
 abbrev pub pass_text : Cost → List ℕ
 pass_text cost = codes "pass " ++ decimal cost.unplanned ++ codes " " ++ decimal cost.vehicles ++ codes " " ++ decimal cost.distance
+
+-- a plan that leaves requests out: `partial UNPLANNED VEHICLES DISTANCE`
+abbrev pub partial_text : Cost → List ℕ
+partial_text cost = codes "partial " ++ decimal cost.unplanned ++ codes " " ++ decimal cost.vehicles ++ codes " " ++ decimal cost.distance
+
+-- a plan that breaks no rule: it passes, or is partial
+abbrev pub planned_text : Cost → List ℕ
+planned_text cost = if cost.unplanned == 0 then pass_text cost else partial_text cost
 
 -- the least broken rule, and where: `broken RULE route R place P stop S`
 abbrev pub broken_text : ℕ → ℕ → ℕ → ℕ → List ℕ

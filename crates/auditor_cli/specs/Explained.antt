@@ -43,8 +43,11 @@ pub record IsExplanation (routes_alone : Bool) (kind : Kind) (instance solution 
   pub rests : RestsOn kind instance solution examined (string_bytes explanation.text)
 
 -- the answer's line, and behind it what it rests on
+abbrev pub told_text : Explanation → List ℕ
+told_text explanation = ended explanation.answer.line ++ string_bytes explanation.text
+
 abbrev pub explanation_text : {E : Type 0} → Result Explanation E → List ℕ
-explanation_text (Ok explanation) = ended explanation.answer.line ++ string_bytes explanation.text
+explanation_text (Ok explanation) = told_text explanation
 explanation_text (Err e) = ended (codes "out of memory")
 
 abbrev pub explanation_status : {E : Type 0} → Result Explanation E → ℕ

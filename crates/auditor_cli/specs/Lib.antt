@@ -10,6 +10,7 @@ pub mod Examined
 pub mod Explained
 pub mod Files
 pub mod Listed
+pub mod Partial
 pub mod Reads
 pub mod RoutesAlone
 pub mod Telling

@@ -3,7 +3,7 @@
 //! Lines are written by `format!`, where the text of a solution is printed number by number without taking memory
 //! for each.
 ghost use Rattle.std.specs.Prelude.{◌≡◌, ◌++◌, ℕ, List, IfOk};
-ghost use Rattle.auditor_cli.specs.AnswerText.{broken_text, fault_text, pass_text};
+ghost use Rattle.auditor_cli.specs.AnswerText.{broken_text, fault_text, partial_text, pass_text, planned_text};
 
 use plan_types::{Cost, OutOfMemory};
 use std::alloc::Global;
@@ -79,6 +79,30 @@ pub fn pass_line(alloc: Global, cost: Cost) -> Result<Line, OutOfMemory>
     } = cost;
     let text = format!(in alloc; "pass {unplanned} {vehicles} {distance}")?;
     Ok(Line::from(text))
+}
+
+/// The line for a plan that leaves requests out: `partial UNPLANNED VEHICLES DISTANCE`.
+pub fn partial_line(alloc: Global, cost: Cost) -> Result<Line, OutOfMemory>
+    ensures { IfOk result (λ line. line ≡ partial_text cost) }
+{
+    let Cost {
+        unplanned,
+        vehicles,
+        distance,
+    } = cost;
+    let text = format!(in alloc; "partial {unplanned} {vehicles} {distance}")?;
+    Ok(Line::from(text))
+}
+
+/// The line for a plan that breaks no rule: it passes, or is partial.
+pub fn planned_line(alloc: Global, cost: Cost) -> Result<Line, OutOfMemory>
+    ensures { IfOk result (λ line. line ≡ planned_text cost) }
+{
+    if cost.unplanned == 0 {
+        pass_line(alloc, cost)
+    } else {
+        partial_line(alloc, cost)
+    }
 }
 
 /// The line for a broken rule: `broken RULE route R place P stop S`. Routes and places count from 1.

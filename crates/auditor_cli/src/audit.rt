@@ -140,7 +140,7 @@ pub fn examine(
 }
 
 /// The same of the routes of the solution alone. The solution that is read has a cost of 0, which nobody asks.
-fn examine_routes(
+pub(crate) fn examine_routes(
     alloc: Global,
     kind: Kind,
     instance: &[u8],

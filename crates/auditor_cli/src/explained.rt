@@ -1,9 +1,10 @@
 //! The audit of two files, and what it rests on.
 ghost use Rattle.std.specs.Prelude.{◌≡◌, ◌≤◌, IfOk, string_bytes};
+ghost use Rattle.std.specs.Io.KnownBytes.{Appends};
 ghost use Rattle.auditor_cli.specs.Answer.{IsAnswerBy};
 ghost use Rattle.auditor_cli.specs.Behind.{TellsBehind};
 ghost use Rattle.auditor_cli.specs.Examined.{HasVerdictOfSome};
-ghost use Rattle.auditor_cli.specs.Explained.{IsExplanation, RestsOn, RestsOnFault, TellsExplained, TellsExplanation, driven_by};
+ghost use Rattle.auditor_cli.specs.Explained.{IsExplanation, RestsOn, RestsOnFault, TellsExplained, TellsExplanation, driven_by, told_text};
 ghost use Rattle.auditor_cli.specs.Files.{AreReadInTurn};
 
 use crate::answer::AuditAnswer;
@@ -69,13 +70,19 @@ pub fn tell_explanation<W: Write>(
         (W.contents output.old) (W.contents output.new)) }
 {
     match explained {
-        Ok(explanation) => {
-            write_line(output, explanation.answer.line.as_bytes())?;
-            output.write_all(explanation.text.as_bytes())?;
-            Ok(explanation.answer.status)
-        }
+        Ok(explanation) => tell_explained(output, explanation),
         Err(_) => tell_want_of_memory(output),
     }
+}
+
+/// Tells an answer with its lines.
+pub fn tell_explained<W: Write>(output: &mut W, explanation: &Explanation) -> io::Result<u8>
+    ensures { IfOk result (λ status. (status ≡ explanation.now.answer.status)
+        × Appends (W.contents output.old) (W.contents output.new) (told_text explanation.now)) }
+{
+    write_line(output, explanation.answer.line.as_bytes())?;
+    output.write_all(explanation.text.as_bytes())?;
+    Ok(explanation.answer.status)
 }
 
 // Audits a solution's text, or its routes alone, against an instance's text, and tells what the answer rests on.

@@ -15,6 +15,7 @@
 //! - `answer`: the lines that answer an audit
 //! - `routes_alone`: the routes of a solution's text, without its cost
 //! - `audit`, `example`: the audit of two texts, and of the two that are built in
+//! - `partial`: plans that leave requests out, for words that show a plan
 //! - `telling`, `usage`: lines for files that can't be read or made, and for words that ask for nothing
 //! - `file_record`, `files`: what reads files and what makes them, and the lists of those that were read and made
 //! - `behind`: what stands behind the cost line of a solution, and limits of an instance that are not asked
@@ -24,7 +25,7 @@
 //! - `auditing`: `audit_words`
 //!
 //! Said by `specs/Answer.antt`, `Auditing.antt` and `Reads.antt`, and word by word by `Files.antt`, `Behind.antt`, `Listed.antt`, `BadLines.antt`,
-//! `Compared.antt` and `Explained.antt`. Proved:
+//! `Compared.antt`, `Explained.antt` and `Partial.antt`. Proved:
 //! - `audit_text`: line and status are those of the first fault or of the verdict on what the texts spell; the
 //!   status is 0 exactly where both spell a value and the solution keeps the rules, serves every request, keeps the
 //!   fleet and prints the distance that it drives (`SaysSound`)
@@ -37,6 +38,8 @@
 //!   the best-known one that the line names; or `bad line`; the greatest status. The lines are those of all bytes that were read, and
 //!   the files of a line were read before the next line was. Behind them a list that can't be read on is told
 //! - `explain_read` (`TellsExplained`): the audit's line and what it rests on
+//! - `examine_plan` (`IsPlanExamined`): what both texts are, as for an audit; but route lines without a cost line are a partial plan where
+//!   they keep the rules on stops, use no more vehicles than there are and leave a request out
 //! - `HostFiles` notes each file of the system with what reading it gave, `HostNewFiles` each that was to be made with what was
 //!   written; what is under a path no contract says
 #![tactic(auto)]
@@ -54,21 +57,23 @@ mod explained;
 mod file_record;
 mod files;
 mod listed;
+mod partial;
 mod routes_alone;
 pub mod status;
 mod telling;
 mod usage;
 
-pub use answer::{AuditAnswer, Line, pass_line};
+pub use answer::{AuditAnswer, Line, planned_line};
 pub use audit::{Examined, answer_of, audit_routes_text, audit_text, examine};
 pub use audited::{audit_noted, read_both};
 pub use auditing::audit_words;
 pub use behind::tell_limit;
 pub use example::audit_example;
-pub use explained::{Explanation, explain_read, tell_explanation};
+pub use explained::{Explanation, explain_read, tell_explained, tell_explanation};
 pub use files::{HostFiles, HostNewFiles, ReadFiles, WriteFiles};
 pub use instance_read::read_instance;
 pub use listed::{audits_read, greater, pair_of, tell_bad_line};
+pub use partial::{PartialPlan, PlanExamined, examine_plan, partial_answer};
 pub use telling::{
     status_of, tell_audit, tell_unread, tell_unwritten, tell_want_of_memory, write_line,
 };

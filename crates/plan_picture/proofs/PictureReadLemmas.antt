@@ -15,7 +15,7 @@ use Rattle.plan_audit.specs.declared.rules.Verdict.{Verdict}
 use Rattle.plan_audit.specs.declared.rules.Verdict.TheVariants.{Broken, Pass}
 use Rattle.plan_picture.specs.Days.{days_text}
 use Rattle.plan_picture.specs.Frame.{bounds_of, framed}
-use Rattle.plan_picture.specs.Heads.{broken_place, broken_text, cost_text, figures_of, fleet_figures, head_text, key_text, load_figures, one_route, pair_key, partner_figures, rule_name, scope_text, shapes_text, start_figures, style_text, title_head, title_text, unserved_text, vehicles_text, verdict_text, visit_figures, visit_told}
+use Rattle.plan_picture.specs.Heads.{broken_place, broken_text, cost_text, figures_of, fleet_figures, head_text, key_text, load_figures, one_route, pair_key, partial_text, partner_figures, rule_name, scope_text, shapes_text, start_figures, style_text, title_head, title_text, unserved_text, vehicles_text, verdict_text, visit_figures, visit_told}
 use Rattle.plan_picture.specs.Known.{kept_of, known_stops, stops_along, unserved}
 use Rattle.plan_picture.specs.Laws.{PicturesAreWellFormed, RoutePicturesAreWellFormed}
 use Rattle.plan_picture.specs.Map.{map_text}
@@ -66,9 +66,12 @@ head_opens kind height =
 cost_stays : (kind : Kind) (cost : Cost) → Stays (cost_text kind cost)
 unfolding cost_text fixed
 cost_stays kind cost =
-    let first = named text.Unplanned cost.unplanned in
-    stays_with (first ++ vehicles_text kind cost.vehicles) (named text.Distance cost.distance)
-    (stays_with first (vehicles_text kind cost.vehicles) (named_stays text.Unplanned cost.unplanned (λ n os. refl)) (by kind)) (named_stays text.Distance cost.distance (λ n os. refl))
+    let mark = partial_text cost.unplanned in
+    let count = named text.Unplanned cost.unplanned in
+    let marked : Stays mark = stays_if (cost.unplanned == 0) [] (fixed text.Partial) (λ n os. refl) (λ n os. refl) in
+    let first : Stays (mark ++ count) = stays_with mark count marked (named_stays text.Unplanned cost.unplanned (λ n os. refl)) in
+    stays_with (mark ++ count ++ vehicles_text kind cost.vehicles) (named text.Distance cost.distance)
+    (stays_with (mark ++ count) (vehicles_text kind cost.vehicles) first (by kind)) (named_stays text.Distance cost.distance (λ n os. refl))
   where
     by : (k : Kind) → Stays (vehicles_text k cost.vehicles)
     by LiLim = named_stays text.Vehicles cost.vehicles (λ n os. refl)

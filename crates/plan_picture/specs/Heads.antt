@@ -23,9 +23,13 @@ abbrev pub vehicles_text : Kind → ℕ → List ℕ
 vehicles_text LiLim vehicles = named text.Vehicles vehicles
 vehicles_text Vrp vehicles = []
 
+-- a plan that leaves requests out is told as one
+abbrev pub partial_text : ℕ → List ℕ
+partial_text unplanned = if unplanned == 0 then [] else fixed text.Partial
+
 unfoldable pub cost_text : Kind → Cost → List ℕ
 cost_text kind cost =
-    named text.Unplanned cost.unplanned ++ vehicles_text kind cost.vehicles ++ named text.Distance cost.distance
+    partial_text cost.unplanned ++ named text.Unplanned cost.unplanned ++ vehicles_text kind cost.vehicles ++ named text.Distance cost.distance
 
 -- the name of a rule
 abbrev pub rule_name : ℕ → Text

@@ -4,7 +4,7 @@ ghost use Rattle.std.specs.Option.{option_map_or};
 ghost use Rattle.route_sched.specs.Cost.{used_count};
 ghost use Rattle.route_sched.specs.Route.{AreLiveOnce};
 ghost use Rattle.plan_audit.specs.Rules.{item_at};
-ghost use Rattle.plan_picture.specs.Heads.{broken_place, broken_text, cost_text, figures_of, fleet_figures, head_text, key_text, load_figures, one_route, pair_key, partner_figures, rule_name, scope_text, shapes_text, start_figures, style_text, title_head, title_text, unserved_text, vehicles_text, verdict_text, visit_figures, visit_told};
+ghost use Rattle.plan_picture.specs.Heads.{broken_place, broken_text, cost_text, figures_of, fleet_figures, head_text, key_text, load_figures, one_route, pair_key, partial_text, partner_figures, rule_name, scope_text, shapes_text, start_figures, style_text, title_head, title_text, unserved_text, vehicles_text, verdict_text, visit_figures, visit_told};
 ghost use Rattle.plan_picture.specs.Known.{visits_of};
 
 use crate::svg::Svg;
@@ -136,9 +136,20 @@ impl Svg {
     fn put_cost(&mut self, kind: Kind, cost: Cost)
         ensures { self.new ≡ self.old ++ cost_text kind cost }
     {
+        self.put_partial(cost.unplanned);
         self.put_named(Text::Unplanned, cost.unplanned as u128);
         self.put_vehicles(kind, cost.vehicles);
         self.put_named(Text::Distance, cost.distance as u128);
+    }
+
+    // A plan that leaves requests out is told as one.
+    fn put_partial(&mut self, unplanned: u64)
+        ensures { self.new ≡ self.old ++ partial_text unplanned }
+    {
+        if unplanned == 0 {
+            return;
+        }
+        self.put(Text::Partial);
     }
 
     fn put_vehicles(&mut self, kind: Kind, vehicles: u64)
