@@ -24,7 +24,7 @@ use Rattle.std.proofs.lemmas.Slice.Eq.{bytes_eq-Decides}
 use Rattle.clap.proofs.WalkLemmas.{first_value-rows, list_any-map}
 use Rattle.clap.proofs.OnLiterals.{clap_on_literals}
 use Rattle.command_line.specs.declared.words.Invocation.{Invocation}
-use Rattle.command_line.specs.Asked.{ArePositional, Asked, IsRefusal, PathsAsked, ReadsWords, adopt_asked, adopt_in, asked_by, asked_with, asks_help, audit, deviation_or_none, draw_asked, draw_in, explain, format, is_positional_word, judged_asked, judged_from, judged_in, kind_named, list_asked, list_from, list_in, load, load_asked, load_from, load_in, run, run_asked, run_in, seed_named, solve, solves, steps_named, store_asked, store_in, store_instance, task_asked, task_from, task_in, tasks_asked, tasks_from, tasks_in, timetable_asked, timetable_in, told_by, told_by_other, told_of, told_of_store, upgrade_asked, upgrade_in, usage_status_of}
+use Rattle.command_line.specs.Asked.{ArePositional, Asked, IsRefusal, PathsAsked, ReadsWords, adopt_asked, adopt_in, asked_by, asked_with, asks_help, audit, check, deviation_or_none, draw_asked, draw_in, explain, format, is_positional_word, judged_asked, judged_from, judged_in, kind_named, list_asked, list_from, list_in, load, load_asked, load_from, load_in, run, run_asked, run_in, seed_named, solve, solves, steps_named, store_asked, store_in, store_instance, task_asked, task_from, task_in, tasks_asked, tasks_from, tasks_in, timetable_asked, timetable_in, told_by, told_by_other, told_of, told_of_store, upgrade_asked, upgrade_in, usage_status_of}
 use Rattle.command_line.specs.CommandLine.{IsKindNames, IsModeNames, IsPlannerCommand, adopt_app, audits_app, draw_app, load_app, paths_app, planner_app, run_app, solve_app, solves_app, store_app, timetable_app, upgrade_app}
 
 -- ---- a word that does not begin with a hyphen is a value
@@ -502,7 +502,7 @@ help_fault names modes words = tt
 
 abbrev all_names : Names
 all_names =
-    (codes "audit", []) ∷ (codes "audits", []) ∷ (codes "explain", []) ∷ (codes "timetable", []) ∷ (codes "draw", []) ∷ (codes "solve", []) ∷ (codes "solves", []) ∷ (codes "format", []) ∷ (codes "load", []) ∷ (codes "run", []) ∷ (codes "adopt", []) ∷ (codes "instance", []) ∷ (codes "upgrade", []) ∷ (codes "help", []) ∷ []
+    (codes "audit", []) ∷ (codes "audits", []) ∷ (codes "explain", []) ∷ (codes "timetable", []) ∷ (codes "draw", []) ∷ (codes "solve", []) ∷ (codes "solves", []) ∷ (codes "format", []) ∷ (codes "load", []) ∷ (codes "run", []) ∷ (codes "adopt", []) ∷ (codes "instance", []) ∷ (codes "check", []) ∷ (codes "upgrade", []) ∷ (codes "help", []) ∷ []
 
 -- the word is no subcommand's name
 record IsOther (w : Text) : Type 0 where
@@ -517,12 +517,13 @@ record IsOther (w : Text) : Type 0 where
   no_run : bytes_eq (codes "run") w ≡ false
   no_adopt : bytes_eq (codes "adopt") w ≡ false
   no_instance : bytes_eq (codes "instance") w ≡ false
+  no_check : bytes_eq (codes "check") w ≡ false
   no_upgrade : bytes_eq (codes "upgrade") w ≡ false
   no_timetable : bytes_eq (codes "timetable") w ≡ false
   no_solves : bytes_eq (codes "solves") w ≡ false
 
 no_subcommand : (w : Text) → IsOther w → bytes_eq (codes "help") w ≡ false → subcommand_met all_names idle w ≡ None
-no_subcommand w o h = rw (o.no_audit, o.no_audits, o.no_explain, o.no_draw, o.no_solve, o.no_format, o.no_load, o.no_run, o.no_adopt, o.no_instance, o.no_upgrade, o.no_timetable, o.no_solves, h) refl
+no_subcommand w o h = rw (o.no_audit, o.no_audits, o.no_explain, o.no_draw, o.no_solve, o.no_format, o.no_load, o.no_run, o.no_adopt, o.no_instance, o.no_check, o.no_upgrade, o.no_timetable, o.no_solves, h) refl
 
 turn_fault-stray : (s : Shape) (w : Text) → IsOther w → bytes_eq (codes "help") w ≡ false → turn_fault s all_names (standing nothing_held 1) w ≡ step_fault s 1 nothing_held value
 turn_fault-stray s w o h = rw (no_subcommand w o h, word_passes s w nothing_held o.positional, word_is_value s.rules 1 w nothing_held o.positional) refl
@@ -572,6 +573,7 @@ module _ (names modes : Bor (List (Bor Text))) (kinds : IsKindNames names) (know
       by_name Judged (codes "timetable") w _ _ (of_command (codes "timetable") table_shape _ (refl, refl, refl) refl (judged_table AsksHelp words)) (λ no_timetable.
       by_name Judged (codes "adopt") w _ _ (of_command (codes "adopt") adopt_shape _ (refl, refl, refl) refl (judged_adopt AsksHelp words)) (λ no_adopt.
       by_name Judged (codes "instance") w _ _ (of_command (codes "instance") (store_shape (codes "instance")) _ (refl, refl, refl) refl (judged_store AsksHelp store_instance (codes "instance") words)) (λ no_instance.
+      by_name Judged (codes "check") w _ _ (of_command (codes "check") (store_shape (codes "check")) _ (refl, refl, refl) refl (judged_store AsksHelp check (codes "check") words)) (λ no_check.
       by_name Judged (codes "solves") w _ _ (of_command (codes "solves") (solves_shape names) _ (refl, refl, refl) refl (judged_tasks AsksHelp names kinds words)) (λ no_solves.
       inr (
         judged_other names modes w words (bytes_eq (codes "help") w) refl (record {
@@ -586,12 +588,13 @@ module _ (names modes : Bor (List (Bor Text))) (kinds : IsKindNames names) (know
           no_run = no_run;
           no_adopt = no_adopt;
           no_instance = no_instance;
+          no_check = no_check;
           no_upgrade = no_upgrade;
           no_timetable = no_timetable;
           no_solves = no_solves;
         }),
         refl,
-      ))))))))))))))
+      )))))))))))))))
 
 -- the parse of words that do not begin with a hyphen
 pub judged_words : (names modes : Bor (List (Bor Text))) (words : List Text) → IsKindNames names → IsModeNames modes → ArePositional words
@@ -619,9 +622,9 @@ told_other w rows a e = rw (other_name (codes "audit") w a, other_name (codes "e
 pub told_store : (w : Text) (rows : List Row) → (w ≡ codes "audits" → ⊥) → (w ≡ codes "solve" → ⊥) → (w ≡ codes "solves" → ⊥) → (w ≡ codes "draw" → ⊥) → (w ≡ codes "timetable" → ⊥) → told_by_other w rows ≡ told_of_store w rows
 told_store w rows a s ss d t = rw (other_name (codes "audits") w a, other_name (codes "solve") w s, other_name (codes "solves") w ss, other_name (codes "draw") w d, other_name (codes "timetable") w t) refl
 
-pub told_run : (w : Text) (rows : List Row) → (w ≡ codes "format" → ⊥) → (w ≡ codes "load" → ⊥) → (w ≡ codes "adopt" → ⊥) → (w ≡ codes "instance" → ⊥) → (w ≡ codes "upgrade" → ⊥) → told_of_store w rows ≡ run_in rows
-told_run w rows f l a i u =
-    rw (other_name (codes "format") w f, other_name (codes "load") w l, other_name (codes "adopt") w a, other_name (codes "instance") w i, other_name (codes "upgrade") w u) refl
+pub told_run : (w : Text) (rows : List Row) → (w ≡ codes "format" → ⊥) → (w ≡ codes "load" → ⊥) → (w ≡ codes "adopt" → ⊥) → (w ≡ codes "instance" → ⊥) → (w ≡ codes "check" → ⊥) → (w ≡ codes "upgrade" → ⊥) → told_of_store w rows ≡ run_in rows
+told_run w rows f l a i c u =
+    rw (other_name (codes "format") w f, other_name (codes "load") w l, other_name (codes "adopt") w a, other_name (codes "instance") w i, other_name (codes "check") w c, other_name (codes "upgrade") w u) refl
 
 -- ---- the parse
 

@@ -12,7 +12,7 @@ use Rattle.plan_types.specs.declared.requests.Kind.TheVariants.{LiLim, Vrp}
 use Rattle.text_lines.specs.Numbers.{below, digits_of, integer_of}
 use Rattle.command_line.specs.declared.words.Paths.{Paths}
 use Rattle.command_line.specs.declared.words.Invocation.{Invocation}
-use Rattle.command_line.specs.declared.words.Invocation.TheVariants.{Adopt, Audit, Audits, BuiltIn, Draw, DrawStore, Explain, Format, Load, Run, Solve, Solves, StoreInstance, StoreTimetable, Timetable, Upgrade}
+use Rattle.command_line.specs.declared.words.Invocation.TheVariants.{Adopt, Audit, Audits, BuiltIn, Check, Draw, DrawStore, Explain, Format, Load, Run, Solve, Solves, StoreInstance, StoreTimetable, Timetable, Upgrade}
 use Rattle.command_line.specs.declared.words.Loading.{Loading}
 use Rattle.command_line.specs.declared.words.Task.{Task}
 use Rattle.command_line.specs.declared.words.Tasks.{Tasks}
@@ -48,7 +48,7 @@ pub record LoadAsked : Type 0 where
 -- The audit of the two built-in texts, or of two files; the audits of a list; the audit of two files with what it rests on, each of them also of
 -- the routes alone; the picture of a
 -- solution, or of its route with this number, or of the plan in a store, or of the route of its vehicle with this number; the solving of an instance, or of each that a list names; a store made in a file, an instance loaded
--- into one, or commands over one; a solution that a store is to have for its plan; the instance in a store; a store made of an old one; the timetable of a solution, or of the plan in a store, by tabs or in columns.
+-- into one, or commands over one; a solution that a store is to have for its plan; the instance in a store; whether a store agrees with itself; a store made of an old one; the timetable of a solution, or of the plan in a store, by tabs or in columns.
 pub data Asked : Type 0 where
   built_in : Asked
   audit : PathsAsked → Bool → Asked
@@ -63,6 +63,7 @@ pub data Asked : Type 0 where
   run : Text → Bool → Asked
   adopt : Text → Text → Asked
   store_instance : Text → Asked
+  check : Text → Asked
   upgrade : Text → Text → Asked
   timetable : PathsAsked → Bool → Asked
   store_timetable : Text → Bool → Asked
@@ -93,6 +94,7 @@ asked_of (Load loading) = load (load_of loading)
 asked_of (Run store is_strict) = run store.now is_strict
 asked_of (Adopt store solution) = adopt store.now solution.now
 asked_of (StoreInstance store) = store_instance store.now
+asked_of (Check store) = check store.now
 asked_of (Upgrade old new) = upgrade old.now new.now
 asked_of (Timetable paths is_tabbed) = timetable (paths_of paths) is_tabbed
 asked_of (StoreTimetable store is_tabbed) = store_timetable store.now is_tabbed
@@ -283,7 +285,8 @@ asked_with words command = if bytes_eq (codes "audit") command then judged_asked
     else (if bytes_eq (codes "timetable") command then timetable_asked words
     else (if bytes_eq (codes "adopt") command then adopt_asked words
     else (if bytes_eq (codes "instance") command then option_map store_instance (store_asked words)
-    else (if bytes_eq (codes "solves") command then option_map solves (tasks_asked words) else None))))))))))))
+    else (if bytes_eq (codes "check") command then option_map check (store_asked words)
+    else (if bytes_eq (codes "solves") command then option_map solves (tasks_asked words) else None)))))))))))))
 
 -- no words, or a command with its own
 abbrev pub asked_by : List Text → Option Asked
@@ -381,14 +384,15 @@ abbrev pub draw_in : List Row → Option Asked
 draw_in rows = first_of (codes "STORE|KIND") rows >>= (λ first.
     draw_with first (first_of (codes "ROUTE|INSTANCE") rows) (first_of (codes "SOLUTION") rows) (first_of (codes "ROUTE") rows))
 
--- what `format`, `load`, `adopt`, `instance`, `upgrade` or `run` asks for
+-- what `format`, `load`, `adopt`, `instance`, `check`, `upgrade` or `run` asks for
 abbrev pub told_of_store : Text → List Row → Option Asked
 told_of_store name rows =
     if bytes_eq (codes "format") name then option_map format (store_in rows)
     else (if bytes_eq (codes "load") name then option_map load (load_in rows)
     else (if bytes_eq (codes "adopt") name then adopt_in rows
     else (if bytes_eq (codes "instance") name then option_map store_instance (store_in rows)
-    else (if bytes_eq (codes "upgrade") name then upgrade_in rows else run_in rows))))
+    else (if bytes_eq (codes "check") name then option_map check (store_in rows)
+    else (if bytes_eq (codes "upgrade") name then upgrade_in rows else run_in rows)))))
 
 -- what a subcommand asks for whose words are not `KIND INSTANCE SOLUTION [routes]`; there is no other one than these
 abbrev pub told_by_other : Text → List Row → Option Asked

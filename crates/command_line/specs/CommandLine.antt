@@ -99,7 +99,8 @@ abbrev pub with_store_apps : Bor (List (Bor Text)) → Bor (List (Bor Text)) →
 with_store_apps names modes above =
     let load = with_subcommand (with_subcommand above (store_app (codes "format")).top) (load_app names).top in
     let adopt = with_subcommand (with_subcommand load (run_app modes).top) adopt_app.top in
-    with_subcommand (with_subcommand adopt (store_app (codes "instance")).top) upgrade_app.top
+    let instance = with_subcommand adopt (store_app (codes "instance")).top in
+    with_subcommand (with_subcommand instance (store_app (codes "check")).top) upgrade_app.top
 
 -- one level of subcommands
 abbrev pub planner_app : Bor (List (Bor Text)) → Bor (List (Bor Text)) → App

@@ -5,10 +5,10 @@ ghost use Rattle.command_line.specs.CommandLine.{IsKindNames, IsLeafCommand, IsM
 
 use crate::help::{
     ABOUT, ADOPT_ABOUT, ADOPT_ANSWERS, AUDIT_ABOUT, AUDIT_ANSWERS, AUDITS_ABOUT, AUDITS_ANSWERS,
-    DRAW_ABOUT, DRAW_ANSWERS, EXPLAIN_ABOUT, EXPLAIN_ANSWERS, FORMAT_ABOUT, FORMAT_ANSWERS,
-    INSTANCE_ABOUT, INSTANCE_ANSWERS, LOAD_ABOUT, LOAD_ANSWERS, RUN_ABOUT, SOLVE_ABOUT,
-    SOLVE_ANSWERS, SOLVES_ABOUT, SOLVES_ANSWERS, STATUSES, TIMETABLE_ABOUT, TIMETABLE_ANSWERS,
-    UPGRADE_ABOUT, UPGRADE_ANSWERS, VERSION,
+    CHECK_ABOUT, CHECK_ANSWERS, DRAW_ABOUT, DRAW_ANSWERS, EXPLAIN_ABOUT, EXPLAIN_ANSWERS,
+    FORMAT_ABOUT, FORMAT_ANSWERS, INSTANCE_ABOUT, INSTANCE_ANSWERS, LOAD_ABOUT, LOAD_ANSWERS,
+    RUN_ABOUT, SOLVE_ABOUT, SOLVE_ANSWERS, SOLVES_ABOUT, SOLVES_ANSWERS, STATUSES, TIMETABLE_ABOUT,
+    TIMETABLE_ANSWERS, UPGRADE_ABOUT, UPGRADE_ANSWERS, VERSION,
 };
 use clap::error::ErrorKind;
 use clap::{Arg, ArgMatches, Command, Error};
@@ -85,7 +85,7 @@ fn with_search_commands<'a>(
     with_command(above, solves_command(alloc, kinds))
 }
 
-// The command with those that make or change a store.
+// The command with those that make, change or read a store.
 fn with_store_commands<'a>(
     alloc: Global,
     above: CommandResult<'a>,
@@ -103,6 +103,8 @@ fn with_store_commands<'a>(
     let above = with_command(above, adopt_command(alloc));
     let instance = store_command(alloc, "instance", INSTANCE_ABOUT, INSTANCE_ANSWERS);
     let above = with_command(above, instance);
+    let check = store_command(alloc, "check", CHECK_ABOUT, CHECK_ANSWERS);
+    let above = with_command(above, check);
     with_command(above, upgrade_command(alloc))
 }
 
@@ -299,14 +301,14 @@ fn list_word<'a>(alloc: Global) -> Arg<'a>
 fn seed_word<'a>(alloc: Global) -> Arg<'a>
     ensures { IsWord (new_rule (codes "SEED")) result }
 {
-    Arg::new(alloc, "SEED").help("What the search draws its numbers by; 0 without it")
+    Arg::new(alloc, "SEED").help("The number that all random choices follow from; 0 if left out")
 }
 
 fn deviation_word<'a>(alloc: Global) -> Arg<'a>
     ensures { IsWord (new_rule (codes "DEVIATION")) result }
 {
     Arg::new(alloc, "DEVIATION").help(
-        "Searches, and its working plan may be so far from the best one; for researchers",
+        "For researchers: another search, whose working plan may be so much longer than the best one",
     )
 }
 
@@ -314,14 +316,14 @@ fn drawn_word<'a>(alloc: Global) -> Arg<'a>
     ensures { IsWord (new_rule (codes "ROUTE|INSTANCE")) result }
 {
     Arg::new(alloc, "ROUTE|INSTANCE").help(
-        "Behind a store the number of a route; behind a format the instance",
+        "After a store the number of one route; after a format the instance",
     )
 }
 
 fn second_word<'a>(alloc: Global) -> Arg<'a>
     ensures { IsWord (new_rule (codes "tabs|INSTANCE")) result }
 {
-    Arg::new(alloc, "tabs|INSTANCE").help("Behind a store `tabs`; behind a format the instance")
+    Arg::new(alloc, "tabs|INSTANCE").help("After a store `tabs`; after a format the instance")
 }
 
 fn solution_word<'a>(alloc: Global) -> Arg<'a>
@@ -340,7 +342,7 @@ fn routes_word<'a>(alloc: Global) -> Arg<'a>
     ensures { IsWord (new_rule (codes "routes")) result }
 {
     Arg::new(alloc, "routes").help(
-        "Judges the routes alone: the cost line is not asked, and need not be there",
+        "Judges the routes alone: the cost line is not read, and need not be there",
     )
 }
 

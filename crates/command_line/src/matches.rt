@@ -74,7 +74,7 @@ fn other_words<'a>(name: &str, words: &ArgMatches<'a>) -> Option<Invocation<'a>>
     }
 }
 
-// What the words behind `format`, `load`, `run`, `adopt`, `instance` or `upgrade` ask for.
+// What the words behind `format`, `load`, `run`, `adopt`, `instance`, `check` or `upgrade` ask for.
 fn store_words<'a>(name: &str, words: &ArgMatches<'a>) -> Option<Invocation<'a>>
     ensures { option_map asked_of result ≡ told_of_store name.now (rows_of (found_of words.now)) }
 {
@@ -85,6 +85,9 @@ fn store_words<'a>(name: &str, words: &ArgMatches<'a>) -> Option<Invocation<'a>>
         "load" => Some(Invocation::Load(loading_words(words)?)),
         "adopt" => adopt_words(words),
         "instance" => Some(Invocation::StoreInstance {
+            store: value_of(words, "STORE")?,
+        }),
+        "check" => Some(Invocation::Check {
             store: value_of(words, "STORE")?,
         }),
         "upgrade" => upgrade_words(words),

@@ -108,6 +108,10 @@ pub enum Invocation<'a> {
     StoreInstance {
         store: &'a str,
     },
+    /// `check STORE`: whether the store in this file agrees with itself.
+    Check {
+        store: &'a str,
+    },
     /// `upgrade OLD NEW`: a store in the file NEW, of the state that the store of version 1 in OLD stands for.
     Upgrade {
         old: &'a str,

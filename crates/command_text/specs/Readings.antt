@@ -1,7 +1,5 @@
 -- What the texts spell that lines announce.
 use Rattle.std.specs.Prelude.{◌≡◌, ◌⊎◌, Result, Err}
--- What the texts spell that lines announce.
-use Rattle.std.specs.Prelude.{◌≡◌, ◌⊎◌, Result, Err}
 use Rattle.plan_types.specs.declared.plans.Plan.{Plan}
 use Rattle.instance_read.specs.Readings.{Reading as InstanceReading, IsReading as IsInstanceReading}
 use Rattle.plan_seats.specs.Laws.{Seating, IsSeating}

@@ -7,48 +7,51 @@ pub const HELP: &str = "Each line asks for one thing:\n  \
     load lilim|vrp SEED LEN    a new instance: the LEN bytes behind this line\n  \
     adopt LEN                  a better plan: the LEN bytes behind this line, a solution's text\n  \
     build                      puts each unplanned request at its best place\n  \
-    search N, reach N          N search steps, or as many as lead to step N\n  \
+    search N, reach N          N search steps, or as many as are left to step N\n  \
     anneal N                   N annealing steps, which find better plans\n  \
-    anneal FROM TO             annealing by stages from step FROM to step TO; goes on where it was cut off\n  \
-    reduce N                   N steps that look for plans with fewer vehicles, or that leave out less\n  \
-    deviation D                how much longer a plan the steps may go on from\n  \
-    add Q X Y E L S X Y E L S  a new pair: demand, then x, y, window and service of both its stops\n  \
-    add1 Q X Y E L S           a new request of one stop\n  \
+    anneal FROM TO             annealing by stages from step FROM to TO; said again, it goes on where it was cut off\n  \
+    reduce N                   N steps that look for plans with fewer vehicles, or with fewer requests left out\n  \
+    deviation D                steps may go on from a plan up to D longer than the best one, of `anneal` than the last\n  \
+    add Q X Y E L S X Y E L S  a new pair: demand; x, y, earliest and latest start, service of pickup and delivery\n  \
+    add1 Q X Y E L S           a new request of one stop, by the same numbers\n  \
     withdraw R                 takes out the request with this name\n  \
-    pin V K, unpin V           keeps the first K stops of vehicle V as they are, or none\n  \
+    pin V K, unpin V           fixes the first K stops of vehicle V; lets go of those it had\n  \
     freeze T                   pins what has begun by time T: the stops that each vehicle has set off to\n  \
-    show, print                the state, or the plan as a solution's text\n  \
+    show, print                the requests, pins, routes and cost; the plan as a solution's text\n  \
     instance                   the problem as it is now, as an instance's text\n  \
     timetable, timetable V     when each vehicle, or vehicle V, is where\n  \
     why R                      where and when the request with stop R is served, or why it is in no route\n  \
-    next                       `next N`: the number that the next order gets, its pickup's if a pair\n  \
-    checkpoint                 a snapshot, so that less is repeated at the next run\n  \
+    next                       tells `next N`: the next request gets the number N, of a pair its pickup\n  \
+    checkpoint                 writes the whole state anew, so that the next run has no steps to repeat\n  \
     help                       these lines\n\n\
     Each answer ends with one of these lines:\n  \
-    ok                         it is done, and no stop loses it\n  \
-    no NAME                    it is refused and changes nothing; of a text: no NAME LINE\n  \
-    fault device               the store failed; it may be there or not at the next run\n\n\
-    Steps tell `at STEPS UNPLANNED VEHICLES DISTANCE` before that, piece by piece: these steps\n\
-    stand, whatever is answered behind them. `freeze` tells `pin V K` so, for each longer pin.\n\n\
+    ok                         it is done, and stays so, whenever the program or the machine stops\n  \
+    no NAME                    it is refused and changes nothing; no NAME LINE where a line of a text is to blame\n  \
+    fault device               the store's disk failed or is full: the next run shows whether the line was done; go on\n                             \
+    with a copy of the store on a sound disk, or begin that run with `checkpoint`\n\n\
+    A line that makes steps tells `at STEPS UNPLANNED VEHICLES DISTANCE` before that, piece by piece: the steps so far,\n\
+    which stand whatever is answered behind them, and the plan's requests left out, vehicles and distance. So `freeze`\n\
+    tells `pin V K` for each pin that it makes longer. `steps S place P` of `show` are the steps so far, and the random\n\
+    numbers that they drew, 16 each.\n\n\
     The names of refusals:\n  \
-    BadLine        there is no such line, another number of words belongs to it, or one is no integer\n  \
+    BadLine        there is no such line, it has a word too many or too few, or one that is no integer\n  \
     Truncated      the input ends before LEN bytes; the run ends\n  \
-    Broken         the device failed before in this run\n  \
+    Broken         the disk failed before in this run\n  \
     NoInstance     nothing is loaded yet\n  \
     Range          a number is outside its limits, or a window ends before it begins\n  \
-    NoSuchRequest  no request has this name, a pair's is the number of its pickup; of `why`: this stop\n  \
-    Pinned         a stop of the request is pinned, or no route begins with a vehicle's pin\n  \
+    NoSuchRequest  no request has this name, a pair's is the number of its pickup; of `why`: none has this stop\n  \
+    Pinned         a stop of the request is pinned; of `adopt`: no route begins with the pin of a vehicle\n  \
     NoSuchPlace    there is no such vehicle, or its route has fewer stops\n  \
-    NotARoute      the first K stops alone are no route: goods are still aboard, or a stop is late\n  \
+    NotARoute      no pin ends there: the first K stops alone leave goods aboard, or the vehicle late\n  \
     NumbersSpent   a stop would get a number above 40,000\n  \
     StepsSpent     the steps would pass 2^60\n  \
-    NoTimes        the instance has no times, so nothing has begun by one\n  \
-    NoFormat       the format of the instance's kind can't say the problem as it is now\n  \
+    NoTimes        an instance of kind vrp has no times, so `freeze` knows none that has begun\n  \
+    NoFormat       the format of the instance's kind has no way to write the requests as they are now\n  \
     NotAPlan       the solution breaks the rule that the line before tells\n  \
     Dearer         the solution costs more than the plan\n  \
     Unplanned      a request is in no route, so there is no solution to print\n  \
     Spent          the store can't be written any more\n  \
-    OutOfMemory    memory was refused; the same line may be asked again";
+    OutOfMemory    there was not enough memory; the same line may be asked again";
 
 /// The bytes of these lines.
 pub fn help_lines() -> &'static [u8]

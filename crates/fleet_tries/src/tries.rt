@@ -266,7 +266,9 @@ fn log_try<R: Log>(rt: &R, problem: &Problem, crew: &[bool], vehicles: u64, foun
 {
     let kept = marked(crew);
     let left_out = plan_cost(problem, found).unplanned;
-    info!(rt; "try {kept} of {vehicles} vehicles: {left_out} left out, step {step}");
+    info!(rt;
+        "a try with {kept} of {vehicles} vehicles ended before step {step}: {left_out} requests left out"
+    );
 }
 
 // What was found, where it costs no more than the plan that stood.

@@ -12,9 +12,11 @@ returns c = λ a is.
     let run = with_subcommand load (run_app c.args.modes).top in
     let adopt = with_subcommand run adopt_app.top in
     let instance = with_subcommand adopt (store_app (codes "instance")).top in
+    let check = with_subcommand instance (store_app (codes "check")).top in
     let one = c.with_command-above.ensures a (store_app (codes "format")) is c.store_command-format.ensures in
     let two = c.with_command-above-2.ensures format (load_app names) one c.load_command.ensures in
     let three = c.with_command-above-3.ensures load (run_app c.args.modes) two c.run_command.ensures in
     let four = c.with_command-above-4.ensures run adopt_app three c.adopt_command.ensures in
     let five = c.with_command-above-5.ensures adopt (store_app (codes "instance")) four c.store_command-instance.ensures in
-    c.with_command.ensures instance upgrade_app five c.upgrade_command.ensures
+    let six = c.with_command-above-6.ensures instance (store_app (codes "check")) five c.store_command-check.ensures in
+    c.with_command.ensures check upgrade_app six c.upgrade_command.ensures
