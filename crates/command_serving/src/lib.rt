@@ -13,7 +13,8 @@
 //! flushed when how many calls of the device had finished. What reads of a source gave is noted, for clauses alone.
 //!
 //! Modules, in reading order:
-//! - `streams`: `Source`, `Sink`, and `Watched`, which makes one of each reader and writer of std
+//! - `streams`: `Source`, `Sink`, and `Watched`, which makes one of each reader and writer of std; `write_text`, which tells how much
+//!   of a text was written
 //! - `events`: what was done to a sink, and what reads of a source gave, for clauses alone
 //! - `strict`: `Strict`, a sink whose `flush` fails behind a line that tells a refusal or a failed device
 //! - `ahead`: what was read and not yet taken
@@ -74,5 +75,5 @@ mod strict;
 pub use answering::{ServeFault, serve_source};
 pub use laws::{fates_have_causes, stopped_servings_recover};
 pub use lent::serve;
-pub use streams::{Failed, Noted, Sink, Source, Watched};
+pub use streams::{Failed, Noted, Sink, Source, Watched, write_text};
 pub use strict::{Stopped, Strict, last_lines_are_ended};

@@ -272,8 +272,8 @@ fn read_once<R: Read>(reader: &mut R, block: &mut [u8]) -> Option<usize>
     None
 }
 
-// Writes a text, or gives how many of its bytes were written before a call failed.
-pub(crate) fn write_text<W: Write>(writer: &mut W, text: &[u8]) -> Result<(), usize>
+/// Writes a text, or gives how many of its bytes were written before a call failed. A call that a signal came between is made again.
+pub fn write_text<W: Write>(writer: &mut W, text: &[u8]) -> Result<(), usize>
     ensures { WritesUpTo (W.contents writer.old) (W.contents writer.new) result text.now }
 {
     let mut written = 0;

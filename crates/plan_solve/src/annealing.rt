@@ -40,7 +40,7 @@ pub(crate) fn anneal_telling<W: Write>(
         to: u64::from(steps),
     };
     while let Some((command, behind)) = next_command(left, planner.state()) {
-        carry_out(alloc, &mut planner, &command)?;
+        carry_out(alloc, &mut planner, command)?;
         told = tell_more(told, job_of(&planner)?, steps, progress);
         left = behind;
     }

@@ -11,11 +11,11 @@ use std::alloc::{AllocError, Global};
 pub(crate) fn carry_out(
     alloc: Global,
     planner: &mut Planner,
-    command: &Command,
+    command: Command,
 ) -> Result<(), OutOfMemory>
-    ensures { OnOk result (planner.new ≡ effect planner.old command.now) }
+    ensures { OnOk result (planner.new ≡ effect planner.old command) }
 {
-    match planner.change(alloc, command) {
+    match planner.change(alloc, &command) {
         Ok(_) => Ok(()),
         Err(_) => Err(AllocError),
     }

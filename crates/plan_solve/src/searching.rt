@@ -27,7 +27,7 @@ pub(crate) fn search_telling<W: Write>(
 {
     searches_add_up();
     let mut planner = Planner::new(State::Loaded(begun));
-    carry_out(alloc, &mut planner, &Command::Deviation(deviation))?;
+    carry_out(alloc, &mut planner, Command::Deviation(deviation))?;
     let mut is_told = tell(true, job_of(&planner)?, progress);
     let mut done = 0;
     let mut parts = 0;
@@ -52,7 +52,7 @@ fn search(alloc: Global, planner: &mut Planner, steps: u32) -> Result<(), OutOfM
     let mut left = steps;
     while left > 0 {
         let count = next_count(left);
-        carry_out(alloc, planner, &Command::Search(count))?;
+        carry_out(alloc, planner, Command::Search(count))?;
         left -= u32::from(count);
     }
     Ok(())

@@ -84,8 +84,8 @@ fn build(alloc: Global, problem: Problem, seed: u64) -> Result<Job, OutOfMemory>
     ensures { IfOk result (λ job. job ≡ begun problem seed) }
 {
     let mut planner = Planner::new(State::Empty);
-    carry_out(alloc, &mut planner, &Command::Load(problem, seed))?;
-    carry_out(alloc, &mut planner, &Command::Build)?;
+    carry_out(alloc, &mut planner, Command::Load(problem, seed))?;
+    carry_out(alloc, &mut planner, Command::Build)?;
     into_job(planner)
 }
 
