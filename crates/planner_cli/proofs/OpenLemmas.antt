@@ -1,12 +1,15 @@
--- What opening a device promises behind a reading of it is promised of the device as it was before.
+-- What opening a device or reading it promises behind a first reading of it is promised of the device as it was before.
 use Rattle.std.proofs.Common.{◌≡◌, ◌+◌, ◌∙◌, inl, ℕ, List, Result, Ok, Err, refl, ap, subst, arith}
+use Rattle.std.specs.Prelude.{MatchResult}
 use Rattle.checkpoint.specs.Holdless.{HoldsNothing, IsOfLoad, UnlessUnread}
 use Rattle.checkpoint.specs.Laws.{NeverBoth}
 use Rattle.checkpoint.specs.Reads.{IsUnchanged}
-use Rattle.checkpoint.specs.Refused.{faults_of_store}
+use Rattle.checkpoint.specs.Refused.{faults_after_reading, faults_of_store}
 use Rattle.checkpoint.specs.declared.faults.StoreFault.{StoreFault}
 use Rattle.checkpoint.specs.declared.faults.StoreFault.TheVariants.{NotFormatted, BadVersion, Codec, Spent, OutOfMemory, DeviceFault}
+use Rattle.planner_cli.specs.Looked.{LooksInto}
 use Rattle.planner_cli.specs.Running.{IsOpened, IsRefused}
+use Rattle.command_core.specs.declared.states.State.{State}
 use Rattle.recover.specs.Applying.{IsBetween}
 use Rattle.recover.specs.Opening.{IsOnlyRead, IsReplayed, Opens, StandsForNone}
 use Rattle.recover.specs.Sessions.{SessionValue}
@@ -37,6 +40,9 @@ opens_none never image Spent nothing state stands = never Two image stands.snaps
 abbrev unread : StoreFault → Result ℕ StoreFault
 unread fault = Err fault
 
+abbrev refused_state : StoreFault → Result State StoreFault
+refused_state fault = Err fault
+
 abbrev found : ℕ → Result ℕ StoreFault
 found steps = Ok steps
 
@@ -61,7 +67,21 @@ module _ {D : Type 0} (on : sectors.Ghosts D) (old read : D) where
     faults = only.read.called.fault;
   }
 
-  -- It was read, and then opened.
+  -- .. and looking into it.
+  pub unlooked : (fault : StoreFault) → IsOnlyRead on (unread fault) old read → IsOfLoad fault
+      → (on.honest read → UnlessUnread (HoldsNothing Two (on.seen old)) fault) → LooksInto on old (refused_state fault) read
+  unlooked fault only fails nothing = record {
+    given = λ honest. stands_for_none (on.seen old) fault (nothing honest);
+    facts = tt;
+    fails = fails;
+    reads = record {
+      read = only.read;
+      small = only.small;
+      told = λ short. ap refused_state (same_fault (unread fault) (unread NotFormatted) fault NotFormatted refl refl (only.told short));
+    };
+  }
+
+  -- It was read, and then looked into or opened.
   module _ (steps : ℕ) (only : IsOnlyRead on (found steps) old read) where
     kept : on.honest read → IsUnchanged on.clock on.possible_since on.possible on.seen on.calls old read
     kept = only.read.kept
@@ -74,6 +94,43 @@ module _ {D : Type 0} (on : sectors.Ghosts D) (old read : D) where
     -- so is a moment of the reading
     before : (m : ℕ) (image : List ℕ) → (m ≡ on.calls old) × on.possible old image → IsBetween (on.calls old) (on.calls old + 1) m image × on.possible old image
     before m image at = ((omega (arith, at.0), omega (arith, at.0)), at.1)
+
+    -- two readings are one
+    read_behind : {T : Type 0} (answer : Result T StoreFault) (after : D) → IsOnlyRead on answer read after → IsOnlyRead on answer old after
+    read_behind answer after again = record {
+      read = record {
+        called = record {
+          same_len = again.read.called.same_len ∙ only.read.called.same_len;
+          finished = again.read.called.finished ∙ only.read.called.finished;
+          fault = again.read.called.fault ∙ ap (faults_after_reading answer) only.read.called.fault;
+          honest_before = λ honest. only.read.called.honest_before (again.read.called.honest_before honest);
+        };
+        kept = λ honest. both (kept (again.read.called.honest_before honest)) (again.read.kept honest);
+      };
+      small = λ short. absurd (not_refused (found steps) steps NotFormatted refl (only.told short));
+      told = λ short. absurd (not_refused (found steps) steps NotFormatted refl (only.told short));
+    }
+      where
+        both : IsUnchanged on.clock on.possible_since on.possible on.seen on.calls old read → IsUnchanged on.clock on.possible_since on.possible on.seen on.calls read after
+            → IsUnchanged on.clock on.possible_since on.possible on.seen on.calls old after
+        both first second = record {
+          reads = second.reads ∙ first.reads;
+          images = record {
+            nothing_else = λ image at. first.images.nothing_else image (second.images.nothing_else image at);
+            keeps = λ image at. second.images.keeps image (first.images.keeps image at);
+          };
+          moments = joined on.clock on.possible_since old read after _ first.moments
+              (weakened on.clock on.possible_since read after _ _ (λ m image at. (at.0 ∙ only.read.called.finished, first.images.nothing_else image at.1)) second.moments);
+        }
+
+    pub looked_behind : (answer : Result State StoreFault) (after : D) → LooksInto on read answer after → LooksInto on old answer after
+    looked_behind answer after again = record {
+      given = λ honest. subst (λ (image : List ℕ). MatchResult answer (StandsFor Two image) (UnlessUnread (StandsForNone Two image)))
+          (kept (again.reads.read.called.honest_before honest)).reads (again.given honest);
+      facts = again.facts;
+      fails = again.fails;
+      reads = read_behind answer after again.reads;
+    }
 
     moments : (after : D) → on.honest read → Throughout on.clock on.possible_since read after (λ m image. IsBetween (on.calls read) (on.calls read + 1) m image × on.possible read image)
         → Throughout on.clock on.possible_since old after (λ m image. IsBetween (on.calls old) (on.calls old + 1) m image × on.possible old image)

@@ -1,7 +1,9 @@
 -- What is told line by line.
-use Rattle.std.proofs.Common.{◌≡◌, ◌∙◌, inl, ◌<◌, ◌||◌, ℕ, Bool, true, false, true≢false, List, Option, Some, None, Result, Ok, Err, refl, sym, ap, subst, arith}
+use Rattle.std.proofs.Common.{◌≡◌, ◌∙◌, inl, ◌<◌, ◌||◌, ℕ, Bool, true, false, true≢false, List, ◌++◌, Option, Some, None, Result, Ok, Err, refl, sym, ap, subst, arith, append_assoc}
 use Rattle.std.specs.Prelude.{◌≢◌, ◌↔◌, IfErr, IfOk, IsErrOf, MatchResult, OnOk}
 use Rattle.std.specs.Result.{result_err}
+use Rattle.std.specs.Io.KnownBytes.{Appends}
+use Rattle.std.proofs.KnownBytes.{Appends-trans}
 use Rattle.checkpoint.specs.Layouts.{version_2, sectors_in}
 use Rattle.command_core.specs.Effects.{effect}
 use Rattle.command_core.specs.declared.commands.Command.{Command}
@@ -18,6 +20,7 @@ use Rattle.planner_cli.specs.Loading.{holds_instance}
 use Rattle.command_line.specs.Asked.{Asked, upgrade}
 use Rattle.planner_cli.specs.Running.{stop_unless}
 use Rattle.planner_cli.specs.Statuses.{CanEndWith}
+use Rattle.planner_cli.specs.Telling.{IsFirstPart, TellsText}
 use Rattle.recover.specs.Applying.{Makes}
 use Rattle.recover.specs.Sessions.{SessionValue}
 use Rattle.recover.specs.declared.denials.Denial.{Denial}
@@ -76,6 +79,35 @@ pub begun : {T D : Type 0} (answer : Result T Denial) (old new : SessionValue D)
     → (new.is_broken ≡ false → Holds new.state) → OnOk answer (Holds (effect Empty command))
 begun (Ok done) old new command Holds empty makes stands = subst Holds (makes.state ∙ ap (λ s. effect s command) empty) (stands makes.is_broken)
 begun (Err denial) old new command Holds empty makes stands = tt
+
+-- ---- a text, or a first part of it
+
+-- what was put of the first of two texts
+pub part_front : (x y : List ℕ) (before after : Option (List ℕ)) → IsFirstPart x before after → IsFirstPart (x ++ y) before after
+part_front x y before after p = record {
+  part = p.part;
+  rest = p.rest ++ y;
+  whole = sym (append_assoc p.part p.rest y) ∙ ap (λ l. l ++ y) p.whole;
+  put = p.put;
+}
+
+-- .. and of the second one, behind the first
+pub part_behind : (x y : List ℕ) (before mid after : Option (List ℕ)) → Appends before mid x → IsFirstPart y mid after → IsFirstPart (x ++ y) before after
+part_behind x y before mid after first p = record {
+  part = x ++ p.part;
+  rest = p.rest;
+  whole = append_assoc x p.part p.rest ∙ ap (λ l. x ++ l) p.whole;
+  put = Appends-trans before mid after x p.part first p.put;
+}
+
+pub cut_short : {E : Type 0} (text : List ℕ) (status : ℕ) (before after : Option (List ℕ)) (told : Result ℕ E) (error : E) → told ≡ Err error → IsFirstPart text before after
+    → TellsText text status before after told
+cut_short text status before after told error is part = subst (TellsText text status before after) (sym is) (tt, part)
+
+pub told_behind : {E : Type 0} (x y : List ℕ) (status : ℕ) (before mid after : Option (List ℕ)) (told : Result ℕ E) → Appends before mid x → TellsText y status mid after told
+    → TellsText (x ++ y) status before after told
+told_behind x y status before mid after (Ok given) first told = ((told.0.0, Appends-trans before mid after x y first told.0.1), tt)
+told_behind x y status before mid after (Err error) first told = (tt, part_behind x y before mid after first told.1)
 
 -- a writer that was taken out of what watches it, written to, and put back
 pub told_apart : {W : Type 0} (contents : W → Option (List ℕ)) (Tells : Option (List ℕ) → Option (List ℕ) → Type 0) (a b c d : W) → b ≡ a → d ≡ c → Tells (contents b) (contents c) → Tells (contents a) (contents d)

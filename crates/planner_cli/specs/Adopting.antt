@@ -1,10 +1,8 @@
 -- What the word `adopt` does: it reads a solution, and makes it the plan of the store in a file. `told` is the status that goes with what was printed,
--- if it could be; whatever came of that, the rest is so.
-use Rattle.std.specs.Prelude.{◌≡◌, ◌⊎◌, ℕ, List, ◌∷◌, ◌++◌, codes, Option, Result, Ok, Err, IfOk, MatchResult}
-use Rattle.std.specs.Io.KnownBytes.{Appends}
+-- if it could be; whatever came of that, the rest is so. Of a store that was asked for no more than a first part of what is told was put then.
+use Rattle.std.specs.Prelude.{◌≡◌, ◌⊎◌, ℕ, List, ◌∷◌, codes, Option, Result, Ok, Err, IfOk, MatchResult}
 use Rattle.std.specs.declared.io.ErrorKind.{ErrorKind}
 use Rattle.plan_types.specs.declared.plans.Plan.{Plan}
-use Rattle.sol_text.specs.Names.{kind_name}
 use Rattle.plan_seats.specs.Seating.{IsFoundUnlessMemory}
 use Rattle.plan_seats.specs.declared.faults.Unseated.{Unseated}
 use Rattle.plan_seats.specs.declared.faults.Unseated.TheVariants as seats
@@ -13,13 +11,12 @@ use Rattle.command_core.specs.declared.refusals.Refusal.{Refusal}
 use Rattle.command_core.specs.declared.refusals.Refusal.TheVariants.{NotAPlan, Dearer}
 use Rattle.command_core.specs.declared.states.State.{State}
 use Rattle.command_core.specs.declared.states.State.TheVariants.{Empty, Loaded}
-use Rattle.command_text.specs.Answers.{line}
-use Rattle.auditor_cli.specs.AnswerText.{broken_text, fault_text}
+use Rattle.command_text.specs.Answers.{line, unseated_text}
 use Rattle.auditor_cli.specs.Reads.{FileRead}
 use Rattle.auditor_cli.specs.Telling.{TellsUnread}
 use Rattle.planner_cli.specs.Loading.{DisksAsked}
-use Rattle.planner_cli.specs.Opened.{OpensStore, TellsUnopened}
-use Rattle.planner_cli.specs.Telling.{denial_line, denial_status}
+use Rattle.planner_cli.specs.Opened.{OpensStore, unopened_line, unopened_status}
+use Rattle.planner_cli.specs.Telling.{TellsText, answered_line, denial_status}
 use Rattle.planner_cli.specs.declared.adopted.Unadopted.{Unadopted}
 use Rattle.planner_cli.specs.declared.adopted.Unadopted.TheVariants as none
 use Rattle.recover.specs.Applying.{IsApplied}
@@ -39,29 +36,20 @@ FindsPlan (Loaded job) text (Ok plan) = IsFoundUnlessMemory job.problem job.pins
 FindsPlan (Loaded job) text (Err (none.Unseated unseated)) = IsFoundUnlessMemory job.problem job.pins text (Err unseated)
 FindsPlan (Loaded job) text (Err none.NoInstance) = ⊥
 
--- the first fault of the text; the least rule that is broken, and that it is no plan; a pin that is not kept
-abbrev pub unseated_text : Unseated → List ℕ
-unseated_text (seats.Sol fault) = line (fault_text (codes "no") (kind_name fault.kind) fault.line)
-unseated_text (seats.Broken rule route place stop) = line (broken_text rule route place stop) ++ line (codes "no NotAPlan")
-unseated_text (seats.Pinned vehicle) = line (codes "no Pinned")
-unseated_text seats.OutOfMemory = line (codes "no OutOfMemory")
-
 abbrev pub unseated_status : Unseated → ℕ
 unseated_status (seats.Sol fault) = 2
 unseated_status (seats.Broken rule route place stop) = 1
 unseated_status (seats.Pinned vehicle) = 1
 unseated_status seats.OutOfMemory = 4
 
+-- as a store's line `adopt` answers
 abbrev pub unadopted_text : Unadopted → List ℕ
 unadopted_text none.NoInstance = line (codes "no NoInstance")
-unadopted_text (none.Unseated unseated) = unseated_text unseated
+unadopted_text (none.Unseated unseated) = line (unseated_text unseated)
 
 abbrev pub unadopted_status : Unadopted → ℕ
 unadopted_status none.NoInstance = 2
 unadopted_status (none.Unseated unseated) = unseated_status unseated
-
-abbrev pub TellsUnadopted : Unadopted → Option (List ℕ) → Option (List ℕ) → ℕ → Type 0
-TellsUnadopted unadopted before after status = (status ≡ unadopted_status unadopted) × Appends before after (unadopted_text unadopted)
 
 -- ---- what the store answers to a plan
 
@@ -75,9 +63,9 @@ abbrev pub adopt_status : Denial → ℕ
 adopt_status (denial.Core refusal) = refused_status refusal
 adopt_status other = denial_status other
 
-abbrev pub TellsAdopted : {T : Type 0} → Result T Denial → Option (List ℕ) → Option (List ℕ) → ℕ → Type 0
-TellsAdopted (Ok done) before after status = (status ≡ 0) × Appends before after (line (codes "ok"))
-TellsAdopted (Err other) before after status = (status ≡ adopt_status other) × Appends before after (denial_line other)
+abbrev pub adopted_status : {T : Type 0} → Result T Denial → ℕ
+adopted_status (Ok done) = 0
+adopted_status (Err other) = adopt_status other
 
 module _ {D X : Type 0} (on : sectors.Ghosts D) where
   -- The session answered the command that makes the plan its own: all that `apply` promises of it, whatever could be told. So each image that a stop
@@ -85,20 +73,20 @@ module _ {D X : Type 0} (on : sectors.Ghosts D) where
   pub record IsAnswered (old : SessionValue D) (plan : Plan) (before after : Option (List ℕ)) (new : SessionValue D) (told : Result ℕ X) : Type 0 where
     pub reply : Reply
     pub applied : IsApplied on.len on.calls on.faults on.honest on.clock on.possible_since on.possible old (Adopt plan) reply new
-    pub tells : IfOk told (TellsAdopted reply.answer before after)
+    pub tells : TellsText (answered_line reply.answer) (adopted_status reply.answer) before after told
 
   -- The solution that the text is becomes the plan of the session; or it is none for it, and the session stays as it is.
   abbrev pub AdoptsOver : SessionValue D → List ℕ → Option (List ℕ) → Option (List ℕ) → SessionValue D → Result ℕ X → Type 0
   AdoptsOver old text before after new told =
       (found : Result Plan Unadopted) × FindsPlan old.state text found
-      × MatchResult found (λ plan. IsAnswered old plan before after new told) (λ unadopted. (new ≡ old) × IfOk told (TellsUnadopted unadopted before after))
+      × MatchResult found (λ plan. IsAnswered old plan before after new told) (λ unadopted. (new ≡ old) × TellsText (unadopted_text unadopted) (unadopted_status unadopted) before after told)
 
   -- So it is with the store in the file at a path, or it is told why it was not opened. `IsOld` is what is known of the device over the file. `left` is
   -- the device as it is left.
   abbrev pub AdoptsStore : (List ℕ → D → Type 0) → List ℕ → List ℕ → Option (List ℕ) → Option (List ℕ) → Result ℕ X → Type 0
   AdoptsStore IsOld path text before after told =
       OpensStore on IsOld path (λ opened. (left : D) × (new : SessionValue D) × (left ≡ new.device) × AdoptsOver opened.session text before after new told)
-      (λ unopened. IfOk told (TellsUnopened path unopened before after))
+      (λ unopened. TellsText (unopened_line path unopened) (unopened_status unopened) before after told)
 
   -- The solution's file is read first, or can't be read, and no store is asked for.
   abbrev pub TellsAdopt : (List ℕ → D → Type 0) → DisksAsked → List ℕ → List ℕ → List FileRead → List FileRead → Option (List ℕ) → Option (List ℕ) → Result ℕ X → Type 0

@@ -12,17 +12,23 @@ use Rattle.route_sched.specs.Cost.{cost_of}
 use Rattle.command_core.specs.Job.{JobValue}
 use Rattle.command_core.specs.declared.states.State.{State}
 use Rattle.command_core.specs.declared.states.State.TheVariants.{Empty, Loaded}
-use Rattle.auditor_cli.specs.Examined.{IsExamined, answer_of}
+use Rattle.auditor_cli.specs.Examined.{answer_of}
 use Rattle.auditor_cli.specs.Files.{AreBothRead, IsUnread}
 use Rattle.auditor_cli.specs.Reads.{FileRead}
 use Rattle.command_text.specs.Answers.{line}
 use Rattle.planner_cli.specs.Looked.{LooksIntoStore}
 use Rattle.planner_cli.specs.Opened.{IsForetoldBefore, TellsUnopened}
 use Rattle.auditor_cli.specs.Telling.{TellsUnread}
+use Rattle.auditor_cli.specs.Partial.{IsPlanExamined}
 use Rattle.auditor_cli.specs.declared.audit.Examined.{Examined}
 use Rattle.auditor_cli.specs.declared.audit.Examined.TheVariants.{BadInstance, BadSolution, Judged}
+use Rattle.auditor_cli.specs.declared.partial.PartialPlan.{PartialPlan}
+use Rattle.auditor_cli.specs.declared.partial.PlanExamined.{PlanExamined}
+use Rattle.auditor_cli.specs.declared.partial.PlanExamined.TheVariants as plan
+use Rattle.seeded_search.specs.Steps.{unplanned_names}
+use Rattle.planner_cli.specs.Solving.{left_out_text}
 use Rattle.planner_cli.specs.declared.drawn.Drawing.{Drawing}
-use Rattle.planner_cli.specs.declared.drawn.Drawing.TheVariants.{NoSuchRoute, Picture, Refused}
+use Rattle.planner_cli.specs.declared.drawn.Drawing.TheVariants.{NoSuchRoute, Partial, Picture, Refused}
 use Rattle.sector_disk.specs.declared.sectors.Sectors as sectors
 
 -- the picture of these routes with a verdict; or of the one with this number, counted from 1, if there is one
@@ -38,15 +44,28 @@ IsDrawingOf route (BadInstance fault) drawing = drawing ≡ Refused (answer_of (
 IsDrawingOf route (BadSolution fault) drawing = drawing ≡ Refused (answer_of (BadSolution fault))
 IsDrawingOf route (Judged problem plan verdict) drawing = IsPictureOf route problem plan.routes verdict drawing
 
+-- the picture of a partial plan or of one route, and which requests the plan leaves out
+abbrev pub IsPartDrawn : Option ℕ → PartialPlan → Drawing → Type 0
+IsPartDrawn route partial (Partial svg left_out) =
+    IsPictureOf route partial.problem partial.plan.routes (Pass partial.cost) (Picture svg) × (left_out.items ≡ unplanned_names partial.problem partial.plan.routes)
+IsPartDrawn route partial NoSuchRoute = IsPictureOf route partial.problem partial.plan.routes (Pass partial.cost) NoSuchRoute
+IsPartDrawn route partial _ = ⊥
+
+abbrev pub IsPlanDrawing : Option ℕ → PlanExamined → Drawing → Type 0
+IsPlanDrawing route (plan.Whole examined) drawing = IsDrawingOf route examined drawing
+IsPlanDrawing route (plan.Partial partial) drawing = IsPartDrawn route partial drawing
+
 -- what comes of drawing two texts, or one route
 pub record IsDrawing (kind : Kind) (route : Option ℕ) (instance solution : List ℕ) (drawing : Drawing) : Type 0 where
-  pub examined : Examined
-  pub is_examined : IsExamined kind instance solution examined
-  pub drawn : IsDrawingOf route examined drawing
+  pub examined : PlanExamined
+  pub is_examined : IsPlanExamined kind instance solution examined
+  pub drawn : IsPlanDrawing route examined drawing
 
--- the picture is written to the output, or why there is none to the errors, and nothing to the other
+-- The picture is written to the output, or why there is none to the errors, and nothing to the other; but what a partial plan leaves out is written to
+-- the errors beside its picture.
 abbrev pub TellsDrawing : Drawing → Option (List ℕ) → Option (List ℕ) → Option (List ℕ) → Option (List ℕ) → ℕ → Type 0
 TellsDrawing (Picture svg) output after errors later status = (status ≡ 0) × Appends output after svg.items × Appends errors later []
+TellsDrawing (Partial svg left_out) output after errors later status = (status ≡ 0) × Appends output after svg.items × Appends errors later (left_out_text left_out.items)
 TellsDrawing NoSuchRoute output after errors later status = (status ≡ 2) × Appends errors later (line (codes "no NoSuchRoute")) × Appends output after []
 TellsDrawing (Refused answer) output after errors later status = (status ≡ answer.status) × Appends errors later (line answer.line) × Appends output after []
 

@@ -1,5 +1,6 @@
 -- what public contracts reach
 pub mod Adopting
+pub mod Checked
 pub mod Drawn
 pub mod Formatting
 pub mod Loading

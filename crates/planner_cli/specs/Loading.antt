@@ -1,7 +1,7 @@
 -- What the word `load` does: it reads an instance, and begins the store in a file with it, which it makes where there is none. `told` is the status
--- that goes with what was printed, if it could be; whatever came of that, the rest is so.
+-- that goes with what was printed, if it could be; whatever came of that, the rest is so. Of a store that was asked for no more than a first part of
+-- what is told was put then.
 use Rattle.std.specs.Prelude.{◌≡◌, ◌⊎◌, ℕ, Bool, true, false, List, ◌∷◌, codes, Option, Result, Ok, Err, IfOk, MatchResult, OnOk}
-use Rattle.std.specs.Io.KnownBytes.{Appends}
 use Rattle.std.specs.declared.io.ErrorKind.{ErrorKind}
 use Rattle.plan_types.specs.Instance.{Instance}
 use Rattle.instance_read.specs.Faults.{TellsFirstFault}
@@ -15,8 +15,8 @@ use Rattle.command_line.specs.Asked.{LoadAsked}
 use Rattle.command_text.specs.Answers.{line}
 use Rattle.instance_read.specs.Readings.{InstanceFault, SpellsInstance}
 use Rattle.auditor_cli.specs.Reads.{FileRead}
-use Rattle.planner_cli.specs.Opened.{IsNewOpening, IsStoreOpening, TellsUnopened, wants_file}
-use Rattle.planner_cli.specs.Telling.{TellsAnswered, TellsInstanceFault}
+use Rattle.planner_cli.specs.Opened.{IsNewOpening, IsStoreOpening, unopened_line, unopened_status, wants_file}
+use Rattle.planner_cli.specs.Telling.{TellsInstanceFault, TellsText, answered_line, answered_status}
 use Rattle.planner_cli.specs.declared.opened.Unopened.{Unopened}
 use Rattle.auditor_cli.specs.Telling.{TellsUnread}
 use Rattle.recover.specs.Applying.{IsApplied}
@@ -34,8 +34,8 @@ holds_instance Empty = false
 holds_instance (Loaded job) = true
 
 -- the store holds an instance already
-abbrev pub TellsHeld : Option (List ℕ) → Option (List ℕ) → ℕ → Type 0
-TellsHeld before after status = (status ≡ 2) × Appends before after (line (codes "store Loaded"))
+abbrev pub TellsHeld : {X : Type 0} → Option (List ℕ) → Option (List ℕ) → Result ℕ X → Type 0
+TellsHeld before after told = TellsText (line (codes "store Loaded")) 2 before after told
 
 -- `left` is the device as it is left.
 module _ {D X : Type 0} (on : sectors.Ghosts D) where
@@ -43,7 +43,7 @@ module _ {D X : Type 0} (on : sectors.Ghosts D) where
   pub record IsHeld (session : SessionValue D) (before after : Option (List ℕ)) (left : D) (told : Result ℕ X) : Type 0 where
     pub held : holds_instance session.state ≡ true
     pub same : left ≡ session.device
-    pub tells : IfOk told (TellsHeld before after)
+    pub tells : TellsHeld before after told
 
   -- The session is empty, and answered the command. After Ok each image that a stop may leave stands for the state that the command makes of
   -- the empty one.
@@ -54,7 +54,7 @@ module _ {D X : Type 0} (on : sectors.Ghosts D) where
     pub applied : IsApplied on.len on.calls on.faults on.honest on.clock on.possible_since on.possible old command reply new
     pub device : left ≡ new.device
     pub stands : OnOk reply.answer (on.honest left → (image : List ℕ) → on.possible left image → StandsFor Two image (effect Empty command))
-    pub tells : IfOk told (TellsAnswered reply.answer before after)
+    pub tells : TellsText (answered_line reply.answer) (answered_status reply.answer) before after told
 
   abbrev pub BeginsSession : SessionValue D → Command → Option (List ℕ) → Option (List ℕ) → D → Result ℕ X → Type 0
   BeginsSession session command before after left told = IsHeld session before after left told ⊎ IsBegun session command before after left told
@@ -62,7 +62,7 @@ module _ {D X : Type 0} (on : sectors.Ghosts D) where
   -- what was opened is begun, or it is told why it was not opened
   abbrev pub BeginsOpening : Result (Opened D) (Unopened D) → List ℕ → Command → Option (List ℕ) → Option (List ℕ) → Result ℕ X → Type 0
   BeginsOpening opening path command before after told =
-      MatchResult opening (λ opened. (left : D) × BeginsSession opened.session command before after left told) (λ unopened. IfOk told (TellsUnopened path unopened before after))
+      MatchResult opening (λ opened. (left : D) × BeginsSession opened.session command before after left told) (λ unopened. TellsText (unopened_line path unopened) (unopened_status unopened) before after told)
 
 -- what was asked of the files of stores, before and behind
 pub record DisksAsked : Type 0 where

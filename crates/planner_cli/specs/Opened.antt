@@ -1,6 +1,7 @@
 -- What comes of the opening of a store: on a device, in a file, and in a file that is made for it.
 use Rattle.std.specs.Prelude.{◌≡◌, ◌⊎◌, ℕ, ◌==◌, Bool, true, false, List, Option, Some, Result, Ok, Err, MatchResult}
 use Rattle.std.specs.Option.{option_map}
+use Rattle.std.specs.Io.KnownBytes.{Appends}
 use Rattle.std.specs.IoError.{error_kind}
 use Rattle.std.specs.declared.io.ErrorKind.{ErrorKind}
 use Rattle.std.specs.declared.io.ErrorKind.TheVariants.{NotFound}
@@ -9,9 +10,9 @@ use Rattle.checkpoint.specs.declared.faults.FormatFault.{FormatFault}
 use Rattle.checkpoint.specs.declared.faults.StoreFault.{StoreFault}
 use Rattle.checkpoint.specs.declared.faults.StoreFault.TheVariants.{NotFormatted}
 use Rattle.checkpoint.specs.declared.places.Place.{Place}
-use Rattle.planner_cli.specs.Formatting.{IsFormatted, TellsFormatted}
-use Rattle.planner_cli.specs.Running.{IsOpened, IsRefused, TellsFault}
-use Rattle.planner_cli.specs.Telling.{TellsFile}
+use Rattle.planner_cli.specs.Formatting.{IsFormatted}
+use Rattle.planner_cli.specs.Running.{IsOpened, IsRefused}
+use Rattle.planner_cli.specs.Telling.{format_line, format_status, open_line, open_status, store_line, store_status}
 use Rattle.planner_cli.specs.declared.opened.Unopened.{Unopened}
 use Rattle.planner_cli.specs.declared.opened.Unopened.TheVariants.{File, Store, Unformatted}
 use Rattle.recover.specs.declared.opening.Opened.{Opened}
@@ -20,10 +21,18 @@ use Rattle.sector_disk.specs.declared.file_device.FileRefusal.{FileRefusal}
 use Rattle.sector_disk.specs.declared.sectors.Sectors as sectors
 
 -- what is told of a store that was not opened, and its status: of a file that is no device, of what opening said, of what a format said
+abbrev pub unopened_line : {D : Type 0} → List ℕ → Unopened D → List ℕ
+unopened_line path (File refusal) = open_line path refusal.fault
+unopened_line path (Store fault left) = store_line fault
+unopened_line path (Unformatted fault left) = format_line (Some fault)
+
+abbrev pub unopened_status : {D : Type 0} → Unopened D → ℕ
+unopened_status (File refusal) = open_status refusal.fault
+unopened_status (Store fault left) = store_status fault
+unopened_status (Unformatted fault left) = format_status (Some fault)
+
 abbrev pub TellsUnopened : {D : Type 0} → List ℕ → Unopened D → Option (List ℕ) → Option (List ℕ) → ℕ → Type 0
-TellsUnopened path (File refusal) before after status = TellsFile path refusal.fault before after status
-TellsUnopened path (Store fault left) before after status = TellsFault fault before after status
-TellsUnopened path (Unformatted fault left) before after status = TellsFormatted (Some fault) before after status
+TellsUnopened path unopened before after status = (status ≡ unopened_status unopened) × Appends before after (unopened_line path unopened)
 
 -- what the system says of a path where there is no file
 abbrev pub is_not_found : Option ErrorKind → Bool

@@ -3,12 +3,13 @@
 use Rattle.std.specs.Prelude.{◌≡◌, ◌⊎◌, ℕ, Bool, false, List, ◌∷◌, Option, Result, IfOk, MatchResult}
 use Rattle.std.specs.declared.io.Error.{Error}
 use Rattle.clap.specs.Words.{Text}
-use Rattle.command_line.specs.Asked.{Asked, IsUsageStatus, adopt, asks_help, audit, audits, built_in, draw, draw_store, explain, format, load, run, solve, solves, store_instance, store_timetable, timetable, upgrade}
+use Rattle.command_line.specs.Asked.{Asked, IsUsageStatus, adopt, asks_help, audit, audits, built_in, check, draw, draw_store, explain, format, load, run, solve, solves, store_instance, store_timetable, timetable, upgrade}
 use Rattle.plan_types.specs.declared.requests.Kind.TheVariants.{LiLim}
 use Rattle.command_serving.specs.Held.{held, reads_of}
 use Rattle.command_serving.specs.Streams.{Given, Stream}
 use Rattle.auditor_cli.specs.Behind.{TellsBehind}
 use Rattle.planner_cli.specs.Adopting.{TellsAdopt}
+use Rattle.planner_cli.specs.Checked.{ChecksStore}
 use Rattle.planner_cli.specs.Drawn.{DrawsStore, TellsDrawn}
 use Rattle.auditor_cli.specs.Explained.{TellsExplained}
 use Rattle.auditor_cli.specs.Files.{AreReadInTurn, TellsFiles}
@@ -84,6 +85,7 @@ AreReadFor (load asked) was now = IsRead asked.instance was now
 AreReadFor (run store is_strict) was now = now ≡ was
 AreReadFor (adopt store solution) was now = IsRead solution was now
 AreReadFor (store_instance store) was now = now ≡ was
+AreReadFor (check store) was now = now ≡ was
 AreReadFor (upgrade old new) was now = now ≡ was
 AreReadFor (timetable paths is_tabbed) was now = AreReadInTurn paths.instance paths.solution was now
 AreReadFor (store_timetable store is_tabbed) was now = now ≡ was
@@ -102,6 +104,7 @@ AreAskedFor (load asked) was now = Unit {0}
 AreAskedFor (run store is_strict) was now = now ≡ (Take, store) ∷ was
 AreAskedFor (adopt store solution) was now = Unit {0}
 AreAskedFor (store_instance store) was now = now ≡ (Share, store) ∷ was
+AreAskedFor (check store) was now = now ≡ (Share, store) ∷ was
 AreAskedFor (upgrade old new) was now = Unit {0}
 AreAskedFor (store_timetable store is_tabbed) was now = now ≡ (Share, store) ∷ was
 AreAskedFor _ was now = now ≡ was
@@ -124,6 +127,8 @@ AreErrorsKept (load asked) old new = Unit {0}
 AreErrorsKept (run store is_strict) old new = Unit {0}
 AreErrorsKept (adopt store solution) old new = Unit {0}
 AreErrorsKept (store_instance store) old new = Unit {0}
+AreErrorsKept (timetable paths is_tabbed) old new = Unit {0}
+AreErrorsKept (check store) old new = Unit {0}
 AreErrorsKept (store_timetable store is_tabbed) old new = Unit {0}
 AreErrorsKept _ old new = new.errors ≡ old.errors
 
@@ -157,9 +162,10 @@ module _ {D N : Type 0} (on_old : sectors.Ghosts D) (on_new : sectors.Ghosts N) 
   Does (run store is_strict) old new told = IfOk told (RunsStore on_old IsOld store is_strict (given_in old new) old.output new.output new.input_failed new.output_failed)
   Does (adopt store solution) old new told = TellsAdopt on_old IsOld (disks_in old new) store solution old.files new.files old.output.contents new.output.contents told
   Does (store_instance store) old new told = IfOk told (WritesStore on_old IsShared store old.output.contents new.output.contents)
+  Does (check store) old new told = IfOk told (ChecksStore on_old IsShared store old.output.contents new.output.contents)
   Does (upgrade path new_path) old new told = UpgradesStore on_old on_new IsOld IsNew path new_path (disks_in old new) old.output.contents new.output.contents told
   Does (timetable paths is_tabbed) old new told =
-      IfOk told (TellsTimetable paths.kind (form_of is_tabbed) paths.instance paths.solution old.files new.files old.output.contents new.output.contents)
+      IfOk told (TellsTimetable paths.kind (form_of is_tabbed) paths.instance paths.solution old.files new.files old.output.contents new.output.contents old.errors new.errors)
   Does (store_timetable store is_tabbed) old new told = IfOk told (TimetablesStore on_old IsShared store (form_of is_tabbed) old.output.contents new.output.contents)
 
   -- The words were read. Where an answer could not be printed, the status is 3; what `format`, `load`, `adopt` and `upgrade` did is said all the same.

@@ -1,5 +1,5 @@
 -- What is told of a solving.
-use Rattle.std.specs.Prelude.{◌≡◌, ℕ, ◌⊎◌, List, [], ◌∷◌, ◌++◌, length, take, codes, decimal, Option, Result, Ok, Err, MatchResult}
+use Rattle.std.specs.Prelude.{◌≡◌, ℕ, ◌==◌, if◌then◌else◌, ◌⊎◌, List, [], ◌∷◌, ◌++◌, length, take, codes, decimal, Option, Result, Ok, Err, MatchResult}
 use Rattle.std.specs.Io.KnownBytes.{Appends}
 use Rattle.std.specs.List.{flat_map}
 use Rattle.std.specs.declared.io.ErrorKind.{ErrorKind}
@@ -34,6 +34,10 @@ IsToldFault f before after status = (status ≡ fault_status f) × Appends befor
 -- `unplanned N: R1 R2 ..`
 abbrev pub unplanned_line : List ℕ → List ℕ
 unplanned_line names = line (codes "unplanned " ++ decimal (length names) ++ codes ":" ++ customers_text names)
+
+-- that of the requests that are left out, if any are
+abbrev pub left_out_text : List ℕ → List ℕ
+left_out_text names = if length names == 0 then [] else unplanned_line names
 
 -- of each of these requests why it is in no route of the job's plan, as `why` tells it
 abbrev pub reasons_text : JobValue → List ℕ → List ℕ

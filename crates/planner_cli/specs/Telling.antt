@@ -1,5 +1,5 @@
 -- What the program prints, line by line, and the status that goes with it.
-use Rattle.std.specs.Prelude.{◌≡◌, ℕ, List, ◌++◌, codes, Option, Some, None, Result, Ok, Err, Bool, true, false, if◌then◌else◌}
+use Rattle.std.specs.Prelude.{◌≡◌, ℕ, List, ◌++◌, codes, Option, Some, None, Result, Ok, Err, IfErr, IfOk, Bool, true, false, if◌then◌else◌}
 use Rattle.std.specs.Io.KnownBytes.{Appends}
 use Rattle.checkpoint.specs.Names.{format_fault_name, store_fault_name}
 use Rattle.checkpoint.specs.declared.faults.FormatFault.{FormatFault}
@@ -17,6 +17,19 @@ use Rattle.sector_disk.specs.declared.file_device.FileFault.{FileFault}
 use Rattle.sector_disk.specs.declared.file_device.FileFault.TheVariants as file
 use Rattle.command_text.specs.Answers.{line}
 use Rattle.auditor_cli.specs.AnswerText.{fault_text}
+
+-- no more than a first part of the text was put
+pub record IsFirstPart (text : List ℕ) (before after : Option (List ℕ)) : Type 0 where
+  pub part : List ℕ
+  pub rest : List ℕ
+  pub whole : part ++ rest ≡ text
+  pub put : Appends before after part
+
+-- What is told of what was done, and the status that goes with it; where a write failed, no more than a first part of it. So whatever could be printed,
+-- no byte was put that tells anything else, as one put before it was done would.
+abbrev pub TellsText : {E : Type 0} → List ℕ → ℕ → Option (List ℕ) → Option (List ℕ) → Result ℕ E → Type 0
+TellsText text status before after told =
+    IfOk told (λ given. (given ≡ status) × Appends before after text) × IfErr told (λ error. IsFirstPart text before after)
 
 -- a store's file that can't be opened or made
 abbrev pub open_line : List ℕ → FileFault → List ℕ
@@ -40,9 +53,6 @@ new_line path file.NoFile = line (codes "cannot read " ++ path)
 new_line path file.BadLength = line (codes "new BadLength")
 new_line path file.OutOfMemory = line (codes "new OutOfMemory")
 new_line path file.InUse = line (codes "new InUse")
-
-abbrev pub TellsNewFile : List ℕ → FileFault → Option (List ℕ) → Option (List ℕ) → ℕ → Type 0
-TellsNewFile path fault before after status = (status ≡ open_status fault) × Appends before after (new_line path fault)
 
 -- what came of a format
 abbrev pub format_line : Option FormatFault → List ℕ
@@ -77,9 +87,13 @@ denial_status denial.DeviceFault = 3
 denial_status denial.OutOfMemory = 4
 denial_status _ = 2
 
-abbrev pub TellsAnswered : {T : Type 0} → Result T Denial → Option (List ℕ) → Option (List ℕ) → ℕ → Type 0
-TellsAnswered (Ok done) before after status = (status ≡ 0) × Appends before after (line (codes "ok"))
-TellsAnswered (Err denial) before after status = (status ≡ denial_status denial) × Appends before after (denial_line denial)
+abbrev pub answered_line : {T : Type 0} → Result T Denial → List ℕ
+answered_line (Ok done) = line (codes "ok")
+answered_line (Err denial) = denial_line denial
+
+abbrev pub answered_status : {T : Type 0} → Result T Denial → ℕ
+answered_status (Ok done) = 0
+answered_status (Err denial) = denial_status denial
 
 -- the first fault of an instance's text, or want of memory for it
 abbrev pub wants_memory : ReadFaultKind → Bool
@@ -102,6 +116,3 @@ unmade_line fault = line (codes "new " ++ format_fault_name fault)
 abbrev pub made_line : Option FormatFault → List ℕ
 made_line None = line (codes "ok")
 made_line (Some fault) = unmade_line fault
-
-abbrev pub TellsMade : Option FormatFault → Option (List ℕ) → Option (List ℕ) → ℕ → Type 0
-TellsMade fault before after status = (status ≡ format_status fault) × Appends before after (made_line fault)

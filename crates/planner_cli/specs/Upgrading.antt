@@ -1,15 +1,12 @@
 -- What the word `upgrade` does: it reads a store of version 1 whole, and then makes a store in another file of the state that it stands for. `told` is
--- the status that goes with what was printed, if it could be; whatever came of that, the rest is so.
-use Rattle.std.specs.Prelude.{◌≡◌, ◌≢◌, ◌⊎◌, ℕ, Bool, true, false, List, ◌∷◌, Option, Result, IfOk, MatchResult, codes}
-use Rattle.std.specs.Io.KnownBytes.{Appends}
-use Rattle.checkpoint.specs.declared.faults.FormatFault.{FormatFault}
+-- the status that goes with what was printed. Where it could not be printed, no more than a first part of it was put, and the rest is so all the same.
+use Rattle.std.specs.Prelude.{◌≡◌, ◌≢◌, ◌⊎◌, ℕ, Bool, true, false, List, ◌∷◌, Option, Result, MatchResult, codes}
 use Rattle.checkpoint.specs.declared.faults.StoreFault.{StoreFault}
 use Rattle.command_core.specs.declared.states.State.{State}
 use Rattle.command_text.specs.Answers.{line}
 use Rattle.planner_cli.specs.Formatting.{MakesStoreAt}
 use Rattle.planner_cli.specs.Loading.{DisksAsked}
-use Rattle.planner_cli.specs.Running.{TellsFault}
-use Rattle.planner_cli.specs.Telling.{TellsFile, TellsMade, TellsNewFile}
+use Rattle.planner_cli.specs.Telling.{TellsText, format_status, made_line, new_line, open_line, open_status, store_line, store_status}
 use Rattle.recover.specs.Upgrading.{ReadsOldStore}
 use Rattle.sector_disk.specs.Disks.{AreCompared, DiskEntry, IsNotTakenAt}
 use Rattle.sector_disk.specs.declared.disks.DiskCall.TheVariants.{Make, Take}
@@ -17,38 +14,38 @@ use Rattle.sector_disk.specs.declared.file_device.FileRefusal.{FileRefusal}
 use Rattle.sector_disk.specs.declared.sectors.Sectors as sectors
 
 -- both words name one file
-abbrev pub TellsSame : Option (List ℕ) → Option (List ℕ) → ℕ → Type 0
-TellsSame before after status = (status ≡ 64) × Appends before after (line (codes "same store"))
+abbrev pub TellsSame : {X : Type 0} → Option (List ℕ) → Option (List ℕ) → Result ℕ X → Type 0
+TellsSame before after told = TellsText (line (codes "same store")) 64 before after told
 
 module _ {D E X : Type 0} (on_old : sectors.Ghosts D) (on_new : sectors.Ghosts E) (IsOld : List ℕ → D → Type 0) (IsNew : List ℕ → E → Type 0) where
   -- A store of this state is made in the file at the path. `IsNew` is what is known of the device over that file.
   abbrev pub MakesUpgraded : State → List ℕ → DisksAsked → Option (List ℕ) → Option (List ℕ) → Result ℕ X → Type 0
   MakesUpgraded state path disks before after told =
       (disks.now ≡ (Make, path) ∷ disks.was)
-      × MakesStoreAt on_new IsNew state path (λ fault. IfOk told (TellsMade fault before after)) (λ fault. IfOk told (TellsNewFile path fault before after))
+      × MakesStoreAt on_new IsNew state path (λ fault. TellsText (made_line fault) (format_status fault) before after told) (λ fault. TellsText (new_line path fault) (open_status fault) before after told)
 
   -- The store on the device is read whole. Where it stands for no state no file is asked for, else one of its state is made.
   abbrev pub UpgradesOnto : D → List ℕ → DisksAsked → Option (List ℕ) → Option (List ℕ) → Result ℕ X → Type 0
   UpgradesOnto old path disks before after told =
       (left : D) × (read : Result State StoreFault) × ReadsOldStore on_old read old left
-      × MatchResult read (λ state. MakesUpgraded state path disks before after told) (λ fault. (disks.now ≡ disks.was) × IfOk told (TellsFault fault before after))
+      × MatchResult read (λ state. MakesUpgraded state path disks before after told) (λ fault. (disks.now ≡ disks.was) × TellsText (store_line fault) (store_status fault) before after told)
 
   -- The old file is opened where it stands, or it is told why not. `taken` is what was asked by then.
   abbrev pub UpgradesTaken : List ℕ → List ℕ → List DiskEntry → DisksAsked → Option (List ℕ) → Option (List ℕ) → Result ℕ X → Type 0
   UpgradesTaken path new_path taken disks before after told =
       (taken ≡ (Take, path) ∷ disks.was)
       × (((old : D) × IsOld path old × UpgradesOnto old new_path (record { was = taken; now = disks.now }) before after told)
-      ⊎ ((refusal : FileRefusal) × IsNotTakenAt path refusal × (disks.now ≡ taken) × IfOk told (TellsFile path refusal.fault before after)))
+      ⊎ ((refusal : FileRefusal) × IsNotTakenAt path refusal × (disks.now ≡ taken) × TellsText (open_line path refusal.fault) (open_status refusal.fault) before after told))
 
   -- The words differ, so it is asked whether they lead to one file.
   abbrev pub UpgradesOther : List ℕ → List ℕ → List DiskEntry → Bool → DisksAsked → Option (List ℕ) → Option (List ℕ) → Result ℕ X → Type 0
   UpgradesOther path new_path compared is_one disks before after told =
       AreCompared path new_path is_one disks.was compared
-      × (((is_one ≡ true) × (disks.now ≡ compared) × IfOk told (TellsSame before after))
+      × (((is_one ≡ true) × (disks.now ≡ compared) × TellsSame before after told)
       ⊎ ((is_one ≡ false) × ((taken : List DiskEntry) × UpgradesTaken path new_path taken (record { was = compared; now = disks.now }) before after told)))
 
   -- Both words name one file, as they do where they are the same; or the store in the old file is upgraded into the new one.
   abbrev pub UpgradesStore : List ℕ → List ℕ → DisksAsked → Option (List ℕ) → Option (List ℕ) → Result ℕ X → Type 0
   UpgradesStore path new_path disks before after told =
-      ((path ≡ new_path) × (disks.now ≡ disks.was) × IfOk told (TellsSame before after))
+      ((path ≡ new_path) × (disks.now ≡ disks.was) × TellsSame before after told)
       ⊎ ((path ≢ new_path) × ((compared : List DiskEntry) × (is_one : Bool) × UpgradesOther path new_path compared is_one disks before after told))

@@ -2,16 +2,18 @@
 //!
 //! The solution is read first, so that a store is not held while a pipe is waited for.
 ghost use Rattle.std.specs.Prelude.{◌≡◌, ◌≤◌, ◌∷◌, IfOk};
-ghost use Rattle.std.specs.Io.KnownBytes.{Appends};
 ghost use Rattle.sector_disk.specs.Disks.{IsTakenAt};
-ghost use Rattle.planner_cli.specs.Adopting.{AdoptsOver, AdoptsStore, FindsPlan, TellsAdopt, TellsAdopted, adopt_status, refused_status, unadopted_status, unadopted_text, unseated_status, unseated_text};
+ghost use Rattle.planner_cli.specs.Adopting.{AdoptsOver, AdoptsStore, FindsPlan, TellsAdopt, adopt_status, adopted_status, refused_status, unadopted_status, unadopted_text, unseated_status};
+ghost use Rattle.planner_cli.specs.Telling.{TellsText, answered_line};
+ghost use Rattle.command_text.specs.Answers.{line, unseated_text};
 ghost use Rattle.auditor_cli.specs.Reads.{IsRead};
 
 use crate::opened::{close_store, open_store, tell_unopened};
-use crate::telling::{denial_status, tell_denial};
+use crate::telling::{denial_status, tell_denial, tell_text};
 use auditor_cli::status::{BROKEN, DONE, OUT_OF_MEMORY, REFUSED};
-use auditor_cli::{ReadFiles, tell_unread, write_line};
+use auditor_cli::{ReadFiles, tell_unread};
 use command_core::{Command, Refusal, State};
+use command_text::Answer;
 use plan_seats::{Unseated, seated_plan};
 use plan_types::Plan;
 use recover::{Denial, Opened, Session};
@@ -134,66 +136,42 @@ fn tell_unkept_pin<R: Eprint>(rt: &R, unadopted: Unadopted) {
 
 // Tells why a solution was not offered to the store.
 fn tell_unadopted<W: Write>(output: &mut W, unadopted: Unadopted) -> io::Result<u8>
-    ensures { IfOk result (λ status. (status ≡ unadopted_status unadopted)
-        × Appends (W.contents output.old) (W.contents output.new) (unadopted_text unadopted)) }
+    ensures { TellsText (unadopted_text unadopted) (unadopted_status unadopted)
+        (W.contents output.old) (W.contents output.new) result }
 {
     match unadopted {
-        Unadopted::NoInstance => {
-            write_line(output, b"no NoInstance")?;
-            Ok(REFUSED)
-        }
+        Unadopted::NoInstance => tell_text(output, b"no NoInstance", REFUSED),
         Unadopted::Unseated(unseated) => tell_unseated(output, unseated),
     }
 }
 
+// Tells it as a store's line `adopt` is answered.
 fn tell_unseated<W: Write>(output: &mut W, unseated: Unseated) -> io::Result<u8>
-    ensures { IfOk result (λ status. (status ≡ unseated_status unseated)
-        × Appends (W.contents output.old) (W.contents output.new) (unseated_text unseated)) }
+    ensures { TellsText (line (unseated_text unseated)) (unseated_status unseated)
+        (W.contents output.old) (W.contents output.new) result }
+{
+    let told = Answer::Unseated(unseated).line();
+    tell_text(output, told.as_bytes(), unseated_status(unseated))
+}
+
+fn unseated_status(unseated: Unseated) -> u8
+    ensures { result ≡ unseated_status unseated }
 {
     match unseated {
-        Unseated::Sol(fault) => {
-            let name = fault.name();
-            let line = fault.line;
-            writeln!(output, "no {name} {line}")?;
-            Ok(REFUSED)
-        }
-        Unseated::Broken {
-            rule,
-            route,
-            place,
-            stop,
-        } => {
-            writeln!(
-                output,
-                "broken {rule} route {route} place {place} stop {stop}"
-            )?;
-            write_line(output, b"no NotAPlan")?;
-            Ok(BROKEN)
-        }
-        Unseated::Pinned(_) => {
-            write_line(output, b"no Pinned")?;
-            Ok(BROKEN)
-        }
-        Unseated::OutOfMemory => {
-            write_line(output, b"no OutOfMemory")?;
-            Ok(OUT_OF_MEMORY)
-        }
+        Unseated::Sol(_) => REFUSED,
+        Unseated::Broken { .. } | Unseated::Pinned(_) => BROKEN,
+        Unseated::OutOfMemory => OUT_OF_MEMORY,
     }
 }
 
 // Tells what the store answered.
 fn tell_adopted<W: Write>(output: &mut W, answer: Result<(), Denial>) -> io::Result<u8>
-    ensures { IfOk result (TellsAdopted answer (W.contents output.old) (W.contents output.new)) }
+    ensures { TellsText (answered_line answer) (adopted_status answer)
+        (W.contents output.old) (W.contents output.new) result }
 {
     match answer {
-        Ok(()) => {
-            write_line(output, b"ok")?;
-            Ok(DONE)
-        }
-        Err(denial) => {
-            tell_denial(output, denial)?;
-            Ok(adopt_status(denial))
-        }
+        Ok(()) => tell_text(output, b"ok", DONE),
+        Err(denial) => tell_denial(output, denial, adopt_status(denial)),
     }
 }
 

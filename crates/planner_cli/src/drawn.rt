@@ -1,17 +1,18 @@
 //! The picture of a solution in a file, or of the plan in a store, which is opened as for its timetable.
 ghost use Rattle.std.specs.Prelude.{◌≡◌, ◌≤◌, ◌∷◌, IfOk, None, Some, length};
 ghost use Rattle.sector_disk.specs.Disks.{IsSharedAt};
-ghost use Rattle.planner_cli.specs.Drawn.{DrawsState, DrawsStore, IsDrawing, IsDrawingOf, IsPictureOf, IsPlanDrawn, TellsDrawing, TellsDrawn, TellsResult, busy_after, busy_front};
+ghost use Rattle.planner_cli.specs.Drawn.{DrawsState, DrawsStore, IsDrawing, IsDrawingOf, IsPartDrawn, IsPictureOf, IsPlanDrawn, TellsDrawing, TellsDrawn, TellsResult, busy_after, busy_front};
 ghost use Rattle.auditor_cli.specs.Files.{AreReadInTurn};
 
 use crate::looked::{leave_store, look_into_store};
 use crate::opened::tell_unopened;
+use crate::solved::tell_left_out;
 use auditor_cli::status::{DONE, REFUSED};
 use auditor_cli::{
-    AuditAnswer, Examined, ReadFiles, answer_of, examine, read_both, tell_unread,
-    tell_want_of_memory, write_line,
+    AuditAnswer, Examined, PartialPlan, PlanExamined, ReadFiles, answer_of, examine_plan,
+    read_both, tell_unread, tell_want_of_memory, write_line,
 };
-use command_core::{Job, State};
+use command_core::{Job, State, unplanned_names};
 use command_line::Paths;
 use plan_audit::{Verdict, passes_are_local, plans_are_local};
 use plan_picture::{draw, draw_route};
@@ -27,6 +28,8 @@ use std::io::Write;
 pub(crate) enum Drawing {
     /// The picture, as SVG.
     Picture(Vec<u8>),
+    /// The picture of a partial plan, and the names of the requests that it leaves out.
+    Partial(Vec<u8>, Vec<u32>),
     /// No route has the number that was asked for.
     NoSuchRoute,
     /// The audit's answer for a text that is refused.
@@ -90,6 +93,11 @@ fn tell_drawing<W: Write, E: Write>(
             output.write_all(svg)?;
             Ok(DONE)
         }
+        Drawing::Partial(svg, left_out) => {
+            output.write_all(svg)?;
+            tell_left_out(errors, left_out)?;
+            Ok(DONE)
+        }
         Drawing::NoSuchRoute => {
             write_line(errors, b"no NoSuchRoute")?;
             Ok(REFUSED)
@@ -101,7 +109,7 @@ fn tell_drawing<W: Write, E: Write>(
     }
 }
 
-// Reads both texts, audits the solution, and draws it or its route.
+// Reads both texts, audits the solution or the partial plan, and draws it or its route.
 fn draw_texts(
     alloc: Global,
     kind: Kind,
@@ -111,8 +119,27 @@ fn draw_texts(
 ) -> Result<Drawing, OutOfMemory>
     ensures { IfOk result (IsDrawing kind route instance.now solution.now) }
 {
-    let examined = examine(alloc, kind, instance, solution)?;
-    drawing_of(alloc, route, &examined)
+    match examine_plan(alloc, kind, instance, solution)? {
+        PlanExamined::Whole(examined) => drawing_of(alloc, route, &examined),
+        PlanExamined::Partial(partial) => part_drawn(alloc, route, &partial),
+    }
+}
+
+// The picture of a partial plan, or of its one route with this number.
+fn part_drawn(
+    alloc: Global,
+    route: Option<u32>,
+    partial: &PartialPlan,
+) -> Result<Drawing, OutOfMemory>
+    ensures { IfOk result (IsPartDrawn route partial.now) }
+{
+    let routes = partial.plan.routes.as_slice();
+    let verdict = Verdict::Pass(partial.cost);
+    let left_out = unplanned_names(alloc, &partial.problem, routes)?;
+    match picture_of(alloc, route, &partial.problem, routes, verdict)? {
+        Drawing::Picture(svg) => Ok(Drawing::Partial(svg, left_out)),
+        drawing => Ok(drawing),
+    }
 }
 
 // The picture of what two texts are.

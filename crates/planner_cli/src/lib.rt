@@ -7,7 +7,7 @@
 //!
 //! How it works: each word of the program has one function over whatever reads and makes files, reader and writer: those of the words of
 //! an audit are `auditor_cli`'s, the others private here (`timetable_read`, `draw_read`, `solve_read`, `solves_read`, `load_read`,
-//! `adopt_read`, `format_store`, `run_store`, `timetable_store`, `draw_store`, `write_store`, `upgrade_store`).
+//! `adopt_read`, `format_store`, `run_store`, `timetable_store`, `draw_store`, `write_store`, `check_store`, `upgrade_store`).
 //! `run_words` hands them the paths, and what opens stores, what reads and makes files and the streams, which `main` makes.
 //!
 //! Modules, in reading order:
@@ -20,10 +20,10 @@
 //! - `stores`: the words `format`, `run` and `upgrade`
 //! - `made`: the opening of a store in a file that is made for it
 //! - `loaded`: the word `load`
-//! - `adopted`, `written`: the words `adopt` and `instance`
+//! - `adopted`, `written`, `checked`: the words `adopt`, `instance` and `check`
 //! - `program`: `run_words`
 //!
-//! Said by `specs/Program.antt`, and word by word by `Adopting.antt`, `Drawn.antt`, `Solving.antt`, `SolvedList.antt`, `Formatting.antt`, `Foretold.antt`,
+//! Said by `specs/Program.antt`, and word by word by `Adopting.antt`, `Checked.antt`, `Drawn.antt`, `Solving.antt`, `SolvedList.antt`, `Formatting.antt`, `Foretold.antt`,
 //! `Loading.antt`, `Running.antt`, `Timetabled.antt`, `Upgrading.antt` and `Written.antt`, which statuses by `Statuses.antt`, the opening of a store in a
 //! file by `Opened.antt`; of the words of an audit by the files of `auditor_cli`. Proved:
 //! - `run_words`, of words without hyphen that ask for something (`EndsWith`): which files were read, and in which order, of a
@@ -36,9 +36,12 @@
 //!   line of a limit that is not asked, if the instance names one
 //! - `solves_read` (`SolvesList`): of each line what was written where, which is what `solve` prints, or why nothing was; the
 //!   audit of what was written, or what it leaves out; the greatest status; on the errors such a line of each instance that is solved
+//! - `look_into_store` (`LooksInto`), by which `draw`, `timetable` and `instance` read a store: the state that it stands for, or why there is
+//!   none; its device is read and not called otherwise, and each failed call is told as such
 //! - `draw_store` (`DrawsStore`): the picture of the plan in the store that opening the device gives, which is left as opening
 //!   leaves it
-//! - `timetable_read` (`TellsTimetable`), `timetable_store` (`TimetablesStore`): the audit's line and the timetable of the solution;
+//! - `timetable_read` (`TellsTimetable`), `timetable_store` (`TimetablesStore`): the audit's line and the timetable of the solution, or
+//!   of a partial plan, which `draw_read` draws too: then the errors tell which requests are left out;
 //!   those of the plan in the store that opening the device gives, which is left as opening leaves it
 //! - `run_store` (`RunsStore`): the device over the file that stands at the path is opened, and what `serve_source` writes over that
 //!   session stands behind `opened N`; 3 where the reader or the writer failed, with `cannot read input` for the
@@ -50,6 +53,8 @@
 //!   stands on standard error, and nothing where none are, unless a write of it failed
 //! - `format_store` (`FormatsStore`): a file of 8,450 sectors, and what `format` of `checkpoint` made of it, whatever could be
 //!   printed; so it is of `load_read` and `upgrade_store`
+//! - of these, of `adopt_read` too, where a store was asked for (`TellsText`): what was put is what is told of it, or where a write failed a
+//!   first part of that. No byte of `ok` is put where a call of the device failed, so none before the last sync of what it tells
 //! - `load_read` (`TellsLoad`): the instance's first fault, before any store is opened; else a store that was found or made is
 //!   opened, left as it is where it holds an instance, and begun with `Load` where it is empty: after `ok` each image that a
 //!   stop may leave stands for the state that `Load` makes of the empty one. A file is made only where there is none, or over one
@@ -59,11 +64,14 @@
 //!   each image that a stop may leave stands for the state with this plan; else the session stays as it is
 //! - `write_store` (`WritesStore`): the text of the instance of the store that opening the device gives, which is left as opening leaves
 //!   it, or that its format can't say it
+//! - `check_store` (`ChecksStore`): whether the image of the store that opening the device gives agrees with itself (`AreDoubtsOf`,
+//!   checkpoint), by reading alone
 //! - `upgrade_store` (`UpgradesStore`): `same store` where the words are the same or lead to one file; the old store is read
 //!   whole, and only where it stands for a state a file is made, of 8,450 sectors, with a store of that state
 #![tactic(auto)]
 
 mod adopted;
+mod checked;
 mod drawn;
 mod laws;
 mod loaded;

@@ -16,9 +16,9 @@ ghost use Rattle.auditor_cli.specs.Reads.{IsRead};
 
 use crate::made::open_new;
 use crate::opened::{Unopened, open_store, tell_unopened};
-use crate::telling::{tell_answer, tell_cause, tell_instance_fault};
+use crate::telling::{tell_answer, tell_cause, tell_instance_fault, tell_text};
 use auditor_cli::status::REFUSED;
-use auditor_cli::{ReadFiles, read_instance, tell_limit, tell_unread, write_line};
+use auditor_cli::{ReadFiles, read_instance, tell_limit, tell_unread};
 use checkpoint::StoreFault;
 use command_core::{Command, State};
 use command_line::Loading;
@@ -216,8 +216,7 @@ fn holds_instance(state: &State) -> bool
 
 // Tells that the store holds an instance already.
 fn tell_held<W: Write>(output: &mut W) -> io::Result<u8>
-    ensures { IfOk result (TellsHeld (W.contents output.old) (W.contents output.new)) }
+    ensures { TellsHeld (W.contents output.old) (W.contents output.new) result }
 {
-    write_line(output, b"store Loaded")?;
-    Ok(REFUSED)
+    tell_text(output, b"store Loaded", REFUSED)
 }

@@ -6,8 +6,9 @@
 ghost use Rattle.std.specs.Prelude.{◌≡◌, ◌≤◌, ◌∷◌, IfErr, IfOk, MatchResult, OnOk};
 ghost use Rattle.sector_disk.specs.Disks.{IsTakenAt};
 ghost use Rattle.planner_cli.specs.Foretold.{IsForetold, IsOfImage};
-ghost use Rattle.planner_cli.specs.Opened.{IsForetoldBefore, IsOpening, IsStoreOpening, TellsUnopened};
+ghost use Rattle.planner_cli.specs.Opened.{IsForetoldBefore, IsOpening, IsStoreOpening, unopened_line, unopened_status};
 ghost use Rattle.planner_cli.specs.Running.{IsOpened, IsRefused};
+ghost use Rattle.planner_cli.specs.Telling.{TellsText};
 
 use crate::telling::{
     tell_cause, tell_cure, tell_format, tell_refusal, tell_repeating, tell_store_fault,
@@ -149,8 +150,8 @@ pub(crate) fn tell_unopened<R: Eprint, T: Start, W: Write>(
     unopened: Unopened<FileDevice<T>>,
 ) -> io::Result<u8>
     ensures status { IfOk result (λ status. status ≤ 4) }
-    ensures told { IfOk result (TellsUnopened store.now unopened
-        (W.contents output.old) (W.contents output.new)) }
+    ensures told { TellsText (unopened_line store.now unopened) (unopened_status unopened)
+        (W.contents output.old) (W.contents output.new) result }
 {
     match unopened {
         Unopened::File(refusal) => tell_refusal(rt, output, store, refusal),

@@ -11,6 +11,7 @@ ghost use Rattle.planner_cli.specs.Running.{RunsStore, ServesStore};
 ghost use Rattle.planner_cli.specs.Statuses.{CanEndWith};
 
 use crate::adopted::adopt_read;
+use crate::checked::check_store;
 use crate::drawn::{draw_read, draw_store};
 use crate::loaded::load_read;
 use crate::solved::solve_read;
@@ -242,6 +243,11 @@ where
             let told = write_store(rt, disks, start, store, output, errors);
             (told, streams)
         }
+        Invocation::Check { store } => {
+            let Streams { output, errors, .. } = &mut streams;
+            let told = check_store(rt, disks, start, store, output, errors);
+            (told, streams)
+        }
         Invocation::Upgrade { old, new } => {
             let told = upgrade_store(
                 rt,
@@ -256,7 +262,8 @@ where
         }
         Invocation::Timetable { paths, is_tabbed } => {
             let form = form_of(is_tabbed);
-            let told = timetable_read(alloc, paths, form, files, &mut streams.output);
+            let Streams { output, errors, .. } = &mut streams;
+            let told = timetable_read(alloc, paths, form, files, output, errors);
             (told, streams)
         }
         Invocation::StoreTimetable { store, is_tabbed } => {

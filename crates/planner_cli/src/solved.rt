@@ -4,7 +4,7 @@ ghost use Rattle.std.specs.Io.KnownBytes.{Appends};
 ghost use Rattle.command_line.specs.Asked.{task_of};
 ghost use Rattle.plan_why.specs.Why.{reason_text};
 ghost use Rattle.plan_why.specs.declared.leads.Lead.TheVariants.{Named};
-ghost use Rattle.planner_cli.specs.Solving.{IsToldFault, TellsPlan, TellsReasons, TellsSolved, TellsTask, unplanned_line};
+ghost use Rattle.planner_cli.specs.Solving.{IsToldFault, TellsPlan, TellsReasons, TellsSolved, TellsTask, left_out_text, unplanned_line};
 ghost use Rattle.auditor_cli.specs.Reads.{IsRead};
 
 use auditor_cli::status::{BROKEN, DONE, REFUSED};
@@ -123,6 +123,17 @@ fn reason_of(alloc: Global, job: &Job, name: u32) -> Result<String, OutOfMemory>
     let pins = job.pins.routes.as_slice();
     let routes = job.plan.routes.as_slice();
     reason(alloc, Lead::Named, &job.problem, pins, routes, name)
+}
+
+/// Tells which requests are left out, if any.
+pub(crate) fn tell_left_out<E: Write>(errors: &mut E, names: &[u32]) -> io::Result<()>
+    ensures { OnOk result (Appends (E.contents errors.old) (E.contents errors.new)
+        (left_out_text names.now)) }
+{
+    if names.is_empty() {
+        return Ok(());
+    }
+    tell_unplanned(errors, names)
 }
 
 /// `unplanned N: R1 R2 ..`

@@ -11,17 +11,16 @@ ghost use Rattle.sector_disk.specs.Disks.{DiskEntry, IsMadeAt, IsTakenAt};
 ghost use Rattle.checkpoint.specs.Layouts.{sectors_in, version_2};
 ghost use Rattle.planner_cli.specs.Formatting.{FormatsStore, IsFormatted, IsMadeWith, MakesStoreAt};
 ghost use Rattle.planner_cli.specs.Statuses.{IsUpgradeStatus};
-ghost use Rattle.planner_cli.specs.Telling.{TellsMade, TellsNewFile};
+ghost use Rattle.planner_cli.specs.Telling.{TellsText, format_status, made_line, new_line, open_status};
 ghost use Rattle.planner_cli.specs.Upgrading.{TellsSame, UpgradesOnto, UpgradesOther, UpgradesStore, UpgradesTaken};
 ghost use Rattle.planner_cli.specs.Running.{IsEnded, RunsSession, RunsStore, ServesOver, ServesStore, TellsEnded, TellsServed, opened_line, stop_unless};
 
 use crate::opened::{close_store, open_store, tell_unopened};
 use crate::progress::Progress;
 use crate::telling::{
-    tell_cause, tell_format, tell_made, tell_new_refusal, tell_refusal, tell_store_fault,
+    tell_cause, tell_format, tell_made, tell_new_refusal, tell_refusal, tell_store_fault, tell_text,
 };
 use auditor_cli::status::{BROKEN, DONE, FILE, USAGE};
-use auditor_cli::write_line;
 use checkpoint::{FormatFault, Place, SECTORS, format, format_with};
 use command_core::State;
 use command_serving::{ServeFault, Stopped, Strict, Watched, serve_source};
@@ -170,10 +169,9 @@ where
 }
 
 fn tell_same<W: Write>(output: &mut W) -> io::Result<u8>
-    ensures { IfOk result (TellsSame (W.contents output.old) (W.contents output.new)) }
+    ensures { TellsSame (W.contents output.old) (W.contents output.new) result }
 {
-    write_line(output, b"same store")?;
-    Ok(USAGE)
+    tell_text(output, b"same store", USAGE)
 }
 
 // Takes the old file, and upgrades the store in it.
@@ -242,9 +240,10 @@ where
     ensures asks { X.asked disks.new ≡ (DiskCall.Make, new.now) ∷ X.asked disks.old }
     ensures makes { MakesStoreAt ⟦<FileDevice<U> as Sectors>⟧
         (IsMadeAt ⟦<HostFile as FileCalls>⟧.entries) state.now new.now
-        (λ fault. IfOk result (TellsMade fault (W.contents output.old) (W.contents output.new)))
-        (λ fault. IfOk result (TellsNewFile new.now fault (W.contents output.old)
-        (W.contents output.new))) }
+        (λ fault. TellsText (made_line fault) (format_status fault)
+        (W.contents output.old) (W.contents output.new) result)
+        (λ fault. TellsText (new_line new.now fault) (open_status fault)
+        (W.contents output.old) (W.contents output.new) result) }
 {
     match disks.make(new, SECTORS, start) {
         Ok(mut made) => {

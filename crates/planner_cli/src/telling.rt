@@ -1,17 +1,50 @@
 //! What the program prints of stores and their files, and the status that goes with it.
-ghost use Rattle.std.specs.Prelude.{◌≡◌, IfOk, OnOk};
+ghost use Rattle.std.specs.Prelude.{◌≡◌, ◌++◌, IfErr, IfOk, OnOk};
 ghost use Rattle.std.specs.Io.KnownBytes.{Appends};
 ghost use Rattle.planner_cli.specs.Foretold.{repeating_line};
-ghost use Rattle.planner_cli.specs.Telling.{TellsAnswered, TellsMade, TellsInstanceFault, denial_line, denial_status, format_line, format_status, is_device_fault, new_line, open_line, open_status, store_line, store_status, unmade_line, wants_memory};
+ghost use Rattle.command_text.specs.Answers.{line};
+ghost use Rattle.planner_cli.specs.Telling.{IsFirstPart, TellsInstanceFault, TellsText, answered_line, answered_status, denial_line, denial_status, format_line, format_status, is_device_fault, made_line, new_line, open_line, open_status, store_line, store_status, wants_memory};
 
 use auditor_cli::status::{DONE, FILE, OUT_OF_MEMORY, REFUSED};
-use auditor_cli::{tell_want_of_memory, write_line};
+use auditor_cli::tell_want_of_memory;
 use checkpoint::{FormatFault, StoreFault};
+use command_serving::write_text;
 use instance_read::{ReadFault, ReadFaultKind};
 use recover::Denial;
 use sector_disk::{FileFault, FileRefusal};
 use std::io;
-use std::io::Write;
+use std::io::{ErrorKind, Write};
+
+// Puts a text. Where a write fails, a first part of it at most was put.
+fn put<W: Write>(output: &mut W, text: &[u8]) -> io::Result<()>
+    ensures whole { OnOk result (Appends (W.contents output.old) (W.contents output.new) text.now) }
+    ensures cut { IfErr result (λ _. IsFirstPart text.now
+        (W.contents output.old) (W.contents output.new)) }
+{
+    match write_text(output, text) {
+        Ok(()) => Ok(()),
+        Err(_) => Err(io::Error::from(ErrorKind::WriteZero)),
+    }
+}
+
+/// Tells a line, and the status that goes with it.
+pub(crate) fn tell_text<W: Write>(output: &mut W, text: &[u8], status: u8) -> io::Result<u8>
+    ensures { TellsText (line text.now) status
+        (W.contents output.old) (W.contents output.new) result }
+{
+    put(output, text)?;
+    put(output, b"\n")?;
+    Ok(status)
+}
+
+// Tells a line that ends with a name.
+fn tell_named<W: Write>(output: &mut W, front: &[u8], name: &str, status: u8) -> io::Result<u8>
+    ensures { TellsText (line (front.now ++ name.now)) status
+        (W.contents output.old) (W.contents output.new) result }
+{
+    put(output, front)?;
+    tell_text(output, name.as_bytes(), status)
+}
 
 /// Tells a store's file that can't be opened or made, and on standard error what the system said of it.
 pub(crate) fn tell_refusal<R: Eprint, W: Write>(
@@ -20,9 +53,8 @@ pub(crate) fn tell_refusal<R: Eprint, W: Write>(
     path: &str,
     refusal: FileRefusal,
 ) -> io::Result<u8>
-    ensures { IfOk result (λ status. (status ≡ open_status refusal.fault)
-        × Appends (W.contents output.old) (W.contents output.new)
-        (open_line path.now refusal.fault)) }
+    ensures { TellsText (open_line path.now refusal.fault) (open_status refusal.fault)
+        (W.contents output.old) (W.contents output.new) result }
 {
     tell_reason(rt, path, refusal.fault, refusal.cause);
     tell_file_fault(output, path, refusal.fault)
@@ -35,9 +67,8 @@ pub(crate) fn tell_new_refusal<R: Eprint, W: Write>(
     path: &str,
     refusal: FileRefusal,
 ) -> io::Result<u8>
-    ensures { IfOk result (λ status. (status ≡ open_status refusal.fault)
-        × Appends (W.contents output.old) (W.contents output.new)
-        (new_line path.now refusal.fault)) }
+    ensures { TellsText (new_line path.now refusal.fault) (open_status refusal.fault)
+        (W.contents output.old) (W.contents output.new) result }
 {
     tell_reason(rt, path, refusal.fault, refusal.cause);
     tell_new_fault(output, path, refusal.fault)
@@ -45,51 +76,27 @@ pub(crate) fn tell_new_refusal<R: Eprint, W: Write>(
 
 // Tells a store's file that can't be opened or made.
 fn tell_file_fault<W: Write>(output: &mut W, path: &str, fault: FileFault) -> io::Result<u8>
-    ensures { IfOk result (λ status. (status ≡ open_status fault)
-        × Appends (W.contents output.old) (W.contents output.new) (open_line path.now fault)) }
+    ensures { TellsText (open_line path.now fault) (open_status fault)
+        (W.contents output.old) (W.contents output.new) result }
 {
     match fault {
-        FileFault::NoFile => {
-            writeln!(output, "cannot read {path}")?;
-            Ok(FILE)
-        }
-        FileFault::BadLength => {
-            write_line(output, b"store BadLength")?;
-            Ok(REFUSED)
-        }
-        FileFault::OutOfMemory => {
-            write_line(output, b"store OutOfMemory")?;
-            Ok(OUT_OF_MEMORY)
-        }
-        FileFault::InUse => {
-            write_line(output, b"store InUse")?;
-            Ok(FILE)
-        }
+        FileFault::NoFile => tell_named(output, b"cannot read ", path, FILE),
+        FileFault::BadLength => tell_text(output, b"store BadLength", REFUSED),
+        FileFault::OutOfMemory => tell_text(output, b"store OutOfMemory", OUT_OF_MEMORY),
+        FileFault::InUse => tell_text(output, b"store InUse", FILE),
     }
 }
 
 // Tells a new store's file that can't be opened or made, where an old store's was opened.
 fn tell_new_fault<W: Write>(output: &mut W, path: &str, fault: FileFault) -> io::Result<u8>
-    ensures { IfOk result (λ status. (status ≡ open_status fault)
-        × Appends (W.contents output.old) (W.contents output.new) (new_line path.now fault)) }
+    ensures { TellsText (new_line path.now fault) (open_status fault)
+        (W.contents output.old) (W.contents output.new) result }
 {
     match fault {
-        FileFault::NoFile => {
-            writeln!(output, "cannot read {path}")?;
-            Ok(FILE)
-        }
-        FileFault::BadLength => {
-            write_line(output, b"new BadLength")?;
-            Ok(REFUSED)
-        }
-        FileFault::OutOfMemory => {
-            write_line(output, b"new OutOfMemory")?;
-            Ok(OUT_OF_MEMORY)
-        }
-        FileFault::InUse => {
-            write_line(output, b"new InUse")?;
-            Ok(FILE)
-        }
+        FileFault::NoFile => tell_named(output, b"cannot read ", path, FILE),
+        FileFault::BadLength => tell_text(output, b"new BadLength", REFUSED),
+        FileFault::OutOfMemory => tell_text(output, b"new OutOfMemory", OUT_OF_MEMORY),
+        FileFault::InUse => tell_text(output, b"new InUse", FILE),
     }
 }
 
@@ -134,16 +141,13 @@ pub(crate) fn tell_repeating<E: Write>(steps: u64, errors: &mut E) -> io::Result
 
 /// Tells what came of a format.
 pub(crate) fn tell_format<W: Write>(output: &mut W, fault: Option<FormatFault>) -> io::Result<u8>
-    ensures { IfOk result (λ status. (status ≡ format_status fault)
-        × Appends (W.contents output.old) (W.contents output.new) (format_line fault)) }
+    ensures { TellsText (format_line fault) (format_status fault)
+        (W.contents output.old) (W.contents output.new) result }
 {
-    let Some(fault) = fault else {
-        write_line(output, b"ok")?;
-        return Ok(DONE);
-    };
-    let name = fault.name();
-    writeln!(output, "store {name}")?;
-    Ok(unformatted_status(fault))
+    match fault {
+        None => tell_text(output, b"ok", DONE),
+        Some(fault) => tell_named(output, b"store ", fault.name(), unformatted_status(fault)),
+    }
 }
 
 fn unformatted_status(fault: FormatFault) -> u8
@@ -158,43 +162,42 @@ fn unformatted_status(fault: FormatFault) -> u8
 
 /// Tells why a store was not opened.
 pub(crate) fn tell_store_fault<W: Write>(output: &mut W, fault: StoreFault) -> io::Result<u8>
-    ensures { IfOk result (λ status. (status ≡ store_status fault)
-        × Appends (W.contents output.old) (W.contents output.new) (store_line fault)) }
+    ensures { TellsText (store_line fault) (store_status fault)
+        (W.contents output.old) (W.contents output.new) result }
 {
-    let name = fault.name();
-    writeln!(output, "store {name}")?;
-    Ok(match fault {
+    tell_named(output, b"store ", fault.name(), unopened_status(fault))
+}
+
+fn unopened_status(fault: StoreFault) -> u8
+    ensures { result ≡ store_status fault }
+{
+    match fault {
         StoreFault::DeviceFault => FILE,
         StoreFault::OutOfMemory => OUT_OF_MEMORY,
         _ => REFUSED,
-    })
+    }
 }
 
 /// Tells what a session answered to a command.
 pub(crate) fn tell_answer<W: Write>(output: &mut W, answer: Result<(), Denial>) -> io::Result<u8>
-    ensures { IfOk result (TellsAnswered answer (W.contents output.old) (W.contents output.new)) }
+    ensures { TellsText (answered_line answer) (answered_status answer)
+        (W.contents output.old) (W.contents output.new) result }
 {
     match answer {
-        Ok(()) => {
-            write_line(output, b"ok")?;
-            Ok(DONE)
-        }
-        Err(denial) => tell_denial(output, denial),
+        Ok(()) => tell_text(output, b"ok", DONE),
+        Err(denial) => tell_denial(output, denial, denial_status(denial)),
     }
 }
 
-/// Tells why a command was denied.
-pub(crate) fn tell_denial<W: Write>(output: &mut W, denial: Denial) -> io::Result<u8>
-    ensures { IfOk result (λ status. (status ≡ denial_status denial)
-        × Appends (W.contents output.old) (W.contents output.new) (denial_line denial)) }
+/// Tells why a command was denied, and this status.
+pub(crate) fn tell_denial<W: Write>(output: &mut W, denial: Denial, status: u8) -> io::Result<u8>
+    ensures { TellsText (denial_line denial) status
+        (W.contents output.old) (W.contents output.new) result }
 {
     if is_device_fault(denial) {
-        write_line(output, b"fault device")?;
-    } else {
-        let name = denial.name();
-        writeln!(output, "no {name}")?;
+        return tell_text(output, b"fault device", status);
     }
-    Ok(denial_status(denial))
+    tell_named(output, b"no ", denial.name(), status)
 }
 
 fn is_device_fault(denial: Denial) -> bool
@@ -242,23 +245,11 @@ fn wants_memory(kind: ReadFaultKind) -> bool
 
 /// Tells what came of the new store of an upgrade.
 pub(crate) fn tell_made<W: Write>(output: &mut W, fault: Option<FormatFault>) -> io::Result<u8>
-    ensures { IfOk result (TellsMade fault (W.contents output.old) (W.contents output.new)) }
+    ensures { TellsText (made_line fault) (format_status fault)
+        (W.contents output.old) (W.contents output.new) result }
 {
     match fault {
-        None => {
-            write_line(output, b"ok")?;
-            Ok(DONE)
-        }
-        Some(fault) => tell_unmade(output, fault),
+        None => tell_text(output, b"ok", DONE),
+        Some(fault) => tell_named(output, b"new ", fault.name(), unformatted_status(fault)),
     }
-}
-
-// Tells why the new store was not made.
-fn tell_unmade<W: Write>(output: &mut W, fault: FormatFault) -> io::Result<u8>
-    ensures { IfOk result (λ status. (status ≡ format_status (Some fault))
-        × Appends (W.contents output.old) (W.contents output.new) (unmade_line fault)) }
-{
-    let name = fault.name();
-    writeln!(output, "new {name}")?;
-    Ok(unformatted_status(fault))
 }

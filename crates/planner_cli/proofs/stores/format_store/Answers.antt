@@ -1,9 +1,9 @@
 -- What the format made of the device over the file, or why there is none.
 use Rattle.std.proofs.Common.{◌<◌, arith, inl, inr, subst}
-use Rattle.std.specs.Prelude.{◌^◌, IfOk}
+use Rattle.std.specs.Prelude.{◌^◌}
 use Rattle.checkpoint.specs.Layouts.{version_2, sectors_in}
 use Rattle.checkpoint.specs.declared.faults.FormatFault.TheVariants.{TooSmall}
-use Rattle.planner_cli.specs.Formatting.{TellsFormatted}
+use Rattle.planner_cli.specs.Telling.{TellsText, format_line, format_status}
 use Rattle.planner_cli.proofs.TellLemmas.{not_too_small}
 use Rattle.planner_cli.proofs.stores.format_store.Goals as goal
 
@@ -22,7 +22,7 @@ returns-in-Ok-clause-formats g c =
       c.in-Ok.ensures.len,
       given.formatted,
       not_too_small made TooSmall _ given.too_small c.in-Ok.ensures.len,
-      subst (λ f. IfOk c.tell_format.result (TellsFormatted f before after)) c.err.ensures.value c.tell_format.ensures,
+      subst (λ f. TellsText (format_line f) (format_status f) before after c.tell_format.result) c.err.ensures.value c.tell_format.ensures,
     )
 
 pub returns-in-Err-clause-formats : goal.returns-in-Err-clause-formats

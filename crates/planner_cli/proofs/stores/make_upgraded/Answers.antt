@@ -1,9 +1,9 @@
 -- What was made of the device over the new file, or why there is none.
 use Rattle.std.proofs.Common.{◌<◌, arith, inl, inr, subst}
-use Rattle.std.specs.Prelude.{◌^◌, IfOk}
+use Rattle.std.specs.Prelude.{◌^◌}
 use Rattle.checkpoint.specs.Layouts.{version_2, sectors_in}
 use Rattle.checkpoint.specs.declared.faults.FormatFault.TheVariants.{TooSmall}
-use Rattle.planner_cli.specs.Telling.{TellsMade}
+use Rattle.planner_cli.specs.Telling.{TellsText, format_status, made_line}
 use Rattle.planner_cli.proofs.TellLemmas.{not_too_small}
 use Rattle.planner_cli.proofs.stores.make_upgraded.Goals as goal
 
@@ -22,7 +22,7 @@ returns-in-Ok-clause-makes g c =
       c.in-Ok.ensures.len,
       given.made,
       not_too_small upgraded TooSmall _ given.too_small c.in-Ok.ensures.len,
-      subst (λ f. IfOk c.tell_made.result (TellsMade f before after)) c.err.ensures.value c.tell_made.ensures,
+      subst (λ f. TellsText (made_line f) (format_status f) before after c.tell_made.result) c.err.ensures.value c.tell_made.ensures,
     )
 
 pub returns-in-Err-clause-makes : goal.returns-in-Err-clause-makes

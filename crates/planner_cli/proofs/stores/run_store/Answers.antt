@@ -24,7 +24,7 @@ returns-in-Err-clause-runs g c =
     let unopened = c.in-Err.unopened in
     IfOk-weaker c.tell_unopened-told.result _ _
     (λ status told. unopened_runs _ _ _ _ _ _ _ _ _ status unopened c.in-Err.ensures.opens
-    (told_apart g.W.Write.contents (λ x y. TellsUnopened c.args.store.now unopened x y status) _ _ _ _ c.apart-writer.ensures.inner c.again.ensures.inner told)) c.tell_unopened-told.ensures.told
+    (told_apart g.W.Write.contents (λ x y. TellsUnopened c.args.store.now unopened x y status) _ _ _ _ c.apart-writer.ensures.inner c.again.ensures.inner told)) c.tell_unopened-told.ensures.told.0
 
 pub returns-in-Err-clause-serves : goal.returns-in-Err-clause-serves
 returns-in-Err-clause-serves g c =
