@@ -343,7 +343,7 @@ INSTANCE = """\
 """
 # Order A alone: at the mill at 8:00:33, from 8:05 on, then 44 seconds to the shop, and 55 home.
 ALONE = """\
-pass 1 1 132
+partial 1 1 132
 vehicle\t2\t2\t132\t4\t29067\t29379\t267
 stop\t2\t1\t1\tpickup\t2\t29067\t28833\t29100\t267\t60\t29100\t30600\t30600\t4\t-
 stop\t2\t2\t2\tdelivery\t1\t29160\t29204\t29204\t0\t120\t28800\t32400\t32225\t0\tpin
@@ -443,8 +443,8 @@ def hours(*stops):
 
 OTHERWISE = "is otherwise by these orders and settings"
 BAD_TIMETABLES = [
-    ("pass 1 1 132", "broken 7 route 1 place 1 stop 1", "NoPlan 1: broken 7 route 1 place 1 stop 1"),
-    ("pass 1 1 132", "solution NoCost 2", "NoPlan 1: solution NoCost 2"),
+    ("partial 1 1 132", "broken 7 route 1 place 1 stop 1", "NoPlan 1: broken 7 route 1 place 1 stop 1"),
+    ("partial 1 1 132", "solution NoCost 2", "NoPlan 1: solution NoCost 2"),
     (ALONE, "", "Truncated 1: its end is missing"),
     (ALONE.split("\n", maxsplit=1)[1], "", "Truncated 2: its end is missing"),
     (ALONE[ALONE.index("stop\t2\t3") :], "", "Truncated 5: its end is missing"),
@@ -486,7 +486,7 @@ def check_refused(folder):
     alone = write(folder, "alone.tabs", ALONE)
     expect("an order in no van", ask("sheets", town, small, alone), (1, ALONE_SHEETS, "day.sh: orders in no van: 1\n"))
     expect("other names", ask("sheets", town, write(folder, "names.csv", LONG_NAMES), alone)[:2], (1, LONG_SHEETS))
-    idle = ask("sheets", town, small, write(folder, "idle.tabs", "pass 2 0 0\nunplanned\t1\nunplanned\t3\n"))
+    idle = ask("sheets", town, small, write(folder, "idle.tabs", "partial 2 0 0\nunplanned\t1\nunplanned\t3\n"))
     expect("no van at all", (idle[0], idle[1][:10], idle[1].count("\norder ")), (1, "In no van.", 2))
     with open(alone, "rb") as file:
         expect("a timetable on standard input", ask("sheets", town, small, "-", stdin=file)[1], ALONE_SHEETS)

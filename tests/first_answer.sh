@@ -211,7 +211,7 @@ for word in audit audits explain timetable draw solve solves format load run ado
 done
 echo 'planner 0.1.0' | plain 0 --version
 echo 'planner 0.1.0' | plain 0 -V
-for words in check 'help check' --frob audit 'audit lilim a.txt' 'audit lilim a.txt a.sol more' 'audit lilm a.txt a.sol' 'audit --frob' \
+for words in check 'help judge' --frob audit 'audit lilim a.txt' 'audit lilim a.txt a.sol more' 'audit lilm a.txt a.sol' 'audit --frob' \
     'run a.store careful' 'draw a b c d e' '- a.txt'; do
     # shellcheck disable=SC2086 # several words
     plain 64 $words </dev/null

@@ -4,7 +4,7 @@
 Each is XML with whole numbers alone outside its fixed shapes; each stop and the depot has one mark, each leg one line, in
 the direction in which it is driven, and each point stands where the coordinates in the instance say. Pairs are joined. No
 number covers a mark or another number. A plan that breaks a rule is drawn too: the rule stands in words with its figures, the
-broken route is marked, the broken stop has a ring, and so has each stop that no route has.
+broken route is marked, the broken stop has a ring, and so has each stop that no route has. A plan that leaves requests out is told as partial.
 
     tests/picture.py
 """
@@ -25,6 +25,7 @@ SVG = "{http://www.w3.org/2000/svg}"
 # of 6, 4 and 5.
 ONE_PAIR = "2 10 1\n0 0 0 0 0 100 0 0 0\n1 3 4 4 0 50 2 0 2\n2 6 8 -4 0 60 2 1 0\n"
 TWO_PAIRS = "1 10 1\n0 0 0 0 0 100 0 0 0\n1 1 1 1 0 50 0 0 2\n2 1 1 -1 0 50 0 1 0\n3 2 2 1 0 50 0 0 4\n4 2 2 -1 0 50 0 3 0\n"
+THREE_PAIRS = TWO_PAIRS + "5 3 3 1 0 50 0 0 6\n6 3 3 -1 0 50 0 5 0\n"
 THREE_CUSTOMERS = (
     "TYPE : CVRP\nDIMENSION : 4\nEDGE_WEIGHT_TYPE : EUC_2D\nCAPACITY : 10\nNODE_COORD_SECTION\n1 0 0\n2 3 4\n3 6 8\n4 0 5\n"
     "DEMAND_SECTION\n1 0\n2 6\n3 4\n4 5\nDEPOT_SECTION\n1\n-1\nEOF\n"
@@ -49,6 +50,24 @@ BROKEN = [
         "broken rule 8, late return, route 1, place 3, back at 24, latest 23", None, 1),
     ("lilim", TWO_PAIRS, "Route #1: 1 2\nRoute #2: 3 4\nCost 8\n", "broken rule 9, too many vehicles, route 2, used 2, fleet 1", None, 2),
     ("lilim", ONE_PAIR, "Route #1: 1 2\nCost 21\n", "broken rule 11, wrong cost, driven 20", None, None),
+]
+
+# The instance, route lines without a cost line, what standard error tells, and what stands over the map. The route drives 1 to (1, 1) and 1 back.
+PARTIAL = [
+    (TWO_PAIRS, "Route #1: 1 2\n", "unplanned 1: 3\n", "partial, unplanned 1, vehicles 1, distance 2"),
+    (TWO_PAIRS, "\nroute 7 : 1 2", "unplanned 1: 3\n", "partial, unplanned 1, vehicles 1, distance 2"),
+    (THREE_PAIRS, "Route #1: 3 4\n", "unplanned 2: 1 5\n", "partial, unplanned 2, vehicles 1, distance 6"),
+]
+
+# What is no partial plan: half a request, a delivery first, a stop twice, a vehicle too many, no request left out, another fault before.
+NOT_PARTIAL = [
+    (TWO_PAIRS, "Route #1: 1\n", "solution NoCost 2"),
+    (TWO_PAIRS, "Route #1: 2 1\n", "solution NoCost 2"),
+    (TWO_PAIRS, "Route #1: 1 2 1\n", "solution NoCost 2"),
+    (THREE_PAIRS, "Route #1: 1 2\nRoute #2: 3 4\n", "solution NoCost 3"),
+    (TWO_PAIRS, "Route #1: 1 2 3 4\n", "solution NoCost 2"),
+    (TWO_PAIRS, "Route #1: 1 2\nRoad\n", "solution BadLine 2"),
+    (TWO_PAIRS.replace("1 10 1", "1 10"), "Route #1: 1 2\n", "instance FieldCount 1"),
 ]
 
 
@@ -145,10 +164,10 @@ def near(svg, marks, unit):
                for number, (x, y) in numbers(svg).items())
 
 
-def drawing(words):
-    """What the program draws."""
+def drawing(words, told=b""):
+    """What the program draws, where it tells this on standard error."""
     done = subprocess.run([PROGRAM, "draw"] + words, capture_output=True, check=False)
-    if (done.returncode, done.stderr) != (0, b""):
+    if (done.returncode, done.stderr) != (0, told):
         sys.exit(f"picture: {words}: status {done.returncode}, {done.stderr!r}")
     return done.stdout.decode("ascii")
 
@@ -202,6 +221,25 @@ def check_broken(folder):
             sys.exit(f"picture: {plan!r}: routes {marked} are marked")
 
 
+def check_partial(folder):
+    """Draws a plan that leaves requests out, and its one route; and none of what is no such plan."""
+    instance, solution = folder / "instance", folder / "solution"
+    for text, plan, told, cost in PARTIAL:
+        instance.write_text(text, encoding="ascii")
+        solution.write_text(plan, encoding="ascii")
+        words = ["lilim", instance, solution]
+        for more, head in (([], cost), (["1"], "route 1 of 1; the whole plan: " + cost)):
+            svg = drawing(words + more, told.encode())
+            if f">{head}</text>\n" not in svg:
+                sys.exit(f"picture: {plan!r}: no {head!r} over the map")
+    for text, plan, told in NOT_PARTIAL:
+        instance.write_text(text, encoding="ascii")
+        solution.write_text(plan, encoding="ascii")
+        done = subprocess.run([PROGRAM, "draw", "lilim", instance, solution], capture_output=True, check=False)
+        if (done.returncode, done.stdout, done.stderr.decode("ascii")) != (2, b"", told + "\n"):
+            sys.exit(f"picture: {plan!r}: status {done.returncode}, {done.stderr!r}")
+
+
 def check_alone(number, solution, stops):
     """Draws one route of the Li-Lim example alone, and compares its marks and legs with its stops."""
     svg = ElementTree.fromstring(drawing(["lilim", EXAMPLES / "lc101.txt", EXAMPLES / solution, str(number)]))
@@ -235,6 +273,7 @@ def main():
         part.write_text("\n".join(first + ["Cost 0", ""]), encoding="ascii")
         check("lilim", "lc101.txt", part, lilim_stops(text), lilim_pairs(text), ring=missing)
         check_broken(pathlib.Path(folder))
+        check_partial(pathlib.Path(folder))
     print("picture: marks, legs, pairs and numbers stand where the files say")
 
 

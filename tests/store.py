@@ -15,6 +15,7 @@
    Standard streams that are closed: the store is not taken for one of them.
 9. Tries with fewer vehicles are told on standard error. README's commands for what has begun, as they stand there.
 10. A copy of a store that is open behind a `checkpoint` is whole. One whose end is gone is refused, left alone, and opens where that is made up by zeros.
+11. check: a store that was stopped is `ok`, also as a new one; one whose headers or records are damaged is `suspect`, by the reason.
 
 Words: how often the program is stopped (200 where there are none). Wants the program that rt ci leaves.
 """
@@ -139,7 +140,7 @@ def check_tries(folder):
     """Each try with fewer vehicles is told as it ends, where standard error is open, and the answers are the same."""
     answers = b"opened 0\nok\nat 300 0 10 829\nok\n"
     # By a program of its own: without the four requests of vehicle 6, nine vehicles serve no more in 300 steps.
-    told = b"try 9 of 10 vehicles: 4 left out, step 300\n"
+    told = b"a try with 9 of 10 vehicles ended before step 300: 4 requests left out\n"
     for words, errors in [("", told), ("strict", told), ("2>&-", b"")]:
         store = os.path.join(folder, "tries.store")
         load(store, 0, b"ok")
@@ -434,6 +435,81 @@ def check_copies(folder):
     print("store: a copy behind a checkpoint is whole, and one without its end is left alone")
 
 
+def check_readme_copies(folder):
+    """README's commands for a copy, as they stand there: it agrees with itself, and is put back as it was."""
+    with open(os.path.join(TOP, "README.md")) as file:
+        commands = re.findall(r"(?s)```sh\n(.*?)```", file.read().split("## After a stop\n")[1].split("\n## ")[0])[0]
+    place = os.path.join(folder, "copies")
+    os.mkdir(place)
+    os.symlink(PROGRAM, os.path.join(place, "planner"))
+    store = os.path.join(place, "day.store")
+    load(store, 0, b"ok")
+    run(store, b"build\nsearch 3\n")
+    before = contents(store)
+    got = subprocess.run(["sh", "-e", "-c", commands], cwd=place, capture_output=True)
+    if (got.returncode, got.stdout, got.stderr) != (0, b"ok\n", b"planner: repeating 3 search steps\n"):
+        fail(f"README's copy: status {got.returncode}, {got.stdout!r}, {got.stderr!r}")
+    if contents(store) != before or sorted(os.listdir(place)) != ["day.copy", "day.store", "planner"]:
+        fail(f"README's copy: {sorted(os.listdir(place))}")
+    print("store: README's commands copy a store, check the copy and put it back")
+
+
+def put(path, offset, new):
+    with open(path, "r+b") as file:
+        file.seek(offset)
+        file.write(new)
+
+
+def checked(store, status, text):
+    """`check` answers so, and leaves the file as it is."""
+    before = contents(store)
+    got = subprocess.run([PROGRAM, "check", store], capture_output=True)
+    if (got.returncode, got.stdout) != (status, text) or contents(store) != before:
+        fail(f"check: status {got.returncode}, {got.stdout!r} instead of {text!r}")
+
+
+def sequence(number):
+    return number.to_bytes(8, "big")
+
+
+def check_doubts(folder):
+    """Sequence 1 is the format, 2 the load, 3 a checkpoint; of sequence 2 there are four records, of sequence 3 two."""
+    store, other = os.path.join(folder, "doubted.store"), os.path.join(folder, "damaged.store")
+    format_store(store)
+    checked(store, 0, b"ok\n")
+    load(store, 0, b"ok")
+    checked(store, 0, b"ok\n")
+    run(store, b"build\nsearch 1\nsearch 1\nsearch 1\n")
+    checked(store, 0, b"ok\n")
+    run(store, b"checkpoint\nsearch 1\nsearch 1\n")
+    checked(store, 0, b"ok\n")
+    # The second half is that of sequence 3; the other one may hold anything. Records stand from 1,024 on.
+    for text, damages in [
+        (b"ok\n", [(132_096, b"torn")]),
+        (b"suspect HeaderLost\n", [(0, b"X")]),
+        (b"suspect HeaderLost\n", [(0, bytes(512))]),
+        (b"suspect HeaderLost\n", [(28, b"X")]),
+        (b"suspect HeadersApart\n", [(12, sequence(0x102))]),
+        (b"suspect HeadersApart\n", [(524, sequence(5))]),
+        (b"suspect RecordDamaged\n", [(1_024 + 2 * 512 + 511, b"X")]),
+        (b"suspect RecordDamaged\n", [(1_024 + 9 * 512 + 20, b"X")]),
+        (b"suspect RecordsMixed\n", [(1_024 + 2 * 512, bytes(512))]),
+        (b"suspect RecordsMixed\n", [(1_024 + 512, sequence(1))]),
+        (b"suspect HeadersApart\nsuspect RecordDamaged\n", [(524, sequence(7)), (1_024 + 3 * 512 + 12, b"\x00")]),
+        (b"store Codec\n", [(1_024 + 12, b"\x00")]),
+        (b"store Codec\n", [(1_024 + 512 + 12, b"\x00")]),
+        (b"store NotFormatted\n", [(0, b"X"), (512, b"X")]),
+    ]:
+        shutil.copyfile(store, other)
+        for offset, new in damages:
+            put(other, offset, new)
+        checked(other, 2 if text != b"ok\n" else 0, text)
+    got = subprocess.run([PROGRAM, "check", os.path.join(folder, "no.store")], capture_output=True)
+    if got.returncode != 3 or not got.stdout.startswith(b"cannot read "):
+        fail(f"check of no file: status {got.returncode}, {got.stdout!r}")
+    print("store: check tells damaged headers and records, and calls no whole store suspect")
+
+
 def refused(*words):
     """These words answer that the store is in use."""
     got = subprocess.run([PROGRAM, *words], input=b"build\n", capture_output=True, timeout=60)
@@ -538,6 +614,8 @@ def main():
         check_calls(folder)
         check_stages(folder)
         check_copies(folder)
+        check_readme_copies(folder)
+        check_doubts(folder)
         check_two_at_once(folder)
         check_full(folder)
         check_stops(folder, stops)

@@ -99,7 +99,7 @@ expect 64 '' 'error: the words are KIND INSTANCE SOLUTION [routes], and KIND is 
 expect 64 '' 'error: the words are KIND LIST [routes], and KIND is lilim or vrp' audits lilim pairs more
 expect 64 '' "error: unexpected argument 'more' found" audit lilim one-pair.txt one-pair.sol routes more
 expect 64 '' "error: invalid value 'LILIM' for '<KIND>'" audit LILIM one-pair.txt one-pair.sol
-expect 64 '' "error: unrecognized subcommand 'check'" check one-pair.txt one-pair.sol
+expect 64 '' "error: unrecognized subcommand 'judge'" judge one-pair.txt one-pair.sol
 expect 0 'planner 0.1.0' '' --version
 
 # What ./planner answers where nothing is built, as here, is what the program answers.
@@ -122,10 +122,10 @@ for word in $("$program" help | sed -n '/^Commands:/,/^$/s/^  \([a-z]*\) .*/\1/p
     alike "$word" --help
     alike "$word" -h
 done
-for words in -h --help help -V --version check 'help check' 'help --help' 'help audit more' --frob audit 'audit --frob' 'audit lilim one-pair.txt' \
+for words in -h --help help -V --version judge 'help judge' 'help --help' 'help audit more' --frob audit 'audit --frob' 'audit lilim one-pair.txt' \
     'audit lilim one-pair.txt one-pair.sol more' 'audit lilim one-pair.txt one-pair.sol routes more' 'explain lilim a b more' 'audits vrp a more' \
     'audit LILIM one-pair.txt one-pair.sol' audits 'solve lilim one-pair.txt' load upgrade \
-    'run day.store careful' timetable 'draw lilim a b 1 more' adopt 'adopt day.store' 'adopt day.store a more' instance; do
+    'run day.store careful' timetable 'draw lilim a b 1 more' adopt 'adopt day.store' 'adopt day.store a more' instance check; do
     # shellcheck disable=SC2086 # several words
     alike $words
 done
@@ -175,6 +175,36 @@ printf '1 10 1\n0 0 0 0 0 100 0 0 0\n1 30 0 4 0 30 0 0 2\n2 31 0 -4 0 60 0 1 0\n
 expect 1 'Route #1: 3 4' 'at 0 1 1 62' solve lilim "$folder/two-pairs.txt" 1
 [ "$("$program" solve lilim "$folder/two-pairs.txt" 0 2>&1 >/dev/null)" = "$(printf 'at 0 1 1 62\nunplanned 1: 3\nwhy 3: alone: a vehicle can serve it\nwhy 3: vehicle 1: stop 1 would start 60 late\nwhy 3: fleet: 1 of 1 vehicles are used\n')" ] || fail "solve: two pairs for one vehicle"
 [ "$("$program" solve lilim "$folder/two-pairs.txt" 0 2>/dev/null)" = 'Route #1: 1 2' ] || fail "solve: the routes of a plan that is not whole"
+# It has no cost line: a timetable takes it as a partial plan, an audit does not, and neither takes half a request.
+printf 'Route #1: 1 2\n' >"$folder/partial.sol"
+cat >"$folder/sheet" <<'END'
+partial 1 1 62
+
+vehicle 1: stops 2, distance 62, load 4, set off 0, return 62, waiting 0
+ place  stop  kind      partner  set off  arrival    start  waiting  service     from       to   latest     load
+     1     1  pickup          2        0       30       30        0        0        0       30       30        4
+     2     2  delivery        1       30       31       31        0        0        0       60       60        0 pin
+     3     0  return          -       31       62       62        0        0        0      100      100        0
+
+unplanned 3
+why 3: alone: a vehicle can serve it
+why 3: vehicle 1: stop 1 would start 60 late
+why 3: fleet: 1 of 1 vehicles are used
+END
+expect 1 'partial 1 1 62' 'unplanned 1: 3' timetable lilim "$folder/two-pairs.txt" "$folder/partial.sol"
+cmp -s "$folder/output" "$folder/sheet" || fail "timetable: a partial plan: $(cat "$folder/output")"
+expect 1 'partial 1 1 62' 'unplanned 1: 3' timetable lilim "$folder/two-pairs.txt" "$folder/partial.sol" tabs
+expect 2 'solution NoCost 2' '' audit lilim "$folder/two-pairs.txt" "$folder/partial.sol"
+printf 'Route #1: 1\n' >"$folder/half.sol"
+expect 2 'solution NoCost 2' '' timetable lilim "$folder/two-pairs.txt" "$folder/half.sol"
+printf 'Route #1: 1 2\nCost 62\n' >"$folder/half.sol"
+expect 1 'broken 3 route 0 place 0 stop 3' '' timetable lilim "$folder/two-pairs.txt" "$folder/half.sol"
+# So is the plan of a store.
+printf 'build\n' >"$folder/lines"
+[ "$("$program" load "$folder/partial.store" lilim "$folder/two-pairs.txt")" = ok ] || fail "load: two pairs"
+"$program" run "$folder/partial.store" <"$folder/lines" >/dev/null 2>&1 || fail "run: two pairs"
+expect 0 'partial 1 1 62' '' timetable "$folder/partial.store"
+cmp -s "$folder/output" "$folder/sheet" || fail "timetable: a partial plan of a store: $(cat "$folder/output")"
 # The plan is handed on before it is known why: in one pipe it stands before the reasons.
 [ "$("$program" solve lilim "$folder/two-pairs.txt" 0 2>&1)" = "$(printf 'at 0 1 1 62\nRoute #1: 1 2\nunplanned 1: 3\nwhy 3: alone: a vehicle can serve it\nwhy 3: vehicle 1: stop 1 would start 60 late\nwhy 3: fleet: 1 of 1 vehicles are used\n')" ] || fail "solve: the plan waits for the reasons"
 # The optimum of an instance of Christofides and Eilon (1969), with each of three seeds.

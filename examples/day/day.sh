@@ -393,7 +393,7 @@ function with_orders(text,    named) {
 
 # The first line says how many vehicles the plan uses.
 function read_verdict(text,    part) {
-    if (text ~ /^pass [0-9]+ [0-9]+ [0-9]+$/) {
+    if (text ~ /^(pass|partial) [0-9]+ [0-9]+ [0-9]+$/) {
         split(text, part, " ")
         vans_told = part[3]
     } else

@@ -141,7 +141,7 @@ fn draws_what_is_broken(rt: HostRuntime) -> Result<(), Fail> {
 
 /// The heading of route 1 alone.
 const TITLE: &str =
-    ">route 1 of 1, of the plan: broken rule 7, late service, route 1, place 2, stop 2, starts at 12, latest 11</text>\n";
+    ">route 1 of 1; the whole plan: broken rule 7, late service, route 1, place 2, stop 2, starts at 12, latest 11</text>\n";
 
 #[test]
 fn draws_one_route(rt: HostRuntime) -> Result<(), Fail> {
