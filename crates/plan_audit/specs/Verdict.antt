@@ -1,5 +1,5 @@
 -- What an audit answers.
-use Rattle.std.specs.Prelude.{◌≡◌, ◌≢◌, ℕ, ◌+◌, ◌<◌, ◌≤◌, ◌⊎◌, List, [], length, take, nat_eq, Some, unwrap_or}
+use Rattle.std.specs.Prelude.{◌≡◌, ◌≢◌, ℕ, ◌+◌, ◌<◌, ◌≤◌, ◌⊎◌, List, [], ◌∷◌, codes, length, take, nat_eq, Option, Some, unwrap_or}
 use Rattle.std.specs.List.{AllByRecursion}
 use Rattle.std.specs.Map.{lookup}
 use Rattle.plan_types.specs.Instance.{Instance}
@@ -34,6 +34,28 @@ rule_number LateReturn = 8
 rule_number Fleet = 9
 rule_number Pin = 10
 rule_number PrintedCost = 11
+
+abbrev pub all_rules : List Rule
+all_rules =
+    UnknownStop ∷ Twice ∷ Missing ∷ SplitPair ∷ DeliveryFirst ∷ Load ∷ Late ∷ LateReturn ∷ Fleet ∷ Pin ∷ PrintedCost ∷ []
+
+-- the rule of a number
+abbrev pub rule_of : ℕ → Option Rule
+rule_of number = item_at all_rules number
+
+-- what is wrong where it is broken, in the words that people are told
+unfoldable pub rule_name : Rule → List ℕ
+rule_name UnknownStop = codes "unknown stop"
+rule_name Twice = codes "visited twice"
+rule_name Missing = codes "missing stop"
+rule_name SplitPair = codes "split pair"
+rule_name DeliveryFirst = codes "early delivery"
+rule_name Load = codes "overload"
+rule_name Late = codes "late service"
+rule_name LateReturn = codes "late return"
+rule_name Fleet = codes "too many vehicles"
+rule_name Pin = codes "not as pinned"
+rule_name PrintedCost = codes "wrong cost"
 
 -- request n has no stop in any route
 abbrev pub IsUnserved : Instance → List (List ℕ) → ℕ → Type 0

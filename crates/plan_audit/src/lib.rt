@@ -7,7 +7,7 @@
 //! says whether it is one.
 //!
 //! Modules, in reading order:
-//! - `rules`: the eleven rules by number, with who asks each, and the verdict.
+//! - `rules`: the eleven rules by number and name, with who asks each, and the verdict.
 //! - `audits`: the audit, rule after rule until one is broken.
 //! - `faults`: the search for the first place that fails a test.
 //! - `seats`: where each stop stands first, by its number.
@@ -73,4 +73,4 @@ pub use laws::{
     routes_may_be_replaced, routes_that_pass_are_a_plan, routes_that_pass_are_feasible_alone,
     solutions_pass_where_they_are_sound, tests_say_feasible, tests_say_pass, verdicts_are_unique,
 };
-pub use rules::Verdict;
+pub use rules::{Rule, Verdict};

@@ -1,13 +1,14 @@
-//! The eleven rules by number, what each asks and which function asks it, and what an audit answers.
+//! The eleven rules by number and name, what each asks and which function asks it, and what an audit answers.
 ghost use Rattle.std.specs.Prelude.{◌≡◌, ◌+◌, ◌<◌, ◌^◌};
-ghost use Rattle.plan_audit.specs.Verdict.{rule_number};
+ghost use Rattle.plan_audit.specs.Rules.{item_at};
+ghost use Rattle.plan_audit.specs.Verdict.{all_rules, rule_name, rule_number, rule_of};
 
 use crate::faults::Fault;
 use plan_types::Cost;
 
 /// The rules, in the order in which they are asked.
 #[derive(Clone, Copy, Debug, PartialEq, Eq)]
-pub(crate) enum Rule {
+pub enum Rule {
     /// 1: a stop is of no request (`Scan::first_unknown`).
     UnknownStop = 1,
     /// 2: a stop stands at an earlier place too (`Scan::first_repeated`).
@@ -42,7 +43,7 @@ pub enum Verdict {
     /// The least broken rule, by rule, route, place and stop. Routes and places count from 1; a route, place or stop that
     /// the rule does not speak of is 0.
     Broken {
-        /// The rule's number, as it is printed; inside the auditor it is an enum.
+        /// The rule's number, as it is printed; `Rule::of_number` gives the rule.
         rule: u32,
         route: u64,
         place: u64,
@@ -50,12 +51,61 @@ pub enum Verdict {
     },
 }
 
+/// The rules by their numbers, from 1 on.
+static RULES: [Rule; 11] = [
+    Rule::UnknownStop,
+    Rule::Twice,
+    Rule::Missing,
+    Rule::SplitPair,
+    Rule::DeliveryFirst,
+    Rule::Load,
+    Rule::Late,
+    Rule::LateReturn,
+    Rule::Fleet,
+    Rule::Pin,
+    Rule::PrintedCost,
+];
+
 impl Rule {
+    /// All rules, by their numbers from 1 on.
+    pub fn all<'a>() -> &'a [Rule]
+        ensures { result.now ≡ all_rules }
+    {
+        RULES.as_slice()
+    }
+
+    /// The rule of a number from 1 to 11; of any other there is none.
+    pub fn of_number(number: u32) -> Option<Rule>
+        ensures { result ≡ rule_of number }
+    {
+        rule_at(Rule::all(), number)
+    }
+
     /// The number by which the rule is told.
-    pub(crate) fn number(self) -> u32
+    pub fn number(self) -> u32
         ensures { result ≡ rule_number self }
     {
         self as u32
+    }
+
+    /// What is wrong where the rule is broken, in the words that people are told.
+    #[tactic(auto, unfolding(crate::specs::Verdict::rule_name))]
+    pub fn name(self) -> &'static str
+        ensures { result.now ≡ rule_name self }
+    {
+        match self {
+            Rule::UnknownStop => "unknown stop",
+            Rule::Twice => "visited twice",
+            Rule::Missing => "missing stop",
+            Rule::SplitPair => "split pair",
+            Rule::DeliveryFirst => "early delivery",
+            Rule::Load => "overload",
+            Rule::Late => "late service",
+            Rule::LateReturn => "late return",
+            Rule::Fleet => "too many vehicles",
+            Rule::Pin => "not as pinned",
+            Rule::PrintedCost => "wrong cost",
+        }
     }
 
     /// The verdict that this rule is broken there.
@@ -97,4 +147,14 @@ impl Rule {
             stop,
         }
     }
+}
+
+// The rule at a place, from 1 on.
+fn rule_at(rules: &[Rule], place: u32) -> Option<Rule>
+    ensures { result ≡ item_at rules.now place }
+{
+    if place == 0 {
+        return None;
+    }
+    rules.get(place as usize - 1).copied()
 }
