@@ -1,6 +1,7 @@
 -- A route that begins as another one: up to there the vehicle is at the same places in the same way.
-use Rattle.std.proofs.Common.{◌≡◌, ◌∙◌, ℕ, zero, suc, ◌+◌, ◌≤◌, ◌<◌, ◌≤ℤ◌, pos, List, get_or, length, refl, sym, ap, add-one, arith, subst}
+use Rattle.std.proofs.Common.{◌≡◌, ◌∙◌, ℕ, zero, suc, ◌+◌, ◌≤◌, ◌<◌, ◌≤ℤ◌, pos, List, ◌∷◌, get_or, length, refl, sym, ap, add-one, arith, subst}
 use Rattle.std.proofs.lemmas.List.{get_or-map, get_or_default, length-map}
+use Rattle.std.proofs.Math.ListN as lists
 use Rattle.plan_types.specs.Instance.{Instance}
 use Rattle.plan_types.specs.Limits.{IsVisit}
 use Rattle.plan_types.specs.declared.requests.Stop.{Stop}
@@ -12,6 +13,7 @@ use Rattle.slack_tables.specs.Course.{Course, route_of, IsCourseIn}
 use Rattle.slack_tables.specs.Front.{IsFront, HasCome, KnowsFronts}
 use Rattle.slack_tables.specs.Inside.{limits_of, AreKnown, IsInLimits}
 use Rattle.slack_tables.specs.Opened.{leaving}
+use Rattle.slack_tables.specs.Seen.{IsStopAt, KnowsStops}
 use Rattle.slack_tables.specs.Places.{IsAt}
 use Rattle.slack_tables.specs.declared.progress.Row.{Row}
 use Rattle.slack_tables.specs.declared.progress.Progress.{Progress}
@@ -77,6 +79,33 @@ module _ (p : Instance) (c : Course) (places : List Row) (table : AreKnown c pla
 
 pub knows-fronts : (p : Instance) (c : Course) (places : List Row) → AreKnown c places → IsCourseIn p c → KnowsFronts p places
 knows-fronts p c places table course = λ route n d within front. has-come p c places table course route n d within front
+
+-- ---- where the numbers are the same, so are the stops
+module _ (p : Instance) (c : Course) (places : List Row) (table : AreKnown c places) (course : IsCourseIn p c) (depot : p.depot.number ≡ 0) where
+  none : c.depot.number ≡ 0
+  none = ap (λ (q : Course). q.depot.number) (sym course) ∙ depot
+
+  number-on : (n : ℕ) → get_or (0 ∷ route_of c) n 0 ≡ (stop_on c n).number
+  number-on n = subst (λ m. get_or (m ∷ route_of c) n m ≡ (stop_on c n).number) none (lists.get_or-map (λ (s : Stop). s.number) (c.depot ∷ c.stops) n c.depot)
+
+  numbered : (n : ℕ) → stop_on c n ≡ stop_numbered p (stop_on c n).number
+  unfolding place
+  numbered n = ap (λ f. f n) (sym (places-on p (route_of c) c course)) ∙ ap (stop_numbered p) (number-on n)
+
+  as-place : (route : List ℕ) (k : ℕ) → stop_numbered p (get_or route k 0) ≡ place p route (k + 1)
+  unfolding place
+  as-place route k = ap (λ m. stop_numbered p (get_or (0 ∷ route) m 0)) (sym (add-one k))
+
+  pub stop-at : (route : List ℕ) (n k : ℕ) (d : Row) → n < length places → (get_or places n d).at.stop.number ≡ get_or route k 0 → IsStopAt p route (k + 1) (get_or places n d).at.stop
+  stop-at route n k d within same =
+      let on : (get_or places n d).at.stop ≡ stop_on c n = (table.known n d within).at.stop in
+      record {
+        stop = on ∙ (numbered n ∙ (ap (stop_numbered p) (ap (λ s. s.number) (sym on) ∙ same) ∙ as-place route k));
+        visit = (table.within n d within).visit;
+      }
+
+pub knows-stops : (p : Instance) (c : Course) (places : List Row) → AreKnown c places → IsCourseIn p c → KnowsStops p places
+knows-stops p c places table course = λ route n k d depot within same. stop-at p c places table course depot route n k d within same
 
 -- before its first stop
 pub come-begin : (p : Instance) (route : List ℕ) (n : ℕ) (depot : Stop) (a : Progress) → n ≡ 0 → depot ≡ p.depot → IsVisit depot → a ≡ leaving depot → HasCome p route n a

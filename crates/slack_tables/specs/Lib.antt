@@ -17,5 +17,6 @@ pub mod Opened
 pub mod Places
 pub mod Ride
 pub mod Scan
+pub mod Seen
 pub mod Span
 pub mod Walk

@@ -13,7 +13,7 @@ ghost use Rattle.slack_tables.specs.Opened.{open_row, AreOpenTo};
 
 use crate::progress::{Progress, Row};
 use crate::table::{leaving, open_row};
-use plan_types::Problem;
+use plan_types::{Problem, Stop};
 
 /// How many of the first stops of a route the table has at the same places.
 pub(crate) fn same_front(known: &[Row], route: &[u32]) -> usize
@@ -41,6 +41,23 @@ pub(crate) fn behind_front(problem: &Problem, known: &[Row], front: usize) -> Pr
         return leaving(&problem.depot);
     }
     known[front].at
+}
+
+/// The stop where it is there.
+pub(crate) fn stop_behind_front<'a>(
+    problem: &'a Problem,
+    known: &'a [Row],
+    front: usize,
+) -> &'a Stop
+    requires fronts { KnowsFronts problem.now known.now }
+    requires known { 0 < front → front + 1 < length known.now }
+    ensures { (route : List ℕ) → IsFront known.now route front
+        → result.now ≡ place problem.now route front }
+{
+    if front == 0 {
+        return &problem.depot;
+    }
+    &known[front].at.stop
 }
 
 /// Gives the places of so many stops what the table tells of them, but nothing of what is behind.

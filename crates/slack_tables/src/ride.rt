@@ -7,11 +7,10 @@
 ghost use Rattle.std.specs.Prelude.{◌≡◌, ◌≤◌, ◌+◌, ◌^◌, unsigned_abs, IfSome};
 ghost use Rattle.plan_types.specs.Limits.{IsVisit};
 ghost use Rattle.slack_tables.specs.Driven.{driven_on, IsNear, IsSmall, IsSmallRow};
-ghost use Rattle.slack_tables.specs.Legs.{AreLinked};
-ghost use Rattle.slack_tables.specs.Ride.{ride_of, driven, is_kept, ridden, is_borne, goes_on, is_served, price, served_below, IsSmallRide, IsNearRide};
+ghost use Rattle.nint_dist.specs.Distance.{distance};
+ghost use Rattle.slack_tables.specs.Ride.{ride_of, ride_at, driven, is_kept, ridden, is_borne, goes_on, is_served, price, served_below, IsSmallRide, IsNearRide};
 
 use crate::progress::{Limits, Progress, Row, difference, is_in_time, moved_load};
-use crate::ways::way;
 use plan_types::Stop;
 use route_sched::load_behind;
 
@@ -50,17 +49,24 @@ pub(crate) fn drive(from: &Ride, service: u32, leg: u64, to: &Stop) -> Ride
     }
 }
 
-/// The same along the way between the two stops, which is taken from `known` where that has it behind its place `seen`.
+/// The same along the way between two stops.
 #[inline(always)]
-pub(crate) fn driven_on(known: &[Row], seen: usize, from: &Progress, stop: &Stop) -> Progress
-    requires known { AreLinked known.now }
-    requires from { IsSmall (2 ^ 58) from.now }
+pub(crate) fn driven_on(ride: &Ride, from: &Stop, way: u64, stop: &Stop) -> Ride
+    requires from { IsSmall (2 ^ 58) (ride_at ride.now from.now) }
     requires to { IsVisit stop.now }
-    ensures value { result ≡ driven_on from.now stop.now }
-    ensures near { IsNear from.now result }
+    requires way { way ≡ distance from.now stop.now }
+    requires bound { way ≤ 2828427 }
+    ensures value { ride_at result stop.now ≡ driven_on (ride_at ride.now from.now) stop.now }
+    ensures near { IsNear (ride_at ride.now from.now) (ride_at result stop.now) }
 {
-    let way = way(known, seen, &from.stop, stop);
-    let ride = drive(&ride_of(from), from.stop.service, way, stop);
+    drive(ride, from.service, way, stop)
+}
+
+/// At this stop.
+#[inline(always)]
+pub(crate) fn ride_at(ride: &Ride, stop: &Stop) -> Progress
+    ensures { result ≡ ride_at ride.now stop.now }
+{
     Progress {
         stop: *stop,
         start: ride.start,

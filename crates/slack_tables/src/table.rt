@@ -18,19 +18,19 @@ ghost use Rattle.slack_tables.specs.Opened.{leaving, open_row, AreOpen};
 ghost use Rattle.slack_tables.specs.Front.{KnowsFronts};
 ghost use Rattle.slack_tables.specs.Inside.{limits_of, AreKnown, IsMade};
 ghost use Rattle.slack_tables.specs.Legs.{AreLinked};
+ghost use Rattle.slack_tables.specs.Seen.{KnowsStops};
 
-use crate::front::{behind_front, copy_front, put, same_front};
+use crate::front::{behind_front, copy_front, put, same_front, stop_behind_front};
 use crate::insertion::{pair_added, single_added};
 use crate::legs::small_row;
 use crate::progress::{Limits, Progress, Row};
 use crate::request::RequestWays;
-use crate::ride::{driven_on, is_kept, ride_of};
+use crate::ride::{driven_on, is_kept, ride_at, ride_of};
 use crate::scan::{Addition, best_pair, best_single, rules_out_single};
 use crate::slack::fill_slack;
 use crate::span::Span;
-use crate::ways::place_seen;
+use crate::ways::{is_next, next_seen, next_stop, next_way, seen_at};
 use plan_types::{Kind, OutOfMemory, Problem, Request, Stop, requests_are_found_by_stop};
-use route_sched::stop_behind;
 use std::alloc::Global;
 use std::marker::Model;
 
@@ -156,6 +156,7 @@ impl RouteTable {
         ensures known { AreKnown self.now result.now }
         ensures linked { AreLinked result.now }
         ensures fronts { (p : Instance) → IsCourseIn p self.now → KnowsFronts p result.now }
+        ensures stops { (p : Instance) → IsCourseIn p self.now → KnowsStops p result.now }
     {
         self.places.as_slice()
     }
@@ -377,6 +378,7 @@ fn remake(
 ) -> Result<bool, OutOfMemory>
     requires known { AreLinked known.now }
     requires fronts { KnowsFronts problem.now known.now }
+    requires stops { KnowsStops problem.now known.now }
     requires route { AreLiveOnce problem.now route.now }
     ensures kept { IfOk result (λ kept. (kept ≡ true) ↔ KeepsLimits problem.now route.now) }
     ensures made { IfOk result (λ kept. kept ≡ true → IsMade problem.now route.now places.new.items) }
@@ -391,6 +393,7 @@ fn remake(
 fn fill(places: &mut [Row], problem: &Problem, known: &[Row], route: &[u32]) -> bool
     requires known { AreLinked known.now }
     requires fronts { KnowsFronts problem.now known.now }
+    requires stops { KnowsStops problem.now known.now }
     requires route { AreLiveOnce problem.now route.now }
     requires count { length places.old ≡ length route.now + 2 }
     requires few { length route.now ≤ 40001 }
@@ -409,6 +412,7 @@ fn fill(places: &mut [Row], problem: &Problem, known: &[Row], route: &[u32]) -> 
 fn drive_route(places: &mut [Row], problem: &Problem, known: &[Row], route: &[u32]) -> bool
     requires known { AreLinked known.now }
     requires fronts { KnowsFronts problem.now known.now }
+    requires stops { KnowsStops problem.now known.now }
     requires route { AreLiveOnce problem.now route.now }
     requires count { length places.old ≤ length route.now + 2 }
     requires few { length route.now ≤ 40001 }
@@ -419,15 +423,20 @@ fn drive_route(places: &mut [Row], problem: &Problem, known: &[Row], route: &[u3
     let front = same_front(known, route);
     put(places, 0, leaving(&problem.depot));
     copy_front(places, known, front);
-    let mut at = behind_front(problem, known, front);
-    let mut seen = front;
+    let mut from = stop_behind_front(problem, known, front);
+    let mut ride = ride_of(&behind_front(problem, known, front));
+    let mut seen = seen_at(known, front, from);
     for k in front..route.len() + 1 {
-        seen = place_seen(known, seen, &at.stop);
-        at = driven_on(known, seen, &at, stop_behind(problem, route, k));
-        if !is_kept(limits, &ride_of(&at), &at.stop) {
+        let is_next = is_next(known, &seen, route, k);
+        let stop = next_stop(problem, known, &seen, is_next, route, k);
+        let way = next_way(known, &seen, is_next, from, stop);
+        ride = driven_on(&ride, from, way, stop);
+        if !is_kept(limits, &ride, stop) {
             return false;
         }
-        put(places, k + 1, at);
+        put(places, k + 1, ride_at(&ride, stop));
+        seen = next_seen(known, &seen, is_next, stop);
+        from = stop;
     }
     true
 }

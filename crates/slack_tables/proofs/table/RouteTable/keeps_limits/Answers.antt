@@ -2,3 +2,6 @@ use Rattle.slack_tables.proofs.table.RouteTable.keeps_limits.Goals as goal
 
 pub drive_route-requires-clause-fronts : goal.drive_route-requires-clause-fronts
 drive_route-requires-clause-fronts c = c.rows.ensures.fronts c.args.problem.now c.requires.near
+
+pub drive_route-requires-clause-stops : goal.drive_route-requires-clause-stops
+drive_route-requires-clause-stops c = c.rows.ensures.stops c.args.problem.now c.requires.near

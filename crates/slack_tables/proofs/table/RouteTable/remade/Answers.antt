@@ -15,3 +15,6 @@ returns-clause-route c =
 
 pub remake-requires-clause-fronts : goal.remake-requires-clause-fronts
 remake-requires-clause-fronts c = c.rows.ensures.fronts c.args.problem.now c.requires.near
+
+pub remake-requires-clause-stops : goal.remake-requires-clause-stops
+remake-requires-clause-stops c = c.rows.ensures.stops c.args.problem.now c.requires.near

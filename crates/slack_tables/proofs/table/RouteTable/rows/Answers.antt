@@ -1,7 +1,7 @@
 use Rattle.std.proofs.Common.{subst, sym}
 use Rattle.slack_tables.specs.Inside.{AreKnown}
 use Rattle.slack_tables.proofs.BestLemmas.{linked}
-use Rattle.slack_tables.proofs.FrontLemmas.{knows-fronts}
+use Rattle.slack_tables.proofs.FrontLemmas.{knows-fronts, knows-stops}
 use Rattle.slack_tables.proofs.table.RouteTable.rows.Goals as goal
 
 pub returns-clause-known : goal.returns-clause-known
@@ -12,3 +12,6 @@ returns-clause-linked c = linked c.args.self.now _ (returns-clause-known c)
 
 pub returns-clause-fronts : goal.returns-clause-fronts
 returns-clause-fronts c = λ p is. knows-fronts p c.args.self.now _ (returns-clause-known c) is
+
+pub returns-clause-stops : goal.returns-clause-stops
+returns-clause-stops c = λ p is. knows-stops p c.args.self.now _ (returns-clause-known c) is

@@ -1,0 +1,20 @@
+use Rattle.std.proofs.Common.{◌+◌, subst, sym}
+use Rattle.slack_tables.specs.Seen.{IsStopAt}
+use Rattle.slack_tables.specs.declared.progress.Row.{Row}
+use Rattle.slack_tables.proofs.ways.next_stop.Goals as goal
+
+pub returns-then-is_next-clause-value : goal.returns-then-is_next-clause-value
+returns-then-is_next-clause-value c =
+    let p = c.args.problem.now in
+    let route = c.args.route.now in
+    let next = c.requires.next c.if-is_next.true in
+    let row = c.row_at.result.now in
+    (subst (λ (e : Row). IsStopAt p route (c.args.k + 1) e.at.stop) (sym (c.row_at.ensures row)) (c.requires.stops route (c.args.seen.now.place + 1) c.args.k row c.requires.depot next.within (next.number row))).stop
+
+pub returns-then-is_next-clause-visit : goal.returns-then-is_next-clause-visit
+returns-then-is_next-clause-visit c =
+    let p = c.args.problem.now in
+    let route = c.args.route.now in
+    let next = c.requires.next c.if-is_next.true in
+    let row = c.row_at.result.now in
+    (subst (λ (e : Row). IsStopAt p route (c.args.k + 1) e.at.stop) (sym (c.row_at.ensures row)) (c.requires.stops route (c.args.seen.now.place + 1) c.args.k row c.requires.depot next.within (next.number row))).visit
