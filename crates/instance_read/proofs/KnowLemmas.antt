@@ -9,7 +9,7 @@ use Rattle.std.proofs.lemmas.List.{get_or_past, get_or-replicate, length-replica
 use Rattle.std.proofs.lemmas.List.Folds.{find-append, list_any-append}
 use Rattle.std.proofs.Math.Bool.{or-false, or-true}
 use Rattle.instance_read.specs.declared.faults.ReadFaultKind.TheVariants.{FieldCount, NodeRepeated, Unsupported}
-use Rattle.instance_read.specs.declared.vrp_draft.Draft.{Draft}
+use Rattle.instance_read.specs.declared.vrp_draft.VrpFields.{VrpFields}
 use Rattle.instance_read.specs.declared.vrp_lines.Key.{Key}
 use Rattle.instance_read.specs.declared.vrp_lines.Key.TheVariants.{Dimension, Capacity, Refused, Coordinates, Demands, End, StrayNumber}
 use Rattle.instance_read.specs.declared.vrp_lines.Section.{Section}
@@ -149,7 +149,7 @@ module _ (before : List Placed) (row : Row) (key : Key) (key_is : key_of row ≡
       λ e. absurd (false≢true (sym e ∙ new_any k this)),
     )
 
-  module _ (old new : Draft) (valid : IsDraft old) (known : Knows before old) where
+  module _ (old new : VrpFields) (valid : IsDraft old) (known : Knows before old) where
     seen_kept : new.seen ≡ set old.seen (key_number key) true → (k : Key) → has_seen new k ≡ any_key k (before ++ placed row Outside ∷ [])
     seen_kept is k = ap (λ s. slice_index_or s (key_number k) false) is ∙ seen_cases old.seen valid.keys k (eqb (key_number key) (key_number k)) refl (known.seen k)
 
@@ -196,42 +196,42 @@ module _ (before : List Placed) (row : Row) (key : Key) (key_is : key_of row ≡
     -- where nothing but the key is kept
     all_kept : eqb (key_number key) 0 ≡ false → eqb (key_number key) 1 ≡ false → eqb (key_number key) 8 ≡ false → new ≡ with_key old key → Knows (before ++ placed row Outside ∷ []) new
     all_kept dimension capacity end is =
-        tables_known dimension capacity end (ap (λ (d : Draft). d.seen) is) (ap (λ (d : Draft). d.nodes) is) (ap (λ (d : Draft). d.capacity) is) (ap (λ (d : Draft). d.end) is)
-        (points_kept (ap (λ (d : Draft). d.coordinates.items) is)) (demands_kept (ap (λ (d : Draft). d.demands.items) is))
+        tables_known dimension capacity end (ap (λ (d : VrpFields). d.seen) is) (ap (λ (d : VrpFields). d.nodes) is) (ap (λ (d : VrpFields). d.capacity) is) (ap (λ (d : VrpFields). d.end) is)
+        (points_kept (ap (λ (d : VrpFields). d.coordinates.items) is)) (demands_kept (ap (λ (d : VrpFields). d.demands.items) is))
 
 -- what a line outside the sections adds
-pub knows_key : (before : List Placed) (row : Row) (old new : Draft) (key : Key) → key_of row ≡ key → IsDraft old → Knows before old
+pub knows_key : (before : List Placed) (row : Row) (old new : VrpFields) (key : Key) → key_of row ≡ key → IsDraft old → Knows before old
     → HasNoKind (key_fault (is_some old.nodes) (has_seen old key) (value_of row) key) → TakesValue (with_key old key) row.line (value_of row) key new → Knows (before ++ placed row Outside ∷ []) new
 knows_key before row old new Dimension key_is valid known none is =
     let fresh = sym (known.seen Dimension) ∙ none NodeRepeated in
     tables_kept before row Dimension key_is old new valid known
-    (ap (λ (d : Draft). d.seen) is) (ap (λ (d : Draft). d.coordinates.items) is) (ap (λ (d : Draft). d.demands.items) is)
-    (ap (λ (d : Draft). d.nodes) is ∙ ap (option_map number_in) (sym (new_first before row Dimension key_is Dimension refl fresh)))
-    (capacity_kept before row Dimension key_is old new valid known refl (ap (λ (d : Draft). d.capacity) is))
-    (end_kept before row Dimension key_is old new valid known refl (ap (λ (d : Draft). d.end) is))
+    (ap (λ (d : VrpFields). d.seen) is) (ap (λ (d : VrpFields). d.coordinates.items) is) (ap (λ (d : VrpFields). d.demands.items) is)
+    (ap (λ (d : VrpFields). d.nodes) is ∙ ap (option_map number_in) (sym (new_first before row Dimension key_is Dimension refl fresh)))
+    (capacity_kept before row Dimension key_is old new valid known refl (ap (λ (d : VrpFields). d.capacity) is))
+    (end_kept before row Dimension key_is old new valid known refl (ap (λ (d : VrpFields). d.end) is))
 knows_key before row old new Capacity key_is valid known none is =
     let fresh = sym (known.seen Capacity) ∙ none NodeRepeated in
     tables_kept before row Capacity key_is old new valid known
-    (ap (λ (d : Draft). d.seen) is) (ap (λ (d : Draft). d.coordinates.items) is) (ap (λ (d : Draft). d.demands.items) is)
-    (nodes_kept before row Capacity key_is old new valid known refl (ap (λ (d : Draft). d.nodes) is))
-    (ap (λ (d : Draft). d.capacity) is ∙ ap (option_map number_in) (sym (new_first before row Capacity key_is Capacity refl fresh)))
-    (end_kept before row Capacity key_is old new valid known refl (ap (λ (d : Draft). d.end) is))
+    (ap (λ (d : VrpFields). d.seen) is) (ap (λ (d : VrpFields). d.coordinates.items) is) (ap (λ (d : VrpFields). d.demands.items) is)
+    (nodes_kept before row Capacity key_is old new valid known refl (ap (λ (d : VrpFields). d.nodes) is))
+    (ap (λ (d : VrpFields). d.capacity) is ∙ ap (option_map number_in) (sym (new_first before row Capacity key_is Capacity refl fresh)))
+    (end_kept before row Capacity key_is old new valid known refl (ap (λ (d : VrpFields). d.end) is))
 knows_key before row old new Coordinates key_is valid known none is =
     let fresh = sym (known.seen Coordinates) ∙ none NodeRepeated in
-    tables_known before row Coordinates key_is old new valid known refl refl refl (ap (λ (d : Draft). d.seen) is.0) (ap (λ (d : Draft). d.nodes) is.0) (ap (λ (d : Draft). d.capacity) is.0) (ap (λ (d : Draft). d.end) is.0)
+    tables_known before row Coordinates key_is old new valid known refl refl refl (ap (λ (d : VrpFields). d.seen) is.0) (ap (λ (d : VrpFields). d.nodes) is.0) (ap (λ (d : VrpFields). d.capacity) is.0) (ap (λ (d : VrpFields). d.end) is.0)
     (table_opened before row Coordinates key_is in_coordinates point_in Coordinates (λ z. refl) old.coordinates.items new.coordinates.items (known.coordinates, known.no_coordinates) (nodes_in old) refl fresh is.1)
-    (demands_kept before row Coordinates key_is old new valid known (ap (λ (d : Draft). d.demands.items) is.0))
+    (demands_kept before row Coordinates key_is old new valid known (ap (λ (d : VrpFields). d.demands.items) is.0))
 knows_key before row old new Demands key_is valid known none is =
     let fresh = sym (known.seen Demands) ∙ none NodeRepeated in
-    tables_known before row Demands key_is old new valid known refl refl refl (ap (λ (d : Draft). d.seen) is.0) (ap (λ (d : Draft). d.nodes) is.0) (ap (λ (d : Draft). d.capacity) is.0) (ap (λ (d : Draft). d.end) is.0)
-    (points_kept before row Demands key_is old new valid known (ap (λ (d : Draft). d.coordinates.items) is.0))
+    tables_known before row Demands key_is old new valid known refl refl refl (ap (λ (d : VrpFields). d.seen) is.0) (ap (λ (d : VrpFields). d.nodes) is.0) (ap (λ (d : VrpFields). d.capacity) is.0) (ap (λ (d : VrpFields). d.end) is.0)
+    (points_kept before row Demands key_is old new valid known (ap (λ (d : VrpFields). d.coordinates.items) is.0))
     (table_opened before row Demands key_is in_demands demand_in Demands (λ z. refl) old.demands.items new.demands.items (known.demands, known.no_demands) (nodes_in old) refl fresh is.1)
 knows_key before row old new End key_is valid known none is =
     tables_kept before row End key_is old new valid known
-    (ap (λ (d : Draft). d.seen) is) (ap (λ (d : Draft). d.coordinates.items) is) (ap (λ (d : Draft). d.demands.items) is)
-    (nodes_kept before row End key_is old new valid known refl (ap (λ (d : Draft). d.nodes) is))
-    (capacity_kept before row End key_is old new valid known refl (ap (λ (d : Draft). d.capacity) is))
-    (ap (λ (d : Draft). d.end) is ∙ ap (λ o. option_or o (Some row.line)) known.end ∙ end_more before row (has_is before row End key_is End))
+    (ap (λ (d : VrpFields). d.seen) is) (ap (λ (d : VrpFields). d.coordinates.items) is) (ap (λ (d : VrpFields). d.demands.items) is)
+    (nodes_kept before row End key_is old new valid known refl (ap (λ (d : VrpFields). d.nodes) is))
+    (capacity_kept before row End key_is old new valid known refl (ap (λ (d : VrpFields). d.capacity) is))
+    (ap (λ (d : VrpFields). d.end) is ∙ ap (λ o. option_or o (Some row.line)) known.end ∙ end_more before row (has_is before row End key_is End))
 knows_key before row old new Refused key_is valid known none is = absurd (false≢true (sym (none Unsupported)))
 knows_key before row old new StrayNumber key_is valid known none is = absurd (false≢true (sym (none FieldCount)))
 knows_key before row old new key key_is valid known none is = all_kept before row key key_is old new valid known refl refl refl is

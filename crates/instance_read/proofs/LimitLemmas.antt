@@ -9,7 +9,7 @@ use Rattle.text_lines.specs.Numbers.{number_of}
 use Rattle.text_lines.specs.Words.{words_of}
 use Rattle.plan_types.specs.Limits.{IsVisit}
 use Rattle.instance_read.specs.declared.faults.ReadFaultKind.TheVariants.{BadNumber, Range, FieldCount, TaskOrder, EmptyWindow}
-use Rattle.instance_read.specs.declared.tasks.Header.{Header}
+use Rattle.instance_read.specs.declared.tasks.FleetLine.{FleetLine}
 use Rattle.instance_read.specs.declared.tasks.Task.{Task}
 use Rattle.instance_read.specs.Fields.{field, value_at, is_that, is_beyond, any_beyond, has_no_number, is_no_number, exceeds}
 use Rattle.instance_read.specs.FieldValues.{IsValue}
@@ -54,7 +54,7 @@ from_one_to most (pos n) e =
     (ltb-false n 1 parts.0, most_from most n parts.1)
 from_one_to most (negsuc n) e = absurd (false≢true (sym e))
 
-pub header_limits_of : (words : List (List ℕ)) (header : Header) → HasNoKind (header_fault words) → IsHeader words header → HeaderKeepsLimits header
+pub header_limits_of : (words : List (List ℕ)) (header : FleetLine) → HasNoKind (header_fault words) → IsHeader words header → HeaderKeepsLimits header
 header_limits_of words header none is =
     let three = eqb-true (length words) 3 (not-false (length words == 3) (none FieldCount)) in
     let fleet = values_of header_limits words 0 (omega (arith, three)) (none BadNumber) (none Range) (omega arith) in

@@ -4,7 +4,7 @@ use Rattle.std.specs.Prelude.{find, is_some, unwrap_or, slice_index_or}
 use Rattle.std.specs.Option.{option_map, option_map_or}
 use Rattle.text_lines.specs.Words.{words_of}
 use Rattle.instance_read.specs.declared.faults.ReadFaultKind.{ReadFaultKind}
-use Rattle.instance_read.specs.declared.vrp_draft.Draft.{Draft}
+use Rattle.instance_read.specs.declared.vrp_draft.VrpFields.{VrpFields}
 use Rattle.instance_read.specs.declared.vrp_lines.Key.{Key}
 use Rattle.instance_read.specs.declared.vrp_lines.Key.TheVariants.{Dimension, Capacity, Coordinates, Demands, End}
 use Rattle.instance_read.specs.declared.vrp_lines.Section.{Section}
@@ -24,7 +24,7 @@ nodes_map None = refl
 nodes_map (Some row) = refl
 
 -- A draft that knows the lines before tells the faults of a line.
-module _ (before : List Placed) (draft : Draft) (known : Knows before draft) where
+module _ (before : List Placed) (draft : VrpFields) (known : Knows before draft) where
   pub announced_is : any_key Dimension before ≡ is_some draft.nodes
   announced_is =
       any_is_find (has_key Dimension) before
@@ -62,7 +62,7 @@ module _ (before : List Placed) (p : Placed) (outside : (key : Key) → has_key 
   first_stays : (key : Key) → first_key key (before ++ p ∷ []) ≡ first_key key before
   first_stays key = ap (option_map (λ (q : Placed). q.row)) (find_same before p (has_key key) (outside key))
 
-  module _ (old new : Draft) (known : Knows before old) (seen : new.seen ≡ old.seen) (nodes : new.nodes ≡ old.nodes) (capacity : new.capacity ≡ old.capacity) (end : new.end ≡ old.end) where
+  module _ (old new : VrpFields) (known : Knows before old) (seen : new.seen ≡ old.seen) (nodes : new.nodes ≡ old.nodes) (capacity : new.capacity ≡ old.capacity) (end : new.end ≡ old.end) where
     section_knows : ((z : ℤ) → entry_at new.coordinates.items z ≡ option_map point_in (find (is_node_line in_coordinates z) (before ++ p ∷ [])))
         → ((z : ℤ) → entry_at new.demands.items z ≡ option_map demand_in (find (is_node_line in_demands z) (before ++ p ∷ [])))
         → (old.coordinates.items ≡ [] → new.coordinates.items ≡ []) → (old.demands.items ≡ [] → new.demands.items ≡ []) → Knows (before ++ p ∷ []) new
@@ -82,17 +82,17 @@ set_none : {X : Type 0} (xs : List X) (i : ℕ) (x : X) → xs ≡ [] → set xs
 set_none xs i x e = ap (λ l. set l i x) e
 
 -- a line that says nothing
-knows_same : (before : List Placed) (row : Row) (place : Section) (old new : Draft) → ((key : Key) → has_key key (placed row place) ≡ false) → ((z : ℤ) → is_node_line in_coordinates z (placed row place) ≡ false) → ((z : ℤ) → is_node_line in_demands z (placed row place) ≡ false)
+knows_same : (before : List Placed) (row : Row) (place : Section) (old new : VrpFields) → ((key : Key) → has_key key (placed row place) ≡ false) → ((z : ℤ) → is_node_line in_coordinates z (placed row place) ≡ false) → ((z : ℤ) → is_node_line in_demands z (placed row place) ≡ false)
     → Knows before old → new ≡ old → Knows (before ++ placed row place ∷ []) new
 knows_same before row place old new outside no_point no_demand known is =
     let p = placed row place in
-    section_knows before p outside old new known (ap (λ (d : Draft). d.seen) is) (ap (λ (d : Draft). d.nodes) is) (ap (λ (d : Draft). d.capacity) is) (ap (λ (d : Draft). d.end) is)
-    (λ z. ap (λ (d : Draft). entry_at d.coordinates.items z) is ∙ known.coordinates z ∙ ap (option_map point_in) (sym (find_same before p (is_node_line in_coordinates z) (no_point z))))
-    (λ z. ap (λ (d : Draft). entry_at d.demands.items z) is ∙ known.demands z ∙ ap (option_map demand_in) (sym (find_same before p (is_node_line in_demands z) (no_demand z))))
-    (λ e. ap (λ (d : Draft). d.coordinates.items) is ∙ e)
-    (λ e. ap (λ (d : Draft). d.demands.items) is ∙ e)
+    section_knows before p outside old new known (ap (λ (d : VrpFields). d.seen) is) (ap (λ (d : VrpFields). d.nodes) is) (ap (λ (d : VrpFields). d.capacity) is) (ap (λ (d : VrpFields). d.end) is)
+    (λ z. ap (λ (d : VrpFields). entry_at d.coordinates.items z) is ∙ known.coordinates z ∙ ap (option_map point_in) (sym (find_same before p (is_node_line in_coordinates z) (no_point z))))
+    (λ z. ap (λ (d : VrpFields). entry_at d.demands.items z) is ∙ known.demands z ∙ ap (option_map demand_in) (sym (find_same before p (is_node_line in_demands z) (no_demand z))))
+    (λ e. ap (λ (d : VrpFields). d.coordinates.items) is ∙ e)
+    (λ e. ap (λ (d : VrpFields). d.demands.items) is ∙ e)
 
-pub knows_more : (before : List Placed) (row : Row) (place : Section) (old new : Draft) → IsDraft old → Knows before old → FitsSection place old → HasNoKind (line_fault old row place) → TakesLine old row place new → Knows (before ++ placed row place ∷ []) new
+pub knows_more : (before : List Placed) (row : Row) (place : Section) (old new : VrpFields) → IsDraft old → Knows before old → FitsSection place old → HasNoKind (line_fault old row place) → TakesLine old row place new → Knows (before ++ placed row place ∷ []) new
 knows_more before row Outside old new valid known fits none takes = knows_key before row old new (key_of row) refl valid known none takes
 knows_more before row (CoordinateLine n) old new valid known fits none takes =
     let p = placed row (CoordinateLine n) in
@@ -101,12 +101,12 @@ knows_more before row (CoordinateLine n) old new valid known fits none takes =
     let limits = (negsuc 999999, pos 1000000) ∷ (negsuc 999999, pos 1000000) ∷ [] in
     let node = node_of limits (nodes_in old) table words none in
     let is = takes.1 ∙ ap (λ k. set table k (Some (point_in p))) (index_is_node limits (nodes_in old) table words none) in
-    section_knows before p (λ key. refl) old new known (ap (λ (d : Draft). d.seen) takes.0) (ap (λ (d : Draft). d.nodes) takes.0) (ap (λ (d : Draft). d.capacity) takes.0) (ap (λ (d : Draft). d.end) takes.0)
+    section_knows before p (λ key. refl) old new known (ap (λ (d : VrpFields). d.seen) takes.0) (ap (λ (d : VrpFields). d.nodes) takes.0) (ap (λ (d : VrpFields). d.capacity) takes.0) (ap (λ (d : VrpFields). d.end) takes.0)
     (λ z. ap (λ t. entry_at t z) is
     ∙ entry_more in_coordinates point_in before p refl table node.0 (number_is limits (nodes_in old) table words none) (omega (arith, fits.1, node_below limits (nodes_in old) table words none)) (node_free limits (nodes_in old) table words none) known.coordinates z)
-    (λ z. ap (λ (d : Draft). entry_at d.demands.items z) takes.0 ∙ known.demands z ∙ ap (option_map demand_in) (sym (find_same before p (is_node_line in_demands z) refl)))
+    (λ z. ap (λ (d : VrpFields). entry_at d.demands.items z) takes.0 ∙ known.demands z ∙ ap (option_map demand_in) (sym (find_same before p (is_node_line in_demands z) refl)))
     (λ e. takes.1 ∙ set_none table (node_index words) (Some (point_in p)) e)
-    (λ e. ap (λ (d : Draft). d.demands.items) takes.0 ∙ e)
+    (λ e. ap (λ (d : VrpFields). d.demands.items) takes.0 ∙ e)
 knows_more before row (DemandLine n) old new valid known fits none takes =
     let p = placed row (DemandLine n) in
     let words = words_of row.text in
@@ -114,11 +114,11 @@ knows_more before row (DemandLine n) old new valid known fits none takes =
     let limits = (pos 0, pos 1000000) ∷ [] in
     let node = node_of limits (nodes_in old) table words none in
     let is = takes.1 ∙ ap (λ k. set table k (Some (demand_in p))) (index_is_node limits (nodes_in old) table words none) in
-    section_knows before p (λ key. refl) old new known (ap (λ (d : Draft). d.seen) takes.0) (ap (λ (d : Draft). d.nodes) takes.0) (ap (λ (d : Draft). d.capacity) takes.0) (ap (λ (d : Draft). d.end) takes.0)
-    (λ z. ap (λ (d : Draft). entry_at d.coordinates.items z) takes.0 ∙ known.coordinates z ∙ ap (option_map point_in) (sym (find_same before p (is_node_line in_coordinates z) refl)))
+    section_knows before p (λ key. refl) old new known (ap (λ (d : VrpFields). d.seen) takes.0) (ap (λ (d : VrpFields). d.nodes) takes.0) (ap (λ (d : VrpFields). d.capacity) takes.0) (ap (λ (d : VrpFields). d.end) takes.0)
+    (λ z. ap (λ (d : VrpFields). entry_at d.coordinates.items z) takes.0 ∙ known.coordinates z ∙ ap (option_map point_in) (sym (find_same before p (is_node_line in_coordinates z) refl)))
     (λ z. ap (λ t. entry_at t z) is
     ∙ entry_more in_demands demand_in before p refl table node.0 (number_is limits (nodes_in old) table words none) (omega (arith, fits.1, node_below limits (nodes_in old) table words none)) (node_free limits (nodes_in old) table words none) known.demands z)
-    (λ e. ap (λ (d : Draft). d.coordinates.items) takes.0 ∙ e)
+    (λ e. ap (λ (d : VrpFields). d.coordinates.items) takes.0 ∙ e)
     (λ e. takes.1 ∙ set_none table (node_index words) (Some (demand_in p)) e)
 knows_more before row (DepotLine seen) old new valid known fits none takes = knows_same before row (DepotLine seen) old new (λ key. refl) (λ z. refl) (λ z. refl) known takes
 knows_more before row AfterEnd old new valid known fits none takes = knows_same before row AfterEnd old new (λ key. refl) (λ z. refl) (λ z. refl) known takes

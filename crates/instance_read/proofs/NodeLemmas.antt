@@ -9,7 +9,7 @@ use Rattle.text_lines.specs.Words.{words_of}
 use Rattle.plan_types.specs.Limits.{IsDemand}
 use Rattle.instance_read.specs.declared.faults.ReadFaultKind.{ReadFaultKind}
 use Rattle.instance_read.specs.declared.faults.ReadFaultKind.TheVariants.{BadNumber, Range, FieldCount, NodeRepeated}
-use Rattle.instance_read.specs.declared.vrp_draft.Draft.{Draft}
+use Rattle.instance_read.specs.declared.vrp_draft.VrpFields.{VrpFields}
 use Rattle.instance_read.specs.declared.vrp_lines.Section.TheVariants.{CoordinateLine, DemandLine}
 use Rattle.instance_read.specs.Drafts.{IsDraft, IsPoint, TakesLine, is_taken, node_index, unnumbered}
 use Rattle.instance_read.specs.Faults.{rank}
@@ -78,7 +78,7 @@ demand_kept (pos n) h =
 demand_kept (negsuc n) h = absurd (grind (arith, ints, h.0))
 
 -- what the new table makes of the draft
-module _ (old new : Draft) (text : List ℕ) (valid : IsDraft old) where
+module _ (old new : VrpFields) (text : List ℕ) (valid : IsDraft old) where
   pub takes_point : (point : ℤ × ℤ) → IsPoint point → point ≡ (value_at (words_of text) 1, value_at (words_of text) 2) → new ≡ record old { coordinates = new.coordinates }
       → new.coordinates.items ≡ set old.coordinates.items (node_index (words_of text)) (Some point) → TakesLine old (unnumbered text) (CoordinateLine 0) new × IsDraft new
   takes_point point within is other put =

@@ -17,7 +17,7 @@ use Rattle.instance_read.specs.declared.tasks.Task.{Task}
 use Rattle.instance_read.specs.Pairs.{find_task, is_mismatched, is_uneven, is_wrong_delivery, last_number, pair_of, pairs_of}
 use Rattle.instance_read.specs.Tables.{ArePaired, AreTasks, IsCustomer, RisesFrom}
 use Rattle.instance_read.specs.Lilim.{depot_from, problem_from}
-use Rattle.instance_read.specs.declared.tasks.Header.{Header}
+use Rattle.instance_read.specs.declared.tasks.FleetLine.{FleetLine}
 use Rattle.plan_types.specs.declared.requests.Kind.TheVariants.{LiLim}
 
 -- what is found has the number
@@ -350,7 +350,7 @@ none_found p [] is = tt
 none_found p (x ∷ xs) is = none_found_cond p x xs (p x) refl (none_found p xs) is
 
 -- the problem after its requests are put and its next number is set
-pub finished : (header : Header) (depot : Task) (tasks : List Task) (fresh put done : Instance) (n : ℕ) → fresh ≡ new_instance LiLim (depot_from depot) header.capacity header.fleet → put ≡ record fresh { requests = pairs_of tasks; next_number = put.next_number } → done ≡ record put { next_number = n } → n ≡ last_number depot tasks + 1 → done ≡ problem_from header.fleet header.capacity depot tasks
+pub finished : (header : FleetLine) (depot : Task) (tasks : List Task) (fresh put done : Instance) (n : ℕ) → fresh ≡ new_instance LiLim (depot_from depot) header.capacity header.fleet → put ≡ record fresh { requests = pairs_of tasks; next_number = put.next_number } → done ≡ record put { next_number = n } → n ≡ last_number depot tasks + 1 → done ≡ problem_from header.fleet header.capacity depot tasks
 finished header depot tasks fresh put done n new puts sets next =
     sets
     ∙ ap (λ (p : Instance). record p { next_number = n }) puts

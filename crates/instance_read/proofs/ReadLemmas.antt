@@ -5,7 +5,7 @@ use Rattle.std.proofs.lemmas.List.{nil_from_length, length-map, take_all}
 use Rattle.text_lines.specs.Words.{words_of}
 use Rattle.plan_types.specs.Instance.{Instance}
 use Rattle.instance_read.specs.declared.faults.ReadFault.{ReadFault}
-use Rattle.instance_read.specs.declared.tasks.Header.{Header}
+use Rattle.instance_read.specs.declared.tasks.FleetLine.{FleetLine}
 use Rattle.instance_read.specs.declared.tasks.Task.{Task}
 use Rattle.instance_read.specs.Faults.{TellsFirstFault, IsFirstFault}
 use Rattle.instance_read.specs.Fields.{value_at}
@@ -29,12 +29,12 @@ others_is : (t : Task) (ts : List Task) → other_tasks (t ∷ ts) ≡ ts
 others_is t ts = take_all (length (t ∷ ts) - 1) ts (omega arith)
 
 -- the problem of the header as it is read
-same_problem : (words : List (List ℕ)) (read : Header) (header depot : Row) (customers : List Row) → IsHeader (words_of header.text) read → problem_from read.fleet read.capacity (task_of depot) (map task_of customers) ≡ problem_of header depot customers
+same_problem : (words : List (List ℕ)) (read : FleetLine) (header depot : Row) (customers : List Row) → IsHeader (words_of header.text) read → problem_from read.fleet read.capacity (task_of depot) (map task_of customers) ≡ problem_of header depot customers
 same_problem words read header depot customers made =
     ap (λ fleet. problem_from fleet read.capacity (task_of depot) (map task_of customers)) made.0
     ∙ ap (λ capacity. problem_from (unsigned_abs (value_at (words_of header.text) 0)) capacity (task_of depot) (map task_of customers)) made.1
 
-module _ (text : List ℕ) (header : Row) (read : Header) (items : List Task) (sound : HasNoKind (header_fault (words_of header.text))) (made : IsHeader (words_of header.text) read) (some : 1 ≤ length items) where
+module _ (text : List ℕ) (header : Row) (read : FleetLine) (items : List Task) (sound : HasNoKind (header_fault (words_of header.text))) (made : IsHeader (words_of header.text) read) (some : 1 ≤ length items) where
   pub known_tasks : (rest : List Row) → HasNoTaskFault None rest → items ≡ map task_of rest → AreTasks (first_task items) (other_tasks items)
   known_tasks [] clean same = absurd (omega (arith, ap length same))
   known_tasks (depot ∷ customers) clean same =

@@ -6,7 +6,7 @@ use Rattle.text_lines.specs.Lines.{lines_of}
 use Rattle.plan_types.specs.Instance.{Instance}
 use Rattle.instance_read.specs.declared.faults.ReadFault.{ReadFault}
 use Rattle.instance_read.specs.declared.faults.ReadFaultKind.TheVariants.{MissingKey, Truncated}
-use Rattle.instance_read.specs.declared.vrp_draft.Draft.{Draft}
+use Rattle.instance_read.specs.declared.vrp_draft.VrpFields.{VrpFields}
 use Rattle.instance_read.specs.declared.vrp_lines.Section.{Section}
 use Rattle.instance_read.specs.declared.vrp_lines.Section.TheVariants.{Outside}
 use Rattle.instance_read.specs.Drafts.{IsDraft}
@@ -19,13 +19,13 @@ use Rattle.instance_read.proofs.VrpFaultLemmas.{has_no_fault, missing_first, tel
 use Rattle.instance_read.proofs.VrpProblemLemmas.{end_is, is_announced, lacks_is, problem_is}
 
 -- what reading these lines to their end gives
-abbrev pub IsRead : List Row → Draft → Section → Type 0
+abbrev pub IsRead : List Row → VrpFields → Section → Type 0
 IsRead rows draft place = Knows (placed_rows rows) draft × IsDraft draft × HasNoLineFault (placed_rows rows) × (place ≡ end_from None Outside rows)
 
 pub tells_first : (text : List ℕ) (rows : List Row) (f : ReadFault) → rows ≡ rows_of text → TellsLine (placed_rows rows) f → TellsFirstFault (VrpFault text) f
 tells_first text rows f is h = let P : List Row → Type 0 = λ r. TellsLine (placed_rows r) f in tells_line text f (subst P is h)
 
-module _ (text : List ℕ) (rows : List Row) (draft : Draft) (place : Section) (is : rows ≡ rows_of text) (read : IsRead rows draft place) where
+module _ (text : List ℕ) (rows : List Row) (draft : VrpFields) (place : Section) (is : rows ≡ rows_of text) (read : IsRead rows draft place) where
   here : IsRead (rows_of text) draft place
   here = let P : List Row → Type 0 = λ r. IsRead r draft place in subst P is read
 

@@ -10,7 +10,7 @@ use Rattle.text_lines.specs.Words.{words_of}
 use Rattle.instance_read.specs.declared.faults.ReadFault.{ReadFault}
 use Rattle.instance_read.specs.declared.faults.ReadFaultKind.{ReadFaultKind}
 use Rattle.instance_read.specs.declared.faults.ReadFaultKind.TheVariants.{BadNumber, FieldCount, NodeRepeated, OutOfMemory}
-use Rattle.instance_read.specs.declared.vrp_draft.Draft.{Draft}
+use Rattle.instance_read.specs.declared.vrp_draft.VrpFields.{VrpFields}
 use Rattle.instance_read.specs.declared.vrp_lines.Key.{Key}
 use Rattle.instance_read.specs.declared.vrp_lines.Key.TheVariants.{Dimension, Coordinates, Demands, Depots}
 use Rattle.instance_read.specs.declared.vrp_lines.Section.{Section}
@@ -69,70 +69,70 @@ nodes_other row key (Some n) key_is none = refl
 nodes_other row key None key_is none = ap (nodes_in_key row) key_is ∙ none
 
 -- how many nodes are announced after a line with a key
-nodes_key : (before : List Placed) (row : Row) (old new : Draft) (key : Key) → key_of row ≡ key → Knows before old → HasNoKind (key_fault (is_some old.nodes) (has_seen old key) (value_of row) key) → TakesValue (with_key old key) row.line (value_of row) key new → nodes_after old.nodes row Outside ≡ new.nodes
+nodes_key : (before : List Placed) (row : Row) (old new : VrpFields) (key : Key) → key_of row ≡ key → Knows before old → HasNoKind (key_fault (is_some old.nodes) (has_seen old key) (value_of row) key) → TakesValue (with_key old key) row.line (value_of row) key new → nodes_after old.nodes row Outside ≡ new.nodes
 nodes_key before row old new Dimension key_is known none takes =
     let words = value_words row in
     let count = eqb-true (length words) 1 (not-false (eqb (length words) 1) (none FieldCount)) in
     let fresh = some_false old.nodes (sym (announced_is before old known) ∙ sym (known.seen Dimension) ∙ none NodeRepeated) in
     ap (λ o. nodes_after o row Outside) fresh ∙ ap (nodes_in_key row) key_is
-    ∙ ap (option_map unsigned_abs) (field_there words (omega (arith, count)) (none BadNumber)) ∙ sym (ap (λ (d : Draft). d.nodes) takes)
-nodes_key before row old new Coordinates key_is known none takes = nodes_other row Coordinates old.nodes key_is refl ∙ sym (ap (λ (d : Draft). d.nodes) takes.0)
-nodes_key before row old new Demands key_is known none takes = nodes_other row Demands old.nodes key_is refl ∙ sym (ap (λ (d : Draft). d.nodes) takes.0)
-nodes_key before row old new key key_is known none takes = nodes_other row key old.nodes key_is refl ∙ sym (ap (λ (d : Draft). d.nodes) takes)
+    ∙ ap (option_map unsigned_abs) (field_there words (omega (arith, count)) (none BadNumber)) ∙ sym (ap (λ (d : VrpFields). d.nodes) takes)
+nodes_key before row old new Coordinates key_is known none takes = nodes_other row Coordinates old.nodes key_is refl ∙ sym (ap (λ (d : VrpFields). d.nodes) takes.0)
+nodes_key before row old new Demands key_is known none takes = nodes_other row Demands old.nodes key_is refl ∙ sym (ap (λ (d : VrpFields). d.nodes) takes.0)
+nodes_key before row old new key key_is known none takes = nodes_other row key old.nodes key_is refl ∙ sym (ap (λ (d : VrpFields). d.nodes) takes)
 
 nodes_section : (o : Option ℕ) (row : Row) (place : Section) → ((n : ℕ) → nodes_after None row place ≡ None) → nodes_after o row place ≡ o
 nodes_section None row place none = none 0
 nodes_section (Some n) row place none = refl
 
-nodes_step : (before : List Placed) (row : Row) (place : Section) (old new : Draft) → Knows before old → HasNoKind (line_fault old row place) → TakesLine old row place new → nodes_after old.nodes row place ≡ new.nodes
+nodes_step : (before : List Placed) (row : Row) (place : Section) (old new : VrpFields) → Knows before old → HasNoKind (line_fault old row place) → TakesLine old row place new → nodes_after old.nodes row place ≡ new.nodes
 nodes_step before row Outside old new known none takes = nodes_key before row old new (key_of row) refl known none takes
-nodes_step before row (CoordinateLine n) old new known none takes = nodes_section old.nodes row (CoordinateLine n) (λ _. refl) ∙ sym (ap (λ (d : Draft). d.nodes) takes.0)
-nodes_step before row (DemandLine n) old new known none takes = nodes_section old.nodes row (DemandLine n) (λ _. refl) ∙ sym (ap (λ (d : Draft). d.nodes) takes.0)
-nodes_step before row (DepotLine n) old new known none takes = nodes_section old.nodes row (DepotLine n) (λ _. refl) ∙ sym (ap (λ (d : Draft). d.nodes) takes)
-nodes_step before row AfterEnd old new known none takes = nodes_section old.nodes row AfterEnd (λ _. refl) ∙ sym (ap (λ (d : Draft). d.nodes) takes)
+nodes_step before row (CoordinateLine n) old new known none takes = nodes_section old.nodes row (CoordinateLine n) (λ _. refl) ∙ sym (ap (λ (d : VrpFields). d.nodes) takes.0)
+nodes_step before row (DemandLine n) old new known none takes = nodes_section old.nodes row (DemandLine n) (λ _. refl) ∙ sym (ap (λ (d : VrpFields). d.nodes) takes.0)
+nodes_step before row (DepotLine n) old new known none takes = nodes_section old.nodes row (DepotLine n) (λ _. refl) ∙ sym (ap (λ (d : VrpFields). d.nodes) takes)
+nodes_step before row AfterEnd old new known none takes = nodes_section old.nodes row AfterEnd (λ _. refl) ∙ sym (ap (λ (d : VrpFields). d.nodes) takes)
 
 -- the place after a line finds what it needs
-fits_left : (line : ℕ → Section) (n : ℕ) (d : Draft) → ((k : ℕ) → 1 ≤ k → FitsSection (line k) d) → FitsSection (lines_left line n) d
+fits_left : (line : ℕ → Section) (n : ℕ) (d : VrpFields) → ((k : ℕ) → 1 ≤ k → FitsSection (line k) d) → FitsSection (lines_left line n) d
 fits_left line n d fits = by (eqb n 0) refl
   where
     by : (b : Bool) → eqb n 0 ≡ b → FitsSection (cond b Outside (line n)) d
     by true e = tt
     by false e = let ne = eqb-false n 0 e in fits n (omega (arith, ne))
 
-fits_coordinates : (n : ℕ) (d : Draft) → length d.coordinates.items ≡ nodes_in d → FitsSection (coordinates_left n) d
+fits_coordinates : (n : ℕ) (d : VrpFields) → length d.coordinates.items ≡ nodes_in d → FitsSection (coordinates_left n) d
 fits_coordinates n d long = fits_left (λ k. CoordinateLine k) n d (λ k some. (some, long))
 
-fits_demands : (n : ℕ) (d : Draft) → length d.demands.items ≡ nodes_in d → FitsSection (demands_left n) d
+fits_demands : (n : ℕ) (d : VrpFields) → length d.demands.items ≡ nodes_in d → FitsSection (demands_left n) d
 fits_demands n d long = fits_left (λ k. DemandLine k) n d (λ k some. (some, long))
 
-fits_depots : (n : ℕ) (d : Draft) → FitsSection (depots_after n) d
+fits_depots : (n : ℕ) (d : VrpFields) → FitsSection (depots_after n) d
 fits_depots n d = by (nat_lt n 2) refl
   where
     by : (b : Bool) → nat_lt n 2 ≡ b → FitsSection (cond b (DepotLine n) Outside) d
     by true e = ltb-true n 2 e
     by false e = tt
 
-fits_key : (row : Row) (old new : Draft) (nodes : Option ℕ) (key : Key) → nodes ≡ old.nodes → TakesValue (with_key old key) row.line (value_of row) key new → FitsSection (place_after_key nodes key) new
+fits_key : (row : Row) (old new : VrpFields) (nodes : Option ℕ) (key : Key) → nodes ≡ old.nodes → TakesValue (with_key old key) row.line (value_of row) key new → FitsSection (place_after_key nodes key) new
 fits_key row old new (Some n) Coordinates is takes =
-    fits_coordinates n new (ap length takes.1 ∙ length-replicate {A = Option (ℤ × ℤ)} (nodes_in old) None ∙ sym (ap (λ (d : Draft). nodes_in d) takes.0))
+    fits_coordinates n new (ap length takes.1 ∙ length-replicate {A = Option (ℤ × ℤ)} (nodes_in old) None ∙ sym (ap (λ (d : VrpFields). nodes_in d) takes.0))
 fits_key row old new (Some n) Demands is takes =
-    fits_demands n new (ap length takes.1 ∙ length-replicate {A = Option ℤ} (nodes_in old) None ∙ sym (ap (λ (d : Draft). nodes_in d) takes.0))
+    fits_demands n new (ap length takes.1 ∙ length-replicate {A = Option ℤ} (nodes_in old) None ∙ sym (ap (λ (d : VrpFields). nodes_in d) takes.0))
 fits_key row old new None Coordinates is takes = tt
 fits_key row old new None Demands is takes = tt
 fits_key row old new nodes Depots is takes = omega arith
 fits_key row old new nodes _ is takes = tt
 
-fits_next : (row : Row) (place : Section) (old new : Draft) → FitsSection place old → TakesLine old row place new → FitsSection (place_after old.nodes row place) new
+fits_next : (row : Row) (place : Section) (old new : VrpFields) → FitsSection place old → TakesLine old row place new → FitsSection (place_after old.nodes row place) new
 fits_next row Outside old new fits takes = fits_key row old new old.nodes (key_of row) refl takes
 fits_next row (CoordinateLine n) old new fits takes =
-    fits_coordinates (n - 1) new (ap length takes.1 ∙ length-set old.coordinates.items _ _ ∙ fits.1 ∙ sym (ap (λ (d : Draft). nodes_in d) takes.0))
+    fits_coordinates (n - 1) new (ap length takes.1 ∙ length-set old.coordinates.items _ _ ∙ fits.1 ∙ sym (ap (λ (d : VrpFields). nodes_in d) takes.0))
 fits_next row (DemandLine n) old new fits takes =
-    fits_demands (n - 1) new (ap length takes.1 ∙ length-set old.demands.items _ _ ∙ fits.1 ∙ sym (ap (λ (d : Draft). nodes_in d) takes.0))
+    fits_demands (n - 1) new (ap length takes.1 ∙ length-set old.demands.items _ _ ∙ fits.1 ∙ sym (ap (λ (d : VrpFields). nodes_in d) takes.0))
 fits_next row (DepotLine n) old new fits takes = fits_depots (n + length (words_of row.text)) new
 fits_next row AfterEnd old new fits takes = tt
 
 -- The lines before those that are left are read: the draft knows them, and none has a fault.
-pub record IsReading (all : List Row) (draft : Draft) (place : Section) (rest : List Row) : Type 0 where
+pub record IsReading (all : List Row) (draft : VrpFields) (place : Section) (rest : List Row) : Type 0 where
   pub before : List Placed
   pub splits : placed_rows all ≡ before ++ placed_from draft.nodes place rest
   pub ends : end_from None Outside all ≡ end_from draft.nodes place rest
@@ -150,7 +150,7 @@ unfolding placed_from
 placed_none nodes place = refl
 
 -- What one line more makes of it.
-module _ (all : List Row) (old new : Draft) (place next : Section) (rest more : List Row) (row : Row) (steps : rest ≡ row ∷ more) (reading : IsReading all old place rest) where
+module _ (all : List Row) (old new : VrpFields) (place next : Section) (rest more : List Row) (row : Row) (steps : rest ≡ row ∷ more) (reading : IsReading all old place rest) where
   split_here : placed_rows all ≡ reading.before ++ placed row place ∷ placed_from (nodes_after old.nodes row place) (place_after old.nodes row place) more
   split_here = reading.splits ∙ ap (λ rows. reading.before ++ placed_from old.nodes place rows) steps ∙ ap (λ ps. reading.before ++ ps) (placed_step old.nodes place row more)
 
@@ -195,7 +195,7 @@ module _ (all : List Row) (old new : Draft) (place next : Section) (rest more : 
       no_memory row _ e = false≢true e
 
 -- all lines are read
-pub reading_done : (all : List Row) (draft : Draft) (place : Section) (rest : List Row) → rest ≡ [] → IsReading all draft place rest → Knows (placed_rows all) draft × IsDraft draft × HasNoLineFault (placed_rows all) × (place ≡ end_from None Outside all)
+pub reading_done : (all : List Row) (draft : VrpFields) (place : Section) (rest : List Row) → rest ≡ [] → IsReading all draft place rest → Knows (placed_rows all) draft × IsDraft draft × HasNoLineFault (placed_rows all) × (place ≡ end_from None Outside all)
 reading_done all draft place rest none reading =
     let is = reading.splits ∙ ap (λ rows. reading.before ++ placed_from draft.nodes place rows) none ∙ ap (λ ps. reading.before ++ ps) (placed_none draft.nodes place) ∙ append-nil reading.before in
     let P : List Placed → Type 0 = λ ps. Knows ps draft in

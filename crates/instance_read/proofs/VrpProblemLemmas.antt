@@ -7,7 +7,7 @@ use Rattle.std.proofs.lemmas.Bool.{false≢true}
 use Rattle.text_lines.specs.Words.{words_of}
 use Rattle.plan_types.specs.declared.requests.Kind.TheVariants.{Vrp}
 use Rattle.plan_types.specs.declared.requests.Request.TheVariants.{Single}
-use Rattle.instance_read.specs.declared.vrp_draft.Draft.{Draft}
+use Rattle.instance_read.specs.declared.vrp_draft.VrpFields.{VrpFields}
 use Rattle.instance_read.specs.declared.vrp_lines.Key.TheVariants.{Dimension, Capacity, WeightType, Coordinates, Demands, Depots, End}
 use Rattle.instance_read.specs.Drafts.{has_seen, nodes_in}
 use Rattle.instance_read.specs.Fields.{value_at}
@@ -38,7 +38,7 @@ first_of_six : (a b c d e f : Bool) → not (a && b && c && d && e && f) ≡ fal
 first_of_six true b c d e f h = refl
 first_of_six false b c d e f h = absurd (false≢true (sym h))
 
-module _ (ps : List Placed) (draft : Draft) (known : Knows ps draft) where
+module _ (ps : List Placed) (draft : VrpFields) (known : Knows ps draft) where
   pub lacks_is : draft_lacks_key draft ≡ lacks_key ps
   lacks_is = λ i. not (known.seen Dimension i && known.seen Capacity i && known.seen WeightType i && known.seen Coordinates i && known.seen Demands i && known.seen Depots i)
 

@@ -6,7 +6,7 @@ use Rattle.text_lines.specs.Words.{words_of}
 use Rattle.plan_types.specs.Limits.{IsCapacity, IsCoordinate, IsDemand}
 use Rattle.instance_read.specs.declared.faults.ReadFaultKind.{ReadFaultKind}
 use Rattle.instance_read.specs.declared.faults.ReadFaultKind.TheVariants.{OutOfMemory}
-use Rattle.instance_read.specs.declared.vrp_draft.Draft.{Draft}
+use Rattle.instance_read.specs.declared.vrp_draft.VrpFields.{VrpFields}
 use Rattle.instance_read.specs.declared.vrp_lines.Key.{Key}
 use Rattle.instance_read.specs.declared.vrp_lines.Key.TheVariants.{Dimension, Capacity, Coordinates, Demands, End}
 use Rattle.instance_read.specs.declared.vrp_lines.Section.{Section}
@@ -26,14 +26,14 @@ entry_at table (negsuc n) = None
 abbrev pub is_taken : {T : Type 0} → List (Option T) → ℤ → Bool
 is_taken table node = is_some (entry_at table node)
 
-abbrev pub nodes_in : Draft → ℕ
+abbrev pub nodes_in : VrpFields → ℕ
 nodes_in draft = unwrap_or draft.nodes 0
 
-abbrev pub has_seen : Draft → Key → Bool
+abbrev pub has_seen : VrpFields → Key → Bool
 has_seen draft key = slice_index_or draft.seen (key_number key) false
 
 -- what may be wrong with a line at this place
-abbrev pub line_fault : Draft → Row → Section → ReadFaultKind → Bool
+abbrev pub line_fault : VrpFields → Row → Section → ReadFaultKind → Bool
 line_fault draft row Outside kind = key_fault (is_some draft.nodes) (has_seen draft (key_of row)) (value_of row) (key_of row) kind
 line_fault draft row (CoordinateLine n) kind = node_fault 3 (coordinate_limits (nodes_in draft)) (is_taken draft.coordinates.items) (words_of row.text) kind
 line_fault draft row (DemandLine n) kind = node_fault 2 (demand_limits (nodes_in draft)) (is_taken draft.demands.items) (words_of row.text) kind
@@ -41,7 +41,7 @@ line_fault draft row (DepotLine seen) kind = depot_fault seen (words_of row.text
 line_fault draft row AfterEnd kind = false
 
 -- the draft after a line with this value and key
-abbrev pub TakesValue : Draft → ℕ → List ℕ → Key → Draft → Type 0
+abbrev pub TakesValue : VrpFields → ℕ → List ℕ → Key → VrpFields → Type 0
 TakesValue old line value Dimension new = new ≡ record old { nodes = Some (unsigned_abs (value_at (words_of value) 0)) }
 TakesValue old line value Capacity new = new ≡ record old { capacity = Some (unsigned_abs (value_at (words_of value) 0)) }
 TakesValue old line value Coordinates new = (new ≡ record old { coordinates = new.coordinates }) × (new.coordinates.items ≡ replicate (nodes_in old) None)
@@ -49,14 +49,14 @@ TakesValue old line value Demands new = (new ≡ record old { demands = new.dema
 TakesValue old line value End new = new ≡ record old { end = option_or old.end (Some line) }
 TakesValue old line value _ new = new ≡ old
 
-abbrev pub with_key : Draft → Key → Draft
+abbrev pub with_key : VrpFields → Key → VrpFields
 with_key draft key = record draft { seen = set draft.seen (key_number key) true }
 
 abbrev pub node_index : List (List ℕ) → ℕ
 node_index words = unsigned_abs (value_at words 0) - 1
 
 -- the draft after a line at this place
-abbrev pub TakesLine : Draft → Row → Section → Draft → Type 0
+abbrev pub TakesLine : VrpFields → Row → Section → VrpFields → Type 0
 TakesLine old row Outside new = TakesValue (with_key old (key_of row)) row.line (value_of row) (key_of row) new
 TakesLine old row (CoordinateLine n) new =
     let words = words_of row.text in
@@ -72,7 +72,7 @@ abbrev pub IsPoint : ℤ × ℤ → Type 0
 IsPoint point = IsCoordinate point.0 × IsCoordinate point.1
 
 -- every number is within its limits
-pub record IsDraft (draft : Draft) : Type 0 where
+pub record IsDraft (draft : VrpFields) : Type 0 where
   pub keys : length draft.seen ≡ 11
   pub nodes : IfSome draft.nodes (λ n. (2 ≤ n) × (n ≤ most_nodes))
   pub capacity : IfSome draft.capacity IsCapacity
@@ -80,16 +80,16 @@ pub record IsDraft (draft : Draft) : Type 0 where
   pub demands : All (λ entry. IfSome entry IsDemand) draft.demands.items
 
 -- a line without a fault was taken at this place
-abbrev pub Takes : Draft → Row → Section → Draft → Type 0
+abbrev pub Takes : VrpFields → Row → Section → VrpFields → Type 0
 Takes old row place new = HasNoKind (line_fault old row place) × TakesLine old row place new × IsDraft new
 
 -- and the next line stands at that place
-abbrev pub TakesTo : Draft → Row → Section → Draft → Section → Type 0
+abbrev pub TakesTo : VrpFields → Row → Section → VrpFields → Section → Type 0
 TakesTo old row place new next =
     HasNoKind (line_fault old row place) × TakesLine old row place new × (next ≡ place_after old.nodes row place) × IsDraft new
 
 -- a key's value without a fault was taken, where a line of the same key may stand before it
-abbrev pub TakesKey : Draft → ℕ → List ℕ → Key → Bool → Draft → Type 0
+abbrev pub TakesKey : VrpFields → ℕ → List ℕ → Key → Bool → VrpFields → Type 0
 TakesKey old line value key stands new =
     HasNoKind (key_fault (is_some old.nodes) stands value key) × TakesValue old line value key new × IsDraft new
 
@@ -98,11 +98,11 @@ abbrev pub unnumbered : List ℕ → Row
 unnumbered text = record { line = 0; text = text }
 
 -- the line of a node was taken at this place, or its first fault is told
-abbrev pub TakesNode : {X : Type 0} → Draft → List ℕ → Section → Draft → Result X ReadFaultKind → Type 0
+abbrev pub TakesNode : {X : Type 0} → VrpFields → List ℕ → Section → VrpFields → Result X ReadFaultKind → Type 0
 TakesNode old text place new result = MatchResult result (λ _. Takes old (unnumbered text) place new) (IsFirstKind (line_fault old (unnumbered text) place))
 
 -- a line at this place finds what it needs
-abbrev pub FitsSection : Section → Draft → Type 0
+abbrev pub FitsSection : Section → VrpFields → Type 0
 FitsSection (CoordinateLine left) draft = (1 ≤ left) × (length draft.coordinates.items ≡ nodes_in draft)
 FitsSection (DemandLine left) draft = (1 ≤ left) × (length draft.demands.items ≡ nodes_in draft)
 FitsSection (DepotLine seen) draft = seen < 2

@@ -6,7 +6,7 @@ use Rattle.plan_types.specs.Limits.{IsCapacity, IsFleet, IsStop, IsVisit}
 use Rattle.plan_types.specs.declared.limits.TheConstants.{MAX_DEMAND}
 use Rattle.instance_read.specs.declared.faults.ReadFault.{ReadFault}
 use Rattle.instance_read.specs.declared.faults.ReadFaultKind.TheVariants.{PairMismatch}
-use Rattle.instance_read.specs.declared.tasks.Header.{Header}
+use Rattle.instance_read.specs.declared.tasks.FleetLine.{FleetLine}
 use Rattle.instance_read.specs.declared.tasks.Task.{Task}
 use Rattle.instance_read.specs.Faults.{no_memory}
 use Rattle.instance_read.specs.Fields.{value_at}
@@ -37,10 +37,10 @@ pub record AreTasks (depot : Task) (customers : List Task) : Type 0 where
   pub rising : RisesFrom 0 customers
 
 -- the header has the first two of these numbers
-abbrev pub IsHeader : List (List ℕ) → Header → Type 0
+abbrev pub IsHeader : List (List ℕ) → FleetLine → Type 0
 IsHeader words header = (header.fleet ≡ unsigned_abs (value_at words 0)) × (header.capacity ≡ unsigned_abs (value_at words 1))
 
-pub record HeaderKeepsLimits (header : Header) : Type 0 where
+pub record HeaderKeepsLimits (header : FleetLine) : Type 0 where
   pub fleet : IsFleet header.fleet
   pub capacity : IsCapacity header.capacity
 

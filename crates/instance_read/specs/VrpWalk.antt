@@ -11,7 +11,7 @@ use Rattle.plan_types.specs.declared.requests.Request.{Request}
 use Rattle.plan_types.specs.declared.requests.Request.TheVariants.{Single}
 use Rattle.plan_types.specs.declared.requests.Stop.{Stop}
 use Rattle.instance_read.specs.declared.faults.ReadFault.{ReadFault}
-use Rattle.instance_read.specs.declared.vrp_draft.Draft.{Draft}
+use Rattle.instance_read.specs.declared.vrp_draft.VrpFields.{VrpFields}
 use Rattle.instance_read.specs.declared.vrp_lines.Key.{Key}
 use Rattle.instance_read.specs.declared.vrp_lines.Key.TheVariants.{Dimension, Capacity, WeightType, Coordinates, Demands, Depots, End}
 use Rattle.instance_read.specs.declared.vrp_lines.Section.TheVariants.{Outside}
@@ -34,7 +34,7 @@ abbrev pub demand_in : Placed → ℤ
 demand_in p = value_at (words_of p.row.text) 1
 
 -- the draft has what these lines say
-pub record Knows (before : List Placed) (draft : Draft) : Type 0 where
+pub record Knows (before : List Placed) (draft : VrpFields) : Type 0 where
   pub seen : (key : Key) → has_seen draft key ≡ any_key key before
   pub nodes : draft.nodes ≡ option_map number_in (first_key Dimension before)
   pub capacity : draft.capacity ≡ option_map number_in (first_key Capacity before)
@@ -67,18 +67,18 @@ abbrev pub TellsLine : List Placed → ReadFault → Type 0
 TellsLine ps f = (f ≡ no_memory) ⊎ IsFirstFaultyLine ps f
 
 -- a key or a section that each text has was not seen
-abbrev pub draft_lacks_key : Draft → Bool
+abbrev pub draft_lacks_key : VrpFields → Bool
 draft_lacks_key draft =
     not (has_seen draft Dimension && has_seen draft Capacity && has_seen draft WeightType && has_seen draft Coordinates && has_seen draft Demands && has_seen draft Depots)
 
-abbrev pub point_at : Draft → ℕ → ℤ × ℤ
+abbrev pub point_at : VrpFields → ℕ → ℤ × ℤ
 point_at draft n = unwrap_or (slice_index_or draft.coordinates.items n None) (pos 0, pos 0)
 
-abbrev pub demand_at : Draft → ℕ → ℤ
+abbrev pub demand_at : VrpFields → ℕ → ℤ
 demand_at draft n = unwrap_or (slice_index_or draft.demands.items n None) (pos 0)
 
 -- node n+1 as stop n, with this demand
-abbrev pub drafted_stop : Draft → ℤ → ℕ → Stop
+abbrev pub drafted_stop : VrpFields → ℤ → ℕ → Stop
 drafted_stop draft demand n = record {
   number = n;
   x = (point_at draft n).0;
@@ -89,15 +89,15 @@ drafted_stop draft demand n = record {
   service = 0;
 }
 
-abbrev pub customer_in : Draft → ℕ → ℕ × Request
+abbrev pub customer_in : VrpFields → ℕ → ℕ × Request
 customer_in draft n = (n, Single (drafted_stop draft (demand_at draft n) n))
 
 -- so many customers, from number 1 on
-abbrev pub customers_in : Draft → ℕ → List (ℕ × Request)
+abbrev pub customers_in : VrpFields → ℕ → List (ℕ × Request)
 customers_in draft count = map (customer_in draft) (range_with_len 1 count)
 
 -- the problem of a draft
-abbrev pub drafted_problem : Draft → Instance
+abbrev pub drafted_problem : VrpFields → Instance
 drafted_problem draft = record {
   kind = Vrp;
   depot = drafted_stop draft (pos 0) 0;

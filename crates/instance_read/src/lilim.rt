@@ -8,7 +8,7 @@ ghost use Rattle.instance_read.specs.Walk.{HasNoTaskFault, LinesAbove, TellsTask
 
 use crate::pairs::pair_up;
 use crate::rows::NumberedLines;
-use crate::tasks::{Header, Task};
+use crate::tasks::{FleetLine, Task};
 use crate::{ReadFault, ReadFaultKind};
 use plan_types::Problem;
 use std::alloc::Global;
@@ -32,7 +32,7 @@ pub fn read_lilim(alloc: Global, text: &[u8]) -> Result<Problem, ReadFault>
     let Some(first) = lines.next() else {
         return Err(truncated(text));
     };
-    let header = match Header::read(first.text) {
+    let header = match FleetLine::read(first.text) {
         Ok(header) => header,
         Err(kind) => {
             return Err(ReadFault {

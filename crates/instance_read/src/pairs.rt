@@ -15,7 +15,7 @@ ghost use Rattle.instance_read.specs.Tables.{ArePaired, AreTasks, HeaderKeepsLim
 
 use crate::entries::entry_of;
 use crate::put::put_request;
-use crate::tasks::{Header, Task};
+use crate::tasks::{FleetLine, Task};
 use crate::{ReadFault, ReadFaultKind};
 use plan_types::{Kind, Problem, PutFault, Request, Stop};
 use std::alloc::{AllocError, Global};
@@ -23,7 +23,7 @@ use std::alloc::{AllocError, Global};
 /// The problem of a header, a depot and customers, if each customer is half of a pair.
 pub fn pair_up(
     alloc: Global,
-    header: Header,
+    header: FleetLine,
     depot: &Task,
     customers: &[Task],
 ) -> Result<Problem, ReadFault>
@@ -125,7 +125,7 @@ fn is_wrong_pickup(delivery: &Task, pickup: &Task) -> bool
     pickup.delivery != delivery.stop.number || is_uneven(delivery, pickup)
 }
 
-fn problem_without_requests(alloc: Global, header: Header, depot: &Task) -> Problem
+fn problem_without_requests(alloc: Global, header: FleetLine, depot: &Task) -> Problem
     requires header { HeaderKeepsLimits header }
     requires first { depot.now.stop.number ≡ 0 }
     requires visit { IsVisit depot.now.stop }

@@ -16,7 +16,7 @@ use text_lines::{Words, word_count};
 
 /// The first line.
 #[derive(Clone, Copy)]
-pub struct Header {
+pub struct FleetLine {
     pub fleet: u32,
     pub capacity: u32,
 }
@@ -33,9 +33,9 @@ pub struct Task {
     pub delivery: u32,
 }
 
-impl Header {
+impl FleetLine {
     /// Reads the words of the first line.
-    pub fn read(line: &[u8]) -> Result<Header, ReadFaultKind>
+    pub fn read(line: &[u8]) -> Result<FleetLine, ReadFaultKind>
         ensures { let words = words_of line.now in
             ReadsValue (header_fault words) (IsHeader words) result }
     {
@@ -48,7 +48,7 @@ impl Header {
         let Some(values) = next_values(&mut Words::new(line), &HEADER) else {
             return Err(ReadFaultKind::Range);
         };
-        Ok(Header {
+        Ok(FleetLine {
             fleet: values[0].unsigned_abs(),
             capacity: values[1].unsigned_abs(),
         })

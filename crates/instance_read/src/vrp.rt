@@ -13,7 +13,7 @@ ghost use Rattle.instance_read.specs.VrpWalk.{HasNoLineFault, Knows, TellsLine, 
 ghost use Rattle.instance_read.specs.declared.vrp_lines.Section.TheVariants.{Outside};
 
 use crate::rows::NumberedLines;
-use crate::vrp_draft::Draft;
+use crate::vrp_draft::VrpFields;
 use crate::vrp_lines::{Key, Section};
 use crate::vrp_problem::problem_of;
 use crate::{ReadFault, ReadFaultKind};
@@ -53,14 +53,14 @@ pub fn read_vrp(alloc: Global, text: &[u8]) -> Result<Problem, ReadFault>
 }
 
 // What the lines say, and the place behind them.
-fn read_lines(alloc: Global, lines: NumberedLines<'_>) -> Result<(Draft, Section), ReadFault>
+fn read_lines(alloc: Global, lines: NumberedLines<'_>) -> Result<(VrpFields, Section), ReadFault>
     ensures ok { let placed = placed_rows lines.entry in IfOk result (λ r. Knows placed r.0
         × IsDraft r.0
         × HasNoLineFault placed
         × (r.1 ≡ end_from None Outside lines.entry)) }
     ensures err { IfErr result (TellsLine (placed_rows lines.entry)) }
 {
-    let mut draft = Draft::new(alloc);
+    let mut draft = VrpFields::new(alloc);
     let mut place = Section::Outside;
     for line in lines {
         match draft.take(alloc, place, &line) {
@@ -78,7 +78,7 @@ fn is_inside(place: Section) -> bool
 }
 
 // Whether one is missing that each text has.
-fn lacks_key(draft: &Draft) -> bool
+fn lacks_key(draft: &VrpFields) -> bool
     requires { IsDraft draft.now }
     ensures { result ≡ draft_lacks_key draft.now }
 {
@@ -91,7 +91,7 @@ fn lacks_key(draft: &Draft) -> bool
 }
 
 // The line of EOF, or one after the last.
-fn end_line(draft: &Draft, text: &[u8]) -> u64
+fn end_line(draft: &VrpFields, text: &[u8]) -> u64
     ensures { result ≡ option_map_or (λ line. line) draft.now.end (length (lines_of text.now) + 1) }
 {
     match draft.end {

@@ -18,7 +18,7 @@ use text_lines::word_count;
 
 /// What the lines so far have said.
 #[derive(Drop)]
-pub struct Draft {
+pub struct VrpFields {
     /// Which keys stood, each at its index.
     pub seen: [bool; KEYS],
     /// How many nodes DIMENSION announces.
@@ -31,7 +31,7 @@ pub struct Draft {
     pub end: Option<u64>,
 }
 
-impl Draft {
+impl VrpFields {
     ghost use Rattle.std.specs.Prelude.{◌≡◌};
     ghost use Rattle.instance_read.specs.Drafts.{IsDraft, FitsSection, TakesKey, TakesNode, TakesTo, TellsKind, line_fault, has_seen, with_key, nodes_in, is_taken, node_index};
     ghost use Rattle.std.specs.Prelude.{[]};
@@ -40,12 +40,12 @@ impl Draft {
     ghost use Rattle.instance_read.specs.VrpLines.{place_after, place_after_key, key_of, value_of};
 
     /// Before the first line.
-    pub fn new(alloc: Global) -> Draft
+    pub fn new(alloc: Global) -> VrpFields
         ensures known { Knows [] result }
         ensures valid { IsDraft result }
         ensures nodes { result.nodes ≡ None }
     {
-        Draft {
+        VrpFields {
             seen: [false; KEYS],
             nodes: None,
             capacity: None,

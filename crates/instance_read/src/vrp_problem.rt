@@ -13,13 +13,13 @@ ghost use Rattle.instance_read.specs.VrpWalk.{customers_in, demand_at, drafted_p
 use crate::ReadFault;
 use crate::entries::entry_of;
 use crate::put::put_request;
-use crate::vrp_draft::Draft;
+use crate::vrp_draft::VrpFields;
 use plan_types::limits::MAX_TIME;
 use plan_types::{Kind, Problem, Request, Stop};
 use std::alloc::{AllocError, Global};
 
 /// The problem of a text without faults: node 1 is the depot, each other a customer that gives its demand.
-pub fn problem_of(alloc: Global, draft: &Draft) -> Result<Problem, ReadFault>
+pub fn problem_of(alloc: Global, draft: &VrpFields) -> Result<Problem, ReadFault>
     requires draft { IsDraft draft.now }
     requires announced { is_some draft.now.nodes ≡ true }
     ensures ok { IfOk result (λ p. p ≡ drafted_problem draft.now) }
@@ -30,7 +30,7 @@ pub fn problem_of(alloc: Global, draft: &Draft) -> Result<Problem, ReadFault>
     Ok(problem)
 }
 
-fn problem_without_customers(alloc: Global, draft: &Draft) -> Problem
+fn problem_without_customers(alloc: Global, draft: &VrpFields) -> Problem
     requires draft { IsDraft draft.now }
     requires announced { is_some draft.now.nodes ≡ true }
     ensures { let problem = drafted_problem draft.now in
@@ -46,7 +46,7 @@ fn problem_without_customers(alloc: Global, draft: &Draft) -> Problem
 
 // Apart from the loop over the lines, which then keeps its numbers in registers.
 #[inline(never)]
-fn put_customers(problem: &mut Problem, draft: &Draft) -> Result<(), AllocError>
+fn put_customers(problem: &mut Problem, draft: &VrpFields) -> Result<(), AllocError>
     requires draft { IsDraft draft.now }
     requires announced { is_some draft.now.nodes ≡ true }
     requires empty { problem.old.requests ≡ [] }
@@ -64,7 +64,7 @@ fn put_customers(problem: &mut Problem, draft: &Draft) -> Result<(), AllocError>
     Ok(())
 }
 
-fn customer(draft: &Draft, number: u32) -> Request
+fn customer(draft: &VrpFields, number: u32) -> Request
     ensures { result ≡ Single (drafted_stop draft.now (demand_at draft.now number) number) }
 {
     let demand = entry_of(&draft.demands, number).unwrap_or(0);
@@ -72,7 +72,7 @@ fn customer(draft: &Draft, number: u32) -> Request
 }
 
 // Node n+1 as stop n.
-fn node_stop(draft: &Draft, number: u32, demand: i32) -> Stop
+fn node_stop(draft: &VrpFields, number: u32, demand: i32) -> Stop
     ensures { result ≡ drafted_stop draft.now demand number }
 {
     let (x, y) = entry_of(&draft.coordinates, number).unwrap_or((0, 0));

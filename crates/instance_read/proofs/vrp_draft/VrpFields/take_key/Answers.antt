@@ -1,12 +1,12 @@
 use Rattle.std.proofs.Common.{subst}
 use Rattle.std.specs.Prelude.{is_some}
 use Rattle.std.proofs.lemmas.Result.{err_from_is_err_and}
-use Rattle.instance_read.specs.declared.vrp_draft.Draft.{Draft}
+use Rattle.instance_read.specs.declared.vrp_draft.VrpFields.{VrpFields}
 use Rattle.instance_read.specs.Drafts.{TellsKind}
 use Rattle.instance_read.specs.RowViews.{row_view}
 use Rattle.instance_read.specs.Vrp.{key_fault}
 use Rattle.instance_read.proofs.KeyLemmas.{same_key, same_value, takes_key, tells_key}
-use Rattle.instance_read.proofs.vrp_draft.Draft.take_key.Goals as goal
+use Rattle.instance_read.proofs.vrp_draft.VrpFields.take_key.Goals as goal
 
 pub returns-in_err-take_value-clause-err : goal.returns-in_err-take_value-clause-err
 returns-in_err-take_value-clause-err c =
@@ -15,7 +15,7 @@ returns-in_err-take_value-clause-err c =
     let key = c.read_key-key.result.0 in
     let value = c.read_key-key.result.1.now in
     let kind = c.in_err-take_value.field-0.0 in
-    let P : Draft → Type 0 = λ mid. TellsKind (key_fault (is_some mid.nodes) c.mark-stands.result value key) kind in
+    let P : VrpFields → Type 0 = λ mid. TellsKind (key_fault (is_some mid.nodes) c.mark-stands.result value key) kind in
     let told = subst P c.mark-stands.ensures.after c.in_err-take_value.ensures.err in
     let p = err_from_is_err_and c.from_residual.result c.from_residual.ensures.1 in
     rw (p.1, p.2) (tells_key old row key value c.mark-stands.result (same_key row key c.read_key-key.ensures.key) (same_value row value c.read_key-key.ensures.value) c.mark-stands.ensures.before kind told)

@@ -4,7 +4,7 @@ use Rattle.text_lines.specs.Words.{words_of}
 use Rattle.instance_read.specs.Drafts.{nodes_in}
 use Rattle.instance_read.specs.Vrp.{coordinate_limits}
 use Rattle.instance_read.proofs.NodeLemmas.{put_is, takes_point}
-use Rattle.instance_read.proofs.vrp_draft.Draft.take_coordinates.Goals as goal
+use Rattle.instance_read.proofs.vrp_draft.VrpFields.take_coordinates.Goals as goal
 
 pub returns : goal.returns
 returns c =
