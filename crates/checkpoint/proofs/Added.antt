@@ -52,7 +52,8 @@ module _ (layout : Layout) (image : List ℕ) (sequence : ℕ) (state : List ℕ
         (λ j within. outside (half_at layout sequence + j) (inr (omega (arith, free)))) stored.header.valid.fits ∙ stored.snapshot;
     count = omega (arith, more, free);
     records = ap (λ (n : ℕ). record_sectors 0 n with_record) more ∙ record_sectors-more 0 (length journal) with_record
-        ∙ ap (λ (l : List (List ℕ)). l ++ sector (2 + (0 + length journal)) with_record ∷ []) (same_records 0 (length journal) image with_record (λ j from to. outside (2 + j) (inl (omega (arith, to)))) ∙ stored.records)
+        ∙ ap (λ (l : List (List ℕ)). l ++ sector (2 + (0 + length journal)) with_record ∷ [])
+        (same_records 0 (length journal) image with_record (λ j from to. outside (2 + j) (inl (omega (arith, to)))) ∙ stored.records)
         ∙ ap (λ (s : List ℕ). journal ++ s ∷ []) (ap (λ (k : ℕ). sector (2 + k) with_record) (omega arith) ∙ here);
     marked = λ i below. marks i (omega (arith, below, more));
     rest = λ i from to. subst (λ (s : List ℕ). begins_with s < sequence) (sym (outside (2 + i) (inr (omega (arith, from, more))))) (stored.rest i (omega (arith, from, more)) to);

@@ -34,7 +34,8 @@ module _ (layout : Layout) (sequence : ℕ) (image state : List ℕ) (room : 512
   size = length-written ((sequence + 1) % 2) 1 (header_bytes layout.version (record { sequence = sequence + 1; length = length state })) image refl (omega (arith, room))
 
   outside : (i : ℕ) → 2 ≤ i → sector i with_header ≡ sector i image
-  outside i from = written_outside ((sequence + 1) % 2) 1 (header_bytes layout.version (record { sequence = sequence + 1; length = length state })) image refl (omega (arith, room)) i (inr (omega (arith, from)))
+  outside i from = written_outside ((sequence + 1) % 2) 1 (header_bytes layout.version (record { sequence = sequence + 1; length = length state })) image refl
+      (omega (arith, room)) i (inr (omega (arith, from)))
 
   here : sector ((sequence + 1) % 2) with_header ≡ header_bytes layout.version (record { sequence = sequence + 1; length = length state })
   here = sector_written ((sequence + 1) % 2) (header_bytes layout.version (record { sequence = sequence + 1; length = length state })) image refl (omega (arith, room))

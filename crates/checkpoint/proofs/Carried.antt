@@ -24,14 +24,16 @@ module _ (layout : Layout) (a b : List ℕ) (size : length b ≡ length a) where
   same_valid header same valid = record { room = omega (arith, valid.room, size); bytes = same ∙ valid.bytes; first = valid.first; last = valid.last; some = valid.some; fits = valid.fits }
 
   -- the same records, as far as they are of this sequence and where none of it follow
-  module _ (sequence : ℕ) (same : (i : ℕ) → i < 258 → sector i b ≡ sector i a) (half : (j : ℕ) → j < layout.half → sector (half_at layout sequence + j) b ≡ sector (half_at layout sequence + j) a) where
+  module _ (sequence : ℕ) (same : (i : ℕ) → i < 258 → sector i b ≡ sector i a)
+      (half : (j : ℕ) → j < layout.half → sector (half_at layout sequence + j) b ≡ sector (half_at layout sequence + j) a) where
     pub carried : (state : List ℕ) (journal : List (List ℕ)) → Stores layout a sequence state journal → Stores layout b sequence state journal
     carried state journal stored = record {
       header = record {
         valid = same_valid (record { sequence = sequence; length = length state }) (same (sequence % 2) (omega arith)) stored.header.valid;
         greatest = λ other valid. stored.header.greatest other (back other valid);
       };
-      snapshot = same_run (half_at layout sequence) layout.half (length state) a b (omega (arith, half_inside layout sequence, stored.header.valid.room)) size half stored.header.valid.fits ∙ stored.snapshot;
+      snapshot = same_run (half_at layout sequence) layout.half (length state) a b
+          (omega (arith, half_inside layout sequence, stored.header.valid.room)) size half stored.header.valid.fits ∙ stored.snapshot;
       count = stored.count;
       records = same_records 0 (length journal) a b (λ j from to. same (2 + j) (omega (arith, stored.count))) ∙ stored.records;
       marked = λ i below. ap begins_with (same (2 + i) (omega (arith, stored.count))) ∙ stored.marked i below;
@@ -39,4 +41,12 @@ module _ (layout : Layout) (a b : List ℕ) (size : length b ≡ length a) where
     }
       where
         back : (other : Header) → IsValid layout b other → IsValid layout a other
-        back other valid = record { room = omega (arith, valid.room, size); bytes = sym (same (other.sequence % 2) (omega arith)) ∙ valid.bytes; first = valid.first; last = valid.last; some = valid.some; fits = valid.fits }
+        back other valid = record {
+          room = omega (arith, valid.room, size);
+          bytes = sym (same (other.sequence % 2) (omega arith))
+              ∙ valid.bytes;
+          first = valid.first;
+          last = valid.last;
+          some = valid.some;
+          fits = valid.fits;
+        }

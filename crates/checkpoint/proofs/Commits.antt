@@ -39,7 +39,8 @@ module _ (header : Header) (bytes : List ℕ) (sequence : ℕ) (next : header.se
   pub front_stays : (before image : List ℕ) → 512 * 8450 ≤ length before → Mixes before (written (half_of header) bytes before) image → (i : ℕ) → i < 258 → sector i image ≡ sector i before
   front_stays before image room mix i below = mixes_outside (half_of header) (length bytes / 512) bytes before image sectors (inside before room) mix i (inl (low i below))
 
-  pub stays : (before image : List ℕ) (state : List ℕ) (journal : List (List ℕ)) → Mixes before (written (half_of header) bytes before) image → Stores version_2 before sequence state journal → Stores version_2 image sequence state journal
+  pub stays : (before image : List ℕ) (state : List ℕ) (journal : List (List ℕ)) → Mixes before (written (half_of header) bytes before) image
+      → Stores version_2 before sequence state journal → Stores version_2 image sequence state journal
   stays before image state journal mix stored =
       let room : 512 * 8450 ≤ length before = stored.header.valid.room in
       carried version_2 before image mix.size sequence (front_stays before image room mix)
@@ -55,7 +56,15 @@ module _ (header : Header) (bytes : List ℕ) (sequence : ℕ) (next : header.se
       let mix = whole_mix before room in
       let same = front_stays before (with_snapshot header bytes before) room mix in
       record {
-        headers = λ other valid. below.headers other (record { room = omega (arith, valid.room, mix.size); bytes = sym (same (other.sequence % 2) (omega arith)) ∙ valid.bytes; first = valid.first; last = valid.last; some = valid.some; fits = valid.fits });
+        headers = λ other valid. below.headers other (record {
+          room = omega (arith, valid.room, mix.size);
+          bytes = sym (same (other.sequence % 2) (omega arith))
+              ∙ valid.bytes;
+          first = valid.first;
+          last = valid.last;
+          some = valid.some;
+          fits = valid.fits;
+        });
         records = λ i within. subst (λ (s : List ℕ). begins_with s ≤ sequence) (sym (same (2 + i) (omega arith))) (below.records i within);
       }
 
@@ -66,17 +75,20 @@ module _ (header : Header) (bytes : List ℕ) (sequence : ℕ) (next : header.se
       let mix = whole_mix before room in
       let state = take header.length bytes in
       let counted : length state ≡ header.length = simp length-take (omega arith) in
-      let read : take (length state) (drop (512 * half_of header) (with_snapshot header bytes before)) ≡ state = ap (λ (n : ℕ). take n (drop (512 * half_of header) (with_snapshot header bytes before))) counted
+      let read : take (length state) (drop (512 * half_of header) (with_snapshot header bytes before))
+      ≡ state = ap (λ (n : ℕ). take n (drop (512 * half_of header) (with_snapshot header bytes before))) counted
       ∙ read_written (half_of header) header.length bytes before (omega (arith, inside before room, sectors)) long in
       let kept = subst (λ (q : ℕ). snapshot_in version_2 (with_snapshot header bytes before) q (length state) ≡ state) next read in
       let new = advanced version_2 sequence (with_snapshot header bytes before) state (omega (arith, room, mix.size)) (omega (arith, last, next)) (below_stays before room below)
       (omega (arith, counted, some)) (omega (arith, counted, long, fits)) kept in
-      subst (λ (l : ℕ). Stores version_2 (written (header.sequence % 2) (header_bytes 2 (record { sequence = header.sequence; length = l })) (with_snapshot header bytes before)) header.sequence state []) counted
+      subst (λ (l : ℕ). Stores version_2 (written (header.sequence % 2) (header_bytes 2 (record { sequence = header.sequence; length = l }))
+      (with_snapshot header bytes before)) header.sequence state []) counted
       (subst (λ (q : ℕ). Stores version_2 (written (q % 2) (header_bytes 2 (record { sequence = q; length = length state })) (with_snapshot header bytes before)) q state []) (sym next) new)
 
   -- each moment of the four calls, where each image stores something of the sequence before
   module _ (state : List ℕ) (journal : List (List ℕ)) (possible : List ℕ → Type 0) (seen : List ℕ) (here : possible seen)
-      (stored : (image : List ℕ) → possible image → Stores version_2 image sequence state journal) (last : header.sequence ≤ 2 ^ 60) (some : 1 ≤ header.length) (long : header.length ≤ length bytes) where
+      (stored : (image : List ℕ) → possible image → Stores version_2 image sequence state journal) (last : header.sequence ≤ 2 ^ 60) (some : 1 ≤ header.length)
+      (long : header.length ≤ length bytes) where
     pub now : Stores version_2 (with_both header bytes seen) header.sequence (take header.length bytes) []
     now = becomes seen (stored seen here).header.valid.room (stored_below version_2 seen sequence state journal (stored seen here)) last some long
 

@@ -1,5 +1,41 @@
 -- Each image holds something, or has a cause to hold nothing: every question of the definition has an answer.
-use Rattle.std.proofs.Common.{◌-◌, ◌≡◌, ◌≢◌, ◌⊎◌, ⊎_elim, inl, inr, ℕ, zero, suc, ◌+◌, ◌*◌, ◌%◌, ◌^◌, ◌<◌, ◌≤◌, List, [], ◌∷◌, ◌++◌, length, take, drop, All, Option, Some, None, Err, refl, sym, ◌∙◌, ap, subst, arith, length-append}
+use Rattle.std.proofs.Common.{
+  ◌-◌,
+  ◌≡◌,
+  ◌≢◌,
+  ◌⊎◌,
+  ⊎_elim,
+  inl,
+  inr,
+  ℕ,
+  zero,
+  suc,
+  ◌+◌,
+  ◌*◌,
+  ◌%◌,
+  ◌^◌,
+  ◌<◌,
+  ◌≤◌,
+  List,
+  [],
+  ◌∷◌,
+  ◌++◌,
+  length,
+  take,
+  drop,
+  All,
+  Option,
+  Some,
+  None,
+  Err,
+  refl,
+  sym,
+  ◌∙◌,
+  ap,
+  subst,
+  arith,
+  length-append,
+}
 use Rattle.std.proofs.lemmas.Bool.{cases_lt}
 use Rattle.std.proofs.lemmas.List.Elements.{All-take, All-drop}
 use Rattle.byteorder.specs.Endian.{big_bytes}
@@ -72,7 +108,8 @@ same_bytes (x ∷ xs) (y ∷ ys) = by (both (same_number x y) (same_bytes xs ys)
 module _ (layout : Layout) (image : List ℕ) (half : layout.half < 2 ^ 32) where
   -- a valid header is what its sector reads as
   is_read : (index : ℕ) (header : Header) → header.sequence % 2 ≡ index → IsValid layout image header → header ≡ read_of (sector index image)
-  is_read index header parity valid = sym (ap read_of (ap (λ (i : ℕ). sector i image) (sym parity) ∙ valid.bytes) ∙ read_back layout.version header (omega (arith, valid.last)) (omega (arith, valid.fits, half)))
+  is_read index header parity valid = sym (ap read_of (ap (λ (i : ℕ). sector i image) (sym parity) ∙ valid.bytes)
+      ∙ read_back layout.version header (omega (arith, valid.last)) (omega (arith, valid.fits, half)))
 
   abbrev IsIn : ℕ → Header → Type 0
   IsIn index header = (header.sequence % 2 ≡ index) × IsValid layout image header
@@ -176,7 +213,13 @@ module _ (bytes : BytesAreDecided) (records : RecordsAreDecided) where
         let has = led.1 in
         ⊎_elim
         (λ (clear : IsClearFrom (length commands) image header.sequence). ⊎_elim
-        (λ (numbers : HaveNumbers version state commands). inl (state, commands, record { sequence = header.sequence; used = length commands }, holds_here version image header counts state commands (length commands) is told facts has clear numbers refl))
+        (λ (numbers : HaveNumbers version state commands). inl (
+          state,
+          commands,
+          record { sequence = header.sequence; used = length commands },
+          holds_here version image header counts state commands
+              (length commands) is told facts has clear numbers refl,
+        ))
         (λ (past : ¬ HaveNumbers version state commands). bad state is told facts commands has (inr past)) (numbered version state commands))
         (λ (stray : HasStrayFrom (length commands) image header.sequence). bad state is told facts commands has (inl stray))
         (strays image header.sequence (256 - length commands) (length commands) (omega (arith, has.count)))
@@ -192,7 +235,8 @@ module _ (bytes : BytesAreDecided) (records : RecordsAreDecided) where
         (λ known. of_state known.0 known.1 known.2 known.3)
         (λ fault. of_fault fault.0 fault.1 fault.2)
         (bytes version (snapshot_in (layout_of version) image header.sequence header.length)
-        (All-take (λ b. b < 256) header.length (drop (512 * half_at (layout_of version) header.sequence) image) (All-drop (λ b. b < 256) (512 * half_at (layout_of version) header.sequence) image are)))
+        (All-take (λ b. b < 256) header.length (drop (512 * half_at (layout_of version) header.sequence) image)
+        (All-drop (λ b. b < 256) (512 * half_at (layout_of version) header.sequence) image are)))
 
   pub decided : (version : Version) (image : List ℕ) → All (λ b. b < 256) image → IsDecided version image
   decided version image are = ⊎_elim

@@ -9,7 +9,8 @@ use Rattle.checkpoint.specs.Puts.{IsInPut}
 use Rattle.checkpoint.proofs.Added.{added}
 
 module _ (bytes : List ℕ) (sequence : ℕ) (state : List ℕ) (journal : List (List ℕ)) (used : ℕ) (possible : List ℕ → Type 0) (seen : List ℕ) (here : possible seen)
-    (stored : (image : List ℕ) → possible image → Stores version_2 image sequence state journal) (one : length bytes ≡ 512) (mark : begins_with bytes ≡ sequence) (is_used : used ≡ length journal) (free : used < 256) where
+    (stored : (image : List ℕ) → possible image → Stores version_2 image sequence state journal) (one : length bytes ≡ 512)
+    (mark : begins_with bytes ≡ sequence) (is_used : used ≡ length journal) (free : used < 256) where
   more : (image : List ℕ) → possible image → Stores version_2 (written (2 + used) bytes image) sequence state (journal ++ bytes ∷ [])
   more image left = subst (λ (u : ℕ). Stores version_2 (written (2 + u) bytes image) sequence state (journal ++ bytes ∷ [])) (sym is_used)
       (added version_2 image sequence state journal bytes (stored image left) one mark (omega (arith, free, is_used)))

@@ -29,7 +29,8 @@ told : (state : State) → IsStateOf Two state
 told Empty = tt
 told (Loaded job) = tt
 
-pub new_holds : (image : List ℕ) (state : State) (sequence : ℕ) (bytes : List ℕ) → bytes ≡ state_bytes Two state → IsState state → Stores version_2 image sequence bytes [] → Holds Two image state [] (record { sequence = sequence; used = 0 })
+pub new_holds : (image : List ℕ) (state : State) (sequence : ℕ) (bytes : List ℕ) → bytes ≡ state_bytes Two state → IsState state
+    → Stores version_2 image sequence bytes [] → Holds Two image state [] (record { sequence = sequence; used = 0 })
 new_holds image state sequence bytes is facts stored = record {
   stored = subst (λ (b : List ℕ). Stores version_2 image sequence b []) is stored;
   used = refl;
@@ -40,7 +41,8 @@ new_holds image state sequence bytes is facts stored = record {
 }
 
 -- a format, from what each image has behind it to what it has by that
-formats_within : (Y Z : List ℕ → Type 0) → ((image : List ℕ) → Y image → Z image) → (calls m : ℕ) (image : List ℕ) → IsInFormat (IsUnformatted version_2) Y calls m image → IsInFormat (IsUnformatted version_2) Z calls m image
+formats_within : (Y Z : List ℕ → Type 0) → ((image : List ℕ) → Y image → Z image) → (calls m : ℕ) (image : List ℕ)
+    → IsInFormat (IsUnformatted version_2) Y calls m image → IsInFormat (IsUnformatted version_2) Z calls m image
 formats_within Y Z by calls m image within = record {
   from = within.from;
   to = within.to;
@@ -93,4 +95,5 @@ module _ (place : Place) (state : State) (bytes : List ℕ) (is : bytes ≡ stat
     pub saved : {T E : Type 0} (result : Result T E) (start end : D)
         → Commits on result 4 2 (HasStored place.sequence (state_bytes Two old) (journal Two place.sequence 0 commands)) (HasStored (place.sequence + 1) bytes []) start end
         → Commits on result 4 2 (HoldsAt old commands place) (HoldsAt state [] (behind_snapshot place)) start end
-    saved result start end = commits_by _ _ _ _ (λ image. holds_still image old commands place seen (held seen here)) (λ image. new_holds image state (place.sequence + 1) bytes is facts) on result 4 2 start end
+    saved result start end = commits_by _ _ _ _ (λ image. holds_still image old commands place seen (held seen here))
+        (λ image. new_holds image state (place.sequence + 1) bytes is facts) on result 4 2 start end

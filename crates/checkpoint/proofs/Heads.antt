@@ -47,7 +47,8 @@ module _ (layout : Layout) (sectors : ℕ) (front image : List ℕ) (whole : IsI
       let some : None ≡ Some header = all header (omega (arith, valid.last)) (omega (arith, valid.fits, half)) (read_of_valid header of valid) in cc
 
   -- one was read that is not allowed
-  pub not_there : (read : Header) → ((header : Header) → header.sequence < 2 ^ 64 → header.length < 2 ^ 64 → bytes ≡ header_bytes layout.version header → Some read ≡ Some header) → layout.half < 2 ^ 32
+  pub not_there : (read : Header) → ((header : Header) → header.sequence < 2 ^ 64 → header.length < 2 ^ 64 → bytes ≡ header_bytes layout.version header
+      → Some read ≡ Some header) → layout.half < 2 ^ 32
       → ¬ IsAllowed layout sectors read index → IsOfParity layout image index None
   not_there read all half not header of valid =
       let same : Some read ≡ Some header = all header (omega (arith, valid.last)) (omega (arith, valid.fits, half)) (read_of_valid header of valid) in
@@ -60,17 +61,26 @@ module _ (layout : Layout) (image : List ℕ) where
   same_sector a b of valid_a valid_b = same_sequence layout.version a b (omega (arith, valid_a.last)) (omega (arith, valid_b.last))
       (sym valid_a.bytes ∙ ap (λ (i : ℕ). sector i image) of ∙ valid_b.bytes)
 
-  pub counts_both : (first second : Header) → IsOfParity layout image 0 (Some first) → IsOfParity layout image 1 (Some second) → (other : Header) → IsValid layout image other → (other.sequence ≡ first.sequence) ⊎ (other.sequence ≡ second.sequence)
+  pub counts_both : (first second : Header) → IsOfParity layout image 0 (Some first) → IsOfParity layout image 1 (Some second) → (other : Header)
+      → IsValid layout image other → (other.sequence ≡ first.sequence) ⊎ (other.sequence ≡ second.sequence)
   counts_both first second zeroth next other valid = ⊎_elim
       (λ even. inl (same_sector other first (even ∙ sym zeroth.0) valid zeroth.1))
       (λ odd. inr (same_sector other second (odd ∙ sym next.0) valid next.1))
       (parity other.sequence)
 
   pub counts_second : (first second : Header) → IsOfParity layout image 0 (Some first) → IsOfParity layout image 1 (Some second) → first.sequence < second.sequence → Counts layout image second
-  counts_second first second zeroth next less = record { valid = next.1; greatest = λ other valid. ⊎_elim (λ is. omega (arith, is, less)) (λ is. omega (arith, is)) (counts_both first second zeroth next other valid) }
+  counts_second first second zeroth next less = record {
+    valid = next.1;
+    greatest = λ other valid. ⊎_elim (λ is. omega (arith, is, less)) (λ is. omega (arith, is))
+        (counts_both first second zeroth next other valid);
+  }
 
   pub counts_first : (first second : Header) → IsOfParity layout image 0 (Some first) → IsOfParity layout image 1 (Some second) → second.sequence ≤ first.sequence → Counts layout image first
-  counts_first first second zeroth next less = record { valid = zeroth.1; greatest = λ other valid. ⊎_elim (λ is. omega (arith, is)) (λ is. omega (arith, is, less)) (counts_both first second zeroth next other valid) }
+  counts_first first second zeroth next less = record {
+    valid = zeroth.1;
+    greatest = λ other valid. ⊎_elim (λ is. omega (arith, is)) (λ is. omega (arith, is, less))
+        (counts_both first second zeroth next other valid);
+  }
 
   pub counts_zeroth : (first : Header) → IsOfParity layout image 0 (Some first) → IsOfParity layout image 1 None → Counts layout image first
   counts_zeroth first zeroth none = record {
@@ -105,7 +115,8 @@ module _ (layout : Layout) (sectors : ℕ) (front image : List ℕ) (whole : IsI
   }
     where
       there : (index : ℕ) → (index ≡ 0) ⊎ (index ≡ 1) → HasOtherVersion layout.version (sector index front) → HasOtherVersion layout.version (sector index image)
-      there index which other = subst (HasOtherVersion layout.version) (in_front sectors front image whole index (⊎_elim (λ (is : index ≡ 0). omega (arith, is)) (λ (is : index ≡ 1). omega (arith, is)) which)) other
+      there index which other = subst (HasOtherVersion layout.version)
+          (in_front sectors front image whole index (⊎_elim (λ (is : index ≡ 0). omega (arith, is)) (λ (is : index ≡ 1). omega (arith, is)) which)) other
 
   pub unformatted : ¬ HasOtherVersion layout.version (sector 0 front) → ¬ HasOtherVersion layout.version (sector 1 front) → HasNoHeader layout image store.NotFormatted
   unformatted zeroth next = record {

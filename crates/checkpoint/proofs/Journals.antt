@@ -56,7 +56,8 @@ holds_still image state commands place known held stored = record { stored = sto
 
 -- from what an image stores to what it holds
 module _ (place : Place) (command : Command) (bytes : List ℕ) (is : bytes ≡ record_bytes Two place.sequence place.used command) (recorded : IsRecorded Two command) (last : place.sequence ≤ 2 ^ 60)
-    (possible : List ℕ → Type 0) (seen : List ℕ) (here : possible seen) (state : State) (commands : List Command) (held : (image : List ℕ) → possible image → Holds Two image state commands place) where
+    (possible : List ℕ → Type 0) (seen : List ℕ) (here : possible seen) (state : State) (commands : List Command)
+    (held : (image : List ℕ) → possible image → Holds Two image state commands place) where
   pub mark : begins_with bytes ≡ place.sequence
   mark = ap begins_with is ∙ record_begins Two place.sequence place.used command (omega (arith, last))
 
@@ -66,6 +67,7 @@ module _ (place : Place) (command : Command) (bytes : List ℕ) (is : bytes ≡ 
   pub still : (image : List ℕ) → HasStored place.sequence (state_bytes Two state) (journal Two place.sequence 0 commands) image → HoldsAt state commands place image
   still image = holds_still image state commands place seen (held seen here)
 
-  pub more : (image : List ℕ) → HasStored place.sequence (state_bytes Two state) (journal Two place.sequence 0 commands ++ bytes ∷ []) image → HoldsAt state (commands ++ command ∷ []) (behind_record place) image
+  pub more : (image : List ℕ) → HasStored place.sequence (state_bytes Two state) (journal Two place.sequence 0 commands ++ bytes ∷ []) image
+      → HoldsAt state (commands ++ command ∷ []) (behind_record place) image
   more image stored = holds_more image state commands command place seen (held seen here) recorded
       (subst (λ (b : List ℕ). Stores (layout_of Two) image place.sequence (state_bytes Two state) (journal Two place.sequence 0 commands ++ b ∷ [])) is stored)

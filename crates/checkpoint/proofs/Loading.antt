@@ -1,5 +1,36 @@
 -- What the parts that are read make of an image.
-use Rattle.std.proofs.Common.{◌≡◌, inl, inr, ℕ, zero, suc, ◌+◌, ◌*◌, ◌<◌, ◌≤◌, ◌^◌, List, [], ◌∷◌, length, drop, All, Result, Ok, Err, IfErr, MatchResult, refl, sym, ◌∙◌, ap, subst, arith, length-take, length-drop}
+use Rattle.std.proofs.Common.{
+  ◌≡◌,
+  inl,
+  inr,
+  ℕ,
+  zero,
+  suc,
+  ◌+◌,
+  ◌*◌,
+  ◌<◌,
+  ◌≤◌,
+  ◌^◌,
+  List,
+  [],
+  ◌∷◌,
+  length,
+  drop,
+  All,
+  Result,
+  Ok,
+  Err,
+  IfErr,
+  MatchResult,
+  refl,
+  sym,
+  ◌∙◌,
+  ap,
+  subst,
+  arith,
+  length-take,
+  length-drop,
+}
 use Rattle.std.proofs.lemmas.List.Elements.{All-head, All-tail}
 use Rattle.sector_disk.specs.Image.{sector}
 use Rattle.command_core.specs.Runs.{IsState}
@@ -32,8 +63,12 @@ pub record_there : (version : Version) (image : List ℕ) (sequence index : ℕ)
     → (command : Command) × IsRecorded version command × (sector (2 + (index + i)) image ≡ record_bytes version sequence (index + i) command)
 record_there version image sequence index [] recorded same i below = absurd (omega (arith, below))
 record_there version image sequence index (command ∷ commands) recorded same zero below =
-    let first : sector (2 + index) image ≡ record_bytes version sequence index command = cc in
-    (command, All-head (IsRecorded version) command commands recorded, subst (λ (k : ℕ). sector (2 + k) image ≡ record_bytes version sequence k command) (let e : index ≡ index + 0 = omega arith in e) first)
+    let first : sector (2 + index) image ≡ record_bytes version sequence index command = cc in (
+      command,
+      All-head (IsRecorded version) command commands recorded,
+      subst (λ (k : ℕ). sector (2 + k) image ≡ record_bytes version sequence k command)
+          (let e : index ≡ index + 0 = omega arith in e) first,
+    )
 record_there version image sequence index (command ∷ commands) recorded same (suc i) below =
     let rest : record_sectors (suc index) (length commands) image ≡ journal version sequence (suc index) commands = cc in
     let found = record_there version image sequence (suc index) commands (All-tail (IsRecorded version) command commands recorded) rest i (omega (arith, below)) in
@@ -41,12 +76,14 @@ record_there version image sequence index (command ∷ commands) recorded same (
 
 -- what an image holds, by its parts
 module _ (version : Version) (image : List ℕ) (header : Header) (counts : Counts (layout_of version) image header) where
-  pub holds_here : (state : State) (commands : List Command) (used : ℕ) → snapshot_in (layout_of version) image header.sequence header.length ≡ state_bytes version state → IsStateOf version state → IsState state
+  pub holds_here : (state : State) (commands : List Command) (used : ℕ)
+      → snapshot_in (layout_of version) image header.sequence header.length ≡ state_bytes version state → IsStateOf version state → IsState state
       → HasRecords version image header.sequence commands → IsClearFrom (length commands) image header.sequence → HaveNumbers version state commands → used ≡ length commands
       → Holds version image state commands (record { sequence = header.sequence; used = used })
   holds_here state commands used snapshot told facts has clear numbers is_used =
       let valid = counts.valid in
-      let room : header.length ≤ length (drop (512 * half_at (layout_of version) header.sequence) image) = simp length-drop (omega (arith, valid.fits, valid.room, half_inside (layout_of version) header.sequence)) in
+      let room : header.length ≤ length (drop (512 * half_at (layout_of version) header.sequence) image) = simp length-drop
+      (omega (arith, valid.fits, valid.room, half_inside (layout_of version) header.sequence)) in
       let counted : length (snapshot_in (layout_of version) image header.sequence header.length) ≡ header.length = simp length-take (omega (arith, room)) in
       let size : header.length ≡ length (state_bytes version state) = sym counted ∙ ap length snapshot in
       let fits : header.sequence < 2 ^ 64 = omega (arith, valid.last) in
@@ -80,17 +117,20 @@ module _ (version : Version) (sectors : ℕ) (front image : List ℕ) (whole : I
     ends = λ inside command recorded is. has.ends inside command recorded (sym (same (length commands) inside) ∙ is);
   }
 
-  pub stray_there : (state : State) (commands : List Command) → HasRecords version front header.sequence commands → HasStrayFrom (length commands) front header.sequence → HasBadJournal version image header.sequence state
+  pub stray_there : (state : State) (commands : List Command) → HasRecords version front header.sequence commands
+      → HasStrayFrom (length commands) front header.sequence → HasBadJournal version image header.sequence state
   stray_there state commands has stray = record {
     commands = commands;
     records = records_there commands has;
     why = inl (stray.0, stray.1, stray.2, subst (λ (s : List ℕ). header.sequence ≤ begins_with s) (sym (same stray.0 stray.2)) stray.3);
   }
 
-  pub past_there : (state : State) (commands : List Command) → HasRecords version front header.sequence commands → ¬ HaveNumbers version state commands → HasBadJournal version image header.sequence state
+  pub past_there : (state : State) (commands : List Command) → HasRecords version front header.sequence commands → ¬ HaveNumbers version state commands
+      → HasBadJournal version image header.sequence state
   past_there state commands has past = record { commands = commands; records = records_there commands has; why = inr past }
 
-  pub holds_there : (state : State) (commands : List Command) (used : ℕ) → snapshot_in (layout_of version) image header.sequence header.length ≡ state_bytes version state → IsStateOf version state → IsState state
+  pub holds_there : (state : State) (commands : List Command) (used : ℕ)
+      → snapshot_in (layout_of version) image header.sequence header.length ≡ state_bytes version state → IsStateOf version state → IsState state
       → HasRecords version front header.sequence commands → IsClearFrom (length commands) front header.sequence → HaveNumbers version state commands → used ≡ length commands
       → Holds version image state commands (record { sequence = header.sequence; used = used })
   holds_there state commands used snapshot told facts has clear numbers is_used =
@@ -98,8 +138,11 @@ module _ (version : Version) (sectors : ℕ) (front image : List ℕ) (whole : I
       (λ i from to. subst (λ (s : List ℕ). begins_with s < header.sequence) (sym (same i to)) (clear i from to)) numbers is_used
 
 -- what the journal refuses, of an image whose header counts
-pub journal_refused : {T : Type 0} (P : T → Type 0) (version : Version) (image : List ℕ) (header : Header) (state : State) → Counts (layout_of version) image header → (HasBadJournal version image header.sequence state → IsAstray version image header)
-    → (result : Result T StoreFault) → IfErr result IsOfJournal → MatchResult result P (UnlessUnread (λ fault. HasBadJournal version image header.sequence state)) → MatchResult result P (UnlessUnread (HoldsNothing version image))
+pub journal_refused : {T : Type 0} (P : T → Type 0) (version : Version) (image : List ℕ) (header : Header) (state : State)
+    → Counts (layout_of version) image header → (HasBadJournal version image header.sequence state → IsAstray version image header)
+    → (result : Result T StoreFault) → IfErr result IsOfJournal
+    → MatchResult result P (UnlessUnread (λ fault. HasBadJournal version image header.sequence state))
+    → MatchResult result P (UnlessUnread (HoldsNothing version image))
 journal_refused P version image header state counts astray (Ok x) kind told = told
 journal_refused P version image header state counts astray (Err store.OutOfMemory) kind told = tt
 journal_refused P version image header state counts astray (Err (store.Codec codec.BadField)) kind told = (header, counts, inr (refl, astray told))
@@ -112,7 +155,8 @@ journal_refused P version image header state counts astray (Err store.Spent) kin
 journal_refused P version image header state counts astray (Err store.DeviceFault) kind told = absurd kind
 
 -- what the codec refuses
-pub codec_refused : (version : Version) (image : List ℕ) (header : Header) (bytes : List ℕ) → Counts (layout_of version) image header → bytes ≡ snapshot_in (layout_of version) image header.sequence header.length
+pub codec_refused : (version : Version) (image : List ℕ) (header : Header) (bytes : List ℕ) → Counts (layout_of version) image header
+    → bytes ≡ snapshot_in (layout_of version) image header.sequence header.length
     → (fault : CodecFault) → Decodes version bytes (Err fault) → UnlessUnread (HoldsNothing version image) (told_of fault)
 codec_refused version image header bytes counts is codec.Truncated told = (header, counts, inl (subst (λ (b : List ℕ). Decodes version b (Err codec.Truncated)) is told))
 codec_refused version image header bytes counts is codec.BadField told = (header, counts, inl (subst (λ (b : List ℕ). Decodes version b (Err codec.BadField)) is told))

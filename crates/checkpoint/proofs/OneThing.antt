@@ -42,7 +42,8 @@ abbrev place_of : ℕ → ℕ → Place
 place_of sequence used = record { sequence = sequence; used = used }
 
 -- the records that an image holds are those that lead its journal
-holds_records : (version : Version) (image : List ℕ) (state : State) (commands : List Command) (place : Place) → Holds version image state commands place → HasRecords version image place.sequence commands
+holds_records : (version : Version) (image : List ℕ) (state : State) (commands : List Command) (place : Place) → Holds version image state commands place
+    → HasRecords version image place.sequence commands
 holds_records version image state commands place held =
     let long = length-journal version place.sequence 0 commands in
     record {
@@ -54,7 +55,8 @@ holds_records version image state commands place held =
     }
 
 -- the records of a journal are as many as the first sectors that are records
-reaches : (version : Version) (image : List ℕ) (sequence : ℕ) (commands others : List Command) → HasRecords version image sequence commands → HasRecords version image sequence others → length commands ≤ length others
+reaches : (version : Version) (image : List ℕ) (sequence : ℕ) (commands others : List Command) → HasRecords version image sequence commands
+    → HasRecords version image sequence others → length commands ≤ length others
 reaches version image sequence commands others has other = ⊎_elim
     (λ (less : length others < length commands).
     let found = record_there version image sequence 0 commands has.led.recorded has.led.records (length others) less in
@@ -78,7 +80,8 @@ module _ (states : StatesDiffer) (records : RecordsDiffer) where
       let tail = same_commands version sequence (suc index) xs ys fits (omega (arith, inside)) (All-tail (IsRecorded version) a xs ra) (All-tail (IsRecorded version) b ys rb) rest in
       cc
 
-  same_records : (version : Version) (image : List ℕ) (sequence : ℕ) (commands others : List Command) → sequence < 2 ^ 64 → HasRecords version image sequence commands → HasRecords version image sequence others → commands ≡ others
+  same_records : (version : Version) (image : List ℕ) (sequence : ℕ) (commands others : List Command) → sequence < 2 ^ 64
+      → HasRecords version image sequence commands → HasRecords version image sequence others → commands ≡ others
   same_records version image sequence commands others fits has other =
       let long : length commands ≡ length others = omega (arith, reaches version image sequence commands others has other, reaches version image sequence others commands other has) in
       same_commands version sequence 0 commands others fits (omega (arith, has.count)) has.led.recorded other.led.recorded
@@ -87,9 +90,11 @@ module _ (states : StatesDiffer) (records : RecordsDiffer) where
   pub one : (version : Version) (image : List ℕ) (state other : State) (commands others : List Command) (place elsewhere : Place)
       → Holds version image state commands place → Holds version image other others elsewhere → (state ≡ other) × (commands ≡ others) × (place ≡ elsewhere)
   one version image state other commands others place elsewhere a b =
-      let header = same_counting version image (record { sequence = place.sequence; length = length (state_bytes version state) }) (record { sequence = elsewhere.sequence; length = length (state_bytes version other) }) a.stored.header b.stored.header in
+      let header = same_counting version image (record { sequence = place.sequence; length = length (state_bytes version state) })
+      (record { sequence = elsewhere.sequence; length = length (state_bytes version other) }) a.stored.header b.stored.header in
       let sequence : place.sequence ≡ elsewhere.sequence = ap (λ (h : Header). h.sequence) header in
-      let bytes : state_bytes version state ≡ state_bytes version other = sym a.stored.snapshot ∙ ap (λ (h : Header). snapshot_in (layout_of version) image h.sequence h.length) header ∙ b.stored.snapshot in
+      let bytes : state_bytes version state ≡ state_bytes version other = sym a.stored.snapshot
+      ∙ ap (λ (h : Header). snapshot_in (layout_of version) image h.sequence h.length) header ∙ b.stored.snapshot in
       let same = same_records version image place.sequence commands others (omega (arith, a.stored.header.valid.last)) (holds_records version image state commands place a)
       (subst (λ (n : ℕ). HasRecords version image n others) (sym sequence) (holds_records version image other others elsewhere b)) in
       let used : place.used ≡ elsewhere.used = a.used ∙ ap length same ∙ sym b.used in
@@ -103,7 +108,8 @@ told version bytes codec.OutOfMemory h = absurd h
 
 -- No bytes of a state are refused.
 module _ (refused : StatesHaveNoFault) where
-  not_refused : (version : Version) (bytes : List ℕ) (state : State) (fault : CodecFault) → IsState state → IsStateOf version state → bytes ≡ state_bytes version state → IsRefusedFor version bytes fault → ⊥
+  not_refused : (version : Version) (bytes : List ℕ) (state : State) (fault : CodecFault) → IsState state → IsStateOf version state
+      → bytes ≡ state_bytes version state → IsRefusedFor version bytes fault → ⊥
   not_refused version bytes state fault facts of is h =
       let why = told version bytes fault h in why.1 (refused version state fault facts of (subst (λ (b : List ℕ). Decodes version b (Err fault)) is why.0))
 
@@ -120,14 +126,16 @@ module _ (refused : StatesHaveNoFault) where
     not_broken : (version : Version) (image : List ℕ) (state : State) (commands : List Command) (place : Place) (header : Header) (fault : CodecFault) → Holds version image state commands place
         → header ≡ record { sequence = place.sequence; length = length (state_bytes version state) } → IsBroken version image header fault → ⊥
     not_broken version image state commands place header fault held counts broken = ⊎_elim
-        (λ (bad : IsRefusedFor version (snapshot_in (layout_of version) image header.sequence header.length) fault). not_refused version (snapshot_in (layout_of version) image header.sequence header.length) state fault held.facts held.told is bad)
+        (λ (bad : IsRefusedFor version (snapshot_in (layout_of version) image header.sequence header.length) fault). not_refused version
+        (snapshot_in (layout_of version) image header.sequence header.length) state fault held.facts held.told is bad)
         (λ (astray : (fault ≡ codec.BadField) × IsAstray version image header).
         let at = astray.1 in
         let same : at.state ≡ state = states version at.state state at.facts held.facts at.told held.told (sym at.snapshot ∙ is) in
         let bad : HasBadJournal version image place.sequence state =
         subst (λ (s : State). HasBadJournal version image place.sequence s) same (subst (λ (h : Header). HasBadJournal version image h.sequence at.state) counts at.journal) in
         not_bad version image state commands bad.commands place held
-        (same_records states records version image place.sequence commands bad.commands (omega (arith, held.stored.header.valid.last)) (holds_records version image state commands place held) bad.records) bad.why)
+        (same_records states records version image place.sequence commands bad.commands (omega (arith, held.stored.header.valid.last))
+        (holds_records version image state commands place held) bad.records) bad.why)
         broken
       where
         is : snapshot_in (layout_of version) image header.sequence header.length ≡ state_bytes version state
@@ -135,8 +143,10 @@ module _ (refused : StatesHaveNoFault) where
 
     pub beside_nothing : (version : Version) (image : List ℕ) (state : State) (commands : List Command) (place : Place) (fault : StoreFault)
         → Holds version image state commands place → HoldsNothing version image fault → ⊥
-    beside_nothing version image state commands place store.NotFormatted held none = none.none (record { sequence = place.sequence; length = length (state_bytes version state) }) held.stored.header.valid
-    beside_nothing version image state commands place store.BadVersion held none = none.none (record { sequence = place.sequence; length = length (state_bytes version state) }) held.stored.header.valid
+    beside_nothing version image state commands place store.NotFormatted held none = none.none
+        (record { sequence = place.sequence; length = length (state_bytes version state) }) held.stored.header.valid
+    beside_nothing version image state commands place store.BadVersion held none = none.none
+        (record { sequence = place.sequence; length = length (state_bytes version state) }) held.stored.header.valid
     beside_nothing version image state commands place (store.Codec fault) held none =
         let same = same_counting version image none.0 (record { sequence = place.sequence; length = length (state_bytes version state) }) none.1 held.stored.header in
         not_broken version image state commands place none.0 fault held same none.2
@@ -152,8 +162,10 @@ module _ (refused : StatesHaveNoFault) where
         let first = told version bytes e a in
         let second = told version bytes f b in
         alike version bytes e f first.1 second.1 first.0 second.0
-    same_breach version image header e f (inl a) (inr b) = absurd (not_refused version (snapshot_in (layout_of version) image header.sequence header.length) b.1.state e b.1.facts b.1.told b.1.snapshot a)
-    same_breach version image header e f (inr a) (inl b) = absurd (not_refused version (snapshot_in (layout_of version) image header.sequence header.length) a.1.state f a.1.facts a.1.told a.1.snapshot b)
+    same_breach version image header e f (inl a) (inr b) = absurd
+        (not_refused version (snapshot_in (layout_of version) image header.sequence header.length) b.1.state e b.1.facts b.1.told b.1.snapshot a)
+    same_breach version image header e f (inr a) (inl b) = absurd
+        (not_refused version (snapshot_in (layout_of version) image header.sequence header.length) a.1.state f a.1.facts a.1.told a.1.snapshot b)
     same_breach version image header e f (inr a) (inr b) = a.0 ∙ sym b.0
 
     pub one_cause : (version : Version) (image : List ℕ) (fault other : StoreFault) → HoldsNothing version image fault → HoldsNothing version image other → fault ≡ other

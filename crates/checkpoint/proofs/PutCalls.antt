@@ -26,7 +26,9 @@ module _ (first : ℕ) (bytes : List ℕ) (possible : List ℕ → Type 0) (seen
         → ((image : List ℕ) → after_write image → Reached first bytes possible image) → calls ≤ calls_mid → calls_mid ≤ calls + 1
         → Throughout clock since old mid (IsInPut first bytes possible seen calls)
     in_write time left from to = goes_on clock since old old mid (IsInPut first bytes possible seen calls) calls calls_mid (Reached first bytes possible) after_write
-        (started clock since old (IsInPut first bytes possible seen calls) (λ m image here. let is = now m image here in early m image (omega (arith, is.0)) (omega (arith, is.0)) (not_reached first bytes possible image is.1)))
+        (started clock since old (IsInPut first bytes possible seen calls)
+        (λ m image here. let is = now m image here in early m image (omega (arith, is.0)) (omega (arith, is.0))
+        (not_reached first bytes possible image is.1)))
         time
         (λ image reached. early calls image (omega arith) (omega arith) reached)
         (λ image here. early calls_mid image from to (left image here))

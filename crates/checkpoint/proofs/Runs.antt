@@ -1,5 +1,32 @@
 -- Runs of sectors in images.
-use Rattle.std.proofs.Common.{◌≡◌, ◌⊎◌, inr, ℕ, zero, suc, ◌+◌, ◌*◌, ◌<◌, ◌≤◌, List, [], ◌∷◌, ◌++◌, length, take, drop, refl, sym, ◌∙◌, ap, arith, length-take, length-drop, take-append-drop, append_assoc}
+use Rattle.std.proofs.Common.{
+  ◌≡◌,
+  ◌⊎◌,
+  inr,
+  ℕ,
+  zero,
+  suc,
+  ◌+◌,
+  ◌*◌,
+  ◌<◌,
+  ◌≤◌,
+  List,
+  [],
+  ◌∷◌,
+  ◌++◌,
+  length,
+  take,
+  drop,
+  refl,
+  sym,
+  ◌∙◌,
+  ap,
+  arith,
+  length-take,
+  length-drop,
+  take-append-drop,
+  append_assoc,
+}
 use Rattle.std.proofs.lemmas.List.{take-append-le, take_all, drop_at}
 use Rattle.sector_disk.specs.Image.{sector, written}
 use Rattle.sector_disk.specs.ImageLaws.{sector_left, sector_drop, length-written, same_sectors, sector-written_inside, mixes_outside}
@@ -46,7 +73,8 @@ sector_written first bytes image one inside =
     ap (λ (i : ℕ). sector i (written first bytes image)) (sym at) ∙ sector-written_inside first 1 bytes image whole room 0 (omega arith) ∙ take_all 512 bytes (omega (arith, one))
 
 -- a write as a mixture with itself: outside the run the image is the old one
-pub written_outside : (first k : ℕ) (bytes image : List ℕ) → length bytes ≡ 512 * k → 512 * first + 512 * k ≤ length image → (i : ℕ) → (i < first) ⊎ (first + k ≤ i) → sector i (written first bytes image) ≡ sector i image
+pub written_outside : (first k : ℕ) (bytes image : List ℕ) → length bytes ≡ 512 * k → 512 * first + 512 * k ≤ length image → (i : ℕ)
+    → (i < first) ⊎ (first + k ≤ i) → sector i (written first bytes image) ≡ sector i image
 written_outside first k bytes image whole inside =
     mixes_outside first k bytes image (written first bytes image) whole inside (record { size = length-written first k bytes image whole inside; each = λ i. inr refl })
 

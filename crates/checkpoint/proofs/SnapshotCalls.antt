@@ -11,7 +11,8 @@ use Rattle.checkpoint.specs.Puts.{IsInPut, IsInSnapshot}
 use Rattle.checkpoint.specs.Written.{half_of, with_snapshot, with_both}
 use Rattle.checkpoint.proofs.Carried.{half_inside}
 
-module _ (header : Header) (bytes : List ℕ) (possible : List ℕ → Type 0) (seen : List ℕ) (calls half : ℕ) (head : List ℕ) (half_is : half ≡ half_of header) (head_is : head ≡ header_bytes 2 header) where
+module _ (header : Header) (bytes : List ℕ) (possible : List ℕ → Type 0) (seen : List ℕ) (calls half : ℕ) (head : List ℕ) (half_is : half ≡ half_of header)
+    (head_is : head ≡ header_bytes 2 header) where
   -- of the first put nothing but the snapshot is seen
   pub in_first : (m : ℕ) (image : List ℕ) → IsInPut half bytes possible seen calls m image → IsInSnapshot header bytes possible seen calls m image
   in_first m image put = record {
@@ -33,7 +34,8 @@ module _ (header : Header) (bytes : List ℕ) (possible : List ℕ → Type 0) (
     long = length-written half (length bytes / 512) bytes seen sectors inside
 
     both : with_both header bytes seen ≡ written (header.sequence % 2) head (written half bytes seen)
-    both = ap (λ (b : List ℕ). written (header.sequence % 2) b (with_snapshot header bytes seen)) (sym head_is) ∙ ap (λ (h : ℕ). written (header.sequence % 2) head (written h bytes seen)) (sym half_is)
+    both = ap (λ (b : List ℕ). written (header.sequence % 2) b (with_snapshot header bytes seen)) (sym head_is)
+        ∙ ap (λ (h : ℕ). written (header.sequence % 2) head (written h bytes seen)) (sym half_is)
 
     new : (m : ℕ) (image : List ℕ) → IsInPut (header.sequence % 2) head mid mid_seen mid_calls m image → image ≡ with_both header bytes seen → IsInSnapshot header bytes possible seen calls m image
     new m image put is = record {
@@ -69,6 +71,7 @@ module _ (header : Header) (bytes : List ℕ) (possible : List ℕ → Type 0) (
         (mixes_one n (header.sequence % 2) head (written half bytes seen) image (long ∙ size) one (omega (arith, room)) mix)
 
     -- what is left when all of it is durable
-    pub left_at_last : {T E : Type 0} (result : Result T E) (last : List ℕ → Type 0) → OnOk result (Only (written (header.sequence % 2) head mid_seen) last) → OnOk result (Only (with_both header bytes seen) last)
+    pub left_at_last : {T E : Type 0} (result : Result T E) (last : List ℕ → Type 0) → OnOk result (Only (written (header.sequence % 2) head mid_seen) last)
+        → OnOk result (Only (with_both header bytes seen) last)
     left_at_last (Ok x) last all = λ image left. all image left ∙ ap (λ (i : List ℕ). written (header.sequence % 2) head i) mid_is ∙ sym both
     left_at_last (Err e) last all = all

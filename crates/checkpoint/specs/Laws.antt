@@ -43,17 +43,21 @@ AgreeingIsUndoubted = (image : List ℕ) (header : Header) (doubts : Doubts) →
 
 -- law: behind the sector of a record that a commit writes an image agrees with itself as before
 abbrev pub RecordsKeepAgreement : Type 0
-RecordsKeepAgreement = (image : List ℕ) (state : State) (commands : List Command) (place : Place) (command : Command) (bytes : List ℕ) → HoldsAt state commands place image → AgreesUnder place.sequence image
-    → IsRecorded Two command → place.used < journal_room → length bytes ≡ 512 → bytes ≡ record_bytes Two place.sequence place.used command → AgreesUnder place.sequence (written (2 + place.used) bytes image)
+RecordsKeepAgreement = (image : List ℕ) (state : State) (commands : List Command) (place : Place) (command : Command) (bytes : List ℕ)
+    → HoldsAt state commands place image → AgreesUnder place.sequence image
+    → IsRecorded Two command → place.used < journal_room → length bytes ≡ 512 → bytes ≡ record_bytes Two place.sequence place.used command
+    → AgreesUnder place.sequence (written (2 + place.used) bytes image)
 
 -- law: so it does within the write of the next snapshot, whichever of its sectors a stop leaves
 abbrev pub SnapshotsKeepAgreement : Type 0
-SnapshotsKeepAgreement = (image mixture : List ℕ) (state : State) (commands : List Command) (place : Place) (header : Header) (bytes : List ℕ) → HoldsAt state commands place image → AgreesUnder place.sequence image
+SnapshotsKeepAgreement = (image mixture : List ℕ) (state : State) (commands : List Command) (place : Place) (header : Header) (bytes : List ℕ)
+    → HoldsAt state commands place image → AgreesUnder place.sequence image
     → header.sequence ≡ place.sequence + 1 → IsSaved header.length bytes → Mixes image (with_snapshot header bytes image) mixture → AgreesUnder place.sequence mixture
 
 -- law: and behind its header under the next sequence
 abbrev pub HeadersKeepAgreement : Type 0
-HeadersKeepAgreement = (image : List ℕ) (state : State) (commands : List Command) (place : Place) (header : Header) (bytes : List ℕ) → HoldsAt state commands place image → AgreesUnder place.sequence image
+HeadersKeepAgreement = (image : List ℕ) (state : State) (commands : List Command) (place : Place) (header : Header) (bytes : List ℕ)
+    → HoldsAt state commands place image → AgreesUnder place.sequence image
     → header.sequence ≡ place.sequence + 1 → IsSaved header.length bytes → AgreesUnder header.sequence (with_both header bytes image)
 
 -- law: a new store agrees with itself

@@ -81,8 +81,8 @@ pub(crate) fn make<D: Sectors>(
 /// be larger than the store.
 ///
 /// With two or three calls finished each image is `NotFormatted`, with four or five it is that or holds the empty state without commands, and after `Ok` each
-/// holds it: then the image is what reads gave before with zeros in sectors 0 to 257, the snapshot's sector and its header. `TooSmall` below 8,450 sectors; neither that nor `OutOfMemory` has called the device. After `DeviceFault` there is no store until a format
-/// succeeds.
+/// holds it: then the image is what reads gave before with zeros in sectors 0 to 257, the snapshot's sector and its header. `TooSmall` below 8,450 sectors; neither that nor `OutOfMemory` has called the device. After `DeviceFault` there
+/// may be no store, or the new one; where fewer than two calls had finished nothing is said of what there is.
 pub fn format<D: Sectors>(alloc: Global, device: &mut D) -> Result<Place, FormatFault>
     ensures { MakesStore D.Sectors (HoldsAt Empty [] first_place)
         (with_state 1 Empty (cleared (D.seen device.old))) result device.old device.new }

@@ -13,7 +13,8 @@ use Rattle.command_core.specs.declared.walking.Asked.TheVariants.{Search, Anneal
 pub fit : (most steps count : ℕ) → steps_refusal most steps count ≡ None → (steps < 2 ^ 60) × (steps + count ≤ 2 ^ 60)
 fit most steps count accepted = by (nat_le 1 count && nat_le count most) (nat_le (steps + count) (2 ^ 60)) refl refl accepted
   where
-    by : (a b : Bool) → (nat_le 1 count && nat_le count most) ≡ a → nat_le (steps + count) (2 ^ 60) ≡ b → cond (not a) (Some Range) (cond b None (Some StepsSpent)) ≡ None → (steps < 2 ^ 60) × (steps + count ≤ 2 ^ 60)
+    by : (a b : Bool) → (nat_le 1 count && nat_le count most) ≡ a → nat_le (steps + count) (2 ^ 60) ≡ b
+        → cond (not a) (Some Range) (cond b None (Some StepsSpent)) ≡ None → (steps < 2 ^ 60) × (steps + count ≤ 2 ^ 60)
     by false b e f none = absurd (none_some Range (sym none))
     by true false e f none = absurd (none_some StepsSpent (sym none))
     by true true e f none =

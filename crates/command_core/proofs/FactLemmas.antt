@@ -160,7 +160,8 @@ module _ (laws : LowerLaws) (j : JobValue) (is : IsJob j) where
       let t = all_tries j.problem j.pins j.seed count j.steps j.plan in
       let kept = laws.tries j.problem j.pins j.plan j.seed count j.steps is.fleet is.problem.fleet is.plan in
       let steps = laws.anneal_steps in
-      let both = steps j.problem j.pins j.deviation j.seed t.step (j.steps + count - t.step) (record { incumbent = t.plan; working = t.plan }) (record { incumbent = kept.plan; working = kept.plan }) in
+      let both = steps j.problem j.pins j.deviation j.seed t.step (j.steps + count - t.step) (record { incumbent = t.plan; working = t.plan })
+      (record { incumbent = kept.plan; working = kept.plan }) in
       with_plans j is _ _ (both.incumbent) (both.working) (j.steps + count) within
 
   found : (name : ℕ) → job_refusal j (Withdraw name) ≡ None → (r : Request) × (request_named j.problem name ≡ Some r) × (is_planned j.pins r ≡ false)
@@ -170,7 +171,8 @@ module _ (laws : LowerLaws) (j : JobValue) (is : IsJob j) where
       free r false none = refl
       free r true none = refused Pinned none
 
-      by : (o : Option Request) → request_named j.problem name ≡ o → option_map_or (pinned_refusal j) o (Some NoSuchRequest) ≡ None → (r : Request) × (request_named j.problem name ≡ Some r) × (is_planned j.pins r ≡ false)
+      by : (o : Option Request) → request_named j.problem name ≡ o → option_map_or (pinned_refusal j) o (Some NoSuchRequest) ≡ None
+          → (r : Request) × (request_named j.problem name ≡ Some r) × (is_planned j.pins r ≡ false)
       by None e none = refused NoSuchRequest none
       by (Some r) e none = (r, e, free r (is_planned j.pins r) none)
 

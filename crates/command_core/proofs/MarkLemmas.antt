@@ -22,7 +22,8 @@ abbrev pub AreMarks : List (List ℕ) → ℕ → List Bool → Type 0
 AreMarks routes len marks = (n : ℕ) → n < len → slice_index_or marks n false ≡ has_stop routes n
 
 module _ (below : RequestsAreBelowNext) (p : Instance) (valid : IsInstance p) where
-  marked_is_planned : (routes : List (List ℕ)) (marks : List Bool) → AreMarks routes p.next_number marks → (k name : ℕ) (r : Request) → slice_get p.requests k ≡ Some (name, r) → is_marked marks r ≡ is_planned routes r
+  marked_is_planned : (routes : List (List ℕ)) (marks : List Bool) → AreMarks routes p.next_number marks → (k name : ℕ) (r : Request)
+      → slice_get p.requests k ≡ Some (name, r) → is_marked marks r ≡ is_planned routes r
   marked_is_planned routes marks are k name r at =
       any_same (λ s. slice_index_or marks s.number false) (λ s. has_stop routes s.number) (λ s. s.number < p.next_number) (stops_of r) (λ s lt. are s.number lt) (below p k name r valid at)
 

@@ -81,7 +81,8 @@ live_all p [] test = tt
 live_all p (n ∷ ns) test = let both = and_parts (is_some (stop_at p n)) (list_all (λ n. is_some (stop_at p n)) ns) test in (both.0, live_all p ns both.1)
 
 -- a plan passes in a problem that agrees on all live stops with one in which it passes
-pub passes_same : FeasibilityIsLocal → PassesAreLocal → PlansAreLocal → (p q : Instance) (pins routes : List (List ℕ)) → Agree p q (IsLive p) → passes p pins routes ≡ true → passes q pins routes ≡ true
+pub passes_same : FeasibilityIsLocal → PassesAreLocal → PlansAreLocal → (p q : Instance) (pins routes : List (List ℕ)) → Agree p q (IsLive p)
+    → passes p pins routes ≡ true → passes q pins routes ≡ true
 passes_same law local plans p q pins routes agree good =
     let parts = parts_of p pins routes good in
     from_parts q pins routes (record {

@@ -73,7 +73,13 @@ module _ (p : Instance) (pins routes : List (List ℕ)) (good : passes p pins ro
   pub unpinned_passes : (v : ℕ) → passes p (with_route pins v []) routes ≡ true
   unpinned_passes v =
       let parts = parts_of p pins routes good in
-      from_parts p (with_route pins v []) routes (record { live = parts.live; distinct = parts.distinct; fleet = parts.fleet; feasible = parts.feasible; pinned = set_none routes pins (v - 1) (parts.pinned) })
+      from_parts p (with_route pins v []) routes (record {
+        live = parts.live;
+        distinct = parts.distinct;
+        fleet = parts.fleet;
+        feasible = parts.feasible;
+        pinned = set_none routes pins (v - 1) (parts.pinned);
+      })
 
   pub pinned_passes : (v k : ℕ) → 1 ≤ v → passes p (with_route pins v (take k (of_vehicle routes v))) routes ≡ true
   pinned_passes zero k from = absurd (omega arith)

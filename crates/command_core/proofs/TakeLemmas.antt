@@ -120,7 +120,8 @@ module _ (p : Instance) (name : ℕ) (valid : IsInstance p) where
   kept_without [] live = tt
   kept_without (n ∷ route) live = by (is_of_named p (name ∷ []) n) refl (kept_without route live.1)
     where
-      by : (b : Bool) → is_of_named p (name ∷ []) n ≡ b → AllByRecursion IsKept (route_without p name route) → AllByRecursion IsKept (cond (not b) (n ∷ route_without p name route) (route_without p name route))
+      by : (b : Bool) → is_of_named p (name ∷ []) n ≡ b → AllByRecursion IsKept (route_without p name route)
+          → AllByRecursion IsKept (cond (not b) (n ∷ route_without p name route) (route_without p name route))
       by false e rest = ((live.0, e), rest)
       by true e rest = rest
 
@@ -147,7 +148,8 @@ module _ (p : Instance) (name : ℕ) (valid : IsInstance p) where
     same_feasible : (route : List ℕ) → AllByRecursion IsKept route → feasible_alone p route ≡ true → feasible_alone (without_request p name) route ≡ true
     same_feasible route kept feasible = sym (feasible_same p (without_request p name) IsKept (agree others) law route kept) ∙ feasible
 
-    left : (pin route : List ℕ) → AllByRecursion (IsLive p) route → feasible_alone p route ≡ true → starts_with nat_eq route pin ≡ true → AllByRecursion IsKept pin → AllByRecursion IsOther pin → feasible_alone p pin ≡ true
+    left : (pin route : List ℕ) → AllByRecursion (IsLive p) route → feasible_alone p route ≡ true → starts_with nat_eq route pin ≡ true
+        → AllByRecursion IsKept pin → AllByRecursion IsOther pin → feasible_alone p pin ≡ true
         → IsLeft pin route (route_left p name pin route)
     left pin route live feasible begins pin_kept pin_other pin_feasible = by (serves p name route) (feasible_alone (without_request p name) (route_without p name route)) refl refl
       where
@@ -156,7 +158,12 @@ module _ (p : Instance) (name : ℕ) (valid : IsInstance p) where
         by false b e f =
             let kept = kept_all route live (others_all route e) in
             record { kept = kept; fewer = λ n. omega arith; feasible = same_feasible route kept feasible; begins = begins }
-        by true true e f = record { kept = kept_without route live; fewer = λ n. times_kept n (λ m. not (is_of_named p (name ∷ []) m)) route; feasible = f; begins = begins_without route pin begins pin_other }
+        by true true e f = record {
+          kept = kept_without route live;
+          fewer = λ n. times_kept n (λ m. not (is_of_named p (name ∷ []) m)) route;
+          feasible = f;
+          begins = begins_without route pin begins pin_other;
+        }
         by true false e f = record { kept = pin_kept; fewer = λ n. times_front n route pin begins; feasible = same_feasible pin pin_kept pin_feasible; begins = begins_itself pin }
 
   -- what the routes become
@@ -168,7 +175,8 @@ module _ (p : Instance) (name : ℕ) (valid : IsInstance p) where
     pub long : length new ≡ length routes
 
   module _ (law : FeasibilityIsLocal) (others : TakeKeepsOthers) where
-    lefts : (pins routes : List (List ℕ)) → length pins ≡ length routes → AllByRecursion (AllByRecursion (IsLive p)) routes → list_all (feasible_alone p) routes ≡ true → begin_with_pins routes pins ≡ true
+    lefts : (pins routes : List (List ℕ)) → length pins ≡ length routes → AllByRecursion (AllByRecursion (IsLive p)) routes
+        → list_all (feasible_alone p) routes ≡ true → begin_with_pins routes pins ≡ true
         → AllByRecursion (AllByRecursion IsKept) pins → AllByRecursion (AllByRecursion IsOther) pins → list_all (feasible_alone p) pins ≡ true
         → AreLeft pins routes (routes_left p name pins routes)
     lefts [] [] long live feasible begins kept other pins_feasible = record { kept = tt; fewer = λ n. omega arith; feasible = refl; begins = refl; long = refl }

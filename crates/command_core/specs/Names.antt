@@ -1,7 +1,21 @@
 -- The names of refusals.
 use Rattle.std.specs.Prelude.{ℕ, List, codes}
 use Rattle.command_core.specs.declared.refusals.Refusal.{Refusal}
-use Rattle.command_core.specs.declared.refusals.Refusal.TheVariants.{NoInstance, Range, NoSuchRequest, Pinned, NoSuchPlace, NotARoute, NumbersSpent, StepsSpent, NoTimes, NoFormat, NotAPlan, Dearer, OutOfMemory}
+use Rattle.command_core.specs.declared.refusals.Refusal.TheVariants.{
+  NoInstance,
+  Range,
+  NoSuchRequest,
+  Pinned,
+  NoSuchPlace,
+  NotARoute,
+  NumbersSpent,
+  StepsSpent,
+  NoTimes,
+  NoFormat,
+  NotAPlan,
+  Dearer,
+  OutOfMemory,
+}
 
 abbrev pub refusal_name : Refusal → List ℕ
 refusal_name NoInstance = codes "NoInstance"

@@ -1,5 +1,43 @@
 -- The vehicles of a try: how many they are, and that no other has a pin.
-use Rattle.std.proofs.Common.{◌≡◌, ◌∙◌, ℕ, zero, suc, ◌+◌, ◌-◌, ◌<◌, ◌≤◌, Bool, true, false, cond, not, ◌==◌, ◌&&◌, ◌||◌, List, [], ◌∷◌, ◌++◌, append_assoc, All, map, filter, take, length, replicate, unwrap_or, refl, sym, ap, subst, inl, inr, arith, nat_eq}
+use Rattle.std.proofs.Common.{
+  ◌≡◌,
+  ◌∙◌,
+  ℕ,
+  zero,
+  suc,
+  ◌+◌,
+  ◌-◌,
+  ◌<◌,
+  ◌≤◌,
+  Bool,
+  true,
+  false,
+  cond,
+  not,
+  ◌==◌,
+  ◌&&◌,
+  ◌||◌,
+  List,
+  [],
+  ◌∷◌,
+  ◌++◌,
+  append_assoc,
+  All,
+  map,
+  filter,
+  take,
+  length,
+  replicate,
+  unwrap_or,
+  refl,
+  sym,
+  ap,
+  subst,
+  inl,
+  inr,
+  arith,
+  nat_eq,
+}
 use Rattle.std.specs.Prelude.{count_by, slice_get}
 use Rattle.std.specs.List.{range_with_len}
 use Rattle.std.proofs.lemmas.Bool.{cases_Bool, ne_eqb, or_left, or_right, eq-eqb, both_ways}
@@ -146,7 +184,9 @@ module _ (pins routes : List (List ℕ)) (long : length pins ≡ length routes) 
   pub kept_own : ArePinsOf (kept pins routes m) pins
   kept_own =
       subst (λ n. ArePinsOf (map (is_kept pins routes m) (range_with_len 1 n)) pins) long
-      (own_pins pins 1 (is_kept pins routes m) (λ k some. (let same : 1 + k ≡ suc k = omega arith in or_left (has_some pins (1 + k)) (has (take (m - used_count pins) (free_vehicles pins routes)) (1 + k)) (ap (has_some pins) same ∙ some))))
+      (own_pins pins 1 (is_kept pins routes m) (λ k some.
+      (let same : 1 + k ≡ suc k = omega arith in or_left (has_some pins (1 + k)) (has (take (m - used_count pins) (free_vehicles pins routes)) (1 + k))
+      (ap (has_some pins) same ∙ some))))
 
   abbrev vehicles : List ℕ
   vehicles = range_with_len 1 (length routes)
@@ -214,7 +254,8 @@ module _ (pins routes : List (List ℕ)) (long : length pins ≡ length routes) 
 range_next : (n i : ℕ) → i < n → range_with_len (i + 1) (n - i) ≡ (i + 1) ∷ range_with_len (i + 1 + 1) (n - (i + 1))
 range_next n i within = let one : n - i ≡ suc (n - (i + 1)) = omega (arith, within) in ap (range_with_len (i + 1)) one
 
-pub free_next : (before : ℕ → ℕ → Bool) (f : Test) (n i : ℕ) (free new all : List ℕ) → i < n → new ≡ cond (f (i + 1)) (put before (i + 1) free) free → put_all before free (filter f (range_with_len (i + 1) (n - i))) ≡ all
+pub free_next : (before : ℕ → ℕ → Bool) (f : Test) (n i : ℕ) (free new all : List ℕ) → i < n → new ≡ cond (f (i + 1)) (put before (i + 1) free) free
+    → put_all before free (filter f (range_with_len (i + 1) (n - i))) ≡ all
     → put_all before new (filter f (range_with_len (i + 1 + 1) (n - (i + 1)))) ≡ all
 free_next before f n i free new all within is so_far =
     let rest = range_with_len (i + 1 + 1) (n - (i + 1)) in

@@ -209,7 +209,8 @@ module _ (kept : List Bool) (lists : Routes) (i : ℕ) (within : i < length kept
   opened : drop i kept ≡ get_or kept i false ∷ drop (i + 1) kept
   opened = let same : i + 1 ≡ suc i = omega arith in drop-cons kept i false within ∙ ap (λ k. get_or kept i false ∷ drop k kept) (sym same)
 
-  pub picked_next : picked (drop i kept) (drop i lists) ≡ cond (get_or kept i false) (list_at lists i ∷ picked (drop (i + 1) kept) (drop (i + 1) lists)) (picked (drop (i + 1) kept) (drop (i + 1) lists))
+  pub picked_next : picked (drop i kept) (drop i lists)
+      ≡ cond (get_or kept i false) (list_at lists i ∷ picked (drop (i + 1) kept) (drop (i + 1) lists)) (picked (drop (i + 1) kept) (drop (i + 1) lists))
   picked_next =
       ap (λ ks. picked ks (drop i lists)) opened
       ∙ (picked_one (get_or kept i false) (drop (i + 1) kept) (drop i lists)

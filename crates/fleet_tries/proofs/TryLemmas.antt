@@ -1,5 +1,43 @@
 -- Tries one after another: what each keeps, and that they end.
-use Rattle.std.proofs.Common.{◌≡◌, ◌∙◌, ℕ, zero, suc, ◌+◌, ◌-◌, ◌/◌, ◌<◌, ◌≤◌, Bool, true, false, cond, not, ◌==◌, ◌&&◌, List, [], ◌∷◌, length, replicate, Option, Some, None, Result, Ok, Err, IfOk, IsTrue, refl, sym, ap, subst, inl, inr, arith}
+use Rattle.std.proofs.Common.{
+  ◌≡◌,
+  ◌∙◌,
+  ℕ,
+  zero,
+  suc,
+  ◌+◌,
+  ◌-◌,
+  ◌/◌,
+  ◌<◌,
+  ◌≤◌,
+  Bool,
+  true,
+  false,
+  cond,
+  not,
+  ◌==◌,
+  ◌&&◌,
+  List,
+  [],
+  ◌∷◌,
+  length,
+  replicate,
+  Option,
+  Some,
+  None,
+  Result,
+  Ok,
+  Err,
+  IfOk,
+  IsTrue,
+  refl,
+  sym,
+  ap,
+  subst,
+  inl,
+  inr,
+  arith,
+}
 use Rattle.std.specs.Prelude.{min, nat_lt, nat_le}
 use Rattle.std.specs.List.{concat}
 use Rattle.std.proofs.lemmas.Bool.{and_from, and_parts, both_ways, cases_Bool, eqb-true, leb-true, lt-ltb, ltb-true, not_from_true}
@@ -83,7 +121,9 @@ module _ (p : Instance) (pins : Routes) (pinned : length pins ≡ p.fleet) (t : 
           })
 
       by : (whole : Bool) → is_whole p t.plan ≡ whole
-          → cond (not whole) (Some (replicate p.fleet true)) (cond (nat_lt t.size (used_count t.plan) && nat_le (used_count pins) fewer) (Some (kept pins t.plan fewer)) None) ≡ Some marks → IsCrew p pins t marks
+          → cond (not whole) (Some (replicate p.fleet true))
+          (cond (nat_lt t.size (used_count t.plan) && nat_le (used_count pins) fewer) (Some (kept pins t.plan fewer)) None) ≡ Some marks
+          → IsCrew p pins t marks
       by false e found = all e (some_same (replicate p.fleet true) marks found)
       by true e found = room (nat_lt t.size (used_count t.plan) && nat_le (used_count pins) fewer) refl found
         where
@@ -96,7 +136,9 @@ module _ (p : Instance) (pins : Routes) (pinned : length pins ≡ p.fleet) (t : 
   none_whole none = by (is_whole p t.plan) refl none
     where
       by : (whole : Bool) → is_whole p t.plan ≡ whole
-          → cond (not whole) (Some (replicate p.fleet true)) (cond (nat_lt t.size (used_count t.plan) && nat_le (used_count pins) (used_count t.plan - t.size)) (Some (kept pins t.plan (used_count t.plan - t.size))) None) ≡ None
+          → cond (not whole) (Some (replicate p.fleet true))
+          (cond (nat_lt t.size (used_count t.plan) && nat_le (used_count pins) (used_count t.plan - t.size))
+          (Some (kept pins t.plan (used_count t.plan - t.size))) None) ≡ None
           → is_whole p t.plan ≡ true
       by true e none = e
       by false e none = absurd (none_some (replicate p.fleet true) (sym none))
@@ -106,7 +148,9 @@ module _ (p : Instance) (pins : Routes) (pinned : length pins ≡ p.fleet) (t : 
   begins_whole lacks marks found =
       let same : replicate p.fleet true ≡ marks =
       some_same (replicate p.fleet true) marks (
-      ap (λ b. cond (not b) (Some (replicate p.fleet true)) (cond (nat_lt t.size (used_count t.plan) && nat_le (used_count pins) (used_count t.plan - t.size)) (Some (kept pins t.plan (used_count t.plan - t.size))) None)) (sym lacks)
+      ap (λ b. cond (not b) (Some (replicate p.fleet true))
+      (cond (nat_lt t.size (used_count t.plan) && nat_le (used_count pins) (used_count t.plan - t.size))
+      (Some (kept pins t.plan (used_count t.plan - t.size))) None)) (sym lacks)
       ∙ found) in
       let f : length t.plan ≡ p.fleet = passing.fleet in
       ap (λ ks. picked ks t.plan) (sym same) ∙ subst (λ n. picked (replicate n true) t.plan ≡ t.plan) f (all_picked t.plan)
@@ -142,7 +186,8 @@ module _ (laws : Order) (p : Instance) (lilim : p.kind ≡ LiLim) where
   -- and one that leaves a request out costs more
   dearer : (found plan : Routes) → is_whole p found ≡ false → is_whole p plan ≡ true → cost_at_most (cost_of p found) (cost_of p plan) ≡ false
   dearer found plan a b =
-      not_from_true (cost_below (cost_of p plan) (cost_of p found)) ((laws.tells (cost_of p plan) (cost_of p found)).1 (inl (let h = none_out plan b in let g = some_out found a in omega (arith, h, g))))
+      not_from_true (cost_below (cost_of p plan) (cost_of p found))
+      ((laws.tells (cost_of p plan) (cost_of p found)).1 (inl (let h = none_out plan b in let g = some_out found a in omega (arith, h, g))))
 
 -- ---- a turn
 -- what the next tries keep
@@ -161,7 +206,8 @@ left_lacking p end t lacks = ap (λ b. end - t.step + (cond b (used_count t.plan
 half_less : (n : ℕ) → 0 < n → n / 2 < n
 half_less n some = omega (arith, some)
 
-module _ (laws : Below) (p : Instance) (pins : Routes) (pinned : length pins ≡ p.fleet) (vehicles : IsFleet p.fleet) (seed count end : ℕ) (t : Tries) (is : passes p pins t.plan ≡ true) (on : go_on p pins end t ≡ true) where
+module _ (laws : Below) (p : Instance) (pins : Routes) (pinned : length pins ≡ p.fleet) (vehicles : IsFleet p.fleet) (seed count end : ℕ) (t : Tries)
+    (is : passes p pins t.plan ≡ true) (on : go_on p pins end t ≡ true) where
   below : t.step < end
   below = ltb-true t.step end (and_parts (nat_lt t.step end) (nat_lt 0 t.size) on).0
 
@@ -340,7 +386,8 @@ module _ (laws : Below) (p : Instance) (pins : Routes) (pinned : length pins ≡
       let one = turn laws p pins pinned vehicles seed count end t at.going.plan on in
       subst (λ u. AtTries p pins seed count end all u × (tries_left p end u < tries_left p end t) × (t.step ≤ u.step)) (sym made) (by at.rest at.enough at.makes one, one.sinks order lilim, one.first)
     where
-      by : (rest : ℕ) → tries_left p end t ≤ rest → tries_from p pins seed count end rest t ≡ all → IsTurn p pins end t (next p pins seed count end t) → AtTries p pins seed count end all (next p pins seed count end t)
+      by : (rest : ℕ) → tries_left p end t ≤ rest → tries_from p pins seed count end rest t ≡ all → IsTurn p pins end t (next p pins seed count end t)
+          → AtTries p pins seed count end all (next p pins seed count end t)
       by zero few makes one = absurd (let h = one.sinks order lilim in omega (arith, few, h))
       by (suc rest) few makes one = record {
         going = record { plan = one.plan; last = one.last };
@@ -386,7 +433,8 @@ module _ (total : CostsAreTotal) (transitive : CostsAreTransitive) (p : Instance
 
   next_cost : (t : Tries) (o : Option (List Bool)) → CostsNoMore (next_by p pins seed count end t o).plan t.plan
   next_cost t None = same_cost total (cost_of p t.plan)
-  next_cost t (Some marks) = let found = put_back marks (tried p pins seed (limit (is_whole p t.plan) count end t) t marks).incumbent in by found (cost_at_most (cost_of p found) (cost_of p t.plan)) refl
+  next_cost t (Some marks) = let found = put_back marks (tried p pins seed (limit (is_whole p t.plan) count end t) t marks).incumbent in
+      by found (cost_at_most (cost_of p found) (cost_of p t.plan)) refl
     where
       by : (found : Routes) (c : Bool) → cost_at_most (cost_of p found) (cost_of p t.plan) ≡ c → CostsNoMore (cond c found t.plan) t.plan
       by found true is_so = is_so
@@ -411,7 +459,8 @@ tries_never_cost_more total transitive p pins routes seed count step = by p.kind
 
 -- ---- behind the code's try
 pub behind_is : (p : Instance) (pins plan : Routes) (t : Tries) (marks : List Bool) (end : Trying) (routes : Routes) (step size : ℕ) → routes ≡ end.incumbent → step ≡ end.step
-    → plan ≡ cond (cost_at_most (cost_of p (put_back marks routes)) (cost_of p t.plan)) (put_back marks routes) t.plan → size ≡ cond (is_whole p t.plan && not (is_whole p (put_back marks routes))) (t.size / 2) t.size
+    → plan ≡ cond (cost_at_most (cost_of p (put_back marks routes)) (cost_of p t.plan)) (put_back marks routes) t.plan
+    → size ≡ cond (is_whole p t.plan && not (is_whole p (put_back marks routes))) (t.size / 2) t.size
     → (record { plan = plan; step = step; size = size }) ≡ behind p pins t marks end
 behind_is p pins plan t marks end routes step size same steps taken sized =
     let back : put_back marks routes ≡ put_back marks end.incumbent = ap (put_back marks) same in
@@ -431,7 +480,8 @@ picked_passes law p q pins routes a b kept n long pinned is smaller fleet pins_a
     ap (λ x. passes x a b) (smaller ∙ ap (with_fleet p) fleet)
     ∙ (ap (λ l. passes (with_fleet p (marked kept)) l b) pins_are ∙ (ap (passes (with_fleet p (marked kept)) (picked kept pins)) routes_are ∙ law p pins routes kept long pinned is))
 
-pub next_is : (p : Instance) (pins : Routes) (seed count end : ℕ) (t new : Tries) (marks : List Bool) (until : ℕ) (whole : Bool) → crew p pins t ≡ Some marks → whole ≡ is_whole p t.plan → until ≡ limit whole count end t
+pub next_is : (p : Instance) (pins : Routes) (seed count end : ℕ) (t new : Tries) (marks : List Bool) (until : ℕ) (whole : Bool) → crew p pins t ≡ Some marks
+    → whole ≡ is_whole p t.plan → until ≡ limit whole count end t
     → new ≡ behind p pins t marks (tried p pins seed until t marks) → new ≡ next p pins seed count end t
 next_is p pins seed count end t new marks until whole found wholes lasts made =
     made ∙ (ap (λ l. behind p pins t marks (tried p pins seed l t marks)) (lasts ∙ ap (λ w. limit w count end t) wholes) ∙ ap (next_by p pins seed count end t) (sym found))

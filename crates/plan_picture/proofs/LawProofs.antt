@@ -13,7 +13,23 @@ use Rattle.plan_picture.specs.Heads.{title_text, unserved_text}
 use Rattle.plan_picture.specs.Known.{kept_of, known_stops, unserved}
 use Rattle.plan_picture.specs.Labels.{labels_of}
 use Rattle.plan_picture.specs.Laws.{frame_of, IsIn, RoutesAreDrawn, StopsAreMarked, stop_mark}
-use Rattle.plan_picture.specs.Map.{is_delivery, labels_text, line_text, lines_text, map_in, mark_text, marks_text, opening_text, over_mark, over_text, pairs_text, rings_text, under_mark, under_shape, under_text}
+use Rattle.plan_picture.specs.Map.{
+  is_delivery,
+  labels_text,
+  line_text,
+  lines_text,
+  map_in,
+  mark_text,
+  marks_text,
+  opening_text,
+  over_mark,
+  over_text,
+  pairs_text,
+  rings_text,
+  under_mark,
+  under_shape,
+  under_text,
+}
 use Rattle.plan_picture.specs.Picture.{broken_route, broken_stop, drawn_text, sized_head, whole_text}
 use Rattle.plan_picture.specs.Svg.{each}
 use Rattle.plan_picture.specs.Table.{grid_of, rows_text}
@@ -38,7 +54,8 @@ in_picture a p kept verdict within =
     (in_right a head (map ++ rows ++ days) (in_left a (map ++ rows) days (in_left a map rows within)))
 
 -- a stop's mark is that of one of the two layers
-mark_in_layers : (p : Instance) (f : Frame) (s : Stop) (t : List ℕ) → (is_delivery p s ≡ true → IsIn (over_mark p f s) t) → (is_delivery p s ≡ false → IsIn (under_mark p f s) t) → IsIn (stop_mark p f s) t
+mark_in_layers : (p : Instance) (f : Frame) (s : Stop) (t : List ℕ) → (is_delivery p s ≡ true → IsIn (over_mark p f s) t)
+    → (is_delivery p s ≡ false → IsIn (under_mark p f s) t) → IsIn (stop_mark p f s) t
 mark_in_layers p f s t over under = by (is_delivery p s) refl
   where
     by : (b : Bool) → is_delivery p s ≡ b → IsIn (stop_mark p f s) t

@@ -38,7 +38,8 @@ pub routes_are_kept : RoutesAreKept
 routes_are_kept p route once = all_kept p [] route (recursion_from_All (IsLive p) route once.live) once.distinct
 
 -- of the legs behind place j, the one that is i places further
-legs_in : (p : Instance) (f : Frame) (route : List ℕ) (j m i : ℕ) → i < m → IsIn (leg_text f (place p route (j + i)) (place p route (j + i + 1))) (legs_text f (place p route j) (map (visit_after p route) (range_with_len j m)))
+legs_in : (p : Instance) (f : Frame) (route : List ℕ) (j m i : ℕ) → i < m
+    → IsIn (leg_text f (place p route (j + i)) (place p route (j + i + 1))) (legs_text f (place p route j) (map (visit_after p route) (range_with_len j m)))
 legs_in p f route j zero i less = absurd (omega (arith, less))
 legs_in p f route j (suc m) zero less =
     let here = leg_text f (place p route j) (place p route (j + 1)) in

@@ -1,3 +1,4 @@
+-- The lemma files, which upper crates may cite.
 pub mod KeptLemmas
 pub mod LawProofs
 pub mod LegLemmas

@@ -9,7 +9,39 @@ use Rattle.route_sched.specs.declared.visits.Visit.{Visit}
 use Rattle.plan_picture.specs.Frame.{on_the_way, point_of}
 use Rattle.plan_picture.specs.Known.{stop_among, unserved, visits_of}
 use Rattle.plan_picture.specs.Labels.{labels_of}
-use Rattle.plan_picture.specs.Map.{arrow_text, badge_text, box_size, box_text, foot_of, has_arrow, is_delivery, join_text, label_kind_text, label_text, labels_text, leg_head, leg_text, legs_text, line_head, line_text, lines_text, map_in, mark_text, marks_text, number_text, opening_text, over_mark, over_text, pair_text, pairs_text, ring_text, rings_text, under_mark, under_shape, under_text}
+use Rattle.plan_picture.specs.Map.{
+  arrow_text,
+  badge_text,
+  box_size,
+  box_text,
+  foot_of,
+  has_arrow,
+  is_delivery,
+  join_text,
+  label_kind_text,
+  label_text,
+  labels_text,
+  leg_head,
+  leg_text,
+  legs_text,
+  line_head,
+  line_text,
+  lines_text,
+  map_in,
+  mark_text,
+  marks_text,
+  number_text,
+  opening_text,
+  over_mark,
+  over_text,
+  pair_text,
+  pairs_text,
+  ring_text,
+  rings_text,
+  under_mark,
+  under_shape,
+  under_text,
+}
 use Rattle.plan_picture.specs.Svg.{at_text, attribute, broken_class, colour, each, named, placed_tag}
 use Rattle.plan_picture.specs.Texts.{fixed}
 use Rattle.plan_picture.specs.WellFormed.{inside, named as in_name, quoted, unquoted}
@@ -21,7 +53,21 @@ use Rattle.plan_picture.specs.declared.labels.LabelKind.{LabelKind}
 use Rattle.plan_picture.specs.declared.labels.LabelKind.TheVariants.{Mark, Badge, Number}
 use Rattle.plan_picture.specs.declared.texts.Text.{Text}
 use Rattle.plan_picture.specs.declared.texts.Text.TheVariants as text
-use Rattle.plan_picture.proofs.PieceLemmas.{at_goes, attribute_goes, BeginsText, colour_goes, group_ends, group_stays, height_goes, named_goes, number_goes, placed_goes, tag_closes, text_ends, width_goes}
+use Rattle.plan_picture.proofs.PieceLemmas.{
+  at_goes,
+  attribute_goes,
+  BeginsText,
+  colour_goes,
+  group_ends,
+  group_stays,
+  height_goes,
+  named_goes,
+  number_goes,
+  placed_goes,
+  tag_closes,
+  text_ends,
+  width_goes,
+}
 use Rattle.plan_picture.proofs.ReadLemmas.{Goes, goes_on, inside_keeps, quoted_keeps, Stays, stays_all, stays_each, stays_if, stays_with}
 
 -- where there is something, its text stays
@@ -69,7 +115,9 @@ leg_stays f a b n os =
     let arrow = arrow_text f (point_of f a) (point_of f b) in
     let second = at_text (point_of f b) in
     goes_on start (head ++ first ++ arrow) (second ++ fixed text.LineEnd)
-    (goes_on start (head ++ first) arrow (goes_on start head first (leg_begins ((a.number == 0) || (b.number == 0)) n os) (at_goes line (n ∷ os) (point_of f a))) (arrow_goes (has_arrow f (point_of f a) (point_of f b)) line (n ∷ os) (on_the_way (point_of f a) (point_of f b))))
+    (goes_on start (head ++ first) arrow (goes_on start head first (leg_begins ((a.number == 0) || (b.number == 0)) n os)
+    (at_goes line (n ∷ os) (point_of f a))) (arrow_goes (has_arrow f (point_of f a) (point_of f b)) line (n ∷ os)
+    (on_the_way (point_of f a) (point_of f b))))
     (goes_on (quoted line (n ∷ os)) second (fixed text.LineEnd) (at_goes line (n ∷ os) (point_of f b)) (line_ends n os))
 
 legs_stay : (f : Frame) (last : Stop) (visits : List Visit) → Stays (legs_text f last visits)
@@ -86,7 +134,8 @@ line_opens broken number n os = by (number == broken)
         let a = inside (n ∷ os) in
         let head = fixed text.Route ++ fixed text.BrokenClass in
         goes_on a (head ++ colour text.Stroke number) (fixed text.Open)
-        (goes_on a head (colour text.Stroke number) (goes_on a (fixed text.Route) (fixed text.BrokenClass) refl refl) (colour_goes (unquoted (codes "g") (n ∷ os)) (codes "g") (n ∷ os) text.Stroke number refl)) refl
+        (goes_on a head (colour text.Stroke number) (goes_on a (fixed text.Route) (fixed text.BrokenClass) refl refl)
+        (colour_goes (unquoted (codes "g") (n ∷ os)) (codes "g") (n ∷ os) text.Stroke number refl)) refl
     by false =
         let a = inside (n ∷ os) in
         let head = fixed text.Route ++ [] in
@@ -117,7 +166,8 @@ mark_stays t f s begins n os =
     let name = codes "use" in
     let within = inside (codes "title" ∷ name ∷ n ∷ os) in
     goes_on a (placed_tag t (point_of f s) ++ named text.MarkTitle s.number) (fixed text.MarkEnd)
-    (goes_on a (placed_tag t (point_of f s)) (named text.MarkTitle s.number) (placed_goes a name (n ∷ os) t (point_of f s) (begins n os)) (named_goes (unquoted name (n ∷ os)) within text.MarkTitle s.number (inside_keeps (codes "title" ∷ name ∷ n ∷ os)) refl)) refl
+    (goes_on a (placed_tag t (point_of f s)) (named text.MarkTitle s.number) (placed_goes a name (n ∷ os) t (point_of f s) (begins n os))
+    (named_goes (unquoted name (n ∷ os)) within text.MarkTitle s.number (inside_keeps (codes "title" ∷ name ∷ n ∷ os)) refl)) refl
 
 begins_if : (c : Bool) (t u : Text) → BeginsMark t → BeginsMark u → BeginsMark (if c then t else u)
 begins_if true t u first next = first
@@ -158,7 +208,10 @@ box_stays k a n os =
     let height = attribute text.Height (a.bottom - a.top) in
     let placed = placed_tag text.BadgeBox corner in
     goes_on start (placed ++ (width ++ height) ++ colour text.Fill k) (fixed text.Close)
-    (goes_on start (placed ++ (width ++ height)) (colour text.Fill k) (goes_on start placed (width ++ height) (placed_goes start name (n ∷ os) text.BadgeBox corner refl) (goes_on (unquoted name (n ∷ os)) width height (width_goes name (n ∷ os) (a.right - a.left)) (height_goes name (n ∷ os) (a.bottom - a.top)))) (colour_goes (unquoted name (n ∷ os)) name (n ∷ os) text.Fill k refl))
+    (goes_on start (placed ++ (width ++ height)) (colour text.Fill k)
+    (goes_on start placed (width ++ height) (placed_goes start name (n ∷ os) text.BadgeBox corner refl)
+    (goes_on (unquoted name (n ∷ os)) width height (width_goes name (n ∷ os) (a.right - a.left)) (height_goes name (n ∷ os) (a.bottom - a.top))))
+    (colour_goes (unquoted name (n ∷ os)) name (n ∷ os) text.Fill k refl))
     (tag_closes name n os)
 
 number_stays : (f : Frame) (t : Text) (j k : ℕ) (a : Area) → BeginsText t → Stays (number_text f t j k a)
@@ -193,7 +246,10 @@ opening_opens f n os =
     let width = named text.Map f.width in
     let height = named text.Blank f.height in
     goes_on a (width ++ height ++ attribute text.Letters f.unit) (fixed text.Open)
-    (goes_on a (width ++ height) (attribute text.Letters f.unit) (goes_on a width height (named_goes a (quoted name (n ∷ os)) text.Map f.width keeps refl) (named_goes (quoted name (n ∷ os)) (quoted name (n ∷ os)) text.Blank f.height keeps refl)) (attribute_goes (quoted name (n ∷ os)) name (n ∷ os) text.Letters f.unit refl)) refl
+    (goes_on a (width ++ height) (attribute text.Letters f.unit)
+    (goes_on a width height (named_goes a (quoted name (n ∷ os)) text.Map f.width keeps refl)
+    (named_goes (quoted name (n ∷ os)) (quoted name (n ∷ os)) text.Blank f.height keeps refl))
+    (attribute_goes (quoted name (n ∷ os)) name (n ∷ os) text.Letters f.unit refl)) refl
 
 pub map_stays : (f : Frame) (p : Instance) (stops : List Stop) (first : ℕ) (routes : List (List ℕ)) (route stop : ℕ) → Stays (map_in f p stops first routes route stop)
 unfolding map_in under_text over_text
@@ -208,4 +264,5 @@ map_stays f p stops first routes route stop n os =
     let labels = labels_text f (labels_of p f first routes stops) in
     goes_on a (opening_text f ++ pairs ++ lines) (marks ++ rings ++ labels)
     (goes_on a (opening_text f ++ pairs) lines (goes_on a (opening_text f) pairs (opening_opens f n os) (pairs_stay p f stops name (n ∷ os))) (lines_stay p f route first routes name (n ∷ os)))
-    (goes_on in_map (marks ++ rings) labels (goes_on in_map marks rings (marks_stay p f stops name (n ∷ os)) (rings_stay f stops (unserved routes stops) stop name (n ∷ os))) (labels_end f (labels_of p f first routes stops) n os))
+    (goes_on in_map (marks ++ rings) labels (goes_on in_map marks rings (marks_stay p f stops name (n ∷ os))
+    (rings_stay f stops (unserved routes stops) stop name (n ∷ os))) (labels_end f (labels_of p f first routes stops) n os))

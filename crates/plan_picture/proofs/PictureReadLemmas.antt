@@ -15,7 +15,32 @@ use Rattle.plan_audit.specs.declared.rules.Verdict.{Verdict}
 use Rattle.plan_audit.specs.declared.rules.Verdict.TheVariants.{Broken, Pass}
 use Rattle.plan_picture.specs.Days.{days_text}
 use Rattle.plan_picture.specs.Frame.{bounds_of, framed}
-use Rattle.plan_picture.specs.Heads.{broken_place, broken_text, cost_text, figures_of, fleet_figures, head_text, key_text, load_figures, one_route, pair_key, partial_text, partner_figures, rule_name, scope_text, shapes_text, start_figures, style_text, title_head, title_text, unserved_text, vehicles_text, verdict_text, visit_figures, visit_told}
+use Rattle.plan_picture.specs.Heads.{
+  broken_place,
+  broken_text,
+  cost_text,
+  figures_of,
+  fleet_figures,
+  head_text,
+  key_text,
+  load_figures,
+  one_route,
+  pair_key,
+  partial_text,
+  partner_figures,
+  rule_name,
+  scope_text,
+  shapes_text,
+  start_figures,
+  style_text,
+  title_head,
+  title_text,
+  unserved_text,
+  vehicles_text,
+  verdict_text,
+  visit_figures,
+  visit_told,
+}
 use Rattle.plan_picture.specs.Known.{kept_of, known_stops, stops_along, unserved}
 use Rattle.plan_picture.specs.Laws.{PicturesAreWellFormed, RoutePicturesAreWellFormed}
 use Rattle.plan_picture.specs.Map.{map_text}
@@ -54,14 +79,17 @@ shapes_go =
     let a = inside picture_names in
     let defs = inside (codes "defs" ∷ picture_names) in
     goes_on a (fixed text.ArrowShape ++ fixed text.DepotShape ++ fixed text.PairShapes) (fixed text.RingShapes ++ fixed text.Paper)
-    (goes_on a (fixed text.ArrowShape ++ fixed text.DepotShape) (fixed text.PairShapes) (goes_on a (fixed text.ArrowShape) (fixed text.DepotShape) refl refl) refl) (goes_on defs (fixed text.RingShapes) (fixed text.Paper) refl refl)
+    (goes_on a (fixed text.ArrowShape ++ fixed text.DepotShape) (fixed text.PairShapes)
+    (goes_on a (fixed text.ArrowShape) (fixed text.DepotShape) refl refl) refl) (goes_on defs (fixed text.RingShapes) (fixed text.Paper) refl refl)
 
 head_opens : (kind : Kind) (height : ℕ) → Goes outside (head_text kind height) (inside picture_names)
 unfolding head_text fixed
 head_opens kind height =
     let size = attribute text.Head height in
     goes_on outside (size ++ style_text ++ shapes_text) (key_text kind)
-    (goes_on outside (size ++ style_text) shapes_text (goes_on outside size style_text (attribute_goes outside (codes "svg") [] text.Head height refl) style_goes) shapes_go) (key_stays kind (codes "svg") [])
+    (goes_on outside (size ++ style_text) shapes_text
+    (goes_on outside size style_text (attribute_goes outside (codes "svg") [] text.Head height refl) style_goes) shapes_go)
+    (key_stays kind (codes "svg") [])
 
 cost_stays : (kind : Kind) (cost : Cost) → Stays (cost_text kind cost)
 unfolding cost_text fixed
@@ -121,7 +149,8 @@ figures_stay : (p : Instance) (routes : List (List ℕ)) (b : Breach) → Stays 
 unfolding fixed
 figures_stay p routes b =
     stays_if ((b.rule == 3) || (b.rule == 4) || (b.rule == 5)) (partner_figures p b.stop) _ (stays_maybe (named text.Partner) (partner_at p b.stop) (λ m. named_stays text.Partner m (λ n os. refl)))
-    (stays_if ((b.rule == 6) || (b.rule == 7) || (b.rule == 8)) (option_map_or (visit_figures p b.rule) (visit_told p routes b.route b.place) []) _ (stays_maybe (visit_figures p b.rule) (visit_told p routes b.route b.place) (visit_stays p b.rule))
+    (stays_if ((b.rule == 6) || (b.rule == 7) || (b.rule == 8)) (option_map_or (visit_figures p b.rule) (visit_told p routes b.route b.place) []) _
+    (stays_maybe (visit_figures p b.rule) (visit_told p routes b.route b.place) (visit_stays p b.rule))
     (stays_if (b.rule == 9) (fleet_figures p routes) _ (fleet_stays p routes)
     (stays_if (b.rule == 11) (named text.Driven (total_length p routes)) [] (named_stays text.Driven (total_length p routes) (λ n os. refl)) (λ n os. refl))))
 
@@ -130,7 +159,9 @@ unfolding broken_place fixed
 place_stays b =
     let route = some_named text.BrokenRoute b.route in
     let place = some_named text.BrokenPlace b.place in
-    stays_with (route ++ place) (some_named text.BrokenStop b.stop) (stays_with route place (some_named_stays text.BrokenRoute b.route (λ n os. refl)) (some_named_stays text.BrokenPlace b.place (λ n os. refl))) (some_named_stays text.BrokenStop b.stop (λ n os. refl))
+    stays_with (route ++ place) (some_named text.BrokenStop b.stop)
+    (stays_with route place (some_named_stays text.BrokenRoute b.route (λ n os. refl)) (some_named_stays text.BrokenPlace b.place (λ n os. refl)))
+    (some_named_stays text.BrokenStop b.stop (λ n os. refl))
 
 broken_stays : (p : Instance) (routes : List (List ℕ)) (b : Breach) → Stays (broken_text p routes b)
 unfolding broken_text fixed
@@ -166,13 +197,15 @@ title_stays p routes verdict number n os =
     let scope = scope_text number (length routes) in
     let words = verdict_text p routes verdict in
     goes_on a (head ++ scope ++ words) (fixed text.TextEnd)
-    (goes_on a (head ++ scope) words (goes_on a head scope (title_begins verdict n os) (scope_stays number (length routes) name (n ∷ os))) (verdict_stays p routes verdict name (n ∷ os))) (text_ends n os)
+    (goes_on a (head ++ scope) words (goes_on a head scope (title_begins verdict n os) (scope_stays number (length routes) name (n ∷ os)))
+    (verdict_stays p routes verdict name (n ∷ os))) (text_ends n os)
 
 unserved_stays : (count : ℕ) → Stays (unserved_text count)
 unfolding unserved_text fixed
 unserved_stays count =
     stays_if (count == 0) [] (named text.Unserved count ++ fixed text.TextEnd) (λ n os. refl)
-    (λ n os. goes_on (inside (n ∷ os)) (named text.Unserved count) (fixed text.TextEnd) (named_goes (inside (n ∷ os)) (inside (codes "text" ∷ n ∷ os)) text.Unserved count (inside_keeps (codes "text" ∷ n ∷ os)) refl) (text_ends n os))
+    (λ n os. goes_on (inside (n ∷ os)) (named text.Unserved count) (fixed text.TextEnd)
+    (named_goes (inside (n ∷ os)) (inside (codes "text" ∷ n ∷ os)) text.Unserved count (inside_keeps (codes "text" ∷ n ∷ os)) refl) (text_ends n os))
 
 drawn_stays : (p : Instance) (stops : List Stop) (first : ℕ) (routes : List (List ℕ)) (verdict : Verdict) → Stays (drawn_text p stops first routes verdict)
 unfolding drawn_text
@@ -180,7 +213,8 @@ drawn_stays p stops first routes verdict =
     let the_map = map_text p stops first routes (broken_route verdict) (broken_stop verdict) in
     let rows = rows_text p (grid_of p.kind (length routes)) (broken_route verdict) first routes in
     stays_with (the_map ++ rows) (days_text p.kind p routes)
-    (stays_with the_map rows (map_stays (framed (bounds_of p.depot stops)) p stops first routes (broken_route verdict) (broken_stop verdict)) (rows_stay p (grid_of p.kind (length routes)) (broken_route verdict) first routes)) (days_stay p.kind p routes)
+    (stays_with the_map rows (map_stays (framed (bounds_of p.depot stops)) p stops first routes (broken_route verdict) (broken_stop verdict))
+    (rows_stay p (grid_of p.kind (length routes)) (broken_route verdict) first routes)) (days_stay p.kind p routes)
 
 sized_opens : (p : Instance) (rows : ℕ) → Goes outside (sized_head p rows) (inside picture_names)
 sized_opens p rows = head_opens p.kind (1130 + (grid_of p.kind rows).pitch * (grid_of p.kind rows).rows)
@@ -201,7 +235,9 @@ pictures_are_well_formed p routes verdict =
     let drawn = drawn_text p stops 1 kept verdict in
     let name = codes "svg" in
     ended_text (head ++ title ++ count ++ drawn)
-    (goes_on outside (head ++ title ++ count) drawn (goes_on outside (head ++ title) count (goes_on outside head title (sized_opens p (length kept)) (title_stays p kept verdict 0 name [])) (unserved_stays (length (unserved kept stops)) name [])) (drawn_stays p stops 1 kept verdict name []))
+    (goes_on outside (head ++ title ++ count) drawn (goes_on outside (head ++ title) count
+    (goes_on outside head title (sized_opens p (length kept)) (title_stays p kept verdict 0 name []))
+    (unserved_stays (length (unserved kept stops)) name [])) (drawn_stays p stops 1 kept verdict name []))
 
 one_well_formed : (p : Instance) (kept : List (List ℕ)) (verdict : Verdict) (number : ℕ) (route : List ℕ) → IsWellFormed (route_text p kept verdict number route ++ fixed text.End)
 unfolding route_text
@@ -210,7 +246,9 @@ one_well_formed p kept verdict number route =
     let title = title_text p kept verdict number in
     let drawn = drawn_text p (stops_along p route) number (route ∷ []) verdict in
     let name = codes "svg" in
-    ended_text (head ++ title ++ drawn) (goes_on outside (head ++ title) drawn (goes_on outside head title (sized_opens p 1) (title_stays p kept verdict number name [])) (drawn_stays p (stops_along p route) number (route ∷ []) verdict name []))
+    ended_text (head ++ title ++ drawn) (goes_on outside (head ++ title) drawn
+    (goes_on outside head title (sized_opens p 1) (title_stays p kept verdict number name []))
+    (drawn_stays p (stops_along p route) number (route ∷ []) verdict name []))
 
 pub route_pictures_are_well_formed : RoutePicturesAreWellFormed
 route_pictures_are_well_formed p routes verdict number = by (item_at (map (kept_of p) routes) number)

@@ -76,7 +76,8 @@ colour_goes a m os t n first =
     let hue = 137 * n % 360 in
     let light = 30 + n % 7 * 4 in
     goes_on a (named t hue ++ named text.Saturation light) (fixed text.ColourEnd)
-    (goes_on a (named t hue) (named text.Saturation light) (named_goes a (quoted m os) t hue (quoted_keeps m os) first) (named_goes (quoted m os) (quoted m os) text.Saturation light (quoted_keeps m os) refl)) refl
+    (goes_on a (named t hue) (named text.Saturation light) (named_goes a (quoted m os) t hue (quoted_keeps m os) first)
+    (named_goes (quoted m os) (quoted m os) text.Saturation light (quoted_keeps m os) refl)) refl
 
 -- a place in a value
 pub at_goes : (m : List ℕ) (os : List (List ℕ)) (point : Point) → Goes (quoted m os) (at_text point) (quoted m os)
@@ -123,7 +124,8 @@ bar_stays t first width begins = by (width == 0)
         let a = inside (n ∷ os) in
         let name = codes "rect" in
         goes_on a (fixed t ++ attribute text.X first ++ attribute text.Width width) (fixed text.Close)
-        (goes_on a (fixed t ++ attribute text.X first) (attribute text.Width width) (goes_on a (fixed t) (attribute text.X first) (begins n os) (x_goes name (n ∷ os) first)) (width_goes name (n ∷ os) width))
+        (goes_on a (fixed t ++ attribute text.X first) (attribute text.Width width)
+        (goes_on a (fixed t) (attribute text.X first) (begins n os) (x_goes name (n ∷ os) first)) (width_goes name (n ∷ os) width))
         (tag_closes name n os)
 
 -- this text opens a group, whose end closes it

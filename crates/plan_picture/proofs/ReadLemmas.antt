@@ -65,10 +65,12 @@ glyph_plain d = by (nat_lt d 10) refl
     by true e =
         let less : d < 10 = ltb-true d 10 e in
         ap (λ b. is_plain (if b then 48 + d else 87 + d)) e
-        ∙ plain_by (48 + d) (ne_eqb (48 + d) 39 (λ h. omega (arith, h, less))) (ne_eqb (48 + d) 60 (λ h. omega (arith, h, less))) (ne_eqb (48 + d) 38 (λ h. omega (arith, h, less))) (ne_eqb (48 + d) 62 (λ h. omega (arith, h, less)))
+        ∙ plain_by (48 + d) (ne_eqb (48 + d) 39 (λ h. omega (arith, h, less))) (ne_eqb (48 + d) 60 (λ h. omega (arith, h, less)))
+        (ne_eqb (48 + d) 38 (λ h. omega (arith, h, less))) (ne_eqb (48 + d) 62 (λ h. omega (arith, h, less)))
     by false e =
         ap (λ b. is_plain (if b then 48 + d else 87 + d)) e
-        ∙ plain_by (87 + d) (ne_eqb (87 + d) 39 (λ h. omega (arith, h))) (ne_eqb (87 + d) 60 (λ h. omega (arith, h))) (ne_eqb (87 + d) 38 (λ h. omega (arith, h))) (ne_eqb (87 + d) 62 (λ h. omega (arith, h)))
+        ∙ plain_by (87 + d) (ne_eqb (87 + d) 39 (λ h. omega (arith, h))) (ne_eqb (87 + d) 60 (λ h. omega (arith, h)))
+        (ne_eqb (87 + d) 38 (λ h. omega (arith, h))) (ne_eqb (87 + d) 62 (λ h. omega (arith, h)))
 
 plain_if : (b : Bool) (t u : List ℕ) → IsPlain t → IsPlain u → IsPlain (if b then t else u)
 plain_if true t u first next = first

@@ -10,7 +10,30 @@ use Rattle.plan_types.specs.declared.requests.Kind.TheVariants.{LiLim, Vrp}
 use Rattle.plan_types.specs.declared.requests.Stop.{Stop}
 use Rattle.route_sched.specs.Schedule.{route_length}
 use Rattle.route_sched.specs.declared.visits.Visit.{Visit}
-use Rattle.plan_picture.specs.Days.{across, bars_text, chart_head, chart_text, day_text, days_text, horizon, late_text, nth_tick, tick_line, tick_step, tick_text, ticks_text, time_room, time_text, times_row, times_rows, times_text, visit_text, visits_text, window_text, work_text}
+use Rattle.plan_picture.specs.Days.{
+  across,
+  bars_text,
+  chart_head,
+  chart_text,
+  day_text,
+  days_text,
+  horizon,
+  late_text,
+  nth_tick,
+  tick_line,
+  tick_step,
+  tick_text,
+  ticks_text,
+  time_room,
+  time_text,
+  times_row,
+  times_rows,
+  times_text,
+  visit_text,
+  visits_text,
+  window_text,
+  work_text,
+}
 use Rattle.plan_picture.specs.Known.{visits_of}
 use Rattle.plan_picture.specs.Svg.{attribute, bar, broken_class, colour, each, named, placed_text}
 use Rattle.plan_picture.specs.Table.{figures_text, heading_text, load_text, row_end, row_head, row_place, row_text, rows_text, top_load}
@@ -43,7 +66,8 @@ head_begins broken number n os =
     by true = refl
     by false = refl
 
-figures_go : (p : Instance) (number : ℕ) (route : List ℕ) (n : List ℕ) (os : List (List ℕ)) → Goes (unquoted (codes "text") (codes "g" ∷ n ∷ os)) (figures_text p number route) (inside (codes "tspan" ∷ codes "text" ∷ codes "g" ∷ n ∷ os))
+figures_go : (p : Instance) (number : ℕ) (route : List ℕ) (n : List ℕ) (os : List (List ℕ))
+    → Goes (unquoted (codes "text") (codes "g" ∷ n ∷ os)) (figures_text p number route) (inside (codes "tspan" ∷ codes "text" ∷ codes "g" ∷ n ∷ os))
 unfolding figures_text load_text fixed
 figures_go p number route n os =
     let a = unquoted (codes "text") (codes "g" ∷ n ∷ os) in
@@ -54,7 +78,10 @@ figures_go p number route n os =
     let first = named text.RouteCell number in
     let second = named text.StopsCell (length route) in
     goes_on a (first ++ second ++ load_text load) (named text.DistanceCell (route_length p route))
-    (goes_on a (first ++ second) (load_text load) (goes_on a first second (named_goes a b text.RouteCell number keeps refl) (named_goes b b text.StopsCell (length route) keeps refl)) (goes_on b (fixed text.LoadCell) (signed_decimal load) refl (keeps (signed_decimal load) (plain_signed load)))) (named_goes b b text.DistanceCell (route_length p route) keeps refl)
+    (goes_on a (first ++ second) (load_text load) (goes_on a first second (named_goes a b text.RouteCell number keeps refl)
+    (named_goes b b text.StopsCell (length route) keeps refl))
+    (goes_on b (fixed text.LoadCell) (signed_decimal load) refl (keeps (signed_decimal load) (plain_signed load))))
+    (named_goes b b text.DistanceCell (route_length p route) keeps refl)
 
 row_ends : (g : Grid) (index : ℕ) (n : List ℕ) (os : List (List ℕ)) → Goes (inside (codes "tspan" ∷ codes "text" ∷ codes "g" ∷ n ∷ os)) (row_end g index) (inside (n ∷ os))
 unfolding row_end fixed
@@ -115,7 +142,8 @@ moved_stays y t within n os =
     let name = codes "g" in
     let head = named text.Day y in
     goes_on a (head ++ fixed text.DayOpen ++ t) (fixed text.GroupEnd)
-    (goes_on a (head ++ fixed text.DayOpen) t (goes_on a head (fixed text.DayOpen) (named_goes a (quoted name (n ∷ os)) text.Day y (quoted_keeps name (n ∷ os)) refl) refl) (within name (n ∷ os))) (group_ends n os)
+    (goes_on a (head ++ fixed text.DayOpen) t (goes_on a head (fixed text.DayOpen)
+    (named_goes a (quoted name (n ∷ os)) text.Day y (quoted_keeps name (n ∷ os)) refl) refl) (within name (n ∷ os))) (group_ends n os)
 
 day_stays : (p : Instance) (index : ℕ) (route : List ℕ) → Stays (day_text p index route)
 unfolding day_text
@@ -124,7 +152,8 @@ day_stays p index route = moved_stays (30 * index) (visits_text p.depot.earliest
 time_stays : (x : ℕ) (v : Visit) → Stays (time_text x v)
 unfolding time_text fixed
 time_stays x v =
-    stays_with (placed_text text.TimeStop x v.stop.number) (placed_text text.TimeStart x v.start) (placed_text_stays text.TimeStop x v.stop.number (λ n os. refl)) (placed_text_stays text.TimeStart x v.start (λ n os. refl))
+    stays_with (placed_text text.TimeStop x v.stop.number) (placed_text text.TimeStart x v.start)
+    (placed_text_stays text.TimeStop x v.stop.number (λ n os. refl)) (placed_text_stays text.TimeStart x v.start (λ n os. refl))
 
 times_stay : (first last free : ℕ) (visits : List Visit) → Stays (times_text first last free visits)
 times_stay first last free [] = λ n os. refl
@@ -149,7 +178,8 @@ line_stays x height n os =
     let a = inside (n ∷ os) in
     let name = codes "rect" in
     goes_on a (fixed text.TickLine ++ attribute text.X x ++ attribute text.Height height) (fixed text.Close)
-    (goes_on a (fixed text.TickLine ++ attribute text.X x) (attribute text.Height height) (goes_on a (fixed text.TickLine) (attribute text.X x) refl (x_goes name (n ∷ os) x)) (height_goes name (n ∷ os) height)) (tag_closes name n os)
+    (goes_on a (fixed text.TickLine ++ attribute text.X x) (attribute text.Height height)
+    (goes_on a (fixed text.TickLine) (attribute text.X x) refl (x_goes name (n ∷ os) x)) (height_goes name (n ∷ os) height)) (tag_closes name n os)
 
 tick_stays : (first last height time : ℕ) → Stays (tick_text first last height time)
 unfolding tick_text fixed
@@ -177,7 +207,8 @@ chart_opens first last height n os =
     let box = named text.ChartBox first in
     let width = named text.ChartWidth (last - first) in
     goes_on a (top ++ box ++ width) (attribute text.Blank height ++ fixed text.Open)
-    (goes_on a (top ++ box) width (goes_on a top box (attribute_goes a name (n ∷ os) text.Chart height refl) (named_goes c b text.ChartBox first keeps refl)) (named_goes b b text.ChartWidth (last - first) keeps refl))
+    (goes_on a (top ++ box) width (goes_on a top box (attribute_goes a name (n ∷ os) text.Chart height refl) (named_goes c b text.ChartBox first keeps refl))
+    (named_goes b b text.ChartWidth (last - first) keeps refl))
     (goes_on b (attribute text.Blank height) (fixed text.Open) (attribute_goes b name (n ∷ os) text.Blank height refl) refl)
 
 bars_stay : (p : Instance) (last : ℕ) (routes : List (List ℕ)) → Stays (bars_text p last routes)
@@ -193,7 +224,9 @@ chart_stays : (p : Instance) (last : ℕ) (routes : List (List ℕ)) → Stays (
 unfolding chart_text
 chart_stays p last routes =
     let ticks = ticks_text p.depot.earliest last (30 * length routes) in
-    stays_with (ticks ++ bars_text p last routes) (times_rows p last routes) (stays_with ticks (bars_text p last routes) (ticks_stay p.depot.earliest last (30 * length routes)) (bars_stay p last routes)) (times_rows_stay p last routes)
+    stays_with (ticks ++ bars_text p last routes) (times_rows p last routes)
+    (stays_with ticks (bars_text p last routes) (ticks_stay p.depot.earliest last (30 * length routes)) (bars_stay p last routes))
+    (times_rows_stay p last routes)
 
 pub days_stay : (kind : Kind) (p : Instance) (routes : List (List ℕ)) → Stays (days_text kind p routes)
 days_stay LiLim p routes = chart_stays p (horizon p p.depot.latest routes) routes

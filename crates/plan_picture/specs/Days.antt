@@ -91,7 +91,8 @@ time_room v = 6 * max (digit_count v.start) (digit_count v.stop.number) + 5
 abbrev pub times_text : ℕ → ℕ → ℕ → List Visit → List ℕ
 times_text first last free [] = []
 times_text first last free (v ∷ visits) =
-    if nat_le free (across first last v.start) then time_text (across first last v.start) v ++ times_text first last (across first last v.start + time_room v) visits else times_text first last free visits
+    if nat_le free (across first last v.start) then time_text (across first last v.start) v
+    ++ times_text first last (across first last v.start + time_room v) visits else times_text first last free visits
 
 -- the times in the row at this index
 unfoldable pub times_row : Instance → ℕ → ℕ → List ℕ → List ℕ

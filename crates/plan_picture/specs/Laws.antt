@@ -30,7 +30,8 @@ StopsAreMarked = (p : Instance) (routes : List (List ℕ)) (verdict : Verdict) (
 
 -- each route has its line, through what is kept of it
 abbrev pub RoutesAreDrawn : Type 0
-RoutesAreDrawn = (p : Instance) (routes : List (List ℕ)) (verdict : Verdict) (r : ℕ) (route : List ℕ) → slice_get routes r ≡ Some route → IsIn (line_text p (frame_of p) (broken_route verdict) (r + 1) (kept_of p route)) (picture p routes verdict)
+RoutesAreDrawn = (p : Instance) (routes : List (List ℕ)) (verdict : Verdict) (r : ℕ) (route : List ℕ) → slice_get routes r ≡ Some route
+    → IsIn (line_text p (frame_of p) (broken_route verdict) (r + 1) (kept_of p route)) (picture p routes verdict)
 
 -- of a route of live stops, each once, all is kept
 abbrev pub RoutesAreKept : Type 0
@@ -38,7 +39,8 @@ RoutesAreKept = (p : Instance) (route : List ℕ) → AreLiveOnce p route → ke
 
 -- the line of a route has each leg, from place k to the next one
 abbrev pub LegsAreDrawn : Type 0
-LegsAreDrawn = (p : Instance) (f : Frame) (broken number : ℕ) (route : List ℕ) (k : ℕ) → k ≤ length route → IsIn (leg_text f (place p route k) (place p route (k + 1))) (line_text p f broken number route)
+LegsAreDrawn = (p : Instance) (f : Frame) (broken number : ℕ) (route : List ℕ) (k : ℕ) → k ≤ length route
+    → IsIn (leg_text f (place p route k) (place p route (k + 1))) (line_text p f broken number route)
 
 -- whatever is drawn, the text is well-formed
 abbrev pub PicturesAreWellFormed : Type 0

@@ -21,13 +21,18 @@ fixed text.End = codes "</svg>\n"
 fixed text.Blank = codes " "
 fixed text.Comma = codes ","
 fixed text.Head = codes "<svg xmlns='http://www.w3.org/2000/svg' font-family='sans-serif' font-size='14' viewBox='0 0 1200 "
-fixed text.LineStyle = codes ">\n<style>.pairs{fill:none;stroke:#777;stroke-width:.5em;stroke-dasharray:2em 2em}.legs{fill:none;stroke-width:1em;stroke-linejoin:round;marker-mid:url(#arrow)}.depot{stroke-width:.7em;stroke-opacity:.25}g.broken{stroke-width:1.5em;stroke-dasharray:5em 2em}"
-fixed text.TextStyle = codes ".badge{font-size:5em;font-weight:bold;fill:white}.number{font-size:4em;stroke:white;stroke-width:.3em;paint-order:stroke}.bad,text.broken{fill:#d00}.heading,.time{fill:#666}.at{font-weight:bold}"
+fixed text.LineStyle = codes
+    ">\n<style>.pairs{fill:none;stroke:#777;stroke-width:.5em;stroke-dasharray:2em 2em}.legs{fill:none;stroke-width:1em;stroke-linejoin:round;marker-mid:url(#arrow)}.depot{stroke-width:.7em;stroke-opacity:.25}g.broken{stroke-width:1.5em;stroke-dasharray:5em 2em}"
+fixed text.TextStyle = codes
+    ".badge{font-size:5em;font-weight:bold;fill:white}.number{font-size:4em;stroke:white;stroke-width:.3em;paint-order:stroke}.bad,text.broken{fill:#d00}.heading,.time{fill:#666}.at{font-weight:bold}"
 fixed text.BarStyle = codes ".drive{fill:#8bd}.wait{fill:#fc6}.serve{fill:#063}.window{fill:#999}.late{fill:#e00}</style>\n"
 fixed text.ArrowShape = codes "<defs>\n<marker id='arrow' viewBox='0 0 4 4' refX='2' refY='2' markerWidth='5' markerHeight='5' orient='auto'><path d='M0 0 4 2 0 4z' fill='context-stroke'/></marker>\n"
-fixed text.DepotShape = codes "<rect id='depot' x='-3em' y='-3em' width='6em' height='6em' transform='rotate(45)' stroke='white' stroke-width='.5em'/>\n<circle id='stop' r='2em' stroke='white' stroke-width='.5em'/>\n"
-fixed text.PairShapes = codes "<circle id='pickup' r='2.4em' fill='white' stroke='black' stroke-width='.8em'/>\n<rect id='delivery' x='-1.4em' y='-1.4em' width='2.8em' height='2.8em' stroke='white' stroke-width='.4em'/>\n"
-fixed text.RingShapes = codes "<circle id='unserved' r='4em' fill='none' stroke='#e70' stroke-width='1em' stroke-dasharray='2em 1em'/>\n<circle id='broken' r='9em' fill='none' stroke='#d00' stroke-width='2em'/>\n</defs>\n"
+fixed text.DepotShape = codes
+    "<rect id='depot' x='-3em' y='-3em' width='6em' height='6em' transform='rotate(45)' stroke='white' stroke-width='.5em'/>\n<circle id='stop' r='2em' stroke='white' stroke-width='.5em'/>\n"
+fixed text.PairShapes = codes
+    "<circle id='pickup' r='2.4em' fill='white' stroke='black' stroke-width='.8em'/>\n<rect id='delivery' x='-1.4em' y='-1.4em' width='2.8em' height='2.8em' stroke='white' stroke-width='.4em'/>\n"
+fixed text.RingShapes = codes
+    "<circle id='unserved' r='4em' fill='none' stroke='#e70' stroke-width='1em' stroke-dasharray='2em 1em'/>\n<circle id='broken' r='9em' fill='none' stroke='#d00' stroke-width='2em'/>\n</defs>\n"
 fixed text.Paper = codes "<rect width='100%' height='100%' fill='white'/>\n"
 fixed text.Title = codes "<text x='20' y='36' font-size='20' font-weight='bold'>"
 fixed text.BrokenTitle = codes "<text class='bad' x='20' y='36' font-size='20' font-weight='bold'>"
@@ -64,9 +69,12 @@ fixed text.Fleet = codes ", fleet "
 fixed text.Driven = codes ", driven "
 fixed text.Unserved = codes "<text class='bad' x='20' y='60'>unserved stops, ringed: "
 fixed text.PairKey = codes "<g font-size='3'><use href='#depot' x='660' y='55'/><use href='#pickup' x='740' y='55'/><use href='#delivery' x='820' y='55'/><use href='#stop' x='910' y='55'/></g>\n"
-fixed text.PairWords = codes "<text x='676' y='60'>depot</text><text x='752' y='60'>pickup</text><text x='832' y='60'>delivery</text><text x='922' y='60'>stop</text>\n<text x='970' y='60' class='heading'>dashed: pairs, pale: depot legs</text>\n"
-fixed text.BarKey = codes "<text x='320' y='1086'><tspan class='drive'>driving</tspan> <tspan class='wait'>waiting</tspan> <tspan class='serve'>service</tspan> <tspan class='window'>window</tspan> <tspan class='late'>late</tspan></text>\n"
-fixed text.StopKey = codes "<g font-size='3'><use href='#depot' x='860' y='55'/><use href='#stop' x='940' y='55'/></g>\n<text x='876' y='60'>depot</text><text x='952' y='60'>stop</text>\n<text x='1020' y='60' class='heading'>pale: depot legs</text>\n"
+fixed text.PairWords = codes
+    "<text x='676' y='60'>depot</text><text x='752' y='60'>pickup</text><text x='832' y='60'>delivery</text><text x='922' y='60'>stop</text>\n<text x='970' y='60' class='heading'>dashed: pairs, pale: depot legs</text>\n"
+fixed text.BarKey = codes
+    "<text x='320' y='1086'><tspan class='drive'>driving</tspan> <tspan class='wait'>waiting</tspan> <tspan class='serve'>service</tspan> <tspan class='window'>window</tspan> <tspan class='late'>late</tspan></text>\n"
+fixed text.StopKey = codes
+    "<g font-size='3'><use href='#depot' x='860' y='55'/><use href='#stop' x='940' y='55'/></g>\n<text x='876' y='60'>depot</text><text x='952' y='60'>stop</text>\n<text x='1020' y='60' class='heading'>pale: depot legs</text>\n"
 fixed text.Map = codes "<svg x='20' y='70' width='1160' height='1000' viewBox='0 0 "
 fixed text.Letters = codes "' font-size='"
 fixed text.Pairs = codes "<g class='pairs'>\n"

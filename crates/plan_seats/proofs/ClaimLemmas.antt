@@ -20,7 +20,8 @@ none_yet (Ok claims) = refl
 none_yet (Err fault) = refl
 
 -- the seats so far and those of the vehicle that comes, and of all behind it, are all
-module _ (all : Result Claims Unseated) (seats : List (List ℕ)) (v : ℕ) (pins : List (List ℕ)) (pin : List ℕ) (rest routes : List (List ℕ)) (next : pins ≡ pin ∷ rest) (said : with_seats seats (claimed v pins routes) ≡ all) where
+module _ (all : Result Claims Unseated) (seats : List (List ℕ)) (v : ℕ) (pins : List (List ℕ)) (pin : List ℕ) (rest routes : List (List ℕ))
+    (next : pins ≡ pin ∷ rest) (said : with_seats seats (claimed v pins routes) ≡ all) where
   said_next : with_seats seats (or_pinned v (λ taken. with_seat taken.route (claimed (v + 1) rest taken.left)) (take_by pin routes)) ≡ all
   unfolding claimed
   said_next = sym (ap (λ ps. with_seats seats (claimed v ps routes)) next) ∙ said
@@ -33,6 +34,7 @@ module _ (all : Result Claims Unseated) (seats : List (List ℕ)) (v : ℕ) (pin
   pub finds_none : take_by pin routes ≡ None → all ≡ Err (Pinned v)
   finds_none is = sym said_next ∙ ap (λ t. with_seats seats (or_pinned v (λ taken. with_seat taken.route (claimed (v + 1) rest taken.left)) t)) is
 
-pub ends : (all : Result Claims Unseated) (seats : List (List ℕ)) (v : ℕ) (pins routes : List (List ℕ)) → pins ≡ [] → with_seats seats (claimed v pins routes) ≡ all → all ≡ Ok (record { seats = seats; left = routes })
+pub ends : (all : Result Claims Unseated) (seats : List (List ℕ)) (v : ℕ) (pins routes : List (List ℕ)) → pins ≡ []
+    → with_seats seats (claimed v pins routes) ≡ all → all ≡ Ok (record { seats = seats; left = routes })
 unfolding claimed
 ends all seats v pins routes none said = sym said ∙ ap (λ ps. with_seats seats (claimed v ps routes)) none ∙ ap (λ s. Ok (record { seats = s; left = routes })) (append-nil seats)

@@ -1,3 +1,4 @@
+-- The lemma files, which upper crates may cite.
 pub mod ClaimLemmas
 pub mod FillLemmas
 pub mod FoundLemmas

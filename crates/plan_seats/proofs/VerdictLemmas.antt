@@ -10,7 +10,30 @@ use Rattle.plan_audit.specs.Verdict.{printed, KeepsRules, IsBrokenOver, IsVerdic
 use Rattle.plan_audit.specs.declared.rules.Verdict.{Verdict}
 use Rattle.plan_audit.specs.declared.rules.Verdict.TheVariants.{Pass, Broken}
 use Rattle.plan_audit.proofs.RoutesLemmas.{still_broken}
-use Rattle.plan_audit.proofs.StepLemmas.{NoneUnknown, NoneRepeated, NoneMissing, NoneSplit, NoneOverloaded, NoneLate, unknown_step, repeated_step, unserved_step, missing_step, split_step, delivered_step, placed_step, load_step, late_step, return_step, timed_step, untimed_step, fleet_step, fleet_kept, cost_step, true_cost_step}
+use Rattle.plan_audit.proofs.StepLemmas.{
+  NoneUnknown,
+  NoneRepeated,
+  NoneMissing,
+  NoneSplit,
+  NoneOverloaded,
+  NoneLate,
+  unknown_step,
+  repeated_step,
+  unserved_step,
+  missing_step,
+  split_step,
+  delivered_step,
+  placed_step,
+  load_step,
+  late_step,
+  return_step,
+  timed_step,
+  untimed_step,
+  fleet_step,
+  fleet_kept,
+  cost_step,
+  true_cost_step,
+}
 use Rattle.plan_audit.proofs.VerdictLemmas.{broken_wider, broken_after, broken_verdict, keeps_both}
 
 -- what is told, or what the rules behind it answer
@@ -64,7 +87,8 @@ module _ (p : Instance) (routes : List (List ℕ)) (cost : ℕ) where
     broken_low v b = broken_verdict p (printed routes cost) 1 11 v (broken_wider p (printed routes cost) 1 5 11 v (omega arith) b)
 
     broken_mid : (v : Verdict) → KeepsRules 1 5 p (printed routes cost) → IsBrokenOver 6 8 p (printed routes cost) v → Is v
-    broken_mid v kept b = broken_verdict p (printed routes cost) 1 11 v (broken_wider p (printed routes cost) 1 8 11 v (omega arith) (broken_after p (printed routes cost) 1 5 8 v (omega arith) kept b))
+    broken_mid v kept b = broken_verdict p (printed routes cost) 1 11 v
+        (broken_wider p (printed routes cost) 1 8 11 v (omega arith) (broken_after p (printed routes cost) 1 5 8 v (omega arith) kept b))
 
     from_cost : KeepsRules 1 10 p (printed routes cost) → Is of_cost
     from_cost kept = elim (eqb_tells cost (total_length p routes)) [
@@ -74,17 +98,22 @@ module _ (p : Instance) (routes : List (List ℕ)) (cost : ℕ) where
 
     from_fleet : KeepsRules 1 8 p (printed routes cost) → (o : Option ℕ) → first_beyond p.fleet 0 routes ≡ o → Is (or_told o (λ m. Broken 9 (m + 1) 0 0) of_cost)
     from_fleet kept None e = from_cost (fleet_kept p routes cost kept e)
-    from_fleet kept (Some m) e = still_broken p (printed routes cost) (Broken 9 (m + 1) 0 0) (λ c e. (let h : Broken 9 (m + 1) 0 0 ≡ Pass c = e in cc)) (fleet_step p routes cost kept m (Broken 9 (m + 1) 0 0) refl e)
+    from_fleet kept (Some m) e = still_broken p (printed routes cost) (Broken 9 (m + 1) 0 0) (λ c e. (let h : Broken 9 (m + 1) 0 0 ≡ Pass c = e in cc))
+        (fleet_step p routes cost kept m (Broken 9 (m + 1) 0 0) refl e)
 
-    from_return : KeepsRules 1 5 p (printed routes cost) → p.kind ≡ LiLim → NoneOverloaded p routes (printed routes cost) refl → NoneLate p routes (printed routes cost) refl → (o : Option _) → first_route (λ _ route. return_told p route) 0 routes ≡ o
+    from_return : KeepsRules 1 5 p (printed routes cost) → p.kind ≡ LiLim → NoneOverloaded p routes (printed routes cost) refl
+        → NoneLate p routes (printed routes cost) refl → (o : Option _) → first_route (λ _ route. return_told p route) 0 routes ≡ o
         → Is (or_told o (λ f. Broken 8 (f.route + 1) (f.place + 1) f.stop) of_fleet)
     from_return kept kind a b None e = from_fleet (keeps_both p (printed routes cost) 1 5 8 kept (timed_step p routes (printed routes cost) refl kind a b e)) (first_beyond p.fleet 0 routes) refl
-    from_return kept kind a b (Some f) e = broken_mid (Broken 8 (f.route + 1) (f.place + 1) f.stop) kept (return_step p routes (printed routes cost) refl kind a b f (Broken 8 (f.route + 1) (f.place + 1) f.stop) refl e)
+    from_return kept kind a b (Some f) e = broken_mid (Broken 8 (f.route + 1) (f.place + 1) f.stop) kept
+        (return_step p routes (printed routes cost) refl kind a b f (Broken 8 (f.route + 1) (f.place + 1) f.stop) refl e)
 
-    from_late : KeepsRules 1 5 p (printed routes cost) → p.kind ≡ LiLim → NoneOverloaded p routes (printed routes cost) refl → (o : Option _) → first_route (told_by (λ _ route i n. visit_told p is_late route i n)) 0 routes ≡ o
+    from_late : KeepsRules 1 5 p (printed routes cost) → p.kind ≡ LiLim → NoneOverloaded p routes (printed routes cost) refl → (o : Option _)
+        → first_route (told_by (λ _ route i n. visit_told p is_late route i n)) 0 routes ≡ o
         → Is (or_told o (λ f. Broken 7 (f.route + 1) (f.place + 1) f.stop) of_return)
     from_late kept kind a None e = from_return kept kind a e (first_route (λ _ route. return_told p route) 0 routes) refl
-    from_late kept kind a (Some f) e = broken_mid (Broken 7 (f.route + 1) (f.place + 1) f.stop) kept (late_step p routes (printed routes cost) refl kind a f (Broken 7 (f.route + 1) (f.place + 1) f.stop) refl e)
+    from_late kept kind a (Some f) e = broken_mid (Broken 7 (f.route + 1) (f.place + 1) f.stop) kept
+        (late_step p routes (printed routes cost) refl kind a f (Broken 7 (f.route + 1) (f.place + 1) f.stop) refl e)
 
     from_kind : KeepsRules 1 5 p (printed routes cost) → NoneOverloaded p routes (printed routes cost) refl → (k : Kind) → p.kind ≡ k → Is (by_kind k of_late of_fleet)
     from_kind kept a LiLim e = from_late kept e a (first_route (told_by (λ _ route i n. visit_told p is_late route i n)) 0 routes) refl
@@ -96,26 +125,32 @@ module _ (p : Instance) (routes : List (List ℕ)) (cost : ℕ) where
     from_load kept (Some f) e = broken_mid (Broken 6 (f.route + 1) (f.place + 1) f.stop) kept (load_step p routes (printed routes cost) refl f (Broken 6 (f.route + 1) (f.place + 1) f.stop) refl e)
 
     module _ (u : Option ℕ) (asked : u ≡ unserved_of p (printed routes cost)) where
-      from_delivered : NoneUnknown p routes → NoneRepeated p routes → u ≡ None → NoneMissing p routes → NoneSplit p routes → (o : Option _) → first_route (told_by (λ _ _ i n. delivered_at p routes i n)) 0 routes ≡ o
+      from_delivered : NoneUnknown p routes → NoneRepeated p routes → u ≡ None → NoneMissing p routes → NoneSplit p routes → (o : Option _)
+          → first_route (told_by (λ _ _ i n. delivered_at p routes i n)) 0 routes ≡ o
           → Is (or_told o (λ f. Broken 5 (f.route + 1) (f.place + 1) f.stop) of_load)
-      from_delivered a b none c d None e = from_load (placed_step p routes valid (printed routes cost) refl u asked a b none c d e) (first_route (told_by (λ _ route i n. visit_told p (is_overloaded p) route i n)) 0 routes) refl
-      from_delivered a b none c d (Some f) e = broken_low (Broken 5 (f.route + 1) (f.place + 1) f.stop) (delivered_step p routes valid (printed routes cost) refl u asked a b none c d f (Broken 5 (f.route + 1) (f.place + 1) f.stop) refl e)
+      from_delivered a b none c d None e = from_load (placed_step p routes valid (printed routes cost) refl u asked a b none c d e)
+          (first_route (told_by (λ _ route i n. visit_told p (is_overloaded p) route i n)) 0 routes) refl
+      from_delivered a b none c d (Some f) e = broken_low (Broken 5 (f.route + 1) (f.place + 1) f.stop)
+          (delivered_step p routes valid (printed routes cost) refl u asked a b none c d f (Broken 5 (f.route + 1) (f.place + 1) f.stop) refl e)
 
       from_split : NoneUnknown p routes → NoneRepeated p routes → u ≡ None → NoneMissing p routes → (o : Option _) → first_route (told_by (λ r _ _ n. split_at p routes r n)) 0 routes ≡ o
           → Is (or_told o (λ f. Broken 4 (f.route + 1) (f.place + 1) f.stop) of_delivered)
       from_split a b none c None e = from_delivered a b none c e (first_route (told_by (λ _ _ i n. delivered_at p routes i n)) 0 routes) refl
-      from_split a b none c (Some f) e = broken_low (Broken 4 (f.route + 1) (f.place + 1) f.stop) (split_step p routes valid (printed routes cost) refl u asked a b none c f (Broken 4 (f.route + 1) (f.place + 1) f.stop) refl e)
+      from_split a b none c (Some f) e = broken_low (Broken 4 (f.route + 1) (f.place + 1) f.stop)
+          (split_step p routes valid (printed routes cost) refl u asked a b none c f (Broken 4 (f.route + 1) (f.place + 1) f.stop) refl e)
 
       from_missing : NoneUnknown p routes → NoneRepeated p routes → u ≡ None → (o : Option _) → first_route (told_by (λ _ _ _ n. missing_at p routes n)) 0 routes ≡ o
           → Is (or_told o (λ f. Broken 3 (f.route + 1) (f.place + 1) f.stop) of_split)
       from_missing a b none None e = from_split a b none e (first_route (told_by (λ r _ _ n. split_at p routes r n)) 0 routes) refl
-      from_missing a b none (Some f) e = broken_low (Broken 3 (f.route + 1) (f.place + 1) f.stop) (missing_step p routes valid (printed routes cost) refl u asked a b none f (Broken 3 (f.route + 1) (f.place + 1) f.stop) refl e)
+      from_missing a b none (Some f) e = broken_low (Broken 3 (f.route + 1) (f.place + 1) f.stop)
+          (missing_step p routes valid (printed routes cost) refl u asked a b none f (Broken 3 (f.route + 1) (f.place + 1) f.stop) refl e)
 
     from_unserved : NoneUnknown p routes → NoneRepeated p routes → (u : Option ℕ) → unserved_of p (printed routes cost) ≡ u → Is (or_told u (λ n. Broken 3 0 0 n) of_missing)
     from_unserved a b None e = from_missing None (sym e) a b refl (first_route (told_by (λ _ _ _ n. missing_at p routes n)) 0 routes) refl
     from_unserved a b (Some n) e = broken_low (Broken 3 0 0 n) (unserved_step p routes valid (printed routes cost) refl (Some n) (sym e) a b n (Broken 3 0 0 n) refl refl)
 
-    from_repeated : NoneUnknown p routes → (o : Option _) → first_route (told_by (λ r _ i n. repeated_at p routes r i n)) 0 routes ≡ o → Is (or_told o (λ f. Broken 2 (f.route + 1) (f.place + 1) f.stop) of_unserved)
+    from_repeated : NoneUnknown p routes → (o : Option _) → first_route (told_by (λ r _ i n. repeated_at p routes r i n)) 0 routes ≡ o
+        → Is (or_told o (λ f. Broken 2 (f.route + 1) (f.place + 1) f.stop) of_unserved)
     from_repeated a None e = from_unserved a e (unserved_of p (printed routes cost)) refl
     from_repeated a (Some f) e =
         broken_low (Broken 2 (f.route + 1) (f.place + 1) f.stop)

@@ -76,5 +76,6 @@ module _ (keep : RunsKeepFacts) (never_more : PlansNeverCostMore) (one_search : 
         stands = at.stands;
         counts = all.counts;
         one_each = all.one_each;
-        leads = leads_to at.begun (standing rounds runs all.counts) session.state (stands_state keep never_more say (seen_in ends.left) session.state ends.opened.stands) all.accepted (ends.opened.alone _ all.stands);
+        leads = leads_to at.begun (standing rounds runs all.counts) session.state
+            (stands_state keep never_more say (seen_in ends.left) session.state ends.opened.stands) all.accepted (ends.opened.alone _ all.stands);
       }

@@ -125,7 +125,8 @@ module _ {D : Type 0} (len calls faults : D → ℕ) (honest : D → Type 0) (cl
       first (Err Broken) n applied again = unacked m (record { answer = Err Broken; calls = n }) replies refl ∙ again (subst (λ (s : SessionValue D). m ≤ calls s.device) (sym applied.makes) le)
       first (Err (Core r)) n applied again = unacked m (record { answer = Err (Core r); calls = n }) replies refl ∙ again (subst (λ (s : SessionValue D). m ≤ calls s.device) (sym applied.makes) le)
       first (Err Spent) n applied again = unacked m (record { answer = Err Spent; calls = n }) replies refl ∙ again (subst (λ (s : SessionValue D). m ≤ calls s.device) (sym applied.makes) le)
-      first (Err OutOfMemory) n applied again = unacked m (record { answer = Err OutOfMemory; calls = n }) replies refl ∙ again (subst (λ (s : SessionValue D). m ≤ calls s.device) (sym applied.makes) le)
+      first (Err OutOfMemory) n applied again = unacked m (record { answer = Err OutOfMemory; calls = n }) replies refl
+          ∙ again (subst (λ (s : SessionValue D). m ≤ calls s.device) (sym applied.makes) le)
   none_yet [] (reply ∷ replies) old new run m le = elim run [ ]
   none_yet (command ∷ commands) [] old new run m le = elim run [ ]
 
@@ -135,21 +136,26 @@ module _ {D : Type 0} (len calls faults : D → ℕ) (honest : D → Type 0) (cl
     from s m image = calls s.device ≤ m
 
     -- within a run no moment has fewer finished calls than its beginning
-    pub counted_from : (commands : List Command) (replies : List Reply) (old new : SessionValue D) → Run old commands replies new → honest new.device → All old.device new.device (λ m image. calls old.device ≤ m)
+    pub counted_from : (commands : List Command) (replies : List Reply) (old new : SessionValue D) → Run old commands replies new → honest new.device
+        → All old.device new.device (λ m image. calls old.device ≤ m)
     counted_from [] [] old new run h =
         subst (λ (s : SessionValue D). All old.device s.device (λ m image. calls old.device ≤ m)) (sym run)
-        (through.started clock since old.device (λ m image. calls old.device ≤ m) (λ m image left. omega (arith, (only_now old.device m image (subst (λ (s : SessionValue D). honest s.device) run h) left).0)))
+        (through.started clock since old.device (λ m image. calls old.device ≤ m)
+        (λ m image left. omega (arith, (only_now old.device m image (subst (λ (s : SessionValue D). honest s.device) run h) left).0)))
     counted_from (command ∷ commands) (reply ∷ replies) old new run h = first reply.answer reply.calls run.1 (counted_from commands replies run.0 new run.2 h)
       where
-        first : (answer : Result (Unit {0}) Denial) (n : ℕ) → Applied old command (record { answer = answer; calls = n }) run.0 → All run.0.device new.device (from run.0) → All old.device new.device (from old)
+        first : (answer : Result (Unit {0}) Denial) (n : ℕ) → Applied old command (record { answer = answer; calls = n }) run.0
+            → All run.0.device new.device (from run.0) → All old.device new.device (from old)
         first (Ok done) n applied rest =
             let later : calls run.0.device ≡ calls old.device + calls_of old.place command = applied.called.finished in
             through.joined clock since old.device run.0.device new.device (from old)
-            (through.weakened clock since old.device run.0.device (IsBetween (calls old.device) (calls old.device + calls_of old.place command)) (from old) (λ m image between. between.0) (applied.counts (honest_back commands replies run.0 new run.2 h)))
+            (through.weakened clock since old.device run.0.device (IsBetween (calls old.device) (calls old.device + calls_of old.place command)) (from old)
+            (λ m image between. between.0) (applied.counts (honest_back commands replies run.0 new run.2 h)))
             (through.weakened clock since run.0.device new.device (from run.0) (from old) (λ m image le. omega (arith, le, later)) rest)
         first (Err DeviceFault) n applied rest =
             subst (λ (s : SessionValue D). All old.device s.device (from old)) (sym (broken_stays commands replies run.0 new applied.makes.is_broken run.2).0)
-            (through.weakened clock since old.device run.0.device (IsBetween (calls old.device) (calls old.device + calls_of old.place command)) (from old) (λ m image between. between.0) (applied.counts (honest_back commands replies run.0 new run.2 h)))
+            (through.weakened clock since old.device run.0.device (IsBetween (calls old.device) (calls old.device + calls_of old.place command)) (from old)
+            (λ m image between. between.0) (applied.counts (honest_back commands replies run.0 new run.2 h)))
         first (Err Broken) n applied rest = subst (λ (s : SessionValue D). All s.device new.device (from s)) applied.makes rest
         first (Err (Core r)) n applied rest = subst (λ (s : SessionValue D). All s.device new.device (from s)) applied.makes rest
         first (Err Spent) n applied rest = subst (λ (s : SessionValue D). All s.device new.device (from s)) applied.makes rest
@@ -201,13 +207,18 @@ module _ {D : Type 0} (len calls faults : D → ℕ) (honest : D → Type 0) (cl
             let reply : Reply = record { answer = Ok done; calls = n } in
             let done_so = applied.makes in
             let counted : calls run.0.device ≡ calls old.device + calls_of old.place command = applied.called.finished in
-            let own = both old.device run.0.device (RunLeaves old.state (command ∷ []) (reply ∷ [])) (IsBetween (calls old.device) (calls old.device + calls_of old.place command)) (applied.moments whole mid_honest) (applied.counts mid_honest) in
-            let behind = both run.0.device new.device (RunLeaves run.0.state commands replies) (λ m image. calls run.0.device ≤ m) (rest done_so.is_broken (applied.stands done_so.is_broken mid_honest)) (counted_from commands replies run.0 new run.2 h) in
+            let own = both old.device run.0.device (RunLeaves old.state (command ∷ []) (reply ∷ []))
+            (IsBetween (calls old.device) (calls old.device + calls_of old.place command)) (applied.moments whole mid_honest) (applied.counts mid_honest) in
+            let behind = both run.0.device new.device (RunLeaves run.0.state commands replies) (λ m image. calls run.0.device ≤ m)
+            (rest done_so.is_broken (applied.stands done_so.is_broken mid_honest)) (counted_from commands replies run.0 new run.2 h) in
             through.joined clock since old.device run.0.device new.device (RunLeaves old.state (command ∷ commands) (reply ∷ replies))
-            (through.weakened clock since old.device run.0.device (λ m image. RunLeaves old.state (command ∷ []) (reply ∷ []) m image × IsBetween (calls old.device) (calls old.device + calls_of old.place command) m image)
+            (through.weakened clock since old.device run.0.device
+            (λ m image. RunLeaves old.state (command ∷ []) (reply ∷ []) m image
+            × IsBetween (calls old.device) (calls old.device + calls_of old.place command) m image)
             (RunLeaves old.state (command ∷ commands) (reply ∷ replies))
             (λ m image all. early old.state command (kept commands replies) (acked m (reply ∷ [])) (acked m (reply ∷ replies)) image
-            (acked-cons m reply replies ∙ ap (λ (k : ℕ). cond (is_acknowledged m reply) 1 0 + k) (none_yet commands replies run.0 new run.2 m (omega (arith, all.1.1, counted))) ∙ sym (acked-cons m reply []))
+            (acked-cons m reply replies ∙ ap (λ (k : ℕ). cond (is_acknowledged m reply) 1 0 + k)
+            (none_yet commands replies run.0 new run.2 m (omega (arith, all.1.1, counted))) ∙ sym (acked-cons m reply []))
             all.0) own)
             (through.weakened clock since run.0.device new.device (λ m image. RunLeaves run.0.state commands replies m image × (calls run.0.device ≤ m))
             (RunLeaves old.state (command ∷ commands) (reply ∷ replies))

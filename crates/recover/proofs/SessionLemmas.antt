@@ -59,12 +59,20 @@ place_fits place command unspent first last used =
     from false full true room more e = cc e
 
 -- moments of a command that was carried out, and of one within which the device failed
-module _ (state : State) (command : Command) (accepted : AreAccepted state (command ∷ [])) (next : State) (same : next ≡ effect state command) (calls steps n m : ℕ) (image : List ℕ) (step : IsInStep state next calls steps m image) where
+module _ (state : State) (command : Command) (accepted : AreAccepted state (command ∷ [])) (next : State) (same : next ≡ effect state command)
+    (calls steps n m : ℕ) (image : List ℕ) (step : IsInStep state next calls steps m image) where
   none : (all : ℕ) → all ≡ 0 → StandsFor Two image state → StandsForSome state (command ∷ []) all image
   none all e stands = record { count = 0; all_acknowledged = omega (arith, e); one_more = omega arith; within = omega arith; accepted = tt; stands = stands }
 
   one : (all : ℕ) → all ≤ 1 → StandsFor Two image next → StandsForSome state (command ∷ []) all image
-  one all le stands = record { count = 1; all_acknowledged = omega (arith, le); one_more = omega arith; within = omega arith; accepted = accepted; stands = subst (λ (s : State). StandsFor Two image s) same stands }
+  one all le stands = record {
+    count = 1;
+    all_acknowledged = omega (arith, le);
+    one_more = omega arith;
+    within = omega arith;
+    accepted = accepted;
+    stands = subst (λ (s : State). StandsFor Two image s) same stands;
+  }
 
   pub leaves_ok : (done : Unit {0}) → n ≡ calls + steps → RunLeaves state (command ∷ []) (record { answer = Ok done; calls = n } ∷ []) m image
   leaves_ok done counted =

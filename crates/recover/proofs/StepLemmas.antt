@@ -55,7 +55,8 @@ module _ (images : List ℕ → Type 0) (state : State) (place : Place) (all : A
     all_more after_it each = record { snapshot = all.snapshot; commands = all.commands ++ command ∷ []; accepted = accepted_more; leads = leads_on; each = each }
 
     -- a commit of its record
-    pub commits_record : {D T E : Type 0} (on : sectors.Ghosts D) (result : Result T E) (start end : D) → Commits on result 2 0 (HoldsAt all.snapshot all.commands place) (HoldsAt all.snapshot (all.commands ++ command ∷ []) next) start end
+    pub commits_record : {D T E : Type 0} (on : sectors.Ghosts D) (result : Result T E) (start end : D)
+        → Commits on result 2 0 (HoldsAt all.snapshot all.commands place) (HoldsAt all.snapshot (all.commands ++ command ∷ []) next) start end
         → CommitsState on result 2 state (effect state command) next start end
     commits_record on result start end is = record {
       moments = weakened on.clock on.possible_since start end _ _ (within_by _ _ _ _ held held_more 2 0 (on.calls start)) is.moments;
@@ -64,9 +65,12 @@ module _ (images : List ℕ → Type 0) (state : State) (place : Place) (all : A
 
   module _ (new : State) (next : Place) where
     -- a commit of its snapshot
-    pub commits_snapshot : {D T E : Type 0} (on : sectors.Ghosts D) (result : Result T E) (start end : D) → Commits on result 4 2 (HoldsAt all.snapshot all.commands place) (HoldsAt new [] next) start end → CommitsState on result 4 state new next start end
+    pub commits_snapshot : {D T E : Type 0} (on : sectors.Ghosts D) (result : Result T E) (start end : D)
+        → Commits on result 4 2 (HoldsAt all.snapshot all.commands place) (HoldsAt new [] next) start end → CommitsState on result 4 state new next start end
     commits_snapshot on result start end is = record {
-      moments = weakened on.clock on.possible_since start end _ _ (λ m image within. unquiet _ _ 4 2 (on.calls start) m image (within_by _ _ _ _ held (held_new new next) 4 2 (on.calls start) m image within)) is.moments;
+      moments = weakened on.clock on.possible_since start end _ _
+          (λ m image within. unquiet _ _ 4 2 (on.calls start) m image (within_by _ _ _ _ held (held_new new next) 4 2 (on.calls start) m image within))
+          is.moments;
       after = on_ok_weaker result (all_new new next (on.possible end)) is.after;
     }
 

@@ -22,7 +22,7 @@ pub enum UpgradeFault {
     /// The old device's store was not read, and the new device not called.
     #[error("the old store: {0}")]
     Old(StoreFault),
-    /// The new device's store was not made. After `DeviceFault` it has none until one is made.
+    /// The new device's store was not made. After `DeviceFault` it may have none, and what it had may be lost.
     #[error("the new store: {0}")]
     New(FormatFault),
 }

@@ -1,5 +1,35 @@
 -- The bytes of a state that keeps its facts are read as this state.
-use Rattle.std.proofs.Common.{◌≡◌, ◌≢◌, ℕ, ◌+◌, ◌^◌, ◌<◌, ◌≤◌, Bool, true, false, cond, eqb, List, [], ◌∷◌, ◌++◌, length, Option, Some, None, Ok, refl, sym, ap, subst, ◌∙◌, append_assoc, arith, nat_lt}
+use Rattle.std.proofs.Common.{
+  ◌≡◌,
+  ◌≢◌,
+  ℕ,
+  ◌+◌,
+  ◌^◌,
+  ◌<◌,
+  ◌≤◌,
+  Bool,
+  true,
+  false,
+  cond,
+  eqb,
+  List,
+  [],
+  ◌∷◌,
+  ◌++◌,
+  length,
+  Option,
+  Some,
+  None,
+  Ok,
+  refl,
+  sym,
+  ap,
+  subst,
+  ◌∙◌,
+  append_assoc,
+  arith,
+  nat_lt,
+}
 use Rattle.std.specs.Prelude.{neg_ℤ, nat_eq, not, is_some, ◌==◌}
 use Rattle.std.specs.List.{list_all, AllByRecursion, IsDistinct, concat}
 use Rattle.std.specs.List.Sorted.{IsStrictlySortedBy}
@@ -25,7 +55,26 @@ use Rattle.state_codec.specs.declared.version.Version.TheVariants.{One, Two}
 use Rattle.state_codec.specs.Bytes.{count_bytes, visit_bytes, stop_bytes, request_bytes, requests_bytes, vehicles_bytes, routes_bytes, work_bytes, head_bytes, job_bytes, width}
 use Rattle.state_codec.specs.Limits.{most, IsJobOf}
 use Rattle.state_codec.specs.Fields.{byte_at, number_at}
-use Rattle.state_codec.specs.Reading.{is_free, is_name, is_delivery, is_wanted, first_at, delivery_at, single_at, pair_at, request_at, times, next_request, next_route, next_vehicle, work_at, problem_at, job_at, state_at, whole_at}
+use Rattle.state_codec.specs.Reading.{
+  is_free,
+  is_name,
+  is_delivery,
+  is_wanted,
+  first_at,
+  delivery_at,
+  single_at,
+  pair_at,
+  request_at,
+  times,
+  next_request,
+  next_route,
+  next_vehicle,
+  work_at,
+  problem_at,
+  job_at,
+  state_at,
+  whole_at,
+}
 use Rattle.state_codec.proofs.FieldLaws.{number_again, only_again, small}
 use Rattle.state_codec.proofs.RequestLaws.{visit_again, is_demand-holds, int_eq-same, IsNew}
 use Rattle.state_codec.proofs.TimesLaws.{AreNext, times_again, added_behind}
@@ -40,32 +89,40 @@ room : (v : Version) (next n : ℕ) → next ≤ most v + 1 → n < next → n <
 room One next n h lt = omega (arith, h, lt)
 room Two next n h lt = omega (arith, h, lt)
 
-first_again : (v : Version) (next : ℕ) (before : List (ℕ × Request)) (s : Stop) (rest : List ℕ) → next ≤ most v + 1 → IsStop s → IsDemand s.demand → is_name next before s.number ≡ true → s.number < next → first_at v next before (stop_bytes v s ++ rest) ≡ Ok (s, rest)
+first_again : (v : Version) (next : ℕ) (before : List (ℕ × Request)) (s : Stop) (rest : List ℕ) → next ≤ most v + 1 → IsStop s → IsDemand s.demand
+    → is_name next before s.number ≡ true → s.number < next → first_at v next before (stop_bytes v s ++ rest) ≡ Ok (s, rest)
 unfolding first_at
 first_again v next before s rest most-is is goods name below =
     ap (first_at v next before) (append_assoc (count_bytes v s.number) (visit_bytes s) rest)
-    ∙ rw (only_again (is_name next before) (number_at (width v) (count_bytes v s.number ++ (visit_bytes s ++ rest))) (s.number, visit_bytes s ++ rest) (number_again (width v) s.number (visit_bytes s ++ rest) (room v next s.number most-is below)) name)
+    ∙ rw (only_again (is_name next before) (number_at (width v) (count_bytes v s.number ++ (visit_bytes s ++ rest))) (s.number, visit_bytes s ++ rest)
+    (number_again (width v) s.number (visit_bytes s ++ rest) (room v next s.number most-is below)) name)
     (visit_again s None rest is.visit (is_demand-holds s.demand goods) (small s.demand (grind (arith, ints, goods.0)) goods.1))
 
-delivery_again : (v : Version) (next : ℕ) (before : List (ℕ × Request)) (p d : Stop) (rest : List ℕ) → next ≤ most v + 1 → IsStop d → IsDemand p.demand → d.demand ≡ neg_ℤ p.demand → is_delivery next before p.number d.number ≡ true → d.number < next → delivery_at v next before p (stop_bytes v d ++ rest) ≡ Ok (d, rest)
+delivery_again : (v : Version) (next : ℕ) (before : List (ℕ × Request)) (p d : Stop) (rest : List ℕ) → next ≤ most v + 1 → IsStop d → IsDemand p.demand
+    → d.demand ≡ neg_ℤ p.demand → is_delivery next before p.number d.number ≡ true → d.number < next
+    → delivery_at v next before p (stop_bytes v d ++ rest) ≡ Ok (d, rest)
 unfolding delivery_at
 delivery_again v next before p d rest most-is is goods opposite name below =
     let wanted : is_wanted (Some (neg_ℤ p.demand)) d.demand ≡ true = rw opposite (int_eq-same (neg_ℤ p.demand)) in
     ap (delivery_at v next before p) (append_assoc (count_bytes v d.number) (visit_bytes d) rest)
-    ∙ rw (only_again (is_delivery next before p.number) (number_at (width v) (count_bytes v d.number ++ (visit_bytes d ++ rest))) (d.number, visit_bytes d ++ rest) (number_again (width v) d.number (visit_bytes d ++ rest) (room v next d.number most-is below)) name)
+    ∙ rw (only_again (is_delivery next before p.number) (number_at (width v) (count_bytes v d.number ++ (visit_bytes d ++ rest)))
+    (d.number, visit_bytes d ++ rest) (number_again (width v) d.number (visit_bytes d ++ rest) (room v next d.number most-is below)) name)
     (visit_again d (Some (neg_ℤ p.demand)) rest is.visit wanted (small d.demand (grind (arith, ints, opposite, goods.0, goods.1)) (grind (arith, ints, opposite, goods.0, goods.1))))
 
 not_eq : (a b : ℕ) → b ≢ a → not (a == b) ≡ true
 not_eq a b h = grind (arith, h)
 
-request_again : (v : Version) (next : ℕ) (before : List (ℕ × Request)) (r : Request) (rest : List ℕ) → next ≤ most v + 1 → IsNew next before r → request_at v next before (request_bytes v r ++ rest) ≡ Ok (r, rest)
+request_again : (v : Version) (next : ℕ) (before : List (ℕ × Request)) (r : Request) (rest : List ℕ) → next ≤ most v + 1 → IsNew next before r
+    → request_at v next before (request_bytes v r ++ rest) ≡ Ok (r, rest)
 unfolding request_at byte_at single_at pair_at
 request_again v next before (Single s) rest most-is new =
     let name : is_name next before s.number ≡ true = and_from _ _ (le-leb 1 s.number new.request.0.from_one) (and_from _ _ (lt-ltb s.number next new.below.0) (and_from _ _ new.names new.free.0)) in
     rw (first_again v next before s rest most-is new.request.0 new.request.1 name new.below.0) refl
 request_again v next before (Pair p d) rest most-is new =
     let name : is_name next before p.number ≡ true = and_from _ _ (le-leb 1 p.number new.request.0.from_one) (and_from _ _ (lt-ltb p.number next new.below.0) (and_from _ _ new.names new.free.0)) in
-    let other : is_delivery next before p.number d.number ≡ true = and_from _ _ (le-leb 1 d.number new.request.1.from_one) (and_from _ _ (lt-ltb d.number next new.below.1.0) (and_from _ _ (not_eq d.number p.number new.request.2) new.free.1.0)) in
+    let other : is_delivery next before p.number d.number
+    ≡ true = and_from _ _ (le-leb 1 d.number new.request.1.from_one)
+    (and_from _ _ (lt-ltb d.number next new.below.1.0) (and_from _ _ (not_eq d.number p.number new.request.2) new.free.1.0)) in
     let second = stop_bytes v d ++ rest in
     ap (λ t. request_at v next before (2 ∷ t)) (append_assoc (stop_bytes v p) (stop_bytes v d) rest)
     ∙ rw (first_again v next before p second most-is new.request.0 new.request.3 name new.below.0)
@@ -94,7 +151,8 @@ free_snoc : (n : ℕ) (xs : List (ℕ × Request)) (e : ℕ × Request) → is_f
 free_snoc n [] e h none = rw none refl
 free_snoc n (y ∷ xs) e h none = free_or (stop_in n y.1) (first_some (stop_in n) xs) (first_some (stop_in n) (xs ++ e ∷ [])) (λ g. free_snoc n xs e g none) h
 
-free_all : (before : List (ℕ × Request)) (e : ℕ × Request) (ns : List ℕ) → AllByRecursion (λ n. is_free before n ≡ true) ns → AllByRecursion (λ n. stop_in n e.1 ≡ None) ns → AllByRecursion (λ n. is_free (before ++ e ∷ []) n ≡ true) ns
+free_all : (before : List (ℕ × Request)) (e : ℕ × Request) (ns : List ℕ) → AllByRecursion (λ n. is_free before n ≡ true) ns
+    → AllByRecursion (λ n. stop_in n e.1 ≡ None) ns → AllByRecursion (λ n. is_free (before ++ e ∷ []) n ≡ true) ns
 free_all before e [] h g = tt
 free_all before e (n ∷ ns) h g = (free_snoc n before e h.0 g.0, free_all before e ns h.1 g.1)
 
@@ -111,7 +169,8 @@ less_by true eq h = refl
 less_by false true h = absurd cc
 less_by false false h = absurd cc
 
-names_all : (before : List (ℕ × Request)) (e : ℕ × Request) (es : List (ℕ × Request)) → AllByRecursion (λ f. list_all (λ g. nat_lt g.0 f.0) before ≡ true) es → AllByRecursion (λ y. nat_cmp e.0 y ≡ Less) (keys_of es) → AllByRecursion (λ f. list_all (λ g. nat_lt g.0 f.0) (before ++ e ∷ []) ≡ true) es
+names_all : (before : List (ℕ × Request)) (e : ℕ × Request) (es : List (ℕ × Request)) → AllByRecursion (λ f. list_all (λ g. nat_lt g.0 f.0) before ≡ true) es
+    → AllByRecursion (λ y. nat_cmp e.0 y ≡ Less) (keys_of es) → AllByRecursion (λ f. list_all (λ g. nat_lt g.0 f.0) (before ++ e ∷ []) ≡ true) es
 names_all before e [] h g = tt
 names_all before e (f ∷ es) h g = (all_snoc (λ (k : ℕ × Request). nat_lt k.0 f.0) before e h.0 (less_by (nat_lt e.0 f.0) (e.0 == f.0) g.0), names_all before e es h.1 g.1)
 
@@ -122,11 +181,32 @@ behind : (next : ℕ) (before : List (ℕ × Request)) (e : ℕ × Request) (es 
 unfolding IsDistinct IsStrictlySortedBy
 behind next before (n, Single s) es is = (
   record { request = is.valid.0; names = subst (λ k. list_all (λ f. nat_lt f.0 k) before ≡ true) is.named.0 is.names.0; free = (is.free.0, tt); below = (is.below.0, tt) },
-  record { names = names_all before (n, Single s) es is.names.1 is.rising.0; free = free_all before (n, Single s) (numbers_among es) is.free.1 (single_apart s (numbers_among es) is.distinct.0); rising = is.rising.1; distinct = is.distinct.1; named = is.named.1; valid = is.valid.1; below = is.below.1 },
+  record {
+    names = names_all before (n, Single s) es is.names.1 is.rising.0;
+    free = free_all before (n, Single s) (numbers_among es) is.free.1 (single_apart s (numbers_among es) is.distinct.0);
+    rising = is.rising.1;
+    distinct = is.distinct.1;
+    named = is.named.1;
+    valid = is.valid.1;
+    below = is.below.1;
+  },
 )
 behind next before (n, Pair a b) es is = (
-  record { request = is.valid.0; names = subst (λ k. list_all (λ f. nat_lt f.0 k) before ≡ true) is.named.0 is.names.0; free = (is.free.0, (is.free.1.0, tt)); below = (is.below.0, (is.below.1.0, tt)) },
-  record { names = names_all before (n, Pair a b) es is.names.1 is.rising.0; free = free_all before (n, Pair a b) (numbers_among es) is.free.1.1 (pair_apart a b (numbers_among es) is.distinct.0.1 is.distinct.1.0); rising = is.rising.1; distinct = is.distinct.1.1; named = is.named.1; valid = is.valid.1; below = is.below.1.1 },
+  record {
+    request = is.valid.0;
+    names = subst (λ k. list_all (λ f. nat_lt f.0 k) before ≡ true) is.named.0 is.names.0;
+    free = (is.free.0, (is.free.1.0, tt));
+    below = (is.below.0, (is.below.1.0, tt));
+  },
+  record {
+    names = names_all before (n, Pair a b) es is.names.1 is.rising.0;
+    free = free_all before (n, Pair a b) (numbers_among es) is.free.1.1 (pair_apart a b (numbers_among es) is.distinct.0.1 is.distinct.1.0);
+    rising = is.rising.1;
+    distinct = is.distinct.1.1;
+    named = is.named.1;
+    valid = is.valid.1;
+    below = is.below.1.1;
+  },
 )
 
 abbrev snoc : List (ℕ × Request) → ℕ × Request → List (ℕ × Request)
@@ -140,11 +220,13 @@ unfolding IsNext
 all_next v next [] before is = tt
 all_next v next (e ∷ es) before is = let b = behind next before e es is in ((b.0, is.named.0), all_next v next es (before ++ e ∷ []) b.1)
 
-one_again : (v : Version) (next : ℕ) → next ≤ most v + 1 → (a : List (ℕ × Request)) (e : ℕ × Request) (rest : List ℕ) → IsNext next a e → next_request v next a (request_word v e ++ rest) ≡ Ok (snoc a e, rest)
+one_again : (v : Version) (next : ℕ) → next ≤ most v + 1 → (a : List (ℕ × Request)) (e : ℕ × Request) (rest : List ℕ) → IsNext next a e
+    → next_request v next a (request_word v e ++ rest) ≡ Ok (snoc a e, rest)
 unfolding IsNext
 one_again v next below a e rest is = rw (request_again v next a e.1 rest below is.0) (ap (λ n. Ok (a ++ (n, e.1) ∷ [], rest)) (sym is.1))
 
-requests_again : (v : Version) (next : ℕ) (es : List (ℕ × Request)) (rest : List ℕ) → next ≤ most v + 1 → IsBehind next [] es → times (next_request v next) (length es) [] (requests_bytes v es ++ rest) ≡ Ok (es, rest)
+requests_again : (v : Version) (next : ℕ) (es : List (ℕ × Request)) (rest : List ℕ) → next ≤ most v + 1 → IsBehind next [] es
+    → times (next_request v next) (length es) [] (requests_bytes v es ++ rest) ≡ Ok (es, rest)
 requests_again v next es rest below is =
     times_again snoc (request_word v) (IsNext next) (next_request v next) (one_again v next below) es [] rest (all_next v next es [] is)
     ∙ ap (λ (s : List (ℕ × Request)). Ok (s, rest)) (added_behind (request_word v) (IsNext next) es [])
@@ -179,7 +261,16 @@ allowance_of One j of h = of.deviation
 allowance_of Two j of h = h
 
 abbrev head_of : JobValue → Head
-head_of j = record { kind = j.problem.kind; seed = j.seed; steps = j.steps; capacity = j.problem.capacity; fleet = j.problem.fleet; next_number = j.problem.next_number; depot = j.problem.depot; deviation = j.deviation }
+head_of j = record {
+  kind = j.problem.kind;
+  seed = j.seed;
+  steps = j.steps;
+  capacity = j.problem.capacity;
+  fleet = j.problem.fleet;
+  next_number = j.problem.next_number;
+  depot = j.problem.depot;
+  deviation = j.deviation;
+}
 
 head_is : (v : Version) (j : JobValue) → IsJob j → IsJobOf v j → IsHeadOf v (head_of j)
 head_is v j is of =
@@ -197,18 +288,21 @@ room_all : (v : Version) (next : ℕ) (ns : List ℕ) → next ≤ most v + 1 �
 room_all v next [] h b = tt
 room_all v next (n ∷ ns) h b = (room v next n h b.0.1, room_all v next ns h b.1)
 
-writable : (v : Version) (next n : ℕ) (routes : List (List ℕ)) → next ≤ most v + 1 → n < next → AllByRecursion (λ r. length r ≤ n) routes → AllByRecursion (AreBelow next) routes → AllByRecursion (IsWritable v) routes
+writable : (v : Version) (next n : ℕ) (routes : List (List ℕ)) → next ≤ most v + 1 → n < next → AllByRecursion (λ r. length r ≤ n) routes
+    → AllByRecursion (AreBelow next) routes → AllByRecursion (IsWritable v) routes
 writable v next n [] below lt s b = tt
 writable v next n (r ∷ routes) below lt s b = (record { stops = room_all v next r below b.0; short = room v next (length r) below (omega (arith, s.0, lt)) }, writable v next n routes below lt s.1 b.1)
 
-problem_again : (v : Version) (j : JobValue) (rest : List ℕ) → IsInstance j.problem → j.problem.next_number ≤ most v + 1 → problem_at v (head_of j) (count_bytes v (length j.problem.requests) ++ (requests_bytes v j.problem.requests ++ rest)) ≡ Ok (j.problem, rest)
+problem_again : (v : Version) (j : JobValue) (rest : List ℕ) → IsInstance j.problem → j.problem.next_number ≤ most v + 1
+    → problem_at v (head_of j) (count_bytes v (length j.problem.requests) ++ (requests_bytes v j.problem.requests ++ rest)) ≡ Ok (j.problem, rest)
 unfolding problem_at
 problem_again v j rest is below =
     let es = j.problem.requests in
     rw (number_again (width v) (length es) (requests_bytes v es ++ rest) (room v j.problem.next_number (length es) below (requests_below j.problem is)))
     (rw (requests_again v j.problem.next_number es rest below (first_behind j.problem is)) refl)
 
-work_again : (v : Version) (j : JobValue) (rest : List ℕ) → IsJobOf v j → length j.work ≡ j.problem.fleet → AllByRecursion (IsWritable v) j.work → work_at v j.problem.fleet j.plan (work_bytes v j.work ++ rest) ≡ Ok (j.work, rest)
+work_again : (v : Version) (j : JobValue) (rest : List ℕ) → IsJobOf v j → length j.work ≡ j.problem.fleet → AllByRecursion (IsWritable v) j.work
+    → work_at v j.problem.fleet j.plan (work_bytes v j.work ++ rest) ≡ Ok (j.work, rest)
 work_again One j rest of same fit = ap (λ (w : List (List ℕ)). Ok (w, rest)) (sym of.work)
 work_again Two j rest of same fit = ap (λ n. times (next_route Two) n [] (routes_bytes Two j.work ++ rest)) (sym same) ∙ routes_again Two j.work rest fit
 
@@ -226,7 +320,9 @@ job_again law v j rest is of =
     let behind-head = count_bytes v (length j.problem.requests) ++ (requests_bytes v j.problem.requests ++ (vehicles_bytes v j.pins j.plan ++ work_bytes v j.work)) in
     let inner : behind-head ++ rest ≡ problem = simp append_assoc in
     let regrouped : job_bytes v j ++ rest ≡ head_text v (head_of j) ++ problem = append_assoc (head_bytes v j) behind-head rest ∙ ap (λ t. head_bytes v j ++ t) inner in
-    let all-vehicles : times (next_vehicle v) j.problem.fleet ([], []) vehicles ≡ Ok ((j.pins, j.plan), work) = ap (λ n. times (next_vehicle v) n ([], []) vehicles) (sym s.plan.fleet) ∙ more_vehicles v j.pins j.plan [] [] work s.fronts plan-fit in
+    let all-vehicles : times (next_vehicle v) j.problem.fleet ([], []) vehicles
+    ≡ Ok ((j.pins, j.plan), work) = ap (λ n. times (next_vehicle v) n ([], []) vehicles) (sym s.plan.fleet)
+    ∙ more_vehicles v j.pins j.plan [] [] work s.fronts plan-fit in
     ap (job_at v) regrouped
     ∙ rw (head_again v (head_of j) problem (head_is v j is of))
     (rw (problem_again v j vehicles is.problem below)

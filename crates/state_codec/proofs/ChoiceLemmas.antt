@@ -80,7 +80,9 @@ records_decided v sector sequence index = by_read (command_at v (drop 12 sector)
     only : (x : Command × List ℕ) → command_at v (drop 12 sector) ≡ Ok x → (c : Command) → IsRecorded v c → sector ≡ record_bytes v sequence index c → c ≡ x.0
     only x e c is h = let a = record_again v sector sequence index c is h in ap (λ (y : Command × List ℕ). y.0) (ok_is {A = Command × List ℕ} (c, a.0) x (sym a.1 ∙ e))
 
-    by_read : (r : Field Command) → command_at v (drop 12 sector) ≡ r → ((c : Command) × IsRecorded v c × (sector ≡ record_bytes v sequence index c)) ⊎ ((c : Command) → IsRecorded v c → sector ≢ record_bytes v sequence index c)
+    by_read : (r : Field Command) → command_at v (drop 12 sector) ≡ r
+        → ((c : Command) × IsRecorded v c × (sector ≡ record_bytes v sequence index c))
+        ⊎ ((c : Command) → IsRecorded v c → sector ≢ record_bytes v sequence index c)
     by_read (Err f) e = inr (λ c is h. let a = record_again v sector sequence index c is h in let both = sym e ∙ a.1 in absurd cc)
     by_read (Ok x) e = elim (settled_both (recorded v x.0) (same_numbers sector (record_bytes v sequence index x.0))) [
       | inl p ↦ inl (x.0, p.0, p.1)

@@ -161,7 +161,8 @@ module _ (unique : VerdictsAreUnique) (pass : TestsSayPass) (feasible : TestsSay
   one_alone p pin a b x y =
       let m = x.2.3 in
       let n = y.2.3 in
-      x.1 ∙ least_same (rule_number x.0) (rule_number y.0) (first_no_later (m.least y.0 y.2.0 y.2.1 y.2.2 n.from n.to n.broken)) (first_no_later (n.least x.0 x.2.0 x.2.1 x.2.2 m.from m.to m.broken)) ∙ sym y.1
+      x.1 ∙ least_same (rule_number x.0) (rule_number y.0) (first_no_later (m.least y.0 y.2.0 y.2.1 y.2.2 n.from n.to n.broken))
+      (first_no_later (n.least x.0 x.2.0 x.2.1 x.2.2 m.from m.to m.broken)) ∙ sym y.1
 
   one_pin : (p : Instance) (pins : List (List ℕ)) (a b : ℕ) → IsPinRefused p pins a → IsPinRefused p pins b → a ≡ b
   one_pin p [] a b x y = absurd x

@@ -18,7 +18,30 @@ use Rattle.state_codec.specs.declared.fault.CodecFault.{CodecFault}
 use Rattle.state_codec.specs.declared.fault.CodecFault.TheVariants.{Truncated, BadField, PlanRefused}
 use Rattle.state_codec.specs.Bytes.{width}
 use Rattle.state_codec.specs.Fields.{◌>>=◌, Field, only, byte_at, number_at, signed_at, point_at, window_at}
-use Rattle.state_codec.specs.Reading.{visit_at, first_at, delivery_at, single_at, pair_at, request_at, times, next_request, next_stop, vehicle_at, next_vehicle, route_at, next_route, work_at, kind_at, depot_at, allowance_at, head_at, problem_at, job_at, state_at, whole_at}
+use Rattle.state_codec.specs.Reading.{
+  visit_at,
+  first_at,
+  delivery_at,
+  single_at,
+  pair_at,
+  request_at,
+  times,
+  next_request,
+  next_stop,
+  vehicle_at,
+  next_vehicle,
+  route_at,
+  next_route,
+  work_at,
+  kind_at,
+  depot_at,
+  allowance_at,
+  head_at,
+  problem_at,
+  job_at,
+  state_at,
+  whole_at,
+}
 use Rattle.state_codec.proofs.FieldLaws.{bind_ok, ok_is}
 
 -- the failure of a step, or of the next one
@@ -67,10 +90,12 @@ module _ (more : List ℕ) where
 
   -- a value of the first bytes, and these taken off
   front : {X : Type 0} (value : List ℕ → X) (k : ℕ) (bytes : List ℕ) → (k ≤ length bytes → value (bytes ++ more) ≡ value bytes)
-      → Grows more (cond (ltb (length bytes) k) (Err Truncated) (Ok (value bytes, drop k bytes))) (cond (ltb (length (bytes ++ more)) k) (Err Truncated) (Ok (value (bytes ++ more), drop k (bytes ++ more))))
+      → Grows more (cond (ltb (length bytes) k) (Err Truncated) (Ok (value bytes, drop k bytes)))
+      (cond (ltb (length (bytes ++ more)) k) (Err Truncated) (Ok (value (bytes ++ more), drop k (bytes ++ more))))
   front {X} value k bytes same = by_test (ltb (length bytes) k) refl
     where
-      by_test : (b : Bool) → ltb (length bytes) k ≡ b → Grows more (cond b (Err Truncated) (Ok (value bytes, drop k bytes))) (cond (ltb (length (bytes ++ more)) k) (Err Truncated) (Ok (value (bytes ++ more), drop k (bytes ++ more))))
+      by_test : (b : Bool) → ltb (length bytes) k ≡ b → Grows more (cond b (Err Truncated) (Ok (value bytes, drop k bytes)))
+          (cond (ltb (length (bytes ++ more)) k) (Err Truncated) (Ok (value (bytes ++ more), drop k (bytes ++ more))))
       by_test true is = cut _
       by_test false is =
           let long : k ≤ length bytes = ltb-false _ _ is in
@@ -166,7 +191,9 @@ module _ (more : List ℕ) where
   work Two fleet plan bytes = many (next_route Two) (one_route Two) fleet [] bytes
 
   kind : Grow kind_at
-  kind bytes = bind (byte_at bytes) _ _ (byte bytes) (λ b. either (b.0 == 1) (Ok (LiLim, b.1)) _ (Ok (LiLim, b.1 ++ more)) _ (done (LiLim, b.1)) (either (b.0 == 2) (Ok (Vrp, b.1)) _ (Ok (Vrp, b.1 ++ more)) _ (done (Vrp, b.1)) wrong))
+  kind bytes = bind (byte_at bytes) _ _ (byte bytes)
+      (λ b. either (b.0 == 1) (Ok (LiLim, b.1)) _ (Ok (LiLim, b.1 ++ more)) _ (done (LiLim, b.1))
+      (either (b.0 == 2) (Ok (Vrp, b.1)) _ (Ok (Vrp, b.1 ++ more)) _ (done (Vrp, b.1)) wrong))
 
   allowance : (v : Version) → Grow (allowance_at v)
   allowance One bytes = done _
@@ -223,7 +250,8 @@ whole_stays v bytes more h = elim (bind_err (state_at v bytes) _ BadField h) [
   | inl f ↦ rw ((state more v bytes).bad f) refl
   | inr k ↦ (elim (end_test (length k.0.1 == 0) k.0.0 (Err BadField) k.2) [
     | inl t ↦ absurd cc
-    | inr t ↦ (let longer : (length (k.0.1 ++ more) == 0) ≡ false = ne_eqb _ _ (λ e. eqb-false _ _ t.0 (omega (arith, e, length-append k.0.1 more))) in rw ((state more v bytes).ok k.0 k.1, longer) refl)
+    | inr t ↦ (let longer : (length (k.0.1 ++ more) == 0) ≡ false = ne_eqb _ _ (λ e. eqb-false _ _ t.0 (omega (arith, e, length-append k.0.1 more))) in
+        rw ((state more v bytes).ok k.0 k.1, longer) refl)
   ])
 ]
 

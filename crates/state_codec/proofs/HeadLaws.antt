@@ -20,7 +20,8 @@ use Rattle.state_codec.proofs.RequestLaws.{number_only, byte_takes, point_bytes,
 
 -- ---- the kind
 
-kind_by : (code : ℕ) (bytes rest : List ℕ) (y : Kind × List ℕ) (one two : Bool) → (code == 1) ≡ one → (code == 2) ≡ two → Takes bytes (code ∷ []) rest → cond one (Ok (LiLim, rest)) (cond two (Ok (Vrp, rest)) (Err BadField)) ≡ Ok y → Takes bytes (kind_code y.0 ∷ []) y.1
+kind_by : (code : ℕ) (bytes rest : List ℕ) (y : Kind × List ℕ) (one two : Bool) → (code == 1) ≡ one → (code == 2) ≡ two → Takes bytes (code ∷ []) rest
+    → cond one (Ok (LiLim, rest)) (cond two (Ok (Vrp, rest)) (Err BadField)) ≡ Ok y → Takes bytes (kind_code y.0 ∷ []) y.1
 kind_by code bytes rest y true two is1 is2 t e =
     subst (λ (z : Kind × List ℕ). Takes bytes (kind_code z.0 ∷ []) z.1) (ok_is (LiLim, rest) y e) (subst (λ k. Takes bytes (k ∷ []) rest) (eqb-true code 1 is1) t)
 kind_by code bytes rest y false true is1 is2 t e =
@@ -48,7 +49,8 @@ depot_takes bytes fits y e =
     let all = takes_then bytes (point_bytes p.0) p.1 (window_bytes w.0) w.1 tp tw in
     let regrouped : point_bytes p.0 ++ window_bytes w.0 ≡ depot_bytes made = simp append_assoc in
     let visit : IsVisit made = record { x = pp.0; y = pp.1; window = pw.0; latest = pw.1; service = omega arith } in
-    subst (λ (z : Stop × List ℕ). Takes bytes (depot_bytes z.0) z.1 × IsDepot z.0) (ok_is (made, w.1) y ew) (subst (λ t. Takes bytes t w.1) regrouped all, record { number = refl; demand = refl; service = refl; visit = visit })))
+    subst (λ (z : Stop × List ℕ). Takes bytes (depot_bytes z.0) z.1 × IsDepot z.0) (ok_is (made, w.1) y ew)
+    (subst (λ t. Takes bytes t w.1) regrouped all, record { number = refl; demand = refl; service = refl; visit = visit })))
 
 abbrev with_depot : Stop → ℕ → ℤ → ℕ → Stop
 with_depot s n q t = record { number = n; x = s.x; y = s.y; demand = q; earliest = s.earliest; latest = s.latest; service = t }
@@ -84,7 +86,9 @@ allowance_again Two d rest is = only_again is_deviation (number_at 4 (number_byt
 -- ---- all of it
 
 abbrev pub head_text : Version → Head → List ℕ
-head_text v h = kind_code h.kind ∷ number_bytes 8 h.seed ++ (number_bytes 8 h.steps ++ (number_bytes 4 h.capacity ++ (count_bytes v h.fleet ++ (count_bytes v h.next_number ++ (depot_bytes h.depot ++ deviation_bytes v h.deviation)))))
+head_text v h = kind_code h.kind ∷ number_bytes 8 h.seed
+    ++ (number_bytes 8 h.steps ++ (number_bytes 4 h.capacity
+    ++ (count_bytes v h.fleet ++ (count_bytes v h.next_number ++ (depot_bytes h.depot ++ deviation_bytes v h.deviation)))))
 
 pub record IsHeadOf (v : Version) (h : Head) : Type 0 where
   pub head : IsHead h
@@ -105,8 +109,10 @@ head_takes v bytes fits y e =
     step (number_at 8 k.1) _ y k.1 (number_bytes 8) (λ n. n < 256 ^ 8) (λ a h. number_takes 8 of_8 k.1 a tk.rest_fits h) ek (λ s ts ps es.
     step (only is_steps (number_at 8 s.1)) _ y s.1 (number_bytes 8) (λ n. is_steps n ≡ true) (number_only is_steps 8 (number_takes 8 of_8) s.1 ts.rest_fits) es (λ t tt' pt et.
     step (only is_capacity (number_at 4 t.1)) _ y t.1 (number_bytes 4) (λ n. is_capacity n ≡ true) (number_only is_capacity 4 (number_takes 4 of_4) t.1 tt'.rest_fits) et (λ q tq pq eq.
-    step (only (is_fleet v) (number_at (width v) q.1)) _ y q.1 (count_bytes v) (λ n. is_fleet v n ≡ true) (number_only (is_fleet v) (width v) (number_takes (width v) (of_width v)) q.1 tq.rest_fits) eq (λ f tf pf ef.
-    step (only (is_next v) (number_at (width v) f.1)) _ y f.1 (count_bytes v) (λ n. is_next v n ≡ true) (number_only (is_next v) (width v) (number_takes (width v) (of_width v)) f.1 tf.rest_fits) ef (λ n tn pn en.
+    step (only (is_fleet v) (number_at (width v) q.1)) _ y q.1 (count_bytes v) (λ n. is_fleet v n ≡ true)
+    (number_only (is_fleet v) (width v) (number_takes (width v) (of_width v)) q.1 tq.rest_fits) eq (λ f tf pf ef.
+    step (only (is_next v) (number_at (width v) f.1)) _ y f.1 (count_bytes v) (λ n. is_next v n ≡ true)
+    (number_only (is_next v) (width v) (number_takes (width v) (of_width v)) f.1 tf.rest_fits) ef (λ n tn pn en.
     step (depot_at n.1) _ y n.1 depot_bytes IsDepot (depot_takes n.1 tn.rest_fits) en (λ d td pd ed.
     step (allowance_at v d.1) _ y d.1 (deviation_bytes v) (IsAllowance v) (allowance_takes v d.1 td.rest_fits) ed (λ a ta pa ea.
     let made : Head = record { kind = k.0; seed = s.0; steps = t.0; capacity = q.0; fleet = f.0; next_number = n.0; depot = d.0; deviation = a.0 } in
@@ -117,11 +123,20 @@ head_takes v bytes fits y e =
     let t5 = takes_then q.1 (count_bytes v f.0) f.1 (count_bytes v n.0 ++ (depot_bytes d.0 ++ deviation_bytes v a.0)) a.1 tf t6 in
     let t4 = takes_then t.1 (number_bytes 4 q.0) q.1 (count_bytes v f.0 ++ (count_bytes v n.0 ++ (depot_bytes d.0 ++ deviation_bytes v a.0))) a.1 tq t5 in
     let t3 = takes_then s.1 (number_bytes 8 t.0) t.1 (number_bytes 4 q.0 ++ (count_bytes v f.0 ++ (count_bytes v n.0 ++ (depot_bytes d.0 ++ deviation_bytes v a.0)))) a.1 tt' t4 in
-    let t2 = takes_then k.1 (number_bytes 8 s.0) s.1 (number_bytes 8 t.0 ++ (number_bytes 4 q.0 ++ (count_bytes v f.0 ++ (count_bytes v n.0 ++ (depot_bytes d.0 ++ deviation_bytes v a.0))))) a.1 ts t3 in
-    let t1 = takes_then bytes (kind_code k.0 ∷ []) k.1 (number_bytes 8 s.0 ++ (number_bytes 8 t.0 ++ (number_bytes 4 q.0 ++ (count_bytes v f.0 ++ (count_bytes v n.0 ++ (depot_bytes d.0 ++ deviation_bytes v a.0)))))) a.1 tk t2 in
+    let t2 = takes_then k.1 (number_bytes 8 s.0) s.1 (number_bytes 8 t.0
+    ++ (number_bytes 4 q.0 ++ (count_bytes v f.0 ++ (count_bytes v n.0 ++ (depot_bytes d.0 ++ deviation_bytes v a.0))))) a.1 ts t3 in
+    let t1 = takes_then bytes (kind_code k.0 ∷ []) k.1
+    (number_bytes 8 s.0 ++ (number_bytes 8 t.0 ++ (number_bytes 4 q.0
+    ++ (count_bytes v f.0 ++ (count_bytes v n.0 ++ (depot_bytes d.0 ++ deviation_bytes v a.0)))))) a.1 tk t2 in
     let small-fleet = leb-true f.0 (most v) fleet.1 in
     let small-next = leb-true n.0 (most v + 1) next.1 in
-    let head : IsHead made = record { depot = pd; capacity = leb-true q.0 1000000 pq; fleet = (leb-true 1 f.0 fleet.0, omega (arith, small-fleet, most_is v)); next_from_one = leb-true 1 n.0 next.0; next_to_most = omega (arith, small-next, most_is v) } in
+    let head : IsHead made = record {
+      depot = pd;
+      capacity = leb-true q.0 1000000 pq;
+      fleet = (leb-true 1 f.0 fleet.0, omega (arith, small-fleet, most_is v));
+      next_from_one = leb-true 1 n.0 next.0;
+      next_to_most = omega (arith, small-next, most_is v);
+    } in
     let of : IsHeadOf v made = record { head = head; fleet = small-fleet; next_number = small-next; deviation = pa; seed = ps; steps = leb-true t.0 (2 ^ 60) pt } in
     subst (λ (z : Head × List ℕ). Takes bytes (head_text v z.0) z.1 × IsHeadOf v z.0) (ok_is (made, a.1) y ea) (t1, of)))))))))
 
@@ -139,7 +154,8 @@ head_again v h rest is =
     let capacity = number_bytes 4 h.capacity ++ fleet in
     let steps = number_bytes 8 h.steps ++ capacity in
     let seed = number_bytes 8 h.seed ++ steps in
-    let behind = number_bytes 8 h.seed ++ (number_bytes 8 h.steps ++ (number_bytes 4 h.capacity ++ (count_bytes v h.fleet ++ (count_bytes v h.next_number ++ (depot_bytes h.depot ++ deviation_bytes v h.deviation))))) in
+    let behind = number_bytes 8 h.seed ++ (number_bytes 8 h.steps
+    ++ (number_bytes 4 h.capacity ++ (count_bytes v h.fleet ++ (count_bytes v h.next_number ++ (depot_bytes h.depot ++ deviation_bytes v h.deviation))))) in
     let moved : behind ++ rest ≡ seed = simp append_assoc in
     let regrouped : head_text v h ++ rest ≡ kind_code h.kind ∷ seed = ap (λ t. kind_code h.kind ∷ t) moved in
     ap (head_at v) regrouped
@@ -147,7 +163,11 @@ head_again v h rest is =
     (rw (number_again 8 h.seed steps is.seed)
     (rw (only_again is_steps (number_at 8 steps) (h.steps, capacity) (number_again 8 h.steps capacity (omega (arith, is.steps))) (le-leb h.steps (2 ^ 60) is.steps))
     (rw (only_again is_capacity (number_at 4 capacity) (h.capacity, fleet) (number_again 4 h.capacity fleet (omega (arith, is.head.capacity))) (le-leb h.capacity 1000000 is.head.capacity))
-    (rw (only_again (is_fleet v) (number_at (width v) fleet) (h.fleet, next) (number_again (width v) h.fleet next (fleet_below v h.fleet (omega (arith, is.fleet)))) (and_from _ _ (le-leb 1 h.fleet is.head.fleet.0) (le-leb h.fleet (most v) is.fleet)))
-    (rw (only_again (is_next v) (number_at (width v) next) (h.next_number, depot) (number_again (width v) h.next_number depot (fleet_below v h.next_number is.next_number)) (and_from _ _ (le-leb 1 h.next_number is.head.next_from_one) (le-leb h.next_number (most v + 1) is.next_number)))
+    (rw (only_again (is_fleet v) (number_at (width v) fleet) (h.fleet, next)
+    (number_again (width v) h.fleet next (fleet_below v h.fleet (omega (arith, is.fleet))))
+    (and_from _ _ (le-leb 1 h.fleet is.head.fleet.0) (le-leb h.fleet (most v) is.fleet)))
+    (rw (only_again (is_next v) (number_at (width v) next) (h.next_number, depot)
+    (number_again (width v) h.next_number depot (fleet_below v h.next_number is.next_number))
+    (and_from _ _ (le-leb 1 h.next_number is.head.next_from_one) (le-leb h.next_number (most v + 1) is.next_number)))
     (rw (depot_again h.depot deviation is.head.depot)
     (rw (allowance_again v h.deviation rest is.deviation) refl)))))))

@@ -23,7 +23,14 @@ unfolding number_bytes
 len_routes [] = refl
 len_routes (r ∷ rs) =
     let h = len_routes rs in
-    omega (arith, h, len_stops r, length-append (number_bytes 4 (length r) ++ stops_bytes Two r) (routes_bytes Two rs), length-append r (concat rs), length-append (number_bytes 4 (length r)) (stops_bytes Two r))
+    omega (
+      arith,
+      h,
+      len_stops r,
+      length-append (number_bytes 4 (length r) ++ stops_bytes Two r) (routes_bytes Two rs),
+      length-append r (concat rs),
+      length-append (number_bytes 4 (length r)) (stops_bytes Two r),
+    )
 
 len_vehicles : (ps rs : List (List ℕ)) → length ps ≡ length rs → length (vehicles_bytes Two ps rs) ≡ 8 * length rs + 4 * length (concat rs)
 unfolding number_bytes
@@ -56,6 +63,17 @@ encodings_fit law (Loaded j) is =
     let requests = requests_bytes Two j.problem.requests in
     let vehicles = vehicles_bytes Two j.pins j.plan in
     let routes = routes_bytes Two j.work in (
-      omega (arith, len_head j, len_count (length j.problem.requests), len_requests j.problem.requests, len_vehicles j.pins j.plan s.same, len_routes j.work, length-append (head_bytes Two j) (count ++ (requests ++ (vehicles ++ routes))), length-append count (requests ++ (vehicles ++ routes)), length-append requests (vehicles ++ routes), length-append vehicles routes),
+      omega (
+        arith,
+        len_head j,
+        len_count (length j.problem.requests),
+        len_requests j.problem.requests,
+        len_vehicles j.pins j.plan s.same,
+        len_routes j.work,
+        length-append (head_bytes Two j) (count ++ (requests ++ (vehicles ++ routes))),
+        length-append count (requests ++ (vehicles ++ routes)),
+        length-append requests (vehicles ++ routes),
+        length-append vehicles routes,
+      ),
       omega (arith, few_numbers j.problem is.problem, requests_below j.problem is.problem, s.plan.total, s.work.total, s.plan.fleet, s.work.fleet, is.problem.fleet.1, is.problem.next_to_most),
     )

@@ -1,3 +1,4 @@
+-- The lemma files, which upper crates may cite.
 pub mod Examples
 pub mod FieldLaws
 pub mod SectorLemmas

@@ -51,15 +51,24 @@ module _ (puts : PutGivesProblem) (v : Version) (h : Head) (of : IsHeadOf v h) w
   one_more : (es : List (ℕ × Request)) (r : Request) → Filled es → IsNew h.next_number es r → Filled (es ++ (request_name r, r) ∷ [])
   one_more es r filled new =
       let p = problem_from h es in
-      let same : with_request p r ≡ problem_from h (es ++ (request_name r, r) ∷ []) = ap (λ (x : List (ℕ × Request)). record (problem_from h es) { requests = x; next_number = max h.next_number (number_after r) }) (goes_last r es new.names) ∙ ap (λ n. record (problem_from h (es ++ (request_name r, r) ∷ [])) { next_number = n }) (most_kept h.next_number r new.below) in
+      let same : with_request p r ≡ problem_from h (es ++ (request_name r, r) ∷ []) = ap
+      (λ (x : List (ℕ × Request)). record (problem_from h es) { requests = x; next_number = max h.next_number (number_after r) }) (goes_last r es new.names)
+      ∙ ap (λ n. record (problem_from h (es ++ (request_name r, r) ∷ [])) { next_number = n }) (most_kept h.next_number r new.below) in
       subst IsInstance same (puts p r filled new.request (not_taken p h.next_number r new))
 
-  next_takes : (a : List (ℕ × Request)) (bytes : List ℕ) → Filled a → IsBytes bytes → (y : List (ℕ × Request) × List ℕ) → next_request v h.next_number a bytes ≡ Ok y → Adds (requests_bytes v) length Filled 1 a bytes y
+  next_takes : (a : List (ℕ × Request)) (bytes : List ℕ) → Filled a → IsBytes bytes → (y : List (ℕ × Request) × List ℕ)
+      → next_request v h.next_number a bytes ≡ Ok y → Adds (requests_bytes v) length Filled 1 a bytes y
   next_takes a bytes filled fits y e =
       let b = bind_ok (request_at v h.next_number a bytes) (λ r. Ok (a ++ (request_name r.0, r.0) ∷ [], r.1)) y e in
       let t = request_takes v h.next_number a bytes of.head.next_to_most fits b.0 b.1 in
       subst (λ (z : List (ℕ × Request) × List ℕ). Adds (requests_bytes v) length Filled 1 a bytes z) (ok_is (a ++ (request_name b.0.0, b.0.0) ∷ [], b.0.1) y b.2)
-      (record { added = request_bytes v b.0.0; taken = t.0; whole = flat_map_one (λ (e : ℕ × Request). request_bytes v e.1) a (request_name b.0.0, b.0.0); count = length-append a ((request_name b.0.0, b.0.0) ∷ []); kept = one_more a b.0.0 filled t.1 })
+      (record {
+        added = request_bytes v b.0.0;
+        taken = t.0;
+        whole = flat_map_one (λ (e : ℕ × Request). request_bytes v e.1) a (request_name b.0.0, b.0.0);
+        count = length-append a ((request_name b.0.0, b.0.0) ∷ []);
+        kept = one_more a b.0.0 filled t.1;
+      })
 
   problem_is : (bytes : List ℕ) → IsBytes bytes → (y : Instance × List ℕ) → problem_at v h bytes ≡ Ok y → IsInstance y.0
   unfolding problem_at
@@ -84,14 +93,27 @@ module _ (puts : PutGivesProblem) (v : Version) where
       let is = problem_is puts v h.0.0 th.1 h.0.1 th.0.rest_fits p.0 p.1 in
       let r = bind_ok (times (next_vehicle v) h.0.0.fleet ([], []) p.0.1) _ y p.2 in
       let w = bind_ok (work_at v h.0.0.fleet r.0.0.1 r.0.1) _ y r.2 in
-      subst (λ (z : JobValue × List ℕ). IsInstance z.0.problem) (ok_is {A = JobValue × List ℕ} (record { problem = p.0.0; pins = r.0.0.0; plan = r.0.0.1; work = w.0.0; deviation = h.0.0.deviation; seed = h.0.0.seed; steps = h.0.0.steps }, w.0.1) y w.2) is
+      subst (λ (z : JobValue × List ℕ). IsInstance z.0.problem)
+      (ok_is {A = JobValue × List ℕ} (
+        record {
+          problem = p.0.0;
+          pins = r.0.0.0;
+          plan = r.0.0.1;
+          work = w.0.0;
+          deviation = h.0.0.deviation;
+          seed = h.0.0.seed;
+          steps = h.0.0.steps;
+        },
+        w.0.1,
+      ) y w.2) is
 
   abbrev nothing_at : List ℕ → Field (Option JobValue)
   nothing_at bytes = Ok (None, bytes)
 
   loaded_problem : (bytes : List ℕ) → IsBytes bytes → (b : ℕ) (zero? one? : Bool) (o : Option JobValue) (more : List ℕ) (j : JobValue)
       → cond zero? (nothing_at bytes) (cond one? (job_at v bytes >>= λ job. Ok (Some job.0, job.1)) (Err BadField)) ≡ Ok (o, more) → o ≡ Some j → IsInstance j.problem
-  loaded_problem bytes fits b true one? o more j e is = let same = ok_is {A = Option JobValue × List ℕ} (None, bytes) (o, more) e in let n : None ≡ o = ap (λ (z : Option JobValue × List ℕ). z.0) same in let both = n ∙ is in absurd cc
+  loaded_problem bytes fits b true one? o more j e is = let same = ok_is {A = Option JobValue × List ℕ} (None, bytes) (o, more) e in
+      let n : None ≡ o = ap (λ (z : Option JobValue × List ℕ). z.0) same in let both = n ∙ is in absurd cc
   loaded_problem bytes fits b false true o more j e is =
       let k = bind_ok (job_at v bytes) _ (o, more) e in
       let same = ok_is {A = Option JobValue × List ℕ} (Some k.0.0, k.0.1) (o, more) k.2 in

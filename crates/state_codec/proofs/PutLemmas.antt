@@ -39,7 +39,8 @@ not_taken p next (Single s) new t = not_some (stop_at p s.number) new.free.0 t
 not_taken p next (Pair a b) new (inl t) = not_some (stop_at p a.number) new.free.0 t
 not_taken p next (Pair a b) new (inr t) = not_some (stop_at p b.number) new.free.1.0 t
 
-all_one_more : (next : ℕ) (es : List (ℕ × Request)) (r : Request) → AllByRecursion (λ n. n < next) (numbers_among es) → AllByRecursion (λ s. s.number < next) (stops_of r) → AllByRecursion (λ n. n < next) (numbers_among (es ++ (request_name r, r) ∷ []))
+all_one_more : (next : ℕ) (es : List (ℕ × Request)) (r : Request) → AllByRecursion (λ n. n < next) (numbers_among es)
+    → AllByRecursion (λ s. s.number < next) (stops_of r) → AllByRecursion (λ n. n < next) (numbers_among (es ++ (request_name r, r) ∷ []))
 all_one_more next [] (Single s) all new = (new.0, tt)
 all_one_more next [] (Pair a b) all new = (new.0, (new.1.0, tt))
 all_one_more next ((n, Single s) ∷ es) r all new = (all.0, all_one_more next es r all.1 new)

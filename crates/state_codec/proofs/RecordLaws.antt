@@ -29,9 +29,18 @@ spot_again s rest test =
     let y = signed_bytes s.y ++ earliest in
     let regrouped : spot_bytes s ++ rest ≡ signed_bytes s.x ++ y = simp append_assoc in
     ap spot_at regrouped
-    ∙ rw (signed_again s.x y (small s.x is.x.0 is.x.1), signed_again s.y earliest (small s.y is.y.0 is.y.1), number_again 4 s.earliest latest (omega (arith, is.window, is.latest)), number_again 4 s.latest service (omega (arith, is.latest)), number_again 4 s.service rest (omega (arith, is.service))) refl
+    ∙ rw (
+      signed_again s.x y (small s.x is.x.0 is.x.1),
+      signed_again s.y earliest (small s.y is.y.0 is.y.1),
+      number_again 4 s.earliest latest
+          (omega (arith, is.window, is.latest)),
+      number_again 4 s.latest service (omega (arith, is.latest)),
+      number_again 4 s.service rest
+          (omega (arith, is.service)),
+    ) refl
 
-add_again : (demand : ℕ) (pickup delivery : Spot) (rest : List ℕ) → is_demand demand ≡ true → is_spot pickup ≡ true → is_spot delivery ≡ true → add_at ((number_bytes 4 demand ++ (spot_bytes pickup ++ spot_bytes delivery)) ++ rest) ≡ Ok (Add demand pickup delivery, rest)
+add_again : (demand : ℕ) (pickup delivery : Spot) (rest : List ℕ) → is_demand demand ≡ true → is_spot pickup ≡ true → is_spot delivery ≡ true
+    → add_at ((number_bytes 4 demand ++ (spot_bytes pickup ++ spot_bytes delivery)) ++ rest) ≡ Ok (Add demand pickup delivery, rest)
 unfolding add_at
 add_again demand pickup delivery rest is p d =
     let second = spot_bytes delivery ++ rest in
@@ -42,7 +51,8 @@ add_again demand pickup delivery rest is p d =
 add1_again : (demand : ℕ) (spot : Spot) (rest : List ℕ) → is_demand demand ≡ true → is_spot spot ≡ true → add1_at ((number_bytes 4 demand ++ spot_bytes spot) ++ rest) ≡ Ok (Add1 demand spot, rest)
 unfolding add1_at
 add1_again demand spot rest is s =
-    ap add1_at (append_assoc (number_bytes 4 demand) (spot_bytes spot) rest) ∙ rw (number_again 4 demand (spot_bytes spot ++ rest) (omega (arith, leb-true demand 1000000 is)), spot_again spot rest s) refl
+    ap add1_at (append_assoc (number_bytes 4 demand) (spot_bytes spot) rest)
+    ∙ rw (number_again 4 demand (spot_bytes spot ++ rest) (omega (arith, leb-true demand 1000000 is)), spot_again spot rest s) refl
 
 pin_again : (v : Version) (vehicle k : ℕ) (rest : List ℕ) → vehicle < 256 ^ width v → k < 256 ^ width v → pin_at v ((count_bytes v vehicle ++ count_bytes v k) ++ rest) ≡ Ok (Pin vehicle k, rest)
 unfolding pin_at
@@ -81,18 +91,23 @@ recorded_fits Two (Deviation deviation) is = (refl, le-leb deviation 1000000000 
 recorded_fits v c is = absurd is
 
 -- the command of a record, behind its sequence and index
-pub record_again : (v : Version) (sector : List ℕ) (sequence index : ℕ) (c : Command) → IsRecorded v c → sector ≡ record_bytes v sequence index c → (rest : List ℕ) × (command_at v (drop 12 sector) ≡ Ok (c, rest))
+pub record_again : (v : Version) (sector : List ℕ) (sequence index : ℕ) (c : Command) → IsRecorded v c → sector ≡ record_bytes v sequence index c
+    → (rest : List ℕ) × (command_at v (drop 12 sector) ≡ Ok (c, rest))
 record_again v sector sequence index c is e =
     let zeros = replicate (512 - length (fields_bytes v sequence index c)) 0 in
     let front = number_bytes 8 sequence ++ number_bytes 4 index in
     let long : length front ≡ 12 = omega (arith, length-append (number_bytes 8 sequence) (number_bytes 4 index), length-number_bytes 8 sequence, length-number_bytes 4 index) in
-    let regrouped : record_bytes v sequence index c ≡ front ++ (command_bytes v c ++ zeros) = ap (λ t. t ++ zeros) (sym (append_assoc (number_bytes 8 sequence) (number_bytes 4 index) (command_bytes v c))) ∙ append_assoc front (command_bytes v c) zeros in
+    let regrouped : record_bytes v sequence index c ≡ front
+    ++ (command_bytes v c ++ zeros) = ap (λ t. t ++ zeros) (sym (append_assoc (number_bytes 8 sequence) (number_bytes 4 index) (command_bytes v c)))
+    ∙ append_assoc front (command_bytes v c) zeros in
     (zeros, ap (λ s. command_at v (drop 12 s)) (e ∙ regrouped) ∙ ap (command_at v) (drop_at front (command_bytes v c ++ zeros) 12 long) ∙ command_again v c zeros is)
 
 -- sequence and index are read again
 front_again : (q i : ℕ) (command zeros : List ℕ) → q < 256 ^ 8 → number_at 8 ((number_bytes 8 q ++ (number_bytes 4 i ++ command)) ++ zeros) ≡ Ok (q, number_bytes 4 i ++ (command ++ zeros))
 front_again q i command zeros lt =
-    let regrouped : (number_bytes 8 q ++ (number_bytes 4 i ++ command)) ++ zeros ≡ number_bytes 8 q ++ (number_bytes 4 i ++ (command ++ zeros)) = append_assoc (number_bytes 8 q) (number_bytes 4 i ++ command) zeros ∙ ap (λ t. number_bytes 8 q ++ t) (append_assoc (number_bytes 4 i) command zeros) in
+    let regrouped : (number_bytes 8 q ++ (number_bytes 4 i ++ command)) ++ zeros ≡ number_bytes 8 q
+    ++ (number_bytes 4 i ++ (command ++ zeros)) = append_assoc (number_bytes 8 q) (number_bytes 4 i ++ command) zeros
+    ∙ ap (λ t. number_bytes 8 q ++ t) (append_assoc (number_bytes 4 i) command zeros) in
     ap (number_at 8) regrouped ∙ number_again 8 q (number_bytes 4 i ++ (command ++ zeros)) lt
 
 read_same : {X : Type 0} (m n : X) (a b : List ℕ) → done {A = X × List ℕ} (m, a) ≡ done {A = X × List ℕ} (n, b) → (m ≡ n) × (a ≡ b)
@@ -109,5 +124,6 @@ pub records_differ : RecordsDiffer
 records_differ v p q i k c d lp lq li lk rc rd e =
     let a = record_again v (record_bytes v p i c) p i c rc refl in
     let b = record_again v (record_bytes v p i c) q k d rd e in
-    let fronts = fronts_differ p q i k (command_bytes v c) (command_bytes v d) (replicate (512 - length (fields_bytes v p i c)) 0) (replicate (512 - length (fields_bytes v q k d)) 0) (omega (arith, lp)) (omega (arith, lq)) (omega (arith, li)) (omega (arith, lk)) e in
+    let fronts = fronts_differ p q i k (command_bytes v c) (command_bytes v d) (replicate (512 - length (fields_bytes v p i c)) 0)
+    (replicate (512 - length (fields_bytes v q k d)) 0) (omega (arith, lp)) (omega (arith, lq)) (omega (arith, li)) (omega (arith, lk)) e in
     (fronts.0, fronts.1, (read_same c d a.0 b.0 (sym a.1 ∙ b.1)).0)

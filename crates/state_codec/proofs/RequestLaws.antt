@@ -44,12 +44,15 @@ coordinate_takes bytes fits x e =
     let o = only_ok is_coordinate (signed_at bytes) x e in
     (signed_takes bytes x fits o.0, coordinate x.0 o.1)
 
-demand_takes : (wanted : Option ℤ) (bytes : List ℕ) → IsBytes bytes → (x : ℤ × List ℕ) → only (is_wanted wanted) (signed_at bytes) ≡ Ok x → Takes bytes (signed_bytes x.0) x.1 × (is_wanted wanted x.0 ≡ true)
+demand_takes : (wanted : Option ℤ) (bytes : List ℕ) → IsBytes bytes → (x : ℤ × List ℕ) → only (is_wanted wanted) (signed_at bytes) ≡ Ok x
+    → Takes bytes (signed_bytes x.0) x.1 × (is_wanted wanted x.0 ≡ true)
 demand_takes wanted bytes fits x e =
     let o = only_ok (is_wanted wanted) (signed_at bytes) x e in
     (signed_takes bytes x fits o.0, o.1)
 
-pub number_only : (rule : ℕ → Bool) (size : ℕ) → ((bytes : List ℕ) (x : ℕ × List ℕ) → IsBytes bytes → number_at size bytes ≡ Ok x → Takes bytes (number_bytes size x.0) x.1 × (x.0 < 256 ^ size)) → (bytes : List ℕ) → IsBytes bytes → (x : ℕ × List ℕ) → only rule (number_at size bytes) ≡ Ok x → Takes bytes (number_bytes size x.0) x.1 × (rule x.0 ≡ true)
+pub number_only : (rule : ℕ → Bool) (size : ℕ) → ((bytes : List ℕ) (x : ℕ × List ℕ) → IsBytes bytes → number_at size bytes ≡ Ok x
+    → Takes bytes (number_bytes size x.0) x.1 × (x.0 < 256 ^ size)) → (bytes : List ℕ) → IsBytes bytes → (x : ℕ × List ℕ)
+    → only rule (number_at size bytes) ≡ Ok x → Takes bytes (number_bytes size x.0) x.1 × (rule x.0 ≡ true)
 number_only rule size takes bytes fits x e =
     let o = only_ok rule (number_at size bytes) x e in
     ((takes bytes x fits o.0).0, o.1)
@@ -85,9 +88,11 @@ pub window_takes : (bytes : List ℕ) → IsBytes bytes → (y : (ℕ × ℕ) ×
 unfolding window_at
 window_takes bytes fits y e =
     step (only is_time (number_at 4 bytes)) _ y bytes (number_bytes 4) (λ t. is_time t ≡ true) (number_only is_time 4 (number_takes 4 of_4) bytes fits) e (λ a ta pa ea.
-    step (only (λ t. nat_le a.0 t && is_time t) (number_at 4 a.1)) _ y a.1 (number_bytes 4) (λ t. (nat_le a.0 t && is_time t) ≡ true) (number_only (λ t. nat_le a.0 t && is_time t) 4 (number_takes 4 of_4) a.1 ta.rest_fits) ea (λ b tb pb eb.
+    step (only (λ t. nat_le a.0 t && is_time t) (number_at 4 a.1)) _ y a.1 (number_bytes 4) (λ t. (nat_le a.0 t && is_time t) ≡ true)
+    (number_only (λ t. nat_le a.0 t && is_time t) 4 (number_takes 4 of_4) a.1 ta.rest_fits) ea (λ b tb pb eb.
     let ends = and_parts (nat_le a.0 b.0) (is_time b.0) pb in
-    subst (λ (z : (ℕ × ℕ) × List ℕ). Takes bytes (window_bytes z.0) z.1 × IsWindow z.0) (ok_is ((a.0, b.0), b.1) y eb) (takes_then bytes (number_bytes 4 a.0) a.1 (number_bytes 4 b.0) b.1 ta tb, (leb-true a.0 b.0 ends.0, leb-true b.0 100000000 ends.1))))
+    subst (λ (z : (ℕ × ℕ) × List ℕ). Takes bytes (window_bytes z.0) z.1 × IsWindow z.0) (ok_is ((a.0, b.0), b.1) y eb)
+    (takes_then bytes (number_bytes 4 a.0) a.1 (number_bytes 4 b.0) b.1 ta tb, (leb-true a.0 b.0 ends.0, leb-true b.0 100000000 ends.1))))
 
 pub window_again : (w : ℕ × ℕ) (rest : List ℕ) → IsWindow w → window_at (window_bytes w ++ rest) ≡ Ok (w, rest)
 unfolding window_at
@@ -96,14 +101,16 @@ window_again w rest is =
     let early : w.0 ≤ 100000000 = omega (arith, is.0, is.1) in
     ap window_at (append_assoc (number_bytes 4 w.0) (number_bytes 4 w.1) rest)
     ∙ rw (only_again is_time (number_at 4 (number_bytes 4 w.0 ++ latest)) (w.0, latest) (number_again 4 w.0 latest (omega (arith, early))) (le-leb w.0 100000000 early))
-    (rw (only_again (λ t. nat_le w.0 t && is_time t) (number_at 4 latest) (w.1, rest) (number_again 4 w.1 rest (omega (arith, is.1))) (and_from _ _ (le-leb w.0 w.1 is.0) (le-leb w.1 100000000 is.1))) refl)
+    (rw (only_again (λ t. nat_le w.0 t && is_time t) (number_at 4 latest) (w.1, rest) (number_again 4 w.1 rest (omega (arith, is.1)))
+    (and_from _ _ (le-leb w.0 w.1 is.0) (le-leb w.1 100000000 is.1))) refl)
 
 -- what is known of a stop that was read
 pub record IsRead (wanted : Option ℤ) (s : Stop) : Type 0 where
   pub visit : IsVisit s
   pub demand : is_wanted wanted s.demand ≡ true
 
-pub visit_takes : (number : ℕ) (wanted : Option ℤ) (bytes : List ℕ) → IsBytes bytes → (y : Stop × List ℕ) → visit_at number wanted bytes ≡ Ok y → Takes bytes (visit_bytes y.0) y.1 × IsRead wanted y.0 × (y.0.number ≡ number)
+pub visit_takes : (number : ℕ) (wanted : Option ℤ) (bytes : List ℕ) → IsBytes bytes → (y : Stop × List ℕ) → visit_at number wanted bytes ≡ Ok y
+    → Takes bytes (visit_bytes y.0) y.1 × IsRead wanted y.0 × (y.0.number ≡ number)
 unfolding visit_at
 visit_takes number wanted bytes fits y e =
     step (point_at bytes) _ y bytes point_bytes IsPoint (point_takes bytes fits) e (λ p tp pp ep.
@@ -116,7 +123,8 @@ visit_takes number wanted bytes fits y e =
     let all = takes_then bytes (point_bytes p.0) p.1 (signed_bytes q.0 ++ (window_bytes w.0 ++ number_bytes 4 d.0)) d.1 tp goods in
     let regrouped : point_bytes p.0 ++ (signed_bytes q.0 ++ (window_bytes w.0 ++ number_bytes 4 d.0)) ≡ visit_bytes made = simp append_assoc in
     let visit : IsVisit made = record { x = pp.0; y = pp.1; window = pw.0; latest = pw.1; service = leb-true d.0 1000000 pd } in
-    subst (λ (z : Stop × List ℕ). Takes bytes (visit_bytes z.0) z.1 × IsRead wanted z.0 × (z.0.number ≡ number)) (ok_is (made, d.1) y ed) (subst (λ t. Takes bytes t d.1) regrouped all, record { visit = visit; demand = pq }, refl)))))
+    subst (λ (z : Stop × List ℕ). Takes bytes (visit_bytes z.0) z.1 × IsRead wanted z.0 × (z.0.number ≡ number)) (ok_is (made, d.1) y ed)
+    (subst (λ t. Takes bytes t d.1) regrouped all, record { visit = visit; demand = pq }, refl)))))
 
 -- what a stop that may be read is
 pub visit_again : (s : Stop) (wanted : Option ℤ) (rest : List ℕ) → IsVisit s → is_wanted wanted s.demand ≡ true → SFits w32 s.demand → visit_at s.number wanted (visit_bytes s ++ rest) ≡ Ok (s, rest)
@@ -135,19 +143,29 @@ visit_again s wanted rest visit goods fits =
 
 -- ---- stops with their numbers
 
-pub first_takes : (v : Version) (next : ℕ) (before : List (ℕ × Request)) (bytes : List ℕ) → IsBytes bytes → (y : Stop × List ℕ) → first_at v next before bytes ≡ Ok y → Takes bytes (stop_bytes v y.0) y.1 × (IsRead None y.0 × (is_name next before y.0.number ≡ true))
+pub first_takes : (v : Version) (next : ℕ) (before : List (ℕ × Request)) (bytes : List ℕ) → IsBytes bytes → (y : Stop × List ℕ)
+    → first_at v next before bytes ≡ Ok y → Takes bytes (stop_bytes v y.0) y.1 × (IsRead None y.0 × (is_name next before y.0.number ≡ true))
 unfolding first_at
 first_takes v next before bytes fits y e =
-    step (only (is_name next before) (number_at (width v) bytes)) _ y bytes (number_bytes (width v)) (λ n. is_name next before n ≡ true) (number_only (is_name next before) (width v) (number_takes (width v) (of_width v)) bytes fits) e (λ n tn pn en.
-    let t = visit_takes n.0 None n.1 tn.rest_fits y en in
-    (takes_then bytes (number_bytes (width v) y.0.number) n.1 (visit_bytes y.0) y.1 (subst (λ k. Takes bytes (number_bytes (width v) k) n.1) (sym t.2) tn) t.0, (t.1, subst (λ k. is_name next before k ≡ true) (sym t.2) pn)))
+    step (only (is_name next before) (number_at (width v) bytes)) _ y bytes (number_bytes (width v)) (λ n. is_name next before n ≡ true)
+    (number_only (is_name next before) (width v) (number_takes (width v) (of_width v)) bytes fits) e (λ n tn pn en.
+    let t = visit_takes n.0 None n.1 tn.rest_fits y en in (
+      takes_then bytes (number_bytes (width v) y.0.number) n.1 (visit_bytes y.0) y.1 (subst (λ k. Takes bytes (number_bytes (width v) k) n.1) (sym t.2) tn) t.0,
+      (t.1, subst (λ k. is_name next before k ≡ true) (sym t.2) pn),
+    ))
 
-pub delivery_takes : (v : Version) (next : ℕ) (before : List (ℕ × Request)) (pickup : Stop) (bytes : List ℕ) → IsBytes bytes → (y : Stop × List ℕ) → delivery_at v next before pickup bytes ≡ Ok y → Takes bytes (stop_bytes v y.0) y.1 × (IsRead (Some (neg_ℤ pickup.demand)) y.0 × (is_delivery next before pickup.number y.0.number ≡ true))
+pub delivery_takes : (v : Version) (next : ℕ) (before : List (ℕ × Request)) (pickup : Stop) (bytes : List ℕ) → IsBytes bytes → (y : Stop × List ℕ)
+    → delivery_at v next before pickup bytes ≡ Ok y → Takes bytes (stop_bytes v y.0) y.1
+    × (IsRead (Some (neg_ℤ pickup.demand)) y.0 × (is_delivery next before pickup.number y.0.number ≡ true))
 unfolding delivery_at
 delivery_takes v next before pickup bytes fits y e =
-    step (only (is_delivery next before pickup.number) (number_at (width v) bytes)) _ y bytes (number_bytes (width v)) (λ n. is_delivery next before pickup.number n ≡ true) (number_only (is_delivery next before pickup.number) (width v) (number_takes (width v) (of_width v)) bytes fits) e (λ n tn pn en.
-    let t = visit_takes n.0 (Some (neg_ℤ pickup.demand)) n.1 tn.rest_fits y en in
-    (takes_then bytes (number_bytes (width v) y.0.number) n.1 (visit_bytes y.0) y.1 (subst (λ k. Takes bytes (number_bytes (width v) k) n.1) (sym t.2) tn) t.0, (t.1, subst (λ k. is_delivery next before pickup.number k ≡ true) (sym t.2) pn)))
+    step (only (is_delivery next before pickup.number) (number_at (width v) bytes)) _ y bytes (number_bytes (width v))
+    (λ n. is_delivery next before pickup.number n ≡ true)
+    (number_only (is_delivery next before pickup.number) (width v) (number_takes (width v) (of_width v)) bytes fits) e (λ n tn pn en.
+    let t = visit_takes n.0 (Some (neg_ℤ pickup.demand)) n.1 tn.rest_fits y en in (
+      takes_then bytes (number_bytes (width v) y.0.number) n.1 (visit_bytes y.0) y.1 (subst (λ k. Takes bytes (number_bytes (width v) k) n.1) (sym t.2) tn) t.0,
+      (t.1, subst (λ k. is_delivery next before pickup.number k ≡ true) (sym t.2) pn),
+    ))
 
 -- the goods of a stop that names a request
 pub first_goods : (v : Version) (next : ℕ) (before : List (ℕ × Request)) (bytes : List ℕ) → IsBytes bytes → (y : Stop × List ℕ) → first_at v next before bytes ≡ Ok y → IsDemand y.0.demand
@@ -191,7 +209,8 @@ delivery_parts next before pickup n h =
     let d = and_parts (not (n == pickup)) (is_free before n) b.1 in
     record { from_one = leb-true 1 n a.0; below = ltb-true n next b.0; other = not_same n pickup d.0; free = d.1 }
 
-single_takes : (v : Version) (next : ℕ) (before : List (ℕ × Request)) (bytes : List ℕ) → next ≤ 40001 → IsBytes bytes → (y : Request × List ℕ) → single_at v next before bytes ≡ Ok y → Takes (1 ∷ bytes) (request_bytes v y.0) y.1 × IsNew next before y.0
+single_takes : (v : Version) (next : ℕ) (before : List (ℕ × Request)) (bytes : List ℕ) → next ≤ 40001 → IsBytes bytes → (y : Request × List ℕ)
+    → single_at v next before bytes ≡ Ok y → Takes (1 ∷ bytes) (request_bytes v y.0) y.1 × IsNew next before y.0
 unfolding single_at
 single_takes v next before bytes most fits y e =
     step (first_at v next before bytes) _ y bytes (stop_bytes v) (λ s. IsRead None s × (is_name next before s.number ≡ true)) (first_takes v next before bytes fits) e (λ s ts ps es.
@@ -199,13 +218,17 @@ single_takes v next before bytes most fits y e =
     let goods = demand_is s.0.demand ps.0.demand in
     let stop : IsStop s.0 = record { from_one = n.from_one; to_most = omega (arith, n.below, most); visit = ps.0.visit } in
     let new : IsNew next before (Single s.0) = record { request = (stop, goods); names = n.names; free = (n.free, tt); below = (n.below, tt) } in
-    subst (λ (z : Request × List ℕ). Takes (1 ∷ bytes) (request_bytes v z.0) z.1 × IsNew next before z.0) (ok_is (Single s.0, s.1) y es) (record { parts = ap (λ t. 1 ∷ t) ts.parts; rest_fits = ts.rest_fits }, new))
+    subst (λ (z : Request × List ℕ). Takes (1 ∷ bytes) (request_bytes v z.0) z.1 × IsNew next before z.0) (ok_is (Single s.0, s.1) y es)
+    (record { parts = ap (λ t. 1 ∷ t) ts.parts; rest_fits = ts.rest_fits }, new))
 
-pair_takes : (v : Version) (next : ℕ) (before : List (ℕ × Request)) (bytes : List ℕ) → next ≤ 40001 → IsBytes bytes → (y : Request × List ℕ) → pair_at v next before bytes ≡ Ok y → Takes (2 ∷ bytes) (request_bytes v y.0) y.1 × IsNew next before y.0
+pair_takes : (v : Version) (next : ℕ) (before : List (ℕ × Request)) (bytes : List ℕ) → next ≤ 40001 → IsBytes bytes → (y : Request × List ℕ)
+    → pair_at v next before bytes ≡ Ok y → Takes (2 ∷ bytes) (request_bytes v y.0) y.1 × IsNew next before y.0
 unfolding pair_at
 pair_takes v next before bytes most fits y e =
     step (first_at v next before bytes) _ y bytes (stop_bytes v) (λ s. IsRead None s × (is_name next before s.number ≡ true)) (first_takes v next before bytes fits) e (λ p tp pp ep.
-    step (delivery_at v next before p.0 p.1) _ y p.1 (stop_bytes v) (λ s. IsRead (Some (neg_ℤ p.0.demand)) s × (is_delivery next before p.0.number s.number ≡ true)) (delivery_takes v next before p.0 p.1 tp.rest_fits) ep (λ d td pd ed.
+    step (delivery_at v next before p.0 p.1) _ y p.1 (stop_bytes v)
+    (λ s. IsRead (Some (neg_ℤ p.0.demand)) s × (is_delivery next before p.0.number s.number ≡ true)) (delivery_takes v next before p.0 p.1 tp.rest_fits) ep
+    (λ d td pd ed.
     let n = name_parts next before p.0.number pp.1 in
     let m = delivery_parts next before p.0.number d.0.number pd.1 in
     let pickup : IsStop p.0 = record { from_one = n.from_one; to_most = omega (arith, n.below, most); visit = pp.0.visit } in
@@ -214,15 +237,18 @@ pair_takes v next before bytes most fits y e =
     let opposite = int_eq_is d.0.demand (neg_ℤ p.0.demand) pd.0.demand in
     let new : IsNew next before (Pair p.0 d.0) = record { request = (pickup, delivery, m.other, goods, opposite); names = n.names; free = (n.free, (m.free, tt)); below = (n.below, (m.below, tt)) } in
     let both = takes_then bytes (stop_bytes v p.0) p.1 (stop_bytes v d.0) d.1 tp td in
-    subst (λ (z : Request × List ℕ). Takes (2 ∷ bytes) (request_bytes v z.0) z.1 × IsNew next before z.0) (ok_is (Pair p.0 d.0, d.1) y ed) (record { parts = ap (λ t. 2 ∷ t) both.parts; rest_fits = both.rest_fits }, new)))
+    subst (λ (z : Request × List ℕ). Takes (2 ∷ bytes) (request_bytes v z.0) z.1 × IsNew next before z.0) (ok_is (Pair p.0 d.0, d.1) y ed)
+    (record { parts = ap (λ t. 2 ∷ t) both.parts; rest_fits = both.rest_fits }, new)))
 
 -- the first byte of what is not empty
 pub byte_takes : (bytes : List ℕ) → IsBytes bytes → (y : ℕ × List ℕ) → byte_at bytes ≡ Ok y → Takes bytes (y.0 ∷ []) y.1 × (bytes ≡ y.0 ∷ y.1)
 unfolding byte_at
 byte_takes [] fits y e = absurd cc
-byte_takes (b ∷ rest) fits y e = subst (λ (z : ℕ × List ℕ). Takes (b ∷ rest) (z.0 ∷ []) z.1 × (b ∷ rest ≡ z.0 ∷ z.1)) (ok_is (b, rest) y e) (record { parts = refl; rest_fits = λ i. fits (suc i) }, refl)
+byte_takes (b ∷ rest) fits y e = subst (λ (z : ℕ × List ℕ). Takes (b ∷ rest) (z.0 ∷ []) z.1 × (b ∷ rest ≡ z.0 ∷ z.1)) (ok_is (b, rest) y e)
+    (record { parts = refl; rest_fits = λ i. fits (suc i) }, refl)
 
-form_takes : (v : Version) (next : ℕ) (before : List (ℕ × Request)) (form : ℕ) (bytes : List ℕ) → next ≤ 40001 → IsBytes bytes → (y : Request × List ℕ) → (one two : Bool) → (form == 1) ≡ one → (form == 2) ≡ two
+form_takes : (v : Version) (next : ℕ) (before : List (ℕ × Request)) (form : ℕ) (bytes : List ℕ) → next ≤ 40001 → IsBytes bytes → (y : Request × List ℕ)
+    → (one two : Bool) → (form == 1) ≡ one → (form == 2) ≡ two
     → cond one (single_at v next before bytes) (cond two (pair_at v next before bytes) (Err BadField)) ≡ Ok y → Takes (form ∷ bytes) (request_bytes v y.0) y.1 × IsNew next before y.0
 form_takes v next before form bytes most fits y true two is1 is2 e =
     subst (λ f. Takes (f ∷ bytes) (request_bytes v y.0) y.1 × IsNew next before y.0) (sym (eqb-true form 1 is1)) (single_takes v next before bytes most fits y e)
@@ -230,7 +256,8 @@ form_takes v next before form bytes most fits y false true is1 is2 e =
     subst (λ f. Takes (f ∷ bytes) (request_bytes v y.0) y.1 × IsNew next before y.0) (sym (eqb-true form 2 is2)) (pair_takes v next before bytes most fits y e)
 form_takes v next before form bytes most fits y false false is1 is2 e = absurd cc
 
-pub request_takes : (v : Version) (next : ℕ) (before : List (ℕ × Request)) (bytes : List ℕ) → next ≤ 40001 → IsBytes bytes → (y : Request × List ℕ) → request_at v next before bytes ≡ Ok y → Takes bytes (request_bytes v y.0) y.1 × IsNew next before y.0
+pub request_takes : (v : Version) (next : ℕ) (before : List (ℕ × Request)) (bytes : List ℕ) → next ≤ 40001 → IsBytes bytes → (y : Request × List ℕ)
+    → request_at v next before bytes ≡ Ok y → Takes bytes (request_bytes v y.0) y.1 × IsNew next before y.0
 unfolding request_at
 request_takes v next before bytes most fits y e =
     step (byte_at bytes) _ y bytes (λ b. b ∷ []) (λ b. Unit {0}) (λ a h. ((byte_takes bytes fits a h).0, tt)) e (λ a ta pa ea.

@@ -10,7 +10,8 @@ use Rattle.state_codec.specs.Bytes.{padded}
 zeros_left : (bytes : List ℕ) (used k : ℕ) → used + k ≤ 512 → length bytes ≡ 512 → bytes ≡ padded (take used bytes) → drop (used + k) bytes ≡ replicate (512 - (used + k)) 0
 zeros_left bytes used k short len is =
     let front : length (take used bytes) ≡ used = omega (arith, length-take used bytes) in
-    let behind : drop used bytes ≡ replicate (512 - used) 0 = ap (drop used) is ∙ ap (λ n. drop used (take used bytes ++ replicate (512 - n) 0)) front ∙ drop_at (take used bytes) (replicate (512 - used) 0) used front in
+    let behind : drop used bytes ≡ replicate (512 - used) 0 = ap (drop used) is ∙ ap (λ n. drop used (take used bytes ++ replicate (512 - n) 0)) front
+    ∙ drop_at (take used bytes) (replicate (512 - used) 0) used front in
     sym (drop-drop k used bytes) ∙ ap (drop k) behind ∙ drop-replicate k (512 - used) 0 ∙ ap (λ n. replicate n 0) (omega arith)
 
 -- the text behind what was written, and the rest as it was

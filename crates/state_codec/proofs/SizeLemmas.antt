@@ -1,5 +1,34 @@
 -- How long the lists of a state can be.
-use Rattle.std.proofs.Common.{◌≡◌, ℕ, zero, suc, ◌<◌, ◌≤◌, Bool, true, false, List, [], ◌∷◌, ◌++◌, length, take, All, Option, Some, None, refl, sym, ap, subst, ◌∙◌, arith, eqb, length-append, length-take}
+use Rattle.std.proofs.Common.{
+  ◌≡◌,
+  ℕ,
+  zero,
+  suc,
+  ◌<◌,
+  ◌≤◌,
+  Bool,
+  true,
+  false,
+  List,
+  [],
+  ◌∷◌,
+  ◌++◌,
+  length,
+  take,
+  All,
+  Option,
+  Some,
+  None,
+  refl,
+  sym,
+  ap,
+  subst,
+  ◌∙◌,
+  arith,
+  eqb,
+  length-append,
+  length-take,
+}
 use Rattle.std.specs.Prelude.{IsSome, not, is_some, ◌&&◌, ◌||◌, ◌==◌, ◌^◌}
 use Rattle.std.specs.List.{list_all, list_any, AllByRecursion, IsDistinct, concat, starts_with}
 use Rattle.std.proofs.lemmas.List.Elements.{All-from_recursion}
@@ -111,7 +140,13 @@ sized law p is routes pins h =
     let b = and_parts (length routes == p.fleet) (list_all (feasible_alone p) routes && begin_with_pins routes pins) a.1 in
     let d = and_parts (list_all (feasible_alone p) routes) (begin_with_pins routes pins) b.1 in
     let live = few_live law p is (concat routes) a.0 in
-    record { total = live.0; each = short_routes routes 40000 (omega (arith, live.0, is.next_to_most)); below = parts_below p.next_number routes live.1; fleet = eqb-true (length routes) p.fleet b.0; begins = d.1 }
+    record {
+      total = live.0;
+      each = short_routes routes 40000 (omega (arith, live.0, is.next_to_most));
+      below = parts_below p.next_number routes live.1;
+      fleet = eqb-true (length routes) p.fleet b.0;
+      begins = d.1;
+    }
 
 -- what is known of a job
 pub record Sizes (j : JobValue) : Type 0 where

@@ -14,7 +14,8 @@ pub record Adds {A : Type 0} (text : A → List ℕ) (size : A → ℕ) (Inv : A
   pub count : size y.0 ≡ size a + n
   pub kept : Inv y.0
 
-module _ {A : Type 0} (more : A → List ℕ → Field A) (text : A → List ℕ) (size : A → ℕ) (Inv : A → Type 0) (one : (a : A) (bytes : List ℕ) → Inv a → IsBytes bytes → (y : A × List ℕ) → more a bytes ≡ Ok y → Adds text size Inv 1 a bytes y) where
+module _ {A : Type 0} (more : A → List ℕ → Field A) (text : A → List ℕ) (size : A → ℕ) (Inv : A → Type 0)
+    (one : (a : A) (bytes : List ℕ) → Inv a → IsBytes bytes → (y : A × List ℕ) → more a bytes ≡ Ok y → Adds text size Inv 1 a bytes y) where
   pub times_take : (n : ℕ) (a : A) (bytes : List ℕ) → Inv a → IsBytes bytes → (y : A × List ℕ) → times more n a bytes ≡ Ok y → Adds text size Inv n a bytes y
   unfolding times
   times_take zero a bytes inv fits y e =
@@ -42,7 +43,8 @@ module _ {A X : Type 0} (add : A → X → A) (word : X → List ℕ) (IsNext : 
   added a [] = a
   added a (x ∷ xs) = added (add a x) xs
 
-  pub times_again : (more : A → List ℕ → Field A) → ((a : A) (x : X) (rest : List ℕ) → IsNext a x → more a (word x ++ rest) ≡ Ok (add a x, rest)) → (xs : List X) (a : A) (rest : List ℕ) → AreNext a xs → times more (length xs) a (flat_map word xs ++ rest) ≡ Ok (added a xs, rest)
+  pub times_again : (more : A → List ℕ → Field A) → ((a : A) (x : X) (rest : List ℕ) → IsNext a x → more a (word x ++ rest) ≡ Ok (add a x, rest))
+      → (xs : List X) (a : A) (rest : List ℕ) → AreNext a xs → times more (length xs) a (flat_map word xs ++ rest) ≡ Ok (added a xs, rest)
   unfolding times
   times_again more again [] a rest next = refl
   times_again more again (x ∷ xs) a rest next =

@@ -6,17 +6,22 @@ use Rattle.state_codec.specs.Bytes.{count_bytes, stops_bytes, vehicles_bytes}
 use Rattle.state_codec.proofs.RouteLaws.{vehicles_one}
 
 pub one_more : (pins routes : List (List ℕ)) (k : ℕ) (out old : List ℕ) → length pins ≡ length routes → k < length pins → out ≡ old ++ vehicles_bytes Two (take k pins) (take k routes)
-    → out ++ (count_bytes Two (length (get_or pins k [])) ++ (count_bytes Two (length (get_or routes k [])) ++ stops_bytes Two (get_or routes k []))) ≡ old ++ vehicles_bytes Two (take (k + 1) pins) (take (k + 1) routes)
+    → out ++ (count_bytes Two (length (get_or pins k [])) ++ (count_bytes Two (length (get_or routes k [])) ++ stops_bytes Two (get_or routes k []))) ≡ old
+    ++ vehicles_bytes Two (take (k + 1) pins) (take (k + 1) routes)
 one_more pins routes k out old same below is =
     let word = count_bytes Two (length (get_or pins k [])) ++ (count_bytes Two (length (get_or routes k [])) ++ stops_bytes Two (get_or routes k [])) in
     let more : vehicles_bytes Two (take (k + 1) pins) (take (k + 1) routes) ≡ vehicles_bytes Two (take k pins) (take k routes) ++ word =
-    rw (take_more pins k [] below, take_more routes k [] (omega (arith, same, below))) (vehicles_one Two (take k pins) (take k routes) (get_or pins k []) (get_or routes k []) (omega (arith, same, length-take k pins, length-take k routes))) in
+    rw (take_more pins k [] below, take_more routes k [] (omega (arith, same, below)))
+    (vehicles_one Two (take k pins) (take k routes) (get_or pins k []) (get_or routes k []) (omega (arith, same, length-take k pins, length-take k routes)))
+    in
     ap (λ t. t ++ word) is ∙ append_assoc old (vehicles_bytes Two (take k pins) (take k routes)) word ∙ ap (λ t. old ++ t) (sym more)
 
-pub one_written : (pins routes : List (List ℕ)) (k : ℕ) (out old new pin route : List ℕ) → length pins ≡ length routes → k < length pins → out ≡ old ++ vehicles_bytes Two (take k pins) (take k routes) → pin ≡ get_or pins k [] → route ≡ get_or routes k []
+pub one_written : (pins routes : List (List ℕ)) (k : ℕ) (out old new pin route : List ℕ) → length pins ≡ length routes → k < length pins → out ≡ old
+    ++ vehicles_bytes Two (take k pins) (take k routes) → pin ≡ get_or pins k [] → route ≡ get_or routes k []
     → new ≡ out ++ (count_bytes Two (length pin) ++ (count_bytes Two (length route) ++ stops_bytes Two route)) → new ≡ old ++ vehicles_bytes Two (take (k + 1) pins) (take (k + 1) routes)
 one_written pins routes k out old new pin route same below is p r e =
-    e ∙ ap (λ q. out ++ (count_bytes Two (length q) ++ (count_bytes Two (length route) ++ stops_bytes Two route))) p ∙ ap (λ q. out ++ (count_bytes Two (length (get_or pins k [])) ++ (count_bytes Two (length q) ++ stops_bytes Two q))) r
+    e ∙ ap (λ q. out ++ (count_bytes Two (length q) ++ (count_bytes Two (length route) ++ stops_bytes Two route))) p
+    ∙ ap (λ q. out ++ (count_bytes Two (length (get_or pins k [])) ++ (count_bytes Two (length q) ++ stops_bytes Two q))) r
     ∙ one_more pins routes k out old same below is
 
 -- the fields of a stop, written one behind the other

@@ -85,7 +85,9 @@ depot_bytes s = signed_bytes s.x ++ (signed_bytes s.y ++ (number_bytes 4 s.earli
 
 -- what stands before the requests: kind, seed, steps, capacity, fleet, next number, depot, deviation
 abbrev pub head_bytes : Version → JobValue → List ℕ
-head_bytes v j = kind_code j.problem.kind ∷ number_bytes 8 j.seed ++ (number_bytes 8 j.steps ++ (number_bytes 4 j.problem.capacity ++ (count_bytes v j.problem.fleet ++ (count_bytes v j.problem.next_number ++ (depot_bytes j.problem.depot ++ deviation_bytes v j.deviation)))))
+head_bytes v j = kind_code j.problem.kind ∷ number_bytes 8 j.seed
+    ++ (number_bytes 8 j.steps ++ (number_bytes 4 j.problem.capacity
+    ++ (count_bytes v j.problem.fleet ++ (count_bytes v j.problem.next_number ++ (depot_bytes j.problem.depot ++ deviation_bytes v j.deviation)))))
 
 -- then the number of requests, the requests by rising name, the vehicles, the working routes
 abbrev pub job_bytes : Version → JobValue → List ℕ

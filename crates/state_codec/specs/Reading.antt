@@ -1,5 +1,34 @@
 -- Reading the tables of a state, each the inverse of what `Bytes` writes. Each rule is judged at the field that it names.
-use Rattle.std.specs.Prelude.{ℕ, zero, suc, ◌+◌, ◌^◌, ℤ, pos, length, Bool, not, ◌&&◌, ◌==◌, nat_lt, nat_le, List, [], ◌∷◌, ◌++◌, take, Option, Some, None, Result, Ok, Err, is_some, if◌then◌else◌, neg_ℤ}
+use Rattle.std.specs.Prelude.{
+  ℕ,
+  zero,
+  suc,
+  ◌+◌,
+  ◌^◌,
+  ℤ,
+  pos,
+  length,
+  Bool,
+  not,
+  ◌&&◌,
+  ◌==◌,
+  nat_lt,
+  nat_le,
+  List,
+  [],
+  ◌∷◌,
+  ◌++◌,
+  take,
+  Option,
+  Some,
+  None,
+  Result,
+  Ok,
+  Err,
+  is_some,
+  if◌then◌else◌,
+  neg_ℤ,
+}
 use Rattle.std.specs.Borrow.{Bor}
 use Rattle.std.specs.List.{list_all}
 use Rattle.plan_types.specs.Instance.{Instance, first_some}

@@ -17,7 +17,9 @@ others : (n : ℕ) (ns : List ℕ) → not (list_any (nat_eq n) ns) ≡ true →
 others n [] none = tt
 others n (k ∷ ns) none = by (nat_eq n k) refl none (others n ns)
   where
-    by : (b : Bool) → nat_eq n k ≡ b → not (b || list_any (nat_eq n) ns) ≡ true → (not (list_any (nat_eq n) ns) ≡ true → AllByRecursion (λ m. nat_eq n m ≡ false) ns) → (nat_eq n k ≡ false) × AllByRecursion (λ m. nat_eq n m ≡ false) ns
+    by : (b : Bool) → nat_eq n k ≡ b → not (b || list_any (nat_eq n) ns) ≡ true
+        → (not (list_any (nat_eq n) ns) ≡ true → AllByRecursion (λ m. nat_eq n m ≡ false) ns)
+        → (nat_eq n k ≡ false) × AllByRecursion (λ m. nat_eq n m ≡ false) ns
     by true is rest more = let h : false ≡ true = rest in cc
     by false is rest more = (is, more rest)
 

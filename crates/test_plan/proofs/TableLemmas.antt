@@ -22,7 +22,8 @@ Keeps kind capacity v = (v.load ≤ℤ pos capacity) × (kind ≡ LiLim → v.st
 abbrev pub KeepTo : Kind → ℕ → List Visit → ℕ → Type 0
 KeepTo kind capacity visits n = (k : ℕ) (d : Visit) → k < n → Keeps kind capacity (get_or visits k d)
 
-pub keep-more : (kind : Kind) (capacity : ℕ) (visits : List Visit) (n : ℕ) (e : Visit) → KeepTo kind capacity visits n → n < length visits → Keeps kind capacity (get_or visits n e) → KeepTo kind capacity visits (n + 1)
+pub keep-more : (kind : Kind) (capacity : ℕ) (visits : List Visit) (n : ℕ) (e : Visit) → KeepTo kind capacity visits n → n < length visits
+    → Keeps kind capacity (get_or visits n e) → KeepTo kind capacity visits (n + 1)
 keep-more kind capacity visits n e before within here k d h = by (cases_lt k n)
   where
     by : (k < n) ⊎ (n ≤ k) → Keeps kind capacity (get_or visits k d)
@@ -36,7 +37,8 @@ module _ (p : Instance) (route : List ℕ) (visits : List Visit) (is : visits �
   seen : (i : ℕ) → i ≤ length route → Keeps p.kind p.capacity (visit_after p route i)
   seen i h =
       let long : length visits ≡ length route + 1 - 0 = ap length is ∙ length-map-range_with_len (visit_after p route) 0 (length route + 1 - 0) in
-      let at : get_or visits i (visit_after p route 0) ≡ visit_after p route i = ap (λ vs. get_or vs i (visit_after p route 0)) is ∙ get_or-map-range_with_len (visit_after p route) 0 (length route + 1 - 0) i i _ (omega arith) (omega arith) in
+      let at : get_or visits i (visit_after p route 0) ≡ visit_after p route i = ap (λ vs. get_or vs i (visit_after p route 0)) is
+      ∙ get_or-map-range_with_len (visit_after p route) 0 (length route + 1 - 0) i i _ (omega arith) (omega arith) in
       subst (Keeps p.kind p.capacity) at (keep i (visit_after p route 0) (omega arith))
 
   pub limits-seen : KeepsLimits p route

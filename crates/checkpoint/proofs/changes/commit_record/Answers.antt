@@ -14,7 +14,8 @@ use Rattle.checkpoint.proofs.changes.commit_record.Goals as goal
 use Rattle.checkpoint.proofs.changes.commit_record.Given as given
 
 committed : (g : given.Over) (c : After-extend g) (state : State) (commands : List Command)
-    → CommitsFrom g.D.Sectors c.extend.result 2 0 (HoldsAt state commands c.args.place) (HoldsAt state (commands ++ c.args.command.now ∷ []) (behind_record c.args.place)) c.args.device.now c.extend.new.device
+    → CommitsFrom g.D.Sectors c.extend.result 2 0 (HoldsAt state commands c.args.place)
+    (HoldsAt state (commands ++ c.args.command.now ∷ []) (behind_record c.args.place)) c.args.device.now c.extend.new.device
 committed g c state commands honest held =
     let d = g.D.Sectors in
     let start = c.args.device.now in

@@ -1,3 +1,4 @@
+-- Another valid header is apart where its sequence is not the one before.
 use Rattle.checkpoint.proofs.Doubting.{apart}
 use Rattle.checkpoint.proofs.doubts.are_headers_apart.Goals as goal
 

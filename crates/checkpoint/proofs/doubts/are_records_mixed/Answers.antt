@@ -1,3 +1,4 @@
+-- A record newer than the one before it shows that records are mixed.
 use Rattle.std.proofs.Common.{refl, ap, ◌∙◌, arith}
 use Rattle.checkpoint.specs.Stores.{begins_with}
 use Rattle.checkpoint.proofs.doubts.are_records_mixed.Goals as goal

@@ -1,3 +1,4 @@
+-- No record so far is newer than the one before it.
 use Rattle.std.proofs.Common.{ℕ, ◌+◌, ◌<◌, ◌≤◌}
 use Rattle.sector_disk.specs.Image.{sector}
 use Rattle.checkpoint.specs.Stores.{begins_with}

@@ -1,3 +1,4 @@
+-- What reads gave is the image's front, so its doubts are the image's.
 use Rattle.std.proofs.Common.{ℕ, List, sym, subst}
 use Rattle.checkpoint.specs.Reads.{IsImageFront}
 use Rattle.checkpoint.proofs.doubts.doubts_about.Goals as goal
@@ -10,5 +11,6 @@ returns-in-Ok-clause-found g c honest =
       header = c.in-Ok.opened.header;
       counts = found.1;
       are = c.doubts_in.ensures (d.seen start)
-          (subst (λ (n : ℕ). IsImageFront n c.deref.result.now (d.seen start)) (sym c.len-sectors.ensures) (subst (λ (f : List ℕ). IsImageFront (d.len start) f (d.seen start)) (sym c.deref.ensures.value) found.0));
+          (subst (λ (n : ℕ). IsImageFront n c.deref.result.now (d.seen start)) (sym c.len-sectors.ensures)
+          (subst (λ (f : List ℕ). IsImageFront (d.len start) f (d.seen start)) (sym c.deref.ensures.value) found.0));
     }

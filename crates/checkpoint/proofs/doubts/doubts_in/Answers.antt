@@ -1,3 +1,4 @@
+-- Each reason found in the front is one of the image, and the others are none.
 use Rattle.checkpoint.proofs.Doubting.{damaged_there, mixed_there}
 use Rattle.checkpoint.proofs.doubts.doubts_in.Goals as goal
 

@@ -1,3 +1,4 @@
+-- Each record sector so far is blank or a record of its place.
 use Rattle.std.proofs.Common.{ℕ, ◌+◌, ◌<◌, ◌≡◌, false}
 use Rattle.sector_disk.specs.Image.{sector}
 use Rattle.checkpoint.specs.Doubts.{is_blank, IsRecordAt}

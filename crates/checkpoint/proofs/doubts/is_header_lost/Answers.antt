@@ -1,3 +1,4 @@
+-- A header is lost where none but this one is valid, unless it is the first beside a blank sector.
 use Rattle.std.proofs.Common.{◌∙◌, ap, arith}
 use Rattle.checkpoint.specs.Doubts.{is_blank}
 use Rattle.checkpoint.proofs.Doubting.{lost_where_filled, lost_where_old, not_lost}

@@ -1,3 +1,4 @@
+-- Of two valid headers the one of the greater sequence counts, of one that one, and else there is a cause.
 use Rattle.checkpoint.proofs.Heads.{counts_first, counts_second, counts_zeroth, counts_next, none_valid}
 use Rattle.checkpoint.proofs.fronts.current_header.Goals as goal
 

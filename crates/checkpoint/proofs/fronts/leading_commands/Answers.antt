@@ -1,3 +1,4 @@
+-- A further record of the sequence and its index leads on; with the last sector all are read.
 use Rattle.std.proofs.Common.{sym, ◌∙◌, subst, arith}
 use Rattle.checkpoint.specs.Reads.{IsLed}
 use Rattle.checkpoint.proofs.Led.{more_led, led_full}
@@ -14,4 +15,5 @@ loop-index-preserved c =
     }
 
 pub returns : goal.returns
-returns c = led_full c.args.version c.args.front.now c.args.sequence c.loop-index.commands.items c.loop-index.index c.loop-index.invariant.count (omega (arith, c.loop-index-test.false, c.loop-index.auto.index-end)) c.loop-index.invariant.led
+returns c = led_full c.args.version c.args.front.now c.args.sequence c.loop-index.commands.items c.loop-index.index c.loop-index.invariant.count
+    (omega (arith, c.loop-index-test.false, c.loop-index.auto.index-end)) c.loop-index.invariant.led

@@ -1,3 +1,4 @@
+-- The commands so far are those of the first records.
 use Rattle.std.proofs.Common.{◌≡◌, length}
 use Rattle.checkpoint.specs.Reads.{IsLed}
 use Rattle.checkpoint.proofs.fronts.leading_commands.Given as goal

@@ -1,3 +1,4 @@
+-- Without a valid header a store is of another version where a header sector is, and else unformatted.
 use Rattle.std.proofs.Common.{inl, inr, refl, sym, subst}
 use Rattle.checkpoint.specs.Headers.{HasOtherVersion}
 use Rattle.checkpoint.proofs.Heads.{foreign, unformatted}
@@ -5,11 +6,13 @@ use Rattle.checkpoint.proofs.fronts.no_header.Goals as goal
 
 pub returns-then-is_of_other_version-clause-told : goal.returns-then-is_of_other_version-clause-told
 returns-then-is_of_other_version-clause-told c sectors image room whole none =
-    foreign c.args.layout sectors c.args.front.now image whole room none 0 (inl refl) (subst (HasOtherVersion c.args.layout.version) c.sector_at.ensures (c.is_of_other_version.ensures.0 c.if-is_of_other_version.true))
+    foreign c.args.layout sectors c.args.front.now image whole room none 0 (inl refl)
+    (subst (HasOtherVersion c.args.layout.version) c.sector_at.ensures (c.is_of_other_version.ensures.0 c.if-is_of_other_version.true))
 
 pub returns-then-is_of_other_version-2-clause-told : goal.returns-then-is_of_other_version-2-clause-told
 returns-then-is_of_other_version-2-clause-told c sectors image room whole none =
-    foreign c.args.layout sectors c.args.front.now image whole room none 1 (inr refl) (subst (HasOtherVersion c.args.layout.version) c.sector_at-2.ensures (c.is_of_other_version-2.ensures.0 c.if-is_of_other_version-2.true))
+    foreign c.args.layout sectors c.args.front.now image whole room none 1 (inr refl)
+    (subst (HasOtherVersion c.args.layout.version) c.sector_at-2.ensures (c.is_of_other_version-2.ensures.0 c.if-is_of_other_version-2.true))
 
 pub returns-clause-told : goal.returns-clause-told
 returns-clause-told c sectors image room whole none =

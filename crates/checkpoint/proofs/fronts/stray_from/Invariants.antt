@@ -1,3 +1,4 @@
+-- No sector so far, behind the records, begins with this sequence or a greater one.
 use Rattle.std.proofs.Common.{ℕ, ◌<◌, ◌≤◌, ◌+◌}
 use Rattle.sector_disk.specs.Image.{sector}
 use Rattle.checkpoint.specs.Stores.{begins_with}

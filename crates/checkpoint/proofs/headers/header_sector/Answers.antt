@@ -1,3 +1,4 @@
+-- Magic, version, sequence and length, written over zeros, are the header's bytes.
 use Rattle.std.proofs.Common.{refl}
 use Rattle.checkpoint.proofs.headers.header_sector.Goals as goal
 

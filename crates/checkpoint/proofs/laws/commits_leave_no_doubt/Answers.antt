@@ -1,3 +1,4 @@
+-- A new store agrees with itself, and so does what a stop within a commit leaves of one that did.
 use Rattle.checkpoint.proofs.Agreeing.{agreeing, formats_agree, headers_keep, records_keep, snapshots_keep}
 use Rattle.checkpoint.proofs.laws.commits_leave_no_doubt.Goals as goal
 

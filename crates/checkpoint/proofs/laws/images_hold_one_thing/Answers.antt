@@ -1,3 +1,4 @@
+-- An image holds one thing at most, never beside a cause to hold nothing, and has one such cause at most.
 use Rattle.checkpoint.proofs.OneThing.{one, beside_nothing, one_cause}
 use Rattle.checkpoint.proofs.laws.images_hold_one_thing.Goals as goal
 

@@ -1,3 +1,4 @@
+-- Every image holds something, or has a cause to hold nothing.
 use Rattle.checkpoint.proofs.Decided.{decided}
 use Rattle.checkpoint.proofs.laws.images_hold_or_have_a_cause.Goals as goal
 

@@ -1,3 +1,4 @@
+-- The snapshot decodes and the journal goes on from it, or what is refused is why the image holds nothing.
 use Rattle.std.proofs.Common.{◌≡◌, ℕ, List, Ok, sym, ◌∙◌, subst}
 use Rattle.state_codec.specs.Bytes.{state_bytes}
 use Rattle.state_codec.specs.Refused.{Decodes}
@@ -23,5 +24,6 @@ returns-in-Err c = record {
   fails = subst IsOfBytes (sym c.told_of.ensures) (of_bytes c.in-Err.fault);
   standing = λ sectors fits. tt;
   found = λ sectors image parts. subst (UnlessUnread (HoldsNothing c.args.version image)) (sym c.told_of.ensures)
-      (codec_refused c.args.version image c.args.opened.now.header c.args.bytes.now parts.counts parts.snapshot c.in-Err.fault (subst (Decodes c.args.version c.args.bytes.now) c.in-Err.is c.requires.decodes));
+      (codec_refused c.args.version image c.args.opened.now.header c.args.bytes.now parts.counts parts.snapshot c.in-Err.fault
+      (subst (Decodes c.args.version c.args.bytes.now) c.in-Err.is c.requires.decodes));
 }

@@ -1,3 +1,4 @@
+-- What the parts that were read make is what the image holds, or why it holds nothing.
 use Rattle.std.proofs.Common.{ℕ, List, sym, subst, rules}
 use Rattle.checkpoint.specs.Reads.{HasParts}
 use Rattle.checkpoint.proofs.loads.load.Goals as goal
@@ -10,5 +11,6 @@ returns-clause-loaded g c =
       fails = search rules;
       standing = search rules;
       found = λ honest. c.interpreted.ensures.found (d.len start) (d.seen start)
-          (subst (λ (b : List ℕ). HasParts c.args.version (d.len start) (d.seen start) c.in-Ok.parts.opened.header c.in-Ok.parts.opened.front.items b) (sym c.deref-2.ensures.value) (c.in-Ok.ensures.found honest));
+          (subst (λ (b : List ℕ). HasParts c.args.version (d.len start) (d.seen start) c.in-Ok.parts.opened.header c.in-Ok.parts.opened.front.items b)
+          (sym c.deref-2.ensures.value) (c.in-Ok.ensures.found honest));
     }

@@ -1,3 +1,4 @@
+-- What reads gave is the image's front, and the header found in it counts in the image.
 use Rattle.std.proofs.Common.{ℕ, List, sym, ◌∙◌, subst, arith}
 use Rattle.checkpoint.specs.Reads.{IsImageFront}
 use Rattle.checkpoint.proofs.Loading.{no_fault_more}
@@ -12,7 +13,8 @@ returns-in-Ok-current_header-clause-found g c honest =
     let whole : IsImageFront (d.len start) c.in-Ok.front.items (d.seen start) = record { size = size; room = omega (arith, c.requires); is = sym (c.in-Ok.ensures.bytes honest) } in (
       whole,
       c.in-Ok-current_header.ensures.found (d.seen start)
-          (subst (λ (n : ℕ). IsImageFront n c.deref.result.now (d.seen start)) (sym c.len-sectors.ensures) (subst (λ (f : List ℕ). IsImageFront (d.len start) f (d.seen start)) (sym c.deref.ensures.value) whole)),
+          (subst (λ (n : ℕ). IsImageFront n c.deref.result.now (d.seen start)) (sym c.len-sectors.ensures)
+          (subst (λ (f : List ℕ). IsImageFront (d.len start) f (d.seen start)) (sym c.deref.ensures.value) whole)),
     )
 
 pub returns-in-Err-current_header-clause-reads : goal.returns-in-Err-current_header-clause-reads

@@ -1,3 +1,4 @@
+-- The store that is made holds the state, as the snapshot's bytes are the state's.
 use Rattle.std.proofs.Common.{◌≡◌, ℕ, List, [], take, sym, subst, ◌∙◌}
 use Rattle.state_codec.specs.declared.version.Version.TheVariants.{Two}
 use Rattle.state_codec.specs.Bytes.{state_bytes}

@@ -1,3 +1,4 @@
+-- A store is made of the snapshot, unless the device is too small, memory is refused or a call fails.
 use Rattle.std.proofs.Common.{rules, ◌<◌, [], take, sym, subst, arith}
 use Rattle.checkpoint.specs.Puts.{IsZeros}
 use Rattle.checkpoint.specs.Stores.{HasStored}
@@ -17,7 +18,8 @@ returns-in-Ok g c = record {
   formats = λ honest.
       let d = g.D.Sectors in
       let end = c.put_all.new.device in
-      formats d _ (HasStored 1 (take c.args.size c.args.bytes.now) []) _ c.args.device.now end (λ t image le left. g.met.D.Sectors.counts_now end t image honest le left) c.in-Ok.ensures.called.finished
+      formats d _ (HasStored 1 (take c.args.size c.args.bytes.now) []) _ c.args.device.now end
+      (λ t image le left. g.met.D.Sectors.counts_now end t image honest le left) c.in-Ok.ensures.called.finished
       (c.put_all.ensures.moments honest) (c.in-Ok.ensures.durable honest);
 }
 

@@ -39,8 +39,11 @@ returns-clause-moments g c honest =
     let first = weakened d.clock d.possible_since start c.put.new.device (IsInPut 0 zeros (d.possible start) (d.seen start) (d.calls start)) all
     (in_zeros c.args.bytes.now c.args.size zeros (d.seen start) front (d.calls start) (d.possible start))
     (c.put.ensures.moments mid) in
-    let second = weakened d.clock d.possible_since c.put.new.device c.put_snapshot.new.device (IsInSnapshot (first_header c.args.size) c.args.bytes.now (d.possible c.put.new.device) (d.seen c.put.new.device) (d.calls c.put.new.device)) all
-    (in_snapshot c.args.bytes.now c.args.size zeros (d.seen start) front (d.calls start) c.requires.snapshot.saved.whole c.requires.snapshot.saved.fits c.requires.snapshot.saved.some c.requires.snapshot.saved.long (omega (arith, long, size, c.requires.snapshot.room))
+    let second = weakened d.clock d.possible_since c.put.new.device c.put_snapshot.new.device
+    (IsInSnapshot (first_header c.args.size) c.args.bytes.now (d.possible c.put.new.device) (d.seen c.put.new.device) (d.calls c.put.new.device)) all
+    (in_snapshot c.args.bytes.now c.args.size zeros (d.seen start) front
+    (d.calls start) c.requires.snapshot.saved.whole c.requires.snapshot.saved.fits c.requires.snapshot.saved.some c.requires.snapshot.saved.long
+    (omega (arith, long, size, c.requires.snapshot.room))
     (d.possible c.put.new.device) (d.seen c.put.new.device) (d.calls c.put.new.device) c.in_ok-put.ensures.called.finished (c.in_ok-put.ensures.seen mid) (c.in_ok-put.ensures.durable mid))
     (c.put_snapshot.ensures.moments honest) in
     joined d.clock d.possible_since start c.put.new.device c.put_snapshot.new.device all first second

@@ -1,3 +1,4 @@
+-- The numbers added so far, and those of the commands left, are all; they are at most two for each command.
 use Rattle.std.proofs.Common.{◌≡◌, ◌≤◌, ◌*◌, ◌+◌, drop}
 use Rattle.checkpoint.specs.Numbers.{all_added}
 use Rattle.checkpoint.proofs.numbers.all_added.Given as goal

@@ -1,3 +1,4 @@
+-- The snapshot's calls lead from what was stored to the next sequence with an empty journal.
 use Rattle.sector_disk.specs.Throughout.{weakened}
 use Rattle.sector_disk.specs.CommitLaws.{commits}
 use Rattle.checkpoint.specs.Puts.{IsInSnapshot}
@@ -12,6 +13,7 @@ returns-clause-commits g c sequence state journal next honest stored =
     let from = c.put_snapshot.ensures.called.honest_before honest in
     commits d c.put_snapshot.result 4 2 _ _ start end (λ t image le left. g.met.D.Sectors.counts_now end t image honest le left) c.put_snapshot.ensures.called.finished
     (weakened d.clock d.possible_since start end (IsInSnapshot c.args.header c.args.bytes.now (d.possible start) (d.seen start) (d.calls start)) _
-    (in_commit c.args.header c.args.bytes.now sequence next c.requires.saved.whole c.requires.saved.fits state journal (d.possible start) (d.seen start) (g.met.D.Sectors.reads_possible start from) stored
+    (in_commit c.args.header c.args.bytes.now sequence next c.requires.saved.whole c.requires.saved.fits state journal (d.possible start) (d.seen start)
+    (g.met.D.Sectors.reads_possible start from) stored
     c.requires.last c.requires.saved.some c.requires.saved.long (d.calls start))
     (c.put_snapshot.ensures.moments honest))

@@ -34,4 +34,5 @@ returns-clause-moments g c honest =
     start (c.sync.ensures.moments honest) left one
     (behind_sync c.args.first c.args.bytes.now (d.possible c.args.device.now) (d.seen c.args.device.now) (d.calls c.args.device.now)
     c.sync.result (d.seen c.write.new.self) (d.possible c.write.new.self) (d.possible c.sync.new.self) (d.calls c.sync.new.self)
-    (c.sync.ensures.called.finished.count ∙ ap (λ (n : ℕ). calls_after c.sync.result n) one) (c.in_ok-write.ensures.written mid) (g.met.D.Sectors.reads_possible c.write.new.self mid) left (c.sync.ensures.durable honest) (c.sync.ensures.contents honest))
+    (c.sync.ensures.called.finished.count ∙ ap (λ (n : ℕ). calls_after c.sync.result n) one) (c.in_ok-write.ensures.written mid)
+    (g.met.D.Sectors.reads_possible c.write.new.self mid) left (c.sync.ensures.durable honest) (c.sync.ensures.contents honest))

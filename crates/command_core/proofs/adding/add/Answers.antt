@@ -1,3 +1,4 @@
+-- The job with the new pair keeps its facts, as the command was accepted.
 use Rattle.std.proofs.Common.{rules, ◌≡◌, sym, subst, IfOk}
 use Rattle.plan_types.specs.declared.requests.Request.{Request}
 use Rattle.plan_types.specs.declared.requests.Request.TheVariants.{Pair}

@@ -1,3 +1,4 @@
+-- The job with the new single keeps its facts, as the command was accepted.
 use Rattle.std.proofs.Common.{rules, ◌≡◌, subst}
 use Rattle.plan_types.specs.declared.requests.Request.{Request}
 use Rattle.plan_types.specs.declared.requests.Request.TheVariants.{Single}

@@ -1,3 +1,4 @@
+-- A plan is adopted, or refused, over the job's problem, pins and plan.
 use Rattle.std.proofs.Common.{sym, ap, ◌∙◌}
 use Rattle.command_core.specs.Job.{JobValue}
 use Rattle.command_core.specs.Refusing.{adopt_refusal, job_refusal}

@@ -1,9 +1,9 @@
+-- No stop stands twice where none of those left does.
 use Rattle.std.proofs.Common.{◌≡◌, length}
 use Rattle.std.specs.List.{concat}
 use Rattle.plan_audit.specs.Passes.{are_distinct}
 use Rattle.command_core.proofs.judging.are_distinct.Given as goal
 
--- no stop stands twice where none of those left does
 abbrev pub invariant-loop-left : goal.invariant-loop-left
 invariant-loop-left l = are_distinct (concat l.left) ≡ are_distinct (concat l.routes)
 

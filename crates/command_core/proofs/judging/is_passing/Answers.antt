@@ -1,3 +1,4 @@
+-- Routes whose stops are live and distinct have, each of them, live stops once.
 use Rattle.std.proofs.Common.{sym, ◌∙◌}
 use Rattle.command_core.proofs.JudgeLemmas.{each_live_once}
 use Rattle.command_core.proofs.judging.is_passing.Goals as goal

@@ -1,3 +1,4 @@
+-- Annealings, however they are cut, leave what one annealing of all their steps would.
 use Rattle.command_core.proofs.SearchLemmas.{annealings_add_up, runs_are_one_annealing}
 use Rattle.command_core.proofs.laws.annealings_add_up.Goals as goal
 

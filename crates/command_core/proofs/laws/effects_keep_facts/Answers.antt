@@ -1,3 +1,4 @@
+-- What one accepted command makes keeps the facts of states, by the laws of the crates below; so do many.
 use Rattle.command_core.proofs.FactLemmas.{effects_keep_facts}
 use Rattle.command_core.proofs.RunLemmas.{runs_keep_facts}
 use Rattle.command_core.proofs.laws.effects_keep_facts.Goals as goal

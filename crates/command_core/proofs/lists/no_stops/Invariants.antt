@@ -1,3 +1,4 @@
+-- The lists so far are empty, one for each vehicle so far.
 use Rattle.std.proofs.Common.{◌≡◌, [], replicate}
 use Rattle.command_core.proofs.lists.no_stops.Given as goal
 

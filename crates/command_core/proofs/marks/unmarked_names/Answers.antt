@@ -1,3 +1,4 @@
+-- The next request's name is pushed where it has no mark, and else passed over.
 use Rattle.std.proofs.Common.{rules, ◌≡◌, ◌++◌, ◌∷◌, [], not, Some, None, sym, ◌∙◌}
 use Rattle.seeded_search.specs.Names.{names_where}
 use Rattle.command_core.specs.Marks.{is_marked}

@@ -1,3 +1,4 @@
+-- A further request that is put in leads on to what all make of the plan.
 use Rattle.std.proofs.Common.{◌+◌, drop, sym, ap, ◌∙◌, arith}
 use Rattle.std.proofs.lemmas.List.{drop_more}
 use Rattle.move_ops.specs.Drafts.{draft_of}

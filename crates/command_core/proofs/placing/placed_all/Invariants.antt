@@ -1,9 +1,9 @@
+-- What the rest makes of the draft so far is what all make of the plan.
 use Rattle.std.proofs.Common.{◌≡◌, drop}
 use Rattle.move_ops.specs.Drafts.{draft_of, IsDraftOf}
 use Rattle.seeded_search.specs.Steps.{placed_all}
 use Rattle.command_core.proofs.placing.placed_all.Given as goal
 
--- what the rest makes of the draft so far is what all make of the plan
 abbrev pub invariant-loop-name : goal.invariant-loop-name
 invariant-loop-name l = record {
   is : IsDraftOf l.problem l.pins.routes l.draft;

@@ -1,3 +1,4 @@
+-- Where no steps are left, annealing leaves the walk as it was.
 use Rattle.std.proofs.Common.{◌-◌, arith}
 use Rattle.seeded_search.specs.Working.{walked_by}
 use Rattle.command_core.proofs.ReduceLemmas.{no_steps}

@@ -1,3 +1,4 @@
+-- The plan of the tries passes and its steps fit, so annealing goes on from there to the last step.
 use Rattle.std.proofs.Common.{◌≡◌, ◌∙◌, ◌+◌, ◌-◌, ap, subst, arith}
 use Rattle.seeded_search.specs.Working.{walked_by}
 use Rattle.anneal_search.specs.Annealing.{anneal_steps}

@@ -1,3 +1,4 @@
+-- A route without the request's stops is live, each stop once, over the problem without the request.
 use Rattle.std.proofs.Common.{rules, ◌≡◌, ℕ, List, sym, subst}
 use Rattle.plan_types.specs.Instance.{Instance, without_request}
 use Rattle.route_sched.specs.Route.{AreLiveOnce}
@@ -9,5 +10,7 @@ pub is_feasible-requires : goal.is_feasible-requires
 is_feasible-requires c =
     let p = c.args.problem.now in
     let same : c.as_slice-3.result.now ≡ route_without p c.args.name c.args.route.now = search rules in
-    let here : AreLiveOnce (without_request p c.args.name) (route_without p c.args.name c.args.route.now) = without_once c.take_removes_one_request.ensures.others p c.args.name c.requires.valid c.args.route.now c.requires.live in
+    let here : AreLiveOnce (without_request p c.args.name)
+    (route_without p c.args.name c.args.route.now) = without_once c.take_removes_one_request.ensures.others p c.args.name c.requires.valid c.args.route.now
+    c.requires.live in
     subst (λ (q : Instance). AreLiveOnce q c.as_slice-3.result.now) (sym c.requires.taken) (subst (λ (l : List ℕ). AreLiveOnce (without_request p c.args.name) l) (sym same) here)

@@ -1,3 +1,4 @@
+-- The job's plan passes, so its routes have live stops, each once.
 use Rattle.std.proofs.Common.{ℕ, List, All, sym, subst}
 use Rattle.route_sched.specs.Route.{AreLiveOnce}
 use Rattle.command_core.proofs.withdrawing.routes_left.Goals as goal

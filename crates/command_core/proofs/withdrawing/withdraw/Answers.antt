@@ -1,3 +1,4 @@
+-- The job without the request keeps its facts, as the command was accepted.
 use Rattle.std.proofs.Common.{rules, ◌≡◌, subst}
 use Rattle.command_core.specs.Job.{JobValue, IsJob}
 use Rattle.command_core.specs.Effects.{withdrawn}

@@ -1,3 +1,4 @@
+-- The next vehicle's list is picked where it is marked, and else passed over.
 use Rattle.std.proofs.Common.{rules, ◌≡◌, ◌∙◌, ◌++◌, ◌∷◌, ◌+◌, [], cond, drop, get_or, true, false, sym, ap, append_assoc}
 use Rattle.fleet_tries.specs.Fleets.{list_at, picked}
 use Rattle.fleet_tries.proofs.PickedLemmas.{picked_next}
@@ -15,7 +16,8 @@ loop-index-preserved c =
       | then-kept-index+in_ok-list_at+in_ok-push w ↦ (
           let is : get_or c.args.kept.now c.loop-index.index false ≡ true = search rules in
           let pushed : c.if-kept-index.routes ≡ c.loop-index.routes ++ list_at c.args.lists.now c.loop-index.index ∷ [] = search rules in
-          ap (λ l. l ++ rest) pushed ∙ (append_assoc c.loop-index.routes (list_at lists i ∷ []) rest ∙ (ap (λ l. c.loop-index.routes ++ l) (ap (λ b. cond b (list_at lists i ∷ rest) rest) (sym is) ∙ sym next) ∙ c.loop-index.invariant)))
+          ap (λ l. l ++ rest) pushed ∙ (append_assoc c.loop-index.routes (list_at lists i ∷ []) rest
+          ∙ (ap (λ l. c.loop-index.routes ++ l) (ap (λ b. cond b (list_at lists i ∷ rest) rest) (sym is) ∙ sym next) ∙ c.loop-index.invariant)))
       | else-kept-index w ↦ (
           let is : get_or c.args.kept.now c.loop-index.index false ≡ false = search rules in
           let same : c.if-kept-index.routes ≡ c.loop-index.routes = search rules in

@@ -1,8 +1,8 @@
+-- The lists so far, and those of the vehicles left, are all; no more are used than vehicles were seen.
 use Rattle.std.proofs.Common.{◌≡◌, ◌≤◌, ◌++◌, drop}
 use Rattle.fleet_tries.specs.Fleets.{put_back}
 use Rattle.fleet_tries.proofs.fleets.put_back.Given as goal
 
--- the lists so far, and those of the vehicles left; no more are used than vehicles were seen
 abbrev pub invariant-loop-index : goal.invariant-loop-index
 invariant-loop-index l = record {
   all : l.routes ++ put_back (drop l.index l.kept) (drop l.next l.lists) ≡ put_back l.kept l.lists;

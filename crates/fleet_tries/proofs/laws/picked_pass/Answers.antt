@@ -1,3 +1,4 @@
+-- Picked routes pass in their own fleet; put back at their numbers they pass with the pins, and use no more vehicles.
 use Rattle.fleet_tries.proofs.PickedLemmas.{picked_pass, put_back_pass, put_back_use_fewer}
 use Rattle.fleet_tries.proofs.laws.picked_pass.Goals as goal
 

@@ -1,3 +1,4 @@
+-- Tries from a plan that passes lead to one that passes, within their steps.
 use Rattle.fleet_tries.proofs.TryLemmas.{tries_keep_plans}
 use Rattle.fleet_tries.proofs.laws.tries_keep_plans.Goals as goal
 

@@ -1,3 +1,4 @@
+-- The plan of tries never costs more.
 use Rattle.fleet_tries.proofs.TryLemmas.{tries_never_cost_more}
 use Rattle.fleet_tries.proofs.laws.tries_never_cost_more.Goals as goal
 

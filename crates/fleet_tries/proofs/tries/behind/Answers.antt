@@ -1,3 +1,4 @@
+-- Behind a try stand the cheaper plan, its step, and half the size where it leaves out what the plan before did not.
 use Rattle.std.proofs.Common.{◌∙◌, ◌/◌, ◌&&◌, cond, not, ap}
 use Rattle.plan_types.specs.Cost.{cost_at_most}
 use Rattle.plan_types.specs.declared.plans.Plan.{Plan}
@@ -17,8 +18,10 @@ returns g c pins end has =
     let found_is = c.in_ok-put_back.ensures ∙ ap (put_back crew) c.as_slice.ensures in
     let taken =
     ap (λ (l : Plan). l.routes) c.cheaper.ensures
-    ∙ (chosen_routes (cost_at_most (cost_of p found) (cost_of p t.plan.routes)) (record { routes = found }) t.plan ∙ ap (λ f. cond (cost_at_most (cost_of p f) (cost_of p t.plan.routes)) f t.plan.routes) found_is) in
+    ∙ (chosen_routes (cost_at_most (cost_of p found) (cost_of p t.plan.routes)) (record { routes = found }) t.plan
+    ∙ ap (λ f. cond (cost_at_most (cost_of p f) (cost_of p t.plan.routes)) f t.plan.routes) found_is) in
     let sized =
     c.size_behind-size.ensures
-    ∙ (ap (λ f. cond (c.args.whole && not (is_whole p f)) (t.size / 2) t.size) found_is ∙ ap (λ w. cond (w && not (is_whole p (put_back crew c.args.tried.plan.routes))) (t.size / 2) t.size) c.requires.whole) in
+    ∙ (ap (λ f. cond (c.args.whole && not (is_whole p f)) (t.size / 2) t.size) found_is
+    ∙ ap (λ w. cond (w && not (is_whole p (put_back crew c.args.tried.plan.routes))) (t.size / 2) t.size) c.requires.whole) in
     behind_is p pins c.cheaper.result.routes (tries_by t) crew end c.args.tried.plan.routes c.args.tried.step c.size_behind-size.result has.plan has.step taken sized

@@ -1,3 +1,4 @@
+-- Each try makes fewer steps left, and what is left leads to the same end.
 use Rattle.std.proofs.Common.{◌∙◌, ◌+◌, ap, arith}
 use Rattle.fleet_tries.specs.Trials.{tries_by}
 use Rattle.fleet_tries.specs.Tries.{most_tries, tries_from}
@@ -10,7 +11,8 @@ loop-tries-init g c =
     let laws = below_of c.picked_pass.ensures.picked c.picked_pass.ensures.back c.tries_keep_passing.ensures.passing c.tries_keep_passing.ensures.short in
     record {
       at =
-          at_begin laws c.args.problem.now c.args.pins.now.routes c.requires.pins c.requires.kind.1 c.args.seed c.args.count (c.args.tries.step + c.from.result) (tries_by c.args.tries) (ap (λ n. c.args.tries.step + n) c.from.ensures)
+          at_begin laws c.args.problem.now c.args.pins.now.routes c.requires.pins c.requires.kind.1 c.args.seed c.args.count (c.args.tries.step + c.from.result)
+          (tries_by c.args.tries) (ap (λ n. c.args.tries.step + n) c.from.ensures)
           c.requires.plan;
       end = ap (λ n. c.args.tries.step + n) c.from.ensures;
       first = omega arith;
@@ -39,7 +41,8 @@ loop-tries-preserved g c =
     let end = c.args.tries.step + c.from.result in
     let t = tries_by c.loop-tries.tries in
     let on = goes_on p pins end t c.loop-tries-test.true c.if-tries-gt0.true in
-    let next = at_next laws p pins c.requires.pins c.requires.kind.1 c.args.seed c.args.count end order c.requires.kind.0 _ t (tries_by c.in_ok-tries.tries) on c.in_ok-tries.ensures c.loop-tries.invariant.at in
+    let next = at_next laws p pins c.requires.pins c.requires.kind.1 c.args.seed c.args.count end order c.requires.kind.0 _ t
+    (tries_by c.in_ok-tries.tries) on c.in_ok-tries.ensures c.loop-tries.invariant.at in
     record { at = next.0; end = c.loop-tries.invariant.end; first = omega (arith, c.loop-tries.invariant.first, next.2) }
 
 pub returns : goal.returns

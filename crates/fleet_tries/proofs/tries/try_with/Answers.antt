@@ -1,3 +1,4 @@
+-- The marked vehicles are a fleet, and their routes pass in it with their pins.
 use Rattle.std.proofs.Common.{◌∙◌, sym, ap, arith}
 use Rattle.fleet_tries.specs.Fleets.{picked}
 use Rattle.fleet_tries.proofs.TryLemmas.{picked_passes}
@@ -14,6 +15,7 @@ share-deviation-requires c = ((c.passes_are_local.ensures c.args.problem.now c.a
 
 pub try_steps-requires-clause-plan : goal.try_steps-requires-clause-plan
 try_steps-requires-clause-plan c =
-    picked_passes c.picked_pass.ensures.picked c.args.problem.now c.in_ok-smaller.smaller c.args.pins.now.routes c.args.tries.now.plan.routes c.in_ok-picked.field-0 c.in_ok-picked-2.field-0 c.args.crew.now c.marked.result
+    picked_passes c.picked_pass.ensures.picked c.args.problem.now c.in_ok-smaller.smaller c.args.pins.now.routes c.args.tries.now.plan.routes
+    c.in_ok-picked.field-0 c.in_ok-picked-2.field-0 c.args.crew.now c.marked.result
     c.requires.crew.long (c.requires.crew.long ∙ sym c.requires.pins) c.requires.plan c.in_ok-smaller.ensures c.marked.ensures (c.in_ok-picked.ensures ∙ ap (picked c.args.crew.now) c.as_slice.ensures)
     (c.in_ok-picked-2.ensures ∙ ap (picked c.args.crew.now) c.as_slice-2.ensures)

@@ -1,8 +1,8 @@
+-- All are customers where those left are, from the number behind the index on.
 use Rattle.std.proofs.Common.{◌≡◌, ◌+◌, drop}
 use Rattle.instance_text.specs.Formats.{are_customers}
 use Rattle.instance_text.proofs.formats.are_customers.Given as goal
 
--- those left, from the number behind the index on
 abbrev pub invariant-loop-index : goal.invariant-loop-index
 invariant-loop-index l = record {
   place : l.number ≡ l.index + 1;

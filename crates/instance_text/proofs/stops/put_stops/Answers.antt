@@ -1,3 +1,4 @@
+-- The line of the next stop stands before those of the stops behind it.
 use Rattle.std.proofs.Common.{◌∙◌, ◌++◌, ◌+◌, ◌-◌, map, sym, ap, arith, append_assoc}
 use Rattle.instance_text.specs.Texts.{lines_text, row_line, stops_behind}
 use Rattle.instance_text.proofs.WriteLemmas.{stops_next}

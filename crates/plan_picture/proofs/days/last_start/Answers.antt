@@ -1,3 +1,4 @@
+-- The starts to come are at first those of all visits.
 use Rattle.std.proofs.Common.{◌∙◌, ap}
 use Rattle.route_sched.proofs.Visited.{all_visits}
 use Rattle.plan_picture.specs.Days.{last_start}

@@ -1,10 +1,10 @@
+-- The latest so far, with the starts to come, is the latest of all.
 use Rattle.std.proofs.Common.{◌≡◌}
 use Rattle.route_sched.specs.Visiting.{visits_from}
 use Rattle.plan_picture.specs.Days.{last_start}
 use Rattle.plan_picture.specs.Known.{visits_of}
 use Rattle.plan_picture.proofs.days.last_start.Given as goal
 
--- the latest so far, and the starts to come
 abbrev pub invariant-loop-visit : goal.invariant-loop-visit
 invariant-loop-visit l =
     let left = visits_from l.visit-iterator.problem l.visit-iterator.route l.visit-iterator.place in

@@ -1,7 +1,7 @@
+-- The bounds so far, widened by the stops to come, are those of all.
 use Rattle.std.proofs.Common.{◌≡◌, fold, drop}
 use Rattle.plan_picture.specs.Frame.{bounds_at, widened}
 use Rattle.plan_picture.proofs.frame.stop_bounds.Given as goal
 
--- the bounds so far, and the stops to come
 abbrev pub invariant-loop-stop : goal.invariant-loop-stop
 invariant-loop-stop l = fold widened l.bounds (drop l.stop-index l.stops) ≡ fold widened (bounds_at l.depot) l.stops

@@ -1,3 +1,4 @@
+-- A stop that is live and new is kept, any other one passed over.
 use Rattle.std.proofs.Common.{◌≡◌, ◌∙◌, ◌+◌, ◌∷◌, drop, get_or, true, false, sym, ap, drop-cons, rules}
 use Rattle.plan_picture.specs.Known.{is_new, kept_after}
 use Rattle.plan_picture.proofs.KeptLemmas.{none_once, once_more, kept_new, kept_old}

@@ -1,3 +1,4 @@
+-- What is kept of the next route stands behind what is kept of those before it.
 use Rattle.std.proofs.Common.{◌≡◌, ◌∙◌, ◌+◌, ◌++◌, ◌∷◌, [], map, drop, ap, sym, append_assoc, drop-cons, rules}
 use Rattle.std.proofs.lemmas.List.Elements.{All-append, All-cons, All-nil}
 use Rattle.route_sched.specs.Route.{AreLiveOnce}

@@ -1,8 +1,8 @@
+-- Behind the badges of the routes to come the labels are those behind all badges.
 use Rattle.std.proofs.Common.{◌≡◌, ◌+◌, drop}
 use Rattle.plan_picture.specs.Labels.{with_badges}
 use Rattle.plan_picture.proofs.labels.note_badges.Given as goal
 
--- what the routes to come leave
 abbrev pub invariant-loop-index : goal.invariant-loop-index
 invariant-loop-index l =
     let s = l.scene in

@@ -1,3 +1,4 @@
+-- The loads to come are at first those of all visits.
 use Rattle.std.proofs.Common.{◌∙◌, ap}
 use Rattle.route_sched.proofs.Visited.{all_visits}
 use Rattle.plan_picture.specs.Table.{top_load}

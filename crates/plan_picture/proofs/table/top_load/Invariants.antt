@@ -1,3 +1,4 @@
+-- The greatest load so far, with those to come, is the greatest of all.
 use Rattle.std.proofs.Common.{◌≡◌, map, fold}
 use Rattle.std.specs.Int.{int_max}
 use Rattle.route_sched.specs.Visiting.{visits_from}
@@ -5,7 +6,6 @@ use Rattle.plan_picture.specs.Known.{visits_of}
 use Rattle.plan_picture.specs.Table.{top_load}
 use Rattle.plan_picture.proofs.table.top_load.Given as goal
 
--- the greatest so far, and the loads to come
 abbrev pub invariant-loop-visit : goal.invariant-loop-visit
 invariant-loop-visit l =
     let left = visits_from l.visit-iterator.problem l.visit-iterator.route l.visit-iterator.place in

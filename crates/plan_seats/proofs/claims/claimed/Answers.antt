@@ -1,3 +1,4 @@
+-- Each pin takes the route that begins with it, or there are no seats.
 use Rattle.std.proofs.Common.{◌≡◌, ◌∙◌, ◌+◌, ◌∷◌, drop, ap, inr, rules}
 use Rattle.std.proofs.lemmas.List.{drop_more, drop_all}
 use Rattle.plan_seats.specs.Seats.{claimed}

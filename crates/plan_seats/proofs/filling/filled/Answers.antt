@@ -1,3 +1,4 @@
+-- With the last seat all routes are given.
 use Rattle.std.proofs.Common.{◌≡◌, ◌∙◌, [], sym}
 use Rattle.std.proofs.lemmas.List.{nil_from_length}
 use Rattle.std.specs.Vec.Iter.{into_iter_items}

@@ -1,3 +1,4 @@
+-- A seat that has a route keeps it; an empty one gets the next used route, if there is one.
 use Rattle.std.proofs.Common.{◌≡◌, ◌∙◌, [], sym, rules}
 use Rattle.std.proofs.lemmas.List.{nil_from_length}
 use Rattle.std.specs.Vec.Iter.{into_iter_items}

@@ -1,3 +1,4 @@
+-- One more empty route, up to the fleet, makes the same list of all vehicles.
 use Rattle.std.proofs.Common.{◌≡◌, ◌∙◌, ◌+◌, ◌++◌, ap, arith}
 use Rattle.std.proofs.lemmas.List.{length-append}
 use Rattle.std.specs.Prelude.{length, [], ◌∷◌}

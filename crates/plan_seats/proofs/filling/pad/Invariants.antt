@@ -1,3 +1,4 @@
+-- The seats so far are counted, and are the same where they are filled up to the fleet.
 use Rattle.std.proofs.Common.{◌≡◌, length}
 use Rattle.plan_seats.specs.Seats.{padded}
 use Rattle.plan_seats.proofs.filling.pad.Given as goal

@@ -1,3 +1,4 @@
+-- A text is seated as one plan, or refused for one cause.
 use Rattle.plan_seats.proofs.LawProofs.{seatings_agree, some_seating}
 use Rattle.plan_seats.proofs.laws.texts_are_seated.Goals as goal
 

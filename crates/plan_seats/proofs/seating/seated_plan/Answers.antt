@@ -1,3 +1,4 @@
+-- A solution that is refused, or passes, tells why there is no plan, or which one it is.
 use Rattle.std.proofs.Common.{ap, subst}
 use Rattle.std.proofs.lemmas.Result.{err_from_is_err_and}
 use Rattle.plan_types.specs.Instance.{Instance}

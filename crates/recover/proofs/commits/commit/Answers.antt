@@ -1,3 +1,4 @@
+-- A commit leads to the state after the command, by four calls where a snapshot is due.
 use Rattle.std.proofs.Common.{rules, ◌≡◌, ℕ, sym, subst}
 use Rattle.checkpoint.specs.declared.places.Place.{Place}
 use Rattle.checkpoint.specs.Places.{behind_snapshot}

@@ -1,3 +1,4 @@
+-- A session that is closed gives the same state when its device is opened again.
 use Rattle.recover.proofs.laws.a_closed_session_opens_the_same.Goals as goal
 
 pub returns : goal.returns

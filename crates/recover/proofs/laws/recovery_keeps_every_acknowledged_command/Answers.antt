@@ -1,3 +1,4 @@
+-- Recovery gives the state after a first part of the commands that holds all acknowledged ones.
 use Rattle.recover.proofs.Headlines.{headline}
 use Rattle.recover.proofs.laws.recovery_keeps_every_acknowledged_command.Goals as goal
 

@@ -1,3 +1,4 @@
+-- Restarts, each from the state that the one before gave, lead on from the first state to the last.
 use Rattle.recover.proofs.LinkLemmas.{links_lead_on}
 use Rattle.recover.proofs.laws.restarts_add_up.Goals as goal
 

@@ -1,3 +1,4 @@
+-- A command applied is a run of one, and two runs of a session are one of the joined lists.
 use Rattle.recover.proofs.Joins.{applies_are_runs, runs_join, runs_add_up}
 use Rattle.recover.proofs.laws.runs_add_up.Goals as goal
 

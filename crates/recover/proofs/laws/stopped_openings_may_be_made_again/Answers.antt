@@ -1,3 +1,4 @@
+-- Openings that are stopped or refused leave what the next one needs.
 use Rattle.recover.proofs.Joins.{holds_over_stops, stopped_leave_the_same, refused_are_stopped, refused_are_repeated}
 use Rattle.recover.proofs.laws.stopped_openings_may_be_made_again.Goals as goal
 

@@ -1,3 +1,4 @@
+-- The state, with the journal's commands repeated on it, is what the image stands for.
 use Rattle.std.proofs.Common.{rules, ℕ, sym, subst}
 use Rattle.checkpoint.specs.declared.places.Place.{Place}
 use Rattle.recover.specs.Repeating.{IsRepeated}
@@ -16,5 +17,6 @@ returns-clause-recovered g c = record {
       let is = c.in_ok-found.ensures.ok in
       subst (λ (place : Place). IsRepeated c.args.version image found.state place found.replayed) (sym is.place)
       (subst (λ (n : ℕ). IsRepeated c.args.version image found.state loaded.place n) (sym is.replayed)
-      (repeated c.args.version image loaded.state loaded.commands.items loaded.place (c.in_ok-loaded.ensures.loaded.found honest) c.in_ok-loaded.ensures.loaded.standing.used is.accepted found.state is.leads));
+      (repeated c.args.version image loaded.state loaded.commands.items loaded.place
+      (c.in_ok-loaded.ensures.loaded.found honest) c.in_ok-loaded.ensures.loaded.standing.used is.accepted found.state is.leads));
 }

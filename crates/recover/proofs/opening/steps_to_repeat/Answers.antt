@@ -1,3 +1,4 @@
+-- The steps to repeat are those of the commands that the image holds.
 use Rattle.std.proofs.Common.{◌≡◌, ◌^◌, ◌<◌, List, subst}
 use Rattle.std.specs.Prelude.{sum_by}
 use Rattle.command_core.specs.Commands.{steps_of}

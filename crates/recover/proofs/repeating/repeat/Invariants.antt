@@ -1,3 +1,4 @@
+-- The commands left lead from the state so far to where all lead, and are accepted where all are.
 use Rattle.std.proofs.Common.{◌≡◌, drop}
 use Rattle.command_core.specs.Runs.{IsState, AreAccepted, after}
 use Rattle.recover.proofs.repeating.repeat.Given as goal

@@ -1,3 +1,4 @@
+-- A further command's steps are added, and the sum fits where all steps do.
 use Rattle.std.proofs.Common.{◌≡◌, ◌∙◌, ◌+◌, get_or, ap, arith}
 use Rattle.std.proofs.lemmas.List.{get_or_read}
 use Rattle.std.proofs.lemmas.List.Sums.{sum_by_more, sum_by-take-le}

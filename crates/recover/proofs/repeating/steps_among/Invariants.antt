@@ -1,3 +1,4 @@
+-- The steps so far are those of the commands so far, where all steps fit.
 use Rattle.std.proofs.Common.{◌≡◌, ◌<◌, ◌^◌, take}
 use Rattle.std.specs.Prelude.{sum_by}
 use Rattle.command_core.specs.Commands.{steps_of}

@@ -1,3 +1,4 @@
+-- A session that was opened runs and is closed.
 use Rattle.recover.proofs.restarts.open_and_run.Goals as goal
 
 pub returns-in-Ok : goal.returns-in-Ok

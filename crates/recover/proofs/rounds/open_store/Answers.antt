@@ -1,3 +1,4 @@
+-- A device in memory opens with what its image stands for, or is refused for a cause of that image.
 use Rattle.sector_disk.specs.MemDevice.{memory}
 use Rattle.sector_disk.specs.Memory.{clock_of}
 use Rattle.recover.proofs.RoundLemmas.{counts_now}

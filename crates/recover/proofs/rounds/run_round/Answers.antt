@@ -1,3 +1,4 @@
+-- A round is an opening, a run that is stopped, and what the stop left.
 use Rattle.std.proofs.Common.{◌≡◌, ◌∙◌, List, ℕ, subst}
 use Rattle.sector_disk.specs.MemDevice.{memory}
 use Rattle.sector_disk.specs.Memory.{MayLeave}

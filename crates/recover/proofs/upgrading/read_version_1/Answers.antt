@@ -1,3 +1,4 @@
+-- What was read is the state that the old store stands for.
 use Rattle.std.proofs.Common.{rules}
 use Rattle.state_codec.specs.declared.version.Version.TheVariants.{One}
 use Rattle.recover.proofs.Openings.{stands}

@@ -1,3 +1,4 @@
+-- The new store is made of the state that the old one stood for, and stands for it.
 use Rattle.checkpoint.specs.Places.{first_place}
 use Rattle.recover.proofs.StepLemmas.{held_new}
 use Rattle.recover.proofs.Upgrades.{is_made}

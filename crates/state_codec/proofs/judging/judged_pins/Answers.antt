@@ -1,3 +1,4 @@
+-- A pin that is feasible alone leads on; the first one that is not is refused by its rule.
 use Rattle.std.proofs.Common.{◌≡◌, [], get_or, subst, ◌∙◌, List, ℕ}
 use Rattle.std.proofs.lemmas.List.{get_or_read}
 use Rattle.plan_audit.specs.Alone.{IsFeasibleAlone, IsFaultAlone}

@@ -1,10 +1,10 @@
+-- The pins so far are feasible alone, so what refuses one of those left refuses one of all.
 use Rattle.std.proofs.Common.{◌≡◌, true, take, drop, ℕ}
 use Rattle.std.specs.List.{list_all}
 use Rattle.plan_audit.specs.Passes.{feasible_alone}
 use Rattle.state_codec.specs.Refused.{IsPinRefused}
 use Rattle.state_codec.proofs.judging.judged_pins.Given as goal
 
--- the pins so far are feasible alone, so what refuses one of those left refuses one of all
 abbrev pub invariant-loop-pin : goal.invariant-loop-pin
 invariant-loop-pin l = record {
   feasible : list_all (feasible_alone l.problem) (take l.pin-index l.pins) ≡ true;

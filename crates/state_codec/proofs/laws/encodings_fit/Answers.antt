@@ -1,3 +1,4 @@
+-- The encoding of a state is never longer than a half has room for.
 use Rattle.state_codec.proofs.LengthLemmas.{encodings_fit}
 use Rattle.state_codec.proofs.laws.encodings_fit.Goals as goal
 

@@ -1,3 +1,4 @@
+-- States with the same bytes are one, and so are sequence, index and command of records.
 use Rattle.state_codec.proofs.DecodeLemmas.{states_differ}
 use Rattle.state_codec.proofs.RecordLaws.{records_differ}
 use Rattle.state_codec.proofs.laws.encodings_tell_values_apart.Goals as goal

@@ -1,3 +1,4 @@
+-- A bad field stays one, a byte behind an encoding is one, and a proper front of an encoding is truncated.
 use Rattle.state_codec.proofs.DecodeLemmas.{bad_stays, behind_is_bad, fronts_are_cut}
 use Rattle.state_codec.proofs.laws.faults_go_by_encodings.Goals as goal
 

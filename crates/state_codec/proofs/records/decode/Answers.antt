@@ -1,3 +1,4 @@
+-- A sector that is a command's record is read as that command, and its record is the sector again.
 use Rattle.std.proofs.Common.{◌≡◌, ◌∙◌, sym, ap, true, List, ℕ, length, take, drop, arith, length-drop, Ok, Err, not}
 use Rattle.std.specs.Str.{bytes_eq}
 use Rattle.std.proofs.lemmas.Slice.Eq.{bytes_eq-Decides}

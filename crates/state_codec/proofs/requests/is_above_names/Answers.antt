@@ -1,3 +1,4 @@
+-- Names rise, so a number above the last one is above all.
 use Rattle.std.proofs.Common.{◌≡◌, ◌-◌, length, Some, slice_get, sym, subst}
 use Rattle.plan_types.specs.Instance.{Instance, IsInstance}
 use Rattle.state_codec.proofs.NameLemmas.{last_decides}

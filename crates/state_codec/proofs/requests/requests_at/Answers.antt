@@ -1,3 +1,4 @@
+-- A further request has a new name and is put in behind the others; one that fails is told.
 use Rattle.std.proofs.Common.{◌≡◌, ◌<◌, ◌-◌, ◌++◌, ◌∷◌, [], Ok, refl, sym, ap, ◌∙◌, arith, subst}
 use Rattle.std.proofs.lemmas.Result.{err_from_is_err_and}
 use Rattle.plan_types.specs.Request.{request_name}
@@ -14,13 +15,20 @@ returns-in_err-request-clause-read c =
     let p = err_from_is_err_and c.from_residual.result c.from_residual.ensures.1 in
     let more = next_request c.args.version c.args.next in
     let e = c.in_err-request.field-0.0 in
-    rw (p.1, p.2) (ends more c.args.count c.loop.counter c.loop.problem.requests c.loop.rest.now (times more c.args.count [] c.args.bytes.now) c.loop.invariant.read c.loop-test.true e (fails_on e (request_at c.args.version c.args.next c.loop.problem.requests c.loop.rest.now) (λ r. Ok (c.loop.problem.requests ++ (request_name r.0, r.0) ∷ [], r.1)) (fails e (request_at c.args.version c.args.next c.loop.problem.requests c.loop.rest.now) c.in_err-request.ensures)))
+    rw (p.1, p.2) (ends more c.args.count c.loop.counter c.loop.problem.requests c.loop.rest.now
+    (times more c.args.count [] c.args.bytes.now) c.loop.invariant.read c.loop-test.true e
+    (fails_on e (request_at c.args.version c.args.next c.loop.problem.requests c.loop.rest.now)
+    (λ r. Ok (c.loop.problem.requests ++ (request_name r.0, r.0) ∷ [], r.1))
+    (fails e (request_at c.args.version c.args.next c.loop.problem.requests c.loop.rest.now) c.in_err-request.ensures)))
 
 pub put_new-requires-clause-request : goal.put_new-requires-clause-request
-put_new-requires-clause-request c = (request_takes c.args.version c.args.next c.loop.problem.requests c.loop.rest.now c.requires.next c.loop.invariant.bytes (c.in_ok-request.request, c.in_ok-request.after.now) c.in_ok-request.ensures).1.request
+put_new-requires-clause-request c = (request_takes c.args.version c.args.next c.loop.problem.requests c.loop.rest.now c.requires.next c.loop.invariant.bytes
+    (c.in_ok-request.request, c.in_ok-request.after.now) c.in_ok-request.ensures).1.request
 
 pub put_new-requires-clause-free : goal.put_new-requires-clause-free
-put_new-requires-clause-free c = not_taken c.loop.problem c.args.next c.in_ok-request.request (request_takes c.args.version c.args.next c.loop.problem.requests c.loop.rest.now c.requires.next c.loop.invariant.bytes (c.in_ok-request.request, c.in_ok-request.after.now) c.in_ok-request.ensures).1
+put_new-requires-clause-free c = not_taken c.loop.problem c.args.next c.in_ok-request.request
+    (request_takes c.args.version c.args.next c.loop.problem.requests c.loop.rest.now c.requires.next c.loop.invariant.bytes
+    (c.in_ok-request.request, c.in_ok-request.after.now) c.in_ok-request.ensures).1
 
 pub loop-init : goal.loop-init
 loop-init c =
@@ -35,13 +43,16 @@ loop-init c =
 pub loop-preserved : goal.loop-preserved
 loop-preserved c =
     let more = next_request c.args.version c.args.next in
-    let read = (request_takes c.args.version c.args.next c.loop.problem.requests c.loop.rest.now c.requires.next c.loop.invariant.bytes (c.in_ok-request.request, c.in_ok-request.after.now) c.in_ok-request.ensures) in
+    let read = (request_takes c.args.version c.args.next c.loop.problem.requests c.loop.rest.now c.requires.next c.loop.invariant.bytes
+    (c.in_ok-request.request, c.in_ok-request.after.now) c.in_ok-request.ensures) in
     let r = c.in_ok-request.request in
     let es = c.loop.problem.requests in
     let put : c.put_new.new.problem ≡ with_request c.loop.problem r = c.in_ok-put_new.ensures.ok in
     let last : c.put_new.new.problem.requests ≡ es ++ (request_name r, r) ∷ [] = ap (λ (p : Instance). p.requests) put ∙ goes_last r es read.1.names in
     record {
-      read = rw last (goes_on more c.args.count c.loop.counter es c.loop.rest.now (times more c.args.count [] c.args.bytes.now) c.loop.invariant.read c.loop-test.true (es ++ (request_name r, r) ∷ []) c.in_ok-request.after.now (rw c.in_ok-request.ensures refl));
+      read = rw last (goes_on more c.args.count c.loop.counter es c.loop.rest.now
+          (times more c.args.count [] c.args.bytes.now) c.loop.invariant.read c.loop-test.true (es ++ (request_name r, r) ∷ []) c.in_ok-request.after.now
+          (rw c.in_ok-request.ensures refl));
       bytes = read.0.rest_fits;
       filled = rw put (filled_more c.args.problem c.loop.problem c.args.next r c.loop.invariant.filled read.1);
     }

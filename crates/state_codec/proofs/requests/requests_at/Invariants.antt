@@ -1,10 +1,10 @@
+-- The requests so far, and those left, are all.
 use Rattle.std.proofs.Common.{◌≡◌, ◌-◌, []}
 use Rattle.state_codec.specs.Reading.{times, next_request}
 use Rattle.state_codec.specs.Filled.{IsFilledBelow}
 use Rattle.state_codec.proofs.FieldLaws.{IsBytes}
 use Rattle.state_codec.proofs.requests.requests_at.Given as goal
 
--- the requests so far, and those left, are all
 abbrev pub invariant-loop : goal.invariant-loop
 invariant-loop l = record {
   read : times (next_request l.version l.next) (l.count - l.counter) l.problem.requests l.rest ≡ times (next_request l.version l.next) l.count [] l.bytes;

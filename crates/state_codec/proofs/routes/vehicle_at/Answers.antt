@@ -1,3 +1,4 @@
+-- A pin is no longer than the vehicle's stops.
 use Rattle.std.proofs.Common.{◌≡◌}
 use Rattle.state_codec.proofs.RouteLaws.{pin_fits}
 use Rattle.state_codec.proofs.routes.vehicle_at.Goals as goal

@@ -1,3 +1,4 @@
+-- What was read whole is judged: its fault is told, or it is the job of its parts.
 use Rattle.std.proofs.Common.{◌∙◌, Ok, ap, arith}
 use Rattle.std.specs.Option.{option_map}
 use Rattle.std.proofs.lemmas.Result.{err_from_is_err_and}
@@ -6,7 +7,8 @@ use Rattle.state_codec.proofs.DecodeLemmas.{within, by_fault, by_job, by_rule}
 use Rattle.state_codec.proofs.states.decode.Goals as goal
 
 pub judged-requires : goal.judged-requires
-judged-requires c = within c.args.version c.args.bytes.now (job_in c.in-Some.parts) (c.in_ok-whole_at.ensures ∙ ap (λ o. Ok (option_map job_in o)) c.in-Some.is) (λ i. omega (arith, c.type_inv.bytes i))
+judged-requires c = within c.args.version c.args.bytes.now (job_in c.in-Some.parts) (c.in_ok-whole_at.ensures ∙ ap (λ o. Ok (option_map job_in o)) c.in-Some.is)
+    (λ i. omega (arith, c.type_inv.bytes i))
 
 pub returns-in_err-whole_at : goal.returns-in_err-whole_at
 returns-in_err-whole_at c =
@@ -16,10 +18,12 @@ returns-in_err-whole_at c =
 pub returns-in_err-job-in-Some : goal.returns-in_err-job-in-Some
 returns-in_err-job-in-Some c =
     let p = err_from_is_err_and c.from_residual-in_err-job-in-Some.result c.from_residual-in_err-job-in-Some.ensures.1 in
-    rw (p.1, p.2) (by_rule c.args.version c.args.bytes.now (job_in c.in-Some.parts) (c.in_ok-whole_at.ensures ∙ ap (λ o. Ok (option_map job_in o)) c.in-Some.is) c.in_err-job-in-Some.field-0.0 c.in_err-job-in-Some.ensures.err)
+    rw (p.1, p.2) (by_rule c.args.version c.args.bytes.now (job_in c.in-Some.parts)
+    (c.in_ok-whole_at.ensures ∙ ap (λ o. Ok (option_map job_in o)) c.in-Some.is) c.in_err-job-in-Some.field-0.0 c.in_err-job-in-Some.ensures.err)
 
 pub returns-in-None : goal.returns-in-None
 returns-in-None c = c.in_ok-whole_at.ensures ∙ ap (λ o. Ok (option_map job_in o)) c.in-None.is
 
 pub returns-in_ok-job-in-Some : goal.returns-in_ok-job-in-Some
-returns-in_ok-job-in-Some c = by_job c.args.version c.args.bytes.now (job_in c.in-Some.parts) (c.in_ok-whole_at.ensures ∙ ap (λ o. Ok (option_map job_in o)) c.in-Some.is) c.in_ok-job-in-Some.job c.in_ok-job-in-Some.ensures.ok
+returns-in_ok-job-in-Some c = by_job c.args.version c.args.bytes.now (job_in c.in-Some.parts)
+    (c.in_ok-whole_at.ensures ∙ ap (λ o. Ok (option_map job_in o)) c.in-Some.is) c.in_ok-job-in-Some.job c.in_ok-job-in-Some.ensures.ok

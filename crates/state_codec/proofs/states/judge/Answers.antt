@@ -1,3 +1,4 @@
+-- A plan that passes with its pins has pins with live stops, each once.
 use Rattle.std.proofs.Common.{◌≡◌, All, List, ℕ, sym, subst}
 use Rattle.route_sched.specs.Route.{AreLiveOnce}
 use Rattle.state_codec.proofs.states.judge.Goals as goal

@@ -1,3 +1,4 @@
+-- A job's lists fit the fields of their lengths, and its five parts stand one behind the other.
 use Rattle.std.proofs.Common.{◌≡◌, ◌<◌, ◌^◌, ◌++◌, All, List, ℕ, length, sym, subst, ap, ◌∙◌, arith}
 use Rattle.command_core.specs.Job.{JobValue, IsJob}
 use Rattle.plan_types.specs.Instance.{Instance}
@@ -10,7 +11,8 @@ use Rattle.state_codec.proofs.writing.put_job.Goals as goal
 pub overflow_cast-len : goal.overflow_cast-len
 overflow_cast-len c =
     let s = sizes c.numbers_are_below_the_next.ensures.stops c.args.job.now (subst IsJob c.job.view_is c.job.invariant) in
-    let problem : length c.problem.inside.requests.entries ≡ length c.args.job.now.problem.requests = ap (λ (p : Instance). length p.requests) c.problem.view_is ∙ ap (λ (v : JobValue). length v.problem.requests) c.job.view_is in
+    let problem : length c.problem.inside.requests.entries ≡ length c.args.job.now.problem.requests = ap (λ (p : Instance). length p.requests) c.problem.view_is
+    ∙ ap (λ (v : JobValue). length v.problem.requests) c.job.view_is in
     record { fits = omega (arith, s.requests, problem, c.len.ensures.len) }
 
 pub put_vehicles-requires-clause-same : goal.put_vehicles-requires-clause-same
@@ -44,10 +46,18 @@ returns c =
     let pins : c.as_slice.result.now ≡ j.pins = c.as_slice.ensures ∙ ap (λ (v : JobValue). v.pins) c.job.view_is in
     let plan : c.as_slice-2.result.now ≡ j.plan = c.as_slice-2.ensures ∙ ap (λ (v : JobValue). v.plan) c.job.view_is in
     let work : c.as_slice-3.result.now ≡ j.work = c.as_slice-3.ensures ∙ ap (λ (v : JobValue). v.work) c.job.view_is in
-    let problem : length c.problem.inside.requests.entries ≡ length j.problem.requests = ap (λ (p : Instance). length p.requests) c.problem.view_is ∙ ap (λ (v : JobValue). length v.problem.requests) c.job.view_is in
+    let problem : length c.problem.inside.requests.entries ≡ length j.problem.requests = ap (λ (p : Instance). length p.requests) c.problem.view_is
+    ∙ ap (λ (v : JobValue). length v.problem.requests) c.job.view_is in
     let entries : c.problem.inside.requests.entries ≡ j.problem.requests = ap (λ (p : Instance). p.requests) c.problem.view_is ∙ ap (λ (v : JobValue). v.problem.requests) c.job.view_is in
-    let requests : c.put_requests.new.out.items ≡ c.put_u32.new.out.items ++ requests_bytes Two j.problem.requests = c.in_ok-put_requests.ensures ∙ ap (λ es. c.put_u32.new.out.items ++ requests_bytes Two es) entries in
-    let count : c.put_u32.new.out.items ≡ c.put_head.new.out.items ++ count_bytes Two (length j.problem.requests) = c.in_ok-put_u32.ensures ∙ ap (λ n. c.put_head.new.out.items ++ count_bytes Two n) (c.len.ensures.len ∙ problem) in
-    let vehicles : c.put_vehicles.new.out.items ≡ c.put_requests.new.out.items ++ vehicles_bytes Two j.pins j.plan = c.in_ok-put_vehicles.ensures ∙ ap (λ rs. c.put_requests.new.out.items ++ vehicles_bytes Two rs c.as_slice-2.result.now) pins ∙ ap (λ rs. c.put_requests.new.out.items ++ vehicles_bytes Two j.pins rs) plan in
-    let routes : c.put_routes.new.out.items ≡ c.put_vehicles.new.out.items ++ routes_bytes Two j.work = c.in_ok-put_routes.ensures ∙ ap (λ rs. c.put_vehicles.new.out.items ++ routes_bytes Two rs) work in
-    in_five c.args.out.now.items (head_bytes Two j) (count_bytes Two (length j.problem.requests)) (requests_bytes Two j.problem.requests) (vehicles_bytes Two j.pins j.plan) (routes_bytes Two j.work) c.put_head.new.out.items c.put_u32.new.out.items c.put_requests.new.out.items c.put_vehicles.new.out.items c.put_routes.new.out.items c.in_ok-put_head.ensures count requests vehicles routes
+    let requests : c.put_requests.new.out.items ≡ c.put_u32.new.out.items ++ requests_bytes Two j.problem.requests = c.in_ok-put_requests.ensures
+    ∙ ap (λ es. c.put_u32.new.out.items ++ requests_bytes Two es) entries in
+    let count : c.put_u32.new.out.items ≡ c.put_head.new.out.items ++ count_bytes Two (length j.problem.requests) = c.in_ok-put_u32.ensures
+    ∙ ap (λ n. c.put_head.new.out.items ++ count_bytes Two n) (c.len.ensures.len ∙ problem) in
+    let vehicles : c.put_vehicles.new.out.items ≡ c.put_requests.new.out.items ++ vehicles_bytes Two j.pins j.plan = c.in_ok-put_vehicles.ensures
+    ∙ ap (λ rs. c.put_requests.new.out.items ++ vehicles_bytes Two rs c.as_slice-2.result.now) pins
+    ∙ ap (λ rs. c.put_requests.new.out.items ++ vehicles_bytes Two j.pins rs) plan in
+    let routes : c.put_routes.new.out.items ≡ c.put_vehicles.new.out.items ++ routes_bytes Two j.work = c.in_ok-put_routes.ensures
+    ∙ ap (λ rs. c.put_vehicles.new.out.items ++ routes_bytes Two rs) work in
+    in_five c.args.out.now.items (head_bytes Two j) (count_bytes Two (length j.problem.requests)) (requests_bytes Two j.problem.requests)
+    (vehicles_bytes Two j.pins j.plan) (routes_bytes Two j.work) c.put_head.new.out.items c.put_u32.new.out.items c.put_requests.new.out.items
+    c.put_vehicles.new.out.items c.put_routes.new.out.items c.in_ok-put_head.ensures count requests vehicles routes

@@ -1,8 +1,8 @@
+-- What is written, and the requests left, are all.
 use Rattle.std.proofs.Common.{◌≡◌, ◌++◌}
 use Rattle.state_codec.specs.declared.version.Version.TheVariants.{Two}
 use Rattle.state_codec.specs.Bytes.{requests_bytes}
 use Rattle.state_codec.proofs.writing.put_requests.Given as goal
 
--- what is written, and the requests left, are all
 abbrev pub invariant-loop-name : goal.invariant-loop-name
 invariant-loop-name l = l.out.items ++ requests_bytes Two l._name-iterator ≡ l.fn.out.items ++ requests_bytes Two l.requests.entries

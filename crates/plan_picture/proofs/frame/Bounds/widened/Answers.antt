@@ -1,3 +1,4 @@
+-- Each bound is the lesser or greater of two coordinates.
 use Rattle.std.proofs.Common.{◌∙◌, w32}
 use Rattle.std.proofs.lemmas.Int.{to_z-of_z}
 use Rattle.plan_picture.proofs.frame.Bounds.widened.Goals as goal

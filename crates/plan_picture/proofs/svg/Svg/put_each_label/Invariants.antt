@@ -1,8 +1,8 @@
+-- The text so far and that of the labels to come.
 use Rattle.std.proofs.Common.{◌≡◌, ◌++◌, drop}
 use Rattle.std.specs.List.{flat_map}
 use Rattle.plan_picture.specs.Map.{label_text}
 use Rattle.plan_picture.proofs.svg.Svg.put_each_label.Given as goal
 
--- the text so far and that of those to come
 abbrev pub invariant-loop-label : goal.invariant-loop-label
 invariant-loop-label l = l.self ++ flat_map (label_text l.frame) (drop l.label-index l.labels) ≡ l.fn.self ++ flat_map (label_text l.frame) l.labels

@@ -1,9 +1,9 @@
+-- The text so far and that of the routes to come.
 use Rattle.std.proofs.Common.{◌≡◌, ◌++◌, drop}
 use Rattle.plan_picture.specs.Table.{row_text}
 use Rattle.plan_picture.specs.Svg.{each}
 use Rattle.plan_picture.proofs.svg.Svg.put_each_row.Given as goal
 
--- the text so far and that of the routes to come
 abbrev pub invariant-loop-index : goal.invariant-loop-index
 invariant-loop-index l =
     let s = l.scene in

@@ -1,3 +1,4 @@
+-- The visits to come are at first all of the route's.
 use Rattle.std.proofs.Common.{◌∙◌, ◌++◌, ap}
 use Rattle.route_sched.proofs.Visited.{all_visits}
 use Rattle.plan_picture.specs.Map.{legs_text}

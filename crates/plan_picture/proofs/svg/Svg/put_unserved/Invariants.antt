@@ -1,9 +1,9 @@
+-- The text so far and that of the stops to come that no route has.
 use Rattle.std.proofs.Common.{◌≡◌, ◌++◌, drop}
 use Rattle.std.specs.List.{flat_map}
 use Rattle.plan_picture.specs.Map.{mark_text}
 use Rattle.plan_picture.specs.declared.texts.Text.TheVariants as text
 use Rattle.plan_picture.proofs.svg.Svg.put_unserved.Given as goal
 
--- the text so far and that of those to come
 abbrev pub invariant-loop-stop : goal.invariant-loop-stop
 invariant-loop-stop l = l.self ++ flat_map (mark_text text.UnservedMark l.frame) (drop l.stop-index l.left) ≡ l.fn.self ++ flat_map (mark_text text.UnservedMark l.frame) l.left

@@ -1,10 +1,10 @@
+-- The text so far and that of the visits to come.
 use Rattle.std.proofs.Common.{◌≡◌, ◌++◌}
 use Rattle.route_sched.specs.Visiting.{visits_from}
 use Rattle.plan_picture.specs.Days.{visits_text}
 use Rattle.plan_picture.specs.Known.{visits_of}
 use Rattle.plan_picture.proofs.svg.Svg.put_visits.Given as goal
 
--- the text so far and that of the visits to come
 abbrev pub invariant-loop-visit : goal.invariant-loop-visit
 invariant-loop-visit l =
     let left = visits_from l.visit-iterator.problem l.visit-iterator.route l.visit-iterator.place in

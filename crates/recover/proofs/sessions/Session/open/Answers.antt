@@ -1,3 +1,4 @@
+-- An image stands for one state, so what opening gives is it, or why there is none.
 use Rattle.std.proofs.Common.{sym, subst}
 use Rattle.std.specs.Prelude.{Ok, Err}
 use Rattle.state_codec.specs.declared.version.Version.TheVariants.{Two}
@@ -15,4 +16,5 @@ returns-in-Ok-clause-opens g c honest =
     (subst (λ (s : SessionValue _). StandsFor Two image s.state) (sym c.over.ensures) (stands Two image found.state found.place found.replayed (c.in-Ok.ensures.recovered.found read)))
 
 pub returns-in-Err-clause-opens : goal.returns-in-Err-clause-opens
-returns-in-Err-clause-opens g c honest = opens Two c.images_hold_one_thing.ensures.one c.images_hold_one_thing.ensures.never_both (g.D.Sectors.seen c.args.device) (Err c.in-Err.fault) (c.in-Err.ensures.recovered.found honest)
+returns-in-Err-clause-opens g c honest = opens Two c.images_hold_one_thing.ensures.one c.images_hold_one_thing.ensures.never_both
+    (g.D.Sectors.seen c.args.device) (Err c.in-Err.fault) (c.in-Err.ensures.recovered.found honest)

@@ -1,3 +1,4 @@
+-- One more command makes a run one longer; a run leaves what it promises at each moment.
 use Rattle.std.proofs.Common.{rules, ◌≡◌, ◌+◌, ◌≤◌, List, [], ◌∷◌, ◌++◌, length, sym, ap, subst, ◌∙◌, append_assoc, append-nil, length-append, arith}
 use Rattle.std.specs.Prelude.{is_ok, if◌then◌else◌}
 use Rattle.std.specs.Vec.{vec_capacity}
@@ -15,12 +16,14 @@ loop-command-preserved g c =
     let at = c.loop-command in
     let command = c.in-Some.command in
     let steps : into_iter_items at.command-iterator ≡ command ∷ into_iter_items c.next.new.self = c.in-Some.ensures.steps.0 in
-    let now : c.push.new.self.items ≡ at.replies.items ++ c.apply.result ∷ [] = c.push.ensures.items ∙ ap (λ r. if is_ok r then at.replies.items ++ c.apply.result ∷ [] else at.replies.items) c.unwrap.ensures in
+    let now : c.push.new.self.items ≡ at.replies.items ++ c.apply.result ∷ [] = c.push.ensures.items
+    ∙ ap (λ r. if is_ok r then at.replies.items ++ c.apply.result ∷ [] else at.replies.items) c.unwrap.ensures in
     let room : vec_capacity at.replies ≤ vec_capacity c.push.new.self = search rules in
     let longer : length c.push.new.self.items ≡ length at.replies.items + 1 = ap length now ∙ length-append at.replies.items (c.apply.result ∷ []) in (
       append_assoc at.yielded (command ∷ []) _ ∙ rw (← steps) at.invariant.0,
       subst (λ (replies : List Reply). IsRun d.len d.calls d.faults d.honest d.clock d.possible_since d.possible c.args.self.now (at.yielded ++ command ∷ []) replies c.apply.new.self) (sym now)
-          (run_more d.len d.calls d.faults d.honest d.clock d.possible_since d.possible at.yielded at.replies.items c.args.self.now at.self c.apply.new.self command c.apply.result at.invariant.1 c.apply.ensures),
+          (run_more d.len d.calls d.faults d.honest d.clock d.possible_since d.possible at.yielded at.replies.items c.args.self.now at.self c.apply.new.self
+          command c.apply.result at.invariant.1 c.apply.ensures),
       let was = at.invariant.2 in
           let gone = c.in-Some.ensures.steps.1 in
           let short = ap length steps in

@@ -1,3 +1,4 @@
+-- Behind what is put the sector has zeros, and before it what was put before.
 use Rattle.std.proofs.Common.{◌≡◌, ◌+◌, ◌-◌, ◌≤◌, ◌++◌, ℕ, length, take, sym, ap, ◌∙◌, arith, length-take}
 use Rattle.state_codec.proofs.SectorLemmas.{written_is, is_padded}
 use Rattle.state_codec.proofs.sector.Sector.put.Goals as goal
@@ -22,11 +23,13 @@ module _ (c : goal.After-self-1) where
 pub invariant_of-self : goal.invariant_of-self
 unfolding used k
 invariant_of-self c =
-    let padded-is = is_padded c.self.inside.bytes c.args.text.now c.self.inside.used (c.self.inside.used + length c.args.text.now - c.self.inside.used) (omega arith) (short c) c.self.told c.self.invariant.zeros in
+    let padded-is = is_padded c.self.inside.bytes c.args.text.now c.self.inside.used (c.self.inside.used + length c.args.text.now - c.self.inside.used)
+    (omega arith) (short c) c.self.told c.self.invariant.zeros in
     record { used = short c; zeros = rw c.copy_from_slice.ensures.after padded-is }
 
 pub returns-clause-text : goal.returns-clause-text
 unfolding used k
 returns-clause-text c =
-    let written = written_is c.self.inside.bytes c.args.text.now c.self.inside.used (c.self.inside.used + length c.args.text.now - c.self.inside.used) (omega arith) (short c) c.self.told c.self.invariant.zeros in
+    let written = written_is c.self.inside.bytes c.args.text.now c.self.inside.used (c.self.inside.used + length c.args.text.now - c.self.inside.used)
+    (omega arith) (short c) c.self.told c.self.invariant.zeros in
     rw c.copy_from_slice.ensures.after (written ∙ ap (λ t. t ++ c.args.text.now) c.self.view_is)

@@ -1,3 +1,4 @@
+-- Where all of the stops passed, they are live, each once.
 use Rattle.std.proofs.Common.{sym, ◌∙◌}
 use Rattle.test_plan.proofs.LiveLemmas.{is_live_once, none_left}
 use Rattle.test_plan.proofs.tests.builders.differ_and_live.Goals as goal

@@ -1,8 +1,8 @@
+-- All are live, each once, where those left are.
 use Rattle.std.proofs.Common.{◌≡◌, length}
 use Rattle.test_plan.proofs.LiveLemmas.{live_once}
 use Rattle.test_plan.proofs.tests.builders.differ_and_live.Given as goal
 
--- all are live once where those left are
 abbrev pub invariant-loop-left : goal.invariant-loop-left
 invariant-loop-left l = live_once l.problem l.left ≡ live_once l.problem l.stops
 

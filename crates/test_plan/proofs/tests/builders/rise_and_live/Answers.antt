@@ -1,3 +1,4 @@
+-- Numbers that rise and are live are live, each once.
 use Rattle.std.proofs.Common.{sym, ap, ◌∙◌, arith}
 use Rattle.std.proofs.lemmas.List.{drop_all}
 use Rattle.test_plan.proofs.RiseLemmas.{live_once, rises_live}

@@ -1,3 +1,4 @@
+-- One more visit keeps the limits.
 use Rattle.test_plan.proofs.TableLemmas.{keep-more}
 use Rattle.test_plan.proofs.tests.tables.all_keep.Goals as goal
 

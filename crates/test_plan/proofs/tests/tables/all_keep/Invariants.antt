@@ -1,3 +1,4 @@
+-- The visits so far keep the limits.
 use Rattle.test_plan.proofs.TableLemmas.{KeepTo}
 use Rattle.test_plan.proofs.tests.tables.all_keep.Given as goal
 

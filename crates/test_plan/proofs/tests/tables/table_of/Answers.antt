@@ -1,3 +1,4 @@
+-- The table that is built is that of the route.
 use Rattle.test_plan.proofs.TableLemmas.{built-is}
 use Rattle.test_plan.proofs.tests.tables.table_of.Goals as goal
 

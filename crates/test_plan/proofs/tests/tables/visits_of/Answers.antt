@@ -1,3 +1,4 @@
+-- The visits that are collected are all of the route's.
 use Rattle.std.proofs.lemmas.Iterator.{items_from_collect}
 use Rattle.std.proofs.lemmas.Iterator.Consumers.{YieldsList-from_first}
 use Rattle.route_sched.specs.Visiting.{visits_from}
