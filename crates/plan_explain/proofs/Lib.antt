@@ -1,6 +1,6 @@
 pub mod BehindLemmas
-pub mod BreachLemmas
 pub mod LineLemmas
 pub mod RouteLemmas
 pub mod RowLemmas
+pub mod RuleLemmas
 pub mod SummaryLemmas

@@ -58,26 +58,6 @@ halt_is p route rows k d visit are lt is =
     let row : slice_index_or rows k d ≡ row_behind p route k = ap (λ rs. slice_index_or rs k d) are ∙ get_or-map-range_with_len (row_behind p route) 0 (length route + 1) k k d (omega (arith, within)) (omega arith) in
     ap (λ r. halt_with r visit) row ∙ ap (halt_with (row_behind p route k)) is
 
-nth-range : {X : Type 0} (f : ℕ → X) (a n k : ℕ) → k < n → slice_get (map f (range_with_len a n)) k ≡ Some (f (a + k))
-nth-range f a zero k lt = absurd (omega arith)
-nth-range f a (suc n) zero lt = ap (λ i. Some (f i)) (let e : a ≡ a + 0 = omega arith in e)
-nth-range f a (suc n) (suc k) lt = nth-range f (a + 1) n k (omega arith) ∙ ap (λ i. Some (f i)) (let e : a + 1 + k ≡ a + suc k = omega arith in e)
-
-module _ (p : Instance) (route : List ℕ) (k : ℕ) (o : Option Visit) where
-  here : k ≤ length route → slice_get (visits_from p route 0) k ≡ Some (visit_after p route k)
-  here within = nth-range (visit_after p route) 0 (length route + 1 - 0) k (omega arith) ∙ ap (λ i. Some (visit_after p route i)) (let e : 0 + k ≡ k = omega arith in e)
-
-  same : (o : Option Visit) (v w : Visit) → o ≡ Some v → option_map (λ z. z) o ≡ Some w → v ≡ w
-  same None v w e h = absurd (none_some v e)
-  same (Some z) v w e h = cc
-
-  -- the visit that `nth` finds, and that it finds one
-  pub visit_told : (v : Visit) → k ≤ length route → o ≡ Some v → option_map (λ z. z) o ≡ slice_get (visits_from p route 0) k → v ≡ visit_after p route k
-  visit_told v within e h = same o v _ e (h ∙ here within)
-
-  pub visit_there : k ≤ length route → o ≡ None → option_map (λ z. z) o ≡ slice_get (visits_from p route 0) k → ⊥
-  visit_there within e h = none_some _ (sym (ap (option_map (λ z. z)) e) ∙ h ∙ here within)
-
 -- a place is left
 pub none_left : (p : Instance) (route : List ℕ) (k : ℕ) (left : List Visit) → k ≤ length route → left ≡ visits_from p route k → left ≡ [] → ⊥
 none_left p route k left within is none = absurd (omega (arith, ap length (sym none ∙ is ∙ visits_from-step p route k within)))

@@ -1,10 +1,12 @@
 -- How often a rule is broken, and where else. Routes and places count from 1.
-use Rattle.std.specs.Prelude.{ℕ, ◌==◌, nat_lt, List, [], ◌++◌, codes, decimal, drop, length, take, if◌then◌else◌}
+use Rattle.std.specs.Prelude.{ℕ, List, [], ◌++◌, codes, decimal, drop, length, take}
 use Rattle.std.specs.List.{flat_map}
 use Rattle.plan_types.specs.Instance.{Instance}
-use Rattle.plan_explain.specs.Breaches.{missing_stops, row_breaches, stop_breaches}
+use Rattle.plan_audit.specs.declared.rules.Rule.{Rule}
+use Rattle.plan_audit.specs.declared.rules.Rule.TheVariants.{Missing, Fleet, Pin, PrintedCost}
+use Rattle.rule_breaches.specs.Breaches.{breaches_of, missing_stops}
+use Rattle.rule_breaches.specs.declared.breaches.Breach.{Breach}
 use Rattle.plan_explain.specs.Phrases.{phrase}
-use Rattle.plan_explain.specs.declared.breaches.Breach.{Breach}
 use Rattle.plan_explain.specs.declared.phrases.Phrase.TheVariants.{Broken, Further, FurtherStop, Place, StopAt, Unserved}
 
 abbrev pub place_text : Breach → List ℕ
@@ -21,10 +23,10 @@ missing_stop_text n = (phrase FurtherStop ++ decimal n) ++ codes "\n"
 abbrev pub missing_text : List ℕ → List ℕ
 missing_text stops = (phrase Unserved ++ decimal (length stops)) ++ codes "\n" ++ flat_map missing_stop_text (take 20 stops)
 
--- of a rule by its number; those of fleet and cost have their numbers in their sentences
-abbrev pub further_text : Instance → List (List ℕ) → ℕ → List ℕ
-further_text p routes rule =
-    if rule == 3 then missing_text (missing_stops p routes)
-    else if nat_lt rule 6 then places_text (stop_breaches p routes rule 1 routes)
-    else if nat_lt rule 9 then places_text (row_breaches p rule 1 routes)
-    else []
+-- of a rule; those of fleet and cost have their numbers in their sentences
+abbrev pub further_text : Instance → List (List ℕ) → Rule → List ℕ
+further_text p routes Missing = missing_text (missing_stops p routes)
+further_text p routes Fleet = []
+further_text p routes Pin = []
+further_text p routes PrintedCost = []
+further_text p routes rule = places_text (breaches_of p routes rule)

@@ -21,7 +21,6 @@ pub mod Sentences
 pub mod Summaries
 pub mod Tables
 pub mod Unasked
-pub mod Breaches
 pub mod Further
 pub mod Others
 -- of private functions alone

@@ -2,33 +2,26 @@
 use Rattle.std.specs.Prelude.{ℕ, ◌+◌, ◌-◌, ◌==◌, nat_lt, not, Bool, true, is_none, if◌then◌else◌, List, [], ◌∷◌, ◌++◌, length, Option, Some, None, unwrap_or, decimal}
 use Rattle.std.specs.Fmt.{signed_decimal}
 use Rattle.std.specs.List.{list_any}
-use Rattle.std.specs.Option.{option_map, option_or}
 use Rattle.plan_types.specs.declared.requests.Stop.{Stop}
 use Rattle.plan_types.specs.Instance.{Instance, partner_at, pickup_at, stop_at}
 use Rattle.route_sched.specs.Schedule.{start}
 use Rattle.route_sched.specs.Cost.{total_length, used_count}
 use Rattle.sol_text.specs.declared.read.Solution.{Solution}
-use Rattle.plan_audit.specs.Finding.{place_of}
 use Rattle.plan_audit.specs.Rules.{item_at}
+use Rattle.plan_audit.specs.declared.rules.Rule.{Rule}
+use Rattle.plan_audit.specs.declared.rules.Rule.TheVariants as rules
+use Rattle.rule_breaches.specs.Seats.{first_seat}
+use Rattle.rule_breaches.specs.declared.seats.Seat.{Seat}
 use Rattle.plan_explain.specs.Phrases.{phrase, text_if}
 use Rattle.plan_explain.specs.Tables.{rows_of}
-use Rattle.plan_explain.specs.declared.breaches.Breach.{Breach}
+use Rattle.plan_explain.specs.declared.verdicts.Fault.{Fault}
 use Rattle.plan_explain.specs.declared.phrases.Phrase.{Phrase}
 use Rattle.plan_explain.specs.declared.phrases.Phrase.TheVariants.{UnknownStop, DepotInRoute, NumbersTooHigh, NumbersTooLow, NumbersBelow, VisitedTwice, First, MissingStop, SplitPair, EarlyDelivery, OtherStop, ItsPickup, Stop as StopWord, Is, Stands, Nowhere, AtPlace, OfRoute, Overload, DemandIs, LoadIs, Capacity, LateService, StartsAt, LateReturn, BackAt, Latest, LateBy, TooManyVehicles, Fleet, WrongCost, Driven}
 use Rattle.plan_explain.specs.declared.rows.Row.{Row}
-use Rattle.plan_explain.specs.declared.seats.Seat.{Seat}
 
 -- the stops of a route; route 0 has none
 abbrev pub route_told : List (List ℕ) → ℕ → List ℕ
 route_told routes r = unwrap_or (item_at routes r) []
-
--- the first place of stop n in the routes, where these count from k on
-abbrev pub seat_from : ℕ → ℕ → List (List ℕ) → Option Seat
-seat_from n k [] = None
-seat_from n k (route ∷ routes) = option_or (option_map (λ i. record { route = k; place = i }) (place_of n 1 route)) (seat_from n (k + 1) routes)
-
-abbrev pub first_seat : List (List ℕ) → ℕ → Option Seat
-first_seat routes n = seat_from n 1 routes
 
 abbrev pub seat_text : Option Seat → List ℕ
 seat_text None = phrase Nowhere
@@ -133,17 +126,19 @@ fleet_sentence p routes = phrase TooManyVehicles ++ decimal (used_count routes) 
 abbrev pub cost_sentence : Instance → Solution → List ℕ
 cost_sentence p plan = phrase WrongCost ++ decimal plan.cost ++ phrase Driven ++ decimal (total_length p plan.routes)
 
--- the sentence on a rule, by its number; a printed solution has no pins
-abbrev pub sentence : Instance → Solution → ℕ → Breach → List ℕ
-sentence p plan rule breach =
-    if rule == 1 then unknown_sentence p plan.routes breach.stop
-    else if rule == 2 then twice_sentence plan.routes breach.stop
-    else if rule == 3 then missing_sentence p plan.routes breach.stop
-    else if rule == 4 then split_sentence p plan.routes breach.stop
-    else if rule == 5 then early_sentence p plan.routes breach.stop
-    else if rule == 6 then load_sentence p (row_told p (route_told plan.routes breach.route) breach.place)
-    else if rule == 7 then late_sentence (row_told p (route_told plan.routes breach.route) breach.place)
-    else if rule == 8 then return_sentence p (route_told plan.routes breach.route)
-    else if rule == 9 then fleet_sentence p plan.routes
-    else if rule == 11 then cost_sentence p plan
-    else []
+-- the sentence on a rule; a printed solution has no pins
+abbrev pub rule_sentence : Instance → Solution → Fault → Rule → List ℕ
+rule_sentence p plan f rules.UnknownStop = unknown_sentence p plan.routes f.stop
+rule_sentence p plan f rules.Twice = twice_sentence plan.routes f.stop
+rule_sentence p plan f rules.Missing = missing_sentence p plan.routes f.stop
+rule_sentence p plan f rules.SplitPair = split_sentence p plan.routes f.stop
+rule_sentence p plan f rules.DeliveryFirst = early_sentence p plan.routes f.stop
+rule_sentence p plan f rules.Load = load_sentence p (row_told p (route_told plan.routes f.route) f.place)
+rule_sentence p plan f rules.Late = late_sentence (row_told p (route_told plan.routes f.route) f.place)
+rule_sentence p plan f rules.LateReturn = return_sentence p (route_told plan.routes f.route)
+rule_sentence p plan f rules.Fleet = fleet_sentence p plan.routes
+rule_sentence p plan f rules.Pin = []
+rule_sentence p plan f rules.PrintedCost = cost_sentence p plan
+
+abbrev pub sentence : Instance → Solution → Fault → List ℕ
+sentence p plan f = rule_sentence p plan f f.rule

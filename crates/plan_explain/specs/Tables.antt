@@ -1,5 +1,5 @@
 -- A route as a table: a row for each place, the return to the depot last. Places count from 1.
-use Rattle.std.specs.Prelude.{ℕ, ◌+◌, ◌-◌, Bool, false, nat_lt, List, [], ◌∷◌, ◌++◌, map, length, codes, pos, int_lt}
+use Rattle.std.specs.Prelude.{ℕ, ◌+◌, ◌-◌, List, [], ◌∷◌, ◌++◌, map, length, codes}
 use Rattle.std.specs.List.{flat_map, range_with_len}
 use Rattle.plan_types.specs.Instance.{Instance}
 use Rattle.plan_types.specs.declared.requests.Kind.{Kind}
@@ -9,6 +9,7 @@ use Rattle.route_sched.specs.Schedule.{leg, load, start}
 use Rattle.text_lines.specs.Lines.{ended}
 use Rattle.plan_explain.specs.Columns.{cell, left, right, right_signed}
 use Rattle.plan_explain.specs.Phrases.{phrase, text_if}
+use Rattle.rule_breaches.specs.Limits.{is_late, is_overload}
 use Rattle.plan_explain.specs.declared.halts.Halt.{Halt}
 use Rattle.plan_explain.specs.declared.phrases.Phrase.TheVariants.{LoadsHeading, MarkLate, MarkOverload, StopsHeading, TimesHeading}
 use Rattle.plan_explain.specs.declared.rows.Row.{Row}
@@ -67,21 +68,9 @@ abbrev pub figures_text : Kind → Halt → List ℕ
 figures_text LiLim h = times_text h ++ window_text h.row ++ load_text h
 figures_text Vrp h = arrival_text h ++ right_signed 9 h.row.load
 
--- the vehicle carries more than it can after that place
-abbrev pub is_overload : Instance → Row → Bool
-is_overload p r = int_lt (pos p.capacity) r.load
-
--- it is late there, where times are asked
-abbrev pub late_in : Kind → Row → Bool
-late_in LiLim r = nat_lt r.latest r.start
-late_in Vrp r = false
-
-abbrev pub is_late : Instance → Row → Bool
-is_late p r = late_in p.kind r
-
 -- a row, with a mark where the vehicle carries too much, and one where it is late
 abbrev pub row_text : Instance → Halt → List ℕ
-row_text p h = figures_text p.kind h ++ text_if (is_overload p h.row) MarkOverload ++ text_if (is_late p h.row) MarkLate ++ codes "\n"
+row_text p h = figures_text p.kind h ++ text_if (is_overload p h.row.load) MarkOverload ++ text_if (is_late p h.row.start h.row.latest) MarkLate ++ codes "\n"
 
 abbrev pub table_text : Instance → List ℕ → List ℕ
 table_text p route = heading p.kind ++ flat_map (row_text p) (halts_of p route)

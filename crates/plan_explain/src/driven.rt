@@ -1,14 +1,15 @@
 //! How far the routes of a text drive that is refused for its cost.
 ghost use Rattle.std.specs.Prelude.{◌≡◌, ◌++◌, ℕ, IfOk, string_bytes};
 ghost use Rattle.plan_audit.specs.Verdict.{IsVerdict, printed};
-ghost use Rattle.plan_explain.specs.Explained.{driven_text, knows_ways};
+ghost use Rattle.plan_explain.specs.Explained.{driven_text, verdict_knows_ways};
 
 use crate::phrases::Phrase;
 use crate::sentences::put_named;
 use crate::told::Told;
-use plan_audit::Verdict;
+use plan_audit::{Rule, Verdict};
 use plan_types::{OutOfMemory, Problem, Route};
 use route_sched::total_distance;
+use rule_breaches::knows_ways;
 use std::alloc::Global;
 
 /// How far routes drive, as a line, in the problem's unit; none where a stop is unknown or stands twice, since nobody knows it
@@ -32,18 +33,21 @@ fn put_driven(text: &mut Told, problem: &Problem, routes: &[Route], verdict: Ver
     requires { (cost : ℕ) × IsVerdict problem.now (printed routes.now cost) verdict }
     ensures { text.new ≡ text.old ++ driven_text problem.now routes.now verdict }
 {
-    if knows_ways(verdict) {
+    if verdict_knows_ways(verdict) {
         put_named(text, Phrase::RoutesDrive, total_distance(problem, routes));
         text.push_str("\n");
     }
 }
 
-// Whether no stop is unknown or stands twice.
-fn knows_ways(verdict: Verdict) -> bool
-    ensures { result ≡ knows_ways verdict }
+/// Whether no stop of routes with this verdict is unknown or stands twice: then the vehicles' ways are known.
+pub fn verdict_knows_ways(verdict: Verdict) -> bool
+    ensures { result ≡ verdict_knows_ways verdict }
 {
     match verdict {
         Verdict::Pass(_) => true,
-        Verdict::Broken { rule, .. } => rule > 2,
+        Verdict::Broken { rule, .. } => match Rule::of_number(rule) {
+            Some(rule) => knows_ways(rule),
+            None => false,
+        },
     }
 }

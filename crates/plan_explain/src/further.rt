@@ -1,15 +1,17 @@
 //! How often a rule is broken, and where else.
-ghost use Rattle.std.specs.Prelude.{◌≡◌, ◌<◌, ◌++◌, All, OnOk, drop};
+ghost use Rattle.std.specs.Prelude.{◌≡◌, ◌++◌, All, IsTrue, OnOk, drop};
 ghost use Rattle.std.specs.List.{flat_map};
 ghost use Rattle.route_sched.specs.Route.{AreLiveOnce};
+ghost use Rattle.rule_breaches.specs.Ways.{knows_ways};
 ghost use Rattle.plan_explain.specs.Further.{further_text, missing_stop_text, missing_text, place_text, places_text};
 
-use crate::breaches::{Breach, missing_stops, row_breaches, stop_breaches};
 use crate::firsts::first_of;
 use crate::phrases::Phrase;
 use crate::sentences::put_named;
 use crate::told::Told;
+use plan_audit::Rule;
 use plan_types::{OutOfMemory, Problem, Route};
+use rule_breaches::{Breach, breaches_of, missing_stops};
 use std::alloc::Global;
 
 /// How many further places are told.
@@ -21,20 +23,23 @@ pub(crate) fn put_further(
     text: &mut Told,
     problem: &Problem,
     routes: &[Route],
-    rule: u32,
+    rule: Rule,
 ) -> Result<(), OutOfMemory>
-    requires { 2 < rule → All (AreLiveOnce problem.now) routes.now }
+    requires { IsTrue (knows_ways rule) → All (AreLiveOnce problem.now) routes.now }
     ensures { OnOk result (text.new ≡ text.old ++ further_text problem.now routes.now rule) }
 {
-    if rule == 3 {
-        let stops = missing_stops(alloc, problem, routes)?;
-        put_missing_stops(text, stops.as_slice());
-    } else if rule < 6 {
-        let found = stop_breaches(alloc, problem, routes, rule)?;
-        put_places(text, found.as_slice());
-    } else if rule < 9 {
-        let found = row_breaches(alloc, problem, routes, rule)?;
-        put_places(text, found.as_slice());
+    match rule {
+        Rule::Missing => {
+            let stops = missing_stops(alloc, problem, routes)?;
+            put_missing_stops(text, stops.as_slice());
+        }
+        Rule::Fleet => {}
+        Rule::Pin => {}
+        Rule::PrintedCost => {}
+        _ => {
+            let found = breaches_of(alloc, problem, routes, rule)?;
+            put_places(text, found.as_slice());
+        }
     }
     Ok(())
 }

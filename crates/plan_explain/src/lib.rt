@@ -17,14 +17,13 @@
 //! Modules, in reading order:
 //! - `phrases`, `names`: the words between the figures, the names of fields and keys
 //! - `told`: a text that is told piece by piece
-//! - `seats`: where a stop stands first
 //! - `rows`: what happens at the places of a route
 //! - `halts`: the same with the ways between them and the services
 //! - `tables`: a route as a table
 //! - `summaries`: a line for each route, and the sums
 //! - `sentences`, `shifts`: the sentence on a broken rule; numbers that are all one too high or too low
 //! - `firsts`: the first items of a list
-//! - `breaches`, `further`, `others`: all places that break a rule, how they are told, and how many break each rule behind it
+//! - `further`, `others`: all places that break a rule (`rule_breaches`), how they are told, and how many break each rule behind it
 //! - `verdicts`: what is said of a verdict
 //! - `driven`: how far the routes of a refused text drive
 //! - `cited`, `told_lines`, `numbers`: bytes, lines and words of a refused text
@@ -50,7 +49,6 @@
 #![tactic(auto)]
 
 mod behind;
-mod breaches;
 mod cited;
 mod driven;
 mod firsts;
@@ -67,7 +65,6 @@ mod pair_faults;
 mod phrases;
 mod refused;
 mod rows;
-mod seats;
 mod sentences;
 mod shifts;
 mod sol_faults;
@@ -83,7 +80,7 @@ mod vrp_walk;
 mod words_told;
 
 pub use behind::line_behind_cost;
-pub use driven::explain_driven;
+pub use driven::{explain_driven, verdict_knows_ways};
 pub use halts::{Halt, halts_of, set_off};
 pub use laws::reading_ends_at_the_cost_line;
 pub use refused::{explain_instance_fault, explain_solution_fault};

@@ -1,7 +1,6 @@
 //! What happens at the places of a route: arrival, start of service, window and load.
-ghost use Rattle.std.specs.Prelude.{◌≡◌, ◌+◌, ◌<◌, ◌≤◌, ◌^◌, length, IfOk};
+ghost use Rattle.std.specs.Prelude.{◌≡◌, ◌+◌, ◌<◌, ◌^◌, IfOk};
 ghost use Rattle.route_sched.specs.Route.{AreLiveOnce};
-ghost use Rattle.route_sched.specs.Visiting.{visit_after};
 ghost use Rattle.plan_explain.specs.Rows.{row_after};
 ghost use Rattle.plan_explain.specs.Tables.{rows_of};
 
@@ -64,17 +63,5 @@ fn row_of(place: usize, last: &Visit, visit: &Visit) -> Row
         earliest: visit.stop.earliest,
         latest: visit.stop.latest,
         load: visit.load,
-    }
-}
-
-/// What happens behind this place of a route, the return behind the last one.
-pub(crate) fn visit_behind(problem: &Problem, route: &[u32], place: usize) -> Visit
-    requires route { AreLiveOnce problem.now route.now }
-    requires within { place ≤ length route.now }
-    ensures { result ≡ visit_after problem.now route.now place }
-{
-    match Visits::new(problem, route).nth(place) {
-        Some(visit) => visit,
-        None => unreachable!(),
     }
 }

@@ -5,16 +5,16 @@ ghost use Rattle.std.specs.Option.{option_copied};
 ghost use Rattle.route_sched.specs.Route.{AreLiveOnce};
 ghost use Rattle.route_sched.specs.Cost.{used_count};
 ghost use Rattle.plan_explain.specs.Phrases.{phrase, text_if};
-ghost use Rattle.plan_explain.specs.Sentences.{beside_text, cost_sentence, demand_text, early_sentence, first_seat, fleet_sentence, last_stop, late_sentence, late_text, load_sentence, missing_sentence, pair_text, return_sentence, return_text, seat_text, split_sentence, stands_text, stop_text, twice_sentence, unknown_sentence, unknown_text};
+ghost use Rattle.plan_explain.specs.Sentences.{beside_text, cost_sentence, demand_text, early_sentence, fleet_sentence, last_stop, late_sentence, late_text, load_sentence, missing_sentence, pair_text, return_sentence, return_text, seat_text, split_sentence, stands_text, stop_text, twice_sentence, unknown_sentence, unknown_text};
 
 use crate::phrases::Phrase;
-use crate::rows::{Row, visit_behind};
-use crate::seats::{Seat, first_seat};
+use crate::rows::Row;
 use crate::shifts::put_shift;
 use crate::told::Told;
 use itoa::Integer;
 use plan_types::{Problem, Route, Stop};
 use route_sched::{total_distance, used_count};
+use rule_breaches::{Seat, first_seat, visit_behind};
 use sol_text::Solution;
 
 /// Appends words, and the number behind them.

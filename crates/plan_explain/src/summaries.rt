@@ -7,11 +7,12 @@ ghost use Rattle.plan_explain.specs.Rows.{lines_from};
 ghost use Rattle.plan_explain.specs.Tables.{rows_of};
 
 use crate::phrases::Phrase;
-use crate::rows::{Row, rows_of, visit_behind};
+use crate::rows::{Row, rows_of};
 use crate::sentences::put_phrase;
 use crate::told::Told;
 use plan_types::{OutOfMemory, Problem, Route};
 use route_sched::{route_distance, total_distance};
+use rule_breaches::visit_behind;
 use std::alloc::Global;
 
 /// What a route comes to.

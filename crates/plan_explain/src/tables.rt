@@ -5,7 +5,7 @@ ghost use Rattle.route_sched.specs.Route.{AreLiveOnce};
 ghost use Rattle.text_lines.specs.Lines.{ended};
 ghost use Rattle.plan_explain.specs.Columns.{cell, right};
 ghost use Rattle.plan_explain.specs.Phrases.{phrase};
-ghost use Rattle.plan_explain.specs.Tables.{arrival_text, figures_text, heading, is_late, is_overload, load_text, row_text, stop_rows, stops_table, table_text, times_text, window_text};
+ghost use Rattle.plan_explain.specs.Tables.{arrival_text, figures_text, heading, load_text, row_text, stop_rows, stops_table, table_text, times_text, window_text};
 
 use crate::halts::{Halt, halts_of};
 use crate::phrases::Phrase;
@@ -13,6 +13,7 @@ use crate::rows::Row;
 use crate::sentences::{put_mark, put_phrase};
 use crate::told::Told;
 use plan_types::{Kind, OutOfMemory, Problem};
+use rule_breaches::{is_late, is_overload};
 use std::alloc::Global;
 
 /// Appends the table of a route: each place with the way to it, its times, window, service and load, the return last.
@@ -53,26 +54,14 @@ fn put_row(text: &mut Told, problem: &Problem, halt: &Halt)
     ensures { text.new ≡ text.old ++ row_text problem.now halt.now }
 {
     put_figures(text, problem.kind, halt);
-    put_mark(text, is_overload(problem, &halt.row), Phrase::MarkOverload);
-    put_mark(text, is_late(problem, &halt.row), Phrase::MarkLate);
+    put_mark(
+        text,
+        is_overload(problem, halt.row.load),
+        Phrase::MarkOverload,
+    );
+    let late = is_late(problem, halt.row.start, halt.row.latest);
+    put_mark(text, late, Phrase::MarkLate);
     text.push_str("\n");
-}
-
-/// Whether the vehicle carries more than it can after the place of this row.
-pub(crate) fn is_overload(problem: &Problem, row: &Row) -> bool
-    ensures { result ≡ is_overload problem.now row.now }
-{
-    row.load > i64::from(problem.capacity)
-}
-
-/// Whether it is late there.
-pub(crate) fn is_late(problem: &Problem, row: &Row) -> bool
-    ensures { result ≡ is_late problem.now row.now }
-{
-    match problem.kind {
-        Kind::LiLim => row.start > u64::from(row.latest),
-        Kind::Vrp => false,
-    }
 }
 
 fn put_figures(text: &mut Told, kind: Kind, halt: &Halt)

@@ -1,14 +1,14 @@
 //! What is said of a verdict.
-ghost use Rattle.std.specs.Prelude.{◌≡◌, ◌<◌, ◌++◌, ℕ, All, IfOk, OnOk, string_bytes};
+ghost use Rattle.std.specs.Prelude.{◌≡◌, ◌++◌, ℕ, All, IfOk, IsTrue, OnOk, string_bytes};
 ghost use Rattle.route_sched.specs.Route.{AreLiveOnce};
-ghost use Rattle.plan_audit.specs.Verdict.{IsVerdict, printed};
-ghost use Rattle.plan_explain.specs.Explained.{shown_text, verdict_text};
+ghost use Rattle.plan_audit.specs.Verdict.{IsVerdict, printed, rule_number};
+ghost use Rattle.rule_breaches.specs.Ways.{knows_ways};
+ghost use Rattle.plan_explain.specs.Explained.{fault_text, route_shown, shown_text, verdict_text};
 ghost use Rattle.plan_explain.specs.Further.{further_text};
 ghost use Rattle.plan_explain.specs.Others.{others_text};
 ghost use Rattle.plan_explain.specs.Sentences.{route_told, row_told, sentence};
 ghost use Rattle.plan_audit.specs.declared.rules.Verdict.TheVariants.{Broken};
 
-use crate::breaches::Breach;
 use crate::further::put_further;
 use crate::others::put_others;
 use crate::rows::{Row, rows_of};
@@ -16,8 +16,9 @@ use crate::sentences as say;
 use crate::summaries::put_summary;
 use crate::tables::{put_stops, put_table};
 use crate::told::Told;
-use plan_audit::Verdict;
+use plan_audit::{Rule, Verdict};
 use plan_types::{OutOfMemory, Problem, Route};
+use rule_breaches::knows_ways;
 use sol_text::Solution;
 use std::alloc::Global;
 
@@ -35,23 +36,68 @@ pub fn explain_verdict(
         ≡ verdict_text problem.now solution.now verdict) }
 {
     let mut text = Told::new(alloc);
-    let routes = solution.routes.as_slice();
+    put_verdict(alloc, &mut text, problem, solution, verdict)?;
+    text.into_string()
+}
+
+fn put_verdict(
+    alloc: Global,
+    text: &mut Told,
+    problem: &Problem,
+    solution: &Solution,
+    verdict: Verdict,
+) -> Result<(), OutOfMemory>
+    requires { (cost : ℕ) × IsVerdict problem.now (printed solution.now.routes cost) verdict }
+    ensures { OnOk result (text.new ≡ text.old
+        ++ verdict_text problem.now solution.now verdict) }
+{
     match verdict {
-        Verdict::Pass(_) => put_summary(alloc, &mut text, problem, routes)?,
+        Verdict::Pass(_) => put_summary(alloc, text, problem, solution.routes.as_slice()),
         Verdict::Broken {
             rule,
             route,
             place,
             stop,
         } => {
-            let breach = Breach { route, place, stop };
-            put_sentence(alloc, &mut text, problem, solution, rule, breach)?;
-            text.push_str("\n");
-            put_shown(alloc, &mut text, problem, routes, rule, route)?;
-            put_counts(alloc, &mut text, problem, routes, rule)?;
+            let Some(rule) = Rule::of_number(rule) else {
+                return Ok(());
+            };
+            let fault = Fault {
+                rule,
+                route,
+                place,
+                stop,
+            };
+            put_fault(alloc, text, problem, solution, &fault)
         }
     }
-    text.into_string()
+}
+
+/// What a verdict tells of a broken rule; routes and places count from 1.
+#[derive(Clone, Copy)]
+pub(crate) struct Fault {
+    pub rule: Rule,
+    pub route: u64,
+    pub place: u64,
+    pub stop: u32,
+}
+
+fn put_fault(
+    alloc: Global,
+    text: &mut Told,
+    problem: &Problem,
+    solution: &Solution,
+    fault: &Fault,
+) -> Result<(), OutOfMemory>
+    requires { (cost : ℕ) × IsVerdict problem.now (printed solution.now.routes cost)
+        (Broken (rule_number fault.now.rule) fault.now.route fault.now.place fault.now.stop) }
+    ensures { OnOk result (text.new ≡ text.old ++ fault_text problem.now solution.now fault.now) }
+{
+    let routes = solution.routes.as_slice();
+    put_sentence(alloc, text, problem, solution, fault)?;
+    text.push_str("\n");
+    put_shown(alloc, text, problem, routes, fault.rule, fault.route)?;
+    put_counts(alloc, text, problem, routes, fault.rule)
 }
 
 // How often and where else the rule is broken, and how often each rule behind it.
@@ -60,9 +106,9 @@ fn put_counts(
     text: &mut Told,
     problem: &Problem,
     routes: &[Route],
-    rule: u32,
+    rule: Rule,
 ) -> Result<(), OutOfMemory>
-    requires { 2 < rule → All (AreLiveOnce problem.now) routes.now }
+    requires { IsTrue (knows_ways rule) → All (AreLiveOnce problem.now) routes.now }
     ensures { OnOk result (text.new ≡ text.old ++ (further_text problem.now routes.now rule
         ++ others_text problem.now routes.now rule)) }
 {
@@ -76,32 +122,32 @@ fn put_sentence(
     text: &mut Told,
     problem: &Problem,
     solution: &Solution,
-    rule: u32,
-    breach: Breach,
+    fault: &Fault,
 ) -> Result<(), OutOfMemory>
-    requires { (cost : ℕ) × IsVerdict problem.now (printed solution.now.routes cost)
-        (Broken rule breach.route breach.place breach.stop) }
-    ensures { OnOk result (text.new ≡ text.old
-        ++ sentence problem.now solution.now rule breach) }
+    requires { IsTrue (knows_ways fault.now.rule)
+        → All (AreLiveOnce problem.now) solution.now.routes }
+    ensures { OnOk result (text.new ≡ text.old ++ sentence problem.now solution.now fault.now) }
 {
     let routes = solution.routes.as_slice();
-    let stops = route_told(routes, breach.route);
-    match rule {
-        1 => say::put_unknown(text, problem, routes, breach.stop),
-        2 => say::put_twice(text, routes, breach.stop),
-        3 => say::put_missing(text, problem, routes, breach.stop),
-        4 => say::put_split(text, problem, routes, breach.stop),
-        5 => say::put_early(text, problem, routes, breach.stop),
-        6 => say::put_overload(
-            text,
-            problem,
-            row_told(alloc, problem, stops, breach.place)?,
-        ),
-        7 => say::put_late(text, row_told(alloc, problem, stops, breach.place)?),
-        8 => say::put_late_return(text, problem, stops),
-        9 => say::put_fleet(text, problem, routes),
-        11 => say::put_cost(text, problem, solution),
-        _ => {}
+    let stops = route_told(routes, fault.route);
+    match fault.rule {
+        Rule::UnknownStop => say::put_unknown(text, problem, routes, fault.stop),
+        Rule::Twice => say::put_twice(text, routes, fault.stop),
+        Rule::Missing => say::put_missing(text, problem, routes, fault.stop),
+        Rule::SplitPair => say::put_split(text, problem, routes, fault.stop),
+        Rule::DeliveryFirst => say::put_early(text, problem, routes, fault.stop),
+        Rule::Load => {
+            let row = row_told(alloc, problem, stops, fault.place)?;
+            say::put_overload(text, problem, row);
+        }
+        Rule::Late => {
+            let row = row_told(alloc, problem, stops, fault.place)?;
+            say::put_late(text, row);
+        }
+        Rule::LateReturn => say::put_late_return(text, problem, stops),
+        Rule::Fleet => say::put_fleet(text, problem, routes),
+        Rule::Pin => {}
+        Rule::PrintedCost => say::put_cost(text, problem, solution),
     }
     Ok(())
 }
@@ -112,20 +158,35 @@ fn put_shown(
     text: &mut Told,
     problem: &Problem,
     routes: &[Route],
-    rule: u32,
+    rule: Rule,
     route: u64,
 ) -> Result<(), OutOfMemory>
-    requires { 2 < rule → All (AreLiveOnce problem.now) routes.now }
+    requires { IsTrue (knows_ways rule) → All (AreLiveOnce problem.now) routes.now }
     ensures { OnOk result (text.new ≡ text.old ++ shown_text problem.now routes.now rule route) }
 {
-    if rule == 11 {
-        return put_summary(alloc, text, problem, routes);
+    match rule {
+        Rule::PrintedCost => put_summary(alloc, text, problem, routes),
+        _ => put_route_shown(alloc, text, problem, routes, rule, route),
     }
+}
+
+// The route that is told.
+fn put_route_shown(
+    alloc: Global,
+    text: &mut Told,
+    problem: &Problem,
+    routes: &[Route],
+    rule: Rule,
+    route: u64,
+) -> Result<(), OutOfMemory>
+    requires { IsTrue (knows_ways rule) → All (AreLiveOnce problem.now) routes.now }
+    ensures { OnOk result (text.new ≡ text.old ++ route_shown problem.now routes.now rule route) }
+{
     if route == 0 {
         return Ok(());
     }
     let stops = route_told(routes, route);
-    if rule > 2 {
+    if knows_ways(rule) {
         put_table(alloc, text, problem, stops)
     } else {
         put_stops(text, stops);

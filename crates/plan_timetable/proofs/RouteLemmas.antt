@@ -1,5 +1,36 @@
 -- The limits of a route that is feasible alone.
-use Rattle.std.proofs.Common.{◌≡◌, ℕ, zero, suc, ◌+◌, ◌<◌, ◌≤◌, ◌≤ℤ◌, ℤ, pos, int_lt, ◌&&◌, Bool, true, false, not, T, List, length, slice_index_or, refl, sym, ap, subst, ◌∙◌, arith, inl, inr, nat_le, eqb}
+use Rattle.std.proofs.Common.{
+  ◌≡◌,
+  ℕ,
+  zero,
+  suc,
+  ◌+◌,
+  ◌<◌,
+  ◌≤◌,
+  ◌≤ℤ◌,
+  ℤ,
+  pos,
+  int_lt,
+  ◌&&◌,
+  Bool,
+  true,
+  false,
+  not,
+  T,
+  List,
+  length,
+  slice_index_or,
+  refl,
+  sym,
+  ap,
+  subst,
+  ◌∙◌,
+  arith,
+  inl,
+  inr,
+  nat_le,
+  eqb,
+}
 use Rattle.std.specs.List.{list_all, range_with_len}
 use Rattle.std.proofs.lemmas.Bool.{and_parts, cases_lt, eqb-true, leb-true, or_cases}
 use Rattle.std.proofs.lemmas.Int.{by_lt_z}
@@ -49,7 +80,9 @@ kept_limits p route used feasible =
     record {
       load = λ i from to. at_most (pos p.capacity) (load p route i) (range_true (λ i. not (int_lt (pos p.capacity) (load p route i))) 1 (length route) both.0 i from (omega arith));
       window = λ lilim i from to.
-          leb-true (start p route i) (place p route i).latest (range_true (λ i. nat_le (start p route i) (place p route i).latest) 1 (length route) (timely p route p.kind refl both.1 lilim).0 i from (omega arith));
+          leb-true (start p route i) (place p route i).latest
+          (range_true (λ i. nat_le (start p route i) (place p route i).latest) 1 (length route) (timely p route p.kind refl both.1 lilim).0 i from
+          (omega arith));
       return = λ lilim. elim (or_cases (eqb (length route) 0) (nat_le (start p route (length route + 1)) p.depot.latest) (timely p route p.kind refl both.1 lilim).1) [
         | inl none ↦ absurd (let e = eqb-true (length route) 0 none in omega arith)
         | inr back ↦ leb-true (start p route (length route + 1)) p.depot.latest back
@@ -60,5 +93,6 @@ kept_limits p route used feasible =
 pub row_in : (p : Instance) (route : List ℕ) (halts : List Halt) (k : ℕ) (d : Halt) → halts ≡ halts_of p route → k < length halts → IsRowIn p route (slice_index_or halts k d).row
 row_in p route halts k d are lt =
     let few : length halts ≡ length route + 1 = ap length are ∙ length-map-range_with_len (halt_behind p route) 0 (length route + 1) in
-    let halt : slice_index_or halts k d ≡ halt_behind p route k = ap (λ hs. slice_index_or hs k d) are ∙ get_or-map-range_with_len (halt_behind p route) 0 (length route + 1) k k d (omega (arith, few)) (omega arith) in
+    let halt : slice_index_or halts k d ≡ halt_behind p route k = ap (λ hs. slice_index_or hs k d) are
+    ∙ get_or-map-range_with_len (halt_behind p route) 0 (length route + 1) k k d (omega (arith, few)) (omega arith) in
     subst (λ h. IsRowIn p route h.row) (sym halt) (record { within = omega (arith, few); latest = refl })

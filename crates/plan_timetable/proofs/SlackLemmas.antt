@@ -98,7 +98,8 @@ module _ (p : Instance) (route : List ℕ) where
     goes_on : (i t : ℕ) → ((k : ℕ) → i < k → k ≤ length route + 1 → t ≤ latest_for p route i k) → GoesOn p route i t
     goes_on i t each = λ _ k h to.
         let way : i + (k - i) ≡ k = omega arith in
-        let late : moved_along (place p route) i t k ≤ max (t + time_between p route i k) (start p route k) = subst (λ j. moved_along (place p route) i t j ≤ max (t + time_between p route i j) (start p route j)) way (not_after i t (k - i)) in
+        let late : moved_along (place p route) i t k ≤ max (t + time_between p route i k) (start p route k) = subst
+        (λ j. moved_along (place p route) i t j ≤ max (t + time_between p route i j) (start p route j)) way (not_after i t (k - i)) in
         omega (arith, moved-is p route i t k, late, each k h to, fits i k h to, in_time k (omega arith) to)
 
     -- and the other way round

@@ -1,5 +1,5 @@
 -- A timetable as text: the block of each vehicle that is used, then the unplanned requests, each with why it is so. Vehicles count from 1.
-use Rattle.std.specs.Prelude.{ℕ, ◌+◌, ◌==◌, nat_le, Bool, true, false, List, [], ◌∷◌, ◌++◌, length, if◌then◌else◌}
+use Rattle.std.specs.Prelude.{ℕ, ◌+◌, ◌==◌, Bool, true, false, List, [], ◌∷◌, ◌++◌, length, if◌then◌else◌}
 use Rattle.std.specs.Fmt.{signed_decimal}
 use Rattle.std.specs.List.{flat_map}
 use Rattle.plan_types.specs.Instance.{Instance}
@@ -7,7 +7,7 @@ use Rattle.plan_types.specs.declared.requests.Kind.{Kind}
 use Rattle.plan_types.specs.declared.requests.Kind.TheVariants.{LiLim, Vrp}
 use Rattle.text_lines.specs.Lines.{ended}
 use Rattle.plan_audit.specs.declared.rules.Verdict.{Verdict}
-use Rattle.plan_audit.specs.declared.rules.Verdict.TheVariants.{Broken, Pass}
+use Rattle.plan_explain.specs.Explained.{verdict_knows_ways}
 use Rattle.plan_explain.specs.Summaries.{summary_of, wait}
 use Rattle.plan_explain.specs.Tables.{set_off}
 use Rattle.plan_explain.specs.declared.summaries.Summary.{Summary}
@@ -23,7 +23,26 @@ use Rattle.plan_timetable.specs.declared.entries.Role.TheVariants as role
 use Rattle.plan_timetable.specs.declared.forms.Form.{Form}
 use Rattle.plan_timetable.specs.declared.forms.Form.TheVariants.{Columns, Tabs}
 use Rattle.plan_timetable.specs.declared.words.Word.{Word}
-use Rattle.plan_timetable.specs.declared.words.Word.TheVariants.{Vehicle, Stops, Distance, Load, SetOff, Return, Waiting, TimesHeading, LoadsHeading, Stop, Pickup, Delivery, Single, Back, PinMayEnd, PinMayNotEnd, Gap, Unplanned}
+use Rattle.plan_timetable.specs.declared.words.Word.TheVariants.{
+  Vehicle,
+  Stops,
+  Distance,
+  Load,
+  SetOff,
+  Return,
+  Waiting,
+  TimesHeading,
+  LoadsHeading,
+  Stop,
+  Pickup,
+  Delivery,
+  Single,
+  Back,
+  PinMayEnd,
+  PinMayNotEnd,
+  Gap,
+  Unplanned,
+}
 
 -- by tabs each line of a stop names its vehicle
 abbrev pub lead : Form → ℕ → List ℕ
@@ -125,5 +144,4 @@ timetable_text form p pins routes unplanned = blocks_from form p 1 routes ++ unp
 
 -- that of a printed solution, which has no pins; none where a stop is unknown or stands twice
 abbrev pub judged_text : Form → Instance → List (List ℕ) → List ℕ → Verdict → List ℕ
-judged_text form p routes unplanned (Pass cost) = timetable_text form p [] routes unplanned
-judged_text form p routes unplanned (Broken rule r i n) = if nat_le rule 2 then [] else timetable_text form p [] routes unplanned
+judged_text form p routes unplanned verdict = if verdict_knows_ways verdict then timetable_text form p [] routes unplanned else []

@@ -6,12 +6,13 @@ ghost use Rattle.plan_timetable.specs.Timetable.{judged_text};
 use crate::forms::Form;
 use crate::timetables::timetable;
 use plan_audit::Verdict;
+use plan_explain::verdict_knows_ways;
 use plan_types::{OutOfMemory, Problem};
 use sol_text::Solution;
 use std::alloc::Global;
 
 /// The timetable of a printed solution with this verdict, which has no pins, and with the names of the unplanned requests. It has no line
-/// where a stop is unknown or stands twice (rules 1 and 2): then nobody knows when a vehicle comes.
+/// where a stop is unknown or stands twice: then nobody knows when a vehicle comes.
 pub fn judged_timetable(
     alloc: Global,
     problem: &Problem,
@@ -25,13 +26,9 @@ pub fn judged_timetable(
         ≡ judged_text form problem.now solution.now.routes unplanned.now verdict) }
 {
     let routes = solution.routes.as_slice();
-    match verdict {
-        Verdict::Pass(_) => timetable(alloc, problem, &[], routes, unplanned, form),
-        Verdict::Broken { rule, .. } => {
-            if rule <= 2 {
-                return Ok(String::new(alloc));
-            }
-            timetable(alloc, problem, &[], routes, unplanned, form)
-        }
+    if verdict_knows_ways(verdict) {
+        timetable(alloc, problem, &[], routes, unplanned, form)
+    } else {
+        Ok(String::new(alloc))
     }
 }

@@ -1,6 +1,6 @@
 use Rattle.std.proofs.Common.{◌∙◌, sym}
-use Rattle.plan_explain.proofs.RouteLemmas.{live_known}
+use Rattle.plan_explain.proofs.RouteLemmas.{live_driven}
 use Rattle.plan_explain.proofs.driven.put_driven.Goals as goal
 
 pub total_distance-requires : goal.total_distance-requires
-total_distance-requires c = live_known c.args.problem.now c.args.routes.now c.requires.0 c.args.verdict (sym c.knows_ways.ensures ∙ c.if-knows_ways.true) c.requires.1
+total_distance-requires c = live_driven c.args.problem.now c.args.routes.now c.requires.0 c.args.verdict (sym c.verdict_knows_ways.ensures ∙ c.if-verdict_knows_ways.true) c.requires.1

@@ -1,3 +1,4 @@
+-- The halt at an index is the row of that place.
 use Rattle.plan_timetable.proofs.RouteLemmas.{row_in}
 use Rattle.plan_timetable.proofs.entries.entries_at.Goals as goal
 

@@ -1,3 +1,4 @@
+-- The first stops of a route are live, each once, as the route's are.
 use Rattle.route_sched.proofs.LiveStops.{front_once}
 use Rattle.plan_timetable.proofs.fronts.may_end.Goals as goal
 

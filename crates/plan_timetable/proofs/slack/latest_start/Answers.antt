@@ -1,3 +1,4 @@
+-- The latest start is the lesser of the stop's own end and of what the places behind it allow.
 use Rattle.std.proofs.Common.{◌∙◌, min, sym, ap, subst}
 use Rattle.slack_tables.specs.Latest.{IsLimitOfStarts}
 use Rattle.plan_timetable.proofs.SlackLemmas.{limited, unlimited}

@@ -1,0 +1,5 @@
+use Rattle.rule_breaches.proofs.VerdictLemmas.{verdicts_tell_first}
+use Rattle.rule_breaches.proofs.laws.verdicts_tell_first_breaches.Goals as goal
+
+pub returns : goal.returns
+returns c = verdicts_tell_first c.lists_hold_all_breaches.ensures
