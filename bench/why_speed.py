@@ -2,8 +2,9 @@
 """How long the program takes to tell why requests are in no route: `timetable` of a plan of pairs with a hundred further pairs beside it.
 
 The problem and its plan are made here. A vehicle drives from stop to stop of its route, two pickups and then their deliveries, and each window lies
-round the time when it comes: a minute at `tight`, the whole day at `loose`. The further pairs stand anywhere, with a window of a few minutes. The
-time is that of a table with them, less that of one without, by the program that `./planner` builds.
+round the time when it comes: a minute at `tight`, the whole day else. The further pairs stand anywhere, with a window of a few minutes at `tight`
+and `loose`. At `open` and `full` their windows too are the whole day, and no load is too much: the day ends long after the last return, so that
+nearly all fits, or with the longest route's, so that nothing fits into that and the end of its route alone is late. The time is that of a table with them, less that of one without, by the program that `./planner` builds.
 
     bench/why_speed.py [STOPS ROUTES]..
 """
@@ -18,7 +19,9 @@ import time
 TOP = pathlib.Path(__file__).resolve().parent.parent
 PROGRAM = TOP / "crates" / "planner" / "out" / "planner"
 SIZES = [(1_000, 50), (1_000, 10), (1_000, 1)]
-PAIRS, SIDE, SERVICE, CAPACITY, SPARE = 100, 1_000, 10, 40, 200
+PAIRS, SIDE, SERVICE = 100, 1_000, 10
+# Of each kind: what a vehicle carries, and how long the day is behind the last return.
+KINDS = {"tight": (40, 200), "loose": (40, 200), "open": (1_000, 100_000), "full": (1_000, 0)}
 
 
 class Sequence:
@@ -57,8 +60,9 @@ def problem(kind, stops, routes, pairs):
     """The text of an instance and that of its plan."""
     words = Sequence()
     depot, rows, end, cost = planned(words, stops, routes)
-    day = end + SPARE
-    lines = [f"{routes + pairs} {CAPACITY} 1", f"0 {depot[0]} {depot[1]} 0 0 {day} 0 0 0"]
+    capacity, spare = KINDS[kind]
+    day = end + spare
+    lines = [f"{routes + pairs} {capacity} 1", f"0 {depot[0]} {depot[1]} 0 0 {day} 0 0 0"]
     for number, (there, now, partner, goods) in enumerate(rows, 1):
         earliest, latest = (max(0, now - 30), min(day, now + 30)) if kind == "tight" else (0, day)
         ends = f"0 {partner}" if goods > 0 else f"{partner} 0"
@@ -66,9 +70,11 @@ def problem(kind, stops, routes, pairs):
     for number in range(stops + 1, stops + 2 * pairs, 2):
         a, b = [(words.below(SIDE), words.below(SIDE)) for _ in range(2)]
         goods, begin = words.below(30) + 5, distance(depot, a)
-        latest = begin + 300 + SERVICE + distance(a, b)
-        lines.append(f"{number} {a[0]} {a[1]} {goods} {begin} {begin + 300} {SERVICE} 0 {number + 1}")
-        lines.append(f"{number + 1} {b[0]} {b[1]} {-goods} {begin} {latest + 300} {SERVICE} {number} 0")
+        first, then = begin + 300, begin + 600 + SERVICE + distance(a, b)
+        if kind in ("open", "full"):
+            begin, first, then = 0, day, day
+        lines.append(f"{number} {a[0]} {a[1]} {goods} {begin} {first} {SERVICE} 0 {number + 1}")
+        lines.append(f"{number + 1} {b[0]} {b[1]} {-goods} {begin} {then} {SERVICE} {number} 0")
     long = stops // routes
     plan = [f"Route #{k + 1}: " + " ".join(str(k * long + n) for n in range(1, long + 1)) for k in range(routes)]
     return "\n".join(lines) + "\n", "\n".join(plan) + f"\nCost {cost}\n"
@@ -88,7 +94,7 @@ def main(words):
     sizes = list(zip(map(int, words[::2]), map(int, words[1::2]))) or SIZES
     with tempfile.TemporaryDirectory() as name:
         folder = pathlib.Path(name)
-        for kind in ("tight", "loose"):
+        for kind in KINDS:
             for stops, routes in sizes:
                 without, few = seconds(folder, problem(kind, stops, routes, 0))
                 whole, many = seconds(folder, problem(kind, stops, routes, PAIRS))

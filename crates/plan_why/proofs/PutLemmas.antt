@@ -25,7 +25,8 @@ use Rattle.move_ops.proofs.Times.{none_some}
 use Rattle.plan_explain.specs.Tables.{arrival, row_behind, rows_of}
 use Rattle.plan_explain.specs.declared.rows.Row.{Row}
 use Rattle.plan_why.specs.Missed.{is_heavy, is_late, lateness_at, lateness_in, miss_in, miss_of, overload_at, overload_in}
-use Rattle.plan_why.specs.Puts.{IsDetour, IsLight, IsNumberOf, IsTour, found_in, found_then, laden, miss_behind, moved_from, moved_row, put_row, route_with}
+use Rattle.plan_why.specs.Moved.{moved_from, moved_row}
+use Rattle.plan_why.specs.Puts.{IsDetour, IsLight, IsNumberOf, IsTour, found_in, found_then, laden, miss_behind, put_row, route_with}
 use Rattle.plan_why.specs.declared.missed.Miss.{Miss}
 use Rattle.plan_why.specs.declared.puts.Detour.{Detour}
 use Rattle.plan_why.specs.declared.puts.Found.{Found}

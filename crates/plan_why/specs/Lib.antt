@@ -6,5 +6,7 @@ pub mod Trials
 pub mod Why
 pub mod Words
 -- what those of private functions say
+pub mod Latests
+pub mod Moved
 pub mod Puts
 pub mod Tried

@@ -1,5 +1,5 @@
 -- One stop more in a route whose rows are known: those before it stay, it gets a row of its own, and those behind it are moved.
-use Rattle.std.specs.Prelude.{◌≡◌, ℕ, ◌+◌, ◌-◌, max, ℤ, pos, ◌+ℤ◌, List, [], ◌∷◌, map, length, drop, Option, None, Some, Bool, false, nat_lt}
+use Rattle.std.specs.Prelude.{◌≡◌, ℕ, ◌+◌, ◌-◌, max, ℤ, pos, ◌+ℤ◌, List, map, length, drop, Option, None, Some, Bool, false, nat_lt}
 use Rattle.std.specs.List.{insert}
 use Rattle.std.specs.Option.{option_or}
 use Rattle.plan_types.specs.Instance.{Instance}
@@ -11,6 +11,8 @@ use Rattle.route_sched.specs.Schedule.{leg, route_length}
 use Rattle.plan_explain.specs.Tables.{rows_of}
 use Rattle.plan_explain.specs.declared.rows.Row.{Row}
 use Rattle.plan_why.specs.Missed.{excess, excess_of, lateness_in, overload_in}
+use Rattle.plan_why.specs.Latests.{AreLatests}
+use Rattle.plan_why.specs.Moved.{moved_from}
 use Rattle.plan_why.specs.declared.missed.Miss.{Miss}
 use Rattle.plan_why.specs.declared.puts.Detour.{Detour}
 use Rattle.plan_why.specs.declared.puts.Found.{Found}
@@ -37,27 +39,13 @@ put_row here service way s = record {
   load = here.load +ℤ s.demand;
 }
 
+-- when the vehicle comes to what is behind a stop that is put in behind this row
+abbrev pub arrival_with : Tour → Detour → Row → ℕ
+arrival_with tour detour here = (put_row here detour.service detour.to tour.stop.now).start + tour.stop.now.service + detour.from
+
 -- rows with another load
 abbrev pub laden : ℤ → List Row → List Row
 laden change rows = map (λ (r : Row). record r { load = r.load +ℤ change }) rows
-
--- a row one place later, with another arrival and load
-abbrev pub moved_row : ℕ → ℤ → Row → Row
-moved_row arrival change r = record {
-  place = r.place + 1;
-  stop = r.stop;
-  arrival = arrival;
-  start = max arrival r.earliest;
-  earliest = r.earliest;
-  latest = r.latest;
-  load = r.load +ℤ change;
-}
-
--- so with each of some rows, where the vehicle begins at one time in place of another
-abbrev pub moved_from : ℕ → ℕ → ℤ → List Row → List Row
-moved_from now before change [] = []
-moved_from now before change (r ∷ rows) =
-    moved_row (now + (r.arrival - before)) change r ∷ moved_from (max (now + (r.arrival - before)) r.earliest) r.start change rows
 
 -- the first limit that is exceeded, where this was found before these rows
 abbrev pub miss_behind : Instance → Found → ℕ → ℕ → ℤ → List Row → Option Miss
@@ -69,6 +57,7 @@ pub record IsTour (p : Instance) (tour : Tour) : Type 0 where
   pub once : AreLiveOnce p tour.route.now
   pub rows : tour.rows.now ≡ rows_of p tour.route.now
   pub long : length tour.rows.now ≡ length tour.route.now + 1
+  pub latests : AreLatests tour.rows.now tour.latests.now
   pub distance : tour.distance ≡ route_length p tour.route.now
   pub visit : IsVisit tour.stop.now
 

@@ -13,12 +13,15 @@
 //!
 //! How a pair is tried: for each place of the pickup the route's rows are moved as far as it delays them, and for each place of the
 //! delivery what was found before it is handed on. The rows behind are moved only up to the first limit that is exceeded, and the places
-//! left are passed over once a load is exceeded by more than the best trial misses. So no place copies or drives a route.
+//! left are passed over once a load is exceeded by more than the best trial misses. So no place copies or drives a route. Nor are rows
+//! moved where the way is no shorter than the best trial's, if that exceeds no limit, or one by 1 and the vehicle comes too late for
+//! what is behind: what misses something misses 1 at least.
 //!
 //! Modules, in reading order:
 //! - `words`: the words between the figures
 //! - `leads`: what stands before each line, where lines of several requests stand together
 //! - `missed`: the first limit that a route exceeds
+//! - `latests`: the latest arrival at each row: a vehicle that comes later is late there or behind it
 //! - `puts`: one stop more in a route whose rows are known
 //! - `trials`: a request at each place of a route
 //! - `sentences`: the lines
@@ -34,6 +37,7 @@
 #![tactic(auto)]
 
 mod answers;
+mod latests;
 mod laws;
 mod leads;
 mod missed;

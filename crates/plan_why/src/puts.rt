@@ -6,8 +6,9 @@ ghost use Rattle.std.specs.Prelude.{◌≡◌, ◌<◌, ◌≤◌, ◌+◌, ◌-
 ghost use Rattle.plan_types.specs.declared.requests.Kind.TheVariants.{LiLim};
 ghost use Rattle.plan_explain.specs.Tables.{rows_of};
 ghost use Rattle.plan_explain.specs.declared.rows.Row.{Row};
-ghost use Rattle.plan_why.specs.Missed.{lateness_in, miss_of, overload_in};
-ghost use Rattle.plan_why.specs.Puts.{IsDetour, IsLight, IsNumberOf, IsTour, found_in, found_then, laden, miss_behind, moved_from, moved_row, put_row, route_with};
+ghost use Rattle.plan_why.specs.Missed.{excess_of, lateness_in, miss_of, overload_in};
+ghost use Rattle.plan_why.specs.Moved.{moved_from, moved_row};
+ghost use Rattle.plan_why.specs.Puts.{IsDetour, IsLight, IsNumberOf, IsTour, arrival_with, found_in, found_then, laden, miss_behind, put_row, route_with};
 
 use crate::missed::{Limit, Miss, is_heavy, lateness_in, overload_at, overload_in, time_limit};
 use nint_dist::dist;
@@ -169,6 +170,8 @@ fn put_row(here: &Row, service: u32, way: u32, stop: &Stop) -> Option<Row>
 pub(crate) struct Tour<'a> {
     pub route: &'a [u32],
     pub rows: &'a [Row],
+    /// The latest arrival at each of them.
+    pub latests: &'a [u64],
     /// How far the vehicle drives.
     pub distance: u64,
     pub stop: &'a Stop,
@@ -227,6 +230,33 @@ pub(crate) fn miss_with(
     let found = front.then(found_in(problem, &[row]));
     let miss = miss_behind(problem, found, rows, at, arrival, stop, are_light)?;
     Some(miss)
+}
+
+/// Whether the bounds of the rows tell that the route exceeds a limit with the stop put in there.
+pub(crate) fn is_missed(problem: &Problem, tour: &Tour<'_>, detour: &Detour, at: usize) -> bool
+    requires tour { IsTour problem.now tour.now }
+    requires within { (1 ≤ at) × (at ≤ length tour.now.route.now) }
+    requires detour { IsDetour problem.now tour.now at detour.now }
+    ensures { result ≡ true → (number : ℕ) → IsNumberOf problem.now tour.now number
+        → 1 ≤ excess_of (miss_of problem.now (route_with tour.now at number)) }
+{
+    match problem.kind {
+        Kind::LiLim => match arrival_with(tour, detour, at) {
+            Some(arrival) => tour.latests[at] < arrival,
+            None => false,
+        },
+        Kind::Vrp => false,
+    }
+}
+
+// When the vehicle comes to what is behind the stop, put in behind the first `at` stops; `None` says nothing.
+fn arrival_with(tour: &Tour<'_>, detour: &Detour, at: usize) -> Option<u64>
+    requires { (1 ≤ at) × (at ≤ length tour.now.rows.now) }
+    ensures { (d : Row) → IfSome result (λ arrival. arrival ≡ arrival_with tour.now detour.now
+        (slice_index_or tour.now.rows.now (at - 1) d)) }
+{
+    let row = put_row(&tour.rows[at - 1], detour.service, detour.to, tour.stop)?;
+    arrival_behind(&row, tour.stop, detour)
 }
 
 /// How far the vehicle drives then; `None` says nothing.

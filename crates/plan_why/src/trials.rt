@@ -6,12 +6,14 @@ ghost use Rattle.route_sched.specs.Schedule.{route_length};
 ghost use Rattle.plan_explain.specs.Tables.{rows_of};
 ghost use Rattle.plan_types.specs.declared.requests.Request.TheVariants.{Pair, Single};
 ghost use Rattle.move_ops.specs.Insertion.{inserted};
-ghost use Rattle.plan_why.specs.Puts.{IsBase, IsLight, IsNumberOf, IsPicked, IsTour, found_in, is_settled, route_with};
+ghost use Rattle.plan_why.specs.Puts.{IsBase, IsDetour, IsLight, IsNumberOf, IsPicked, IsTour, found_in, is_settled, route_with};
 ghost use Rattle.plan_why.specs.Trials.{MayTake, best_from, best_trial, better, is_better, judged, trial_at};
 
+use crate::latests::latests_of;
 use crate::missed::{Miss, excess_of, miss_of};
 use crate::puts::{
-    Detour, Found, Tour, are_light, distance_with, found_at, found_in, miss_with, rows_with,
+    Detour, Found, Tour, are_light, distance_with, found_at, found_in, is_missed, miss_with,
+    rows_with,
 };
 use plan_explain::{Row, rows_of};
 use plan_types::{OutOfMemory, Problem, Request, Stop};
@@ -84,9 +86,11 @@ fn best_pair(
     let whole = with_pair(alloc, route, pickup, delivery, last, last + 1)?;
     let stop = stop_behind(problem, whole.as_slice(), route.len());
     let rows = rows_of(alloc, problem, route)?;
+    let latests = latests_of(alloc, rows.as_slice())?;
     let base = Tour {
         route,
         rows: rows.as_slice(),
+        latests: latests.as_slice(),
         distance: route_distance(problem, route),
         stop,
     };
@@ -140,9 +144,11 @@ fn best_delivery(
     let stop = stop_behind(problem, whole.as_slice(), route.len() + 1);
     let picked = &whole.as_slice()[..route.len() + 1];
     let rows = picked_rows(alloc, problem, base, picked, place)?;
+    let latests = latests_of(alloc, rows.as_slice())?;
     let tour = Tour {
         route: picked,
         rows: rows.as_slice(),
+        latests: latests.as_slice(),
         distance: picked_distance(problem, base, picked, place),
         stop,
     };
@@ -258,8 +264,11 @@ fn better_with(
         → new ≡ better best (judged problem.now (route_with tour.now at number) pickup (at + 1))) }
 {
     let detour = Detour::of(problem, tour, at);
-    let miss = miss_with(problem, tour, front, &detour, at, are_light)?;
     let distance = distance_with(tour.distance, &detour)?;
+    if is_beaten(problem, tour, &detour, at, distance, &best) {
+        return Some(best);
+    }
+    let miss = miss_with(problem, tour, front, &detour, at, are_light)?;
     let trial = Trial {
         miss,
         distance,
@@ -268,6 +277,38 @@ fn better_with(
     };
     let new = better(best, trial);
     Some(new)
+}
+
+// Whether the best so far stays the best beside what comes of the tour with its stop there, which drives so far: it misses no more than
+// that is known to miss.
+fn is_beaten(
+    problem: &Problem,
+    tour: &Tour<'_>,
+    detour: &Detour,
+    at: usize,
+    distance: u64,
+    best: &Option<Trial>,
+) -> bool
+    requires tour { IsTour problem.now tour.now }
+    requires within { (1 ≤ at) × (at ≤ length tour.now.route.now) }
+    requires detour { IsDetour problem.now tour.now at detour.now }
+    requires far { distance + detour.now.way
+        ≡ tour.now.distance + detour.now.to + detour.now.from }
+    ensures { result ≡ true → (number pickup : ℕ) → IsNumberOf problem.now tour.now number
+        → best.now ≡ better best.now
+        (judged problem.now (route_with tour.now at number) pickup (at + 1)) }
+{
+    let Some(best) = best else {
+        return false;
+    };
+    if distance < best.distance {
+        return false;
+    }
+    match excess_of(&best.miss) {
+        0 => true,
+        1 => is_missed(problem, tour, detour, at),
+        _ => false,
+    }
 }
 
 fn single_trial(

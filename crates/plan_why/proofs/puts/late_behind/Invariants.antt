@@ -1,7 +1,7 @@
 use Rattle.std.proofs.Common.{◌≡◌, drop, pos}
 use Rattle.plan_types.specs.declared.requests.Kind.TheVariants.{LiLim}
 use Rattle.plan_why.specs.Missed.{lateness_in}
-use Rattle.plan_why.specs.Puts.{moved_from}
+use Rattle.plan_why.specs.Moved.{moved_from}
 use Rattle.plan_why.proofs.puts.late_behind.Given as goal
 
 -- the rows that are left have the answer of all

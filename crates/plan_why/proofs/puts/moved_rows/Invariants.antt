@@ -1,5 +1,5 @@
 use Rattle.std.proofs.Common.{◌≡◌, ◌∷◌, ◌++◌, take, drop}
-use Rattle.plan_why.specs.Puts.{moved_from}
+use Rattle.plan_why.specs.Moved.{moved_from}
 use Rattle.plan_why.proofs.puts.moved_rows.Given as goal
 
 -- the rows so far and those to come are all

@@ -1,6 +1,6 @@
 use Rattle.std.proofs.Common.{◌≡◌, ◌∙◌, ◌∷◌, ◌++◌, Option, Vec, Global, IfSome, get_or, take, drop, subst, pos}
 use Rattle.plan_explain.specs.declared.rows.Row.{Row}
-use Rattle.plan_why.specs.Puts.{moved_from}
+use Rattle.plan_why.specs.Moved.{moved_from}
 use Rattle.plan_why.proofs.PutLemmas.{rows_told}
 use Rattle.plan_why.proofs.puts.rows_with.Goals as goal
 

@@ -5,6 +5,7 @@ use Rattle.std.proofs.lemmas.List.FromFn.{length-map-range_with_len}
 use Rattle.route_sched.specs.Route.{AreLiveOnce, place}
 use Rattle.route_sched.proofs.LiveStops.{front_once}
 use Rattle.plan_explain.specs.Tables.{row_behind}
+use Rattle.plan_why.specs.Latests.{AreLatests}
 use Rattle.plan_why.proofs.PutLemmas.{place_put, take_last}
 use Rattle.plan_why.proofs.trials.best_delivery.Goals as goal
 
@@ -43,11 +44,14 @@ best_behind-requires-clause-tour c =
     let p = c.args.problem.now in
     let end = length c.args.route.now + 1 in
     let picked = take end c.as_slice-2.result.now in
-    let is = c.as_slice-3.ensures.value ∙ c.in_ok-rows.ensures in
+    let is = c.as_slice-4.ensures.value ∙ c.in_ok-rows.ensures in
+    let latests = subst (λ ls. AreLatests c.as_slice-4.result.now ls) (sym c.as_slice-5.ensures.value)
+    (subst (λ rs. AreLatests rs c.in_ok-latests.latests.items) (c.as_slice-3.ensures.value ∙ sym c.as_slice-4.ensures.value) c.in_ok-latests.ensures) in
     record {
       once = front_once p c.as_slice-2.result.now end (subst (AreLiveOnce p) (sym (c.as_slice-2.ensures.value ∙ c.in_ok-whole.ensures)) (c.requires.once.once c.args.place (length c.args.route.now + 2)));
       rows = is;
       long = ap length is ∙ length-map-range_with_len (row_behind p picked) 0 (length picked + 1);
+      latests = latests;
       distance = c.picked_distance.ensures;
       visit = c.stop_behind-stop.ensures.visit;
     }

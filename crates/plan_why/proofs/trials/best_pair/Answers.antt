@@ -1,9 +1,10 @@
-use Rattle.std.proofs.Common.{◌≡◌, ◌∙◌, ◌+◌, ◌-◌, refl, ap, sym, arith, length}
+use Rattle.std.proofs.Common.{◌≡◌, ◌∙◌, ◌+◌, ◌-◌, refl, ap, sym, subst, arith, length}
 use Rattle.std.specs.List.{insert}
 use Rattle.std.proofs.lemmas.List.Edits.{length-insert}
 use Rattle.std.proofs.lemmas.List.FromFn.{length-map-range_with_len}
 use Rattle.route_sched.specs.Route.{place}
 use Rattle.plan_explain.specs.Tables.{row_behind}
+use Rattle.plan_why.specs.Latests.{AreLatests}
 use Rattle.plan_why.proofs.PutLemmas.{live_without, place_before_put, place_put}
 use Rattle.plan_why.proofs.trials.best_pair.Goals as goal
 
@@ -24,7 +25,9 @@ best_pickup-requires-clause-base c =
     let n = length route in
     let a = c.args.pickup.now.number in
     let b = c.args.delivery.now.number in
-    let is = c.as_slice-2.ensures.value ∙ c.in_ok-rows.ensures in
+    let is = c.as_slice-3.ensures.value ∙ c.in_ok-rows.ensures in
+    let latests = subst (λ ls. AreLatests c.as_slice-3.result.now ls) (sym c.as_slice-4.ensures.value)
+    (subst (λ rs. AreLatests rs c.in_ok-latests.latests.items) (c.as_slice-2.ensures.value ∙ sym c.as_slice-3.ensures.value) c.in_ok-latests.ensures) in
     let whole = c.as_slice.ensures.value ∙ c.in_ok-whole.ensures in
     let last : n + 1 - 1 ≡ n = omega arith in
     let longer : length (insert route (n + 1 - 1) a) ≡ n + 1 = length-insert route (n + 1 - 1) a (omega arith) in
@@ -34,6 +37,7 @@ best_pickup-requires-clause-base c =
         once = live_without p route a b (n + 1 - 1) (n + 1 + 1 - 1) (omega arith) (omega arith) (c.requires.once (n + 1) (n + 1 + 1));
         rows = is;
         long = ap length is ∙ length-map-range_with_len (row_behind p route) 0 (n + 1);
+        latests = latests;
         distance = c.route_distance.ensures.value;
         visit = c.stop_behind-stop.ensures.visit;
       };
