@@ -14,11 +14,27 @@ pub answer_is : (routes_alone : Bool) (kind : Kind) (instance solution : List �
 answer_is false kind instance solution (BadInstance f) answer is told = inl (record { fault = f; first = is; told = told })
 answer_is false kind instance solution (BadSolution f) answer is told = inr (inl (record { problem = is.problem; spelled = is.spelled; fault = f; first = is.first; told = told }))
 answer_is false kind instance solution (Judged p plan v) answer is told =
-    inr (inr (record { problem = p; problem_spelled = is.problem_spelled; problem_kept = is.problem_kept; plan = plan; plan_spelled = is.plan_spelled; verdict = record { verdict = v; is_verdict = is.is_verdict; told = told } }))
+    inr (inr (record {
+      problem = p;
+      problem_spelled = is.problem_spelled;
+      problem_kept = is.problem_kept;
+      plan = plan;
+      plan_spelled = is.plan_spelled;
+      verdict = record { verdict = v; is_verdict = is.is_verdict; told = told };
+    }))
 answer_is true kind instance solution (BadInstance f) answer is told = inl (record { fault = f; first = is; told = told })
 answer_is true kind instance solution (BadSolution f) answer is told = inr (inl (record { problem = is.problem; spelled = is.spelled; fault = f; first = is.first; told = told }))
 answer_is true kind instance solution (Judged p plan v) answer is told =
-    inr (inr (record { problem = p; problem_spelled = is.problem_spelled; problem_kept = is.problem_kept; plan = plan; plan_spelled = is.plan_spelled; verdict = v; is_verdict = is.is_verdict; told = told }))
+    inr (inr (record {
+      problem = p;
+      problem_spelled = is.problem_spelled;
+      problem_kept = is.problem_kept;
+      plan = plan;
+      plan_spelled = is.plan_spelled;
+      verdict = v;
+      is_verdict = is.is_verdict;
+      told = told;
+    }))
 
 pub has_verdict : RoutesAreJudgedByTrueCost → (routes_alone : Bool) (kind : Kind) (instance solution : List ℕ) (e : Examined) → IsExaminedBy routes_alone kind instance solution e → HasVerdictOfSome e
 has_verdict law false kind instance solution (BadInstance f) is = tt

@@ -1,3 +1,4 @@
+-- The lemma files, which upper crates may cite.
 pub mod ExaminedLemmas
 pub mod FileLemmas
 pub mod ListLemmas

@@ -40,7 +40,8 @@ read_in_turn instance solution was now (inr unread) = first_unread unread.2
     first_unread (inr two) = ((solution, Err unread.1) ∷ (instance, Ok two.1.0) ∷ [], two.1.1)
 
 -- what is told of the files that a line of the list names is told of the line
-pub told_of_listed : (routes_alone : Bool) (k other : Kind) → other ≡ k → (path l instance solution : List ℕ) (best : Option BestCost) → IsListedPair k l instance solution best → (was now : Standing) (answer : List ℕ) (status : ℕ)
+pub told_of_listed : (routes_alone : Bool) (k other : Kind) → other ≡ k → (path l instance solution : List ℕ) (best : Option BestCost)
+    → IsListedPair k l instance solution best → (was now : Standing) (answer : List ℕ) (status : ℕ)
     → now.lines ≡ next_number was.lines
     → IsToldOfFilesBy (IsListedAnswer routes_alone other best) instance solution was.files now.files answer status
     → TellsOfSolution (listed_line path now.lines solution) instance solution was.files now.files was.errors now.errors

@@ -1,5 +1,34 @@
 -- The lines of the text that is read where the routes alone are asked.
-use Rattle.std.proofs.Common.{◌≡◌, ◌≢◌, ◌∙◌, inl, inr, ℕ, zero, suc, ◌-◌, Bool, true, false, List, [], ◌∷◌, ◌++◌, codes, length, map, take, refl, sym, ap, arith, append_assoc, length-append, length-take, get_or-take}
+use Rattle.std.proofs.Common.{
+  ◌≡◌,
+  ◌≢◌,
+  ◌∙◌,
+  inl,
+  inr,
+  ℕ,
+  zero,
+  suc,
+  ◌-◌,
+  Bool,
+  true,
+  false,
+  List,
+  [],
+  ◌∷◌,
+  ◌++◌,
+  codes,
+  length,
+  map,
+  take,
+  refl,
+  sym,
+  ap,
+  arith,
+  append_assoc,
+  length-append,
+  length-take,
+  get_or-take,
+}
 use Rattle.std.specs.Prelude.{All, if◌then◌else◌}
 use Rattle.std.specs.List.{flat_map, slice_index}
 use Rattle.std.specs.Str.Lines.{strip_carriage_return}

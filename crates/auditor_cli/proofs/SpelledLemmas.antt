@@ -30,7 +30,8 @@ judges_spelled kind instance solution answer (inr (inr judges)) p s a b =
 abbrev IsVerdictOf : Instance → Solution → Verdict → Type 0
 IsVerdictOf p s v = IsVerdict p (printed s.routes s.cost) v
 
-says_by : (law : SolutionsPassWhereSound) (kind : Kind) (instance solution : List ℕ) (answer : AuditAnswer) (p : Instance) (s : Solution) (v : Verdict) → SpellsInstance kind instance p → Spells solution s → IsInstance p
+says_by : (law : SolutionsPassWhereSound) (kind : Kind) (instance solution : List ℕ) (answer : AuditAnswer) (p : Instance) (s : Solution) (v : Verdict)
+    → SpellsInstance kind instance p → Spells solution s → IsInstance p
     → IsVerdictOf p s v → answer ≡ verdict_answer v → SaysSound kind instance solution answer
 says_by law kind instance solution answer p s (Pass cost) a b kept is told =
     let sound = (law p s.routes s.cost (Pass cost) kept is).0 (ap (λ c. Pass c) is.1) in (
@@ -58,7 +59,8 @@ says_sound law kind instance solution answer (inr (inl refuses)) = (
   λ sound. absurd (sound.plan_spelled.0 refuses.fault.line refuses.fault.kind refuses.first.0),
 )
 says_sound law kind instance solution answer (inr (inr judges)) =
-    says_by law kind instance solution answer judges.problem judges.plan judges.verdict.verdict judges.problem_spelled judges.plan_spelled judges.problem_kept judges.verdict.is_verdict judges.verdict.told
+    says_by law kind instance solution answer judges.problem judges.plan judges.verdict.verdict judges.problem_spelled judges.plan_spelled judges.problem_kept
+    judges.verdict.is_verdict judges.verdict.told
 
 -- ---- the routes alone
 
@@ -82,7 +84,8 @@ says_routes_by law true_cost kind instance solution answer p s (Broken rule rout
       absurd cc,
 )
 
-pub says_routes_sound : (law : SolutionsPassWhereSound) (true_cost : RoutesAreJudgedByTrueCost) (kind : Kind) (instance solution : List ℕ) (answer : AuditAnswer) → IsRoutesAnswer kind instance solution answer → SaysRoutesSound kind instance solution answer
+pub says_routes_sound : (law : SolutionsPassWhereSound) (true_cost : RoutesAreJudgedByTrueCost) (kind : Kind) (instance solution : List ℕ)
+    (answer : AuditAnswer) → IsRoutesAnswer kind instance solution answer → SaysRoutesSound kind instance solution answer
 says_routes_sound law true_cost kind instance solution answer (inl refuses) = (
   λ zero. let two : answer.status ≡ 2 = ap (λ (x : AuditAnswer). x.status) refuses.told in absurd (omega (arith, zero, two)),
   λ sound. absurd (no_fault kind instance sound.problem sound.problem_spelled refuses.first.0 refuses.fault.line refuses.fault.kind refuses.first.1),

@@ -1,5 +1,39 @@
 -- A list that is read line by line.
-use Rattle.std.proofs.Common.{◌≡◌, ◌≢◌, ◌∙◌, inl, inr, ℕ, ◌+◌, ◌-◌, Bool, true, false, List, [], ◌∷◌, ◌++◌, Option, Result, Ok, Err, ◌⊎◌, length, get_or, take, drop, refl, sym, ap, subst, arith, append_assoc, append-nil, length-take, get_or-take}
+use Rattle.std.proofs.Common.{
+  ◌≡◌,
+  ◌≢◌,
+  ◌∙◌,
+  inl,
+  inr,
+  ℕ,
+  ◌+◌,
+  ◌-◌,
+  Bool,
+  true,
+  false,
+  List,
+  [],
+  ◌∷◌,
+  ◌++◌,
+  Option,
+  Result,
+  Ok,
+  Err,
+  ◌⊎◌,
+  length,
+  get_or,
+  take,
+  drop,
+  refl,
+  sym,
+  ap,
+  subst,
+  arith,
+  append_assoc,
+  append-nil,
+  length-take,
+  get_or-take,
+}
 use Rattle.std.specs.Prelude.{All, max}
 use Rattle.std.specs.List.{concat, flat_map}
 use Rattle.std.specs.Io.{StopsAt}
@@ -110,10 +144,12 @@ module _ (path : List ℕ) (was : List FileRead) where
 -- ---- the list so far
 
 -- what is told of the lines that were handed on is told of what was read
-pub told_of_line : (routes_alone : Bool) (k : Kind) (path : List ℕ) (next mid later : Standing) (now after : Option (List ℕ)) (line : List ℕ) (lines : List (List ℕ)) (s : ℕ) → mid ≡ read_more (path, Ok line) next → lines ≡ lines_of line
+pub told_of_line : (routes_alone : Bool) (k : Kind) (path : List ℕ) (next mid later : Standing) (now after : Option (List ℕ)) (line : List ℕ)
+    (lines : List (List ℕ)) (s : ℕ) → mid ≡ read_more (path, Ok line) next → lines ≡ lines_of line
     → TellsLines (IsAudited routes_alone k path) lines mid later now after s → TellsLines (IsAudited routes_alone k path) (lines_of line) (read_more (path, Ok line) next) later now after s
 told_of_line routes_alone k path next mid later now after line lines s noted are told =
-    read_as (IsAudited routes_alone k path) (lines_of line) mid (read_more (path, Ok line) next) later now after s noted (lines_as (IsAudited routes_alone k path) lines (lines_of line) mid later now after s are told)
+    read_as (IsAudited routes_alone k path) (lines_of line) mid (read_more (path, Ok line) next) later now after s noted
+    (lines_as (IsAudited routes_alone k path) lines (lines_of line) mid later now after s are told)
 
 module _ (routes_alone : Bool) (k : Kind) (path : List ℕ) (was : Standing) (before : Option (List ℕ)) where
   pub record IsSoFar (next : Standing) (now : Option (List ℕ)) (n : ℕ) : Type 0 where
@@ -128,7 +164,8 @@ module _ (routes_alone : Bool) (k : Kind) (path : List ℕ) (was : Standing) (be
 
   module _ (next later : Standing) (now after : Option (List ℕ)) (n : ℕ) (so_far : IsSoFar next now n) where
     -- a line was read and told
-    pub one_more : (line : List ℕ) (s : ℕ) → IsEnded line → TellsLines (IsAudited routes_alone k path) (lines_of line) (read_more (path, Ok line) next) later now after s → IsSoFar later after (max n s)
+    pub one_more : (line : List ℕ) (s : ℕ) → IsEnded line
+        → TellsLines (IsAudited routes_alone k path) (lines_of line) (read_more (path, Ok line) next) later now after s → IsSoFar later after (max n s)
     one_more line s is told = record {
       lines = so_far.lines ++ line ∷ [];
       ended_lines = All-push IsEnded so_far.lines line so_far.ended_lines is;
@@ -175,7 +212,8 @@ module _ (routes_alone : Bool) (k : Kind) (path : List ℕ) (was : Standing) (be
     )
 
 -- it can't be opened
-pub unopened : (routes_alone : Bool) (k : Kind) (path : List ℕ) (was now : Standing) (before after : Option (List ℕ)) (error : ErrorKind) (status : ℕ) → now ≡ read_more (path, Err error) was → TellsUnread path error before after status
+pub unopened : (routes_alone : Bool) (k : Kind) (path : List ℕ) (was now : Standing) (before after : Option (List ℕ)) (error : ErrorKind) (status : ℕ)
+    → now ≡ read_more (path, Err error) was → TellsUnread path error before after status
     → TellsTaken routes_alone k path was now before after status
 unopened routes_alone k path was now before after error status noted told =
     broken_off routes_alone k path was before was now before after 0 (nothing_taken routes_alone k path was before) error status noted (told.0 ∙ most) told.1

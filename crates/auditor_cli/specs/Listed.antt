@@ -1,5 +1,36 @@
 -- What is told of a list of pairs of files, line by line. `was` is what is known before, and `now` behind it.
-use Rattle.std.specs.Prelude.{◌≡◌, ◌⊎◌, ℕ, ◌+◌, ◌-◌, ◌==◌, nat_lt, ◌&&◌, ◌||◌, not, Bool, if◌then◌else◌, List, [], ◌∷◌, ◌++◌, All, length, slice_index_or, take, drop, codes, Option, Some, None, Ok, Err, max, option_and_then, option_map}
+use Rattle.std.specs.Prelude.{
+  ◌≡◌,
+  ◌⊎◌,
+  ℕ,
+  ◌+◌,
+  ◌-◌,
+  ◌==◌,
+  nat_lt,
+  ◌&&◌,
+  ◌||◌,
+  not,
+  Bool,
+  if◌then◌else◌,
+  List,
+  [],
+  ◌∷◌,
+  ◌++◌,
+  All,
+  length,
+  slice_index_or,
+  take,
+  drop,
+  codes,
+  Option,
+  Some,
+  None,
+  Ok,
+  Err,
+  max,
+  option_and_then,
+  option_map,
+}
 use Rattle.std.specs.Io.KnownBytes.{Appends}
 use Rattle.std.specs.List.{concat, flat_map, position_or_len}
 use Rattle.std.specs.Str.{IsUtf8}

@@ -11,30 +11,30 @@ use std::marker::Model;
 
 /// A line of text, without its line end.
 #[derive(Debug, Drop)]
-pub struct Line {
+pub struct AuditLine {
     bytes: Vec<u8>,
 }
 
-impl Model for Line {
+impl Model for AuditLine {
     ghost Value = { List ℕ };
 
     ghost view = { λ l. l.bytes.items };
 }
 
-impl From<String> for Line {
+impl From<String> for AuditLine {
     ghost use Rattle.std.specs.Prelude.{◌≡◌, string_bytes};
 
     ghost from_gives = { λ text line. line ≡ string_bytes text };
 
     /// Takes no memory.
-    fn from(text: String) -> Line {
-        Line {
+    fn from(text: String) -> AuditLine {
+        AuditLine {
             bytes: text.into_bytes(),
         }
     }
 }
 
-impl Line {
+impl AuditLine {
     /// The bytes of the line.
     pub fn as_bytes(&self) -> &[u8]
         ensures { result.now ≡ self.now }
@@ -43,19 +43,19 @@ impl Line {
     }
 
     /// The line with a further text behind it.
-    pub fn with(self, text: &str) -> Result<Line, OutOfMemory>
+    pub fn with(self, text: &str) -> Result<AuditLine, OutOfMemory>
         ensures { IfOk result (λ line. line ≡ self ++ text.now) }
     {
         let mut bytes = self.into_vec();
         bytes.extend_from_slice(text.as_bytes())?;
-        Ok(Line { bytes })
+        Ok(AuditLine { bytes })
     }
 
     /// Gives the bytes back, without taking memory.
     pub fn into_vec(self) -> Vec<u8>
         ensures { result.items ≡ self }
     {
-        let Line { bytes } = self;
+        let AuditLine { bytes } = self;
         bytes
     }
 }
@@ -63,13 +63,13 @@ impl Line {
 /// What the program prints for an audit, and the status that it ends with.
 #[derive(Debug, Drop)]
 pub struct AuditAnswer {
-    pub line: Line,
+    pub line: AuditLine,
     /// 0 for a solution that passes, 1 for a broken rule, 2 for a text that is refused.
     pub status: u8,
 }
 
 /// The line for a solution that breaks no rule: `pass UNPLANNED VEHICLES DISTANCE`.
-pub fn pass_line(alloc: Global, cost: Cost) -> Result<Line, OutOfMemory>
+pub fn pass_line(alloc: Global, cost: Cost) -> Result<AuditLine, OutOfMemory>
     ensures { IfOk result (λ line. line ≡ pass_text cost) }
 {
     let Cost {
@@ -78,11 +78,11 @@ pub fn pass_line(alloc: Global, cost: Cost) -> Result<Line, OutOfMemory>
         distance,
     } = cost;
     let text = format!(in alloc; "pass {unplanned} {vehicles} {distance}")?;
-    Ok(Line::from(text))
+    Ok(AuditLine::from(text))
 }
 
 /// The line for a plan that leaves requests out: `partial UNPLANNED VEHICLES DISTANCE`.
-pub fn partial_line(alloc: Global, cost: Cost) -> Result<Line, OutOfMemory>
+pub fn partial_line(alloc: Global, cost: Cost) -> Result<AuditLine, OutOfMemory>
     ensures { IfOk result (λ line. line ≡ partial_text cost) }
 {
     let Cost {
@@ -91,11 +91,11 @@ pub fn partial_line(alloc: Global, cost: Cost) -> Result<Line, OutOfMemory>
         distance,
     } = cost;
     let text = format!(in alloc; "partial {unplanned} {vehicles} {distance}")?;
-    Ok(Line::from(text))
+    Ok(AuditLine::from(text))
 }
 
 /// The line for a plan that breaks no rule: it passes, or is partial.
-pub fn planned_line(alloc: Global, cost: Cost) -> Result<Line, OutOfMemory>
+pub fn planned_line(alloc: Global, cost: Cost) -> Result<AuditLine, OutOfMemory>
     ensures { IfOk result (λ line. line ≡ planned_text cost) }
 {
     if cost.unplanned == 0 {
@@ -112,17 +112,22 @@ pub fn broken_line(
     route: u64,
     place: u64,
     stop: u32,
-) -> Result<Line, OutOfMemory>
+) -> Result<AuditLine, OutOfMemory>
     ensures { IfOk result (λ line. line ≡ broken_text rule route place stop) }
 {
     let text = format!(in alloc; "broken {rule} route {route} place {place} stop {stop}")?;
-    Ok(Line::from(text))
+    Ok(AuditLine::from(text))
 }
 
 /// The line for a text that is refused: `TEXT NAME LINE`, with the name of its fault. Lines count from 1.
-pub fn fault_line(alloc: Global, text: &str, name: &str, line: u64) -> Result<Line, OutOfMemory>
+pub fn fault_line(
+    alloc: Global,
+    text: &str,
+    name: &str,
+    line: u64,
+) -> Result<AuditLine, OutOfMemory>
     ensures { IfOk result (λ answer. answer ≡ fault_text text.now name.now line) }
 {
     let answer = format!(in alloc; "{text} {name} {line}")?;
-    Ok(Line::from(answer))
+    Ok(AuditLine::from(answer))
 }

@@ -6,7 +6,7 @@ ghost use Rattle.auditor_cli.specs.Behind.{TellsOfSolution, listed_line};
 ghost use Rattle.auditor_cli.specs.Compared.{IsComparedAnswer, IsListedAnswer, compared_answer, compared_verdict};
 ghost use Rattle.auditor_cli.specs.Files.{AreReadInTurn, TellsFilesBy};
 
-use crate::answer::{AuditAnswer, Line, pass_line};
+use crate::answer::{AuditAnswer, AuditLine, pass_line};
 use crate::audit::{Examined, answer_of, audit_by, examine_by, verdict_told};
 use crate::audited::read_both;
 use crate::behind::{ListLine, tell_listed_behind};
@@ -128,7 +128,7 @@ fn compared_verdict(
 }
 
 // The line for a solution that breaks no rule, and behind it how its cost compares.
-fn compared_line(alloc: Global, best: &BestKnown, cost: Cost) -> Result<Line, OutOfMemory>
+fn compared_line(alloc: Global, best: &BestKnown, cost: Cost) -> Result<AuditLine, OutOfMemory>
     ensures { IfOk result (λ line. line ≡ pass_text cost ++ comparison_text best.now cost) }
 {
     let line = pass_line(alloc, cost)?;

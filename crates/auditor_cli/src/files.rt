@@ -200,31 +200,23 @@ impl<'a, R: Files<File = File> + Eprint> WriteFiles for HostNewFiles<'a, R> {
     }
 }
 
-// Fails where something stands under the path, be it a link that leads nowhere, or where its folder is not there.
-fn look_under<R: Files>(rt: &R, path: &str) -> io::Result<()> {
-    match fs::symlink_metadata(rt, path) {
-        Ok(_) => Err(io::Error::from(ErrorKind::AlreadyExists)),
-        Err(error) if error.kind() == ErrorKind::NotFound => look_for_folder(rt, path),
-        Err(error) => Err(error),
-    }
+// Fails where no new file can be made under the path: one is made and removed. So what a folder refuses is told before a long search.
+fn look_under<R: Files<File = File>>(rt: &R, path: &str) -> io::Result<()> {
+    open_new(rt, path)?;
+    fs::remove_file(rt, path)
 }
 
-fn look_for_folder<R: Files>(rt: &R, path: &str) -> io::Result<()> {
-    match Path::new(path).parent() {
-        Some(folder) if !folder.as_str().is_empty() => {
-            fs::metadata(rt, folder)?;
-            Ok(())
-        }
-        _ => Ok(()),
-    }
+// A file where nothing stands, be it a link that leads nowhere.
+fn open_new<R: Files<File = File>>(rt: &R, path: &str) -> io::Result<File> {
+    OpenOptions::new()
+        .write(true)
+        .create_new(true)
+        .open(rt, path)
 }
 
 // Writes a new file and puts it and its name on the disk. One that could not be written whole is removed.
 fn write_under<R: Files<File = File>>(rt: &R, path: &str, text: &[u8]) -> io::Result<()> {
-    let mut file = OpenOptions::new()
-        .write(true)
-        .create_new(true)
-        .open(rt, path)?;
+    let mut file = open_new(rt, path)?;
     let written = match write_whole(&mut file, text) {
         Ok(()) => sync_folder(rt, path),
         failed => failed,

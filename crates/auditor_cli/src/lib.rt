@@ -63,7 +63,7 @@ pub mod status;
 mod telling;
 mod usage;
 
-pub use answer::{AuditAnswer, Line, planned_line};
+pub use answer::{AuditAnswer, AuditLine, planned_line};
 pub use audit::{Examined, answer_of, audit_routes_text, audit_text, examine};
 pub use audited::{audit_noted, read_both};
 pub use auditing::audit_words;

@@ -1,14 +1,93 @@
 -- What the program's command makes of words that do not begin with a hyphen.
-use Rattle.std.proofs.Common.{◌≡◌, ◌∙◌, ◌⊎◌, ◌==◌, ◌&&◌, ◌||◌, Result, Ok, Err, IsErrAnd, option_map, subst, ℕ, Bool, true, false, not, refl, sym, ap, ap₂, List, [], ◌∷◌, ◌++◌, Option, Some, None, codes, Bor, inl, inr, true≢false, append_assoc, append-nil}
+use Rattle.std.proofs.Common.{
+  ◌≡◌,
+  ◌∙◌,
+  ◌⊎◌,
+  ◌==◌,
+  ◌&&◌,
+  ◌||◌,
+  Result,
+  Ok,
+  Err,
+  IsErrAnd,
+  option_map,
+  subst,
+  ℕ,
+  Bool,
+  true,
+  false,
+  not,
+  refl,
+  sym,
+  ap,
+  ap₂,
+  List,
+  [],
+  ◌∷◌,
+  ◌++◌,
+  Option,
+  Some,
+  None,
+  codes,
+  Bor,
+  inl,
+  inr,
+  true≢false,
+  append_assoc,
+  append-nil,
+}
 use Rattle.std.specs.Prelude.{drop, find, fold, is_some}
-use Rattle.clap.specs.Words.{App, Kinds, Row, Rule, Shape, Text, HasKind, HasMatchesOf, app_of, fault_of, first_of, first_value, is_simple, is_simple_and_free, kind_of, found_of, rows_of, subcommand_name_of, subcommand_of, subcommand_rows_of, IsAmong}
+use Rattle.clap.specs.Words.{
+  App,
+  Kinds,
+  Row,
+  Rule,
+  Shape,
+  Text,
+  HasKind,
+  HasMatchesOf,
+  app_of,
+  fault_of,
+  first_of,
+  first_value,
+  is_simple,
+  is_simple_and_free,
+  kind_of,
+  found_of,
+  rows_of,
+  subcommand_name_of,
+  subcommand_of,
+  subcommand_rows_of,
+  IsAmong,
+}
 use Rattle.clap.specs.declared.parser.ArgMatches.{ArgMatches}
 use Rattle.clap.specs.declared.builder.Command.{Command}
 use Rattle.clap.specs.declared.error.Error.{Error}
 use Rattle.clap.specs.declared.parser.matches.Found.{Found}
 use Rattle.clap.specs.declared.parser.matches.ArgMatches.TheViews.{out-ArgMatches, out-SubCommand}
 use Rattle.std.specs.Box.{box_value}
-use Rattle.clap.specs.Walk.{Held, Names, Walk, answers_to, arg_by_index, finished, idle, is_multiple, next_position, nothing_held, positional_held, settled, stop_after, subcommand_met, subcommand_or_other, to_positional, value, walk, walk_from, walked}
+use Rattle.clap.specs.Walk.{
+  Held,
+  Names,
+  Walk,
+  answers_to,
+  arg_by_index,
+  finished,
+  idle,
+  is_multiple,
+  next_position,
+  nothing_held,
+  positional_held,
+  settled,
+  stop_after,
+  subcommand_met,
+  subcommand_or_other,
+  to_positional,
+  value,
+  walk,
+  walk_from,
+  walked,
+}
 use Rattle.clap.specs.Simple.{built, built_leaf, entered, label_of, names_of, rows_at}
 use Rattle.clap.specs.Faults.{built_fault, check_fault, defaults_fault, entered_fault, level_fault, other_fault, settle_fault, step_fault, turn_fault, walk_fault}
 use Rattle.clap.specs.declared.error.kind.ErrorKind.TheVariants as kind
@@ -24,8 +103,79 @@ use Rattle.std.proofs.lemmas.Slice.Eq.{bytes_eq-Decides}
 use Rattle.clap.proofs.WalkLemmas.{first_value-rows, list_any-map}
 use Rattle.clap.proofs.OnLiterals.{clap_on_literals}
 use Rattle.command_line.specs.declared.words.Invocation.{Invocation}
-use Rattle.command_line.specs.Asked.{ArePositional, Asked, IsRefusal, PathsAsked, ReadsWords, adopt_asked, adopt_in, asked_by, asked_with, asks_help, audit, check, deviation_or_none, draw_asked, draw_in, explain, format, is_positional_word, judged_asked, judged_from, judged_in, kind_named, list_asked, list_from, list_in, load, load_asked, load_from, load_in, run, run_asked, run_in, seed_named, solve, solves, steps_named, store_asked, store_in, store_instance, task_asked, task_from, task_in, tasks_asked, tasks_from, tasks_in, timetable_asked, timetable_in, told_by, told_by_other, told_of, told_of_store, upgrade_asked, upgrade_in, usage_status_of}
-use Rattle.command_line.specs.CommandLine.{IsKindNames, IsModeNames, IsPlannerCommand, adopt_app, audits_app, draw_app, load_app, paths_app, planner_app, run_app, solve_app, solves_app, store_app, timetable_app, upgrade_app}
+use Rattle.command_line.specs.Asked.{
+  ArePositional,
+  Asked,
+  IsRefusal,
+  PathsAsked,
+  ReadsWords,
+  adopt_asked,
+  adopt_in,
+  asked_by,
+  asked_with,
+  asks_help,
+  audit,
+  check,
+  deviation_or_none,
+  draw_asked,
+  draw_in,
+  explain,
+  format,
+  is_positional_word,
+  judged_asked,
+  judged_from,
+  judged_in,
+  kind_named,
+  list_asked,
+  list_from,
+  list_in,
+  load,
+  load_asked,
+  load_from,
+  load_in,
+  run,
+  run_asked,
+  run_in,
+  seed_named,
+  solve,
+  solves,
+  steps_named,
+  store_asked,
+  store_in,
+  store_instance,
+  task_asked,
+  task_from,
+  task_in,
+  tasks_asked,
+  tasks_from,
+  tasks_in,
+  timetable_asked,
+  timetable_in,
+  told_by,
+  told_by_other,
+  told_of,
+  told_of_store,
+  upgrade_asked,
+  upgrade_in,
+  usage_status_of,
+}
+use Rattle.command_line.specs.CommandLine.{
+  IsKindNames,
+  IsModeNames,
+  IsPlannerCommand,
+  adopt_app,
+  audits_app,
+  draw_app,
+  load_app,
+  paths_app,
+  planner_app,
+  run_app,
+  solve_app,
+  solves_app,
+  store_app,
+  timetable_app,
+  upgrade_app,
+}
 
 -- ---- a word that does not begin with a hyphen is a value
 
@@ -405,7 +555,8 @@ module _ (Help : Type 0) where
   judged_store does name (w ∷ []) = inl (refl, refl)
   judged_store does name (w ∷ x ∷ rest) = inr (inl (refl, tt), refl)
 
-  judged_run : (modes : Bor (List (Bor Text))) → IsModeNames modes → (words : List Text) → IsJudged Help (leaf_fault (run_shape modes) words) (run_asked words) (run_in (leaf_rows (run_shape modes) words))
+  judged_run : (modes : Bor (List (Bor Text))) → IsModeNames modes → (words : List Text)
+      → IsJudged Help (leaf_fault (run_shape modes) words) (run_asked words) (run_in (leaf_rows (run_shape modes) words))
   unfolding clap_on_literals
   judged_run modes named [] = inr (inl (refl, tt), refl)
   judged_run modes named (w ∷ []) = inl (refl, refl)
@@ -502,7 +653,9 @@ help_fault names modes words = tt
 
 abbrev all_names : Names
 all_names =
-    (codes "audit", []) ∷ (codes "audits", []) ∷ (codes "explain", []) ∷ (codes "timetable", []) ∷ (codes "draw", []) ∷ (codes "solve", []) ∷ (codes "solves", []) ∷ (codes "format", []) ∷ (codes "load", []) ∷ (codes "run", []) ∷ (codes "adopt", []) ∷ (codes "instance", []) ∷ (codes "check", []) ∷ (codes "upgrade", []) ∷ (codes "help", []) ∷ []
+    (codes "audit", []) ∷ (codes "audits", []) ∷ (codes "explain", []) ∷ (codes "timetable", []) ∷ (codes "draw", []) ∷ (codes "solve", []) ∷
+    (codes "solves", []) ∷ (codes "format", []) ∷ (codes "load", []) ∷ (codes "run", []) ∷ (codes "adopt", []) ∷ (codes "instance", []) ∷
+    (codes "check", []) ∷ (codes "upgrade", []) ∷ (codes "help", []) ∷ []
 
 -- the word is no subcommand's name
 record IsOther (w : Text) : Type 0 where
@@ -523,7 +676,23 @@ record IsOther (w : Text) : Type 0 where
   no_solves : bytes_eq (codes "solves") w ≡ false
 
 no_subcommand : (w : Text) → IsOther w → bytes_eq (codes "help") w ≡ false → subcommand_met all_names idle w ≡ None
-no_subcommand w o h = rw (o.no_audit, o.no_audits, o.no_explain, o.no_draw, o.no_solve, o.no_format, o.no_load, o.no_run, o.no_adopt, o.no_instance, o.no_check, o.no_upgrade, o.no_timetable, o.no_solves, h) refl
+no_subcommand w o h = rw (
+  o.no_audit,
+  o.no_audits,
+  o.no_explain,
+  o.no_draw,
+  o.no_solve,
+  o.no_format,
+  o.no_load,
+  o.no_run,
+  o.no_adopt,
+  o.no_instance,
+  o.no_check,
+  o.no_upgrade,
+  o.no_timetable,
+  o.no_solves,
+  h,
+) refl
 
 turn_fault-stray : (s : Shape) (w : Text) → IsOther w → bytes_eq (codes "help") w ≡ false → turn_fault s all_names (standing nothing_held 1) w ≡ step_fault s 1 nothing_held value
 turn_fault-stray s w o h = rw (no_subcommand w o h, word_passes s w nothing_held o.positional, word_is_value s.rules 1 w nothing_held o.positional) refl
@@ -561,9 +730,11 @@ module _ (names modes : Bor (List (Bor Text))) (kinds : IsKindNames names) (know
 
   judged_first : Judged (asked_with words w)
   judged_first =
-      by_name Judged (codes "audit") w _ _ (of_command (codes "audit") (paths_shape (codes "audit") names) _ (refl, refl, refl) refl (judged_paths AsksHelp names kinds audit (codes "audit") words)) (λ no_audit.
+      by_name Judged (codes "audit") w _ _ (of_command (codes "audit") (paths_shape (codes "audit") names) _ (refl, refl, refl) refl
+      (judged_paths AsksHelp names kinds audit (codes "audit") words)) (λ no_audit.
       by_name Judged (codes "audits") w _ _ (of_command (codes "audits") (audits_shape names) _ (refl, refl, refl) refl (judged_list AsksHelp names kinds words)) (λ no_audits.
-      by_name Judged (codes "explain") w _ _ (of_command (codes "explain") (paths_shape (codes "explain") names) _ (refl, refl, refl) refl (judged_paths AsksHelp names kinds explain (codes "explain") words)) (λ no_explain.
+      by_name Judged (codes "explain") w _ _ (of_command (codes "explain") (paths_shape (codes "explain") names) _ (refl, refl, refl) refl
+      (judged_paths AsksHelp names kinds explain (codes "explain") words)) (λ no_explain.
       by_name Judged (codes "draw") w _ _ (of_command (codes "draw") draw_shape _ (refl, refl, refl) refl (judged_draw AsksHelp words)) (λ no_draw.
       by_name Judged (codes "solve") w _ _ (of_command (codes "solve") (solve_shape names) _ (refl, refl, refl) refl (judged_task AsksHelp names kinds words)) (λ no_solve.
       by_name Judged (codes "format") w _ _ (of_command (codes "format") (store_shape (codes "format")) _ (refl, refl, refl) refl (judged_store AsksHelp format (codes "format") words)) (λ no_format.
@@ -572,7 +743,8 @@ module _ (names modes : Bor (List (Bor Text))) (kinds : IsKindNames names) (know
       by_name Judged (codes "upgrade") w _ _ (of_command (codes "upgrade") upgrade_shape _ (refl, refl, refl) refl (judged_upgrade AsksHelp words)) (λ no_upgrade.
       by_name Judged (codes "timetable") w _ _ (of_command (codes "timetable") table_shape _ (refl, refl, refl) refl (judged_table AsksHelp words)) (λ no_timetable.
       by_name Judged (codes "adopt") w _ _ (of_command (codes "adopt") adopt_shape _ (refl, refl, refl) refl (judged_adopt AsksHelp words)) (λ no_adopt.
-      by_name Judged (codes "instance") w _ _ (of_command (codes "instance") (store_shape (codes "instance")) _ (refl, refl, refl) refl (judged_store AsksHelp store_instance (codes "instance") words)) (λ no_instance.
+      by_name Judged (codes "instance") w _ _ (of_command (codes "instance") (store_shape (codes "instance")) _ (refl, refl, refl) refl
+      (judged_store AsksHelp store_instance (codes "instance") words)) (λ no_instance.
       by_name Judged (codes "check") w _ _ (of_command (codes "check") (store_shape (codes "check")) _ (refl, refl, refl) refl (judged_store AsksHelp check (codes "check") words)) (λ no_check.
       by_name Judged (codes "solves") w _ _ (of_command (codes "solves") (solves_shape names) _ (refl, refl, refl) refl (judged_tasks AsksHelp names kinds words)) (λ no_solves.
       inr (
@@ -619,12 +791,29 @@ other_name name w n = is_not (bytes_eq name w) (λ e. n (sym ((bytes_eq-Decides 
 pub told_other : (w : Text) (rows : List Row) → (w ≡ codes "audit" → ⊥) → (w ≡ codes "explain" → ⊥) → told_by w rows ≡ told_by_other w rows
 told_other w rows a e = rw (other_name (codes "audit") w a, other_name (codes "explain") w e) refl
 
-pub told_store : (w : Text) (rows : List Row) → (w ≡ codes "audits" → ⊥) → (w ≡ codes "solve" → ⊥) → (w ≡ codes "solves" → ⊥) → (w ≡ codes "draw" → ⊥) → (w ≡ codes "timetable" → ⊥) → told_by_other w rows ≡ told_of_store w rows
-told_store w rows a s ss d t = rw (other_name (codes "audits") w a, other_name (codes "solve") w s, other_name (codes "solves") w ss, other_name (codes "draw") w d, other_name (codes "timetable") w t) refl
+pub told_store : (w : Text) (rows : List Row) → (w ≡ codes "audits" → ⊥) → (w ≡ codes "solve" → ⊥) → (w ≡ codes "solves" → ⊥) → (w ≡ codes "draw" → ⊥)
+    → (w ≡ codes "timetable" → ⊥) → told_by_other w rows ≡ told_of_store w rows
+told_store w rows a s ss d t = rw (
+  other_name (codes "audits") w a,
+  other_name (codes "solve") w s,
+  other_name (codes "solves") w ss,
+  other_name
+      (codes "draw") w d,
+  other_name (codes "timetable") w t,
+) refl
 
-pub told_run : (w : Text) (rows : List Row) → (w ≡ codes "format" → ⊥) → (w ≡ codes "load" → ⊥) → (w ≡ codes "adopt" → ⊥) → (w ≡ codes "instance" → ⊥) → (w ≡ codes "check" → ⊥) → (w ≡ codes "upgrade" → ⊥) → told_of_store w rows ≡ run_in rows
+pub told_run : (w : Text) (rows : List Row) → (w ≡ codes "format" → ⊥) → (w ≡ codes "load" → ⊥) → (w ≡ codes "adopt" → ⊥) → (w ≡ codes "instance" → ⊥)
+    → (w ≡ codes "check" → ⊥) → (w ≡ codes "upgrade" → ⊥) → told_of_store w rows ≡ run_in rows
 told_run w rows f l a i c u =
-    rw (other_name (codes "format") w f, other_name (codes "load") w l, other_name (codes "adopt") w a, other_name (codes "instance") w i, other_name (codes "check") w c, other_name (codes "upgrade") w u) refl
+    rw (
+      other_name (codes "format") w f,
+      other_name (codes "load") w l,
+      other_name (codes "adopt") w a,
+      other_name (codes "instance") w i,
+      other_name
+          (codes "check") w c,
+      other_name (codes "upgrade") w u,
+    ) refl
 
 -- ---- the parse
 
@@ -681,7 +870,8 @@ accepted Help faults asked told (inr failing) none =
     elim failing.0 [ inl fault ↦ absurd (subst IsFault none fault) | inr help ↦ absurd (nothing_failed faults none help.1) ]
 
 -- what a parse that gives matches says of the words
-pub parsed : (command : Command) (texts : List Text) (m : ArgMatches) → IsPlannerCommand command → ArePositional (drop 1 texts) → (is_simple_and_free (app_of command) ≡ true → fault_of (app_of command) texts ≡ [])
+pub parsed : (command : Command) (texts : List Text) (m : ArgMatches) → IsPlannerCommand command → ArePositional (drop 1 texts)
+    → (is_simple_and_free (app_of command) ≡ true → fault_of (app_of command) texts ≡ [])
     → HasMatchesOf (app_of command) texts m → asked_by (drop 1 texts) ≡ told_of (subcommand_rows_of m)
 parsed command texts m h p no_fault matches =
     accepted _ _ _ _ (judged command texts h p) (no_fault (is_simple_command command h)) ∙ ap told_of (sym (matches (ap is_simple h.app ∙ is_simple_app h.names h.mode_names)).1)
@@ -704,6 +894,7 @@ paired (Some b) f g n r en er =
     let e' : g b ≡ r = cc in
     rw (e, e') refl
 
-pub told_name : (m : ArgMatches) (n : Text) (r : List Row) → Some n ≡ subcommand_name_of m → Some r ≡ option_map (λ (p : Text × List Row). p.1) (subcommand_rows_of m) → told_by n r ≡ told_of (subcommand_rows_of m)
+pub told_name : (m : ArgMatches) (n : Text) (r : List Row) → Some n ≡ subcommand_name_of m
+    → Some r ≡ option_map (λ (p : Text × List Row). p.1) (subcommand_rows_of m) → told_by n r ≡ told_of (subcommand_rows_of m)
 told_name m n r en er =
     sym (ap told_of (paired (out-ArgMatches m).subcommand (λ b. (out-SubCommand (box_value b)).name.now) (λ b. rows_of (found_of (out-SubCommand (box_value b)).matches)) n r en er))

@@ -1,1 +1,2 @@
+-- The lemma file, which upper crates may cite.
 pub mod CommandLemmas

@@ -1,5 +1,32 @@
 -- What the words of the command line ask for, those after the program's name.
-use Rattle.std.specs.Prelude.{◌≡◌, ◌==◌, ◌&&◌, ◌⊎◌, ◌^◌, ℕ, ℤ, pos, int_le, int_lt, Bool, true, false, not, List, [], ◌∷◌, codes, Option, Some, None, Result, MatchResult, if◌then◌else◌, option_and_then, option_map}
+use Rattle.std.specs.Prelude.{
+  ◌≡◌,
+  ◌==◌,
+  ◌&&◌,
+  ◌⊎◌,
+  ◌^◌,
+  ℕ,
+  ℤ,
+  pos,
+  int_le,
+  int_lt,
+  Bool,
+  true,
+  false,
+  not,
+  List,
+  [],
+  ◌∷◌,
+  codes,
+  Option,
+  Some,
+  None,
+  Result,
+  MatchResult,
+  if◌then◌else◌,
+  option_and_then,
+  option_map,
+}
 use Rattle.std.specs.Int.RustNames.{unsigned_abs}
 use Rattle.std.specs.List.{list_all}
 use Rattle.std.specs.Str.{bytes_eq}
@@ -12,10 +39,28 @@ use Rattle.plan_types.specs.declared.requests.Kind.TheVariants.{LiLim, Vrp}
 use Rattle.text_lines.specs.Numbers.{below, digits_of, integer_of}
 use Rattle.command_line.specs.declared.words.Paths.{Paths}
 use Rattle.command_line.specs.declared.words.Invocation.{Invocation}
-use Rattle.command_line.specs.declared.words.Invocation.TheVariants.{Adopt, Audit, Audits, BuiltIn, Check, Draw, DrawStore, Explain, Format, Load, Run, Solve, Solves, StoreInstance, StoreTimetable, Timetable, Upgrade}
+use Rattle.command_line.specs.declared.words.Invocation.TheVariants.{
+  Adopt,
+  Audit,
+  Audits,
+  BuiltIn,
+  Check,
+  Draw,
+  DrawStore,
+  Explain,
+  Format,
+  Load,
+  Run,
+  Solve,
+  Solves,
+  StoreInstance,
+  StoreTimetable,
+  Timetable,
+  Upgrade,
+}
 use Rattle.command_line.specs.declared.words.Loading.{Loading}
-use Rattle.command_line.specs.declared.words.Task.{Task}
-use Rattle.command_line.specs.declared.words.Tasks.{Tasks}
+use Rattle.command_line.specs.declared.words.Solving.{Solving}
+use Rattle.command_line.specs.declared.words.SolvingList.{SolvingList}
 
 -- two files of a kind of instance, by their paths
 pub record PathsAsked : Type 0 where
@@ -46,9 +91,10 @@ pub record LoadAsked : Type 0 where
   pub seed : ℕ
 
 -- The audit of the two built-in texts, or of two files; the audits of a list; the audit of two files with what it rests on, each of them also of
--- the routes alone; the picture of a
--- solution, or of its route with this number, or of the plan in a store, or of the route of its vehicle with this number; the solving of an instance, or of each that a list names; a store made in a file, an instance loaded
--- into one, or commands over one; a solution that a store is to have for its plan; the instance in a store; whether a store agrees with itself; a store made of an old one; the timetable of a solution, or of the plan in a store, by tabs or in columns.
+-- the routes alone; the picture of a solution, or of its route with this number, or of the plan in a store, or of the route of its vehicle with
+-- this number; the solving of an instance, or of each that a list names; a store made in a file, an instance loaded into one, or commands over
+-- one; a solution that a store is to have for its plan; the instance in a store; whether a store agrees with itself; a store made of an old one;
+-- the timetable of a solution, or of the plan in a store, by tabs or in columns.
 pub data Asked : Type 0 where
   built_in : Asked
   audit : PathsAsked → Bool → Asked
@@ -71,10 +117,10 @@ pub data Asked : Type 0 where
 abbrev pub paths_of : Paths → PathsAsked
 paths_of paths = record { kind = paths.kind; instance = paths.instance.now; solution = paths.solution.now }
 
-abbrev pub task_of : Task → TaskAsked
+abbrev pub task_of : Solving → TaskAsked
 task_of task = record { kind = task.kind; instance = task.instance.now; steps = task.steps; seed = task.seed; deviation = task.deviation }
 
-abbrev pub tasks_of : Tasks → TasksAsked
+abbrev pub tasks_of : SolvingList → TasksAsked
 tasks_of tasks = record { kind = tasks.kind; list = tasks.list.now; steps = tasks.steps; seed = tasks.seed }
 
 abbrev pub load_of : Loading → LoadAsked

@@ -49,12 +49,12 @@ pub(crate) const FORMAT_ANSWERS: &str = "It prints one line:\n  \
     ok                  the store is empty, and safe on the disk (status 0)\n  \
     cannot read PATH    the file can't be opened to be read and written (status 3)\n  \
     store InUse         another program has the store open (status 3)\n  \
-    store DeviceFault   a write or a sync failed; the file is no store until format succeeds (status 3)\n  \
+    store DeviceFault   a write or a sync failed; format it again: the file may be no store (status 3)\n  \
     store OutOfMemory   (status 4)\n\n\
     What the system says of a file or a device that failed stands on standard error.";
 
 pub(crate) const LOAD_ABOUT: &str =
-    "Loads an instance into a store, which it makes where there is no file";
+    "Loads an instance into a store, which it makes where there is no file or an empty one";
 
 pub(crate) const LOAD_ANSWERS: &str =
     "The instance is read first. A store that holds one already stays as it is: the line `load` of `run`\n\
@@ -117,8 +117,8 @@ pub(crate) const CHECK_ANSWERS: &str =
     suspect RecordsMixed   it opens, but a record is newer than the one before: the last commands may be gone (status 2)\n  \
     store NAME             why it can't be opened, as `run` tells it (status 2, 3 or 4)\n  \
     cannot read PATH       the file can't be opened to be read (status 3)\n\n\
-    No store is suspect that this program alone has written, whenever it was stopped, but one whose `format` was cut off. Of a\n\
-    suspect store, take a copy that is `ok`.";
+    No store is suspect that this program alone has written, whenever it was stopped, but one over which a `format` or an `upgrade`\n\
+    was cut off. Of a suspect store, take a copy that is `ok`. `run` opens it all the same, and tells the first reason on standard error.";
 
 pub(crate) const UPGRADE_ABOUT: &str = "Takes a store of version 1 over into a new one";
 

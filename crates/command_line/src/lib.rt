@@ -27,4 +27,4 @@ mod help;
 mod matches;
 mod words;
 
-pub use words::{Invocation, Loading, Paths, Task, Tasks, read_words};
+pub use words::{Invocation, Loading, Paths, Solving, SolvingList, read_words};

@@ -4,7 +4,7 @@ ghost use Rattle.clap.specs.Words.{first_of, found_of, rows_of, subcommand_rows_
 ghost use Rattle.text_lines.specs.Numbers.{integer_of};
 ghost use Rattle.command_line.specs.Asked.{adopt_in, as_u64, asked_of, audit, explain, judged_in, paths_from, paths_in, paths_of, run_in, kind_named, list_in, load_in, load_of, deviation_or_none, draw_in, flag_named, route_or_none, seed_in, seed_named, steps_named, store_draw_from, store_timetable_from, task_in, task_of, tasks_in, tasks_of, timetable_in, told_by, told_by_other, told_of, told_of_store, upgrade_in};
 
-use crate::words::{Invocation, Loading, Paths, Task, Tasks};
+use crate::words::{Invocation, Loading, Paths, Solving, SolvingList};
 use clap::ArgMatches;
 use plan_types::Kind;
 use text_lines::{Number, digits_to_u32};
@@ -238,10 +238,10 @@ fn list_words<'a>(matches: &ArgMatches<'a>) -> Option<Invocation<'a>>
 }
 
 // `None` where a word is missing or names no kind, or no number.
-fn task_words<'a>(matches: &ArgMatches<'a>) -> Option<Task<'a>>
+fn task_words<'a>(matches: &ArgMatches<'a>) -> Option<Solving<'a>>
     ensures { option_map task_of result ≡ task_in (rows_of (found_of matches.now)) }
 {
-    Some(Task {
+    Some(Solving {
         kind: kind_of_word(value_of(matches, "KIND")?)?,
         instance: value_of(matches, "INSTANCE")?,
         steps: steps_of_word(value_of(matches, "STEPS")?)?,
@@ -251,10 +251,10 @@ fn task_words<'a>(matches: &ArgMatches<'a>) -> Option<Task<'a>>
 }
 
 // `None` where a word is missing or names no kind, or no number.
-fn tasks_words<'a>(matches: &ArgMatches<'a>) -> Option<Tasks<'a>>
+fn tasks_words<'a>(matches: &ArgMatches<'a>) -> Option<SolvingList<'a>>
     ensures { option_map tasks_of result ≡ tasks_in (rows_of (found_of matches.now)) }
 {
-    Some(Tasks {
+    Some(SolvingList {
         kind: kind_of_word(value_of(matches, "KIND")?)?,
         list: value_of(matches, "LIST")?,
         steps: steps_of_word(value_of(matches, "STEPS")?)?,

@@ -22,7 +22,7 @@ pub struct Paths<'a> {
 
 /// An instance, by the path of its file as it stands, and the steps from the plan that is built of it.
 #[derive(Clone, Copy, Debug)]
-pub struct Task<'a> {
+pub struct Solving<'a> {
     pub kind: Kind,
     pub instance: &'a str,
     /// How many steps are made, 0..=1,000,000,000.
@@ -34,7 +34,7 @@ pub struct Task<'a> {
 
 /// A list of instances, by the path of its file as it stands, and the steps from the plan that is built of each.
 #[derive(Clone, Copy, Debug)]
-pub struct Tasks<'a> {
+pub struct SolvingList<'a> {
     pub kind: Kind,
     pub list: &'a str,
     /// How many steps are made of each, 0..=1,000,000,000.
@@ -84,9 +84,9 @@ pub enum Invocation<'a> {
         route: Option<u32>,
     },
     /// `solve KIND INSTANCE STEPS [SEED [DEVIATION]]`: a solution of the instance in this file.
-    Solve(Task<'a>),
+    Solve(Solving<'a>),
     /// `solves KIND LIST STEPS [SEED]`: for each line of this file a solution of the instance that it names, in the file that it names.
-    Solves(Tasks<'a>),
+    Solves(SolvingList<'a>),
     /// `format STORE`: an empty store in the file of this path.
     Format {
         store: &'a str,

@@ -1,5 +1,37 @@
 -- A line that anneals by stages, cut off by whatever becomes of its tries and asked for again, ends where an uncut one ends.
-use Rattle.std.proofs.Common.{◌≡◌, ◌∙◌, inl, inr, ℕ, zero, suc, ◌+◌, ◌-◌, ◌*◌, ◌^◌, ◌≤◌, Bool, true, false, not, ◌&&◌, if◌then◌else◌, List, [], ◌∷◌, Option, Some, None, Ok, Err, refl, sym, ap, subst, arith}
+use Rattle.std.proofs.Common.{
+  ◌≡◌,
+  ◌∙◌,
+  inl,
+  inr,
+  ℕ,
+  zero,
+  suc,
+  ◌+◌,
+  ◌-◌,
+  ◌*◌,
+  ◌^◌,
+  ◌≤◌,
+  Bool,
+  true,
+  false,
+  not,
+  ◌&&◌,
+  if◌then◌else◌,
+  List,
+  [],
+  ◌∷◌,
+  Option,
+  Some,
+  None,
+  Ok,
+  Err,
+  refl,
+  sym,
+  ap,
+  subst,
+  arith,
+}
 use Rattle.std.specs.Prelude.{◌==◌, ◌/◌, length, min, nat_le, take}
 use Rattle.std.specs.List.{list_all}
 use Rattle.std.specs.Option.{option_map}
@@ -19,7 +51,27 @@ use Rattle.command_core.specs.declared.refusals.Refusal.TheVariants.{Range}
 use Rattle.command_core.specs.declared.states.State.{State}
 use Rattle.command_core.specs.declared.states.State.TheVariants.{Empty, Loaded}
 use Rattle.command_core.proofs.NumberLemmas.{steps_counted}
-use Rattle.command_text.specs.Answering.{Fate, Done, NoMemory, Spent, Failed, Reply, Serving, begun, by_fate, carried, carried_all, commands_of, made_or, next_fate, steps_to_make, told_behind, tried, unless_refused, with_text}
+use Rattle.command_text.specs.Answering.{
+  Fate,
+  Done,
+  NoMemory,
+  Spent,
+  Failed,
+  Reply,
+  Serving,
+  begun,
+  by_fate,
+  carried,
+  carried_all,
+  commands_of,
+  made_or,
+  next_fate,
+  steps_to_make,
+  told_behind,
+  tried,
+  unless_refused,
+  with_text,
+}
 use Rattle.command_text.specs.Laws.{StagedLinesMayBeCut}
 use Rattle.command_text.specs.declared.steps.Goal.TheVariants as goal
 use Rattle.command_text.specs.declared.steps.Steps.TheVariants as makes
@@ -51,7 +103,8 @@ broken_cut : (b : Bool) (s : Serving) (cs : List Command) (x y : Reply) → IsCu
 broken_cut true s cs x y a b = a
 broken_cut false s cs x y a b = b
 
-carried_cut : (s : Serving) (c : Command) (cs : List Command) (done : Serving → Reply) → ((t : Serving) → IsCutAt t.state cs (done t).left.state) → IsCutAt s.state (c ∷ cs) (carried s c done).left.state
+carried_cut : (s : Serving) (c : Command) (cs : List Command) (done : Serving → Reply) → ((t : Serving) → IsCutAt t.state cs (done t).left.state)
+    → IsCutAt s.state (c ∷ cs) (carried s c done).left.state
 unfolding carried
 carried_cut s c cs done rest =
     broken_cut s.is_broken s (c ∷ cs) _ (unless_refused (refusal s.state c) s c done) (at_none s.state (c ∷ cs)) (refused_cut (refusal s.state c) s c cs done rest)

@@ -55,7 +55,8 @@ longer n m is = omega (arith, is)
 feed_behind : (line rest : List ℕ) → ((j : ℕ) → j < length line → get_or line j 0 ≡ 10 → ⊥) → line_len (line ++ 10 ∷ rest) ≡ length line
 feed_behind [] rest none = refl
 feed_behind (b ∷ bs) rest none =
-    ap (λ t. cond (not t) (1 + line_len (bs ++ 10 ∷ rest)) 0) (ne_eqb b 10 (none 0 (omega arith))) ∙ longer (line_len (bs ++ 10 ∷ rest)) (length bs) (feed_behind bs rest (λ j below here. none (suc j) (omega (arith, below)) here))
+    ap (λ t. cond (not t) (1 + line_len (bs ++ 10 ∷ rest)) 0) (ne_eqb b 10 (none 0 (omega arith)))
+    ∙ longer (line_len (bs ++ 10 ∷ rest)) (length bs) (feed_behind bs rest (λ j below here. none (suc j) (omega (arith, below)) here))
 
 no_feed_there : (line : List ℕ) → ((j : ℕ) → j < length line → get_or line j 0 ≡ 10 → ⊥) → line_len line ≡ length line
 no_feed_there [] none = refl

@@ -1,3 +1,4 @@
+-- The lemma files, which upper crates may cite.
 pub mod AgainLemmas
 pub mod CutLemmas
 pub mod FieldLemmas

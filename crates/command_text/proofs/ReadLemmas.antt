@@ -6,7 +6,21 @@ use Rattle.instance_read.specs.Faults.{Class, IsFirstFault, IsNoLater, IsNoLater
 use Rattle.instance_read.specs.Faults.Class.{OfLine, OfText}
 use Rattle.instance_read.specs.declared.faults.ReadFault.{ReadFault}
 use Rattle.instance_read.specs.declared.faults.ReadFaultKind.{ReadFaultKind}
-use Rattle.instance_read.specs.declared.faults.ReadFaultKind.TheVariants.{BadNumber, Range, FieldCount, TaskOrder, PairMismatch, EmptyWindow, TooManyStops, MissingKey, Unsupported, DepotNotFirst, NodeRepeated, Truncated, OutOfMemory}
+use Rattle.instance_read.specs.declared.faults.ReadFaultKind.TheVariants.{
+  BadNumber,
+  Range,
+  FieldCount,
+  TaskOrder,
+  PairMismatch,
+  EmptyWindow,
+  TooManyStops,
+  MissingKey,
+  Unsupported,
+  DepotNotFirst,
+  NodeRepeated,
+  Truncated,
+  OutOfMemory,
+}
 use Rattle.instance_read.specs.Readings.{InstanceFault, IsFound, IsUnlessMemory, SpellsInstance}
 use Rattle.instance_read.proofs.SpelledLemmas.{no_fault, problem_once}
 
@@ -65,7 +79,8 @@ fault_once : (Fault : Class → ℕ → ReadFaultKind → Type 0) (f g : ReadFau
 fault_once Fault f g a b = both_first a.0 b.0 f g (a.2 b.0 g.line g.kind b.1) (b.2 a.0 f.line f.kind a.1)
 
 -- what a reader gave is what the text spells
-pub read_once : (kind : Kind) (text : List ℕ) (result found : Result Instance ReadFault) → IfOk result (SpellsInstance kind text) → IfErr result (TellsFirstFault (InstanceFault kind text)) → IsFound kind text found
+pub read_once : (kind : Kind) (text : List ℕ) (result found : Result Instance ReadFault) → IfOk result (SpellsInstance kind text)
+    → IfErr result (TellsFirstFault (InstanceFault kind text)) → IsFound kind text found
     → IsUnlessMemory result found
 read_once kind text (Ok p) (Ok q) spells tells is = inl (ap Ok (problem_once kind text p q spells is))
 read_once kind text (Ok p) (Err g) spells tells is = absurd (no_fault kind text p spells is.0 g.line g.kind is.1)

@@ -1,5 +1,34 @@
 -- The first word of a line, byte by byte.
-use Rattle.std.proofs.Common.{◌≡◌, ◌∙◌, inl, inr, ℕ, ◌-◌, ◌&&◌, ◌||◌, ◌==◌, Bool, true, false, if◌then◌else◌, List, [], ◌∷◌, ◌++◌, length, take, slice_index, codes, bytes_eq, refl, sym, ap, subst, arith, length-append}
+use Rattle.std.proofs.Common.{
+  ◌≡◌,
+  ◌∙◌,
+  inl,
+  inr,
+  ℕ,
+  ◌-◌,
+  ◌&&◌,
+  ◌||◌,
+  ◌==◌,
+  Bool,
+  true,
+  false,
+  if◌then◌else◌,
+  List,
+  [],
+  ◌∷◌,
+  ◌++◌,
+  length,
+  take,
+  slice_index,
+  codes,
+  bytes_eq,
+  refl,
+  sym,
+  ap,
+  subst,
+  arith,
+  length-append,
+}
 use Rattle.std.specs.List.{AllByRecursion}
 use Rattle.std.specs.Str.Lines.{strip_carriage_return}
 use Rattle.std.proofs.lemmas.Bool.{cases_Bool, eq-eqb, eqb-true, eqb-false, ne_eqb, both_ways}
@@ -61,7 +90,8 @@ all_letters [] [] not_so ends = refl
 all_letters [] (b ∷ rest) not_so ends = behind_blank b rest ends
 all_letters (a ∷ word) rest not_so ends = behind_letter a (word ++ rest) not_so.0
 
-module _ (state longer : FirstWord) (letter : ℕ) (letters : List ℕ) (step : (b : ℕ) → scanned_byte state b ≡ next_letter letter b longer) (is_letter : is_blank letter ≡ false) (too_short : is_whole state ≡ false) (more : TellsWord longer letters) where
+module _ (state longer : FirstWord) (letter : ℕ) (letters : List ℕ) (step : (b : ℕ) → scanned_byte state b ≡ next_letter letter b longer)
+    (is_letter : is_blank letter ≡ false) (too_short : is_whole state ≡ false) (more : TellsWord longer letters) where
   wrong : (b : ℕ) (bs : List ℕ) → (b == letter) ≡ false → is_whole (scanned_on (scanned_byte state b) bs) ≡ false
   wrong b bs not_so = ap (λ w. is_whole (scanned_on w bs)) (step b ∙ ap (λ t. if t then longer else Other) not_so) ∙ other bs
 

@@ -19,7 +19,21 @@ use Rattle.command_core.proofs.NumberLemmas.{steps_counted}
 use Rattle.command_text.specs.Answering.{commands_of}
 use Rattle.command_text.specs.declared.steps.Steps.TheVariants as makes
 use Rattle.command_text.specs.Laws.{StagesMayBeCut}
-use Rattle.command_text.specs.Staging.{commands_in_stage, first_end, half_way, made_by, making, next_deviation, next_steps, set_before, stage_commands, stage_piece, staged_steps, staged_within, steps_due}
+use Rattle.command_text.specs.Staging.{
+  commands_in_stage,
+  first_end,
+  half_way,
+  made_by,
+  making,
+  next_deviation,
+  next_steps,
+  set_before,
+  stage_commands,
+  stage_piece,
+  staged_steps,
+  staged_within,
+  steps_due,
+}
 
 -- ---- the stage that is found
 
@@ -146,7 +160,8 @@ end_within from to n k e =
 staged_due : (from to n : ℕ) (o : Option ℕ) (c : Command) → stage_of from to n ≡ o → option_map (stage_piece from to n) o ≡ Some c → IsDue from to n c
 staged_due from to n None c found is = none_is c is
 staged_due from to n (Some k) c found is =
-    subst (IsDue from to n) (some_is (stage_piece from to n k) c is) (anneal_due from to n (boundary from to (k + 1)) (few_stages from to n k found).0 (ends_of from to n k found) (end_within from to n k found))
+    subst (IsDue from to n) (some_is (stage_piece from to n k) c is)
+    (anneal_due from to n (boundary from to (k + 1)) (few_stages from to n k found).0 (ends_of from to n k found) (end_within from to n k found))
 
 -- what is due from a later step on is due from an earlier one on
 later_due : (from mid to n : ℕ) (c : Command) → from ≤ mid → IsDue mid to n c → IsDue from to n c
@@ -160,7 +175,8 @@ later_due from mid to n c before due = let begun = due.begun in record {
 }
 
 reducing_due : (from to n : ℕ) (c : Command) (early warm first : Bool) → nat_lt n from ≡ early → nat_lt n (first_end from to) ≡ warm → nat_lt n (half_way from to) ≡ first
-    → (if early then None else if warm then Some (Anneal (min (first_end from to - n) 16384)) else if first then Some (Reduce (min (half_way from to - n) 524288)) else staged_steps (half_way from to) to n) ≡ Some c
+    → (if early then None else if warm then Some (Anneal (min (first_end from to - n) 16384)) else if first
+    then Some (Reduce (min (half_way from to - n) 524288)) else staged_steps (half_way from to) to n) ≡ Some c
     → IsDue from to n c
 reducing_due from to n c true warm first e w h is = none_is c is
 reducing_due from to n c false true first e w h is =
@@ -205,7 +221,8 @@ module _ (from to : ℕ) where
   same_set f g None j rest = rest j refl
   same_set f g (Some d) j rest = ap (λ cs. Deviation d ∷ cs) (rest (with_deviation j d) refl)
 
-  one_more : (f g : ℕ) (j : JobValue) → ((i : JobValue) (c : Command) → i.steps ≡ j.steps → next_steps from to i ≡ Some c → staged_within from to f (job_after i c) ≡ staged_within from to g (job_after i c))
+  one_more : (f g : ℕ) (j : JobValue) → ((i : JobValue) (c : Command) → i.steps ≡ j.steps → next_steps from to i ≡ Some c
+      → staged_within from to f (job_after i c) ≡ staged_within from to g (job_after i c))
       → staged_within from to (suc f) j ≡ staged_within from to (suc g) j
   unfolding staged_within
   one_more f g j rest =

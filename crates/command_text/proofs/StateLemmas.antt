@@ -11,7 +11,46 @@ use Rattle.command_core.specs.declared.states.State.TheVariants.{Empty, Loaded}
 use Rattle.command_core.specs.declared.commands.Command.{Command}
 use Rattle.command_core.specs.declared.commands.Command.TheVariants as command
 use Rattle.command_core.specs.declared.refusals.Refusal.{Refusal}
-use Rattle.command_text.specs.Answering.{Fate, Done, NoMemory, Spent, Failed, Serving, Reply, answered, by_fate, carried, informed, load, loaded, next_fate, next_stated, asked_reply, printed, refused, reply, steps_to_make, commands_of, carried_all, made_or, served, shown, told, told_behind, told_unless, tried, unless_broken, unless_refused, with_text, instance_told, adopt, adopt_on, adopted, adopted_unless, text_reply}
+use Rattle.command_text.specs.Answering.{
+  Fate,
+  Done,
+  NoMemory,
+  Spent,
+  Failed,
+  Serving,
+  Reply,
+  answered,
+  by_fate,
+  carried,
+  informed,
+  load,
+  loaded,
+  next_fate,
+  next_stated,
+  asked_reply,
+  printed,
+  refused,
+  reply,
+  steps_to_make,
+  commands_of,
+  carried_all,
+  made_or,
+  served,
+  shown,
+  told,
+  told_behind,
+  told_unless,
+  tried,
+  unless_broken,
+  unless_refused,
+  with_text,
+  instance_told,
+  adopt,
+  adopt_on,
+  adopted,
+  adopted_unless,
+  text_reply,
+}
 use Rattle.command_text.specs.Cutting.{Piece, is_short}
 use Rattle.command_text.specs.Laws.{StatesFollow}
 use Rattle.command_text.specs.Questions.{question_refusal, question_text}
@@ -78,7 +117,8 @@ prints s (Loaded j) =
 tells_instance : (s : Serving) (state : State) → Follows s (instance_told s state)
 tells_instance s Empty = refl
 tells_instance s (Loaded j) =
-    one_of (has_format j.problem) s (told (next_fate s.fates) (tried s) (instance_text j.problem)) (answered s (answer.Refused NoFormat)) (tells (next_fate s.fates) (tried s) (instance_text j.problem)) refl
+    one_of (has_format j.problem) s (told (next_fate s.fates) (tried s) (instance_text j.problem)) (answered s (answer.Refused NoFormat))
+    (tells (next_fate s.fates) (tried s) (instance_text j.problem)) refl
 
 tells_unless : (r : Option Refusal) (s : Serving) (text : List ℕ) → Follows s (told_unless r s text)
 tells_unless (Some r) s text = refl

@@ -1,6 +1,6 @@
 -- A line in a place of a fixed size.
 use Rattle.std.specs.Prelude.{ℕ, ◌≤◌, List, take}
-use Rattle.command_text.specs.declared.answers.Line.TheInside.{Inside}
+use Rattle.command_text.specs.declared.answers.ShortLine.TheInside.{Inside}
 
 -- what contracts see
 abbrev pub used_bytes : Inside → List ℕ

@@ -17,12 +17,12 @@ use std::marker::Model;
 
 /// A short line without its line feed, in a place of its own: an answer to what was carried out must not want memory.
 #[derive(Debug, Drop)]
-pub struct Line {
+pub struct ShortLine {
     bytes: [u8; 128],
     used: usize,
 }
 
-impl Model for Line {
+impl Model for ShortLine {
     ghost use Rattle.std.specs.Prelude.{List, ℕ};
 
     ghost Value = { List ℕ };
@@ -34,11 +34,11 @@ impl Model for Line {
     ghost invariant = { IsWithin };
 }
 
-impl Line {
-    fn new() -> Line
+impl ShortLine {
+    fn new() -> ShortLine
         ensures { result ≡ [] }
     {
-        Line {
+        ShortLine {
             bytes: [0; 128],
             used: 0,
         }
@@ -109,7 +109,7 @@ impl Answer {
     ghost use Rattle.command_text.specs.Answers.{answer_text};
 
     /// Its line: `ok`, `no NAME`, `no NAME LINE` or `fault device`; of a solution that breaks a rule two lines, the auditor's first.
-    pub fn line(&self) -> Line
+    pub fn line(&self) -> ShortLine
         ensures { result ≡ answer_text self.now }
     {
         match self {
@@ -127,27 +127,27 @@ impl Answer {
     }
 }
 
-fn words(text: &str) -> Line
+fn words(text: &str) -> ShortLine
     requires { length text.now ≤ 128 }
     ensures { result ≡ text.now }
 {
-    let mut line = Line::new();
+    let mut line = ShortLine::new();
     line.put(text);
     line
 }
 
-fn no_line(name: &str) -> Line
+fn no_line(name: &str) -> ShortLine
     requires { length name.now ≤ 32 }
     ensures text { result ≡ no_text name.now }
     ensures len { length result ≡ 3 + length name.now }
 {
-    let mut line = Line::new();
+    let mut line = ShortLine::new();
     line.put("no ");
     line.put(name);
     line
 }
 
-fn fault_line(fault: ReadFault) -> Line
+fn fault_line(fault: ReadFault) -> ShortLine
     ensures { result ≡ read_text fault.kind fault.line }
 {
     match fault.kind {
@@ -162,7 +162,7 @@ fn fault_line(fault: ReadFault) -> Line
 }
 
 // Why a solution's text is no plan.
-fn unseated_line(why: Unseated) -> Line
+fn unseated_line(why: Unseated) -> ShortLine
     ensures { result ≡ unseated_text why }
 {
     match why {
@@ -182,7 +182,7 @@ fn unseated_line(why: Unseated) -> Line
     }
 }
 
-fn sol_fault_line(fault: SolFault) -> Line
+fn sol_fault_line(fault: SolFault) -> ShortLine
     ensures { result ≡ sol_fault_text fault.kind fault.line }
 {
     match fault.kind {
@@ -196,11 +196,11 @@ fn sol_fault_line(fault: SolFault) -> Line
     }
 }
 
-fn broken_line(rule: u32, route: u64, place: u64, stop: u32) -> Line
+fn broken_line(rule: u32, route: u64, place: u64, stop: u32) -> ShortLine
     ensures text { result ≡ broken_text rule route place stop }
     ensures len { length result ≤ 107 }
 {
-    let mut line = Line::new();
+    let mut line = ShortLine::new();
     line.put("broken ");
     line.put_number(u64::from(rule));
     line.put(" route ");
@@ -221,11 +221,11 @@ pub(crate) fn cost(job: &Job) -> Cost
 }
 
 /// How far a search is: `at STEPS UNPLANNED VEHICLES DISTANCE`.
-pub fn at_line(job: &Job) -> Line
+pub fn at_line(job: &Job) -> ShortLine
     ensures { result ≡ at_text job.now }
 {
     let cost = cost(job);
-    let mut line = Line::new();
+    let mut line = ShortLine::new();
     line.put("at ");
     line.put_number(job.steps);
     line.put(" ");
@@ -258,10 +258,10 @@ pub fn progress_behind(command: &Command) -> Progress
 }
 
 /// A pin that a line has set: `pin V K`.
-pub fn pin_line(vehicle: u32, stops: u32) -> Line
+pub fn pin_line(vehicle: u32, stops: u32) -> ShortLine
     ensures { result ≡ pin_text vehicle stops }
 {
-    let mut line = Line::new();
+    let mut line = ShortLine::new();
     line.put("pin ");
     line.put_number(u64::from(vehicle));
     line.put(" ");
@@ -270,10 +270,10 @@ pub fn pin_line(vehicle: u32, stops: u32) -> Line
 }
 
 /// The number that the next order gets, the pickup's of a pair: `next N`.
-pub fn next_line(job: &Job) -> Line
+pub fn next_line(job: &Job) -> ShortLine
     ensures { result ≡ next_text job.now }
 {
-    let mut line = Line::new();
+    let mut line = ShortLine::new();
     line.put("next ");
     line.put_number(u64::from(job.problem.next_number));
     line

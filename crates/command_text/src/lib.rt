@@ -60,7 +60,7 @@ mod staging;
 mod steps;
 mod verbs;
 
-pub use answers::{Answer, Line, Progress, at_line, next_line, pin_line, progress_behind};
+pub use answers::{Answer, Progress, ShortLine, at_line, next_line, pin_line, progress_behind};
 pub use asked::{Asked, MAX_LEN, MAX_LINE, MAX_SEARCH, Purpose, read_line};
 pub use first_word::FirstWord;
 pub use help::{HELP, help_lines};

@@ -82,7 +82,8 @@ solutions_pass keeps many rise walks whole sound_where kind text seed steps devi
     let verdict = whole p j.pins j.plan plan_passes (none_left p j.plan p.requests names) in
     let passes : IsVerdict p (printed (used_routes j.plan) (total_length p j.plan)) (Pass (cost_of p (used_routes j.plan))) = (verdict.0, refl) in
     let good = (sound_where p (used_routes j.plan) (total_length p j.plan) (Pass (cost_of p (used_routes j.plan))) is.kept passes).0 refl in
-    let prints : solution_of j ≡ record { routes = used_routes j.plan; cost = total_length p j.plan } = ap (λ (q : Instance). record { routes = used_routes j.plan; cost = total_length q j.plan }) kept.problem in
+    let prints : solution_of j ≡ record { routes = used_routes j.plan; cost = total_length p j.plan } = ap
+    (λ (q : Instance). record { routes = used_routes j.plan; cost = total_length q j.plan }) kept.problem in
     record {
       problem = p;
       problem_spelled = is.spelled;

@@ -82,7 +82,8 @@ module _ (add_up : SearchesAddUp) (many : RunsAreOneSearch) (begun : JobValue) (
         parts = omega arith;
       }
 
-  pub passes : (now : Option (List ℕ)) (is_told : Bool) (planner : State) (done parts : ℕ) → IsTelling begun steps before now is_told planner done parts → parts < 20 → twentieths steps (parts + 1) ≤ done
+  pub passes : (now : Option (List ℕ)) (is_told : Bool) (planner : State) (done parts : ℕ) → IsTelling begun steps before now is_told planner done parts
+      → parts < 20 → twentieths steps (parts + 1) ≤ done
       → IsTelling begun steps before now is_told planner done (parts + 1)
   passes now is_told planner done parts h less within = record {
     lines = h.lines;

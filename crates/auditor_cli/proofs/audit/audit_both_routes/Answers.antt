@@ -6,4 +6,5 @@ use Rattle.auditor_cli.proofs.audit.audit_both_routes.Goals as goal
 
 pub returns-clause-answer : goal.returns-clause-answer
 returns-clause-answer c =
-    IfOk-weaker c.answer_of.result _ _ (λ answer told. answer_is true c.args.kind c.args.instance.now c.args.solution.now c.in_ok-examined.examined answer c.in_ok-examined.ensures told) c.answer_of.ensures
+    IfOk-weaker c.answer_of.result _ _
+    (λ answer told. answer_is true c.args.kind c.args.instance.now c.args.solution.now c.in_ok-examined.examined answer c.in_ok-examined.ensures told) c.answer_of.ensures

@@ -27,6 +27,9 @@ returns-clause-told g c =
     let after = g.E.Write.contents c.tell_texts.new.errors in
     let behind = subst (λ x. Appends before after (behind_line paths.solution.now both.1.items ++ limit_line paths.kind paths.instance.now x)) c.deref-3.ensures.value
     (subst (λ y. Appends before after (behind_line paths.solution.now y ++ limit_line paths.kind paths.instance.now c.deref-3.result.now)) c.deref-4.ensures.value c.in_ok-tell_texts.ensures) in (
-      read_told (IsAnswerBy c.args.routes_alone c.args.paths.kind) c.args.paths.instance.now c.args.paths.solution.now _ _ _ _ c.in_ok-status.status both.0.items both.1.items c.deref.result.now c.deref-2.result.now c.audit_by-answer.result c.deref.ensures.value c.deref-2.ensures.value c.in-Ok.ensures c.audit_by-answer.ensures.answer c.in_ok-status.ensures,
+      read_told
+          (IsAnswerBy c.args.routes_alone c.args.paths.kind) c.args.paths.instance.now c.args.paths.solution.now _ _ _ _ c.in_ok-status.status both.0.items
+          both.1.items c.deref.result.now c.deref-2.result.now c.audit_by-answer.result c.deref.ensures.value c.deref-2.ensures.value c.in-Ok.ensures
+          c.audit_by-answer.ensures.answer c.in_ok-status.ensures,
       inl (both.0.items, both.1.items, c.in-Ok.ensures, behind),
     )

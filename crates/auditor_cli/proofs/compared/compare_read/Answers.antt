@@ -24,7 +24,11 @@ pub returns-clause-told : goal.returns-clause-told
 returns-clause-told g c =
     let pair = c.args.pair.now in
     let both = c.in-Ok.both in
-    let behind = subst (λ y. Appends (g.E.Write.contents c.args.errors.now) (g.E.Write.contents c.tell_listed_behind.new.errors) (listed_line c.args.place.list.now c.args.place.number pair.paths.solution.now y)) c.deref-3.ensures.value c.in_ok-tell_listed_behind.ensures in (
-      read_told (IsListedAnswer c.args.routes_alone pair.paths.kind pair.best) pair.paths.instance.now pair.paths.solution.now _ _ _ _ c.in_ok-status.status both.0.items both.1.items c.deref.result.now c.deref-2.result.now c.listed_answer-answer.result c.deref.ensures.value c.deref-2.ensures.value c.in-Ok.ensures c.listed_answer-answer.ensures.answer c.in_ok-status.ensures,
+    let behind = subst (λ y. Appends (g.E.Write.contents c.args.errors.now) (g.E.Write.contents c.tell_listed_behind.new.errors)
+    (listed_line c.args.place.list.now c.args.place.number pair.paths.solution.now y)) c.deref-3.ensures.value c.in_ok-tell_listed_behind.ensures in (
+      read_told
+          (IsListedAnswer c.args.routes_alone pair.paths.kind pair.best) pair.paths.instance.now pair.paths.solution.now _ _ _ _ c.in_ok-status.status
+          both.0.items both.1.items c.deref.result.now c.deref-2.result.now c.listed_answer-answer.result c.deref.ensures.value c.deref-2.ensures.value
+          c.in-Ok.ensures c.listed_answer-answer.ensures.answer c.in_ok-status.ensures,
       inl (both.0.items, both.1.items, c.in-Ok.ensures, behind),
     )

@@ -1,3 +1,4 @@
+-- Routes without a cost have the verdict of the same routes with their true cost.
 use Rattle.std.proofs.Common.{true}
 use Rattle.auditor_cli.proofs.ExaminedLemmas.{has_verdict}
 use Rattle.auditor_cli.proofs.explained.rests_on_fault.Goals as goal

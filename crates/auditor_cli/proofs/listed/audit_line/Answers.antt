@@ -30,7 +30,8 @@ returns-clause-told g c = λ answered counted.
     IfOk-weaker c.compare_read.result _ _
     (λ status told. (
       pair_text instance solution told.0.0,
-      told_of_listed c.args.asked.routes_alone c.args.asked.kind pair.paths.kind c.in-Some.ensures.0 c.args.asked.path.now c.args.line.now instance solution pair.best c.in-Some.ensures.1 was now told.0.0 status counted told.0.1 told.1,
+      told_of_listed c.args.asked.routes_alone c.args.asked.kind pair.paths.kind c.in-Some.ensures.0 c.args.asked.path.now c.args.line.now instance solution
+          pair.best c.in-Some.ensures.1 was now told.0.0 status counted told.0.1 told.1,
       told_of_pair instance solution told.0.0 before mid _ wrote told.0.2,
     )) c.compare_read.ensures.told
 

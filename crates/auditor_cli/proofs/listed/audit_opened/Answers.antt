@@ -9,7 +9,8 @@ use Rattle.auditor_cli.proofs.listed.audit_opened.Goals as goal
 
 pub returns-in-Err-clause-reads : goal.returns-in-Err-clause-reads
 returns-in-Err-clause-reads g c =
-    first_read c.args.asked.path.now (g.F.ReadFiles.reads c.args.files.now) c.loop.counter (g.F.ReadFiles.reads c.loop.files) (g.F.ReadFiles.reads c.read_line.new.self) (Err (error_kind c.in-Err.error))
+    first_read c.args.asked.path.now (g.F.ReadFiles.reads c.args.files.now) c.loop.counter (g.F.ReadFiles.reads c.loop.files)
+    (g.F.ReadFiles.reads c.read_line.new.self) (Err (error_kind c.in-Err.error))
     c.loop.invariant.2 c.in-Err.ensures.noted
 
 pub returns-in-Err-clause-told : goal.returns-in-Err-clause-told
@@ -22,9 +23,13 @@ returns-in-Err-clause-told g c =
     let before = g.W.Write.contents c.args.output.now in
     let now = g.W.Write.contents c.loop.output in
     let after = g.W.Write.contents c.tell_broken_off.new.output in
-    let noted : later ≡ read_more (path, Err c.kind.result) next = ap (λ files. standing files errors c.loop.answered) (c.in-Err.ensures.noted ∙ ap (λ kind. (path, Err kind) ∷ g.F.ReadFiles.reads c.loop.files) (sym c.kind.ensures)) in
+    let noted : later ≡ read_more (path, Err c.kind.result) next = ap (λ files. standing files errors c.loop.answered)
+    (c.in-Err.ensures.noted ∙ ap (λ kind. (path, Err kind) ∷ g.F.ReadFiles.reads c.loop.files) (sym c.kind.ensures)) in
     IfOk-weaker c.tell_broken_off.result _ _
-    (λ status told. (c.loop.answered, broken_off c.args.asked.routes_alone c.args.asked.kind path was before next later now after c.loop.greatest c.loop.invariant.0 c.kind.result status noted told.0 told.1))
+    (λ status told. (
+      c.loop.answered,
+      broken_off c.args.asked.routes_alone c.args.asked.kind path was before next later now after c.loop.greatest c.loop.invariant.0 c.kind.result status noted told.0 told.1,
+    ))
     c.tell_broken_off.ensures.told
 
 pub returns-in_err-status-clause-reads : goal.returns-in_err-status-clause-reads

@@ -19,5 +19,6 @@ returns c =
     let taking = with_solution_apps names (versioned_app (codes "planner")) in
     let one = c.with_solution_commands-planner.ensures (versioned_app (codes "planner")) none_is in
     let two = c.with_search_commands-planner.ensures taking one in
-    IfOk-weaker c.with_store_commands.result _ _ (λ (command : Command) (is : app_of command ≡ planner_app names modes). record { names = names; kinds = kinds; mode_names = modes; modes = named; app = is })
+    IfOk-weaker c.with_store_commands.result _ _ (λ (command : Command) (is : app_of command ≡ planner_app names modes). record
+    { names = names; kinds = kinds; mode_names = modes; modes = named; app = is })
     (c.with_store_commands.ensures (with_search_apps names taking) two)

@@ -5,4 +5,6 @@ use Rattle.command_line.proofs.CommandLemmas.{told_run}
 use Rattle.command_line.proofs.matches.store_words.Goals as goal
 
 pub returns-in_default : goal.returns-in_default
-returns-in_default c = c.run_words.ensures ∙ sym (told_run c.args.name.now (rows_of (found_of c.args.words.now)) c.in_default.not-format c.in_default.not-load c.in_default.not-adopt c.in_default.not-instance c.in_default.not-check c.in_default.not-upgrade)
+returns-in_default c = c.run_words.ensures ∙ sym (told_run c.args.name.now
+    (rows_of
+    (found_of c.args.words.now)) c.in_default.not-format c.in_default.not-load c.in_default.not-adopt c.in_default.not-instance c.in_default.not-check c.in_default.not-upgrade)

@@ -1,3 +1,4 @@
+-- A line of eleven numbers asks for two spots, or for nothing.
 use Rattle.std.proofs.Common.{None}
 use Rattle.command_text.specs.declared.fields.Field.{Field}
 use Rattle.command_text.proofs.FieldLemmas.{eleven_read}

@@ -1,3 +1,4 @@
+-- Where a word behind the name is no number, the line is no command.
 use Rattle.command_text.proofs.FieldLemmas.{no_command}
 use Rattle.command_text.proofs.asked.numbers_of_words.Goals as goal
 

@@ -1,3 +1,4 @@
+-- Words taken one by one give all their numbers, or none where one is no number or one is too many.
 use Rattle.std.proofs.Common.{rules}
 use Rattle.command_text.proofs.FieldLemmas.{begin, go_on, no_integer, too_many, all_taken}
 use Rattle.command_text.proofs.fields.integers.Goals as goal

@@ -1,3 +1,4 @@
+-- The numbers so far lead on to those of all words.
 use Rattle.command_text.proofs.FieldLemmas.{TakesOn}
 use Rattle.command_text.proofs.fields.integers.Given as goal
 

@@ -1,3 +1,4 @@
+-- A job's plan passes, so the vehicle's route has live stops, each once, and few enough of them.
 use Rattle.std.proofs.Common.{◌∙◌, ℕ, List, All, sym, ap, subst}
 use Rattle.route_sched.specs.Route.{AreLiveOnce}
 use Rattle.move_ops.specs.Insertion.{of_vehicle}

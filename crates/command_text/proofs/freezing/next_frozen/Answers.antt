@@ -1,3 +1,4 @@
+-- The first vehicle of those left with something to freeze is the next one of all; there may be none.
 use Rattle.std.proofs.Common.{rules, ◌≡◌, ◌∙◌, sym, arith}
 use Rattle.command_text.proofs.FreezeLemmas.{next_pin, no_pin, none_left}
 use Rattle.command_text.proofs.freezing.next_frozen.Goals as goal

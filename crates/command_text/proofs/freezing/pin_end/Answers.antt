@@ -1,3 +1,4 @@
+-- The first end at which the front may be pinned, counted up from the stops that have set off.
 use Rattle.std.proofs.Common.{◌∙◌, ◌+◌, ◌-◌, ℕ, List, length, sym, ap, arith, refl}
 use Rattle.std.specs.List.{find, range_with_len}
 use Rattle.command_text.specs.Freezing.{may_be_pinned}
@@ -15,7 +16,8 @@ loop-stops-init c j is = refl
 
 pub loop-stops-preserved : goal.loop-stops-preserved
 loop-stops-preserved c j is =
-    sym (first_later (may_be_pinned j c.args.vehicle) c.loop-stops.stops (length c.args.route.now + 1) c.loop-stops-test.true (sym (c.may_be_pinned.ensures j is) ∙ c.if-may_be_pinned.false)) ∙ c.loop-stops.invariant j is
+    sym (first_later (may_be_pinned j c.args.vehicle) c.loop-stops.stops (length c.args.route.now + 1) c.loop-stops-test.true
+    (sym (c.may_be_pinned.ensures j is) ∙ c.if-may_be_pinned.false)) ∙ c.loop-stops.invariant j is
 
 pub returns : goal.returns
 returns c j is own =

@@ -1,3 +1,4 @@
+-- The vehicle has set off to the stops counted so far, and not to the next one.
 use Rattle.std.proofs.Common.{rules, ◌≡◌, ◌∙◌, ◌≤◌, ℕ, true, false, [], length, sym, ap, arith}
 use Rattle.route_sched.specs.Visiting.{visit_after, visits_from}
 use Rattle.plan_audit.proofs.VisitLemmas.{visit_is, visits_left}

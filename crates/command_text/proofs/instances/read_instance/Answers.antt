@@ -1,6 +1,8 @@
+-- A text is read as the one problem or fault that the reading has for it.
 use Rattle.command_text.proofs.ReadLemmas.{read_once}
 use Rattle.command_text.proofs.instances.read_instance.Goals as goal
 
 pub returns : goal.returns
 returns c reading is =
-    read_once c.args.kind c.args.text.now c.read_instance.result (reading.instance c.args.kind c.args.text.now) c.read_instance.ensures.value c.read_instance.ensures.fault (is.instances c.args.kind c.args.text.now)
+    read_once c.args.kind c.args.text.now c.read_instance.result
+    (reading.instance c.args.kind c.args.text.now) c.read_instance.ensures.value c.read_instance.ensures.fault (is.instances c.args.kind c.args.text.now)

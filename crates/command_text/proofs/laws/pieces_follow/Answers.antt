@@ -1,3 +1,4 @@
+-- An input is cut into lines, each with the bytes that it announces.
 use Rattle.command_text.proofs.CutLemmas.{none, follow, last}
 use Rattle.command_text.proofs.laws.pieces_follow.Goals as goal
 

@@ -1,3 +1,4 @@
+-- There is a reading of all texts, and one alone.
 use Rattle.command_text.proofs.ReadingLemmas.{readings_agree, some_reading}
 use Rattle.command_text.proofs.laws.texts_have_a_reading.Goals as goal
 

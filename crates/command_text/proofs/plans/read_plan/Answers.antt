@@ -1,3 +1,4 @@
+-- A text is seated over the job's problem as the reading has it, or memory was refused.
 use Rattle.std.proofs.Common.{subst, rules}
 use Rattle.command_core.specs.Job.{JobValue}
 use Rattle.command_text.specs.Readings.{IsPlanUnlessMemory}

@@ -1,3 +1,4 @@
+-- The vehicle's route has live stops, each once.
 use Rattle.std.proofs.Common.{sym, subst}
 use Rattle.route_sched.specs.Route.{AreLiveOnce}
 use Rattle.command_text.proofs.RouteLemmas.{vehicle_once}

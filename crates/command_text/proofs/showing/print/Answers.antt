@@ -1,3 +1,4 @@
+-- Of a plan that leaves nothing out only want of memory is told.
 use Rattle.std.proofs.Common.{◌≡◌, subst}
 use Rattle.route_sched.specs.Cost.{unplanned_count}
 use Rattle.command_core.specs.Job.{JobValue}

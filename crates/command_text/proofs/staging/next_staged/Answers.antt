@@ -19,4 +19,5 @@ returns-in-None c =
     let a = c.args in
     let job = a.job.now in
     let none : next_deviation a.from a.to job ≡ None = search rules in
-    subst (λ (cs : List Command). MatchOption c.next_in_stage.result (cs ≡ []) (λ x. cs ≡ x.0 ∷ commands_of x.1 (effect (Loaded job) x.0))) (sym (none_set a.from a.to job none)) c.next_in_stage.ensures
+    subst (λ (cs : List Command). MatchOption c.next_in_stage.result (cs ≡ []) (λ x. cs ≡ x.0 ∷ commands_of x.1 (effect (Loaded job) x.0)))
+    (sym (none_set a.from a.to job none)) c.next_in_stage.ensures

@@ -7,7 +7,8 @@ use Rattle.plan_solve.proofs.annealing.anneal_telling.Goals as goal
 
 pub loop-command-init : goal.loop-command-init
 loop-command-init g c =
-    begins c.args.begun c.args.steps c.from.result (g.W.Write.contents c.args.progress.now) (g.W.Write.contents c.tell-is_told.new.progress) _ _ _ c.from.ensures c.new-planner.ensures c.in_ok-job_of.ensures refl
+    begins c.args.begun c.args.steps c.from.result (g.W.Write.contents c.args.progress.now)
+    (g.W.Write.contents c.tell-is_told.new.progress) _ _ _ c.from.ensures c.new-planner.ensures c.in_ok-job_of.ensures refl
     (λ t. (c.tell-is_told.ensures t).1)
 
 pub loop-command-preserved : goal.loop-command-preserved
@@ -17,7 +18,8 @@ loop-command-preserved g c =
     let behind = c.in-Some.behind in
     let all : commands_of l.left l.planner ≡ command ∷ commands_of behind (effect l.planner command) =
     subst (λ s. commands_of l.left s ≡ command ∷ commands_of behind (effect s command)) c.state.ensures c.in-Some.ensures in
-    goes_on c.args.begun c.args.steps (g.W.Write.contents c.args.progress.now) (g.W.Write.contents l.progress) (g.W.Write.contents c.tell_more-told.new.progress) l.told c.tell_more-told.result l.planner
+    goes_on c.args.begun c.args.steps (g.W.Write.contents c.args.progress.now) (g.W.Write.contents l.progress)
+    (g.W.Write.contents c.tell_more-told.new.progress) l.told c.tell_more-told.result l.planner
     c.carry_out.new.planner l.left behind command _ l.invariant all c.in_ok-carry_out.ensures c.in_ok-job_of-2.ensures c.tell_more-told.ensures.parts c.tell_more-told.ensures.told
 
 pub loop-command-smaller : goal.loop-command-smaller

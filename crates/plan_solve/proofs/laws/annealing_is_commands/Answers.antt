@@ -1,3 +1,4 @@
+-- The commands of the stages make what is solved, and so does the line `anneal 0 STEPS`.
 use Rattle.plan_solve.proofs.AnnealLemmas.{line_leaves_it, stages_make_it}
 use Rattle.plan_solve.proofs.laws.annealing_is_commands.Goals as goal
 

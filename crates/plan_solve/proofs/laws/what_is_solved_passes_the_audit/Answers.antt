@@ -1,3 +1,4 @@
+-- A printed solution passes: commands keep what a job is, and empty routes change no verdict.
 use Rattle.plan_solve.proofs.AuditedLemmas.{solutions_pass}
 use Rattle.plan_solve.proofs.laws.what_is_solved_passes_the_audit.Goals as goal
 

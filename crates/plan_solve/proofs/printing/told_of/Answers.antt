@@ -1,3 +1,4 @@
+-- Where no request is left out, the text spells the solution.
 use Rattle.std.proofs.Common.{◌∙◌}
 use Rattle.plan_solve.proofs.printing.told_of.Goals as goal
 

@@ -12,7 +12,9 @@ loop-parts-init g c =
     let begun = with_deviation c.args.begun c.args.deviation in
     let before = g.W.Write.contents c.args.progress.now in
     let now = g.W.Write.contents c.tell-is_told.new.progress in
-    begins law.two law.many begun c.args.steps before now c.tell-is_told.result _ _ (c.in_ok-carry_out.ensures ∙ ap (λ s. effect s (Deviation c.args.deviation)) c.new-planner.ensures) c.in_ok-job_of.ensures (λ t. (c.tell-is_told.ensures t).1)
+    begins law.two law.many begun c.args.steps before now c.tell-is_told.result _ _
+    (c.in_ok-carry_out.ensures ∙ ap (λ s. effect s (Deviation c.args.deviation)) c.new-planner.ensures) c.in_ok-job_of.ensures
+    (λ t. (c.tell-is_told.ensures t).1)
 
 pub loop-parts-preserved-then-done-mark : goal.loop-parts-preserved-then-done-mark
 loop-parts-preserved-then-done-mark g c =
@@ -42,5 +44,6 @@ returns g c =
     let law = c.searches_add_up.ensures in
     let l = c.loop-parts in
     let begun = with_deviation c.args.begun c.args.deviation in
-    let all = ends law.two law.many begun c.args.steps (g.W.Write.contents c.args.progress.now) (g.W.Write.contents l.progress) l.is_told l.planner _ l.done l.parts l.invariant c.loop-parts-test.false c.in_ok-job.ensures in
+    let all = ends law.two law.many begun c.args.steps (g.W.Write.contents c.args.progress.now)
+    (g.W.Write.contents l.progress) l.is_told l.planner _ l.done l.parts l.invariant c.loop-parts-test.false c.in_ok-job.ensures in
     record { made = all.0; told = all.1 }

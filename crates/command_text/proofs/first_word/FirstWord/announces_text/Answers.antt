@@ -1,3 +1,4 @@
+-- A first word that came in pieces announces a text where the line does.
 use Rattle.std.proofs.Common.{◌∙◌, ap}
 use Rattle.command_text.specs.Scanning.{says_whole}
 use Rattle.command_text.proofs.ScanLemmas.{says_first_word}

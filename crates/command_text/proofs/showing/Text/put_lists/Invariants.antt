@@ -1,7 +1,7 @@
+-- The text so far and that of the lists to come.
 use Rattle.std.proofs.Common.{◌≡◌, ◌+◌, ◌++◌, drop}
 use Rattle.command_text.specs.Showing.{lists_text}
 use Rattle.command_text.proofs.showing.Text.put_lists.Given as goal
 
--- the text so far and that of the lists to come
 abbrev pub invariant-loop-place : goal.invariant-loop-place
 invariant-loop-place l = l.self ++ lists_text l.key (l.place + 1) (drop l.place l.lists) ≡ l.fn.self ++ lists_text l.key 1 l.lists

@@ -1,7 +1,7 @@
+-- The text so far and that of the stops to come.
 use Rattle.std.proofs.Common.{◌≡◌, ◌++◌, drop}
 use Rattle.sol_text.specs.Written.{customers_text}
 use Rattle.command_text.proofs.showing.Text.put_stops.Given as goal
 
--- the text so far and that of the stops to come
 abbrev pub invariant-loop-stop : goal.invariant-loop-stop
 invariant-loop-stop l = l.self ++ customers_text (drop l.stop-index l.stops) ≡ l.fn.self ++ customers_text l.stops

@@ -1,8 +1,8 @@
+-- The text so far and that of the names to come.
 use Rattle.std.proofs.Common.{◌≡◌, ◌++◌, drop}
 use Rattle.std.specs.List.{flat_map}
 use Rattle.command_text.specs.Showing.{unplanned_text}
 use Rattle.command_text.proofs.showing.Text.put_unplanned.Given as goal
 
--- the text so far and that of the names to come
 abbrev pub invariant-loop-name : goal.invariant-loop-name
 invariant-loop-name l = l.self ++ flat_map unplanned_text (drop l.name-index l.names) ≡ l.fn.self ++ flat_map unplanned_text l.names
