@@ -10,7 +10,23 @@ use Rattle.recover.specs.Sessions.{SessionValue}
 use Rattle.recover.specs.declared.denials.Denial.{Denial}
 use Rattle.recover.specs.declared.denials.Denial.TheVariants.{Broken, Core, DeviceFault, OutOfMemory, Spent}
 use Rattle.recover.specs.declared.replies.Reply.{Reply as SessionReply}
-use Rattle.command_serving.specs.Acts.{Act, Applied, Text, BeginsWith, carried_in, carried_of, commands_in, commands_of, fates_in, fates_of, had_it_not_failed, kept_of, replies_in, replies_of, unfailed}
+use Rattle.command_serving.specs.Acts.{
+  Act,
+  Applied,
+  Text,
+  BeginsWith,
+  carried_in,
+  carried_of,
+  commands_in,
+  commands_of,
+  fates_in,
+  fates_of,
+  had_it_not_failed,
+  kept_of,
+  replies_in,
+  replies_of,
+  unfailed,
+}
 use Rattle.command_serving.specs.Served.{as_serving, preceded}
 
 -- ---- lists that begin so

@@ -1,5 +1,37 @@
 -- The answer to a line, and what is answered further.
-use Rattle.std.proofs.Common.{◌≡◌, ◌∙◌, ℕ, ◌<◌, Bool, true, false, List, [], ◌∷◌, ◌++◌, ◌⊎◌, inl, inr, Option, Some, None, Result, Ok, Err, length, take, drop, refl, sym, ap, ap₂, subst, arith, append-nil, append_assoc}
+use Rattle.std.proofs.Common.{
+  ◌≡◌,
+  ◌∙◌,
+  ℕ,
+  ◌<◌,
+  Bool,
+  true,
+  false,
+  List,
+  [],
+  ◌∷◌,
+  ◌++◌,
+  ◌⊎◌,
+  inl,
+  inr,
+  Option,
+  Some,
+  None,
+  Result,
+  Ok,
+  Err,
+  length,
+  take,
+  drop,
+  refl,
+  sym,
+  ap,
+  ap₂,
+  subst,
+  arith,
+  append-nil,
+  append_assoc,
+}
 use Rattle.std.specs.Prelude.{◌^◌, ◌≤◌, IfSome, MatchResult, nat_lt, if◌then◌else◌, ⊤}
 use Rattle.std.proofs.lemmas.Bool.{lt-ltb, ltb-true}
 use Rattle.std.proofs.lemmas.List.{take-append-le, drop-append-le, drop_all, take_all}
@@ -63,7 +95,10 @@ asked_serves reading old new p ps x y serves =
         told = told_before old (λ s. asked_reply reading s p.asked p.text (is_short p)) (λ s. served reading s (p ∷ ps)) acts serves.text serves.leads.turns
             (λ s.
             let behind = served reading (asked_reply reading s p.asked p.text (is_short p)).left ps in
-            record { text = record { rest = behind.text; whole = ap (λ (r : Reply). r.text) (first s) }; commands = record { rest = behind.commands; whole = ap (λ (r : Reply). r.commands) (first s) } })
+            record {
+              text = record { rest = behind.text; whole = ap (λ (r : Reply). r.text) (first s) };
+              commands = record { rest = behind.commands; whole = ap (λ (r : Reply). r.commands) (first s) };
+            })
             serves.leads.told;
         says = λ later.
             first (as_serving old (fates_of acts ++ later)) ∙ ap (λ (r : Reply). joined_replies r (served reading r.left ps)) (serves.leads.says later)
@@ -82,7 +117,8 @@ asked_serves reading old new p ps x y serves =
       written = serves.written;
     }
 
-ended_serves : {D : Type 0} {on : sectors.Ghosts D} (reading : Reading) (old new : SessionValue D) (f : Serving → Reply) (x y : Stream) → Serves on old f x y new (λ s. served reading s []) → Serves on old f x y new silent
+ended_serves : {D : Type 0} {on : sectors.Ghosts D} (reading : Reading) (old new : SessionValue D) (f : Serving → Reply) (x y : Stream)
+    → Serves on old f x y new (λ s. served reading s []) → Serves on old f x y new silent
 unfolding leads_to
 ended_serves reading old new f x y serves = record {
   text = serves.text;
@@ -94,11 +130,13 @@ ended_serves reading old new f x y serves = record {
 
 module _ {D : Type 0} {on : sectors.Ghosts D} (reading : Reading) where
   -- what is left is what the pieces behind say
-  as_pieces : (goes : Goes) (left : List ℕ) (old new : SessionValue D) (f : Serving → Reply) (t : List ℕ) → Leads on old f t new (goes_on reading goes left) → Leads on old f t new (λ s. served reading s (pieces_behind goes left))
+  as_pieces : (goes : Goes) (left : List ℕ) (old new : SessionValue D) (f : Serving → Reply) (t : List ℕ) → Leads on old f t new (goes_on reading goes left)
+      → Leads on old f t new (λ s. served reading s (pieces_behind goes left))
   as_pieces On left old new f t leads = leads
   as_pieces ToEnd left old new f t leads = leads_to old new f silent (λ s. served reading s []) t (λ fates. sym (served_none reading (as_serving new fates))) leads
 
-  same_turns : (goes : Goes) (left : List ℕ) (old new : SessionValue D) (f : Serving → Reply) (t : List ℕ) (leads : Leads on old f t new (goes_on reading goes left)) → (as_pieces goes left old new f t leads).turns ≡ leads.turns
+  same_turns : (goes : Goes) (left : List ℕ) (old new : SessionValue D) (f : Serving → Reply) (t : List ℕ)
+      (leads : Leads on old f t new (goes_on reading goes left)) → (as_pieces goes left old new f t leads).turns ≡ leads.turns
   unfolding as_pieces leads_to
   same_turns On left old new f t leads = refl
   same_turns ToEnd left old new f t leads = refl
@@ -112,7 +150,8 @@ module _ {D : Type 0} {on : sectors.Ghosts D} (reading : Reading) where
   answered_on old pieces behind turns more p =
       record { mid = p.mid; text = p.text; leads = p.leads; rest = p.rest ++ more; first = ap (λ l. l ++ more) p.first ∙ append_assoc p.leads.turns p.rest more }
 
-  answered_behind : (old mid : SessionValue D) (pieces between behind : List Piece) (t : List ℕ) (first : Leads on old (λ s. served reading s pieces) t mid (λ s. served reading s between)) (turns : List Turn)
+  answered_behind : (old mid : SessionValue D) (pieces between behind : List Piece) (t : List ℕ)
+      (first : Leads on old (λ s. served reading s pieces) t mid (λ s. served reading s between)) (turns : List Turn)
       → AreAnswered on reading mid between behind turns → AreAnswered on reading old pieces behind (first.turns ++ turns)
   unfolding leads_on
   answered_behind old mid pieces between behind t first turns p = record {
@@ -124,7 +163,8 @@ module _ {D : Type 0} {on : sectors.Ghosts D} (reading : Reading) where
   }
 
   -- a piece that was answered
-  piece_answered : (old new : SessionValue D) (p : Piece) (all : List Piece) (t : List ℕ) (goes : Goes) (left : List ℕ) → all ≡ p ∷ pieces_behind goes left → (leads : Leads on old (λ s. served reading s all) t new (goes_on reading goes left))
+  piece_answered : (old new : SessionValue D) (p : Piece) (all : List Piece) (t : List ℕ) (goes : Goes) (left : List ℕ) → all ≡ p ∷ pieces_behind goes left
+      → (leads : Leads on old (λ s. served reading s all) t new (goes_on reading goes left))
       → (some others : List Piece) → p ∷ [] ≡ some ++ others → AreAnswered on reading old all (others ++ pieces_behind goes left) leads.turns
   piece_answered old new p all t goes left is leads [] others e =
       subst (λ ps. AreAnswered on reading old all ps leads.turns) (is ∙ ap (λ ps. ps ++ pieces_behind goes left) e) (none_answered old all leads.turns)
@@ -141,12 +181,14 @@ module _ {D : Type 0} {on : sectors.Ghosts D} (reading : Reading) where
   piece_answered old new p all t goes left is leads (x ∷ y ∷ some) others e = absurd cc
 
   -- one that was not
-  piece_begun : (old : SessionValue D) (p : Piece) (ps : List Piece) (turns : List Turn) (some others : List Piece) (next : Piece) → p ∷ [] ≡ some ++ next ∷ others → AreAnswered on reading old (p ∷ ps) (next ∷ (others ++ ps)) turns
+  piece_begun : (old : SessionValue D) (p : Piece) (ps : List Piece) (turns : List Turn) (some others : List Piece) (next : Piece) → p ∷ [] ≡ some
+      ++ next ∷ others → AreAnswered on reading old (p ∷ ps) (next ∷ (others ++ ps)) turns
   piece_begun old p ps turns [] others next e = subst (λ qs. AreAnswered on reading old (p ∷ ps) qs turns) (ap (λ qs. qs ++ ps) e) (none_answered old (p ∷ ps) turns)
   piece_begun old p ps turns (x ∷ []) others next e = absurd cc
   piece_begun old p ps turns (x ∷ y ∷ some) others next e = absurd cc
 
-  no_piece : (old : SessionValue D) (pieces behind : List Piece) (turns : List Turn) (some others : List Piece) (next : Piece) → [] ≡ some ++ next ∷ others → AreAnswered on reading old pieces (next ∷ (others ++ behind)) turns
+  no_piece : (old : SessionValue D) (pieces behind : List Piece) (turns : List Turn) (some others : List Piece) (next : Piece) → [] ≡ some ++ next ∷ others
+      → AreAnswered on reading old pieces (next ∷ (others ++ behind)) turns
   no_piece old pieces behind turns [] others next e = absurd cc
   no_piece old pieces behind turns (x ∷ some) others next e = absurd cc
 
@@ -174,7 +216,8 @@ module _ {D : Type 0} (on : sectors.Ghosts D) (reading : Reading) (old new : Ses
     told = told_before old f (with_rest f) l.acts t l.turns
         (λ s. record { text = record { rest = (served reading (f s).left ps).text; whole = refl }; commands = record { rest = (served reading (f s).left ps).commands; whole = refl } }) l.told;
     says = λ later.
-        ap (λ (r : Reply). joined_replies r (served reading r.left ps)) (l.says later) ∙ joined_on t (carried_of l.acts) (g (as_serving told later)) (served reading (g (as_serving told later)).left ps);
+        ap (λ (r : Reply). joined_replies r (served reading r.left ps)) (l.says later)
+        ∙ joined_on t (carried_of l.acts) (g (as_serving told later)) (served reading (g (as_serving told later)).left ps);
     asked = asked_front old f (with_rest f) l.acts (λ fates. record { rest = (served reading (f (as_serving old fates)).left ps).commands; whole = refl }) l.asked;
     asks = λ later. begins_before (kept_of l.acts) _ _ (l.asks later);
     state = l.state;
@@ -203,7 +246,8 @@ module _ {D : Type 0} (on : sectors.Ghosts D) (reading : Reading) (old new : Ses
   rest_is None s = refl
   rest_is (Some commands) s = refl
 
-  tells_still : (told : SessionValue D) (f : Serving → Reply) (later : Option (List Command)) (t : List ℕ) → Tells on told f t new (with_rest (still_carried later)) → Tells on told f t new (still reading later ps)
+  tells_still : (told : SessionValue D) (f : Serving → Reply) (later : Option (List Command)) (t : List ℕ)
+      → Tells on told f t new (with_rest (still_carried later)) → Tells on told f t new (still reading later ps)
   tells_still told f later t l = tells_to told new f (with_rest (still_carried later)) (still reading later ps) t (λ fates. rest_is later (as_serving new fates)) l
 
   pub asked_cut : CutOff on old asks x y new → IsCutShort on reading old (p ∷ ps) x y new
@@ -251,7 +295,8 @@ module _ {D : Type 0} (on : sectors.Ghosts D) (reading : Reading) (old new : Ses
 
 -- ---- a line with no bytes behind it
 
-line_served_on : {D : Type 0} {on : sectors.Ghosts D} (reading : Reading) (a : Asked) (rest : List ℕ) (old new : SessionValue D) (x y : Stream) (known : Option (List ℕ)) → cut_at a rest ≡ record { asked = a; text = [] } ∷ pieces_of rest → known ≡ Some rest
+line_served_on : {D : Type 0} {on : sectors.Ghosts D} (reading : Reading) (a : Asked) (rest : List ℕ) (old new : SessionValue D) (x y : Stream)
+    (known : Option (List ℕ)) → cut_at a rest ≡ record { asked = a; text = [] } ∷ pieces_of rest → known ≡ Some rest
     → Serves on old (λ s. asked_reply reading s a [] (is_short (record { asked = a; text = [] }))) x y new silent → ServesOn on reading old (cut_at a rest) x y new On known
 line_served_on {on = on} reading a rest old new x y known cut is serves =
     let all = subst (λ ps. Serves on old (λ s. served reading s ps) x y new (λ s. served reading s (pieces_of rest))) (sym cut)
@@ -265,7 +310,8 @@ line_served_on {on = on} reading a rest old new x y known cut is serves =
       lines = piece_answered reading old new (record { asked = a; text = [] }) (cut_at a rest) all.text On rest cut all.leads;
     }
 
-line_served_last : {D : Type 0} {on : sectors.Ghosts D} (reading : Reading) (a : Asked) (rest : List ℕ) (old new : SessionValue D) (x y : Stream) (known : Option (List ℕ)) → cut_at a rest ≡ record { asked = a; text = [] } ∷ [] → known ≡ Some rest
+line_served_last : {D : Type 0} {on : sectors.Ghosts D} (reading : Reading) (a : Asked) (rest : List ℕ) (old new : SessionValue D) (x y : Stream)
+    (known : Option (List ℕ)) → cut_at a rest ≡ record { asked = a; text = [] } ∷ [] → known ≡ Some rest
     → Serves on old (λ s. asked_reply reading s a [] (is_short (record { asked = a; text = [] }))) x y new silent → ServesOn on reading old (cut_at a rest) x y new ToEnd known
 line_served_last {on = on} reading a rest old new x y known cut is serves =
     let all = subst (λ ps. Serves on old (λ s. served reading s ps) x y new silent) (sym cut)
@@ -290,7 +336,8 @@ module _ {D E : Type 0} (on : sectors.Ghosts D) (reading : Reading) (a : Asked) 
       (subst (λ qs. IsCutShort on reading old qs x y new) (sym cut) (asked_cut on reading old new (record { asked = a; text = [] }) ps x y answers))
 
 -- by what the line asks for
-module _ {D E : Type 0} {line a : Asked} {known : Option (List ℕ)} (on : sectors.Ghosts D) (old new : SessionValue D) (x y : Stream) (r : Result Goes ServeFault) (reading : Reading) (rest : List ℕ) (asks_for : line ≡ a) (told : Result ⊤ E) where
+module _ {D E : Type 0} {line a : Asked} {known : Option (List ℕ)} (on : sectors.Ghosts D) (old new : SessionValue D) (x y : Stream)
+    (r : Result Goes ServeFault) (reading : Reading) (rest : List ℕ) (asks_for : line ≡ a) (told : Result ⊤ E) where
   pub line_on : MatchResult told (λ _. r ≡ Ok On) (λ _. r ≡ Err fault.WriteFault) → cut_at a rest ≡ record { asked = a; text = [] } ∷ pieces_of rest → known ≡ Some rest
       → Answers on told old (λ s. asked_reply reading s a [] (is_short (record { asked = a; text = [] }))) x y new silent → GoesOn on r reading old (cut_at line rest) x y new known
   line_on is cut known_is answers =
@@ -320,7 +367,8 @@ drop_front len bytes rest is = drop-append-le len bytes rest (omega (arith, is))
 
 text_cut : (purpose : Purpose) (len : ℕ) (bytes rest : List ℕ) → length bytes ≡ len → cut_at (Text purpose len) (bytes ++ rest) ≡ record { asked = Text purpose len; text = bytes } ∷ pieces_of rest
 text_cut purpose len bytes rest is =
-    ap₂ {C = List Piece} (λ (text behind : List ℕ). record { asked = Text purpose len; text = text } ∷ (if nat_lt (length text) len then [] else pieces_of behind)) (take_front len bytes rest is) (drop_front len bytes rest is)
+    ap₂ {C = List Piece} (λ (text behind : List ℕ). record { asked = Text purpose len; text = text } ∷
+    (if nat_lt (length text) len then [] else pieces_of behind)) (take_front len bytes rest is) (drop_front len bytes rest is)
     ∙ ap (λ (b : Bool). record { asked = Text purpose len; text = bytes } ∷ (if b then [] else pieces_of rest)) (not_short len bytes is)
 
 short_cut : (purpose : Purpose) (len : ℕ) (bytes : List ℕ) → length bytes < len → cut_at (Text purpose len) bytes ≡ record { asked = Text purpose len; text = bytes } ∷ []
@@ -339,7 +387,8 @@ module _ {D : Type 0} (on : sectors.Ghosts D) (reading : Reading) (purpose : Pur
   -- told, with the bytes that came
   told_of : {E : Type 0} (told : Result ⊤ E) (to : Goes) (bytes : List ℕ) (ps : List Piece) (rest left : List ℕ) → MatchResult told (λ _. r ≡ Ok to) (λ _. r ≡ Err fault.WriteFault)
       → cut_at (Text purpose len) rest ≡ text_piece bytes ∷ ps → Answers on told old (λ s. asked_reply reading s (Text purpose len) bytes (is_short (text_piece bytes))) x y new silent
-      → (Serves on old (λ s. served reading s (text_piece bytes ∷ ps)) x y new (λ s. served reading s ps) → Serves on old (λ s. served reading s (text_piece bytes ∷ ps)) x y new (goes_on reading to left))
+      → (Serves on old (λ s. served reading s (text_piece bytes ∷ ps)) x y new (λ s. served reading s ps)
+      → Serves on old (λ s. served reading s (text_piece bytes ∷ ps)) x y new (goes_on reading to left))
       → ps ≡ pieces_behind to left → GoesOn on r reading old (cut_at (Text purpose len) rest) x y new (Some left)
   told_of (Ok done) to bytes ps rest left is cut answers ends behind =
       let all = subst (λ qs. Serves on old (λ s. served reading s qs) x y new (goes_on reading to left)) (sym cut) (ends (asked_serves reading old new (text_piece bytes) ps x y answers)) in
@@ -391,7 +440,8 @@ module _ {D : Type 0} (on : sectors.Ghosts D) (reading : Reading) (purpose : Pur
 
 -- ---- the end
 
-pub all_served : {D : Type 0} {on : sectors.Ghosts D} (follow : StatesFollow) (reading : Reading) (old new : SessionValue D) (input : List ℕ) (x y : Stream) (known : Option (List ℕ)) → ServesOn on reading old (pieces_of input) x y new ToEnd known
+pub all_served : {D : Type 0} {on : sectors.Ghosts D} (follow : StatesFollow) (reading : Reading) (old new : SessionValue D) (input : List ℕ) (x y : Stream)
+    (known : Option (List ℕ)) → ServesOn on reading old (pieces_of input) x y new ToEnd known
     → IsServed on reading old input x y new
 all_served {on = on} follow reading old new input x y known p =
     let serves = p.serves in
@@ -417,18 +467,24 @@ all_served {on = on} follow reading old new input x y known p =
     }
 
 -- nothing is asked
-pub nothing_on : {D : Type 0} {on : sectors.Ghosts D} (reading : Reading) (rest : List ℕ) (s : SessionValue D) (o : Stream) (known : Option (List ℕ)) → known ≡ Some rest → ServesOn on reading s (cut_at Nothing rest) o o s On known
-nothing_on reading rest s o known is = line_served_on reading Nothing rest s s o o known refl is (serves_as s s silent (λ t. asked_reply reading t Nothing [] false) silent o o (λ fates. refl) (serves_nothing s silent o))
+pub nothing_on : {D : Type 0} {on : sectors.Ghosts D} (reading : Reading) (rest : List ℕ) (s : SessionValue D) (o : Stream) (known : Option (List ℕ))
+    → known ≡ Some rest → ServesOn on reading s (cut_at Nothing rest) o o s On known
+nothing_on reading rest s o known is = line_served_on reading Nothing rest s s o o known refl is
+    (serves_as s s silent (λ t. asked_reply reading t Nothing [] false) silent o o (λ fates. refl) (serves_nothing s silent o))
 
 -- ---- line by line
 
 joined_split : (all front more behind rest : List Piece) → all ≡ front ++ behind → behind ≡ more ++ rest → all ≡ (front ++ more) ++ rest
 joined_split all front more behind rest first second = first ∙ ap (λ ps. front ++ ps) second ∙ sym (append_assoc front more rest)
 
-pub input_begun : {D : Type 0} {on : sectors.Ghosts D} (reading : Reading) (s : SessionValue D) (input : List ℕ) (o : Stream) (known : Option (List ℕ)) → known ≡ Some input → ServesOn on reading s (pieces_of input) o o s On known
-input_begun {on = on} reading s input o known is = record { left = input; is_known = is; front = []; split = refl; serves = serves_nothing s (λ t. served reading t (pieces_of input)) o; lines = none_yet }
+pub input_begun : {D : Type 0} {on : sectors.Ghosts D} (reading : Reading) (s : SessionValue D) (input : List ℕ) (o : Stream) (known : Option (List ℕ))
+    → known ≡ Some input → ServesOn on reading s (pieces_of input) o o s On known
+input_begun {on = on} reading s input o known is = record
+    { left = input; is_known = is; front = []; split = refl; serves = serves_nothing s (λ t. served reading t (pieces_of input)) o; lines = none_yet }
   where
-    none_yet : (some others : List Piece) → [] ≡ some ++ others → AreAnswered on reading s (pieces_of input) (others ++ pieces_of input) (serves_nothing {on = on} s (λ t. served reading t (pieces_of input)) o).leads.turns
+    none_yet : (some others : List Piece) → [] ≡ some ++ others
+        → AreAnswered on reading s (pieces_of input) (others ++ pieces_of input)
+        (serves_nothing {on = on} s (λ t. served reading t (pieces_of input)) o).leads.turns
     none_yet [] [] e = none_answered reading s (pieces_of input) _
     none_yet [] (x ∷ others) e = absurd cc
     none_yet (x ∷ some) others e = absurd cc
@@ -439,7 +495,8 @@ cut_known laws a left known None is cuts = absurd (subst (λ k. Cuts a k None) i
 cut_known laws a left known (Some rest) is cuts = (rest, refl, cut_pieces laws a left rest (subst (λ k. Cuts a k (Some rest)) is cuts))
 
 module _ {D : Type 0} {on : sectors.Ghosts D} (reading : Reading) (old mid new : SessionValue D) (pieces : List Piece) (x y z : Stream) where
-  joined : (known behind : Option (List ℕ)) (goes : Goes) (p : ServesOn on reading old pieces x y mid On known) → ServesOn on reading mid (pieces_of p.left) y z new goes behind → ServesOn on reading old pieces x z new goes behind
+  joined : (known behind : Option (List ℕ)) (goes : Goes) (p : ServesOn on reading old pieces x y mid On known)
+      → ServesOn on reading mid (pieces_of p.left) y z new goes behind → ServesOn on reading old pieces x z new goes behind
   unfolding serves_on leads_on
   joined known behind goes p q = record {
     left = q.left;
@@ -467,7 +524,8 @@ module _ {D : Type 0} {on : sectors.Ghosts D} (reading : Reading) (old mid new :
           answered_behind reading old mid pieces (pieces_of p.left) (others ++ pieces_behind goes q.left) p.serves.text p.serves.leads q.serves.leads.turns (q.lines c.0 others c.2)
 
   -- there was no further line
-  pub input_ended : (known : Option (List ℕ)) → pieces_of [] ≡ [] → ServesOn on reading old pieces x y mid On known → IfSome known (λ left. left ≡ []) → ServesOn on reading old pieces x y mid ToEnd known
+  pub input_ended : (known : Option (List ℕ)) → pieces_of [] ≡ [] → ServesOn on reading old pieces x y mid On known → IfSome known (λ left. left ≡ [])
+      → ServesOn on reading old pieces x y mid ToEnd known
   unfolding leads_to
   input_ended known none p ended =
       let empty : p.left ≡ [] = subst (λ k. IfSome k (λ left. left ≡ [])) p.is_known ended in
@@ -491,7 +549,8 @@ module _ {D : Type 0} {on : sectors.Ghosts D} (reading : Reading) (old mid new :
 -- nothing was under way
 cut_where : {D : Type 0} {on : sectors.Ghosts D} (reading : Reading) (old mid : SessionValue D) (pieces front behind : List Piece) (x y : Stream) → pieces ≡ front ++ behind
     → (serves : Serves on old (λ s. served reading s pieces) x y mid (λ s. served reading s behind))
-    → ((some others : List Piece) (next : Piece) → front ≡ some ++ next ∷ others → AreAnswered on reading old pieces (next ∷ (others ++ behind)) serves.leads.turns) → IsCutShort on reading old pieces x y mid
+    → ((some others : List Piece) (next : Piece) → front ≡ some ++ next ∷ others
+    → AreAnswered on reading old pieces (next ∷ (others ++ behind)) serves.leads.turns) → IsCutShort on reading old pieces x y mid
 cut_where {on = on} reading old mid pieces front behind x y split serves lines = record {
   commands = None;
   front = front;
@@ -513,7 +572,8 @@ cut_where {on = on} reading old mid pieces front behind x y split serves lines =
   part = none_put y (on.calls mid.device);
 }
 
-pub cut_between : {D : Type 0} {on : sectors.Ghosts D} (reading : Reading) (old mid : SessionValue D) (pieces : List Piece) (x y : Stream) (known : Option (List ℕ)) → ServesOn on reading old pieces x y mid On known → IsCutShort on reading old pieces x y mid
+pub cut_between : {D : Type 0} {on : sectors.Ghosts D} (reading : Reading) (old mid : SessionValue D) (pieces : List Piece) (x y : Stream)
+    (known : Option (List ℕ)) → ServesOn on reading old pieces x y mid On known → IsCutShort on reading old pieces x y mid
 cut_between reading old mid pieces x y known p = cut_where reading old mid pieces p.front (pieces_of p.left) x y p.split p.serves (λ some others next e. p.lines some (next ∷ others) e)
 
 -- nothing was served
@@ -557,9 +617,11 @@ module _ {D : Type 0} {on : sectors.Ghosts D} (reading : Reading) (old mid new :
           answered_behind reading old mid pieces (pieces_of p.left) (next ∷ (others ++ c.behind)) p.serves.text p.serves.leads c.answered.turns (c.lines e.0 others next e.2)
 
 -- behind a line that is the next one
-module _ {D : Type 0} {on : sectors.Ghosts D} {reading : Reading} {old mid new : SessionValue D} {pieces : List Piece} {x y z : Stream} {a : Asked} {found : Option Asked} {known next : Option (List ℕ)} (laws : CutLaws) (is : found ≡ Some a)
+module _ {D : Type 0} {on : sectors.Ghosts D} {reading : Reading} {old mid new : SessionValue D} {pieces : List Piece} {x y z : Stream} {a : Asked}
+    {found : Option Asked} {known next : Option (List ℕ)} (laws : CutLaws) (is : found ≡ Some a)
     (p : ServesOn on reading old pieces x y mid On known) (cuts : CutsNext found known next) where
-  pub line_served : {behind : Option (List ℕ)} {to goes : Goes} → to ≡ goes → ((rest : List ℕ) → next ≡ Some rest → ServesOn on reading mid (cut_at a rest) y z new to behind) → ServesOn on reading old pieces x z new goes behind
+  pub line_served : {behind : Option (List ℕ)} {to goes : Goes} → to ≡ goes
+      → ((rest : List ℕ) → next ≡ Some rest → ServesOn on reading mid (cut_at a rest) y z new to behind) → ServesOn on reading old pieces x z new goes behind
   line_served {behind = behind} {goes = goes} same more =
       let cut = cut_known laws a p.left known next p.is_known (subst (λ b. CutsNext b known next) is cuts) in
       joined reading old mid new pieces x y z known behind goes p
@@ -572,7 +634,8 @@ module _ {D : Type 0} {on : sectors.Ghosts D} {reading : Reading} {old mid new :
 
 -- ---- causes
 
-pub cause_of : (f : ServeFault) (reader_failed writer_failed : Bool) (left len : ℕ) → (left ≡ 0 → 10 ^ 12 ≤ len) → IsCause f reader_failed writer_failed left → HasCause f reader_failed writer_failed len
+pub cause_of : (f : ServeFault) (reader_failed writer_failed : Bool) (left len : ℕ) → (left ≡ 0 → 10 ^ 12 ≤ len) → IsCause f reader_failed writer_failed left
+    → HasCause f reader_failed writer_failed len
 cause_of fault.ReadFault reader_failed writer_failed left len most (inl failed) = inl failed
 cause_of fault.ReadFault reader_failed writer_failed left len most (inr none) = inr (most none)
 cause_of fault.WriteFault reader_failed writer_failed left len most failed = failed

@@ -1,5 +1,36 @@
 -- The causes of fates, act by act.
-use Rattle.std.proofs.Common.{◌≡◌, ◌∙◌, ℕ, suc, zero, ◌+◌, ◌≤◌, ◌<◌, Bool, true, false, List, [], ◌∷◌, ◌⊎◌, inl, inr, Option, Some, None, Result, Ok, Err, Contains, length, refl, ap, slice_index_or, subst, arith}
+use Rattle.std.proofs.Common.{
+  ◌≡◌,
+  ◌∙◌,
+  ℕ,
+  suc,
+  zero,
+  ◌+◌,
+  ◌≤◌,
+  ◌<◌,
+  Bool,
+  true,
+  false,
+  List,
+  [],
+  ◌∷◌,
+  ◌⊎◌,
+  inl,
+  inr,
+  Option,
+  Some,
+  None,
+  Result,
+  Ok,
+  Err,
+  Contains,
+  length,
+  refl,
+  ap,
+  slice_index_or,
+  subst,
+  arith,
+}
 use Rattle.std.specs.Prelude.{◌^◌, ◌==◌, ◌&&◌, if◌then◌else◌}
 use Rattle.std.specs.Option.{option_map, option_or}
 use Rattle.std.proofs.lemmas.Bool.{eqb-true}
@@ -88,7 +119,8 @@ module _ {D : Type 0} (on : sectors.Ghosts D) where
       kept_on same most = subst (λ (s : SessionValue D). 2 ^ 60 ≤ s.place.sequence + length (carried_of acts)) same most
 
       by_answer : (answer : Result (Unit {0}) Denial) (n : ℕ) → IsAppliedOn on old command (answers_so answer n) run.0 → Contains (fates_of (Applied command (answers_so answer n) ∷ acts)) SpentFate
-          → (Contains (fates_of acts) SpentFate → 2 ^ 60 ≤ run.0.place.sequence + length (carried_of acts)) → 2 ^ 60 ≤ old.place.sequence + length (carried_of (Applied command (answers_so answer n) ∷ acts))
+          → (Contains (fates_of acts) SpentFate → 2 ^ 60 ≤ run.0.place.sequence + length (carried_of acts))
+          → 2 ^ 60 ≤ old.place.sequence + length (carried_of (Applied command (answers_so answer n) ∷ acts))
       by_answer (Ok done) n applied is more =
           let most = more (behind Done (fates_of acts) (λ e. cc) is) in
           let place : run.0.place.sequence ≡ (place_after old.place command).sequence = ap (λ (p : Place). p.sequence) applied.makes.place in

@@ -1,5 +1,37 @@
 -- How an input that is known goes on by what was taken of it.
-use Rattle.std.proofs.Common.{◌≡◌, ◌∙◌, ℕ, ◌+◌, ◌≤◌, ◌<◌, Bool, true, false, List, [], ◌∷◌, ◌++◌, ◌⊎◌, inl, inr, Option, Some, None, Contains, length, take, drop, refl, sym, ap, subst, arith, append_assoc, append-nil, length-append}
+use Rattle.std.proofs.Common.{
+  ◌≡◌,
+  ◌∙◌,
+  ℕ,
+  ◌+◌,
+  ◌≤◌,
+  ◌<◌,
+  Bool,
+  true,
+  false,
+  List,
+  [],
+  ◌∷◌,
+  ◌++◌,
+  ◌⊎◌,
+  inl,
+  inr,
+  Option,
+  Some,
+  None,
+  Contains,
+  length,
+  take,
+  drop,
+  refl,
+  sym,
+  ap,
+  subst,
+  arith,
+  append_assoc,
+  append-nil,
+  length-append,
+}
 use Rattle.std.specs.Prelude.{OnSome, Result, if◌then◌else◌}
 use Rattle.std.specs.Io.KnownBytes.{Consumes, IsAtEnd, Keeps, ReadConsumes, prepend_known}
 use Rattle.std.specs.Str.Lines.{strip_carriage_return}
@@ -10,7 +42,25 @@ use Rattle.command_text.specs.Asking.{asked}
 use Rattle.command_text.specs.Cutting.{announced, ends, pieces_of}
 use Rattle.command_text.specs.Laws.{PiecesEnd, PiecesFollow, cut_at, piece_at}
 use Rattle.command_text.specs.declared.asked.Asked.{Asked}
-use Rattle.command_serving.specs.Input.{Counts, CountsAll, CountsExactly, CountsTaken, Cuts, CutsLine, CutsNext, IsLast, IsLineSoFar, IsPartOf, IsTextPart, Moves, MovesShown, TakesMore, TakesPart, TakesShown, left_of}
+use Rattle.command_serving.specs.Input.{
+  Counts,
+  CountsAll,
+  CountsExactly,
+  CountsTaken,
+  Cuts,
+  CutsLine,
+  CutsNext,
+  IsLast,
+  IsLineSoFar,
+  IsPartOf,
+  IsTextPart,
+  Moves,
+  MovesShown,
+  TakesMore,
+  TakesPart,
+  TakesShown,
+  left_of,
+}
 use Rattle.command_serving.specs.Knowing.{Beforehand, ByReads, Fits, How, left_by}
 use Rattle.command_serving.specs.Served.{IsInputOf}
 use Rattle.command_serving.specs.declared.input.Part.{Part}
@@ -100,7 +150,8 @@ part_last old mid new before after next p t asks = ends_by t.bytes t.moves (t.li
         last_cuts p.seen next p.free is old new all (known_before old mid new p.seen p.moves moves.2)
 
 -- at the end the line stays
-pub kept_at_end : (mid new : Option (List ℕ)) (before after : LineSoFar) (seen : List ℕ) → IsLineSoFar seen before → TakesPart mid new before after End → length after.kept.items ≡ length before.kept.items
+pub kept_at_end : (mid new : Option (List ℕ)) (before after : LineSoFar) (seen : List ℕ) → IsLineSoFar seen before → TakesPart mid new before after End
+    → length after.kept.items ≡ length before.kept.items
 kept_at_end mid new before after seen kept t =
     ap length ((t.line seen kept).0 ∙ ap (λ b. take 1026 (seen ++ b)) t.moves.0 ∙ ap (take 1026) (append-nil seen) ∙ sym kept.0)
 
@@ -131,7 +182,8 @@ module _ (rest known : Option (List ℕ)) (all behind : List ℕ) (keeps : Keeps
   pub part_taken : (before after : LineSoFar) (part : Part) → (all ≡ [] → IsAtEnd rest) → TakesShown all behind before after part → TakesPart known (prepend_known behind rest) before after part
   part_taken before after part end t = record { bytes = t.bytes; free = t.free; moves = moves_on part t.bytes end t.moves; line = t.line }
 
-counts_by : (rest known : Option (List ℕ)) (all front behind : List ℕ) (left later : ℕ) → Keeps known (prepend_known all rest) → all ≡ front ++ behind → left ≤ later + length front → CountsTaken known left (prepend_known behind rest) later
+counts_by : (rest known : Option (List ℕ)) (all front behind : List ℕ) (left later : ℕ) → Keeps known (prepend_known all rest) → all ≡ front ++ behind
+    → left ≤ later + length front → CountsTaken known left (prepend_known behind rest) later
 counts_by rest None all front behind left later keeps is most = tt
 counts_by None (Some xs) all front behind left later keeps is most = absurd keeps
 counts_by (Some ys) (Some xs) all front behind left later keeps is most =
@@ -141,7 +193,8 @@ counts_by (Some ys) (Some xs) all front behind left later keeps is most =
     let later_len : length (behind ++ ys) ≡ length behind + length ys = length-append behind ys in
     omega (arith, whole, parts, front_len, later_len, most)
 
-pub counts_part : (rest known : Option (List ℕ)) (all behind : List ℕ) (before after : LineSoFar) (part : Part) (n left later : ℕ) → Keeps known (prepend_known all rest) → TakesShown all behind before after part
+pub counts_part : (rest known : Option (List ℕ)) (all behind : List ℕ) (before after : LineSoFar) (part : Part) (n left later : ℕ)
+    → Keeps known (prepend_known all rest) → TakesShown all behind before after part
     → (part ≡ More n) ⊎ (part ≡ Feed n) → left ≤ later + n → CountsTaken known left (prepend_known behind rest) later
 counts_part rest known all behind before after part n left later keeps t (inl is) most =
     let moves = subst (λ p. MovesShown p all behind t.bytes) is t.moves in
@@ -152,7 +205,8 @@ counts_part rest known all behind before after part n left later keeps t (inr is
     counts_by rest known all (t.bytes ++ 10 ∷ []) behind left later keeps moves.0 (omega (arith, most, moves.1, more))
 
 -- so they are counted exactly
-all_by : (rest known : Option (List ℕ)) (all front behind : List ℕ) (left later : ℕ) → Keeps known (prepend_known all rest) → all ≡ front ++ behind → left ≡ later + length front → (0 < left → 0 < later)
+all_by : (rest known : Option (List ℕ)) (all front behind : List ℕ) (left later : ℕ) → Keeps known (prepend_known all rest) → all ≡ front ++ behind
+    → left ≡ later + length front → (0 < left → 0 < later)
     → CountsAll known left (prepend_known behind rest) later
 all_by rest None all front behind left later keeps is count some = tt
 all_by None (Some xs) all front behind left later keeps is count some = absurd keeps
@@ -163,7 +217,8 @@ all_by (Some ys) (Some xs) all front behind left later keeps is count some =
     let later_len : length (behind ++ ys) ≡ length behind + length ys = length-append behind ys in
     (omega (arith, whole, parts, front_len, later_len, count), some)
 
-pub all_part : (rest known : Option (List ℕ)) (all behind : List ℕ) (before after : LineSoFar) (part : Part) (n left later : ℕ) → Keeps known (prepend_known all rest) → TakesShown all behind before after part
+pub all_part : (rest known : Option (List ℕ)) (all behind : List ℕ) (before after : LineSoFar) (part : Part) (n left later : ℕ)
+    → Keeps known (prepend_known all rest) → TakesShown all behind before after part
     → (part ≡ More n) ⊎ (part ≡ Feed n) → left ≡ later + n → 0 < later → CountsAll known left (prepend_known behind rest) later
 all_part rest known all behind before after part n left later keeps t (inl is) count some =
     let moves = subst (λ p. MovesShown p all behind t.bytes) is t.moves in
@@ -197,7 +252,8 @@ counts_on (Some xs) (Some ys) None m n k p q = absurd q
 counts_on (Some xs) (Some ys) (Some zs) m n k p q = omega (arith, p, q)
 
 -- the same, where what is behind, the line and the part are known by other names
-pub part_named : (rest known : Option (List ℕ)) (behind behind' : List ℕ) (before after after' : LineSoFar) (part part' : Part) → behind' ≡ behind → after' ≡ after → part ≡ part' → TakesPart known (prepend_known behind rest) before after part
+pub part_named : (rest known : Option (List ℕ)) (behind behind' : List ℕ) (before after after' : LineSoFar) (part part' : Part) → behind' ≡ behind
+    → after' ≡ after → part ≡ part' → TakesPart known (prepend_known behind rest) before after part
     → TakesPart known (prepend_known behind' rest) before after' part'
 part_named rest known behind behind' before after after' part part' b a p t =
     subst (TakesPart known (prepend_known behind' rest) before after') p
@@ -222,7 +278,8 @@ module _ {R : Type 0} (on : sources.Ghosts R) where
 
   -- what was read was left before, however that is known
   pub read_however : {E : Type 0} (old new : R) (r : Result ℕ E) (block : List ℕ) → ReadConsumes (on.remaining old) (on.remaining new) r block
-      → ((text : List ℕ) → on.gave new text → ReadConsumes (Some (on.left old text)) (Some (on.left new text)) r block) → (how : How) → Fits on how new → ReadConsumes (left_by on how old) (left_by on how new) r block
+      → ((text : List ℕ) → on.gave new text → ReadConsumes (Some (on.left old text)) (Some (on.left new text)) r block) → (how : How) → Fits on how new
+      → ReadConsumes (left_by on how old) (left_by on how new) r block
   read_however old new r block known given Beforehand fits = known
   read_however old new r block known given (ByReads text) fits = given text fits
 

@@ -91,7 +91,8 @@ pub asked_kept : (kept line : List ℕ) → kept ≡ take 1026 line → length k
 asked_kept kept line is short = ap (λ l. asked (strip_carriage_return l)) (is ∙ kept_short 1026 line (omega (arith, short, ap length is)))
 
 -- and one that is too long
-pub asked_too_long : (kept line : List ℕ) (b : Bool) → kept ≡ take 1026 line → 1026 ≤ length kept → b ≡ announces_text (words_of (strip_carriage_return line)) → (if b then BadText else BadLine) ≡ asked (strip_carriage_return line)
+pub asked_too_long : (kept line : List ℕ) (b : Bool) → kept ≡ take 1026 line → 1026 ≤ length kept → b ≡ announces_text (words_of (strip_carriage_return line))
+    → (if b then BadText else BadLine) ≡ asked (strip_carriage_return line)
 asked_too_long kept line b is long e =
     let more : 1026 ≤ length line = kept_long 1026 line (omega (arith, long, ap length is)) in
     let over : 1024 < length (strip_carriage_return line) = omega (arith, more, stripped_len line) in

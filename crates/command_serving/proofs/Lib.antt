@@ -1,3 +1,4 @@
+-- The lemma files, which upper crates may cite.
 pub mod ActLemmas
 pub mod AskedLemmas
 pub mod CauseLemmas

@@ -13,7 +13,31 @@ use Rattle.command_core.specs.declared.commands.Command.TheVariants as command
 use Rattle.command_core.specs.declared.refusals.Refusal.TheVariants as core
 use Rattle.command_core.specs.declared.states.State.{State}
 use Rattle.command_core.specs.declared.states.State.TheVariants.{Empty, Loaded}
-use Rattle.command_text.specs.Answering.{Fate, Done, NoMemory, Failed, Reply, Serving, adopt, adopt_on, adopted_unless, answered, by_fate, informed, instance_told, load, next_fate, plain, printed, stated, told, told_unless, tried, unless_broken, with_text}
+use Rattle.command_text.specs.Answering.{
+  Fate,
+  Done,
+  NoMemory,
+  Failed,
+  Reply,
+  Serving,
+  adopt,
+  adopt_on,
+  adopted_unless,
+  answered,
+  by_fate,
+  informed,
+  instance_told,
+  load,
+  next_fate,
+  plain,
+  printed,
+  stated,
+  told,
+  told_unless,
+  tried,
+  unless_broken,
+  with_text,
+}
 use Rattle.command_text.specs.Answering.{Spent as SpentFate}
 use Rattle.command_text.specs.Answers.{answer_text, line}
 use Rattle.command_text.specs.Questions.{question_refusal, question_text}
@@ -58,13 +82,33 @@ text_acts None = []
 text_acts (Some some) = Text some ∷ []
 
 -- an answer that leaves the session as it is
-pub tells_fate : {D : Type 0} {on : sectors.Ghosts D} (s : SessionValue D) (f : Serving → Reply) (text : Option Bool) (a : Answer) → ((later : List Fate) → f (as_serving s (fates_of (text_acts text) ++ later)) ≡ answered (as_serving s later) a)
+pub tells_fate : {D : Type 0} {on : sectors.Ghosts D} (s : SessionValue D) (f : Serving → Reply) (text : Option Bool) (a : Answer)
+    → ((later : List Fate) → f (as_serving s (fates_of (text_acts text) ++ later)) ≡ answered (as_serving s later) a)
     → Tells on s f (line (answer_text a)) s silent
-tells_fate s f None a says = record { acts = []; run = refl; says = λ later. says later ∙ answered_is (as_serving s later) a; asked = asked_nothing s f; asks = λ later. begins_at_all _; state = refl; few = omega arith }
-tells_fate s f (Some some) a says = record { acts = Text some ∷ []; run = refl; says = λ later. says later ∙ answered_is (as_serving s later) a; asked = asked_text s f some; asks = λ later. begins_at_all _; state = refl; few = omega arith }
+tells_fate s f None a says = record {
+  acts = [];
+  run = refl;
+  says = λ later. says later
+      ∙ answered_is (as_serving s later) a;
+  asked = asked_nothing s f;
+  asks = λ later. begins_at_all _;
+  state = refl;
+  few = omega arith;
+}
+tells_fate s f (Some some) a says = record {
+  acts = Text some ∷ [];
+  run = refl;
+  says = λ later. says later
+      ∙ answered_is (as_serving s later) a;
+  asked = asked_text s f some;
+  asks = λ later. begins_at_all _;
+  state = refl;
+  few = omega arith;
+}
 
 -- a text, and `ok` behind it
-tells_text_after : {D : Type 0} {on : sectors.Ghosts D} (s : SessionValue D) (f : Serving → Reply) (made : Option Bool) (text : List ℕ) → ((later : List Fate) → f (as_serving s (fates_of (text_acts made) ++ later)) ≡ with_text text (answered (as_serving s later) answer.Ok))
+tells_text_after : {D : Type 0} {on : sectors.Ghosts D} (s : SessionValue D) (f : Serving → Reply) (made : Option Bool) (text : List ℕ)
+    → ((later : List Fate) → f (as_serving s (fates_of (text_acts made) ++ later)) ≡ with_text text (answered (as_serving s later) answer.Ok))
     → Tells on s f (text ++ line (answer_text answer.Ok)) s silent
 tells_text_after s f None text says = record {
   acts = [];
@@ -85,7 +129,8 @@ tells_text_after s f (Some some) text says = record {
   few = omega arith;
 }
 
-pub tells_text : {D : Type 0} {on : sectors.Ghosts D} (s : SessionValue D) (f : Serving → Reply) (text : List ℕ) → ((later : List Fate) → f (as_serving s (Done ∷ later)) ≡ with_text text (answered (as_serving s later) answer.Ok))
+pub tells_text : {D : Type 0} {on : sectors.Ghosts D} (s : SessionValue D) (f : Serving → Reply) (text : List ℕ)
+    → ((later : List Fate) → f (as_serving s (Done ∷ later)) ≡ with_text text (answered (as_serving s later) answer.Ok))
     → Tells on s f (text ++ line (answer_text answer.Ok)) s silent
 tells_text s f text says = tells_text_after s f (Some true) text says
 
@@ -152,7 +197,8 @@ load_broken old seed found e =
     tells_fate old (load_reply seed found) None answer.Broken (λ later. when_broken (as_serving old later) (load (next_fate later) (as_serving old later) seed found) e)
 
 -- a text that was read as faulty, or not for want of memory
-pub loaded_err : {D : Type 0} {on : sectors.Ghosts D} (old : SessionValue D) (seed : ℕ) (fault : ReadFault) (found : Result Instance ReadFault) → old.is_broken ≡ false → IsUnlessMemory (Err fault) found
+pub loaded_err : {D : Type 0} {on : sectors.Ghosts D} (old : SessionValue D) (seed : ℕ) (fault : ReadFault) (found : Result Instance ReadFault)
+    → old.is_broken ≡ false → IsUnlessMemory (Err fault) found
     → Tells on old (load_reply seed found) (line (answer_text (answer.Read fault))) old silent
 loaded_err old seed fault found e (inl is) = load_faulty old seed fault found e is
 loaded_err {on = on} old seed fault found e (inr none) =
@@ -160,7 +206,8 @@ loaded_err {on = on} old seed fault found e (inr none) =
     subst (λ f. Tells on old (load_reply seed found) (line (answer_text (answer.Read f))) old silent) (sym is) (load_dropped old seed found e)
 
 -- a text that was read
-pub loaded_ok : {D : Type 0} {on : sectors.Ghosts D} (old new : SessionValue D) (p : Instance) (seed : ℕ) (text : List ℕ) (found : Result Instance ReadFault) → old.is_broken ≡ false → IsUnlessMemory (Ok p) found
+pub loaded_ok : {D : Type 0} {on : sectors.Ghosts D} (old new : SessionValue D) (p : Instance) (seed : ℕ) (text : List ℕ) (found : Result Instance ReadFault)
+    → old.is_broken ≡ false → IsUnlessMemory (Ok p) found
     → Tells on old (λ s. plain s (command.Load p seed)) text new silent → Tells on old (load_reply seed found) text new silent
 loaded_ok old new p seed text found e (inl is) leads = load_spelled old new p seed text found e is leads
 loaded_ok old new p seed text found e (inr none) leads = absurd cc
@@ -210,10 +257,12 @@ refused_stays on old new c r text whole refused p =
 
 module _ {D : Type 0} (reading : Reading) (bytes : List ℕ) (s : SessionValue D) (j : JobValue) (whole : s.is_broken ≡ false) (is : s.state ≡ Loaded j) where
   -- a plan that the state accepts is answered as the command is
-  accepted : (plan : Plan) → refusal s.state (command.Adopt plan) ≡ None → (fates : List Fate) → adopt (next_fate fates) (as_serving s fates) (Ok plan) ≡ plain (as_serving s fates) (command.Adopt plan)
+  accepted : (plan : Plan) → refusal s.state (command.Adopt plan) ≡ None → (fates : List Fate)
+      → adopt (next_fate fates) (as_serving s fates) (Ok plan) ≡ plain (as_serving s fates) (command.Adopt plan)
   accepted plan none fates = by_fates fates ∙ sym (carried_tried (as_serving s fates) (command.Adopt plan) (λ t. answered t answer.Ok) whole none)
     where
-      unless : (fates : List Fate) → adopted_unless (refusal s.state (command.Adopt plan)) (as_serving s fates) plan ≡ by_fate (next_fate fates) (tried (as_serving s fates)) (command.Adopt plan) (λ t. answered t answer.Ok)
+      unless : (fates : List Fate) → adopted_unless (refusal s.state (command.Adopt plan)) (as_serving s fates) plan
+          ≡ by_fate (next_fate fates) (tried (as_serving s fates)) (command.Adopt plan) (λ t. answered t answer.Ok)
       unless fates = ap (λ r. adopted_unless r (as_serving s fates) plan) none
 
       by_fates : (fates : List Fate) → adopt (next_fate fates) (as_serving s fates) (Ok plan) ≡ by_fate (next_fate fates) (tried (as_serving s fates)) (command.Adopt plan) (λ t. answered t answer.Ok)
@@ -224,21 +273,24 @@ module _ {D : Type 0} (reading : Reading) (bytes : List ℕ) (s : SessionValue D
       by_fates (Failed ∷ fates) = unless (Failed ∷ fates)
 
   -- the reply, as of what was read
-  of_found : (found : Result Plan Unseated) → found ≡ reading.plan j.problem j.pins bytes → (fates : List Fate) → says (adopt_on reading bytes) (as_serving s fates) ≡ adopt (next_fate fates) (as_serving s fates) found
+  of_found : (found : Result Plan Unseated) → found ≡ reading.plan j.problem j.pins bytes → (fates : List Fate)
+      → says (adopt_on reading bytes) (as_serving s fates) ≡ adopt (next_fate fates) (as_serving s fates) found
   of_found found e fates = with_job (adopt_on reading bytes) (as_serving s fates) j whole is ∙ ap (adopt (next_fate fates) (as_serving s fates)) (sym e)
 
 module _ {D : Type 0} {on : sectors.Ghosts D} (reading : Reading) (bytes : List ℕ) (s : SessionValue D) (j : JobValue) (whole : s.is_broken ≡ false) (is : s.state ≡ Loaded j) where
   pub adopt_dropped : Tells on s (says (adopt_on reading bytes)) (line (answer_text (answer.Refused core.OutOfMemory))) s silent
   adopt_dropped = tells_fate s (says (adopt_on reading bytes)) (Some false) (answer.Refused core.OutOfMemory) (λ later. with_job (adopt_on reading bytes) (as_serving s (NoMemory ∷ later)) j whole is)
 
-  pub adopt_unread : (why : Unseated) → IsPlanUnlessMemory (Err why) (reading.plan j.problem j.pins bytes) → Tells on s (says (adopt_on reading bytes)) (line (answer_text (answer.Unseated why))) s silent
+  pub adopt_unread : (why : Unseated) → IsPlanUnlessMemory (Err why) (reading.plan j.problem j.pins bytes)
+      → Tells on s (says (adopt_on reading bytes)) (line (answer_text (answer.Unseated why))) s silent
   adopt_unread why (inl e) =
       tells_fate s (says (adopt_on reading bytes)) (Some true) (answer.Unseated why) (λ later. of_found reading bytes s j whole is (Err why) e (Done ∷ later))
   adopt_unread why (inr none) =
       let memory : why ≡ unseated.OutOfMemory = cc in
       subst (λ w. Tells on s (says (adopt_on reading bytes)) (line (answer_text (answer.Unseated w))) s silent) (sym memory) adopt_dropped
 
-  pub adopt_read : (plan : Plan) (new : SessionValue D) (text : List ℕ) → IsPlanUnlessMemory (Ok plan) (reading.plan j.problem j.pins bytes) → Tells on s (λ t. plain t (command.Adopt plan)) text new silent
+  pub adopt_read : (plan : Plan) (new : SessionValue D) (text : List ℕ) → IsPlanUnlessMemory (Ok plan) (reading.plan j.problem j.pins bytes)
+      → Tells on s (λ t. plain t (command.Adopt plan)) text new silent
       → Tells on s (says (adopt_on reading bytes)) text new silent
   adopt_read plan new text (inr none) tells = absurd cc
   adopt_read plan new text (inl e) tells = by (refusal s.state (command.Adopt plan)) refl

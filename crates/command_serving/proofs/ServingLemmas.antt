@@ -7,7 +7,30 @@ use Rattle.command_core.specs.Refusing.{refusal}
 use Rattle.command_core.specs.declared.commands.Command.{Command}
 use Rattle.command_core.specs.declared.refusals.Refusal.{Refusal}
 use Rattle.command_core.specs.declared.refusals.Refusal.TheVariants as core
-use Rattle.command_text.specs.Answering.{Fate, Done, NoMemory, Failed, Reply, Serving, answered, by_fate, carried, carried_all, commands_of, made_or, next_fate, plain, progress_behind, progress_text, steps_to_make, told_behind, tried, unless_broken, with_command, with_text}
+use Rattle.command_text.specs.Answering.{
+  Fate,
+  Done,
+  NoMemory,
+  Failed,
+  Reply,
+  Serving,
+  answered,
+  by_fate,
+  carried,
+  carried_all,
+  commands_of,
+  made_or,
+  next_fate,
+  plain,
+  progress_behind,
+  progress_text,
+  steps_to_make,
+  told_behind,
+  tried,
+  unless_broken,
+  with_command,
+  with_text,
+}
 use Rattle.command_core.specs.declared.states.State.{State}
 use Rattle.command_text.specs.Answering.{Spent as SpentFate}
 use Rattle.command_text.specs.Answers.{answer_text, line}
@@ -67,7 +90,8 @@ unfoldable pub serves_nothing : {D : Type 0} {on : sectors.Ghosts D} (s : Sessio
 unfolding leads_nothing
 serves_nothing s f o = record { text = []; leads = leads_nothing s f; written = extends_none o }
 
-unfoldable pub serves_on : {D : Type 0} {on : sectors.Ghosts D} (a b c : SessionValue D) (f g h : Serving → Reply) (x y z : Stream) → Serves on a f x y b g → Serves on b g y z c h → Serves on a f x z c h
+unfoldable pub serves_on : {D : Type 0} {on : sectors.Ghosts D} (a b c : SessionValue D) (f g h : Serving → Reply) (x y z : Stream) → Serves on a f x y b g
+    → Serves on b g y z c h → Serves on a f x z c h
 unfolding leads_on
 serves_on a b c f g h x y z p q = record {
   text = p.text ++ q.text;
@@ -77,7 +101,8 @@ serves_on a b c f g h x y z p q = record {
 }
 
 -- the same replies
-unfoldable pub leads_as : {D : Type 0} {on : sectors.Ghosts D} (a b : SessionValue D) (f f' g : Serving → Reply) (t : List ℕ) → ((fates : List Fate) → f' (as_serving a fates) ≡ f (as_serving a fates)) → Leads on a f t b g → Leads on a f' t b g
+unfoldable pub leads_as : {D : Type 0} {on : sectors.Ghosts D} (a b : SessionValue D) (f f' g : Serving → Reply) (t : List ℕ)
+    → ((fates : List Fate) → f' (as_serving a fates) ≡ f (as_serving a fates)) → Leads on a f t b g → Leads on a f' t b g
 leads_as a b f f' g t same p = record {
   acts = p.acts;
   turns = p.turns;
@@ -89,7 +114,8 @@ leads_as a b f f' g t same p = record {
   state = p.state;
 }
 
-pub tells_as : {D : Type 0} {on : sectors.Ghosts D} (a b : SessionValue D) (f f' g : Serving → Reply) (t : List ℕ) → ((fates : List Fate) → f' (as_serving a fates) ≡ f (as_serving a fates)) → Tells on a f t b g → Tells on a f' t b g
+pub tells_as : {D : Type 0} {on : sectors.Ghosts D} (a b : SessionValue D) (f f' g : Serving → Reply) (t : List ℕ)
+    → ((fates : List Fate) → f' (as_serving a fates) ≡ f (as_serving a fates)) → Tells on a f t b g → Tells on a f' t b g
 tells_as a b f f' g t same p = record {
   acts = p.acts;
   run = p.run;
@@ -100,21 +126,44 @@ tells_as a b f f' g t same p = record {
   few = p.few;
 }
 
-pub serves_as : {D : Type 0} {on : sectors.Ghosts D} (a b : SessionValue D) (f f' g : Serving → Reply) (x y : Stream) → ((fates : List Fate) → f' (as_serving a fates) ≡ f (as_serving a fates)) → Serves on a f x y b g → Serves on a f' x y b g
+pub serves_as : {D : Type 0} {on : sectors.Ghosts D} (a b : SessionValue D) (f f' g : Serving → Reply) (x y : Stream)
+    → ((fates : List Fate) → f' (as_serving a fates) ≡ f (as_serving a fates)) → Serves on a f x y b g → Serves on a f' x y b g
 unfolding leads_as
 serves_as a b f f' g x y same p = record { text = p.text; leads = leads_as a b f f' g p.text same p.leads; written = p.written }
 
 -- what is answered behind it
-unfoldable pub leads_to : {D : Type 0} {on : sectors.Ghosts D} (a b : SessionValue D) (f g g' : Serving → Reply) (t : List ℕ) → ((fates : List Fate) → g (as_serving b fates) ≡ g' (as_serving b fates)) → Leads on a f t b g → Leads on a f t b g'
-leads_to a b f g g' t same p = record { acts = p.acts; turns = p.turns; run = p.run; told = p.told; says = λ later. p.says later ∙ ap (preceded t (carried_of p.acts)) (same later); asked = p.asked; asks = p.asks; state = p.state }
+unfoldable pub leads_to : {D : Type 0} {on : sectors.Ghosts D} (a b : SessionValue D) (f g g' : Serving → Reply) (t : List ℕ)
+    → ((fates : List Fate) → g (as_serving b fates) ≡ g' (as_serving b fates)) → Leads on a f t b g → Leads on a f t b g'
+leads_to a b f g g' t same p = record {
+  acts = p.acts;
+  turns = p.turns;
+  run = p.run;
+  told = p.told;
+  says = λ later. p.says later
+      ∙ ap (preceded t (carried_of p.acts)) (same later);
+  asked = p.asked;
+  asks = p.asks;
+  state = p.state;
+}
 
-pub tells_to : {D : Type 0} {on : sectors.Ghosts D} (a b : SessionValue D) (f g g' : Serving → Reply) (t : List ℕ) → ((fates : List Fate) → g (as_serving b fates) ≡ g' (as_serving b fates)) → Tells on a f t b g → Tells on a f t b g'
-tells_to a b f g g' t same p = record { acts = p.acts; run = p.run; says = λ later. p.says later ∙ ap (preceded t (carried_of p.acts)) (same later); asked = p.asked; asks = p.asks; state = p.state; few = p.few }
+pub tells_to : {D : Type 0} {on : sectors.Ghosts D} (a b : SessionValue D) (f g g' : Serving → Reply) (t : List ℕ)
+    → ((fates : List Fate) → g (as_serving b fates) ≡ g' (as_serving b fates)) → Tells on a f t b g → Tells on a f t b g'
+tells_to a b f g g' t same p = record {
+  acts = p.acts;
+  run = p.run;
+  says = λ later. p.says later
+      ∙ ap (preceded t (carried_of p.acts)) (same later);
+  asked = p.asked;
+  asks = p.asks;
+  state = p.state;
+  few = p.few;
+}
 
 -- ---- what was written of an answer
 
 -- told in one turn
-pub serves_told : {D : Type 0} {on : sectors.Ghosts D} (a b : SessionValue D) (f g : Serving → Reply) (t : List ℕ) (x y : Stream) → Tells on a f t b g → IsHandedOn x y (on.calls b.device) t → Serves on a f x y b g
+pub serves_told : {D : Type 0} {on : sectors.Ghosts D} (a b : SessionValue D) (f g : Serving → Reply) (t : List ℕ) (x y : Stream) → Tells on a f t b g
+    → IsHandedOn x y (on.calls b.device) t → Serves on a f x y b g
 serves_told {on = on} a b f g t x y p handed = record {
   text = t;
   leads = record {
@@ -137,16 +186,19 @@ serves_told {on = on} a b f g t x y p handed = record {
     turn : Turn
     turn = record { acts = p.acts; texts = handed.texts; calls = on.calls b.device }
 
-pub answers_told : {D T E : Type 0} {on : sectors.Ghosts D} {a b : SessionValue D} {f : Serving → Reply} {t : List ℕ} (r : Result T E) (x y : Stream) → Tells on a f t b silent → HandsOn x y r (on.calls b.device) t → Answers on r a f x y b silent
+pub answers_told : {D T E : Type 0} {on : sectors.Ghosts D} {a b : SessionValue D} {f : Serving → Reply} {t : List ℕ} (r : Result T E) (x y : Stream)
+    → Tells on a f t b silent → HandsOn x y r (on.calls b.device) t → Answers on r a f x y b silent
 answers_told {a = a} {b = b} {f = f} {t = t} (Ok done) x y tells handed = serves_told a b f silent t x y tells handed
 answers_told {t = t} (Err fault) x y tells part = inl (record { last = t; later = None; tells = tells; part = part })
 
 -- behind what steps have told so far
-pub serves_further : {D : Type 0} {on : sectors.Ghosts D} {a b c : SessionValue D} {f g h : Serving → Reply} {t : List ℕ} {x y z : Stream} → Serves on a f x y b g → Tells on b g t c h → IsHandedOn y z (on.calls c.device) t → Serves on a f x z c h
+pub serves_further : {D : Type 0} {on : sectors.Ghosts D} {a b c : SessionValue D} {f g h : Serving → Reply} {t : List ℕ} {x y z : Stream}
+    → Serves on a f x y b g → Tells on b g t c h → IsHandedOn y z (on.calls c.device) t → Serves on a f x z c h
 serves_further {a = a} {b = b} {c = c} {f = f} {g = g} {h = h} {t = t} {x = x} {y = y} {z = z} so_far tells handed =
     serves_on a b c f g h x y z so_far (serves_told b c g h t y z tells handed)
 
-pub answers_behind : {D T E : Type 0} {on : sectors.Ghosts D} {a b c : SessionValue D} {f : Serving → Reply} {t : List ℕ} {x y : Stream} (r : Result T E) (later : Option (List Command)) (commands : List Command) (z : Stream) → Serves on a f x y b (λ s. carried_all s commands)
+pub answers_behind : {D T E : Type 0} {on : sectors.Ghosts D} {a b c : SessionValue D} {f : Serving → Reply} {t : List ℕ} {x y : Stream} (r : Result T E)
+    (later : Option (List Command)) (commands : List Command) (z : Stream) → Serves on a f x y b (λ s. carried_all s commands)
     → Tells on b (λ s. carried_all s commands) t c (still_carried later) → HandsOn y z r (on.calls c.device) t → Answers on r a f x z c (still_carried later)
 answers_behind (Ok done) later commands z so_far tells handed = serves_further so_far tells handed
 answers_behind {b = b} {t = t} {y = y} (Err fault) later commands z so_far tells part = inr (record {
@@ -162,7 +214,8 @@ answers_behind {b = b} {t = t} {y = y} (Err fault) later commands z so_far tells
   part = part;
 })
 
-pub answers_as : {D T E : Type 0} (on : sectors.Ghosts D) (r : Result T E) (a b : SessionValue D) (f f' g : Serving → Reply) (x y : Stream) → ((fates : List Fate) → f' (as_serving a fates) ≡ f (as_serving a fates)) → Answers on r a f x y b g
+pub answers_as : {D T E : Type 0} (on : sectors.Ghosts D) (r : Result T E) (a b : SessionValue D) (f f' g : Serving → Reply) (x y : Stream)
+    → ((fates : List Fate) → f' (as_serving a fates) ≡ f (as_serving a fates)) → Answers on r a f x y b g
     → Answers on r a f' x y b g
 unfolding leads_as
 answers_as on (Ok done) a b f f' g x y same p = serves_as a b f f' g x y same p
@@ -186,7 +239,15 @@ pub answered_is : (s : Serving) (a : Answer) → answered s a ≡ preceded (line
 answered_is s a = ap (λ (x : List ℕ). record { text = x; commands = []; left = s }) (sym (append-nil (line (answer_text a))))
 
 pub tells_answer : {D : Type 0} {on : sectors.Ghosts D} (s : SessionValue D) (a : Answer) → Tells on s (λ t. answered t a) (line (answer_text a)) s silent
-tells_answer s a = record { acts = []; run = refl; says = λ later. answered_is (as_serving s later) a; asked = asked_nothing s (λ t. answered t a); asks = λ later. begins_at_all _; state = refl; few = omega arith }
+tells_answer s a = record {
+  acts = [];
+  run = refl;
+  says = λ later. answered_is (as_serving s later) a;
+  asked = asked_nothing s (λ t. answered t a);
+  asks = λ later. begins_at_all _;
+  state = refl;
+  few = omega arith;
+}
 
 -- ---- a command, by cases of what carries it
 
@@ -238,7 +299,8 @@ module _ {D : Type 0} (on : sectors.Ghosts D) (old new : SessionValue D) (comman
         acts = Applied command (answers_so (Ok x) n) ∷ [];
         run = (new, applied, refl);
         says = says;
-        asked = asked_command old (λ s. carried s command done) command (answers_so (Ok x) n) (Done, refl) (λ later. record { rest = (done (as_serving new later)).commands; whole = ap (λ (r : Reply). r.commands) (says later) });
+        asked = asked_command old (λ s. carried s command done) command (answers_so (Ok x) n) (Done, refl)
+            (λ later. record { rest = (done (as_serving new later)).commands; whole = ap (λ (r : Reply). r.commands) (says later) });
         asks = λ later. record { rest = (done (as_serving new later)).commands; whole = ap (λ (r : Reply). r.commands) (says later) };
         state = applied.makes.state;
         few = omega arith;
@@ -249,12 +311,16 @@ module _ {D : Type 0} (on : sectors.Ghosts D) (old new : SessionValue D) (comman
       → AreAsked old (λ s. carried s command done) (Applied command (answers_so (Err why) n) ∷ [])
   asked_once done why e r is_try =
       asked_command old (λ s. carried s command done) command (answers_so (Err why) n) is_try
-      (λ later. record { rest = (done (record (tried (as_serving old (Done ∷ later))) { state = effect old.state command })).commands; whole = ap (λ (r : Reply). r.commands) (carried_tried (as_serving old (Done ∷ later)) command done e r) })
+      (λ later. record {
+        rest = (done (record (tried (as_serving old (Done ∷ later))) { state = effect old.state command })).commands;
+        whole = ap (λ (r : Reply). r.commands) (carried_tried (as_serving old (Done ∷ later)) command done e r);
+      })
 
   -- a try that keeps the session as it was
   ends_at : (f : Serving → Reply) (a : Answer) (why : Denial) → IsAppliedOn on old command (answers_so (Err why) n) new → kept_of (Applied command (answers_so (Err why) n) ∷ []) ≡ [] → new ≡ old
       → AreAsked old f (Applied command (answers_so (Err why) n) ∷ [])
-      → ((later : List Fate) → f (as_serving old (fates_of (Applied command (answers_so (Err why) n) ∷ []) ++ later)) ≡ answered (as_serving old later) a) → Tells on old f (line (answer_text a)) new silent
+      → ((later : List Fate) → f (as_serving old (fates_of (Applied command (answers_so (Err why) n) ∷ []) ++ later)) ≡ answered (as_serving old later) a)
+      → Tells on old f (line (answer_text a)) new silent
   ends_at f a why applied none same asked says = record {
     acts = Applied command (answers_so (Err why) n) ∷ [];
     run = (new, applied, refl);
@@ -279,16 +345,20 @@ module _ {D : Type 0} (on : sectors.Ghosts D) (old new : SessionValue D) (comman
     few = omega arith;
   }
 
-  pub carried_off : (done : Serving → Reply) (d : Denial) → IsAppliedOn on old command (answers_so (Err d) n) new → Tells on old (λ s. carried s command done) (line (answer_text (denied d))) new silent
+  pub carried_off : (done : Serving → Reply) (d : Denial) → IsAppliedOn on old command (answers_so (Err d) n) new
+      → Tells on old (λ s. carried s command done) (line (answer_text (denied d))) new silent
   carried_off done d applied = off old.is_broken refl (refusal old.state command) refl d applied.answer applied
     where
-      by_spent : (d : Denial) → old.is_broken ≡ false → refusal old.state command ≡ None → (d ≡ Spent) ⊎ ((d ≡ OutOfMemory) ⊎ (d ≡ DeviceFault)) → IsAppliedOn on old command (answers_so (Err d) n) new → Tells on old (λ s. carried s command done) (line (answer_text (denied d))) new silent
+      by_spent : (d : Denial) → old.is_broken ≡ false → refusal old.state command ≡ None → (d ≡ Spent) ⊎ ((d ≡ OutOfMemory) ⊎ (d ≡ DeviceFault))
+          → IsAppliedOn on old command (answers_so (Err d) n) new → Tells on old (λ s. carried s command done) (line (answer_text (denied d))) new silent
       by_spent d e r (inl is) applied =
           subst (λ x. IsAppliedOn on old command (answers_so (Err x) n) new → Tells on old (λ s. carried s command done) (line (answer_text (denied x))) new silent) (sym is)
-          (λ applied. ends_at (λ s. carried s command done) answer.Spent Spent applied refl applied.makes (asked_once done Spent e r (SpentFate, refl)) (λ later. carried_tried (as_serving old (SpentFate ∷ later)) command done e r)) applied
+          (λ applied. ends_at (λ s. carried s command done) answer.Spent Spent applied refl applied.makes (asked_once done Spent e r (SpentFate, refl))
+          (λ later. carried_tried (as_serving old (SpentFate ∷ later)) command done e r)) applied
       by_spent d e r (inr (inl is)) applied =
           subst (λ x. IsAppliedOn on old command (answers_so (Err x) n) new → Tells on old (λ s. carried s command done) (line (answer_text (denied x))) new silent) (sym is)
-          (λ applied. ends_at (λ s. carried s command done) (answer.Refused core.OutOfMemory) OutOfMemory applied refl applied.makes (asked_once done OutOfMemory e r (NoMemory, refl)) (λ later. carried_tried (as_serving old (NoMemory ∷ later)) command done e r)) applied
+          (λ applied. ends_at (λ s. carried s command done) (answer.Refused core.OutOfMemory) OutOfMemory applied refl applied.makes
+          (asked_once done OutOfMemory e r (NoMemory, refl)) (λ later. carried_tried (as_serving old (NoMemory ∷ later)) command done e r)) applied
       by_spent d e r (inr (inr is)) applied =
           subst (λ x. IsAppliedOn on old command (answers_so (Err x) n) new → Tells on old (λ s. carried s command done) (line (answer_text (denied x))) new silent) (sym is)
           (λ (applied : IsAppliedOn on old command (answers_so (Err DeviceFault) n) new).
@@ -302,12 +372,16 @@ module _ {D : Type 0} (on : sectors.Ghosts D) (old new : SessionValue D) (comman
                 ∙ answered_is (record { state = old.state; is_broken = true; fates = later }) answer.DeviceFault
                 ∙ ap (λ s. preceded (line (answer_text answer.DeviceFault)) [] (silent s)) left;
             asked = asked_once done DeviceFault e r (Failed, refl);
-            asks = λ later. record { rest = (done (record (tried (as_serving old (Done ∷ later))) { state = effect old.state command })).commands; whole = ap (λ (r : Reply). r.commands) (carried_tried (as_serving old (Done ∷ later)) command done e r) };
+            asks = λ later. record {
+              rest = (done (record (tried (as_serving old (Done ∷ later))) { state = effect old.state command })).commands;
+              whole = ap (λ (r : Reply). r.commands) (carried_tried (as_serving old (Done ∷ later)) command done e r);
+            };
             state = cut.state;
             few = omega arith;
           }) applied
 
-      off : (b : Bool) → old.is_broken ≡ b → (r : Option Refusal) → refusal old.state command ≡ r → (d : Denial) → IsAnswer {T = Unit {0}} (first_cause b r (spent old.place command)) (Err d) → IsAppliedOn on old command (answers_so (Err d) n) new
+      off : (b : Bool) → old.is_broken ≡ b → (r : Option Refusal) → refusal old.state command ≡ r → (d : Denial)
+          → IsAnswer {T = Unit {0}} (first_cause b r (spent old.place command)) (Err d) → IsAppliedOn on old command (answers_so (Err d) n) new
           → Tells on old (λ s. carried s command done) (line (answer_text (denied d))) new silent
       off true e r f' d h applied =
           let is : d ≡ Broken = cc in
@@ -348,7 +422,8 @@ module _ {D : Type 0} (on : sectors.Ghosts D) (old new : SessionValue D) (comman
   plain_err d e = ends_with (λ s. answered s answer.Ok) d e
 
 -- an answer that leaves the session as it is
-pub tells_same : {D : Type 0} {on : sectors.Ghosts D} (s : SessionValue D) (f : Serving → Reply) (a : Answer) → ((fates : List Fate) → f (as_serving s fates) ≡ answered (as_serving s fates) a) → Tells on s f (line (answer_text a)) s silent
+pub tells_same : {D : Type 0} {on : sectors.Ghosts D} (s : SessionValue D) (f : Serving → Reply) (a : Answer)
+    → ((fates : List Fate) → f (as_serving s fates) ≡ answered (as_serving s fates) a) → Tells on s f (line (answer_text a)) s silent
 tells_same s f a same = tells_as s s (λ t. answered t a) f silent (line (answer_text a)) same (tells_answer s a)
 
 -- ---- steps
@@ -362,7 +437,8 @@ unfolding carried_all
 carried_none s = refl
 
 -- the state that a command leaves once it is carried out
-pub state_done : {D : Type 0} (on : sectors.Ghosts D) (old new : SessionValue D) (command : Command) (reply : SessionReply) (x : Unit {0}) → IsAppliedOn on old command reply new → reply.answer ≡ Ok x → new.state ≡ effect old.state command
+pub state_done : {D : Type 0} (on : sectors.Ghosts D) (old new : SessionValue D) (command : Command) (reply : SessionReply) (x : Unit {0})
+    → IsAppliedOn on old command reply new → reply.answer ≡ Ok x → new.state ≡ effect old.state command
 state_done on old new command reply x applied e = (answered_so on old new command reply applied (Ok x) e).makes.state
 
 -- a command is carried out, and then told
@@ -375,13 +451,15 @@ next_done {on = on} old mid command all rest reply x is applied ok =
     record { acts = p.acts; run = p.run; says = λ later. p.says later; asked = p.asked; asks = p.asks; state = p.state; few = p.few }
 
 -- what is left of steps, in the session's own state
-follows_as : {state now : State} (steps rest : StepsLeft) (command : Command) → state ≡ now → commands_of steps state ≡ command ∷ commands_of rest (effect state command) → commands_of steps now ≡ command ∷ commands_of rest (effect now command)
+follows_as : {state now : State} (steps rest : StepsLeft) (command : Command) → state ≡ now
+    → commands_of steps state ≡ command ∷ commands_of rest (effect state command) → commands_of steps now ≡ command ∷ commands_of rest (effect now command)
 follows_as steps rest command same follows = subst (λ (s : State). commands_of steps s ≡ command ∷ commands_of rest (effect s command)) same follows
 
 module _ {D : Type 0} {on : sectors.Ghosts D} {state : State} (old mid : SessionValue D) (steps rest : StepsLeft) (command : Command) (reply : SessionReply) (same : state ≡ old.state)
     (first : commands_of steps state ≡ command ∷ commands_of rest (effect state command)) (applied : IsAppliedOn on old command reply mid) where
   -- the same of the first command of steps, where it is told as the code does
-  pub step_done : (progress : Progress) (x : Unit {0}) → progress ≡ progress_behind command → reply.answer ≡ Ok x → Tells on old (λ s. carried_all s (commands_of steps old.state)) (progress_of progress mid) mid (λ s. carried_all s (commands_of rest mid.state))
+  pub step_done : (progress : Progress) (x : Unit {0}) → progress ≡ progress_behind command → reply.answer ≡ Ok x
+      → Tells on old (λ s. carried_all s (commands_of steps old.state)) (progress_of progress mid) mid (λ s. carried_all s (commands_of rest mid.state))
   step_done progress x told ok =
       let all : List Command = commands_of steps old.state in
       let left : mid.state ≡ effect old.state command = state_done on old mid command reply x applied ok in
@@ -399,7 +477,8 @@ module _ {D : Type 0} {on : sectors.Ghosts D} {state : State} (old mid : Session
       let is : all ≡ command ∷ commands_of rest (effect old.state command) = follows_as steps rest command same first in
       subst (λ b. Tells on old (λ s. carried_all s all) (line (answer_text b)) mid silent) (sym told)
       (tells_as old mid (λ s. carried s command done) (λ s. carried_all s all) silent (line (answer_text (denied d)))
-      (λ fates. ap (carried_all (as_serving old fates)) is ∙ carried_cons (as_serving old fates) command (commands_of rest (effect old.state command))) (ends_with on old mid command reply applied done d err))
+      (λ fates. ap (carried_all (as_serving old fates)) is ∙ carried_cons (as_serving old fates) command (commands_of rest (effect old.state command)))
+      (ends_with on old mid command reply applied done d err))
 
 -- all are carried out
 pub all_done : {D : Type 0} {on : sectors.Ghosts D} (s : SessionValue D) (all : List Command) → all ≡ [] → Tells on s (λ t. carried_all t all) (line (answer_text answer.Ok)) s silent
@@ -428,7 +507,8 @@ pub steps_refused : {D : Type 0} {on : sectors.Ghosts D} (goal : Goal) (s : Sess
     → Tells on s (by_goal goal) (line (answer_text (answer.Refused r))) s silent
 steps_refused goal s r e f = tells_same s (by_goal goal) (answer.Refused r) (λ fates. goal_refused goal (as_serving s fates) r e f)
 
-pub steps_begun : {D T E : Type 0} (on : sectors.Ghosts D) (told : Result T E) (goal : Goal) (s new : SessionValue D) (steps : StepsLeft) (o y : Stream) → s.is_broken ≡ false → steps_to_make s.state goal ≡ Ok steps
+pub steps_begun : {D T E : Type 0} (on : sectors.Ghosts D) (told : Result T E) (goal : Goal) (s new : SessionValue D) (steps : StepsLeft) (o y : Stream)
+    → s.is_broken ≡ false → steps_to_make s.state goal ≡ Ok steps
     → Answers on told s (λ t. carried_all t (commands_of steps s.state)) o y new silent → Answers on told s (by_goal goal) o y new silent
 steps_begun on told goal s new steps o y e f answers =
     answers_as on told s new (λ t. carried_all t (commands_of steps s.state)) (by_goal goal) silent o y (λ fates. goal_begun goal (as_serving s fates) steps e f) answers

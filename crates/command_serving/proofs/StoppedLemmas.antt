@@ -44,7 +44,8 @@ weaker P Q so (Err (Codec _)) h = elim h [ ]
 weaker P Q so (Err Spent) h = elim h [ ]
 
 -- a first part of what was kept is one of what is asked for
-pub recovered_of : (begun : State) (keeps all : List Command) (acknowledged : ℕ) (given : State) → BeginsWith keeps all → IsRecovered begun keeps acknowledged given → IsRecovered begun all acknowledged given
+pub recovered_of : (begun : State) (keeps all : List Command) (acknowledged : ℕ) (given : State) → BeginsWith keeps all
+    → IsRecovered begun keeps acknowledged given → IsRecovered begun all acknowledged given
 recovered_of begun keeps all acknowledged given asks r =
     let front : (q : ℕ) → q ≤ length keeps → take q all ≡ take q keeps = λ q le. ap (take q) asks.whole ∙ take-append-le q keeps asks.rest le in
     let longer : length all ≡ length keeps + length asks.rest = ap length asks.whole ∙ length-append keeps asks.rest in
@@ -69,4 +70,5 @@ served_headline on again law reading old new input before after_it r m image dev
     let asked = asked_by reading old (pieces_of input) acts in
     weaker (IsRecovered old.state (kept_of acts) (acked m (replies_of acts))) (IsRecovered old.state asked (acked m (replies_of acts)))
     (λ given found. recovered_of old.state (kept_of acts) asked (acked m (replies_of acts)) given run.asks found) outcome
-    (law old new (commands_of acts) (replies_of acts) m image device left outcome whole honest (λ w h n stop at_moment. (moments (commands_of acts) (replies_of acts) run.run w h).each n stop at_moment) stopped reads settled opens)
+    (law old new (commands_of acts) (replies_of acts) m image device left outcome whole honest
+    (λ w h n stop at_moment. (moments (commands_of acts) (replies_of acts) run.run w h).each n stop at_moment) stopped reads settled opens)

@@ -1,5 +1,38 @@
 -- What more bytes make of a text's last lines.
-use Rattle.std.proofs.Common.{◌≡◌, ◌∙◌, ℕ, suc, ◌+◌, ◌<◌, ◌≤◌, ◌==◌, ◌&&◌, if◌then◌else◌, true, false, List, [], ◌∷◌, ◌++◌, codes, nat_eq, take, length, Option, Some, None, refl, sym, ap, subst, arith, min, take_all, length-take, length-append}
+use Rattle.std.proofs.Common.{
+  ◌≡◌,
+  ◌∙◌,
+  ℕ,
+  suc,
+  ◌+◌,
+  ◌<◌,
+  ◌≤◌,
+  ◌==◌,
+  ◌&&◌,
+  if◌then◌else◌,
+  true,
+  false,
+  List,
+  [],
+  ◌∷◌,
+  ◌++◌,
+  codes,
+  nat_eq,
+  take,
+  length,
+  Option,
+  Some,
+  None,
+  refl,
+  sym,
+  ap,
+  subst,
+  arith,
+  min,
+  take_all,
+  length-take,
+  length-append,
+}
 use Rattle.std.specs.Prelude.{bytes_eq}
 use Rattle.std.specs.Option.{option_and_then}
 use Rattle.std.proofs.lemmas.List.{take-append-le}
@@ -15,7 +48,8 @@ open_snoc : (begun text : List ℕ) (b : ℕ) → open_behind begun (text ++ b �
 unfolding open_behind
 open_snoc begun [] b = refl
 open_snoc begun (c ∷ text) b =
-    elim (c == 10) as (λ v. (if v then open_behind [] (text ++ b ∷ []) else open_behind (begun ++ c ∷ []) (text ++ b ∷ [])) ≡ (if b == 10 then [] else (if v then open_behind [] text else open_behind (begun ++ c ∷ []) text) ++ b ∷ [])) [
+    elim (c == 10) as (λ v. (if v then open_behind [] (text ++ b ∷ []) else open_behind (begun ++ c ∷ []) (text ++ b ∷ []))
+    ≡ (if b == 10 then [] else (if v then open_behind [] text else open_behind (begun ++ c ∷ []) text) ++ b ∷ [])) [
       | true ↦ open_snoc [] text b
       | false ↦ open_snoc (begun ++ c ∷ []) text b
     ]
@@ -24,7 +58,9 @@ last_snoc : (last : Option (List ℕ)) (begun text : List ℕ) (b : ℕ) → las
 unfolding open_behind last_behind
 last_snoc last begun [] b = refl
 last_snoc last begun (c ∷ text) b =
-    elim (c == 10) as (λ v. (if v then last_behind (Some begun) [] (text ++ b ∷ []) else last_behind last (begun ++ c ∷ []) (text ++ b ∷ [])) ≡ (if b == 10 then Some (if v then open_behind [] text else open_behind (begun ++ c ∷ []) text) else (if v then last_behind (Some begun) [] text else last_behind last (begun ++ c ∷ []) text))) [
+    elim (c == 10) as (λ v. (if v then last_behind (Some begun) [] (text ++ b ∷ []) else last_behind last (begun ++ c ∷ []) (text ++ b ∷ []))
+    ≡ (if b == 10 then Some (if v then open_behind [] text else open_behind (begun ++ c ∷ []) text)
+    else (if v then last_behind (Some begun) [] text else last_behind last (begun ++ c ∷ []) text))) [
       | true ↦ last_snoc (Some begun) [] text b
       | false ↦ last_snoc last (begun ++ c ∷ []) text b
     ]
@@ -60,7 +96,8 @@ open_more : (text : List ℕ) (b : ℕ) → (b ≢ 10) → open_line text ++ b �
 open_more text b other =
     sym (open_snoc [] text b ∙ ap (λ v. if v then [] else open_behind [] text ++ b ∷ []) (ne_eqb b 10 other))
 
-pub follows_more : (text : List ℕ) (l : LastLines) (b : ℕ) → (b ≢ 10) → length l.begun.items < 13 → Follows text l → (l.begun.items ++ b ∷ [] ≡ take 13 (open_line (text ++ b ∷ []))) × (l.told ≡ stopped_by (text ++ b ∷ []))
+pub follows_more : (text : List ℕ) (l : LastLines) (b : ℕ) → (b ≢ 10) → length l.begun.items < 13 → Follows text l
+    → (l.begun.items ++ b ∷ [] ≡ take 13 (open_line (text ++ b ∷ []))) × (l.told ≡ stopped_by (text ++ b ∷ []))
 follows_more text l b other short f =
     let rest : List ℕ = open_line text in
     let short' : length (take 13 rest) < 13 = subst (λ (k : List ℕ). length k < 13) f.0 short in
@@ -72,7 +109,8 @@ follows_more text l b other short f =
       f.1 ∙ told_more text b other,
     )
 
-pub follows_full : (text : List ℕ) (l : LastLines) (b : ℕ) → (b ≢ 10) → 13 ≤ length l.begun.items → Follows text l → (l.begun.items ≡ take 13 (open_line (text ++ b ∷ []))) × (l.told ≡ stopped_by (text ++ b ∷ []))
+pub follows_full : (text : List ℕ) (l : LastLines) (b : ℕ) → (b ≢ 10) → 13 ≤ length l.begun.items → Follows text l
+    → (l.begun.items ≡ take 13 (open_line (text ++ b ∷ []))) × (l.told ≡ stopped_by (text ++ b ∷ []))
 follows_full text l b other full f =
     let rest : List ℕ = open_line text in
     let full' : 13 ≤ length (take 13 rest) = subst (λ (k : List ℕ). 13 ≤ length k) f.0 full in

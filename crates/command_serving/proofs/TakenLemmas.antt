@@ -1,5 +1,38 @@
 -- What the serving takes of an input: whole pieces, and at its end all, or a line that ends it.
-use Rattle.std.proofs.Common.{◌≡◌, ◌∙◌, ℕ, ◌+◌, ◌<◌, ◌≤◌, Bool, true, false, List, [], ◌∷◌, ◌++◌, ◌⊎◌, inl, inr, Option, Some, None, Result, Ok, Err, length, refl, sym, ap, ap₂, subst, arith, append-nil, append_assoc, length-append}
+use Rattle.std.proofs.Common.{
+  ◌≡◌,
+  ◌∙◌,
+  ℕ,
+  ◌+◌,
+  ◌<◌,
+  ◌≤◌,
+  Bool,
+  true,
+  false,
+  List,
+  [],
+  ◌∷◌,
+  ◌++◌,
+  ◌⊎◌,
+  inl,
+  inr,
+  Option,
+  Some,
+  None,
+  Result,
+  Ok,
+  Err,
+  length,
+  refl,
+  sym,
+  ap,
+  ap₂,
+  subst,
+  arith,
+  append-nil,
+  append_assoc,
+  length-append,
+}
 use Rattle.std.specs.Prelude.{IfOk, IfSome, MatchResult, nat_lt, if◌then◌else◌, ⊤}
 use Rattle.command_text.specs.declared.asked.Purpose.{Purpose}
 use Rattle.command_text.specs.Cutting.{Piece, announced, is_end, pieces_of}
@@ -58,7 +91,8 @@ module _ (ended : PiecesFollow) (a : Asked) (xs ys zs ws : List ℕ) (p : TakesP
               pieces = w.pieces ++ piece ∷ [];
               cut = λ us.
                   ap pieces_of (append_assoc p.taken line us ∙ ap (λ l. p.taken ++ l) (append_assoc c.line (10 ∷ b.0) us)) ∙ w.cut (c.line ++ 10 ∷ (b.0 ++ us))
-                  ∙ ap (λ ps. w.pieces ++ ps) (ended c.line (b.0 ++ us) c.free ∙ ap (λ d. cut_at d (b.0 ++ us)) (sym c.asks) ∙ cut_text a b.0 us b.2 b.3) ∙ sym (append_assoc w.pieces (piece ∷ []) (pieces_of us));
+                  ∙ ap (λ ps. w.pieces ++ ps) (ended c.line (b.0 ++ us) c.free ∙ ap (λ d. cut_at d (b.0 ++ us)) (sym c.asks) ∙ cut_text a b.0 us b.2 b.3)
+                  ∙ sym (append_assoc w.pieces (piece ∷ []) (pieces_of us));
             });
           }
       at w (inr e) = let empty : ws ≡ [] = none_left b.0 ws zs b.1 e.1 in record { taken = xs; whole = sym (ap (λ l. xs ++ l) empty ∙ append-nil xs); end = inl empty }
@@ -96,12 +130,14 @@ known_on ended a (Some xs) (Some ys) (Some zs) None p c b = absurd b
 known_on ended a (Some xs) (Some ys) (Some zs) (Some ws) p c b = taken_on ended a xs ys zs ws p c b
 
 -- the serving ended behind a line
-pub taken_to_end : (ended : PiecesFollow) (a : Asked) (bytes : List ℕ) (old known next behind : Option (List ℕ)) (left later : ℕ) → old ≡ Some bytes → TakesKnownPieces old known → Cuts a known next → TakesKnown a ToEnd next behind
+pub taken_to_end : (ended : PiecesFollow) (a : Asked) (bytes : List ℕ) (old known next behind : Option (List ℕ)) (left later : ℕ) → old ≡ Some bytes
+    → TakesKnownPieces old known → Cuts a known next → TakesKnown a ToEnd next behind
     → CountsAll old left behind later → 0 < left → IsTaken left bytes
 taken_to_end ended a bytes old known next behind left later is p c b counts some =
     at known next behind (subst (λ k. TakesKnownPieces k known) is p) c b (subst (λ k. CountsAll k left behind later) is counts)
   where
-    at : (known next behind : Option (List ℕ)) → TakesKnownPieces (Some bytes) known → Cuts a known next → TakesKnown a ToEnd next behind → CountsAll (Some bytes) left behind later → IsTaken left bytes
+    at : (known next behind : Option (List ℕ)) → TakesKnownPieces (Some bytes) known → Cuts a known next → TakesKnown a ToEnd next behind
+        → CountsAll (Some bytes) left behind later → IsTaken left bytes
     at None next behind p c b counts = absurd p
     at (Some ys) None behind p c b counts = absurd c
     at (Some ys) (Some zs) None p c b counts = absurd b
@@ -140,7 +176,8 @@ module _ {R : Type 0} (on : sources.Ghosts R) where
     takes = λ how fits. ends_at a (left_of on how input reader) ends;
   }
 
-  once_takes : {E : Type 0} (told : Result ⊤ E) (r : Result Goes ServeFault) (to : Goes) (Takes : Goes → Type 0) → MatchResult told (λ _. r ≡ Ok to) (λ _. r ≡ Err fault.WriteFault) → Takes to → IfOk r Takes
+  once_takes : {E : Type 0} (told : Result ⊤ E) (r : Result Goes ServeFault) (to : Goes) (Takes : Goes → Type 0)
+      → MatchResult told (λ _. r ≡ Ok to) (λ _. r ≡ Err fault.WriteFault) → Takes to → IfOk r Takes
   once_takes (Ok done) r to Takes is takes = subst (λ o. IfOk o Takes) (sym is) takes
   once_takes (Err failed) r to Takes is takes = subst (λ o. IfOk o Takes) (sym is) tt
 

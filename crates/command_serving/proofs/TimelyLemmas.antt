@@ -1,5 +1,38 @@
 -- What was put so far is part of what turns tell whose calls have finished.
-use Rattle.std.proofs.Common.{◌≡◌, ◌∙◌, ℕ, ◌+◌, ◌≤◌, Bool, true, cond, List, [], ◌∷◌, ◌++◌, ◌⊎◌, inl, inr, Option, Some, Result, Ok, Err, length, map, take, drop, refl, sym, ap, subst, arith, append_assoc, append-nil, take-append-drop}
+use Rattle.std.proofs.Common.{
+  ◌≡◌,
+  ◌∙◌,
+  ℕ,
+  ◌+◌,
+  ◌≤◌,
+  Bool,
+  true,
+  cond,
+  List,
+  [],
+  ◌∷◌,
+  ◌++◌,
+  ◌⊎◌,
+  inl,
+  inr,
+  Option,
+  Some,
+  Result,
+  Ok,
+  Err,
+  length,
+  map,
+  take,
+  drop,
+  refl,
+  sym,
+  ap,
+  subst,
+  arith,
+  append_assoc,
+  append-nil,
+  take-append-drop,
+}
 use Rattle.std.specs.List.{AllByRecursion, concat}
 use Rattle.std.proofs.lemmas.Bool.{le-leb}
 use Rattle.std.proofs.lemmas.Grind.{flat_map-append}
@@ -80,7 +113,8 @@ within m (turn ∷ turns) events others e all = at (λ more second both. within 
           timely = (calls, tt);
         }
 
-    goes_on : ((more : List Event) → events_by turns ≡ more ++ others → AllByRecursion (λ event. calls_at event ≤ m) more → Within m turns (put_by more)) → (more : List Event) → events ≡ events_in turn ++ more → events_by turns ≡ more ++ others → Within m (turn ∷ turns) (put_by events)
+    goes_on : ((more : List Event) → events_by turns ≡ more ++ others → AllByRecursion (λ event. calls_at event ≤ m) more → Within m turns (put_by more))
+        → (more : List Event) → events ≡ events_in turn ++ more → events_by turns ≡ more ++ others → Within m (turn ∷ turns) (put_by events)
     goes_on again more first second =
         let both : AllByRecursion (λ event. calls_at event ≤ m) (events_in turn ++ more) = subst (AllByRecursion (λ event. calls_at event ≤ m)) first all in
         let later : Within m turns (put_by more) = again more second (all_rest _ (events_in turn) more both) in
@@ -94,7 +128,8 @@ within m (turn ∷ turns) events others e all = at (λ more second both. within 
         }
 
     at : ((more : List Event) → events_by turns ≡ more ++ others → AllByRecursion (λ event. calls_at event ≤ m) more → Within m turns (put_by more))
-        → ((rest : List Event) × (events_in turn ≡ events ++ rest) × (others ≡ rest ++ events_by turns)) ⊎ ((more : List Event) × (events ≡ events_in turn ++ more) × (events_by turns ≡ more ++ others)) → Within m (turn ∷ turns) (put_by events)
+        → ((rest : List Event) × (events_in turn ≡ events ++ rest) × (others ≡ rest ++ events_by turns))
+        ⊎ ((more : List Event) × (events ≡ events_in turn ++ more) × (events_by turns ≡ more ++ others)) → Within m (turn ∷ turns) (put_by events)
     at again (inl c) = ends_within events c.0 c.1 all
     at again (inr c) = goes_on again c.0 c.1 c.2
 
@@ -121,13 +156,15 @@ counted m (Applied command reply ∷ acts) all = by_answer reply.answer reply.ca
         let none : acked m (record { answer = Err denial; calls = n } ∷ replies_of acts) ≡ 0 + acked m (replies_of acts) = acked_cons m (record { answer = Err denial; calls = n }) (replies_of acts) in
         omega (arith, rest, none)
 
-timely_replies : (m : ℕ) (turns : List Turn) → AllByRecursion IsTurn turns → AllByRecursion (λ (turn : Turn). turn.calls ≤ m) turns → AllByRecursion (λ (reply : SessionReply). reply.calls ≤ m) (replies_of (acts_by turns))
+timely_replies : (m : ℕ) (turns : List Turn) → AllByRecursion IsTurn turns → AllByRecursion (λ (turn : Turn). turn.calls ≤ m) turns
+    → AllByRecursion (λ (reply : SessionReply). reply.calls ≤ m) (replies_of (acts_by turns))
 timely_replies m [] each all = tt
 timely_replies m (turn ∷ turns) each all =
     subst (AllByRecursion (λ (reply : SessionReply). reply.calls ≤ m)) (sym (replies_both turn.acts (acts_by turns)))
     (all_joined (replies_of turn.acts) (replies_of (acts_by turns)) (below (replies_of turn.acts) each.0.finished) (timely_replies m turns each.1 all.1))
   where
-    all_joined : (a b : List SessionReply) → AllByRecursion (λ (reply : SessionReply). reply.calls ≤ m) a → AllByRecursion (λ (reply : SessionReply). reply.calls ≤ m) b → AllByRecursion (λ (reply : SessionReply). reply.calls ≤ m) (a ++ b)
+    all_joined : (a b : List SessionReply) → AllByRecursion (λ (reply : SessionReply). reply.calls ≤ m) a
+        → AllByRecursion (λ (reply : SessionReply). reply.calls ≤ m) b → AllByRecursion (λ (reply : SessionReply). reply.calls ≤ m) (a ++ b)
     all_joined [] b p q = q
     all_joined (r ∷ a) b p q = (p.0, all_joined a b p.1 q)
 
@@ -167,7 +204,8 @@ module _ {D : Type 0} (on : sectors.Ghosts D) where
 -- ---- of a serving
 
 module _ {D : Type 0} (on : sectors.Ghosts D) (reading : Reading) (old new : SessionValue D) (input : List ℕ) (m : ℕ) where
-  told_acknowledged : (acts : List Act) (t : List ℕ) (turns : List Turn) (events others : List Event) → IsRunOfInput on reading old input acts new → AreTold old (λ s. served reading s (pieces_of input)) acts t turns → events_by turns ≡ events ++ others
+  told_acknowledged : (acts : List Act) (t : List ℕ) (turns : List Turn) (events others : List Event) → IsRunOfInput on reading old input acts new
+      → AreTold old (λ s. served reading s (pieces_of input)) acts t turns → events_by turns ≡ events ++ others
       → AllByRecursion (λ event. calls_at event ≤ m) events → TellsAcknowledged reading old input acts m (put_by events)
   told_acknowledged acts t turns events others done told e all =
       let w : Within m turns (put_by events) = within m turns events others e all in
@@ -190,8 +228,10 @@ module _ {D : Type 0} (on : sectors.Ghosts D) (reading : Reading) (old new : Ses
       }
 
 module _ {D : Type 0} (on : sectors.Ghosts D) where
-  cut_acknowledged : (reading : Reading) (old new : SessionValue D) (input : List ℕ) (before after_it : Stream) (m : ℕ) (events others : List Event) (fault : ServeFault) (cut : IsCutShort on reading old (pieces_of input) before after_it new)
-      → after_it.events ≡ before.events ++ (events ++ others) → AllByRecursion (λ event. calls_at event ≤ m) events → TellsAcknowledged reading old input (cut.answered.acts ++ cut.tells.acts) m (put_by events)
+  cut_acknowledged : (reading : Reading) (old new : SessionValue D) (input : List ℕ) (before after_it : Stream) (m : ℕ) (events others : List Event)
+      (fault : ServeFault) (cut : IsCutShort on reading old (pieces_of input) before after_it new)
+      → after_it.events ≡ before.events ++ (events ++ others) → AllByRecursion (λ event. calls_at event ≤ m) events
+      → TellsAcknowledged reading old input (cut.answered.acts ++ cut.tells.acts) m (put_by events)
   cut_acknowledged reading old new input before after_it m events others fault cut e all =
       told_acknowledged on reading old new input m (cut.answered.acts ++ cut.tells.acts) (cut.text ++ take cut.part.len cut.last) turns events (others ++ more)
       (servings_are_runs on reading old new input before after_it (Err fault) cut) told
@@ -226,7 +266,8 @@ module _ {D : Type 0} (on : sectors.Ghosts D) where
           (sym e ∙ cut.part.extends.noted ∙ ap (λ l. l ++ part) cut.written.noted ∙ append_assoc before.events (events_by cut.answered.turns) part)
 
       told : AreTold old (λ s. served reading s (pieces_of input)) (cut.answered.acts ++ cut.tells.acts) (cut.text ++ take cut.part.len cut.last) turns
-      told = told_both old cut.told (λ s. served reading s (pieces_of input)) (still reading cut.commands cut.behind) cut.answered.acts cut.tells.acts cut.text (take cut.part.len cut.last) cut.answered.turns (turn ∷ [])
+      told = told_both old cut.told (λ s. served reading s (pieces_of input)) (still reading cut.commands cut.behind) cut.answered.acts cut.tells.acts cut.text
+          (take cut.part.len cut.last) cut.answered.turns (turn ∷ [])
           cut.answered.told cut.answered.says
           (told_once cut.told (still reading cut.commands cut.behind) cut.tells.acts (take cut.part.len cut.last) cut.part.texts (on.calls new.device)
           (is_turn on cut.tells.acts cut.part.texts cut.told new cut.tells.few cut.tells.run) cut.part.part
@@ -236,7 +277,8 @@ module _ {D : Type 0} (on : sectors.Ghosts D) where
           record {
             text = record {
               rest = drop cut.part.len cut.last ++ behind.text;
-              whole = ap (λ (r : Reply). r.text) said ∙ ap (λ l. l ++ behind.text) (sym (take-append-drop cut.part.len cut.last)) ∙ append_assoc (take cut.part.len cut.last) (drop cut.part.len cut.last) behind.text;
+              whole = ap (λ (r : Reply). r.text) said ∙ ap (λ l. l ++ behind.text) (sym (take-append-drop cut.part.len cut.last))
+                  ∙ append_assoc (take cut.part.len cut.last) (drop cut.part.len cut.last) behind.text;
             };
             commands = record { rest = behind.commands; whole = ap (λ (r : Reply). r.commands) said };
           }))

@@ -52,7 +52,8 @@ module _ {D : Type 0} where
         begins_on (carried_of front ++ command ∷ []) (f (as_serving s fates)).commands (longer (as_serving s fates)).commands (p.next front behind command reply e later) (more fates);
   }
 
-  pub asked_as : (s : SessionValue D) (f same : Serving → Reply) (acts : List Act) → ((fates : List Fate) → same (as_serving s fates) ≡ f (as_serving s fates)) → AreAsked s f acts → AreAsked s same acts
+  pub asked_as : (s : SessionValue D) (f same : Serving → Reply) (acts : List Act) → ((fates : List Fate) → same (as_serving s fates) ≡ f (as_serving s fates))
+      → AreAsked s f acts → AreAsked s same acts
   asked_as s f same acts is p =
       asked_front s f same acts (λ fates. record { rest = []; whole = ap (λ (r : Reply). r.commands) (is fates) ∙ sym (append-nil (f (as_serving s fates)).commands) }) p
 
@@ -60,7 +61,11 @@ module _ {D : Type 0} where
   pub asked_both : (a b : List Act) (first mid : SessionValue D) (f g : Serving → Reply) (text : List ℕ)
       → ((later : List Fate) → f (as_serving first (fates_of a ++ later)) ≡ preceded text (carried_of a) (g (as_serving mid later)))
       → AreAsked first f a → AreAsked mid g b → AreAsked first f (a ++ b)
-  asked_both a b first mid f g text says p q = record { tries = all_on IsTry a b p.tries q.tries; next = λ front behind command reply e later. at front behind command reply later (either_part a b front (Applied command reply ∷ behind) e) }
+  asked_both a b first mid f g text says p q = record {
+    tries = all_on IsTry a b p.tries q.tries;
+    next = λ front behind command reply e later. at front behind command reply later
+        (either_part a b front (Applied command reply ∷ behind) e);
+  }
     where
       behind_all : (front more behind : List Act) (command : Command) (reply : SessionReply) (later : List Fate) → front ≡ a ++ more → b ≡ more ++ Applied command reply ∷ behind
           → BeginsWith (carried_of front ++ command ∷ []) (f (as_serving first (fates_of front ++ Done ∷ later))).commands

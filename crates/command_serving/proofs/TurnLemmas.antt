@@ -78,7 +78,9 @@ module _ {D : Type 0} where
     front = λ some others e later. at some others later (either_part first second some others e);
   }
     where
-      at : (some others : List Turn) (later : List Fate) → ((rest : List Turn) × (first ≡ some ++ rest) × (others ≡ rest ++ second)) ⊎ ((more : List Turn) × (some ≡ first ++ more) × (second ≡ more ++ others))
+      at : (some others : List Turn) (later : List Fate)
+          → ((rest : List Turn) × (first ≡ some ++ rest) × (others ≡ rest ++ second))
+          ⊎ ((more : List Turn) × (some ≡ first ++ more) × (second ≡ more ++ others))
           → Begins (text_by some) (acts_by some) (f (as_serving a (fates_of (acts_by some) ++ later)))
       at some others later (inl c) = m.front some c.0 c.1 later
       at some others later (inr c) =
@@ -102,7 +104,8 @@ module _ {D : Type 0} where
           }
 
   -- the same replies
-  pub told_as : (a : SessionValue D) (f same : Serving → Reply) (p : List Act) (t : List ℕ) (turns : List Turn) → ((fates : List Fate) → same (as_serving a fates) ≡ f (as_serving a fates)) → AreTold a f p t turns → AreTold a same p t turns
+  pub told_as : (a : SessionValue D) (f same : Serving → Reply) (p : List Act) (t : List ℕ) (turns : List Turn)
+      → ((fates : List Fate) → same (as_serving a fates) ≡ f (as_serving a fates)) → AreTold a f p t turns → AreTold a same p t turns
   told_as a f same p t turns is m = record {
     does = m.does;
     says = m.says;
@@ -117,7 +120,8 @@ module _ {D : Type 0} where
   }
 
   -- replies that say more behind
-  pub told_before : (a : SessionValue D) (f longer : Serving → Reply) (p : List Act) (t : List ℕ) (turns : List Turn) → ((s : Serving) → IsFront (f s) (longer s)) → AreTold a f p t turns → AreTold a longer p t turns
+  pub told_before : (a : SessionValue D) (f longer : Serving → Reply) (p : List Act) (t : List ℕ) (turns : List Turn)
+      → ((s : Serving) → IsFront (f s) (longer s)) → AreTold a f p t turns → AreTold a longer p t turns
   told_before a f longer p t turns more m = record {
     does = m.does;
     says = m.says;
@@ -133,7 +137,8 @@ module _ {D : Type 0} where
   }
 
   -- one turn
-  pub told_once : (a : SessionValue D) (f : Serving → Reply) (p : List Act) (t : List ℕ) (texts : List (List ℕ)) (calls : ℕ) → IsTurn (record { acts = p; texts = texts; calls = calls }) → concat texts ≡ t
+  pub told_once : (a : SessionValue D) (f : Serving → Reply) (p : List Act) (t : List ℕ) (texts : List (List ℕ)) (calls : ℕ)
+      → IsTurn (record { acts = p; texts = texts; calls = calls }) → concat texts ≡ t
       → ((later : List Fate) → Begins t p (f (as_serving a (fates_of p ++ later)))) → AreTold a f p t (record { acts = p; texts = texts; calls = calls } ∷ [])
   told_once a f p t texts calls is whole begins = record {
     does = sym (append-nil p);
@@ -145,7 +150,8 @@ module _ {D : Type 0} where
       turn : Turn
       turn = record { acts = p; texts = texts; calls = calls }
 
-      at : (some : List Turn) (later : List Fate) → (some ≡ []) ⊎ (some ≡ record { acts = p; texts = texts; calls = calls } ∷ []) → Begins (text_by some) (acts_by some) (f (as_serving a (fates_of (acts_by some) ++ later)))
+      at : (some : List Turn) (later : List Fate) → (some ≡ []) ⊎ (some ≡ record { acts = p; texts = texts; calls = calls } ∷ [])
+          → Begins (text_by some) (acts_by some) (f (as_serving a (fates_of (acts_by some) ++ later)))
       at some later (inl none) =
           subst (λ l. Begins (text_by l) (acts_by l) (f (as_serving a (fates_of (acts_by l) ++ later)))) (sym none) (record { text = begins_at_all _; commands = begins_at_all _ })
       at some later (inr one) =
@@ -160,11 +166,13 @@ module _ {D : Type 0} where
 -- ---- a turn of one act
 
 module _ {D : Type 0} (on : sectors.Ghosts D) where
-  finished : (acts : List Act) (a b : SessionValue D) → length acts ≤ 1 → IsRunOn on a (commands_of acts) (replies_of acts) b → AllByRecursion (λ (reply : SessionReply). reply.calls ≡ on.calls b.device) (replies_of acts)
+  finished : (acts : List Act) (a b : SessionValue D) → length acts ≤ 1 → IsRunOn on a (commands_of acts) (replies_of acts) b
+      → AllByRecursion (λ (reply : SessionReply). reply.calls ≡ on.calls b.device) (replies_of acts)
   finished [] a b few run = tt
   finished (Text some ∷ []) a b few run = tt
   finished (Applied command reply ∷ []) a b few run = (run.1.count ∙ ap (λ (s : SessionValue D). on.calls s.device) (sym run.2), tt)
   finished (first ∷ second ∷ acts) a b few run = absurd (omega (arith, few))
 
-  pub is_turn : (acts : List Act) (texts : List (List ℕ)) (a b : SessionValue D) → length acts ≤ 1 → IsRunOn on a (commands_of acts) (replies_of acts) b → IsTurn (record { acts = acts; texts = texts; calls = on.calls b.device })
+  pub is_turn : (acts : List Act) (texts : List (List ℕ)) (a b : SessionValue D) → length acts ≤ 1 → IsRunOn on a (commands_of acts) (replies_of acts) b
+      → IsTurn (record { acts = acts; texts = texts; calls = on.calls b.device })
   is_turn acts texts a b few run = record { few = few; finished = finished acts a b few run }

@@ -18,7 +18,8 @@ faults_told (Spent ∷ fates) faults = faults_told fates faults
 module _ {D : Type 0} (on : sectors.Ghosts D) where
   -- Law: no room is told at the last sequence alone. Each command carried out takes one sequence at most, so before it are as many of these.
   abbrev pub SpentAtTheLast : Type 0
-  SpentAtTheLast = (old new : SessionValue D) (acts : List Act) → IsRunOn on old (commands_of acts) (replies_of acts) new → Contains (fates_of acts) Spent → last_sequence ≤ old.place.sequence + length (carried_of acts)
+  SpentAtTheLast = (old new : SessionValue D) (acts : List Act) → IsRunOn on old (commands_of acts) (replies_of acts) new → Contains (fates_of acts) Spent
+      → last_sequence ≤ old.place.sequence + length (carried_of acts)
 
   -- law: a failed device is told where a call has failed, and is not told where none has
   abbrev pub FaultsAreTold : Type 0

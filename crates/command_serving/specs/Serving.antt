@@ -124,7 +124,8 @@ pieces_behind On left = pieces_of left
 pieces_behind ToEnd left = []
 
 -- these pieces were served, as far as what is left of an input that is known
-pub record ServesOn {D : Type 0} (on : sectors.Ghosts D) (reading : Reading) (old : SessionValue D) (pieces : List Piece) (before after : Stream) (new : SessionValue D) (goes : Goes) (known : Option (List ℕ)) : Type 0 where
+pub record ServesOn {D : Type 0} (on : sectors.Ghosts D) (reading : Reading) (old : SessionValue D) (pieces : List Piece) (before after : Stream)
+    (new : SessionValue D) (goes : Goes) (known : Option (List ℕ)) : Type 0 where
   pub left : List ℕ
   pub is_known : known ≡ Some left
   pub front : List Piece

@@ -38,7 +38,8 @@ module _ {D : Type 0} (on : sectors.Ghosts D) where
       → Throughout on.clock on.possible_since old.device new.device (RunLeaves old.state commands replies)
 
   -- the acts by which an input was served, or the serving cut short
-  abbrev pub acts_of : (r : Result ⊤ ServeFault) (reading : Reading) (old : SessionValue D) (input : List ℕ) (before after_it : Stream) (new : SessionValue D) → EndsOrIsCut on r reading old input before after_it new → List Act
+  abbrev pub acts_of : (r : Result ⊤ ServeFault) (reading : Reading) (old : SessionValue D) (input : List ℕ) (before after_it : Stream) (new : SessionValue D)
+      → EndsOrIsCut on r reading old input before after_it new → List Act
   acts_of (Ok done) reading old input before after_it new served = served.acts
   acts_of (Err fault) reading old input before after_it new cut = cut.answered.acts ++ cut.tells.acts
 
@@ -57,7 +58,8 @@ module _ {D : Type 0} (on : sectors.Ghosts D) where
 module _ {D E : Type 0} (on : sectors.Ghosts D) (again : sectors.Ghosts E) where
   -- the law
   abbrev pub ServedHeadline : Type 0
-  ServedHeadline = (reading : Reading) (old new : SessionValue D) (input : List ℕ) (before after_it : Stream) (r : Result ⊤ ServeFault) (m : ℕ) (image : List ℕ) (device left : E) (outcome : Result State StoreFault)
+  ServedHeadline = (reading : Reading) (old new : SessionValue D) (input : List ℕ) (before after_it : Stream) (r : Result ⊤ ServeFault) (m : ℕ) (image : List ℕ)
+      (device left : E) (outcome : Result State StoreFault)
       -- an input served over a session that is not broken, as far as it was, and a device that has answered as the model says
       → (served : EndsOrIsCut on r reading old input before after_it new) → old.is_broken ≡ false → on.honest new.device
       -- what that leaves at each moment (clause `moments` of `serve`)

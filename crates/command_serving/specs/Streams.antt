@@ -1,5 +1,5 @@
 -- What readers and writers do to bytes that are known, and what was done to a source and a sink.
-use Rattle.std.specs.Prelude.{◌≡◌, ◌⊎◌, ◌<◌, ◌≤◌, ◌++◌, ◌∷◌, [], ℕ, List, length, map, take, drop, Option, Some, None, Result, Ok, Err, ⊤}
+use Rattle.std.specs.Prelude.{◌≡◌, ◌⊎◌, ◌<◌, ◌≤◌, ◌++◌, ◌∷◌, [], ℕ, Bool, true, false, List, length, map, take, drop, Option, Some, None, Result, Ok, Err}
 use Rattle.std.specs.List.{concat}
 use Rattle.std.specs.Io.KnownBytes.{Appends, Consumes, IsAtEnd, Keeps}
 
@@ -14,18 +14,26 @@ pub record History : Type 0 where
   pub events : List Event
   pub reads : List (List ℕ)
 
--- What is left of a text behind these reads.
-abbrev pub left_behind : List (List ℕ) → List ℕ → List ℕ
-left_behind [] text = text
-left_behind (piece ∷ earlier) text = drop (length piece) (left_behind earlier text)
+-- what these reads gave, in order
+abbrev pub text_given : List (List ℕ) → List ℕ
+text_given [] = []
+text_given (piece ∷ earlier) = text_given earlier ++ piece
 
--- These reads gave the text piece by piece, from its beginning on: what was left of it began with the next one, and none gave nothing but at
--- its end. More of it may come.
-abbrev pub GaveText : List (List ℕ) → List ℕ → Type 0
-GaveText [] text = ⊤
-GaveText (piece ∷ earlier) text = GaveText earlier text
-    × (left_behind earlier text ≡ piece ++ left_behind (piece ∷ earlier) text)
-    × (piece ≡ [] → left_behind earlier text ≡ [])
+-- one of them gave nothing: that was at the end
+abbrev pub ended_by : List (List ℕ) → Bool
+ended_by [] = false
+ended_by ([] ∷ earlier) = true
+ended_by ((b ∷ bs) ∷ earlier) = ended_by earlier
+
+-- The text begins with what these reads gave, and is no more than that where one of them gave nothing. So for any reads there is one: what they gave.
+pub record GaveText (reads : List (List ℕ)) (text : List ℕ) : Type 0 where
+  pub rest : List ℕ
+  pub whole : text ≡ text_given reads ++ rest
+  pub end : ended_by reads ≡ true → rest ≡ []
+
+-- What is left of such a text behind them.
+abbrev pub left_behind : List (List ℕ) → List ℕ → List ℕ
+left_behind reads text = drop (length (text_given reads)) text
 
 -- What is known of an input that was read: its bytes, where they were known beforehand, and what reads had given before and after.
 pub record Given : Type 0 where

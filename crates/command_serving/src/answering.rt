@@ -74,7 +74,7 @@ enum Goes {
 ///
 /// `ok` and `at` stand behind the last sync of what they acknowledge. Each try with fewer vehicles is logged as it ends. Where all of the input is served, what is written is the
 /// answer to it, and the session has carried out just the commands that it says, up to a failed device. The input is what is
-/// known of it beforehand, or each text that its reads gave piece by piece (`IsInputOf`). `serve` takes any reader and writer.
+/// known of it beforehand, or each text that begins with what its reads gave (`IsInputOf`). `serve` takes any reader and writer.
 ///
 /// # Errors
 ///

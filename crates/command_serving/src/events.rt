@@ -47,6 +47,14 @@ impl Events {
         self.of_put(session, text)
     }
 
+    /// A text was put, over this device, which no session holds.
+    pub(crate) fn with_put_behind<D: Sectors>(&self, device: &D, text: &[u8]) -> Events
+        ensures events { result.events ≡ self.now.events ++ Put (D.calls device.now) text.now ∷ [] }
+        ensures reads { result.reads ≡ self.now.reads }
+    {
+        self.of_put_behind(device, text)
+    }
+
     /// All was handed on, over this session.
     pub(crate) fn with_flush<D: Sectors>(&self, session: &Session<D>) -> Events
         ensures events { result.events
@@ -68,6 +76,17 @@ impl Events {
         ghost history: { History }
         requires { history ≡ record {
           events = self.now.events ++ Put (D.calls _session.now.device) _text.now ∷ [];
+          reads = self.now.reads;
+        } }
+        ensures { (result.events ≡ history.events) × (result.reads ≡ history.reads) }
+    {
+        Events::of()
+    }
+
+    fn of_put_behind<D: Sectors>(&self, _device: &D, _text: &[u8]) -> Events
+        ghost history: { History }
+        requires { history ≡ record {
+          events = self.now.events ++ Put (D.calls _device.now) _text.now ∷ [];
           reads = self.now.reads;
         } }
         ensures { (result.events ≡ history.events) × (result.reads ≡ history.reads) }

@@ -10,7 +10,8 @@
 //! one only what tells whether its first word announces a text. So lines take no memory, and no want of it looks like a
 //! reader that failed; the text that a line announces does. `ok` and `at` are written behind the last sync of what they
 //! acknowledge, and each answer is flushed. Each call of a sink is handed the session, so that clauses see what was put and
-//! flushed when how many calls of the device had finished. What reads of a source gave is noted, for clauses alone.
+//! flushed when how many calls of the device had finished; `put_behind` is handed a device that no session holds. What reads of a
+//! source gave is noted, for clauses alone, and behind one that gave nothing a `Watched` reads no more.
 //!
 //! Modules, in reading order:
 //! - `streams`: `Source`, `Sink`, and `Watched`, which makes one of each reader and writer of std; `write_text`, which tells how much
@@ -25,8 +26,8 @@
 //! - `laws`: what stops leave of a serving, and the causes of its answers
 //!
 //! Said by `specs/Served.antt`, `Acts.antt`, `Stopped.antt`, `Timely.antt`, `Causes.antt`, `Streams.antt` and
-//! `Strict.antt`. Proved of `serve_source`, for an input as it is known beforehand, and for each text that its reads gave piece by piece
-//! (`IsInputOf`, `GaveText`):
+//! `Strict.antt`. Proved of `serve_source`, for an input as it is known beforehand, and for each text that begins with what its reads gave,
+//! up to an end (`IsInputOf`, `GaveText`), as what they gave does itself:
 //! - `serves`, after `Ok` (`IsServed`): all is served, what is appended is the answer to the input, and the state
 //!   is the one after the commands that were carried out
 //! - `serves`, behind a `ServeFault` (`IsCutShort`): the answers to a first part of the input stand whole, and of
@@ -54,8 +55,6 @@
 //! - `serve`: of these clauses `moments`, and `serves` and `most` of an input that is known beforehand; std says of no call when it
 //!   fails, so nothing of causes
 //! - what a whole line asks for does not depend on the pieces in which its bytes come (`input`)
-//!
-//! Where a byte comes behind an end, as a terminal may give it, there is no such text, and nothing is said.
 //!
 //! Not excluded by these clauses: a try that answers `OutOfMemory` though there is memory, a `flush` that hands nothing on, and
 //! a `Watched` that fails always and notes it, since of std's readers and writers no contract says when a call may fail, nor

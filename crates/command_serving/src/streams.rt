@@ -2,12 +2,12 @@
 //!
 //! Std's `Read` and `Write` don't say when a call may fail. A `Source` and a `Sink` tell whether one has, so that a
 //! fault has a cause which a contract can name. Nor does std know a byte of standard input: so what reads gave is noted, for
-//! clauses alone, and what is said of an input is said of each text that they gave piece by piece. A slice of bytes is a source
-//! that never fails.
+//! clauses alone, and what is said of an input is said of each text that begins with it, up to an end. A slice of bytes is a
+//! source that never fails.
 ghost use Rattle.std.specs.Prelude.{◌≡◌, ◌<◌, ◌≤◌, [], ℕ, List, Option, Bool, true, false, None, Some, IfOk, IfSome, IsNone, OnErr, length, take};
 ghost use Rattle.std.specs.Io.{ReadsAtMost, WritesAtMost};
 ghost use Rattle.std.specs.Io.KnownBytes.{Appends, Keeps, ReadConsumes, WriteAppends};
-ghost use Rattle.command_serving.specs.Streams.{Flushes, GaveText, Origin, Puts, ReadsSome, Stream, WritesSome, WritesUpTo, began_with, left_behind};
+ghost use Rattle.command_serving.specs.Streams.{Flushes, GaveText, Origin, Puts, ReadsSome, Stream, WritesSome, WritesUpTo, began_with, ended_by, left_behind};
 
 use crate::events::Events;
 use recover::Session;
@@ -24,7 +24,7 @@ pub trait Source {
     // The bytes that are still to come, where they are known.
     ghost remaining: { Self → Option (List ℕ) };
 
-    // In all calls so far it gave this text piece by piece, and nothing only at its end. More of it may come.
+    // All that it gave so far begins this text, and is the whole text where a call has given nothing.
     ghost gave: { Self → List ℕ → Type 0 };
 
     // What is left of such a text.
@@ -76,14 +76,19 @@ pub trait Sink {
 pub struct Watched<T> {
     pub(crate) inner: T,
     has_failed: bool,
+    /// Whether a read gave nothing, so that the input is at its end.
+    has_ended: bool,
     pub(crate) log: Events,
+    ghost ended: { has_ended ≡ ended_by log.reads },
 }
 
 /// What was noted of the calls of a source or a sink.
 #[derive(Drop)]
 pub struct Noted {
     has_failed: bool,
+    has_ended: bool,
     log: Events,
+    ghost ended: { has_ended ≡ ended_by log.reads },
 }
 
 impl<T> Watched<T> {
@@ -91,12 +96,14 @@ impl<T> Watched<T> {
     pub fn new(inner: T) -> Watched<T>
         ensures inner { result.inner ≡ inner }
         ensures has_failed { result.has_failed ≡ false }
+        ensures has_ended { result.has_ended ≡ false }
         ensures log { result.log.events ≡ [] }
         ensures reads { result.log.reads ≡ [] }
     {
         Watched {
             inner,
             has_failed: false,
+            has_ended: false,
             log: Events::new(),
         }
     }
@@ -125,9 +132,15 @@ impl<T> Watched<T> {
         let Watched {
             inner,
             has_failed,
+            has_ended,
             log,
         } = self;
-        (inner, Noted { has_failed, log })
+        let noted = Noted {
+            has_failed,
+            has_ended,
+            log,
+        };
+        (inner, noted)
     }
 
     /// Goes on with what was noted.
@@ -137,18 +150,49 @@ impl<T> Watched<T> {
         ensures log { result.log.events ≡ noted.log.events }
         ensures reads { result.log.reads ≡ noted.log.reads }
     {
-        let Noted { has_failed, log } = noted;
+        let Noted {
+            has_failed,
+            has_ended,
+            log,
+        } = noted;
         Watched {
             inner,
             has_failed,
+            has_ended,
             log,
         }
     }
 }
 
-/// A call that a signal came between is made again. What reads with room gave is noted.
+impl<W: Write> Watched<W> {
+    ghost use Rattle.command_serving.specs.Held.{held};
+
+    /// `put` of a sink, behind calls of a device that no session holds.
+    pub fn put_behind<D: Sectors>(&mut self, device: &D, text: &[u8]) -> Result<(), Failed>
+        ensures puts { Puts (held W.contents self.old) (held W.contents self.new) result
+            (D.calls device.now) text.now }
+        ensures failed { OnErr result (self.new.has_failed ≡ true) }
+    {
+        match write_text(&mut self.inner, text) {
+            Ok(()) => {
+                self.log = self.log.with_put_behind(device, text);
+                Ok(())
+            }
+            Err(len) => {
+                self.has_failed = true;
+                self.log = self.log.with_put_behind(device, &text[..len]);
+                Err(Failed)
+            }
+        }
+    }
+}
+
+/// A call that a signal came between is made again. What reads with room gave is noted. Behind one that gave nothing none is
+/// made, since a terminal may give bytes behind an end: so what reads gave is the input, whatever the reader is.
 impl<R: Read> Source for Watched<R> {
-    ghost remaining = { λ r. R.remaining r.inner };
+    ghost use Rattle.command_serving.specs.Held.{still_known};
+
+    ghost remaining = { still_known R.remaining };
 
     ghost gave = { λ r text. GaveText r.log.reads text };
 
@@ -157,10 +201,14 @@ impl<R: Read> Source for Watched<R> {
     ghost has_failed = { λ r. r.has_failed };
 
     fn read_some(&mut self, block: &mut [u8]) -> Result<usize, Failed> {
+        if self.has_ended {
+            return Ok(0);
+        }
         match read_once(&mut self.inner, block) {
             Some(len) => {
                 if !block.is_empty() {
                     self.log = self.log.with_read(&block[..len]);
+                    self.has_ended = len == 0;
                 }
                 Ok(len)
             }

@@ -9,7 +9,8 @@ returns-in-Err g c = λ reading is. tells_none (adopt_on reading c.args.text.now
 
 pub returns-in-Ok-read_plan : goal.returns-in-Ok-read_plan
 returns-in-Ok-read_plan g c = λ reading is.
-    adopt_read reading c.args.text.now c.args.session.now c.in-Ok.job.now c.in-Ok.ensures.job.0 c.in-Ok.ensures.job.1 c.in-Ok-read_plan.plan c.applied.new.session _ (c.in-Ok-read_plan.ensures reading is) c.applied.ensures
+    adopt_read reading c.args.text.now c.args.session.now c.in-Ok.job.now c.in-Ok.ensures.job.0 c.in-Ok.ensures.job.1 c.in-Ok-read_plan.plan
+    c.applied.new.session _ (c.in-Ok-read_plan.ensures reading is) c.applied.ensures
 
 pub returns-in-Err-read_plan : goal.returns-in-Err-read_plan
 returns-in-Err-read_plan g c = λ reading is.

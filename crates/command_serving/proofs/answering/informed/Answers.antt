@@ -19,7 +19,8 @@ pub returns-in-Some : goal.returns-in-Some
 returns-in-Some g c =
     let job = c.in_ok-job.job.now in
     let q = c.args.question in
-    job_refuses (informed q) c.args.session.now job c.in_ok-job.ensures.job.0 c.in_ok-job.ensures.job.1 (answer.Refused c.in-Some.refusal) (by_refusal job q (Some c.in-Some.refusal) (sym c.question_refusal.ensures ∙ c.in-Some.is))
+    job_refuses (informed q) c.args.session.now job c.in_ok-job.ensures.job.0 c.in_ok-job.ensures.job.1 (answer.Refused c.in-Some.refusal)
+    (by_refusal job q (Some c.in-Some.refusal) (sym c.question_refusal.ensures ∙ c.in-Some.is))
 
 pub returns-in-Ok : goal.returns-in-Ok
 returns-in-Ok g c =

@@ -12,12 +12,14 @@ loop-command-init g c = (serves_nothing c.args.session.now (λ s. carried_all s 
 
 pub returns-in-Err-clause-answers : goal.returns-in-Err-clause-answers
 returns-in-Err-clause-answers g c =
-    let tells = step_denied c.loop-command.session c.apply.new.session c.loop-command.left c.in-Some.rest c.in-Some.command c.apply.result c.state.ensures.state c.in-Some.ensures c.apply.ensures c.denied.result c.in-Err.denial c.denied.ensures c.in-Err.is in
+    let tells = step_denied c.loop-command.session c.apply.new.session c.loop-command.left c.in-Some.rest c.in-Some.command c.apply.result c.state.ensures.state
+    c.in-Some.ensures c.apply.ensures c.denied.result c.in-Err.denial c.denied.ensures c.in-Err.is in
     answers_behind c.tell.result None (commands_of c.loop-command.left c.loop-command.session.state) _ c.loop-command.invariant.0 tells c.tell.ensures.told
 
 pub loop-command-preserved : goal.loop-command-preserved
 loop-command-preserved g c =
-    let tells = step_done c.loop-command.session c.apply.new.session c.loop-command.left c.in-Some.rest c.in-Some.command c.apply.result c.state.ensures.state c.in-Some.ensures c.apply.ensures c.progress_behind-progress.result c.in_default-answer.field-0
+    let tells = step_done c.loop-command.session c.apply.new.session c.loop-command.left c.in-Some.rest c.in-Some.command c.apply.result c.state.ensures.state
+    c.in-Some.ensures c.apply.ensures c.progress_behind-progress.result c.in_default-answer.field-0
     c.progress_behind-progress.ensures c.in_default-answer.is in
     (serves_further c.loop-command.invariant.0 tells c.in_ok-tell_progress.ensures.told, c.tell_progress.ensures.origin ∙ c.loop-command.invariant.1)
 
@@ -36,7 +38,9 @@ returns-in_err-tell_progress-clause-answers g c =
     let before = g.W.Sink.stream c.args.writer.now in
     let after = g.W.Sink.stream c.tell_progress.new.writer in
     let told = err_from_is_err_and c.from_residual.result c.from_residual.ensures.1 in
-    let tells = step_done c.loop-command.session new c.loop-command.left c.in-Some.rest c.in-Some.command c.apply.result c.state.ensures.state c.in-Some.ensures c.apply.ensures c.progress_behind-progress.result c.in_default-answer.field-0
+    let tells = step_done c.loop-command.session new c.loop-command.left c.in-Some.rest c.in-Some.command c.apply.result c.state.ensures.state c.in-Some.ensures
+    c.apply.ensures c.progress_behind-progress.result c.in_default-answer.field-0
     c.progress_behind-progress.ensures c.in_default-answer.is in
     subst (λ r. Answers g.D.Sectors r old (λ s. carried_all s first) before after new silent) (sym told.1)
-    (answers_behind {T = ⊤} (Err told.0) (Some (commands_of c.in-Some.rest new.state)) (commands_of c.loop-command.left c.loop-command.session.state) after c.loop-command.invariant.0 tells c.in_err-tell_progress.ensures.told)
+    (answers_behind {T = ⊤} (Err told.0) (Some (commands_of c.in-Some.rest new.state))
+    (commands_of c.loop-command.left c.loop-command.session.state) after c.loop-command.invariant.0 tells c.in_err-tell_progress.ensures.told)

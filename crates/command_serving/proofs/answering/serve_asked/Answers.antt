@@ -19,23 +19,31 @@ use Rattle.command_serving.proofs.answering.serve_asked.Goals as goal
 
 pub returns-in-BadText-clause-serves : goal.returns-in-BadText-clause-serves
 returns-in-BadText-clause-serves g c = λ reading rest how is fits known.
-    line_ends g.D.Sectors c.args.session.now _ _ _ _ reading rest c.in-BadText.is c.tell-in-BadText.result c.once-in-BadText.ensures refl known (answers_told c.tell-in-BadText.result _ _ (tells_same c.args.session.now (λ s. answered s answer.BadLine) answer.BadLine (λ fates. refl)) c.tell-in-BadText.ensures.told)
+    line_ends g.D.Sectors c.args.session.now _ _ _ _ reading rest c.in-BadText.is c.tell-in-BadText.result c.once-in-BadText.ensures refl known
+    (answers_told c.tell-in-BadText.result _ _ (tells_same c.args.session.now (λ s. answered s answer.BadLine) answer.BadLine (λ fates. refl))
+    c.tell-in-BadText.ensures.told)
 
 pub returns-in-TextRange-clause-serves : goal.returns-in-TextRange-clause-serves
 returns-in-TextRange-clause-serves g c = λ reading rest how is fits known.
-    line_ends g.D.Sectors c.args.session.now _ _ _ _ reading rest c.in-TextRange.is c.tell-in-TextRange.result c.once-in-TextRange.ensures refl known (answers_told c.tell-in-TextRange.result _ _ (tells_same c.args.session.now (λ s. answered s (answer.Refused core.Range)) (answer.Refused core.Range) (λ fates. refl)) c.tell-in-TextRange.ensures.told)
+    line_ends g.D.Sectors c.args.session.now _ _ _ _ reading rest c.in-TextRange.is c.tell-in-TextRange.result c.once-in-TextRange.ensures refl known
+    (answers_told c.tell-in-TextRange.result _ _ (tells_same c.args.session.now (λ s. answered s (answer.Refused core.Range)) (answer.Refused core.Range)
+    (λ fates. refl)) c.tell-in-TextRange.ensures.told)
 
 pub returns-in-BadLine-clause-serves : goal.returns-in-BadLine-clause-serves
 returns-in-BadLine-clause-serves g c = λ reading rest how is fits known.
-    line_on g.D.Sectors c.args.session.now _ _ _ _ reading rest c.in-BadLine.is c.tell-in-BadLine.result c.once-in-BadLine.ensures refl known (answers_told c.tell-in-BadLine.result _ _ (tells_same c.args.session.now (λ s. answered s answer.BadLine) answer.BadLine (λ fates. refl)) c.tell-in-BadLine.ensures.told)
+    line_on g.D.Sectors c.args.session.now _ _ _ _ reading rest c.in-BadLine.is c.tell-in-BadLine.result c.once-in-BadLine.ensures refl known
+    (answers_told c.tell-in-BadLine.result _ _ (tells_same c.args.session.now (λ s. answered s answer.BadLine) answer.BadLine (λ fates. refl))
+    c.tell-in-BadLine.ensures.told)
 
 pub returns-in-Refused-clause-serves : goal.returns-in-Refused-clause-serves
 returns-in-Refused-clause-serves g c = λ reading rest how is fits known.
-    line_on g.D.Sectors c.args.session.now _ _ _ _ reading rest c.in-Refused.is c.tell-in-Refused.result c.once-in-Refused.ensures refl known (answers_told c.tell-in-Refused.result _ _ c.refused.ensures c.tell-in-Refused.ensures.told)
+    line_on g.D.Sectors c.args.session.now _ _ _ _ reading rest c.in-Refused.is c.tell-in-Refused.result c.once-in-Refused.ensures refl known
+    (answers_told c.tell-in-Refused.result _ _ c.refused.ensures c.tell-in-Refused.ensures.told)
 
 pub returns-in-Plain-clause-serves : goal.returns-in-Plain-clause-serves
 returns-in-Plain-clause-serves g c = λ reading rest how is fits known.
-    line_on g.D.Sectors c.args.session.now _ _ _ _ reading rest c.in-Plain.is c.tell-in-Plain.result c.once-in-Plain.ensures refl known (answers_told c.tell-in-Plain.result _ _ c.applied_with_hint-answer.ensures c.tell-in-Plain.ensures.told)
+    line_on g.D.Sectors c.args.session.now _ _ _ _ reading rest c.in-Plain.is c.tell-in-Plain.result c.once-in-Plain.ensures refl known
+    (answers_told c.tell-in-Plain.result _ _ c.applied_with_hint-answer.ensures c.tell-in-Plain.ensures.told)
 
 pub returns-in-Steps-clause-serves : goal.returns-in-Steps-clause-serves
 returns-in-Steps-clause-serves g c = λ reading rest how is fits known.
@@ -43,19 +51,23 @@ returns-in-Steps-clause-serves g c = λ reading rest how is fits known.
 
 pub returns-in-Print-clause-serves : goal.returns-in-Print-clause-serves
 returns-in-Print-clause-serves g c = λ reading rest how is fits known.
-    line_on g.D.Sectors c.args.session.now _ _ _ _ reading rest c.in-Print.is c.tell_made.result c.once-in-Print.ensures refl known (answers_told c.tell_made.result _ _ c.printed.ensures c.tell_made.ensures.told)
+    line_on g.D.Sectors c.args.session.now _ _ _ _ reading rest c.in-Print.is c.tell_made.result c.once-in-Print.ensures refl known
+    (answers_told c.tell_made.result _ _ c.printed.ensures c.tell_made.ensures.told)
 
 pub returns-in-PrintInstance-clause-serves : goal.returns-in-PrintInstance-clause-serves
 returns-in-PrintInstance-clause-serves g c = λ reading rest how is fits known.
-    line_on g.D.Sectors c.args.session.now _ _ _ _ reading rest c.in-PrintInstance.is c.tell_made-in-PrintInstance.result c.once-in-PrintInstance.ensures refl known (answers_told c.tell_made-in-PrintInstance.result _ _ c.instance_told.ensures c.tell_made-in-PrintInstance.ensures.told)
+    line_on g.D.Sectors c.args.session.now _ _ _ _ reading rest c.in-PrintInstance.is c.tell_made-in-PrintInstance.result c.once-in-PrintInstance.ensures refl
+    known (answers_told c.tell_made-in-PrintInstance.result _ _ c.instance_told.ensures c.tell_made-in-PrintInstance.ensures.told)
 
 pub returns-in-Show-clause-serves : goal.returns-in-Show-clause-serves
 returns-in-Show-clause-serves g c = λ reading rest how is fits known.
-    line_on g.D.Sectors c.args.session.now _ _ _ _ reading rest c.in-Show.is c.tell_made-in-Show.result c.once-in-Show.ensures refl known (answers_told c.tell_made-in-Show.result _ _ c.shown.ensures c.tell_made-in-Show.ensures.told)
+    line_on g.D.Sectors c.args.session.now _ _ _ _ reading rest c.in-Show.is c.tell_made-in-Show.result c.once-in-Show.ensures refl known
+    (answers_told c.tell_made-in-Show.result _ _ c.shown.ensures c.tell_made-in-Show.ensures.told)
 
 pub returns-in-Tell-clause-serves : goal.returns-in-Tell-clause-serves
 returns-in-Tell-clause-serves g c = λ reading rest how is fits known.
-    line_on g.D.Sectors c.args.session.now _ _ _ _ reading rest c.in-Tell.is c.tell_made-in-Tell.result c.once-in-Tell.ensures refl known (answers_told c.tell_made-in-Tell.result _ _ c.informed-made.ensures c.tell_made-in-Tell.ensures.told)
+    line_on g.D.Sectors c.args.session.now _ _ _ _ reading rest c.in-Tell.is c.tell_made-in-Tell.result c.once-in-Tell.ensures refl known
+    (answers_told c.tell_made-in-Tell.result _ _ c.informed-made.ensures c.tell_made-in-Tell.ensures.told)
 
 pub returns-in-Next-clause-serves : goal.returns-in-Next-clause-serves
 returns-in-Next-clause-serves g c = λ reading rest how is fits known.
@@ -67,7 +79,8 @@ returns-in-Help-clause-serves g c = λ reading rest how is fits known.
     let before = g.W.Sink.stream c.args.writer.now in
     let after = g.W.Sink.stream c.tell_line.new.writer in
     let told = subst (λ t. HandsOn before after c.tell_line.result (g.D.Sectors.calls old.device) (line t ++ line (answer_text answer.Ok))) c.help_lines.ensures c.tell_line.ensures.told in
-    line_on g.D.Sectors c.args.session.now _ _ _ _ reading rest c.in-Help.is c.tell_line.result c.once-in-Help.ensures refl known (answers_told c.tell_line.result _ _ (tells_stated old (λ s. stated s help_text) help_text (λ later. refl)) told)
+    line_on g.D.Sectors c.args.session.now _ _ _ _ reading rest c.in-Help.is c.tell_line.result c.once-in-Help.ensures refl known
+    (answers_told c.tell_line.result _ _ (tells_stated old (λ s. stated s help_text) help_text (λ later. refl)) told)
 
 pub returns-in-Nothing-clause-serves : goal.returns-in-Nothing-clause-serves
 returns-in-Nothing-clause-serves g c = λ reading rest how is fits known.
@@ -93,7 +106,8 @@ returns-in_ok-text-in-Text-clause-serves g c = λ reading rest how is fits known
     let first = left_of g.R.Source how c.args.input.now c.args.reader.now in
     let left = left_of g.R.Source how c.announced_text.new.self c.announced_text.new.reader in
     subst (λ a. GoesOn g.D.Sectors c.once.result reading old (cut_at a rest) before after new left) (sym c.in-Text.is)
-    (text_on g.D.Sectors reading c.in-Text.purpose c.in-Text.len old new before after c.once.result c.tell.result rest c.in_ok-text-in-Text.text c.goes_behind-goes.result first left known (c.in_ok-text-in-Text.ensures.takes how fits)
+    (text_on g.D.Sectors reading c.in-Text.purpose c.in-Text.len old new before after c.once.result c.tell.result rest c.in_ok-text-in-Text.text
+    c.goes_behind-goes.result first left known (c.in_ok-text-in-Text.ensures.takes how fits)
     c.goes_behind-goes.ensures c.once.ensures (λ bytes. answers_told c.tell.result before after (c.text_answer-answer.ensures reading bytes is) c.tell.ensures.told))
 
 pub returns-in-BadText-clause-taken : goal.returns-in-BadText-clause-taken
@@ -137,5 +151,6 @@ returns-in-Nothing-clause-taken g c = line_takes g.R.Source c.args.asked c.args.
 
 pub returns-in_ok-text-in-Text-clause-taken : goal.returns-in_ok-text-in-Text-clause-taken
 returns-in_ok-text-in-Text-clause-taken g c =
-    told_text g.R.Source c.tell.result c.once.result c.in-Text.purpose c.in-Text.len c.in_ok-text-in-Text.text c.goes_behind-goes.result c.args.asked c.args.input.now c.announced_text.new.self c.args.reader.now
+    told_text g.R.Source c.tell.result c.once.result c.in-Text.purpose c.in-Text.len c.in_ok-text-in-Text.text c.goes_behind-goes.result c.args.asked
+    c.args.input.now c.announced_text.new.self c.args.reader.now
     c.announced_text.new.reader c.once.ensures c.goes_behind-goes.ensures c.in-Text.is c.announced_text.ensures.less c.in_ok-text-in-Text.ensures.exact c.in_ok-text-in-Text.ensures.takes

@@ -41,7 +41,8 @@ returns-in_default-clause-serves g c = λ reading bytes how is fits known.
     let next = left_of g.R.Source how c.next_asked.new.self c.next_asked.new.reader in
     let ended = subst (λ asked. CutsNext asked left next) c.in_default.is (c.in_ok-asked.ensures.cuts how fits) in
     all_served c.states_follow.ensures reading old new bytes before after left
-    (input_ended reading old new new (pieces_of bytes) before after after left c.pieces_follow.ensures.none (c.loop-asked.invariant.0 reading bytes how is (c.next_asked.ensures.counted how fits).0 known) ended)
+    (input_ended reading old new new (pieces_of bytes) before after after left c.pieces_follow.ensures.none
+    (c.loop-asked.invariant.0 reading bytes how is (c.next_asked.ensures.counted how fits).0 known) ended)
 
 pub returns-in_err-serve_asked-clause-serves : goal.returns-in_err-serve_asked-clause-serves
 returns-in_err-serve_asked-clause-serves g c = λ reading bytes how is fits known.
@@ -74,10 +75,12 @@ loop-asked-preserved g c =
           line_served laws c.in-Some.is so_far (c.in_ok-asked.ensures.cuts how mid_fits) c.in-On.is (λ rest q. c.in_ok-serve_asked.ensures.serves reading rest how is fits q),
       c.serve_asked.ensures.origin ∙ c.loop-asked.invariant.1,
       counts_behind g.R.Source c.args.input.now c.next_asked.new.self c.serve_asked.new.input c.args.reader.now c.next_asked.new.reader c.serve_asked.new.reader
-          (counts_behind g.R.Source c.args.input.now c.loop-asked.input c.next_asked.new.self c.args.reader.now c.loop-asked.reader c.next_asked.new.reader c.loop-asked.invariant.2 c.next_asked.ensures.counted)
+          (counts_behind g.R.Source c.args.input.now c.loop-asked.input c.next_asked.new.self c.args.reader.now c.loop-asked.reader c.next_asked.new.reader
+          c.loop-asked.invariant.2 c.next_asked.ensures.counted)
           c.serve_asked.ensures.counted,
       all_behind g.R.Source c.args.input.now c.next_asked.new.self c.serve_asked.new.input c.args.reader.now c.next_asked.new.reader c.serve_asked.new.reader
-          (all_behind g.R.Source c.args.input.now c.loop-asked.input c.next_asked.new.self c.args.reader.now c.loop-asked.reader c.next_asked.new.reader c.loop-asked.invariant.3 c.next_asked.ensures.counted c.in_ok-asked.ensures.exact)
+          (all_behind g.R.Source c.args.input.now c.loop-asked.input c.next_asked.new.self c.args.reader.now c.loop-asked.reader c.next_asked.new.reader
+          c.loop-asked.invariant.3 c.next_asked.ensures.counted c.in_ok-asked.ensures.exact)
           c.serve_asked.ensures.counted c.in_ok-serve_asked.ensures.taken.exact,
       λ how fits.
           let old = left_of g.R.Source how c.args.input.now c.args.reader.now in
@@ -114,7 +117,8 @@ returns-in-ToEnd-clause-most g c = λ bytes how fits known some.
     let left_fits = (c.next_asked.ensures.counted how mid_fits).0 in
     let cuts = subst (λ asked. CutsNext asked left next) c.in-Some.is (c.in_ok-asked.ensures.cuts how mid_fits) in
     let counts = all_behind g.R.Source c.args.input.now c.next_asked.new.self c.serve_asked.new.input c.args.reader.now c.next_asked.new.reader c.serve_asked.new.reader
-    (all_behind g.R.Source c.args.input.now c.loop-asked.input c.next_asked.new.self c.args.reader.now c.loop-asked.reader c.next_asked.new.reader c.loop-asked.invariant.3 c.next_asked.ensures.counted c.in_ok-asked.ensures.exact)
+    (all_behind g.R.Source c.args.input.now c.loop-asked.input c.next_asked.new.self c.args.reader.now c.loop-asked.reader c.next_asked.new.reader
+    c.loop-asked.invariant.3 c.next_asked.ensures.counted c.in_ok-asked.ensures.exact)
     c.serve_asked.ensures.counted c.in_ok-serve_asked.ensures.taken.exact in
     taken_to_end c.pieces_follow.ensures.ended c.in-Some.asked bytes old left next behind c.args.input.now.left c.serve_asked.new.input.left known (c.loop-asked.invariant.4 how left_fits) cuts
     (subst (λ goes. TakesKnown c.in-Some.asked goes next behind) c.in-ToEnd.is (c.in_ok-serve_asked.ensures.taken.takes how fits)) (counts how fits) some

@@ -48,6 +48,8 @@ returns-clause-most g c = λ input given.
     let reader = left_by g.R.Source how c.args.reader.now in
     let start : left_of g.R.Source how c.new-input.result c.args.reader.now ≡ Some input = ap (λ a. prepend_known a reader) c.new-input.ensures.ahead ∙ prepend_known-nil reader ∙ known.2 in
     let some : 0 < c.new-input.result.left = omega (arith, c.new-input.ensures.left) in
-    let weaker : ((bytes : List ℕ) (how : How) → Fits g.R.Source how c.serve_lines.new.reader → left_of g.R.Source how c.new-input.result c.args.reader.now ≡ Some bytes → 0 < c.new-input.result.left → IsTaken c.new-input.result.left bytes) → IsTaken (10 ^ 12) input =
+    let weaker : ((bytes : List ℕ) (how : How) → Fits g.R.Source how c.serve_lines.new.reader
+    → left_of g.R.Source how c.new-input.result c.args.reader.now ≡ Some bytes → 0 < c.new-input.result.left → IsTaken c.new-input.result.left bytes)
+    → IsTaken (10 ^ 12) input =
     λ most. subst (λ n. IsTaken n input) c.new-input.ensures.left (most input how known.1 start some) in
     on_ok_weaker c.serve_lines.result weaker c.serve_lines.ensures.most

@@ -16,7 +16,8 @@ returns-in-Ok-clause-answers g c =
     let whole : session.is_broken ≡ false = sym c.is_broken.ensures.broken ∙ c.if-is_broken.false in
     let is : steps_to_make session.state c.args.goal ≡ Ok c.in-Ok.steps =
     ap (λ state. steps_to_make state c.args.goal) (sym c.state.ensures.state) ∙ sym c.steps_to_make.ensures ∙ c.in-Ok.is in
-    steps_begun g.D.Sectors c.make_steps.result c.args.goal session c.make_steps.new.session c.in-Ok.steps (g.W.Sink.stream c.args.writer.now) (g.W.Sink.stream c.make_steps.new.writer) whole is c.make_steps.ensures.answers
+    steps_begun g.D.Sectors c.make_steps.result c.args.goal session c.make_steps.new.session c.in-Ok.steps (g.W.Sink.stream c.args.writer.now)
+    (g.W.Sink.stream c.make_steps.new.writer) whole is c.make_steps.ensures.answers
 
 pub returns-in-Err-clause-answers : goal.returns-in-Err-clause-answers
 returns-in-Err-clause-answers g c =

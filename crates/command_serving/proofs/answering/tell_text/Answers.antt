@@ -13,9 +13,11 @@ returns-in_err-put-clause-told g c =
     let old = g.W.Sink.stream c.args.writer.now in
     let new = g.W.Sink.stream c.put.new.self in
     let calls = g.D.Sectors.calls c.args.session.now.device in
-    subst (λ r. HandsOn old new r calls (c.args.text.now ++ line (answer_text answer.Ok))) (sym told.1) (part_front old new calls c.args.text.now (line (answer_text answer.Ok)) c.in_err-put.ensures.puts)
+    subst (λ r. HandsOn old new r calls (c.args.text.now ++ line (answer_text answer.Ok))) (sym told.1)
+    (part_front old new calls c.args.text.now (line (answer_text answer.Ok)) c.in_err-put.ensures.puts)
 
 pub returns-clause-told : goal.returns-clause-told
 returns-clause-told g c =
-    hands_behind c.tell.result (g.W.Sink.stream c.args.writer.now) (g.W.Sink.stream c.put.new.self) (g.W.Sink.stream c.tell.new.writer) (g.D.Sectors.calls c.args.session.now.device) c.args.text.now (line (answer_text answer.Ok))
+    hands_behind c.tell.result (g.W.Sink.stream c.args.writer.now) (g.W.Sink.stream c.put.new.self) (g.W.Sink.stream c.tell.new.writer)
+    (g.D.Sectors.calls c.args.session.now.device) c.args.text.now (line (answer_text answer.Ok))
     c.in_ok-put.ensures.puts c.tell.ensures.told

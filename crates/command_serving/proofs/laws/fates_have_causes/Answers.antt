@@ -1,3 +1,4 @@
+-- No room is told at the last sequence alone, a failed device where a call has failed.
 use Rattle.command_serving.proofs.CauseLemmas.{faults_are_told, spent_at_the_last}
 use Rattle.command_serving.proofs.laws.fates_have_causes.Goals as goal
 

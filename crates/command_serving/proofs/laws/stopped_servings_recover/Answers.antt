@@ -1,3 +1,4 @@
+-- A serving is a run of what its input asks for, stopped or not, and tells only what is acknowledged.
 use Rattle.command_serving.proofs.StoppedLemmas.{served_headline, servings_are_runs}
 use Rattle.command_serving.proofs.TimelyLemmas.{answers_come_after}
 use Rattle.command_serving.proofs.laws.stopped_servings_recover.Goals as goal

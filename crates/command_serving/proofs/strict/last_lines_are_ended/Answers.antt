@@ -1,3 +1,4 @@
+-- The last whole line is what the last line feed ends, behind the one before; without one there is none.
 use Rattle.command_serving.proofs.LastLineLemmas.{has_none, is_last, is_last_behind}
 use Rattle.command_serving.proofs.strict.last_lines_are_ended.Goals as goal
 

@@ -16,7 +16,8 @@ loop-text-preserved g c =
           (subst (TakesMore mid new c.loop-text.text c.take_more.new.text) some (c.in_ok-take_more.ensures.more how fits)),
       counts_behind g.R.Source c.args.self.now c.loop-text.self c.take_more.new.self c.args.reader.now c.loop-text.reader c.take_more.new.reader c.loop-text.invariant.1 c.take_more.ensures.counted,
       omega (arith, c.loop-text.invariant.2, c.take_more.ensures.less),
-      all_behind g.R.Source c.args.self.now c.loop-text.self c.take_more.new.self c.args.reader.now c.loop-text.reader c.take_more.new.reader c.loop-text.invariant.3 c.take_more.ensures.counted c.in_ok-take_more.ensures.exact,
+      all_behind g.R.Source c.args.self.now c.loop-text.self c.take_more.new.self c.args.reader.now c.loop-text.reader c.take_more.new.reader
+          c.loop-text.invariant.3 c.take_more.ensures.counted c.in_ok-take_more.ensures.exact,
     )
 
 pub loop-text-smaller : goal.loop-text-smaller

@@ -46,7 +46,8 @@ loop-self-preserved g c =
       counts_behind g.R.Source c.args.self.now c.loop-self.self c.take_line.new.self c.args.reader.now c.loop-self.reader c.take_line.new.reader c.loop-self.invariant.1 c.take_line.ensures.counted,
       omega (arith, less, c.loop-self.invariant.2),
       λ some. omega (arith, less, c.loop-self.invariant.2),
-      all_behind g.R.Source c.args.self.now c.loop-self.self c.take_line.new.self c.args.reader.now c.loop-self.reader c.take_line.new.reader c.loop-self.invariant.4 c.take_line.ensures.counted c.in_ok-take_line.ensures.exact,
+      all_behind g.R.Source c.args.self.now c.loop-self.self c.take_line.new.self c.args.reader.now c.loop-self.reader c.take_line.new.reader
+          c.loop-self.invariant.4 c.take_line.ensures.counted c.in_ok-take_line.ensures.exact,
     )
 
 pub returns-in_err-take_line-clause-counted : goal.returns-in_err-take_line-clause-counted
@@ -72,8 +73,10 @@ loop-self-init g c = (
 
 pub returns-in-Feed-clause-exact : goal.returns-in-Feed-clause-exact
 returns-in-Feed-clause-exact g c =
-    all_behind g.R.Source c.args.self.now c.loop-self.self c.take_line.new.self c.args.reader.now c.loop-self.reader c.take_line.new.reader c.loop-self.invariant.4 c.take_line.ensures.counted c.in_ok-take_line.ensures.exact
+    all_behind g.R.Source c.args.self.now c.loop-self.self c.take_line.new.self c.args.reader.now c.loop-self.reader c.take_line.new.reader
+    c.loop-self.invariant.4 c.take_line.ensures.counted c.in_ok-take_line.ensures.exact
 
 pub returns-in-End-clause-exact : goal.returns-in-End-clause-exact
 returns-in-End-clause-exact g c =
-    all_behind g.R.Source c.args.self.now c.loop-self.self c.take_line.new.self c.args.reader.now c.loop-self.reader c.take_line.new.reader c.loop-self.invariant.4 c.take_line.ensures.counted c.in_ok-take_line.ensures.exact
+    all_behind g.R.Source c.args.self.now c.loop-self.self c.take_line.new.self c.args.reader.now c.loop-self.reader c.take_line.new.reader
+    c.loop-self.invariant.4 c.take_line.ensures.counted c.in_ok-take_line.ensures.exact

@@ -15,7 +15,8 @@ returns-in_err-count-clause-counted g c = λ how fits.
     let rest = left_by g.R.Source how c.fill.new.reader in (
       c.fill.ensures.fits how fits,
       subst (λ a. CountsTaken known c.args.self.now.left (prepend_known a rest) c.count.new.self.left) (sym c.count.ensures.ahead)
-          (counts_part rest known c.fill.new.self c.take_part-part.new.ahead c.args.self.now.line c.take_part-part.new.line c.take_part-part.result c.in-More.len c.args.self.now.left c.count.new.self.left (c.fill.ensures.bytes how fits)
+          (counts_part rest known c.fill.new.self c.take_part-part.new.ahead c.args.self.now.line c.take_part-part.new.line c.take_part-part.result
+          c.in-More.len c.args.self.now.left c.count.new.self.left (c.fill.ensures.bytes how fits)
           c.take_part-part.ensures c.in-More.is (omega (arith, c.in_err-count.ensures.left.1))),
     )
 
@@ -29,8 +30,11 @@ pub returns-in_ok-count-clause-part : goal.returns-in_ok-count-clause-part
 returns-in_ok-count-clause-part g c = λ how fits.
     let known = left_of g.R.Source how c.args.self.now c.args.reader.now in
     let rest = left_by g.R.Source how c.fill.new.reader in
-    part_named rest known c.take_part-part.new.ahead c.count.new.self.ahead c.args.self.now.line c.take_part-part.new.line c.count.new.self.line c.take_part-part.result c.in-More.part c.count.ensures.ahead c.count.ensures.line (sym c.in-More.part-is)
-    (part_taken rest known c.fill.new.self c.take_part-part.new.ahead (c.fill.ensures.bytes how fits) c.args.self.now.line c.take_part-part.new.line c.take_part-part.result (λ empty. c.in_ok-fill.ensures.end empty how fits) c.take_part-part.ensures)
+    part_named rest known c.take_part-part.new.ahead c.count.new.self.ahead c.args.self.now.line c.take_part-part.new.line c.count.new.self.line
+    c.take_part-part.result c.in-More.part c.count.ensures.ahead c.count.ensures.line (sym c.in-More.part-is)
+    (part_taken rest known c.fill.new.self c.take_part-part.new.ahead
+    (c.fill.ensures.bytes how fits) c.args.self.now.line c.take_part-part.new.line c.take_part-part.result
+    (λ empty. c.in_ok-fill.ensures.end empty how fits) c.take_part-part.ensures)
 
 pub returns-in_ok-count-clause-counted : goal.returns-in_ok-count-clause-counted
 returns-in_ok-count-clause-counted g c = λ how fits.
@@ -38,7 +42,8 @@ returns-in_ok-count-clause-counted g c = λ how fits.
     let rest = left_by g.R.Source how c.fill.new.reader in (
       c.fill.ensures.fits how fits,
       subst (λ a. CountsTaken known c.args.self.now.left (prepend_known a rest) c.count.new.self.left) (sym c.count.ensures.ahead)
-          (counts_part rest known c.fill.new.self c.take_part-part.new.ahead c.args.self.now.line c.take_part-part.new.line c.take_part-part.result c.in-More.len c.args.self.now.left c.count.new.self.left (c.fill.ensures.bytes how fits)
+          (counts_part rest known c.fill.new.self c.take_part-part.new.ahead c.args.self.now.line c.take_part-part.new.line c.take_part-part.result
+          c.in-More.len c.args.self.now.left c.count.new.self.left (c.fill.ensures.bytes how fits)
           c.take_part-part.ensures c.in-More.is (omega (arith, c.in_ok-count.ensures.left))),
     )
 
@@ -50,5 +55,6 @@ returns-in_ok-count-clause-exact g c = λ how fits.
     let known = left_of g.R.Source how c.args.self.now c.args.reader.now in
     let rest = left_by g.R.Source how c.fill.new.reader in
     subst (λ a. CountsAll known c.args.self.now.left (prepend_known a rest) c.count.new.self.left) (sym c.count.ensures.ahead)
-    (all_part rest known c.fill.new.self c.take_part-part.new.ahead c.args.self.now.line c.take_part-part.new.line c.take_part-part.result c.in-More.len c.args.self.now.left c.count.new.self.left (c.fill.ensures.bytes how fits)
+    (all_part rest known c.fill.new.self c.take_part-part.new.ahead c.args.self.now.line c.take_part-part.new.line c.take_part-part.result c.in-More.len
+    c.args.self.now.left c.count.new.self.left (c.fill.ensures.bytes how fits)
     c.take_part-part.ensures c.in-More.is (sym c.in_ok-count.ensures.left) c.in_ok-count.ensures.some)
