@@ -9,7 +9,10 @@
 //! printed would overwrite it; so each such number is taken first.
 #![tactic(auto)]
 
-use planner_cli::{HostFiles, HostNewFiles, Streams, Watched, command_words, run_words, status};
+use planner_cli::{
+    Caused, HostFiles, HostNewFiles, Streams, Watched, command_words, run_words, status,
+    tell_causes,
+};
 use sector_disk::{HostDisks, Unknown};
 use std::fs::File;
 use std::io;
@@ -40,11 +43,11 @@ fn status_of(rt: &HostRuntime, words: &[String]) -> u8 {
     let mut files = HostFiles::new(rt);
     let mut new_files = HostNewFiles::new(rt);
     let streams = Streams {
-        input: Watched::new(rt.reader()),
-        output: Watched::new(io::writer(rt)),
+        input: Watched::new(Caused::new(rt.reader())),
+        output: Watched::new(Caused::new(io::writer(rt))),
         errors: rt.stderr(),
     };
-    let (status, _streams) = run_words(
+    let (status, streams) = run_words(
         rt,
         Unknown,
         Unknown,
@@ -54,6 +57,7 @@ fn status_of(rt: &HostRuntime, words: &[String]) -> u8 {
         streams,
         words,
     );
+    tell_causes(rt, streams);
     status
 }
 

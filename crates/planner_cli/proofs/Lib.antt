@@ -1,3 +1,5 @@
+pub mod DoubtLemmas
+pub mod OkLemmas
 pub mod OpenLemmas
 pub mod SolvedListLemmas
 pub mod StopLemmas

@@ -37,13 +37,13 @@ opens_none never image BadVersion nothing state stands = never Two image stands.
 opens_none never image (Codec fault) nothing state stands = never Two image stands.snapshot stands.commands stands.place (Codec fault) stands.holds nothing
 opens_none never image Spent nothing state stands = never Two image stands.snapshot stands.commands stands.place Spent stands.holds nothing
 
-abbrev unread : StoreFault → Result ℕ StoreFault
+abbrev pub unread : StoreFault → Result ℕ StoreFault
 unread fault = Err fault
 
 abbrev refused_state : StoreFault → Result State StoreFault
 refused_state fault = Err fault
 
-abbrev found : ℕ → Result ℕ StoreFault
+abbrev pub found : ℕ → Result ℕ StoreFault
 found steps = Ok steps
 
 -- one cause, and not that there is none

@@ -10,12 +10,13 @@ use Rattle.command_core.specs.declared.states.State.{State}
 use Rattle.command_serving.specs.Acts.{Act, commands_of, kept_of, replies_of}
 use Rattle.command_serving.specs.Serving.{IsAppliedOn}
 use Rattle.command_serving.specs.Stopped.{IsRunOfInput, ServedHeadline, ServingsAreRuns, asked_by}
+use Rattle.command_serving.specs.Streams.{left_behind, text_given}
 use Rattle.command_serving.specs.Timely.{AnswersComeAfter, TellsAcknowledged, put_by}
 use Rattle.command_serving.proofs.ActLemmas.{honest_before}
 use Rattle.command_serving.proofs.StoppedLemmas.{recovered_of, weaker}
 use Rattle.command_text.specs.Cutting.{pieces_of}
 use Rattle.command_text.specs.Readings.{IsReading, Reading}
-use Rattle.planner_cli.specs.Recovering.{GivesFirstPart, HoldsWhatWasTold, KeepsAnswersSince, Run, RunHeadline, RunKeepsAnswers, RunsOver, ServedRunHeadline, ServedRunKeepsAnswers, acts_in}
+use Rattle.planner_cli.specs.Recovering.{EachInputIsSome, GivesFirstPart, HoldsWhatWasTold, KeepsAnswersSince, Run, RunHeadline, RunKeepsAnswers, RunsAreLinked, RunsOver, ServedRunHeadline, ServedRunKeepsAnswers, acts_in}
 use Rattle.planner_cli.specs.Running.{IsOpened}
 use Rattle.recover.specs.Applying.{IsAnswer, IsBetween, Makes, calls_of, denial, is_snapshot_due}
 use Rattle.recover.specs.Headline.{GivesWhatStands, Headline, IsRecovered, LeavesFirstPart}
@@ -123,6 +124,17 @@ pub served_run_headline : {D E : Type 0} (on : sectors.Ghosts D) (again : sector
 served_run_headline on again reading reads law run device m image other left outcome is honest stop given settled opens =
     law reading is.session is.new run.input is.runs.opened is.runs.answered is.runs.served m image other left outcome ((is.runs.ends.serves run.input is.is_input).serves reading reads)
     is.opened.whole honest is.runs.ends.moments stop given settled opens
+
+-- the next opening gives what such a stop leaves
+pub runs_are_linked : {D E : Type 0} (on : sectors.Ghosts D) (again : sectors.Ghosts E) (reading : Reading) (reads : IsReading reading) → ServedRunHeadline on again reading reads → RunsAreLinked on again reading reads
+runs_are_linked on again reading reads law run device m image next session replayed is honest stop given opened settled =
+    (law run device m image next session.device (Ok session.state) is honest stop given settled opened.opens, refl)
+
+-- an input of which nothing is known but what its reads gave
+pub input_read : EachInputIsSome
+input_read given =
+    let text = text_given given.after in
+    (left_behind given.before text, inr (text, record { rest = []; whole = sym (append-nil text); end = λ ended. refl }, refl))
 
 -- what a stop at a moment since this one gives
 abbrev GivesFirstPartSince : {D E : Type 0} (on : sectors.Ghosts D) (again : sectors.Ghosts E) (reading : Reading) (reads : IsReading reading) → ℕ → (run : Run) (device : D) → RunsOver on run device → Type 0

@@ -1,6 +1,6 @@
 -- What the word `adopt` does: it reads a solution, and makes it the plan of the store in a file. `told` is the status that goes with what was printed,
 -- if it could be; whatever came of that, the rest is so. Of a store that was asked for no more than a first part of what is told was put then.
-use Rattle.std.specs.Prelude.{◌≡◌, ◌⊎◌, ℕ, List, ◌∷◌, codes, Option, Result, Ok, Err, IfOk, MatchResult}
+use Rattle.std.specs.Prelude.{◌≡◌, ◌⊎◌, ℕ, List, ◌∷◌, codes, Result, Ok, Err, IfOk, MatchResult}
 use Rattle.std.specs.declared.io.ErrorKind.{ErrorKind}
 use Rattle.plan_types.specs.declared.plans.Plan.{Plan}
 use Rattle.plan_seats.specs.Seating.{IsFoundUnlessMemory}
@@ -11,12 +11,13 @@ use Rattle.command_core.specs.declared.refusals.Refusal.{Refusal}
 use Rattle.command_core.specs.declared.refusals.Refusal.TheVariants.{NotAPlan, Dearer}
 use Rattle.command_core.specs.declared.states.State.{State}
 use Rattle.command_core.specs.declared.states.State.TheVariants.{Empty, Loaded}
+use Rattle.command_serving.specs.Streams.{Stream}
 use Rattle.command_text.specs.Answers.{line, unseated_text}
 use Rattle.auditor_cli.specs.Reads.{FileRead}
 use Rattle.auditor_cli.specs.Telling.{TellsUnread}
 use Rattle.planner_cli.specs.Loading.{DisksAsked}
 use Rattle.planner_cli.specs.Opened.{OpensStore, unopened_line, unopened_status}
-use Rattle.planner_cli.specs.Telling.{TellsText, answered_line, denial_status}
+use Rattle.planner_cli.specs.Telling.{TellsAnswer, TellsText, denial_status}
 use Rattle.planner_cli.specs.declared.adopted.Unadopted.{Unadopted}
 use Rattle.planner_cli.specs.declared.adopted.Unadopted.TheVariants as none
 use Rattle.recover.specs.Applying.{IsApplied}
@@ -63,33 +64,30 @@ abbrev pub adopt_status : Denial → ℕ
 adopt_status (denial.Core refusal) = refused_status refusal
 adopt_status other = denial_status other
 
-abbrev pub adopted_status : {T : Type 0} → Result T Denial → ℕ
-adopted_status (Ok done) = 0
-adopted_status (Err other) = adopt_status other
-
 module _ {D X : Type 0} (on : sectors.Ghosts D) where
   -- The session answered the command that makes the plan its own: all that `apply` promises of it, whatever could be told. So each image that a stop
-  -- may leave behind Ok stands for the state with this plan.
-  pub record IsAnswered (old : SessionValue D) (plan : Plan) (before after : Option (List ℕ)) (new : SessionValue D) (told : Result ℕ X) : Type 0 where
+  -- may leave behind Ok stands for the state with this plan. `ok` is put when all calls of the command have finished.
+  pub record IsAnswered (old : SessionValue D) (plan : Plan) (before after : Stream) (new : SessionValue D) (told : Result ℕ X) : Type 0 where
     pub reply : Reply
     pub applied : IsApplied on.len on.calls on.faults on.honest on.clock on.possible_since on.possible old (Adopt plan) reply new
-    pub tells : TellsText (answered_line reply.answer) (adopted_status reply.answer) before after told
+    pub tells : TellsAnswer adopt_status reply.answer (on.calls new.device) before after told
 
   -- The solution that the text is becomes the plan of the session; or it is none for it, and the session stays as it is.
-  abbrev pub AdoptsOver : SessionValue D → List ℕ → Option (List ℕ) → Option (List ℕ) → SessionValue D → Result ℕ X → Type 0
+  abbrev pub AdoptsOver : SessionValue D → List ℕ → Stream → Stream → SessionValue D → Result ℕ X → Type 0
   AdoptsOver old text before after new told =
       (found : Result Plan Unadopted) × FindsPlan old.state text found
-      × MatchResult found (λ plan. IsAnswered old plan before after new told) (λ unadopted. (new ≡ old) × TellsText (unadopted_text unadopted) (unadopted_status unadopted) before after told)
+      × MatchResult found (λ plan. IsAnswered old plan before after new told)
+      (λ unadopted. (new ≡ old) × TellsText (unadopted_text unadopted) (unadopted_status unadopted) before.contents after.contents told)
 
   -- So it is with the store in the file at a path, or it is told why it was not opened. `IsOld` is what is known of the device over the file. `left` is
   -- the device as it is left.
-  abbrev pub AdoptsStore : (List ℕ → D → Type 0) → List ℕ → List ℕ → Option (List ℕ) → Option (List ℕ) → Result ℕ X → Type 0
+  abbrev pub AdoptsStore : (List ℕ → D → Type 0) → List ℕ → List ℕ → Stream → Stream → Result ℕ X → Type 0
   AdoptsStore IsOld path text before after told =
       OpensStore on IsOld path (λ opened. (left : D) × (new : SessionValue D) × (left ≡ new.device) × AdoptsOver opened.session text before after new told)
-      (λ unopened. TellsText (unopened_line path unopened) (unopened_status unopened) before after told)
+      (λ unopened. TellsText (unopened_line path unopened) (unopened_status unopened) before.contents after.contents told)
 
   -- The solution's file is read first, or can't be read, and no store is asked for.
-  abbrev pub TellsAdopt : (List ℕ → D → Type 0) → DisksAsked → List ℕ → List ℕ → List FileRead → List FileRead → Option (List ℕ) → Option (List ℕ) → Result ℕ X → Type 0
+  abbrev pub TellsAdopt : (List ℕ → D → Type 0) → DisksAsked → List ℕ → List ℕ → List FileRead → List FileRead → Stream → Stream → Result ℕ X → Type 0
   TellsAdopt IsOld disks path solution was now before after told =
       ((x : List ℕ) × (now ≡ (solution, Ok x) ∷ was) × (disks.now ≡ (Take, path) ∷ disks.was) × AdoptsStore IsOld path x before after told)
-      ⊎ ((error : ErrorKind) × (now ≡ (solution, Err error) ∷ was) × (disks.now ≡ disks.was) × IfOk told (TellsUnread solution error before after))
+      ⊎ ((error : ErrorKind) × (now ≡ (solution, Err error) ∷ was) × (disks.now ≡ disks.was) × IfOk told (TellsUnread solution error before.contents after.contents))

@@ -1,5 +1,5 @@
 -- What the word `format` does: it makes an empty store in a file, and tells what came of it.
-use Rattle.std.specs.Prelude.{◌≡◌, ◌≢◌, ◌⊎◌, ℕ, ◌+◌, List, [], Option, Some, Result, IfErr, IfOk, OnOk}
+use Rattle.std.specs.Prelude.{◌≡◌, ◌≢◌, ◌⊎◌, ℕ, ◌+◌, List, [], Some, Result, IfErr, IfOk, OnOk}
 use Rattle.std.specs.Result.{result_err}
 use Rattle.checkpoint.specs.Holds.{Holds}
 use Rattle.checkpoint.specs.Layouts.{version_2, sectors_in}
@@ -12,7 +12,8 @@ use Rattle.checkpoint.specs.declared.faults.FormatFault.TheVariants.{TooSmall}
 use Rattle.checkpoint.specs.declared.places.Place.{Place}
 use Rattle.command_core.specs.declared.states.State.{State}
 use Rattle.command_core.specs.declared.states.State.TheVariants.{Empty}
-use Rattle.planner_cli.specs.Telling.{TellsText, format_line, format_status, open_line, open_status}
+use Rattle.command_serving.specs.Streams.{Stream}
+use Rattle.planner_cli.specs.Telling.{TellsFormat, TellsText, open_line, open_status, unformatted_line}
 use Rattle.sector_disk.specs.Disks.{IsNotMadeAt}
 use Rattle.sector_disk.specs.Sectors.{Throughout}
 use Rattle.sector_disk.specs.declared.file_device.FileFault.{FileFault}
@@ -38,15 +39,17 @@ module _ {D : Type 0} (on : sectors.Ghosts D) where
   abbrev pub IsFormatted : D → D → Result Place FormatFault → Type 0
   IsFormatted = IsMadeWith Empty
 
-  -- A store of this state is made in a file of 8,450 sectors at the path, or there is none; of either it is said what is told. `IsNew` is what is known
-  -- of the device over the file.
-  abbrev pub MakesStoreAt : (List ℕ → D → Type 0) → State → List ℕ → (Option FormatFault → Type 0) → (FileFault → Type 0) → Type 0
+  -- A store of this state is made in a file of 8,450 sectors at the path, or there is none; of either it is said what is told, of a device when how many
+  -- calls of it had finished. `IsNew` is what is known of the device over the file.
+  abbrev pub MakesStoreAt : (List ℕ → D → Type 0) → State → List ℕ → (Result Place FormatFault → ℕ → Type 0) → (FileFault → Type 0) → Type 0
   MakesStoreAt IsNew state path Told ToldNone =
       ((old : D) × (new : D) × (made : Result Place FormatFault) × IsNew path old × (on.len old ≡ sectors_in version_2) × IsMadeWith state old new made
-      × (result_err made ≢ Some TooSmall) × Told (result_err made))
+      × (result_err made ≢ Some TooSmall) × Told made (on.calls new))
       ⊎ ((refusal : FileRefusal) × IsNotMadeAt path refusal × (refusal.fault ≢ BadLength) × ToldNone refusal.fault)
 
-  -- The empty store is made, and it is told what came of that. Only where it was made is a byte of `ok` put, whatever could be printed.
-  abbrev pub FormatsStore : {E : Type 0} → (List ℕ → D → Type 0) → List ℕ → Option (List ℕ) → Option (List ℕ) → Result ℕ E → Type 0
+  -- The empty store is made, and it is told what came of that. `ok` is put when all calls that made it have finished, which the last sync ends, so where
+  -- each image that a stop may leave holds the store.
+  abbrev pub FormatsStore : {E : Type 0} → (List ℕ → D → Type 0) → List ℕ → Stream → Stream → Result ℕ E → Type 0
   FormatsStore IsNew path before after told =
-      MakesStoreAt IsNew Empty path (λ fault. TellsText (format_line fault) (format_status fault) before after told) (λ fault. TellsText (open_line path fault) (open_status fault) before after told)
+      MakesStoreAt IsNew Empty path (λ made calls. TellsFormat unformatted_line made calls before after told)
+      (λ fault. TellsText (open_line path fault) (open_status fault) before.contents after.contents told)

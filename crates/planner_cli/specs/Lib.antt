@@ -1,5 +1,7 @@
 -- what public contracts reach
+pub mod Acknowledged
 pub mod Adopting
+pub mod Caused
 pub mod Checked
 pub mod Drawn
 pub mod Formatting
@@ -20,4 +22,5 @@ pub use Rattle.command_line.specs.Asked
 pub use Rattle.command_serving.specs.Served
 pub use Rattle.command_serving.specs.Streams
 -- of private functions alone
+pub mod Doubted
 pub mod Foretold

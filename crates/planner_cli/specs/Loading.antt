@@ -12,11 +12,12 @@ use Rattle.command_core.specs.declared.commands.Command.TheVariants.{Load}
 use Rattle.command_core.specs.declared.states.State.{State}
 use Rattle.command_core.specs.declared.states.State.TheVariants.{Empty, Loaded}
 use Rattle.command_line.specs.Asked.{LoadAsked}
+use Rattle.command_serving.specs.Streams.{Stream}
 use Rattle.command_text.specs.Answers.{line}
 use Rattle.instance_read.specs.Readings.{InstanceFault, SpellsInstance}
 use Rattle.auditor_cli.specs.Reads.{FileRead}
 use Rattle.planner_cli.specs.Opened.{IsNewOpening, IsStoreOpening, unopened_line, unopened_status, wants_file}
-use Rattle.planner_cli.specs.Telling.{TellsInstanceFault, TellsText, answered_line, answered_status}
+use Rattle.planner_cli.specs.Telling.{TellsAnswer, TellsInstanceFault, TellsText, denial_status}
 use Rattle.planner_cli.specs.declared.opened.Unopened.{Unopened}
 use Rattle.auditor_cli.specs.Telling.{TellsUnread}
 use Rattle.recover.specs.Applying.{IsApplied}
@@ -40,29 +41,30 @@ TellsHeld before after told = TellsText (line (codes "store Loaded")) 2 before a
 -- `left` is the device as it is left.
 module _ {D X : Type 0} (on : sectors.Ghosts D) where
   -- The session holds an instance: it and its device stay as they are.
-  pub record IsHeld (session : SessionValue D) (before after : Option (List ℕ)) (left : D) (told : Result ℕ X) : Type 0 where
+  pub record IsHeld (session : SessionValue D) (before after : Stream) (left : D) (told : Result ℕ X) : Type 0 where
     pub held : holds_instance session.state ≡ true
     pub same : left ≡ session.device
-    pub tells : TellsHeld before after told
+    pub tells : TellsHeld before.contents after.contents told
 
   -- The session is empty, and answered the command. After Ok each image that a stop may leave stands for the state that the command makes of
-  -- the empty one.
-  pub record IsBegun (old : SessionValue D) (command : Command) (before after : Option (List ℕ)) (left : D) (told : Result ℕ X) : Type 0 where
+  -- the empty one. `ok` is put when all calls of the command have finished.
+  pub record IsBegun (old : SessionValue D) (command : Command) (before after : Stream) (left : D) (told : Result ℕ X) : Type 0 where
     pub empty : old.state ≡ Empty
     pub reply : Reply
     pub new : SessionValue D
     pub applied : IsApplied on.len on.calls on.faults on.honest on.clock on.possible_since on.possible old command reply new
     pub device : left ≡ new.device
     pub stands : OnOk reply.answer (on.honest left → (image : List ℕ) → on.possible left image → StandsFor Two image (effect Empty command))
-    pub tells : TellsText (answered_line reply.answer) (answered_status reply.answer) before after told
+    pub tells : TellsAnswer denial_status reply.answer (on.calls new.device) before after told
 
-  abbrev pub BeginsSession : SessionValue D → Command → Option (List ℕ) → Option (List ℕ) → D → Result ℕ X → Type 0
+  abbrev pub BeginsSession : SessionValue D → Command → Stream → Stream → D → Result ℕ X → Type 0
   BeginsSession session command before after left told = IsHeld session before after left told ⊎ IsBegun session command before after left told
 
   -- what was opened is begun, or it is told why it was not opened
-  abbrev pub BeginsOpening : Result (Opened D) (Unopened D) → List ℕ → Command → Option (List ℕ) → Option (List ℕ) → Result ℕ X → Type 0
+  abbrev pub BeginsOpening : Result (Opened D) (Unopened D) → List ℕ → Command → Stream → Stream → Result ℕ X → Type 0
   BeginsOpening opening path command before after told =
-      MatchResult opening (λ opened. (left : D) × BeginsSession opened.session command before after left told) (λ unopened. TellsText (unopened_line path unopened) (unopened_status unopened) before after told)
+      MatchResult opening (λ opened. (left : D) × BeginsSession opened.session command before after left told)
+      (λ unopened. TellsText (unopened_line path unopened) (unopened_status unopened) before.contents after.contents told)
 
 -- what was asked of the files of stores, before and behind
 pub record DisksAsked : Type 0 where
@@ -71,31 +73,31 @@ pub record DisksAsked : Type 0 where
 
 module _ {D E X : Type 0} (on_old : sectors.Ghosts D) (on_new : sectors.Ghosts E) (IsOld : List ℕ → D → Type 0) (IsNew : List ℕ → E → Type 0) (disks : DisksAsked) where
   -- The store in the file that is there is begun, and no other file is asked for.
-  abbrev pub BeginsOld : List ℕ → Command → Result (Opened D) (Unopened D) → Option (List ℕ) → Option (List ℕ) → Result ℕ X → Type 0
+  abbrev pub BeginsOld : List ℕ → Command → Result (Opened D) (Unopened D) → Stream → Stream → Result ℕ X → Type 0
   BeginsOld path command opening before after told =
       (wants_file on_old opening ≡ false) × (disks.now ≡ (Take, path) ∷ disks.was) × BeginsOpening on_old opening path command before after told
 
   -- There was none, or an empty one: one in a file that is made is begun.
-  abbrev pub BeginsNew : List ℕ → Command → Result (Opened D) (Unopened D) → Option (List ℕ) → Option (List ℕ) → Result ℕ X → Type 0
+  abbrev pub BeginsNew : List ℕ → Command → Result (Opened D) (Unopened D) → Stream → Stream → Result ℕ X → Type 0
   BeginsNew path command opening before after told =
       (wants_file on_old opening ≡ true) × (disks.now ≡ (Make, path) ∷ (Take, path) ∷ disks.was)
       × ((made : Result (Opened E) (Unopened E)) × IsNewOpening on_new IsNew path made × BeginsOpening on_new made path command before after told)
 
   -- The file at the path is opened where it stands. `IsOld` and `IsNew` are what is known of the devices over files.
-  abbrev pub BeginsStore : List ℕ → Command → Option (List ℕ) → Option (List ℕ) → Result ℕ X → Type 0
+  abbrev pub BeginsStore : List ℕ → Command → Stream → Stream → Result ℕ X → Type 0
   BeginsStore path command before after told =
       (opening : Result (Opened D) (Unopened D)) × IsStoreOpening on_old IsOld path opening
       × (BeginsOld path command opening before after told ⊎ BeginsNew path command opening before after told)
 
   -- a text is read, and the store begun with the instance that it spells, or its first fault told, and no store asked for
-  abbrev pub LoadsText : LoadAsked → List ℕ → Option (List ℕ) → Option (List ℕ) → Result ℕ X → Type 0
+  abbrev pub LoadsText : LoadAsked → List ℕ → Stream → Stream → Result ℕ X → Type 0
   LoadsText asked text before after told =
       (found : Result Instance ReadFault)
       × MatchResult found (λ problem. SpellsInstance asked.kind text problem × BeginsStore asked.store (Load problem asked.seed) before after told)
-      (λ fault. TellsFirstFault (InstanceFault asked.kind text) fault × (disks.now ≡ disks.was) × IfOk told (TellsInstanceFault fault before after))
+      (λ fault. TellsFirstFault (InstanceFault asked.kind text) fault × (disks.now ≡ disks.was) × IfOk told (TellsInstanceFault fault before.contents after.contents))
 
   -- so it is with the text in a file, which is read first, or that can't be read
-  abbrev pub TellsLoad : LoadAsked → List FileRead → List FileRead → Option (List ℕ) → Option (List ℕ) → Result ℕ X → Type 0
+  abbrev pub TellsLoad : LoadAsked → List FileRead → List FileRead → Stream → Stream → Result ℕ X → Type 0
   TellsLoad asked was now before after told =
       ((x : List ℕ) × (now ≡ (asked.instance, Ok x) ∷ was) × LoadsText asked x before after told)
-      ⊎ ((error : ErrorKind) × (now ≡ (asked.instance, Err error) ∷ was) × (disks.now ≡ disks.was) × IfOk told (TellsUnread asked.instance error before after))
+      ⊎ ((error : ErrorKind) × (now ≡ (asked.instance, Err error) ∷ was) × (disks.now ≡ disks.was) × IfOk told (TellsUnread asked.instance error before.contents after.contents))

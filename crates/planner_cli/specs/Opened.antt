@@ -12,7 +12,7 @@ use Rattle.checkpoint.specs.declared.faults.StoreFault.TheVariants.{NotFormatted
 use Rattle.checkpoint.specs.declared.places.Place.{Place}
 use Rattle.planner_cli.specs.Formatting.{IsFormatted}
 use Rattle.planner_cli.specs.Running.{IsOpened, IsRefused}
-use Rattle.planner_cli.specs.Telling.{format_line, format_status, open_line, open_status, store_line, store_status}
+use Rattle.planner_cli.specs.Telling.{open_line, open_status, store_line, store_status, unformatted_line, unformatted_status}
 use Rattle.planner_cli.specs.declared.opened.Unopened.{Unopened}
 use Rattle.planner_cli.specs.declared.opened.Unopened.TheVariants.{File, Store, Unformatted}
 use Rattle.recover.specs.declared.opening.Opened.{Opened}
@@ -24,12 +24,12 @@ use Rattle.sector_disk.specs.declared.sectors.Sectors as sectors
 abbrev pub unopened_line : {D : Type 0} → List ℕ → Unopened D → List ℕ
 unopened_line path (File refusal) = open_line path refusal.fault
 unopened_line path (Store fault left) = store_line fault
-unopened_line path (Unformatted fault left) = format_line (Some fault)
+unopened_line path (Unformatted fault left) = unformatted_line fault
 
 abbrev pub unopened_status : {D : Type 0} → Unopened D → ℕ
 unopened_status (File refusal) = open_status refusal.fault
 unopened_status (Store fault left) = store_status fault
-unopened_status (Unformatted fault left) = format_status (Some fault)
+unopened_status (Unformatted fault left) = unformatted_status fault
 
 abbrev pub TellsUnopened : {D : Type 0} → List ℕ → Unopened D → Option (List ℕ) → Option (List ℕ) → ℕ → Type 0
 TellsUnopened path unopened before after status = (status ≡ unopened_status unopened) × Appends before after (unopened_line path unopened)

@@ -5,7 +5,7 @@ use Rattle.std.specs.declared.io.Error.{Error}
 use Rattle.clap.specs.Words.{Text}
 use Rattle.command_line.specs.Asked.{Asked, IsUsageStatus, adopt, asks_help, audit, audits, built_in, check, draw, draw_store, explain, format, load, run, solve, solves, store_instance, store_timetable, timetable, upgrade}
 use Rattle.plan_types.specs.declared.requests.Kind.TheVariants.{LiLim}
-use Rattle.command_serving.specs.Held.{held, reads_of}
+use Rattle.command_serving.specs.Held.{held, reads_of, still_known}
 use Rattle.command_serving.specs.Streams.{Given, Stream}
 use Rattle.auditor_cli.specs.Behind.{TellsBehind}
 use Rattle.planner_cli.specs.Adopting.{TellsAdopt}
@@ -50,7 +50,7 @@ seen reads writes asked remaining written told files new_files disks streams = r
   files = reads files;
   new_files = writes new_files;
   disks = asked disks;
-  input = remaining streams.input.inner;
+  input = still_known remaining streams.input;
   reads = reads_of streams.input;
   output = held written streams.output;
   errors = told streams.errors;
@@ -157,13 +157,13 @@ module _ {D N : Type 0} (on_old : sectors.Ghosts D) (on_new : sectors.Ghosts N) 
   Does (solve task) old new told = IfOk told (TellsTask task old.files new.files old.output.contents new.output.contents old.errors new.errors)
   Does (solves tasks) old new told =
       IfOk told (SolvesList tasks (done_in old) (done_in new) old.output.contents new.output.contents)
-  Does (format store) old new told = FormatsStore on_old IsMade store old.output.contents new.output.contents told
-  Does (load asked) old new told = TellsLoad on_old on_new IsOld IsNew (disks_in old new) asked old.files new.files old.output.contents new.output.contents told
+  Does (format store) old new told = FormatsStore on_old IsMade store old.output new.output told
+  Does (load asked) old new told = TellsLoad on_old on_new IsOld IsNew (disks_in old new) asked old.files new.files old.output new.output told
   Does (run store is_strict) old new told = IfOk told (RunsStore on_old IsOld store is_strict (given_in old new) old.output new.output new.input_failed new.output_failed)
-  Does (adopt store solution) old new told = TellsAdopt on_old IsOld (disks_in old new) store solution old.files new.files old.output.contents new.output.contents told
+  Does (adopt store solution) old new told = TellsAdopt on_old IsOld (disks_in old new) store solution old.files new.files old.output new.output told
   Does (store_instance store) old new told = IfOk told (WritesStore on_old IsShared store old.output.contents new.output.contents)
   Does (check store) old new told = IfOk told (ChecksStore on_old IsShared store old.output.contents new.output.contents)
-  Does (upgrade path new_path) old new told = UpgradesStore on_old on_new IsOld IsNew path new_path (disks_in old new) old.output.contents new.output.contents told
+  Does (upgrade path new_path) old new told = UpgradesStore on_old on_new IsOld IsNew path new_path (disks_in old new) old.output new.output told
   Does (timetable paths is_tabbed) old new told =
       IfOk told (TellsTimetable paths.kind (form_of is_tabbed) paths.instance paths.solution old.files new.files old.output.contents new.output.contents old.errors new.errors)
   Does (store_timetable store is_tabbed) old new told = IfOk told (TimetablesStore on_old IsShared store (form_of is_tabbed) old.output.contents new.output.contents)

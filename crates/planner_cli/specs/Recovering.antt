@@ -1,7 +1,7 @@
 -- The headline of the word `run`. Stopped at any moment since the device was handed to it, with any choice that the device allows, opening the
 -- device gives the state after a first part of the commands of its input, which holds every acknowledged one, and at most one more. Its plan
 -- passes the auditor, and costs no more than any incumbent since the last change of requests or pins.
-use Rattle.std.specs.Prelude.{◌≡◌, ◌≤◌, ℕ, Bool, List, ◌++◌, length, Result}
+use Rattle.std.specs.Prelude.{◌≡◌, ◌≤◌, ℕ, Bool, List, [], ◌∷◌, ◌++◌, length, Result}
 use Rattle.std.specs.List.{AllByRecursion}
 use Rattle.checkpoint.specs.declared.faults.StoreFault.{StoreFault}
 use Rattle.command_core.specs.declared.states.State.{State}
@@ -13,6 +13,7 @@ use Rattle.command_text.specs.Cutting.{pieces_of}
 use Rattle.command_text.specs.Readings.{IsReading, Reading}
 use Rattle.planner_cli.specs.Running.{IsOpened, ServesSession}
 use Rattle.recover.specs.Headline.{GivesWhatStands, IsRecovered}
+use Rattle.recover.specs.Links.{AreLinked, Restart}
 use Rattle.recover.specs.Opening.{GivesUnlessFailed}
 use Rattle.recover.specs.Replies.{acked}
 use Rattle.recover.specs.Sessions.{SessionValue}
@@ -28,6 +29,10 @@ pub record Run : Type 0 where
   pub after : Stream
   pub reader_failed : Bool
   pub writer_failed : Bool
+
+-- Law: whatever the reads of an input gave, it has one: what they gave.
+abbrev pub EachInputIsSome : Type 0
+EachInputIsSome = (given : Given) → (input : List ℕ) × IsInput given input
 
 -- There is a function that tells of each text what it spells, and of that one this is said. No other does (`ReadingsAgree`).
 abbrev pub OfTheReading : ((reading : Reading) → IsReading reading → Type 0) → Type 0
@@ -68,6 +73,23 @@ module _ {D E : Type 0} (on : sectors.Ghosts D) (again : sectors.Ghosts E) (read
       -- an opening of a device whose reads give it, and that has answered as the model says
       → again.seen other ≡ image → again.honest left → GivesWhatStands again other outcome left
       → GivesFirstPart run device is m outcome
+
+  -- the commands that a run kept which was stopped when m calls had finished, how many were acknowledged, and the state that the next opening gave
+  abbrev pub restart_of : (run : Run) (device : D) → RunsOver on run device → ℕ → State → Restart
+  restart_of run device is m given =
+      let acts = acts_in on reading reads run device is in
+      record { commands = asked_by reading is.session (pieces_of run.input) acts; acknowledged = acked m (replies_of acts); given = given }
+
+  -- Law: a run that was stopped, and the opening of the next one, are a link. So runs join over any stops (`LinksLeadOn`).
+  abbrev pub RunsAreLinked : Type 0
+  RunsAreLinked = (run : Run) (device : D) (m : ℕ) (image : List ℕ) (next : E) (session : SessionValue E) (replayed : ℕ)
+      -- a run over a device that has answered as the model says
+      → (is : RunsOver on run device) → on.honest is.new.device
+      -- a stop at a moment since its store was opened, when m calls had finished, which left this image
+      → on.possible_since is.new.device (on.clock is.session.device) m image
+      -- the next one was opened over a device whose reads gave it, and that has answered as the model says
+      → again.seen next ≡ image → IsOpened again next session replayed → again.honest session.device
+      → AreLinked is.session.state (restart_of run device is m session.state ∷ []) session.state
 
   -- law: the opening included, where each image that a stop might have left before stands for the state that was opened, as format, session and
   -- stop leave it

@@ -1,5 +1,5 @@
 -- What the program prints, line by line, and the status that goes with it.
-use Rattle.std.specs.Prelude.{◌≡◌, ℕ, List, ◌++◌, codes, Option, Some, None, Result, Ok, Err, IfErr, IfOk, Bool, true, false, if◌then◌else◌}
+use Rattle.std.specs.Prelude.{◌≡◌, ℕ, List, ◌++◌, codes, Option, Result, IfErr, IfOk, MatchResult, Bool, true, false, if◌then◌else◌}
 use Rattle.std.specs.Io.KnownBytes.{Appends}
 use Rattle.checkpoint.specs.Names.{format_fault_name, store_fault_name}
 use Rattle.checkpoint.specs.declared.faults.FormatFault.{FormatFault}
@@ -15,6 +15,7 @@ use Rattle.recover.specs.declared.denials.Denial.{Denial}
 use Rattle.recover.specs.declared.denials.Denial.TheVariants as denial
 use Rattle.sector_disk.specs.declared.file_device.FileFault.{FileFault}
 use Rattle.sector_disk.specs.declared.file_device.FileFault.TheVariants as file
+use Rattle.command_serving.specs.Streams.{Puts, Stream}
 use Rattle.command_text.specs.Answers.{line}
 use Rattle.auditor_cli.specs.AnswerText.{fault_text}
 
@@ -30,6 +31,11 @@ pub record IsFirstPart (text : List ℕ) (before after : Option (List ℕ)) : Ty
 abbrev pub TellsText : {E : Type 0} → List ℕ → ℕ → Option (List ℕ) → Option (List ℕ) → Result ℕ E → Type 0
 TellsText text status before after told =
     IfOk told (λ given. (given ≡ status) × Appends before after text) × IfErr told (λ error. IsFirstPart text before after)
+
+-- `ok` was put when so many calls had finished of the device that holds what it tells; or, where a write failed, no more than a first part of it
+-- was, then.
+abbrev pub TellsDone : {E : Type 0} → ℕ → Stream → Stream → Result ℕ E → Type 0
+TellsDone calls before after told = IfOk told (λ status. status ≡ 0) × Puts before after told calls (line (codes "ok"))
 
 -- a store's file that can't be opened or made
 abbrev pub open_line : List ℕ → FileFault → List ℕ
@@ -54,16 +60,23 @@ new_line path file.BadLength = line (codes "new BadLength")
 new_line path file.OutOfMemory = line (codes "new OutOfMemory")
 new_line path file.InUse = line (codes "new InUse")
 
--- what came of a format
-abbrev pub format_line : Option FormatFault → List ℕ
-format_line None = line (codes "ok")
-format_line (Some fault) = line (codes "store " ++ format_fault_name fault)
+-- why no store was made on a device: of a format, and of the new store of an upgrade
+abbrev pub unformatted_line : FormatFault → List ℕ
+unformatted_line fault = line (codes "store " ++ format_fault_name fault)
 
-abbrev pub format_status : Option FormatFault → ℕ
-format_status None = 0
-format_status (Some format.TooSmall) = 2
-format_status (Some format.DeviceFault) = 3
-format_status (Some format.OutOfMemory) = 4
+abbrev pub unmade_line : FormatFault → List ℕ
+unmade_line fault = line (codes "new " ++ format_fault_name fault)
+
+abbrev pub unformatted_status : FormatFault → ℕ
+unformatted_status format.TooSmall = 2
+unformatted_status format.DeviceFault = 3
+unformatted_status format.OutOfMemory = 4
+
+-- a store was made, by so many calls in all, or it is told by such a line why not
+abbrev pub TellsFormat : {T E : Type 0} → (FormatFault → List ℕ) → Result T FormatFault → ℕ → Stream → Stream → Result ℕ E → Type 0
+TellsFormat line_of made calls before after told =
+    MatchResult made (λ done. TellsDone calls before after told)
+    (λ fault. TellsText (line_of fault) (unformatted_status fault) before.contents after.contents told)
 
 -- why a store was not opened
 abbrev pub store_line : StoreFault → List ℕ
@@ -87,13 +100,11 @@ denial_status denial.DeviceFault = 3
 denial_status denial.OutOfMemory = 4
 denial_status _ = 2
 
-abbrev pub answered_line : {T : Type 0} → Result T Denial → List ℕ
-answered_line (Ok done) = line (codes "ok")
-answered_line (Err denial) = denial_line denial
-
-abbrev pub answered_status : {T : Type 0} → Result T Denial → ℕ
-answered_status (Ok done) = 0
-answered_status (Err denial) = denial_status denial
+-- a session answered a command, by so many calls in all, or it is told why the command was denied, with the status of that
+abbrev pub TellsAnswer : {T E : Type 0} → (Denial → ℕ) → Result T Denial → ℕ → Stream → Stream → Result ℕ E → Type 0
+TellsAnswer status_of answer calls before after told =
+    MatchResult answer (λ done. TellsDone calls before after told)
+    (λ denial. TellsText (denial_line denial) (status_of denial) before.contents after.contents told)
 
 -- the first fault of an instance's text, or want of memory for it
 abbrev pub wants_memory : ReadFaultKind → Bool
@@ -108,11 +119,3 @@ instance_fault_status fault = if wants_memory fault.kind then 4 else 2
 
 abbrev pub TellsInstanceFault : ReadFault → Option (List ℕ) → Option (List ℕ) → ℕ → Type 0
 TellsInstanceFault fault before after status = (status ≡ instance_fault_status fault) × Appends before after (instance_fault_line fault)
-
--- what came of the new store of an upgrade
-abbrev pub unmade_line : FormatFault → List ℕ
-unmade_line fault = line (codes "new " ++ format_fault_name fault)
-
-abbrev pub made_line : Option FormatFault → List ℕ
-made_line None = line (codes "ok")
-made_line (Some fault) = unmade_line fault

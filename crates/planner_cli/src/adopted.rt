@@ -3,16 +3,18 @@
 //! The solution is read first, so that a store is not held while a pipe is waited for.
 ghost use Rattle.std.specs.Prelude.{◌≡◌, ◌≤◌, ◌∷◌, IfOk};
 ghost use Rattle.sector_disk.specs.Disks.{IsTakenAt};
-ghost use Rattle.planner_cli.specs.Adopting.{AdoptsOver, AdoptsStore, FindsPlan, TellsAdopt, adopt_status, adopted_status, refused_status, unadopted_status, unadopted_text, unseated_status};
-ghost use Rattle.planner_cli.specs.Telling.{TellsText, answered_line};
+ghost use Rattle.command_serving.specs.Held.{held};
+ghost use Rattle.planner_cli.specs.Adopting.{AdoptsOver, AdoptsStore, FindsPlan, TellsAdopt, adopt_status, refused_status, unadopted_status, unadopted_text, unseated_status};
+ghost use Rattle.planner_cli.specs.Telling.{TellsAnswer, TellsText};
 ghost use Rattle.command_text.specs.Answers.{line, unseated_text};
 ghost use Rattle.auditor_cli.specs.Reads.{IsRead};
 
 use crate::opened::{close_store, open_store, tell_unopened};
-use crate::telling::{denial_status, tell_denial, tell_text};
-use auditor_cli::status::{BROKEN, DONE, OUT_OF_MEMORY, REFUSED};
+use crate::telling::{denial_status, tell_denial, tell_done, tell_text};
+use auditor_cli::status::{BROKEN, OUT_OF_MEMORY, REFUSED};
 use auditor_cli::{ReadFiles, tell_unread};
 use command_core::{Command, Refusal, State};
+use command_serving::Watched;
 use command_text::Answer;
 use plan_seats::{Unseated, seated_plan};
 use plan_types::Plan;
@@ -40,7 +42,7 @@ pub(crate) fn adopt_read<F: ReadFiles, R, X: Disks, T: Start, W: Write, E: Write
     store: &str,
     solution: &str,
     files: &mut F,
-    output: &mut W,
+    output: &mut Watched<W>,
     errors: &mut E,
 ) -> io::Result<u8>
 where
@@ -51,7 +53,7 @@ where
         (IsTakenAt ⟦<HostFile as FileCalls>⟧.entries)
         (record { was = X.asked disks.old; now = X.asked disks.new })
         store.now solution.now (F.reads files.old) (F.reads files.new)
-        (W.contents output.old) (W.contents output.new) result }
+        (held W.contents output.old) (held W.contents output.new) result }
 {
     match files.read(solution) {
         Ok(text) => adopt_store(rt, disks, start, store, &text, output, errors),
@@ -66,7 +68,7 @@ fn adopt_store<R, X: Disks, T: Start, W: Write, E: Write>(
     start: T,
     store: &str,
     text: &[u8],
-    output: &mut W,
+    output: &mut Watched<W>,
     errors: &mut E,
 ) -> io::Result<u8>
 where
@@ -75,7 +77,7 @@ where
     ensures asks { X.asked disks.new ≡ (DiskCall.Take, store.now) ∷ X.asked disks.old }
     ensures adopts { AdoptsStore ⟦<FileDevice<T> as Sectors>⟧
         (IsTakenAt ⟦<HostFile as FileCalls>⟧.entries) store.now text.now
-        (W.contents output.old) (W.contents output.new) result }
+        (held W.contents output.old) (held W.contents output.new) result }
 {
     match open_store(rt, disks, start, store, errors) {
         Ok(opened) => {
@@ -94,16 +96,16 @@ fn adopt_over<R: Eprint, D: Sectors, W: Write>(
     alloc: Global,
     session: &mut Session<D>,
     text: &[u8],
-    output: &mut W,
+    output: &mut Watched<W>,
 ) -> io::Result<u8>
     ensures status { IfOk result (λ status. status ≤ 4) }
     ensures adopts { AdoptsOver D.Sectors session.old text.now
-        (W.contents output.old) (W.contents output.new) session.new result }
+        (held W.contents output.old) (held W.contents output.new) session.new result }
 {
     match plan_over(alloc, session.state(), text) {
         Ok(plan) => {
             let reply = session.apply(alloc, Command::Adopt(plan));
-            tell_adopted(output, reply.answer)
+            tell_adopted(output, session, reply.answer)
         }
         Err(unadopted) => {
             tell_unkept_pin(rt, unadopted);
@@ -165,12 +167,16 @@ fn unseated_status(unseated: Unseated) -> u8
 }
 
 // Tells what the store answered.
-fn tell_adopted<W: Write>(output: &mut W, answer: Result<(), Denial>) -> io::Result<u8>
-    ensures { TellsText (answered_line answer) (adopted_status answer)
-        (W.contents output.old) (W.contents output.new) result }
+fn tell_adopted<D: Sectors, W: Write>(
+    output: &mut Watched<W>,
+    session: &Session<D>,
+    answer: Result<(), Denial>,
+) -> io::Result<u8>
+    ensures { TellsAnswer adopt_status answer (D.calls session.now.device)
+        (held W.contents output.old) (held W.contents output.new) result }
 {
     match answer {
-        Ok(()) => tell_text(output, b"ok", DONE),
+        Ok(()) => tell_done(output, session),
         Err(denial) => tell_denial(output, denial, adopt_status(denial)),
     }
 }

@@ -8,6 +8,7 @@ ghost use Rattle.std.specs.Option.{option_map};
 ghost use Rattle.instance_read.specs.Faults.{TellsFirstFault};
 ghost use Rattle.instance_read.specs.Readings.{InstanceFault, SpellsInstance};
 ghost use Rattle.command_line.specs.Asked.{load_of};
+ghost use Rattle.command_serving.specs.Held.{held};
 ghost use Rattle.sector_disk.specs.Disks.{IsMadeAt, IsTakenAt};
 ghost use Rattle.planner_cli.specs.Opened.{is_not_found, wants_file};
 ghost use Rattle.planner_cli.specs.Loading.{BeginsOpening, BeginsSession, BeginsStore, TellsHeld, TellsLoad, holds_instance};
@@ -22,6 +23,7 @@ use auditor_cli::{ReadFiles, read_instance, tell_limit, tell_unread};
 use checkpoint::StoreFault;
 use command_core::{Command, State};
 use command_line::Loading;
+use command_serving::Watched;
 use instance_read::ReadFault;
 use plan_types::Problem;
 use recover::Opened;
@@ -39,7 +41,7 @@ pub(crate) fn load_read<F: ReadFiles, R, X: Disks, T: Start, U: Start, W: Write,
     start_of_new: U,
     loading: Loading,
     files: &mut F,
-    output: &mut W,
+    output: &mut Watched<W>,
     errors: &mut E,
 ) -> io::Result<u8>
 where
@@ -50,7 +52,7 @@ where
         (IsTakenAt ⟦<HostFile as FileCalls>⟧.entries) (IsMadeAt ⟦<HostFile as FileCalls>⟧.entries)
         (record { was = X.asked disks.old; now = X.asked disks.new })
         (load_of loading.entry) (F.reads files.old) (F.reads files.new)
-        (W.contents output.old) (W.contents output.new) result }
+        (held W.contents output.old) (held W.contents output.new) result }
 {
     let text = match files.read(loading.instance) {
         Ok(text) => text,
@@ -119,7 +121,7 @@ fn begin_store<R, X: Disks, T: Start, U: Start, W: Write, E: Write>(
     start_of_new: U,
     store: &str,
     command: Command,
-    output: &mut W,
+    output: &mut Watched<W>,
     errors: &mut E,
 ) -> io::Result<u8>
 where
@@ -128,7 +130,7 @@ where
     ensures begins { BeginsStore ⟦<FileDevice<T> as Sectors>⟧ ⟦<FileDevice<U> as Sectors>⟧
         (IsTakenAt ⟦<HostFile as FileCalls>⟧.entries) (IsMadeAt ⟦<HostFile as FileCalls>⟧.entries)
         (record { was = X.asked disks.old; now = X.asked disks.new })
-        store.now command (W.contents output.old) (W.contents output.new) result }
+        store.now command (held W.contents output.old) (held W.contents output.new) result }
 {
     let opening = open_store(rt, disks, start, store, errors);
     if wants_file(&opening) {
@@ -170,11 +172,11 @@ fn begin_opening<R: Eprint + AllocGlobal, T: Start, W: Write>(
     store: &str,
     opening: Result<Opened<FileDevice<T>>, Unopened<FileDevice<T>>>,
     command: Command,
-    output: &mut W,
+    output: &mut Watched<W>,
 ) -> io::Result<u8>
     ensures status { IfOk result (λ status. status ≤ 4) }
     ensures begins { BeginsOpening ⟦<FileDevice<T> as Sectors>⟧ opening store.now
-        command (W.contents output.old) (W.contents output.new) result }
+        command (held W.contents output.old) (held W.contents output.new) result }
 {
     match opening {
         Ok(opened) => {
@@ -191,18 +193,19 @@ fn begin_opened<D: Sectors + Drop, W: Write>(
     alloc: Global,
     opened: Opened<D>,
     command: Command,
-    output: &mut W,
+    output: &mut Watched<W>,
 ) -> (io::Result<u8>, D)
     ensures status { IfOk result.0 (λ status. status ≤ 4) }
     ensures begins { BeginsSession D.Sectors opened.session command
-        (W.contents output.old) (W.contents output.new) result.1 result.0 }
+        (held W.contents output.old) (held W.contents output.new) result.1 result.0 }
 {
     let mut session = opened.session;
     if holds_instance(session.state()) {
         return (tell_held(output), session.close());
     }
     let reply = session.apply(alloc, command);
-    (tell_answer(output, reply.answer), session.close())
+    let told = tell_answer(output, &session, reply.answer);
+    (told, session.close())
 }
 
 fn holds_instance(state: &State) -> bool

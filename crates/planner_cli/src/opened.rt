@@ -10,8 +10,9 @@ ghost use Rattle.planner_cli.specs.Opened.{IsForetoldBefore, IsOpening, IsStoreO
 ghost use Rattle.planner_cli.specs.Running.{IsOpened, IsRefused};
 ghost use Rattle.planner_cli.specs.Telling.{TellsText};
 
+use crate::remains::{tell_length, tell_remains};
 use crate::telling::{
-    tell_cause, tell_cure, tell_format, tell_refusal, tell_repeating, tell_store_fault,
+    tell_cause, tell_cure, tell_refusal, tell_repeating, tell_store_fault, tell_unformatted,
 };
 use checkpoint::{FormatFault, StoreFault, images_hold_one_thing};
 use recover::{Opened, Session, steps_to_repeat};
@@ -154,14 +155,19 @@ pub(crate) fn tell_unopened<R: Eprint, T: Start, W: Write>(
         (W.contents output.old) (W.contents output.new) result }
 {
     match unopened {
-        Unopened::File(refusal) => tell_refusal(rt, output, store, refusal),
+        Unopened::File(refusal) => {
+            tell_length(rt, store, refusal.fault);
+            tell_refusal(rt, output, store, refusal)
+        }
         Unopened::Store(fault, device) => {
+            let mut device = device;
             let told = tell_store_fault(output, fault);
+            tell_remains(rt, store, fault, &mut device);
             tell_cause(rt, store, device.cause());
             told
         }
         Unopened::Unformatted(fault, device) => {
-            let told = tell_format(output, Some(fault));
+            let told = tell_unformatted(output, fault);
             tell_cause(rt, store, device.cause());
             told
         }

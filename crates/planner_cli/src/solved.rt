@@ -10,7 +10,7 @@ ghost use Rattle.auditor_cli.specs.Reads.{IsRead};
 use auditor_cli::status::{BROKEN, DONE, REFUSED};
 use auditor_cli::{ReadFiles, tell_limit, tell_unread, tell_want_of_memory};
 use command_core::Job;
-use command_line::Task;
+use command_line::Solving;
 use plan_audit::{passes_are_local, plans_are_local};
 use plan_solve::{SolveFault, Solved, solve};
 use plan_types::OutOfMemory;
@@ -23,7 +23,7 @@ use std::io::Write;
 /// not asked first.
 pub(crate) fn solve_read<F: ReadFiles, W: Write, E: Write>(
     alloc: Global,
-    task: Task,
+    task: Solving,
     files: &mut F,
     output: &mut W,
     errors: &mut E,

@@ -14,7 +14,7 @@ use auditor_cli::{
     AuditAnswer, ReadFiles, WriteFiles, audit_text, greater, pair_of, tell_bad_line, tell_limit,
     tell_unread, tell_unwritten, write_line,
 };
-use command_line::Tasks;
+use command_line::SolvingList;
 use plan_solve::{SolveFault, Solved, solve};
 use plan_types::OutOfMemory;
 use std::alloc::Global;
@@ -26,7 +26,7 @@ use text_lines::Lines;
 /// status. A limit of an instance that is not asked is told on `errors`.
 pub(crate) fn solves_read<F: ReadFiles, N: WriteFiles, W: Write, E: Write>(
     alloc: Global,
-    tasks: Tasks,
+    tasks: SolvingList,
     files: &mut F,
     new_files: &mut N,
     output: &mut W,
@@ -53,7 +53,7 @@ pub(crate) fn solves_read<F: ReadFiles, N: WriteFiles, W: Write, E: Write>(
 #[derive(Clone, Copy)]
 struct Solver<'a> {
     alloc: Global,
-    tasks: Tasks<'a>,
+    tasks: SolvingList<'a>,
 }
 
 impl Solver<'_> {

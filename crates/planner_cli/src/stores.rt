@@ -11,14 +11,16 @@ ghost use Rattle.sector_disk.specs.Disks.{DiskEntry, IsMadeAt, IsTakenAt};
 ghost use Rattle.checkpoint.specs.Layouts.{sectors_in, version_2};
 ghost use Rattle.planner_cli.specs.Formatting.{FormatsStore, IsFormatted, IsMadeWith, MakesStoreAt};
 ghost use Rattle.planner_cli.specs.Statuses.{IsUpgradeStatus};
-ghost use Rattle.planner_cli.specs.Telling.{TellsText, format_status, made_line, new_line, open_status};
+ghost use Rattle.planner_cli.specs.Telling.{TellsFormat, TellsText, new_line, open_status, unmade_line};
 ghost use Rattle.planner_cli.specs.Upgrading.{TellsSame, UpgradesOnto, UpgradesOther, UpgradesStore, UpgradesTaken};
 ghost use Rattle.planner_cli.specs.Running.{IsEnded, RunsSession, RunsStore, ServesOver, ServesStore, TellsEnded, TellsServed, opened_line, stop_unless};
 
-use crate::opened::{close_store, open_store, tell_unopened};
+use crate::doubted::open_doubted;
+use crate::opened::{close_store, tell_unopened};
 use crate::progress::Progress;
 use crate::telling::{
-    tell_cause, tell_format, tell_made, tell_new_refusal, tell_refusal, tell_store_fault, tell_text,
+    tell_cause, tell_format, tell_new_refusal, tell_refusal, tell_store_fault, tell_text,
+    tell_upgrade,
 };
 use auditor_cli::status::{BROKEN, DONE, FILE, USAGE};
 use checkpoint::{FormatFault, Place, SECTORS, format, format_with};
@@ -36,7 +38,7 @@ pub(crate) fn format_store<R, X: Disks, T: Start, W: Write>(
     disks: &mut X,
     start: T,
     store: &str,
-    output: &mut W,
+    output: &mut Watched<W>,
 ) -> io::Result<u8>
 where
     R: Eprint + AllocGlobal,
@@ -44,13 +46,14 @@ where
     ensures asks { X.asked disks.new ≡ (DiskCall.Make, store.now) ∷ X.asked disks.old }
     ensures formats { FormatsStore ⟦<FileDevice<T> as Sectors>⟧
         (IsMadeAt ⟦<HostFile as FileCalls>⟧.entries) store.now
-        (W.contents output.old) (W.contents output.new) result }
+        (held W.contents output.old) (held W.contents output.new) result }
 {
     match disks.make(store, SECTORS, start) {
         Ok(mut device) => {
             let made = format_device(rt.alloc(), &mut device);
+            let told = tell_format(output, &device, made);
             tell_cause(rt, store, device.cause());
-            tell_format(output, made.err())
+            told
         }
         Err(refusal) => tell_refusal(rt, output, store, refusal),
     }
@@ -66,7 +69,7 @@ pub(crate) fn format_device<D: Sectors>(alloc: Global, device: &mut D) -> Result
 }
 
 /// Opens the store in the file, and serves the input over it, by `is_strict` up to the first answer that tells a refusal or a
-/// failed device. How many search steps opening repeats is told on `errors` first.
+/// failed device. Why the store is suspect, and how many search steps opening repeats, is told on `errors` first.
 pub(crate) fn run_store<R, X: Disks, T: Start, I: Read, W: Write, E: Write>(
     rt: &R,
     disks: &mut X,
@@ -92,7 +95,7 @@ where
         (held W.contents output) (held W.contents result.1)
         input.new.has_failed result.1.has_failed }
 {
-    match open_store(rt, disks, start, store, errors) {
+    match open_doubted(rt, disks, start, store, errors) {
         Ok(opened) => {
             let Opened {
                 mut session,
@@ -127,7 +130,7 @@ pub(crate) fn upgrade_store<R, X: Disks, T: Start, U: Start, W: Write>(
     start_of_new: U,
     old: &str,
     new: &str,
-    output: &mut W,
+    output: &mut Watched<W>,
 ) -> io::Result<u8>
 where
     R: Eprint + AllocGlobal,
@@ -135,7 +138,7 @@ where
     ensures upgrades { UpgradesStore ⟦<FileDevice<T> as Sectors>⟧ ⟦<FileDevice<U> as Sectors>⟧
         (IsTakenAt ⟦<HostFile as FileCalls>⟧.entries) (IsMadeAt ⟦<HostFile as FileCalls>⟧.entries)
         old.now new.now (record { was = X.asked disks.old; now = X.asked disks.new })
-        (W.contents output.old) (W.contents output.new) result }
+        (held W.contents output.old) (held W.contents output.new) result }
 {
     if old == new {
         return tell_same(output);
@@ -151,7 +154,7 @@ fn upgrade_other<R, X: Disks, T: Start, U: Start, W: Write>(
     start_of_new: U,
     old: &str,
     new: &str,
-    output: &mut W,
+    output: &mut Watched<W>,
 ) -> io::Result<u8>
 where
     R: Eprint + AllocGlobal,
@@ -160,7 +163,7 @@ where
         × UpgradesOther ⟦<FileDevice<T> as Sectors>⟧ ⟦<FileDevice<U> as Sectors>⟧
         (IsTakenAt ⟦<HostFile as FileCalls>⟧.entries) (IsMadeAt ⟦<HostFile as FileCalls>⟧.entries)
         old.now new.now compared is_one (record { was = X.asked disks.old; now = X.asked disks.new })
-        (W.contents output.old) (W.contents output.new) result }
+        (held W.contents output.old) (held W.contents output.new) result }
 {
     if disks.are_one(old, new) {
         return tell_same(output);
@@ -182,7 +185,7 @@ fn upgrade_taken<R, X: Disks, T: Start, U: Start, W: Write>(
     start_of_new: U,
     old: &str,
     new: &str,
-    output: &mut W,
+    output: &mut Watched<W>,
 ) -> io::Result<u8>
 where
     R: Eprint + AllocGlobal,
@@ -191,7 +194,7 @@ where
         × UpgradesTaken ⟦<FileDevice<T> as Sectors>⟧ ⟦<FileDevice<U> as Sectors>⟧
         (IsTakenAt ⟦<HostFile as FileCalls>⟧.entries) (IsMadeAt ⟦<HostFile as FileCalls>⟧.entries)
         old.now new.now taken (record { was = X.asked disks.old; now = X.asked disks.new })
-        (W.contents output.old) (W.contents output.new) result }
+        (held W.contents output.old) (held W.contents output.new) result }
 {
     match disks.take(old, start) {
         Ok(device) => upgrade_onto(rt, disks, device, start_of_new, old, new, output),
@@ -207,7 +210,7 @@ fn upgrade_onto<R, X: Disks, T: Start, U: Start, W: Write>(
     start: U,
     old: &str,
     new: &str,
-    output: &mut W,
+    output: &mut Watched<W>,
 ) -> io::Result<u8>
 where
     R: Eprint + AllocGlobal,
@@ -215,7 +218,7 @@ where
     ensures upgrades { UpgradesOnto ⟦<FileDevice<T> as Sectors>⟧ ⟦<FileDevice<U> as Sectors>⟧
         (IsTakenAt ⟦<HostFile as FileCalls>⟧.entries) (IsMadeAt ⟦<HostFile as FileCalls>⟧.entries)
         device new.now (record { was = X.asked disks.old; now = X.asked disks.new })
-        (W.contents output.old) (W.contents output.new) result }
+        (held W.contents output.old) (held W.contents output.new) result }
 {
     let read = read_version_1(rt.alloc(), &mut device);
     tell_cause(rt, old, device.cause());
@@ -232,7 +235,7 @@ fn make_upgraded<R, X: Disks, U: Start, W: Write>(
     start: U,
     new: &str,
     state: &State,
-    output: &mut W,
+    output: &mut Watched<W>,
 ) -> io::Result<u8>
 where
     R: Eprint + AllocGlobal,
@@ -240,16 +243,17 @@ where
     ensures asks { X.asked disks.new ≡ (DiskCall.Make, new.now) ∷ X.asked disks.old }
     ensures makes { MakesStoreAt ⟦<FileDevice<U> as Sectors>⟧
         (IsMadeAt ⟦<HostFile as FileCalls>⟧.entries) state.now new.now
-        (λ fault. TellsText (made_line fault) (format_status fault)
-        (W.contents output.old) (W.contents output.new) result)
+        (λ made calls. TellsFormat unmade_line made calls
+        (held W.contents output.old) (held W.contents output.new) result)
         (λ fault. TellsText (new_line new.now fault) (open_status fault)
-        (W.contents output.old) (W.contents output.new) result) }
+        (W.contents output.old.inner) (W.contents output.new.inner) result) }
 {
     match disks.make(new, SECTORS, start) {
         Ok(mut made) => {
             let upgraded = make_device(rt.alloc(), &mut made, state);
+            let told = tell_upgrade(output, &made, upgraded);
             tell_cause(rt, new, made.cause());
-            tell_made(output, upgraded.err())
+            told
         }
         Err(refusal) => tell_new_refusal(rt, output, new, refusal),
     }

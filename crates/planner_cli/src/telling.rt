@@ -2,16 +2,17 @@
 ghost use Rattle.std.specs.Prelude.{◌≡◌, ◌++◌, IfErr, IfOk, OnOk};
 ghost use Rattle.std.specs.Io.KnownBytes.{Appends};
 ghost use Rattle.planner_cli.specs.Foretold.{repeating_line};
+ghost use Rattle.command_serving.specs.Held.{held};
 ghost use Rattle.command_text.specs.Answers.{line};
-ghost use Rattle.planner_cli.specs.Telling.{IsFirstPart, TellsInstanceFault, TellsText, answered_line, answered_status, denial_line, denial_status, format_line, format_status, is_device_fault, made_line, new_line, open_line, open_status, store_line, store_status, wants_memory};
+ghost use Rattle.planner_cli.specs.Telling.{IsFirstPart, TellsAnswer, TellsDone, TellsFormat, TellsInstanceFault, TellsText, denial_line, denial_status, is_device_fault, new_line, open_line, open_status, store_line, store_status, unformatted_line, unformatted_status, unmade_line, wants_memory};
 
 use auditor_cli::status::{DONE, FILE, OUT_OF_MEMORY, REFUSED};
 use auditor_cli::tell_want_of_memory;
-use checkpoint::{FormatFault, StoreFault};
-use command_serving::write_text;
+use checkpoint::{FormatFault, Place, StoreFault};
+use command_serving::{Sink, Watched, write_text};
 use instance_read::{ReadFault, ReadFaultKind};
-use recover::Denial;
-use sector_disk::{FileFault, FileRefusal};
+use recover::{Denial, Session};
+use sector_disk::{FileFault, FileRefusal, Sectors};
 use std::io;
 use std::io::{ErrorKind, Write};
 
@@ -139,19 +140,71 @@ pub(crate) fn tell_repeating<E: Write>(steps: u64, errors: &mut E) -> io::Result
     writeln!(errors, "planner: repeating {steps} search steps")
 }
 
-/// Tells what came of a format.
-pub(crate) fn tell_format<W: Write>(output: &mut W, fault: Option<FormatFault>) -> io::Result<u8>
-    ensures { TellsText (format_line fault) (format_status fault)
-        (W.contents output.old) (W.contents output.new) result }
+// Tells that a store was made on the device. It is noted how many calls of it had finished.
+fn tell_made<D: Sectors, W: Write>(output: &mut Watched<W>, device: &D) -> io::Result<u8>
+    ensures { TellsDone (D.calls device.now)
+        (held W.contents output.old) (held W.contents output.new) result }
 {
-    match fault {
-        None => tell_text(output, b"ok", DONE),
-        Some(fault) => tell_named(output, b"store ", fault.name(), unformatted_status(fault)),
+    match output.put_behind(device, b"ok\n") {
+        Ok(()) => Ok(DONE),
+        Err(_) => Err(io::Error::from(ErrorKind::WriteZero)),
     }
 }
 
+/// Tells that the session has done a command. It is noted how many calls of its device had finished.
+pub(crate) fn tell_done<D: Sectors, W: Write>(
+    output: &mut Watched<W>,
+    session: &Session<D>,
+) -> io::Result<u8>
+    ensures { TellsDone (D.calls session.now.device)
+        (held W.contents output.old) (held W.contents output.new) result }
+{
+    match output.put(session, b"ok\n") {
+        Ok(()) => Ok(DONE),
+        Err(_) => Err(io::Error::from(ErrorKind::WriteZero)),
+    }
+}
+
+/// Tells what came of a format of the device.
+pub(crate) fn tell_format<D: Sectors, W: Write>(
+    output: &mut Watched<W>,
+    device: &D,
+    made: Result<Place, FormatFault>,
+) -> io::Result<u8>
+    ensures { TellsFormat unformatted_line made (D.calls device.now)
+        (held W.contents output.old) (held W.contents output.new) result }
+{
+    match made {
+        Ok(_) => tell_made(output, device),
+        Err(fault) => tell_unformatted(output, fault),
+    }
+}
+
+/// Tells what came of the new store of an upgrade on the device.
+pub(crate) fn tell_upgrade<D: Sectors, W: Write>(
+    output: &mut Watched<W>,
+    device: &D,
+    made: Result<Place, FormatFault>,
+) -> io::Result<u8>
+    ensures { TellsFormat unmade_line made (D.calls device.now)
+        (held W.contents output.old) (held W.contents output.new) result }
+{
+    match made {
+        Ok(_) => tell_made(output, device),
+        Err(fault) => tell_named(output, b"new ", fault.name(), unformatted_status(fault)),
+    }
+}
+
+/// Tells why no store was made on a device.
+pub(crate) fn tell_unformatted<W: Write>(output: &mut W, fault: FormatFault) -> io::Result<u8>
+    ensures { TellsText (unformatted_line fault) (unformatted_status fault)
+        (W.contents output.old) (W.contents output.new) result }
+{
+    tell_named(output, b"store ", fault.name(), unformatted_status(fault))
+}
+
 fn unformatted_status(fault: FormatFault) -> u8
-    ensures { result ≡ format_status (Some fault) }
+    ensures { result ≡ unformatted_status fault }
 {
     match fault {
         FormatFault::TooSmall => REFUSED,
@@ -178,13 +231,17 @@ fn unopened_status(fault: StoreFault) -> u8
     }
 }
 
-/// Tells what a session answered to a command.
-pub(crate) fn tell_answer<W: Write>(output: &mut W, answer: Result<(), Denial>) -> io::Result<u8>
-    ensures { TellsText (answered_line answer) (answered_status answer)
-        (W.contents output.old) (W.contents output.new) result }
+/// Tells what the session answered to a command.
+pub(crate) fn tell_answer<D: Sectors, W: Write>(
+    output: &mut Watched<W>,
+    session: &Session<D>,
+    answer: Result<(), Denial>,
+) -> io::Result<u8>
+    ensures { TellsAnswer denial_status answer (D.calls session.now.device)
+        (held W.contents output.old) (held W.contents output.new) result }
 {
     match answer {
-        Ok(()) => tell_text(output, b"ok", DONE),
+        Ok(()) => tell_done(output, session),
         Err(denial) => tell_denial(output, denial, denial_status(denial)),
     }
 }
@@ -240,16 +297,5 @@ fn wants_memory(kind: ReadFaultKind) -> bool
     match kind {
         ReadFaultKind::OutOfMemory => true,
         _ => false,
-    }
-}
-
-/// Tells what came of the new store of an upgrade.
-pub(crate) fn tell_made<W: Write>(output: &mut W, fault: Option<FormatFault>) -> io::Result<u8>
-    ensures { TellsText (made_line fault) (format_status fault)
-        (W.contents output.old) (W.contents output.new) result }
-{
-    match fault {
-        None => tell_text(output, b"ok", DONE),
-        Some(fault) => tell_named(output, b"new ", fault.name(), unformatted_status(fault)),
     }
 }

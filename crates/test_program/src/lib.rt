@@ -4,9 +4,11 @@
 //! Values come from outside. Proved is nothing beyond that no step fails. What the program answers to words, files and
 //! lines is asked of the built program by `tests/program.py`, and by `run_words`.
 //!
-//! In reading order: `lines`, `strict`, `gaps`.
+//! In reading order: `lines`, `strict`, `ends`, `gaps`.
 #![tactic(auto)]
 
+#[cfg(test)]
+mod ends;
 #[cfg(test)]
 mod gaps;
 #[cfg(test)]

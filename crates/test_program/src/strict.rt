@@ -66,13 +66,13 @@ fn tells_the_last_line(rt: HostRuntime) -> Result<(), Fail> {
     Ok(())
 }
 
-fn new_device(alloc: Global) -> Result<MemDevice, Fail> {
+pub(crate) fn new_device(alloc: Global) -> Result<MemDevice, Fail> {
     let mut device = MemDevice::new(alloc, SECTORS).ok().ok_or("a device")?;
     format(alloc, &mut device).ok().ok_or("a store")?;
     Ok(device)
 }
 
-fn opened(alloc: Global, device: MemDevice) -> Option<Session<MemDevice>> {
+pub(crate) fn opened(alloc: Global, device: MemDevice) -> Option<Session<MemDevice>> {
     match Session::open(alloc, device) {
         Ok(opened) => Some(opened.session),
         Err(_) => None,

@@ -1,4 +1,4 @@
-use Rattle.planner_cli.proofs.StopLemmas.{run_headline, run_keeps_answers, served_run_headline, served_run_keeps_answers}
+use Rattle.planner_cli.proofs.StopLemmas.{input_read, run_headline, run_keeps_answers, served_run_headline, served_run_keeps_answers}
 use Rattle.planner_cli.proofs.laws.stopped_runs_recover.Goals as goal
 
 pub returns-clause-behind : goal.returns-clause-behind
@@ -28,3 +28,6 @@ returns-clause-told_behind g c =
       served_run_keeps_answers g.D.Sectors g.E.Sectors some.0 some.1 c.stopped_servings_recover.ensures.told
           (served_run_headline g.D.Sectors g.E.Sectors some.0 some.1 c.stopped_servings_recover.ensures.stopped),
     )
+
+pub returns-clause-inputs : goal.returns-clause-inputs
+returns-clause-inputs g c = input_read

@@ -23,5 +23,5 @@ returns-clause-begins g c =
       device = c.close-2.ensures.device;
       stands = begun c.apply-reply.result.answer old new c.args.command
           (λ s. g.D.Sectors.honest left → (image : List ℕ) → g.D.Sectors.possible left image → StandsFor Two image s) empty given.makes c.close-2.ensures.stands;
-      tells = c.tell_answer.ensures;
+      tells = c.tell_answer-told.ensures;
     })

@@ -8,6 +8,6 @@ use Rattle.planner_cli.proofs.loaded.load_read.Goals as goal
 pub returns-in-Err-clause-loads : goal.returns-in-Err-clause-loads
 returns-in-Err-clause-loads g c =
     let asked = c.args.loading in
-    let before = g.W.Write.contents c.args.output.now in
-    let after = g.W.Write.contents c.tell_unread.new.output in
+    let before = g.W.Write.contents c.args.output.now.inner in
+    let after = g.W.Write.contents c.tell_unread.new.output.inner in
     inr (error_kind c.in-Err.error, c.in-Err.ensures, refl, subst (λ kind. IfOk c.tell_unread.result (TellsUnread asked.instance.now kind before after)) c.kind.ensures c.tell_unread.ensures)

@@ -1,9 +1,8 @@
 -- What the format made of the device over the file, or why there is none.
-use Rattle.std.proofs.Common.{◌<◌, arith, inl, inr, subst}
+use Rattle.std.proofs.Common.{◌<◌, arith, inl, inr}
 use Rattle.std.specs.Prelude.{◌^◌}
 use Rattle.checkpoint.specs.Layouts.{version_2, sectors_in}
 use Rattle.checkpoint.specs.declared.faults.FormatFault.TheVariants.{TooSmall}
-use Rattle.planner_cli.specs.Telling.{TellsText, format_line, format_status}
 use Rattle.planner_cli.proofs.TellLemmas.{not_too_small}
 use Rattle.planner_cli.proofs.stores.format_store.Goals as goal
 
@@ -12,8 +11,6 @@ returns-in-Ok-clause-formats g c =
     let short : sectors_in version_2 < 2 ^ 54 = omega arith in
     let made = c.format_device-made.result in
     let given = c.format_device-made.ensures in
-    let before = g.W.Write.contents c.args.output.now in
-    let after = g.W.Write.contents c.tell_format.new.output in
     inl (
       c.in-Ok.device,
       c.format_device-made.new.device,
@@ -22,7 +19,7 @@ returns-in-Ok-clause-formats g c =
       c.in-Ok.ensures.len,
       given.formatted,
       not_too_small made TooSmall _ given.too_small c.in-Ok.ensures.len,
-      subst (λ f. TellsText (format_line f) (format_status f) before after c.tell_format.result) c.err.ensures.value c.tell_format.ensures,
+      c.tell_format-told.ensures,
     )
 
 pub returns-in-Err-clause-formats : goal.returns-in-Err-clause-formats

@@ -1,9 +1,8 @@
 -- What was made of the device over the new file, or why there is none.
-use Rattle.std.proofs.Common.{◌<◌, arith, inl, inr, subst}
+use Rattle.std.proofs.Common.{◌<◌, arith, inl, inr}
 use Rattle.std.specs.Prelude.{◌^◌}
 use Rattle.checkpoint.specs.Layouts.{version_2, sectors_in}
 use Rattle.checkpoint.specs.declared.faults.FormatFault.TheVariants.{TooSmall}
-use Rattle.planner_cli.specs.Telling.{TellsText, format_status, made_line}
 use Rattle.planner_cli.proofs.TellLemmas.{not_too_small}
 use Rattle.planner_cli.proofs.stores.make_upgraded.Goals as goal
 
@@ -12,8 +11,6 @@ returns-in-Ok-clause-makes g c =
     let short : sectors_in version_2 < 2 ^ 54 = omega arith in
     let upgraded = c.make_device-upgraded.result in
     let given = c.make_device-upgraded.ensures in
-    let before = g.W.Write.contents c.args.output.now in
-    let after = g.W.Write.contents c.tell_made.new.output in
     inl (
       c.in-Ok.made,
       c.make_device-upgraded.new.device,
@@ -22,7 +19,7 @@ returns-in-Ok-clause-makes g c =
       c.in-Ok.ensures.len,
       given.made,
       not_too_small upgraded TooSmall _ given.too_small c.in-Ok.ensures.len,
-      subst (λ f. TellsText (made_line f) (format_status f) before after c.tell_made.result) c.err.ensures.value c.tell_made.ensures,
+      c.tell_upgrade-told.ensures,
     )
 
 pub returns-in-Err-clause-makes : goal.returns-in-Err-clause-makes

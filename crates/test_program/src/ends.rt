@@ -1,0 +1,91 @@
+//! An input that goes on behind an end, as a terminal may: `Watched` of `command_serving` asks for none of it.
+
+use crate::strict::{new_device, opened};
+use command_serving::{Failed, ServeFault, Source, Watched, serve_source};
+use log::sink::Discard;
+use std::alloc::Global;
+use std::io;
+use std::io::Read;
+use std::test::Fail;
+
+/// What each call gives, up to the end and behind it.
+type Calls = [&'static [u8]; 4];
+
+/// A reader whose calls give these, and then nothing.
+#[derive(Drop)]
+struct Terminal {
+    calls: Calls,
+    made: usize,
+}
+
+impl Read for Terminal {
+    fn read(&mut self, block: &mut [u8]) -> io::Result<usize> {
+        if self.made >= self.calls.len() {
+            return Ok(0);
+        }
+        let piece = self.calls[self.made];
+        self.made += 1;
+        let len = piece.len().min(block.len());
+        block[..len].copy_from_slice(&piece[..len]);
+        Ok(len)
+    }
+}
+
+/// The end comes within a line.
+const WITHIN_A_LINE: Calls = [b"show\nne", b"xt", b"", b"\nnext\n"];
+
+/// Behind the line that announces a text, before its first byte.
+const BEFORE_A_TEXT: Calls = [b"show\n", b"load lilim 0 5", b"", b"hello"];
+
+/// What was answered, and how many calls of the reader were made.
+#[derive(Drop)]
+struct Served {
+    text: Vec<u8>,
+    fault: Option<ServeFault>,
+    made: usize,
+}
+
+fn serve(alloc: Global, calls: Calls) -> Result<Served, Fail> {
+    let mut session = opened(alloc, new_device(alloc)?).ok_or("a session")?;
+    let mut reader = Watched::new(Terminal { calls, made: 0 });
+    let mut writer = Watched::new(Vec::new(alloc));
+    let fault = serve_source(&Discard, alloc, &mut session, &mut reader, &mut writer).err();
+    Ok(Served {
+        text: writer.into_inner(),
+        fault,
+        made: reader.into_inner().made,
+    })
+}
+
+// Whether just this is answered, and the calls up to the end are made.
+fn is_served(alloc: Global, calls: Calls, wanted: &[u8]) -> Result<bool, Fail> {
+    let served = serve(alloc, calls)?;
+    Ok(served.text.as_slice() == wanted && served.fault.is_none() && served.made == 3)
+}
+
+#[test]
+fn reads_nothing_behind_an_end(rt: HostRuntime) -> Result<(), Fail> {
+    let alloc = rt.alloc();
+    let refused = b"no NoInstance\nno NoInstance\n".as_slice();
+    assert!(rt; is_served(alloc, WITHIN_A_LINE, refused)?);
+    let truncated = b"no NoInstance\nno Truncated\n".as_slice();
+    assert!(rt; is_served(alloc, BEFORE_A_TEXT, truncated)?);
+    Ok(())
+}
+
+// How many calls a reader is asked for by as many reads, the first of them with no room.
+fn asked(calls: Calls, reads: u32) -> Result<usize, Failed> {
+    let mut reader = Watched::new(Terminal { calls, made: 0 });
+    let mut block = [0; 8];
+    reader.read_some(&mut block[..0])?;
+    for _ in 0..reads {
+        reader.read_some(&mut block)?;
+    }
+    Ok(reader.into_inner().made)
+}
+
+#[test]
+fn a_read_with_no_room_is_no_end(rt: HostRuntime) -> Result<(), Fail> {
+    assert!(rt; asked([b"", b"next", b"", b"\n"], 9) == Ok(3));
+    Ok(())
+}
