@@ -1,7 +1,8 @@
 #!/usr/bin/env python3
 """Reads the documents as a stranger would follow them.
 
-1. Each name in code quotes stands in the tree: a path is there, `Rules.IsLate` is declared in a Rules.antt, any other word is in a source.
+1. Each name in code quotes stands in the tree: a path is there, `Rules.IsLate` is declared in a Rules.antt, a name with an underscore or a
+   capital within is declared in a source, but in PROVING.md, which names much of std's; any other word is in one.
 2. Each crate of crates.txt stands once in the table of layers of docs/ARCHITECTURE.md, in the order of crates.txt; each that is no crate of
    tests stands in its picture.
 3. Each .rt file begins with a line of what it holds.
@@ -12,7 +13,9 @@
    - before the name, in a table's cell: `plan_audit/src/scan.rt` `first_late`; a file alone, as `slow.rt`, is one beside it, or of its specs/
    - in a column of the row that is headed Crate, or in the heading above: of the names headed Function, Definition or Begin with
    - in a column of the row that is headed Code or Files: of definitions, and of names in a column that is headed so in PLACED
-   A definition may stand in a crate below. What is declared is a function, type, case, field, constant, clause or definition.
+   - any file or crate of the row: of names in its other columns that can be no plain word, as they have an underscore or a capital within
+   A definition, and what another column names, may stand in a crate below. What is declared is a function, type, case, field, constant or
+   definition, and a clause's label in the column of clauses alone.
 """
 import functools
 import pathlib
@@ -28,11 +31,16 @@ SOURCES = {".rt", ".antt", ".edit", ".py", ".sh", ".txt", ".sol", ".vrp", ".1", 
 FOREIGN_SPANS = ("rt ", "rattle-kit")
 # Words of the world outside: commands and terms of the system.
 FOREIGN = {"PATH", "PREFIX", "xargs", "split", "parallel", "strace", "valgrind", "callgrind", "perf", "rustc", "clang", "fdatasync", "fsync"}
+# Names of crates that the project stands on, and of what these and std declare.
+OUTSIDE = {"AllocError", "WouldBlock", "next_word", "rand_chacha", "rand_core"}
 
 FILE_NAME = r"[\w-]+\.(?:rt|antt|py|sh|md|edit|txt|sol|vrp|svg)"
 # Columns of a table that name what is declared at the place of the row: in the files of a column headed Code or Files, or in its crates.
 PLACED = ("Of ", "Function", "`")
-DEFINING = ("Clause, definition or law", "Definition")
+CLAUSES = "Clause, definition or law"
+DEFINING = (CLAUSES, "Definition")
+# Columns whose names have places of their own, or are crates.
+OTHERS = ("Code", "File", "Test", "Crate", "Begin with")
 
 problems = []
 
@@ -152,6 +160,9 @@ def check_document(path, words, paths, declared):
                     complain(path, number, f"a cell of {len(cell.strip())} characters")
         for span in re.findall(r"`([^`]+)`", line):
             check_name(path, number, span.strip(), words, paths, declared)
+            if path.name != "PROVING.md" and is_code(span) and not re.fullmatch(FILE_NAME, span):
+                for name in set(words_of(span)) - declared_anywhere():
+                    complain(path, number, f"nothing declares {name} (in `{span}`)")
 
 
 def crates():
@@ -180,7 +191,7 @@ def bodies(text, kind):
 
 def declared_in_rust(text):
     text = re.sub(r"//.*", "", text)
-    names = set(re.findall(r"\b(?:fn|struct|enum|trait|const|static|type|mod|ensures|requires)\s+(\w+)", text))
+    names = set(re.findall(r"\b(?:fn|struct|enum|trait|const|static|type|ghost)\s+(\w+)", text))
     names.update(re.findall(r"^    ([A-Z]\w*)\b", bodies(text, "enum"), flags=re.MULTILINE))
     names.update(re.findall(r"^    (?:pub(?:\(crate\))? )?(\w+):", bodies(text, "struct"), flags=re.MULTILINE))
     return names
@@ -203,11 +214,15 @@ def declared_at(file):
 
 @functools.lru_cache(maxsize=None)
 def labels_at(file):
-    """Per function of a file the labels of its clauses; functions of one name together."""
-    labels = {}
-    parts = re.split(r"\bfn (\w+)", file.read_text(encoding="utf-8"))
-    for name, text in zip(parts[1::2], parts[2::2]):
-        labels.setdefault(name, set()).update(re.findall(r"^\s*(?:ensures|requires) (\w+) \{", text, flags=re.MULTILINE))
+    """Per function of a file, and per type of its methods, the labels of their clauses; functions of one name together."""
+    labels, owner = {}, None
+    begins = r"\bfn (\w+)|^(?:impl\b[^{;]*?|pub trait )(\w+)(?:<[^{]*>)? *(?:: \w+ *)?\{|^\}"
+    parts = re.split(begins, file.read_text(encoding="utf-8"), flags=re.MULTILINE)
+    for name, kind, text in zip(parts[1::3], parts[2::3], parts[3::3]):
+        owner = owner if name else kind
+        for each in {name, owner} - {None}:
+            found = re.findall(r"^\s*(?:ensures|requires) (\w+) \{", text, flags=re.MULTILINE)
+            labels.setdefault(each, set()).update(found)
     return labels
 
 
@@ -254,6 +269,18 @@ def place_of(span):
     return tuple(it for crate in BELOW for it in files_of(crate) if str(it).endswith("/" + span)) or None
 
 
+@functools.lru_cache(maxsize=None)
+def declared_anywhere():
+    """What any source declares, labels of clauses and names of files among it, and what is declared outside."""
+    names = FOREIGN | OUTSIDE | set(BELOW)
+    for file in sources():
+        if file.suffix in (".rt", ".antt", ".py", ".sh"):
+            names |= declared_at(file) | {file.stem}
+        if file.suffix == ".rt":
+            names.update(*labels_at(file).values())
+    return names
+
+
 def told_names(span):
     """The names of a span, as `best` and `Tables` of `Tables::best`. A command with its words names nothing."""
     span = re.sub(r"\(.*\)$", "", span)
@@ -261,7 +288,11 @@ def told_names(span):
 
 
 def expect_declared(path, line, span, files, where):
-    """Each name of the span is declared in one of the files; of `Rules.IsLate` in one that is called Rules.antt."""
+    """Each name of the span is declared in one of the files; of `Rules.IsLate` in one that is called Rules.antt; a file is one of them."""
+    if re.fullmatch(FILE_NAME, span):
+        if not any(it.name == span for it in files):
+            complain(path, line, f"{where} has no {span}")
+        return
     dotted = re.fullmatch(r"([A-Z]\w*)\.(\w+)", span)
     names = told_names(span)
     if dotted and dotted[1] in MODULES:
@@ -329,38 +360,45 @@ def check_cell(path, line, cell):
     return files
 
 
-def check_clauses(path, line, crates, functions, cell):
-    """A name that is a clause's label and nothing else is one of a clause of these functions."""
+def labels_of(crates, functions):
+    """The labels of the clauses of the functions and types that a text names."""
     files = [it for each in crates for it in files_of(each) if it.suffix == ".rt"]
-    told = [words_of(it)[-1] for it in spans_of(functions)]
-    labels = [labels_at(it)[name] for it in files for name in told if name in labels_at(it)]
-    others = {name for it in files for name in re.findall(r"\b(?:fn|struct|enum|trait) (\w+)", it.read_text(encoding="utf-8"))}
-    others.update(name for each in crates for it in definitions_below(each) for name in declared_at(it))
-    for span in spans_of(cell):
-        if labels and re.fullmatch("[a-z_]+", span) and span not in others and not any(span in it for it in labels):
-            complain(path, line, f"no clause {span} of {', '.join(told)}")
+    told = {words_of(it)[-1] for it in spans_of(functions) if words_of(it)}
+    return set().union(*(labels_at(it).get(name, set()) for it in files for name in told))
+
+
+def is_code(span):
+    """Whether a span is a name that can be no plain word: it has an underscore, or a capital within."""
+    return bool(re.fullmatch(r"\w+(?:(?:\.|::)\w+)?", span)) and bool(re.search(r"\w_\w|[a-z][A-Z]|::", span)) and span not in BELOW
 
 
 def crates_named(text):
     return [it for it in spans_of(text) if it in BELOW]
 
 
+def sources_of(crates):
+    """Where names of these crates, and of those that they stand on, are declared."""
+    return [it for each in sorted(set().union(*(BELOW[crate] for crate in crates))) for it in files_of(each)]
+
+
 def check_row(path, line, heading, row):
-    files = [it for header, cell in row.items() for it in check_cell(path, line, cell) if header.startswith(("Code", "File"))]
-    crates = crates_named(row.get("Crate", "")) or crates_named(heading)
+    cells = {header: check_cell(path, line, cell) for header, cell in row.items()}
+    files = [it for header, found in cells.items() if header.startswith(("Code", "File")) for it in found]
+    crates = crates_named(row.get("Crate", "") + row.get("Crates", "")) or crates_named(heading)
+    homes = sorted(set(crates or [crate_of(it) for it in files if crate_of(it)]))
+    labels = labels_of(crates, row.get("Function", "") + row.get(CLAUSES, ""))
     for header, cell in row.items():
-        if header == DEFINING[0] and crates:
-            check_clauses(path, line, crates, row.get("Function", ""), cell)
         for span in spans_of(cell):
             if header == "Begin with" and not any(has_file(each, span) for each in crates):
                 complain(path, line, f"{crates[0]} has no {span}")
-            elif header.startswith(PLACED) and (files or crates):
+            elif (header.startswith(PLACED) or header == "Crates" and span not in BELOW) and (files or crates):
                 places = files or [it for each in crates for it in files_of(each)]
                 expect_declared(path, line, span, places, "the row's place")
-            elif header in DEFINING and (files or crates):
-                homes = crates or [crate_of(it) for it in files if crate_of(it)]
+            elif header in DEFINING and homes and not (header == CLAUSES and span in labels):
                 places = [it for each in homes for it in (*files_of(each), *definitions_below(each))]
                 expect_declared(path, line, span, places, f"{homes[0]}, or a crate below,")
+            elif not header.startswith((*OTHERS, *DEFINING)) and homes and is_code(span):
+                expect_declared(path, line, span, sources_of(homes + crates_named(cell)), f"{homes[0]}, or a crate below,")
 
 
 def check_crates():
@@ -370,7 +408,7 @@ def check_crates():
     told = re.findall(r"^\| `(\w+)` \|", section, flags=re.MULTILINE)
     if told != list(BELOW):
         complain(path, 1, f"the crates of the layers are not those of crates.txt: {sorted(set(told) ^ set(BELOW))}")
-    picture = words_of(text.partition("## Picture")[2].partition("\n## ")[0])
+    picture = words_of(text.partition("## Picture")[2].split("```")[1])
     for crate in BELOW:
         if not crate.startswith(("test_", "run_")) and crate not in picture:
             complain(path, 1, f"the picture lacks {crate}")

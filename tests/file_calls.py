@@ -233,6 +233,7 @@ def check_looks(folder):
         ("pair/one.sol", cannot, "ENOTDIR"),
         ("loop/one.sol", cannot, "ELOOP"),
         (long_name, cannot, "ENAMETOOLONG"),
+        ("folder/nowhere/", cannot, "EISDIR"),
         ("pair.sol", there, None),
         ("astray", there, None),
         ("loop", there, None),
@@ -300,7 +301,8 @@ def check_order(folder):
             descriptor = None if name == "close" else descriptor
         elif name == "write" and rest.startswith("1,") and "pass" in rest:
             calls.append("told")
-    expect("the calls of a new file", calls, ["write", "fsync", "folder's fsync", "folder's close", "close", "told"])
+    # The first file is that of the look, which is removed again.
+    expect("the calls of a new file", calls, ["close", "write", "fsync", "folder's fsync", "folder's close", "close", "told"])
     for name in "calls", "new.sol":
         os.remove(folder.at(name))
 

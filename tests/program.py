@@ -60,6 +60,12 @@ APART = "1 20 1\n0 0 0 0 0 100 0 0 0\n1 10 0 5 0 10 0 0 2\n2 10 0 -5 0 50 0 1 0\
 SMALL_VEHICLE = APART.replace("1 20 1", "1 10 1", 1)
 SHORT_DAY = "1 20 1\n0 0 0 0 0 30 0 0 0\n1 10 0 5 0 90 0 0 2\n2 10 0 -5 0 90 0 1 0\n3 0 10 6 0 90 0 0 4\n4 0 10 -6 0 90 0 3 0\n"
 
+# Two pairs on a line through the depot, which fit into one route in one order alone. A third one is late by one at the first pair of places
+# by which the way is 36. Nine behind those are no shorter and late as well; at the tenth the vehicle is back just in time.
+LAST_PLACE = (
+    "1 20 1\n0 20 0 0 0 48 0 0 0\n1 20 0 3 0 3 0 0 2\n2 11 0 -3 7 15 0 1 0\n3 28 0 4 23 28 0 0 4\n4 22 0 -4 30 33 0 3 0\n"
+)
+
 # A pair that no vehicle can serve: too heavy, then too far, then too far from the depot.
 TOO_HEAVY = "1 10 1\n0 0 0 0 0 100 0 0 0\n1 10 0 11 0 50 0 0 2\n2 10 0 -11 0 50 0 1 0\n"
 TOO_FAR = "1 10 1\n0 0 0 0 0 100 0 0 0\n1 10 0 1 0 8 0 0 2\n2 10 0 -1 0 50 0 1 0\n"
@@ -462,6 +468,11 @@ SESSIONS = [
     ("a pair by which the return would be late", "lilim", SHORT_DAY, [
         ("build", ""),
         ("why 3", "alone: a vehicle can serve it\nvehicle 1: would be back 4 late\nfleet: 1 of 1 vehicles are used\n"),
+    ]),
+    ("a pair that fits behind places where it is late", "lilim", LAST_PLACE, [
+        ("build", ""),
+        ("add 2 21 0 0 48 0 13 0 0 48 0", ""),
+        ("why 5", "alone: a vehicle can serve it\nvehicle 1: fits at places 3 and 6\nfleet: 1 of 1 vehicles are used\n"),
     ]),
     ("too heavy alone", "lilim", TOO_HEAVY, [("why 1", "alone: stop 1 needs 11, a vehicle takes 10\n")]),
     ("too far alone", "lilim", TOO_FAR, [("why 1", "alone: stop 1 would start at 10, latest 8\n")]),

@@ -6,7 +6,7 @@
    text that is refused leaves no file. strict: nothing is done behind a refusal, and the status tells it.
 3. kill -9 at random moments of a long search, each fifth time SIGINT or SIGTERM: what was acknowledged is there after the next
    run, the plan that is printed passes the audit, and the search that is continued to n steps has the plan of n steps at once.
-4. With strace: no `ok` or `at` line is written before the sync that it stands on has returned.
+4. With strace: no `ok` or `at` line is written before the sync that it stands on has returned, of `run`, format, load and adopt.
 5. Two programs at once on one store: the second is refused and changes nothing; after kill -9 the store opens again.
 6. A full disk, on a small tmpfs: it is told when the store is made; one that is full later is told behind `fault device`.
 7. With strace: `anneal 0 1000`, of either kind, is killed at each of its syncs in turn. What was told is there, and the same line again
@@ -123,8 +123,8 @@ def check_closed_streams(store, once):
     """The number of a stream that is closed is not the store's: nothing is read of the store or written over it in its place."""
     before = contents(store)
     cases = [
-        ("<&-", (3, b"opened 305\ncannot read input\n", once)),
-        (">&-", (3, b"", once)),
+        ("<&-", (3, b"opened 305\ncannot read input\n", once + b"planner: input: Is a directory (os error 21)\n")),
+        (">&-", (3, b"", once + b"planner: output: Bad file descriptor (os error 9)\n")),
         ("2>&-", (0, b"opened 305\nnext 107\nok\n", b"")),
         ("<&- >&- 2>&-", (3, b"", b"")),
     ]
@@ -328,6 +328,46 @@ def check_stops(folder, stops):
     print(f"store: {made} stops, {begun} searches: nothing acknowledged was lost, and the plan is that of one run")
 
 
+def told_behind_syncs(calls, store):
+    """How many answers were written, none of `ok` and `at` before what was written to the store is synced, and the folder of a file that is made."""
+    names = {f'"{store}"': "file", f'"{os.path.dirname(store)}"': "folder"}
+    kinds, unsynced, told = {}, set(), 0
+    with open(calls) as file:
+        for line in file:
+            call, _, rest = line.partition("(")
+            descriptor = re.match(r"\d*", rest)[0]
+            if call == "openat":
+                kind = next((kind for name, kind in names.items() if name in line), None)
+                kinds[line.rsplit("= ", 1)[1].strip()] = kind
+                if kind == "file" and "O_CREAT" in line:
+                    unsynced |= {"file", "folder"}
+            elif call in ("pwrite64", "ftruncate") and kinds.get(descriptor) == "file":
+                unsynced.add("file")
+            elif call in ("fdatasync", "fsync") and descriptor in kinds:
+                if not line.rstrip().endswith("= 0"):
+                    fail(f"calls: a sync failed: {line.strip()}")
+                unsynced.discard(kinds[descriptor])
+            elif line.startswith("write(1, "):
+                told += 1
+                if unsynced and re.match(r'write\(1, "(ok|at )', line):
+                    fail(f"calls: told where {' and '.join(sorted(unsynced))} are not synced: {line.strip()}")
+    return told
+
+
+def check_told(folder):
+    """`ok` of the words that make a store or change its state."""
+    store, calls, solution = (os.path.join(folder, name) for name in ("told.store", "calls", "told.sol"))
+    with open(solution, "wb") as file:
+        file.write(subprocess.run([PROGRAM, "solve", "lilim", INSTANCE, "100", "7"], capture_output=True, check=True).stdout)
+    for words in (["format", store], ["load", store, "lilim", INSTANCE, "7"], ["adopt", store, solution]):
+        trace = ["strace", "-o", calls, "-e", "trace=openat,ftruncate,pwrite64,fdatasync,fsync,write"]
+        got = subprocess.run([*trace, PROGRAM, *words], capture_output=True)
+        if (got.returncode, got.stdout, told_behind_syncs(calls, store)) != (0, b"ok\n", 1):
+            fail(f"calls: {words[0]}: status {got.returncode}, {got.stdout!r}")
+    os.remove(store)
+    print("store: no `ok` of format, load and adopt is written before its syncs have returned")
+
+
 def check_calls(folder):
     if shutil.which("strace") is None:
         print("skipped: store, the device's calls, since strace is not there")
@@ -343,24 +383,11 @@ def check_calls(folder):
         capture_output=True,
         check=True,
     )
-    descriptor, dirty, told = None, 0, 0
-    with open(calls) as file:
-        for line in file:
-            if f'"{store}"' in line and line.startswith("openat"):
-                descriptor = line.rsplit("= ", 1)[1].strip()
-            elif line.startswith(f"pwrite64({descriptor},"):
-                dirty += 1
-            elif line.startswith((f"fdatasync({descriptor})", f"fsync({descriptor})")):
-                if not line.rstrip().endswith("= 0"):
-                    fail(f"calls: a sync failed: {line.strip()}")
-                dirty = 0
-            elif line.startswith("write(1, "):
-                told += 1
-                if dirty and re.match(r'write\(1, "(ok|at )', line):
-                    fail(f"calls: told with {dirty} writes that are not synced: {line.strip()}")
+    told = told_behind_syncs(calls, store)
     if told < 9:
         fail(f"calls: only {told} answers were seen")
     print("store: no answer is written before its sync has returned")
+    check_told(folder)
 
 
 def traced_stages(folder, begun, kill=None):
@@ -427,7 +454,8 @@ def check_copies(folder):
     os.truncate(copy, STORE_BYTES - 512)
     for words in [["run", copy], ["load", copy, "lilim", INSTANCE]]:
         got = subprocess.run([PROGRAM, *words], input=b"build\n", capture_output=True)
-        if (got.returncode, got.stdout, got.stderr) != (2, b"store NotFormatted\n", b"") or contents(copy) != whole[:-512]:
+        cure = f"planner: {copy}: it begins as a store, and its end is gone: take a whole copy\n".encode()
+        if (got.returncode, got.stdout, got.stderr) != (2, b"store NotFormatted\n", cure) or contents(copy) != whole[:-512]:
             fail(f"copies: {words} without the end: status {got.returncode}, {got.stdout!r}, {got.stderr!r}")
     os.truncate(copy, STORE_BYTES)
     if run(copy, b"show\n") != shown:
@@ -468,6 +496,21 @@ def checked(store, status, text):
         fail(f"check: status {got.returncode}, {got.stdout!r} instead of {text!r}")
 
 
+def warned(store, text):
+    """Before `run` opens a store, it tells the first reason that `check` tells, and what it prints stays as it is. So it does of one that is
+    refused for a record that is none. Of a store without a header it tells that."""
+    got = subprocess.run([PROGRAM, "run", store], input=b"", capture_output=True)
+    line = text.partition(b"\n")[0]
+    wanted = [b"planner: %s: %s" % (store.encode(), line)] if line.startswith(b"suspect ") else []
+    if line == b"store Codec":
+        wanted = [b"planner: %s: suspect RecordDamaged" % store.encode()]
+    if line == b"store NotFormatted":
+        wanted = [b"planner: %s: nothing in it begins as a store: it is another file, was cut off as it was made, or its headers are damaged" % store.encode()]
+    told = [it for it in got.stderr.splitlines() if not it.startswith(b"planner: repeating ")]
+    if told != wanted or got.stdout.startswith(b"opened ") == text.startswith(b"store "):
+        fail(f"run of a store that is {line!r}: {got.stdout!r}, on standard error {got.stderr!r}")
+
+
 def sequence(number):
     return number.to_bytes(8, "big")
 
@@ -504,6 +547,7 @@ def check_doubts(folder):
         for offset, new in damages:
             put(other, offset, new)
         checked(other, 2 if text != b"ok\n" else 0, text)
+        warned(other, text)
     got = subprocess.run([PROGRAM, "check", os.path.join(folder, "no.store")], capture_output=True)
     if got.returncode != 3 or not got.stdout.startswith(b"cannot read "):
         fail(f"check of no file: status {got.returncode}, {got.stdout!r}")

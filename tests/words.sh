@@ -13,6 +13,7 @@ fi
 folder=$(mktemp -d) || exit 1
 trap 'rm -rf -- "$folder"' EXIT
 failures=0
+full='planner: output: No space left on device (os error 28)'
 
 fail() {
     echo "words: $*"
@@ -155,9 +156,9 @@ expect 2 '' 'no NoSuchRoute' draw lilim lc101.txt lc101.sol 0
 expect 3 '' 'planner: nowhere: No such file or directory (os error 2)' draw lilim one-pair.txt nowhere
 [ "$("$program" draw lilim one-pair.sol nowhere 2>&1 >/dev/null | tail -n 1)" = 'cannot read nowhere' ] || fail "draw: not the file that can't be read"
 if [ -c /dev/full ]; then
-    "$program" draw lilim one-pair.txt one-pair.sol >/dev/full 2>/dev/null
+    got=$("$program" draw lilim one-pair.txt one-pair.sol 2>&1 >/dev/full)
     status=$?
-    [ "$status" = 3 ] || fail "draw to a full output: status $status, wanted 3"
+    [ "$status, $got" = "3, $full" ] || fail "draw to a full output: status $status, '$got'"
 fi
 
 # A solution goes to standard output, what is told of the search to standard error.
@@ -332,9 +333,15 @@ cp one-pair.sol "$folder/$latin"
 expect 64 '' 'error: a word is not UTF-8 text' audit lilim one-pair.txt "$folder/$latin"
 
 if [ -c /dev/full ]; then
-    "$program" >/dev/full 2>/dev/null
+    got=$("$program" 2>&1 >/dev/full)
     status=$?
-    [ "$status" = 3 ] || fail "a full output: status $status, wanted 3"
+    [ "$status, $got" = "3, $full" ] || fail "a full output: status $status, '$got'"
+    "$program" format "$folder/full.store" >/dev/null || fail 'format for a full output'
+    got=$("$program" check "$folder/full.store" 2>&1 >/dev/full)
+    [ "$got" = "$full" ] || fail "check to a full output: '$got'"
+    # What tells that a store can't be opened goes by bytes that were counted, and keeps the reason all the same.
+    got=$("$program" check nowhere 2>&1 >/dev/full | tail -n 1)
+    [ "$got" = "$full" ] || fail "check of no store to a full output: '$got'"
 else
     echo "skipped: words, a full output, since /dev/full is not there"
 fi
