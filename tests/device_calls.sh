@@ -64,7 +64,8 @@ calls_of() {
 }
 
 # What the table of the store in docs/FORMATS.md makes of `format`, and of a load and a build over the store that it leaves. Before that
-# store is opened it is read once more: the steps that are to be repeated are told first.
+# store is opened its headers and records are read for reasons to doubt it, and all once more for the steps that are to be repeated: both
+# are told first.
 cat >"$folder/wanted" <<'END'
 open file
 flock LOCK_EX|LOCK_NB file
@@ -80,6 +81,7 @@ pwrite64 512 at 512 file
 fdatasync file
 open file
 flock LOCK_EX|LOCK_NB file
+pread64 132096 at 0 file
 pread64 132096 at 0 file
 pread64 512 at 2229248 file
 fdatasync file
@@ -106,7 +108,7 @@ if ! diff "$folder/wanted" "$folder/got"; then
     exit 1
 fi
 
-# Words that read a store alone: they share its lock, and write and sync nothing. It is read twice, as above.
+# Words that read a store alone: they share its lock, and write and sync nothing. It is read once more for the steps, as above.
 cat >"$folder/wanted" <<'END'
 open file
 flock LOCK_SH|LOCK_NB file

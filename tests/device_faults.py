@@ -311,6 +311,17 @@ def check_formats(store):
     print("device_faults: each call of a format is told, and leaves what it may")
 
 
+def check_reading(store, word):
+    """4. of a store that a word reads alone: each of its reads."""
+    store.renew()
+    reads = count_of(traced(store.folder, [word, store.path], b"")[3], "pread64")
+    lines = "store DeviceFault\n", told_of(store.path, "EIO")
+    for number in range(1, reads + 1):
+        status, output, errors, _ = traced(store.folder, [word, store.path], b"", f"pread64:error=EIO:when={number}")
+        if (status, output, errors) != (3, *(("", "".join(lines)) if word == "draw" else lines)):
+            fail(f"{word} whose read {number} of {reads} fails: status {status}, {output!r}, {errors!r}")
+
+
 def check_opening(store):
     """4. of a store that is opened."""
     cases = [(name, number, error) for name, number in numbered(store.calls) if name not in ("pread64", "pwrite64", "fdatasync")
@@ -320,12 +331,8 @@ def check_opening(store):
         wanted = (4, "store OutOfMemory\n") if error == "ENOMEM" else (3, f"cannot read {store.path}\n")
         if (status, output, errors) != (*wanted, told_of(store.path, error)):
             fail(f"run, {name} {number} with {error}: status {status}, {output!r}, {errors!r}")
-    for word in ("timetable", "draw"):
-        store.renew()
-        status, output, errors, _ = traced(store.folder, [word, store.path], b"", "pread64:error=EIO:when=1")
-        told = "store DeviceFault\n", told_of(store.path, "EIO")
-        if (status, output, errors) != (3, *(told if word == "timetable" else ("", "".join(told)))):
-            fail(f"{word} of a store that can't be read: status {status}, {output!r}, {errors!r}")
+    for word in ("timetable", "draw", "instance", "check"):
+        check_reading(store, word)
     status, output, _, _ = store.run("flock:error=EAGAIN:when=1")
     if (status, output) != (3, "store InUse\n"):
         fail(f"a lock that another has: status {status}, {output!r}")

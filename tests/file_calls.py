@@ -5,7 +5,8 @@
    interrupted is made again, and one that fails is told.
 2. A folder, a socket, a FIFO, a device, and links that lead nowhere, as a text, a list and a store: told, and nothing is made or changed.
 3. `solves`: where no solution can be written is told before its instance is read; what comes to stand there meanwhile stays.
-   A solution is written, then it and its folder are synced, then it is told; where a call of its file fails that is told, and nothing stands there.
+   A solution is written, then it and its folder are synced, then it is told; where a call of its file or folder fails that is told, and
+   nothing stands there.
 4. `upgrade`: files of one number in two file systems are two. OLD is locked until NEW is made.
 5. The folder that stands in for closed streams can't be opened: nothing is done.
 6. A file-size limit and a full disk: told as stores are made, loaded, upgraded and run, and as solutions are written; what was
@@ -279,20 +280,16 @@ def check_meanwhile(folder):
         os.remove(folder.at(name))
 
 
-def check_order(folder):
-    """3. of the calls by which a solution is written, before its line is."""
-    trace = folder.at("calls")
-    before = ["strace", "-o", trace, "-e", "trace=openat,write,pwrite64,ftruncate,fsync,fdatasync,close"]
-    expect("a solution", folder.planner("solves", "lilim", "-", "0", lines=b"pair\tnew.sol\n", before=before)[:2], (0, "pair\tnew.sol\t" + PASS))
-    expect("its text", contents(folder.at("new.sol")), BOTH)
+def calls_of_solution(trace, path, there):
+    """The calls on the solution under the path and on this folder, of which it is in, and when it is told."""
     calls, descriptor, folder_descriptor = [], None, None
     for line in contents(trace).decode().splitlines():
         name, _, rest = line.partition("(")
-        if name == "openat" and '"new.sol"' in rest:
+        if name == "openat" and f'"{path}"' in rest:
             if not {"O_WRONLY", "O_CREAT", "O_EXCL"} <= set(re.search(r"O_[A-Z_|]+", rest)[0].split("|")):
                 fail(f"a solution is opened by {line}")
             descriptor = rest.rpartition("= ")[2]
-        elif descriptor and name == "openat" and '"."' in rest:
+        elif descriptor and name == "openat" and f'"{there}"' in rest:
             folder_descriptor = rest.rpartition("= ")[2]
         elif folder_descriptor and re.match(rf"{folder_descriptor}[,)]", rest):
             calls.append("folder's " + name)
@@ -301,28 +298,56 @@ def check_order(folder):
             descriptor = None if name == "close" else descriptor
         elif name == "write" and rest.startswith("1,") and "pass" in rest:
             calls.append("told")
+    return calls
+
+
+def check_order(folder):
+    """3. of the calls by which a solution is written, before its line is: here, in a folder, and by a path from the root."""
+    trace = folder.at("calls")
+    before = ["strace", "-o", trace, "-e", "trace=openat,write,pwrite64,ftruncate,fsync,fdatasync,close"]
     # The first file is that of the look, which is removed again.
-    expect("the calls of a new file", calls, ["close", "write", "fsync", "folder's fsync", "folder's close", "close", "told"])
-    for name in "calls", "new.sol":
-        os.remove(folder.at(name))
+    wanted = ["close", "write", "fsync", "folder's fsync", "folder's close", "close", "told"]
+    for path, there in ("new.sol", "."), ("folder/new.sol", "folder"), (folder.at("new.sol"), folder.path):
+        got = folder.planner("solves", "lilim", "-", "0", lines=f"pair\t{path}\n".encode(), before=before)
+        expect(f"a solution under {path}", got[:2], (0, f"pair\t{path}\t" + PASS))
+        expect(f"the text under {path}", contents(folder.at(path)), BOTH)
+        expect(f"the calls of a new file {path}", calls_of_solution(trace, path, there), wanted)
+        os.remove(folder.at(path))
+    os.remove(trace)
+
+
+def solved_with(folder, path, fault):
+    """What comes of a solution `new.sol` where a call on this path fails so, and whether it is there then."""
+    got = folder.planner("solves", "lilim", "-", "0", lines=b"pair\tnew.sol\n", before=folder.faulty([path], fault))
+    return got, os.path.lexists(folder.at("new.sol"))
 
 
 def check_unwritten(folder):
-    """3. of a call of a solution's file that fails."""
-    for call in "openat", "write", "fsync":
-        def solved(error):
-            before = folder.faulty(["new.sol"], f"{call}:error={error}:when=1")
-            return folder.planner("solves", "lilim", "-", "0", lines=b"pair\tnew.sol\n", before=before)
-
+    """3. of a call of a solution's file, or of its folder, that fails. The first file is that of the look."""
+    cannot, passed = "pair\tnew.sol\tcannot write new.sol\n", "pair\tnew.sol\t" + PASS
+    for call, path, when in [
+        ("openat", "new.sol", 1),
+        ("openat", "new.sol", 2),
+        ("write", "new.sol", 1),
+        ("fsync", "new.sol", 1),
+        ("openat", ".", 1),
+        ("fsync", ".", 1),
+    ]:
         for error in "EIO", "EACCES", "EINVAL", "ENOSPC", "EROFS":
-            got = solved(error)
-            wanted = 3, "pair\tnew.sol\tcannot write new.sol\n", told("new.sol", error)
-            expect(f"{call} of a solution with {error}", got, wanted)
-            expect(f"{call} of a solution with {error}: whether it is there", os.path.lexists(folder.at("new.sol")), False)
-        got = solved("EINTR")
-        expect(f"{call} of a solution, interrupted", got[:2], (0, "pair\tnew.sol\t" + PASS))
-        expect(f"{call} of a solution, interrupted: its text", contents(folder.at("new.sol")), BOTH)
+            if (call, path, error) == ("fsync", ".", "EINVAL"):
+                continue
+            what = f"{call} {when} of {path} for a solution with {error}"
+            expect(what, solved_with(folder, path, f"{call}:error={error}:when={when}"), ((3, cannot, told("new.sol", error)), False))
+        what = f"{call} {when} of {path} for a solution, interrupted"
+        expect(what, solved_with(folder, path, f"{call}:error=EINTR:when={when}"), ((0, passed, ""), True))
+        expect(f"{what}: its text", contents(folder.at("new.sol")), BOTH)
         os.remove(folder.at("new.sol"))
+    # So says a file system that has no sync of a folder.
+    expect("a folder that can't be synced", solved_with(folder, ".", "fsync:error=EINVAL:when=1"), ((0, passed, ""), True))
+    os.remove(folder.at("new.sol"))
+    # Whose file can't be removed again isn't told that it may be written.
+    expect("a look that stays", solved_with(folder, "new.sol", "unlink,unlinkat:error=EIO:when=1"), ((3, cannot, told("new.sol", "EIO")), True))
+    os.remove(folder.at("new.sol"))
 
 
 def check_old_is_locked(folder):

@@ -15,6 +15,7 @@
    Standard streams that are closed: the store is not taken for one of them.
 9. Tries with fewer vehicles are told on standard error. README's commands for what has begun, as they stand there.
 10. A copy of a store that is open behind a `checkpoint` is whole. One whose end is gone is refused, left alone, and opens where that is made up by zeros.
+    What a file that holds no store may be stands on standard error.
 11. check: a store that was stopped is `ok`, also as a new one; one whose headers or records are damaged is `suspect`, by the reason.
 
 Words: how often the program is stopped (200 where there are none). Wants the program that rt ci leaves.
@@ -554,6 +555,39 @@ def check_doubts(folder):
     print("store: check tells damaged headers and records, and calls no whole store suspect")
 
 
+def check_remains(folder):
+    """A store that was made has its header in the second sector, and zeros in the first."""
+    store, other = os.path.join(folder, "made.store"), os.path.join(folder, "remains.store")
+    format_store(store)
+    gone = "it begins as a store, and its end is gone: take a whole copy"
+    damaged = "it begins as a store, and its headers are damaged: take a whole copy"
+    nothing = "nothing in it begins as a store: it is another file, was cut off as it was made, or its headers are damaged"
+    within = "it ends within a sector of 512 bytes, so it is no whole store: take a whole copy"
+    # A header but for its length, which is above that of the largest state.
+    too_long = b"PDRSTORE" + (2).to_bytes(4, "big") + sequence(1) + (2_097_153).to_bytes(8, "big")
+    for length, damages, line, hint in [
+        (STORE_BYTES, [(512, too_long)], "NotFormatted", damaged),
+        (STORE_BYTES, [(0, too_long), (512, b"X")], "NotFormatted", damaged),
+        (STORE_BYTES, [(512, b"X")], "NotFormatted", nothing),
+        (STORE_BYTES - 512, [], "NotFormatted", gone),
+        (STORE_BYTES - 512, [(512, b"X")], "NotFormatted", nothing),
+        (1_024, [], "NotFormatted", gone),
+        (512, [], "NotFormatted", nothing),
+        (0, [], "NotFormatted", nothing),
+        (STORE_BYTES - 1, [], "BadLength", within),
+        (511, [], "BadLength", within),
+    ]:
+        shutil.copyfile(store, other)
+        for offset, new in damages:
+            put(other, offset, new)
+        os.truncate(other, length)
+        for word in "run", "timetable", "check":
+            got = subprocess.run([PROGRAM, word, other], input=b"", capture_output=True)
+            if (got.returncode, got.stdout, got.stderr) != (2, f"store {line}\n".encode(), f"planner: {other}: {hint}\n".encode()):
+                fail(f"{word} of {length} bytes, {damages}: status {got.returncode}, {got.stdout!r}, on standard error {got.stderr!r}")
+    print("store: what a file that holds no store may be is told")
+
+
 def refused(*words):
     """These words answer that the store is in use."""
     got = subprocess.run([PROGRAM, *words], input=b"build\n", capture_output=True, timeout=60)
@@ -660,6 +694,7 @@ def main():
         check_copies(folder)
         check_readme_copies(folder)
         check_doubts(folder)
+        check_remains(folder)
         check_two_at_once(folder)
         check_full(folder)
         check_stops(folder, stops)
