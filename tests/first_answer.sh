@@ -203,7 +203,7 @@ for words in --help -h help 'help help'; do
     # shellcheck disable=SC2086 # several words
     text_of help | plain 0 $words
 done
-for word in audit audits explain timetable draw solve solves format load run adopt instance upgrade; do
+for word in $(text_of help | sed -n '/^Commands:/,/^$/s/^  \([a-z]*\) .*/\1/p' | grep -vx help); do
     [ -n "$(text_of "help|$word")" ] || fail "no help of $word"
     text_of "help|$word" | plain 0 help "$word"
     text_of "help|$word" | plain 0 "$word" --help
