@@ -51,7 +51,7 @@ use Rattle.recover.specs.declared.replies.Reply.{Reply as SessionReply}
 use Rattle.sector_disk.specs.declared.sectors.Sectors as sectors
 use Rattle.command_serving.specs.Acts.{Act, Applied, Text, BeginsWith, IsTurn, Turn, acts_by, carried_if, carried_of, commands_of, events_by, events_in, kept_of, replies_of, text_by}
 use Rattle.command_serving.specs.Served.{AreTold, IsCutShort, as_serving, still}
-use Rattle.command_serving.specs.Streams.{Event, Flushed, IsAtMostFlushed, Put, Stream}
+use Rattle.command_serving.specs.Streams.{Event, Flushed, Put, Stream}
 use Rattle.command_serving.specs.Serving.{IsAppliedOn}
 use Rattle.command_serving.specs.Stopped.{IsRunOfInput}
 use Rattle.command_serving.specs.declared.answering.ServeFault.{ServeFault}
@@ -248,18 +248,14 @@ module _ {D : Type 0} (on : sectors.Ghosts D) where
       turns = cut.answered.turns ++ turn ∷ []
 
       part : List Event
-      part = map (Put (on.calls new.device)) cut.part.texts ++ cut.part.last
+      part = map (Put (on.calls new.device)) cut.part.texts
 
       -- what would have followed
-      more_of : (last : List Event) → IsAtMostFlushed (on.calls new.device) last → (more : List Event) × (last ++ more ≡ Flushed (on.calls new.device) ∷ [])
-      more_of last (inl none) = (Flushed (on.calls new.device) ∷ [], ap (λ l. l ++ Flushed (on.calls new.device) ∷ []) none)
-      more_of last (inr one) = ([], append-nil last ∙ one)
-
       more : List Event
-      more = (more_of cut.part.last cut.part.few).0
+      more = Flushed (on.calls new.device) ∷ []
 
       ended : part ++ more ≡ events_in turn
-      ended = append_assoc (map (Put (on.calls new.device)) cut.part.texts) cut.part.last more ∙ ap (λ l. map (Put (on.calls new.device)) cut.part.texts ++ l) (more_of cut.part.last cut.part.few).1
+      ended = refl
 
       noted : events ++ others ≡ events_by cut.answered.turns ++ part
       noted = append_cancel_left before.events (events ++ others) (events_by cut.answered.turns ++ part)

@@ -101,7 +101,8 @@ module _ {D : Type 0} (on : sectors.Ghosts D) where
     pub asks : BeginsWith (kept_of acts) (served reading (as_serving old (unfailed (fates_of acts))) (pieces_of input)).commands
     pub state : new.state ≡ after old.state (served reading (as_serving old (fates_of acts)) (pieces_of input)).commands
 
-  -- The serving ended within the pieces, with one answer written in part or not at all. Those before it were written, and the session was then at
+  -- The serving ended within the pieces, with one answer written in part, not at all, or whole where it lets none follow. Those before it were
+  -- handed on, each told as such, and the session was then at
   -- `told`, with steps and the last pieces still to be answered. It may have carried out the command that the last answer tells: what would be
   -- answered behind that one is what the session says now to the rest of the steps and the pieces. What was put of it was put when the calls of
   -- that command had finished.

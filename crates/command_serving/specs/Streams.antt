@@ -80,14 +80,10 @@ pub record Stays (old new : Stream) (events : List Event) : Type 0 where
   pub kept : Keeps old.contents new.contents
   pub noted : new.events ≡ old.events ++ events
 
--- it was handed on or not
-abbrev pub IsAtMostFlushed : ℕ → List Event → Type 0
-IsAtMostFlushed calls events = (events ≡ []) ⊎ (events ≡ Flushed calls ∷ [])
-
--- what was put was handed on, and perhaps where that is told as failed
+-- What was put was handed on. Where that is told as failed nothing is noted, whether it was handed on or not: so nothing can follow as if it had not failed.
 abbrev pub Flushes : {T E : Type 0} → Stream → Stream → Result T E → ℕ → Type 0
 Flushes old new (Ok done) calls = Stays old new (Flushed calls ∷ [])
-Flushes old new (Err fault) calls = (events : List Event) × IsAtMostFlushed calls events × Stays old new events
+Flushes old new (Err fault) calls = Stays old new []
 
 -- the text was put in parts, and then all was handed on
 pub record IsHandedOn (old new : Stream) (calls : ℕ) (text : List ℕ) : Type 0 where
@@ -95,14 +91,12 @@ pub record IsHandedOn (old new : Stream) (calls : ℕ) (text : List ℕ) : Type 
   pub whole : concat texts ≡ text
   pub extends : Extends old new (map (Put calls) texts ++ Flushed calls ∷ []) text
 
--- a first part of it was put, and perhaps handed on
+-- a first part of it was put, and not told as handed on
 pub record IsPutInPart (old new : Stream) (calls : ℕ) (text : List ℕ) : Type 0 where
   pub len : ℕ
   pub texts : List (List ℕ)
   pub part : concat texts ≡ take len text
-  pub last : List Event
-  pub few : IsAtMostFlushed calls last
-  pub extends : Extends old new (map (Put calls) texts ++ last) (take len text)
+  pub extends : Extends old new (map (Put calls) texts) (take len text)
 
 abbrev pub HandsOn : {T E : Type 0} → Stream → Stream → Result T E → ℕ → List ℕ → Type 0
 HandsOn old new (Ok done) calls text = IsHandedOn old new calls text

@@ -220,6 +220,22 @@ impl<R: Read> Source for Watched<R> {
     }
 }
 
+impl<W: Write> Watched<W> {
+    /// Hands on what was written, and notes it only where that fails.
+    pub(crate) fn hand_on(&mut self) -> Result<(), Failed>
+        ensures kept { Keeps (W.contents self.old.inner) (W.contents self.new.inner) }
+        ensures log { self.new.log ≡ self.old.log }
+        ensures failed { OnErr result (self.new.has_failed ≡ true) }
+        ensures noted { self.new.has_failed ≡ false → self.old.has_failed ≡ false }
+    {
+        if self.inner.flush().is_err() {
+            self.has_failed = true;
+            return Err(Failed);
+        }
+        Ok(())
+    }
+}
+
 /// A call that a signal came between is made again. One that takes no byte of some has failed.
 impl<W: Write> Sink for Watched<W> {
     ghost use Rattle.command_serving.specs.Held.{held};
@@ -255,10 +271,7 @@ impl<W: Write> Sink for Watched<W> {
         ensures failed { OnErr result (self.new.has_failed ≡ true) }
         ensures noted { self.new.has_failed ≡ false → self.old.has_failed ≡ false }
     {
-        if self.inner.flush().is_err() {
-            self.has_failed = true;
-            return Err(Failed);
-        }
+        self.hand_on()?;
         self.log = self.log.with_flush(session);
         Ok(())
     }

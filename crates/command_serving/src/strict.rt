@@ -198,10 +198,13 @@ impl<W: Write> Sink for Strict<W> {
         ensures told { self.new.told ≡ self.old.told }
         ensures lets { OnOk result (self.new.told ≡ None) }
     {
-        Sink::flush(&mut self.writer, session)?;
         match self.last_lines.told {
-            Some(_) => Err(Failed),
-            None => Ok(()),
+            None => Sink::flush(&mut self.writer, session),
+            // Handed on all the same; noted as done it would let another line follow.
+            Some(_) => {
+                self.writer.hand_on()?;
+                Err(Failed)
+            }
         }
     }
 }
