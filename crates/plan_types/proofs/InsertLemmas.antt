@@ -1,5 +1,49 @@
 -- One more request among those that stand by name.
-use Rattle.std.proofs.Common.{◌≡◌, ◌≢◌, ◌⊎◌, ℕ, Bool, true, false, filter, subst, eqb, suc, zero, ◌<◌, ◌≤◌, cond, List, [], ◌∷◌, ◌++◌, length, get_or, take, drop, Option, Some, None, Result, Ok, Err, refl, sym, ap, ◌∙◌, nat_eq, inl, inr, arith, slice_get, ◌-◌, ◌↔◌, All, IsTrue, nat_lt}
+use Rattle.std.proofs.Common.{
+  ◌≡◌,
+  ◌≢◌,
+  ◌⊎◌,
+  ℕ,
+  Bool,
+  true,
+  false,
+  filter,
+  subst,
+  eqb,
+  suc,
+  zero,
+  ◌<◌,
+  ◌≤◌,
+  cond,
+  List,
+  [],
+  ◌∷◌,
+  ◌++◌,
+  length,
+  get_or,
+  take,
+  drop,
+  Option,
+  Some,
+  None,
+  Result,
+  Ok,
+  Err,
+  refl,
+  sym,
+  ap,
+  ◌∙◌,
+  nat_eq,
+  inl,
+  inr,
+  arith,
+  slice_get,
+  ◌-◌,
+  ◌↔◌,
+  All,
+  IsTrue,
+  nat_lt,
+}
 use Rattle.std.proofs.lemmas.Bool.{lt-ltb, le-ltb, ltb-true, eq-eqb, ne_eqb, cases_lt, cases_order}
 use Rattle.std.specs.List.{AllByRecursion}
 use Rattle.std.specs.declared.cmp.Ordering.TheVariants.{Less, Equal, Greater}
@@ -49,13 +93,15 @@ lookup-none_at name (e ∷ es) i none within at = elim (eqb_tells name e.0) [
   | inr t ↦ further i within at t.1 (λ j b h. lookup-none_at name es j (let n : lookup (nat_eq name) (e ∷ es) ≡ None = none in rw t.0 at n) b h)
 ]
   where
-    further : (i : ℕ) → i < length (e ∷ es) → get_or (keys_of (e ∷ es)) i 0 ≡ name → (name ≡ e.0 → ⊥) → ((j : ℕ) → j < length es → get_or (keys_of es) j 0 ≡ name → ⊥) → ⊥
+    further : (i : ℕ) → i < length (e ∷ es) → get_or (keys_of (e ∷ es)) i 0 ≡ name → (name ≡ e.0 → ⊥)
+        → ((j : ℕ) → j < length es → get_or (keys_of es) j 0 ≡ name → ⊥) → ⊥
     further zero b at apart rest = apart (sym at)
     further (suc j) b at apart rest = rest j (omega arith) at
 
 -- what a binary search of the names says of a name that is not there
 module _ (name : ℕ) (es : List (ℕ × Request)) (rising : IsStrictlySortedBy nat_cmp (keys_of es)) (none : lookup (nat_eq name) es ≡ None) where
-  pub search_split : (r : Result ℕ ℕ) → IsBinarySearchResult (λ y. nat_cmp y name) (keys_of es) r → MatchResult r (λ i. ⊥) (λ i. (lesser_names es name ≡ take i es) × (greater_names es name ≡ drop i es))
+  pub search_split : (r : Result ℕ ℕ) → IsBinarySearchResult (λ y. nat_cmp y name) (keys_of es) r
+      → MatchResult r (λ i. ⊥) (λ i. (lesser_names es name ≡ take i es) × (greater_names es name ≡ drop i es))
   search_split (Ok i) h =
       let s = searched (keys_of es) name (Ok i) h (λ i j a b. non_decreasing_from_sorted _ rising i j 0 a b) in
       lookup-none_at name es i none (let b : i < length (keys_of es) = s.0 in rw length-map at b) s.1
@@ -66,7 +112,8 @@ module _ (name : ℕ) (es : List (ℕ × Request)) (rising : IsStrictlySortedBy 
 -- moving the last element to place i
 pub move_index-last : (es : List (ℕ × Request)) (e : ℕ × Request) (i : ℕ) → move_index (es ++ e ∷ []) (length es) i ≡ take i es ++ e ∷ drop i es
 move_index-last es e i =
-    let there : slice_get (es ++ e ∷ []) (length es) ≡ Some e = slice_get-get_or (es ++ e ∷ []) (length es) e (simp length-append (omega arith)) ∙ ap Some (get_or-append_seam es e [] e) in
+    let there : slice_get (es ++ e ∷ []) (length es) ≡ Some e =
+    slice_get-get_or (es ++ e ∷ []) (length es) e (simp length-append (omega arith)) ∙ ap Some (get_or-append_seam es e [] e) in
     let one : length es - length es ≡ 0 = omega arith in
     let front : remove (es ++ e ∷ []) (length es) ≡ es = remove-append_right es (e ∷ []) (length es) (length es) refl (omega arith) ∙ rw one (append-nil es) in
     ap (λ (o : Option (ℕ × Request)). option_map_or (λ x. insert (remove (es ++ e ∷ []) (length es)) i x) o (es ++ e ∷ [])) there ∙ ap (λ l. insert l i e) front
@@ -84,17 +131,21 @@ inserted_before name r es i j le none is =
     ∙ move_index-last es (name, r) i
 
 -- where the names split at place i, that is the list with the request among them
-pub with_entry-at : (es : List (ℕ × Request)) (name : ℕ) (r : Request) (i : ℕ) → name ≡ request_name r → lesser_names es name ≡ take i es → greater_names es name ≡ drop i es → take i es ++ (name, r) ∷ drop i es ≡ with_entry es r
+pub with_entry-at : (es : List (ℕ × Request)) (name : ℕ) (r : Request) (i : ℕ) → name ≡ request_name r → lesser_names es name ≡ take i es
+    → greater_names es name ≡ drop i es → take i es ++ (name, r) ∷ drop i es ≡ with_entry es r
 with_entry-at es name r i is lesser greater = rw (← lesser, ← greater) (ap (λ n. lesser_names es n ++ (n, r) ∷ greater_names es n) is)
 
 -- the last of rising names is the greatest
-pub last_is_greatest : (name : ℕ) (es : List (ℕ × Request)) (e : ℕ × Request) → IsStrictlySortedBy nat_cmp (keys_of es) → slice_get es (length es - 1) ≡ Some e → IsTrue (nat_lt e.0 name) ↔ All (λ n. n < name) (keys_of es)
+pub last_is_greatest : (name : ℕ) (es : List (ℕ × Request)) (e : ℕ × Request) → IsStrictlySortedBy nat_cmp (keys_of es) → slice_get es (length es - 1) ≡ Some e
+    → IsTrue (nat_lt e.0 name) ↔ All (λ n. n < name) (keys_of es)
 last_is_greatest name es e rising at =
     let last = length es - 1 in
     let within = slice_get_within es last e at in
-    let key : (d : ℕ) → get_or (keys_of es) last d ≡ e.0 = λ d. get_or_from_slice_get (keys_of es) last e.0 d (slice_get-map (λ e. e.0) es last ∙ ap (option_map (λ e. e.0)) at) in (
+    let key : (d : ℕ) → get_or (keys_of es) last d ≡ e.0 =
+    λ d. get_or_from_slice_get (keys_of es) last e.0 d (slice_get-map (λ e. e.0) es last ∙ ap (option_map (λ e. e.0)) at) in (
       λ less k d b.
-          let greatest = non_decreasing_from_sorted _ rising k last d (let short : k < length es = rw length-map at b in omega arith) (rw length-map (omega arith)) in
+          let greatest =
+          non_decreasing_from_sorted _ rising k last d (let short : k < length es = rw length-map at b in omega arith) (rw length-map (omega arith)) in
           omega (arith, key d, ltb-true e.0 name less),
       λ below. lt-ltb e.0 name (let least : get_or (keys_of es) last 0 < name = below last 0 (rw length-map (omega arith)) in rw (key 0) at least),
     )
@@ -129,15 +180,18 @@ splits_absent (e ∷ es) name rising none = by (cases_order e.0 name) (λ h. spl
     others : (name ≡ e.0 → ⊥) → lookup (nat_eq name) es ≡ None
     others differ = let g : cond (eqb name e.0) (Some e.1) (lookup (nat_eq name) es) ≡ None = none in rw (ne_eqb name e.0 differ) at g
 
-    all_greater : (n : ℕ) → name < n → (fs : List (ℕ × Request)) → AllByRecursion (λ y. nat_cmp n y ≡ Less) (keys_of fs) → (lesser_names fs name ≡ []) × (greater_names fs name ≡ fs)
+    all_greater : (n : ℕ) → name < n → (fs : List (ℕ × Request)) → AllByRecursion (λ y. nat_cmp n y ≡ Less) (keys_of fs)
+        → (lesser_names fs name ≡ []) × (greater_names fs name ≡ fs)
     all_greater n below [] all = (refl, refl)
     all_greater n below (f ∷ fs) all =
         let next : n < f.0 = less_is n f.0 all.0 in
         let rest = all_greater n below fs all.1 in
         (rw (le-ltb f.0 name (omega arith)) (rest.0), rw (lt-ltb name f.0 (omega arith)) (ap (λ l. f ∷ l) rest.1))
 
-    by : (e.0 ≡ name) ⊎ ((e.0 < name) ⊎ (name < e.0)) → (lookup (nat_eq name) es ≡ None → Splits es name) → lesser_names (e ∷ es) name ++ greater_names (e ∷ es) name ≡ e ∷ es
-    by (inl same) rest = absurd (none_some e.1 (sym (let g : cond (eqb name e.0) (Some e.1) (lookup (nat_eq name) es) ≡ None = none in rw (eq-eqb name e.0 (sym same)) at g)))
+    by : (e.0 ≡ name) ⊎ ((e.0 < name) ⊎ (name < e.0)) → (lookup (nat_eq name) es ≡ None → Splits es name)
+        → lesser_names (e ∷ es) name ++ greater_names (e ∷ es) name ≡ e ∷ es
+    by (inl same) rest =
+        absurd (none_some e.1 (sym (let g : cond (eqb name e.0) (Some e.1) (lookup (nat_eq name) es) ≡ None = none in rw (eq-eqb name e.0 (sym same)) at g)))
     by (inr (inl below)) rest = rw (lt-ltb e.0 name below, le-ltb name e.0 (omega arith)) (ap (λ l. e ∷ l) (rest (others (λ h. omega arith))))
     by (inr (inr above)) rest =
         let more = all_greater e.0 above es rising.0 in
@@ -147,12 +201,15 @@ pub splits_free : (p : Instance) (r : Request) → IsInstance p → (IsTaken p r
 splits_free p r valid free = splits_absent p.requests (request_name r) valid.rising (lookup-name-free p r valid free)
 
 -- a look-up by name among requests and one more
-lookup-among : (xs ys : List (ℕ × Request)) (e : ℕ × Request) (m : ℕ) → (m ≡ e.0 → lookup (nat_eq m) xs ≡ None) → lookup (nat_eq m) (xs ++ e ∷ ys) ≡ cond (eqb m e.0) (Some e.1) (lookup (nat_eq m) (xs ++ ys))
+lookup-among : (xs ys : List (ℕ × Request)) (e : ℕ × Request) (m : ℕ) → (m ≡ e.0 → lookup (nat_eq m) xs ≡ None)
+    → lookup (nat_eq m) (xs ++ e ∷ ys) ≡ cond (eqb m e.0) (Some e.1) (lookup (nat_eq m) (xs ++ ys))
 lookup-among [] ys e m none = refl
 lookup-among (x ∷ xs) ys e m none = by (eqb_tells m x.0) (λ h. lookup-among xs ys e m h)
   where
-    by : ((eqb m x.0 ≡ true) × (m ≡ x.0)) ⊎ ((eqb m x.0 ≡ false) × (m ≢ x.0)) → ((m ≡ e.0 → lookup (nat_eq m) xs ≡ None) → lookup (nat_eq m) (xs ++ e ∷ ys) ≡ cond (eqb m e.0) (Some e.1) (lookup (nat_eq m) (xs ++ ys)))
-        → cond (eqb m x.0) (Some x.1) (lookup (nat_eq m) (xs ++ e ∷ ys)) ≡ cond (eqb m e.0) (Some e.1) (cond (eqb m x.0) (Some x.1) (lookup (nat_eq m) (xs ++ ys)))
+    by : ((eqb m x.0 ≡ true) × (m ≡ x.0)) ⊎ ((eqb m x.0 ≡ false) × (m ≢ x.0))
+        → ((m ≡ e.0 → lookup (nat_eq m) xs ≡ None) → lookup (nat_eq m) (xs ++ e ∷ ys) ≡ cond (eqb m e.0) (Some e.1) (lookup (nat_eq m) (xs ++ ys)))
+        → cond (eqb m x.0) (Some x.1) (lookup (nat_eq m) (xs ++ e ∷ ys))
+        ≡ cond (eqb m e.0) (Some e.1) (cond (eqb m x.0) (Some x.1) (lookup (nat_eq m) (xs ++ ys)))
     by (inl t) rest =
         let differ : m ≡ e.0 → ⊥ = λ h. none_some x.1 (sym (let g : cond (eqb m x.0) (Some x.1) (lookup (nat_eq m) xs) ≡ None = none h in rw (t.0) at g)) in
         rw (t.0, ne_eqb m e.0 differ) refl
@@ -162,7 +219,8 @@ lookup-filter : (q : ℕ × Request → Bool) (es : List (ℕ × Request)) (m : 
 lookup-filter q [] m none = refl
 lookup-filter q (e ∷ es) m none = by (eqb_tells m e.0) (λ h. lookup-filter q es m h)
   where
-    by : ((eqb m e.0 ≡ true) × (m ≡ e.0)) ⊎ ((eqb m e.0 ≡ false) × (m ≢ e.0)) → (lookup (nat_eq m) es ≡ None → lookup (nat_eq m) (filter q es) ≡ None) → lookup (nat_eq m) (cond (q e) (e ∷ filter q es) (filter q es)) ≡ None
+    by : ((eqb m e.0 ≡ true) × (m ≡ e.0)) ⊎ ((eqb m e.0 ≡ false) × (m ≢ e.0)) → (lookup (nat_eq m) es ≡ None → lookup (nat_eq m) (filter q es) ≡ None)
+        → lookup (nat_eq m) (cond (q e) (e ∷ filter q es) (filter q es)) ≡ None
     by (inl t) rest = absurd (none_some e.1 (sym (let g : cond (eqb m e.0) (Some e.1) (lookup (nat_eq m) es) ≡ None = none in rw (t.0) at g)))
     by (inr t) rest = kept (q e)
       where
@@ -173,7 +231,9 @@ lookup-filter q (e ∷ es) m none = by (eqb_tells m e.0) (λ h. lookup-filter q 
         kept true = rw (t.0) later
         kept false = later
 
-pub lookup-with_entry : (es : List (ℕ × Request)) (r : Request) (m : ℕ) → Splits es (request_name r) → lookup (nat_eq (request_name r)) es ≡ None → lookup (nat_eq m) (with_entry es r) ≡ cond (eqb m (request_name r)) (Some r) (lookup (nat_eq m) es)
+pub lookup-with_entry : (es : List (ℕ × Request)) (r : Request) (m : ℕ) → Splits es (request_name r) → lookup (nat_eq (request_name r)) es ≡ None
+    → lookup (nat_eq m) (with_entry es r) ≡ cond (eqb m (request_name r)) (Some r) (lookup (nat_eq m) es)
 lookup-with_entry es r m split none =
-    lookup-among (lesser_names es (request_name r)) (greater_names es (request_name r)) (request_name r, r) m (λ h. lookup-filter (λ e. nat_lt e.0 (request_name r)) es m (subst (λ n. lookup (nat_eq n) es ≡ None) (sym h) none))
+    lookup-among (lesser_names es (request_name r)) (greater_names es (request_name r)) (request_name r, r) m
+    (λ h. lookup-filter (λ e. nat_lt e.0 (request_name r)) es m (subst (λ n. lookup (nat_eq n) es ≡ None) (sym h) none))
     ∙ ap (λ (fs : List (ℕ × Request)). cond (eqb m (request_name r)) (Some r) (lookup (nat_eq m) fs)) split

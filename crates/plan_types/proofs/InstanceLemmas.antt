@@ -21,7 +21,8 @@ use Rattle.plan_types.specs.declared.requests.Request.{Request}
 use Rattle.plan_types.specs.declared.requests.Stop.{Stop}
 use Rattle.plan_types.specs.declared.requests.Kind.{Kind}
 
-pub IsInstance-new : (kind : Kind) (depot : Stop) (capacity fleet : ℕ) → IsDepot depot → IsCapacity capacity → IsFleet fleet → IsInstance (new_instance kind depot capacity fleet)
+pub IsInstance-new : (kind : Kind) (depot : Stop) (capacity fleet : ℕ) → IsDepot depot → IsCapacity capacity → IsFleet fleet
+    → IsInstance (new_instance kind depot capacity fleet)
 unfolding IsStrictlySortedBy IsDistinct
 IsInstance-new kind depot capacity fleet d q k = record {
   depot = d;
@@ -48,7 +49,8 @@ numbers-append : (xs ys : List (ℕ × Request)) → numbers_among (xs ++ ys) �
 numbers-append xs ys = ap (map (λ s. s.number)) (flat_map-append (λ e. stops_of e.1) xs ys) ∙ map-append (λ s. s.number) (stops_among xs) (stops_among ys)
 
 -- a name between lesser and greater ones
-rising-insert : (xs ys : List (ℕ × Request)) (e : ℕ × Request) → IsStrictlySortedBy nat_cmp (keys_of (xs ++ ys)) → AllByRecursion (λ x. nat_lt x.0 e.0 ≡ true) xs → AllByRecursion (λ y. nat_lt e.0 y.0 ≡ true) ys → IsStrictlySortedBy nat_cmp (keys_of (xs ++ e ∷ ys))
+rising-insert : (xs ys : List (ℕ × Request)) (e : ℕ × Request) → IsStrictlySortedBy nat_cmp (keys_of (xs ++ ys))
+    → AllByRecursion (λ x. nat_lt x.0 e.0 ≡ true) xs → AllByRecursion (λ y. nat_lt e.0 y.0 ≡ true) ys → IsStrictlySortedBy nat_cmp (keys_of (xs ++ e ∷ ys))
 unfolding IsStrictlySortedBy
 rising-insert [] ys e up lo hi = (above ys hi, up)
   where
@@ -57,7 +59,8 @@ rising-insert [] ys e up lo hi = (above ys hi, up)
     above (y ∷ ys) all = (rw all.0 refl, above ys all.1)
 rising-insert (x ∷ xs) ys e up lo hi = (below xs up.0, rising-insert xs ys e up.1 lo.1 hi)
   where
-    below : (xs : List (ℕ × Request)) → AllByRecursion (λ y. nat_cmp x.0 y ≡ Less) (keys_of (xs ++ ys)) → AllByRecursion (λ y. nat_cmp x.0 y ≡ Less) (keys_of (xs ++ e ∷ ys))
+    below : (xs : List (ℕ × Request)) → AllByRecursion (λ y. nat_cmp x.0 y ≡ Less) (keys_of (xs ++ ys))
+        → AllByRecursion (λ y. nat_cmp x.0 y ≡ Less) (keys_of (xs ++ e ∷ ys))
     below [] all = (rw lo.0 refl, all)
     below (z ∷ zs) all = (all.0, below zs all.1)
 
@@ -70,27 +73,32 @@ passes p (x ∷ xs) = by (p x) refl (passes p xs)
     by false e rest = rest
 
 -- a number among others that it differs from
-distinct-insert : (xs ys : List ℕ) (n : ℕ) → AllByRecursion (λ m. nat_eq n m ≡ false) (xs ++ ys) → IsDistinct nat_eq (xs ++ ys) → IsDistinct nat_eq (xs ++ n ∷ ys)
+distinct-insert : (xs ys : List ℕ) (n : ℕ) → AllByRecursion (λ m. nat_eq n m ≡ false) (xs ++ ys) → IsDistinct nat_eq (xs ++ ys)
+    → IsDistinct nat_eq (xs ++ n ∷ ys)
 distinct-insert xs ys n apart distinct =
     IsDistinct-IsPermutation nat_eq nat_eq_equiv.symm (n ∷ (xs ++ ys)) (xs ++ n ∷ ys)
     (IsPermutation-sym (xs ++ n ∷ ys) (n ∷ (xs ++ ys)) (IsPermutation-middle xs n ys))
     (IsDistinct-cons nat_eq n (xs ++ ys) apart distinct)
 
 -- the numbers of a request that is not taken among the others
-distinct-request : (p : Instance) (r : Request) (xs ys : List ℕ) → IsRequest r → (IsTaken p r → ⊥) → xs ++ ys ≡ numbers_among p.requests → IsDistinct nat_eq (xs ++ ys) → IsDistinct nat_eq (xs ++ (map (λ s. s.number) (stops_of r) ++ ys))
+distinct-request : (p : Instance) (r : Request) (xs ys : List ℕ) → IsRequest r → (IsTaken p r → ⊥) → xs ++ ys ≡ numbers_among p.requests
+    → IsDistinct nat_eq (xs ++ ys) → IsDistinct nat_eq (xs ++ (map (λ s. s.number) (stops_of r) ++ ys))
 distinct-request p (Single a) xs ys valid free is distinct =
     distinct-insert xs ys a.number (rw is (numbers-free p.requests a.number (none_from_not_some _ free))) distinct
 distinct-request p (Pair a b) xs ys valid free is distinct =
     let second = distinct-insert xs ys b.number (rw is (numbers-free p.requests b.number (none_from_not_some _ (λ t. free (inr t))))) distinct in
-    let first : AllByRecursion (λ m. nat_eq a.number m ≡ false) (xs ++ ys) = rw is (numbers-free p.requests a.number (none_from_not_some _ (λ t. free (inl t)))) in
+    let first : AllByRecursion (λ m. nat_eq a.number m ≡ false) (xs ++ ys) =
+    rw is (numbers-free p.requests a.number (none_from_not_some _ (λ t. free (inl t)))) in
     distinct-insert xs (b.number ∷ ys) a.number (all-insert (λ m. nat_eq a.number m ≡ false) xs ys b.number first (apart (eqb_tells a.number b.number))) second
   where
-    apart : ((eqb a.number b.number ≡ true) × (a.number ≡ b.number)) ⊎ ((eqb a.number b.number ≡ false) × (a.number ≢ b.number)) → nat_eq a.number b.number ≡ false
+    apart : ((eqb a.number b.number ≡ true) × (a.number ≡ b.number)) ⊎ ((eqb a.number b.number ≡ false) × (a.number ≢ b.number))
+        → nat_eq a.number b.number ≡ false
     apart (inl t) = absurd (valid.2 t.1)
     apart (inr t) = t.0
 
 -- a bound on numbers that holds of those of a request too
-above-request : (n m : ℕ) (r : Request) (xs ys : List ℕ) → number_after r ≤ m → n ≤ m → AllByRecursion (λ x. x < n) (xs ++ ys) → AllByRecursion (λ x. x < m) (xs ++ (map (λ s. s.number) (stops_of r) ++ ys))
+above-request : (n m : ℕ) (r : Request) (xs ys : List ℕ) → number_after r ≤ m → n ≤ m → AllByRecursion (λ x. x < n) (xs ++ ys)
+    → AllByRecursion (λ x. x < m) (xs ++ (map (λ s. s.number) (stops_of r) ++ ys))
 above-request n m (Single a) xs ys after le all =
     all-insert (λ x. x < m) xs ys a.number (all-weaker (λ x. x < n) (λ x. x < m) (λ x h. omega arith) (xs ++ ys) all) (omega arith)
 above-request n m (Pair a b) xs ys after le all =
@@ -102,7 +110,8 @@ number_after-le (Single a) valid = let h = valid.0.to_most in omega arith
 number_after-le (Pair a b) valid = let h = valid.0.to_most in let g = valid.1.to_most in omega arith
 
 -- one more request that keeps the limits and takes no number
-pub IsInstance-with_request : (p : Instance) (r : Request) → IsInstance p → IsRequest r → (IsTaken p r → ⊥) → Splits p.requests (request_name r) → IsInstance (with_request p r)
+pub IsInstance-with_request : (p : Instance) (r : Request) → IsInstance p → IsRequest r → (IsTaken p r → ⊥) → Splits p.requests (request_name r)
+    → IsInstance (with_request p r)
 IsInstance-with_request p r valid fits free split =
     let name = request_name r in
     let lesser = lesser_names p.requests name in
@@ -122,7 +131,9 @@ IsInstance-with_request p r valid fits free split =
       valid = all-insert (λ e. IsRequest e.1) lesser greater entry (rw split valid.valid) fits;
       rising = rising-insert lesser greater entry (rw split valid.rising) (passes (λ e. nat_lt e.0 name) p.requests) (passes (λ e. nat_lt name e.0) p.requests);
       distinct = rw after (distinct-request p r (numbers_among lesser) (numbers_among greater) fits free numbers (rw numbers valid.distinct));
-      above = rw after (above-request p.next_number (max p.next_number (number_after r)) r (numbers_among lesser) (numbers_among greater) (omega arith) (omega arith) (rw numbers valid.above));
+      above = rw after
+          (above-request p.next_number (max p.next_number (number_after r)) r (numbers_among lesser) (numbers_among greater) (omega arith) (omega arith)
+          (rw numbers valid.above));
       next_from_one = omega arith;
       next_to_most = omega arith;
     }

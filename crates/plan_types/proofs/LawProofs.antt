@@ -3,12 +3,44 @@ use Rattle.std.proofs.Common.{◌≡◌, ℕ, zero, suc, ◌<◌, true, false, L
 use Rattle.std.specs.List.{AllByRecursion}
 use Rattle.std.specs.Option.{option_map, option_or, option_and_then}
 use Rattle.plan_types.specs.Instance.{Instance, stop_at, request_with, first_some, with_request, without_entry, without_request}
-use Rattle.plan_types.specs.Laws.{RequestsStandByName, IsBelowNext, RequestsAreBelowNext, FoundAreBelowNext, StopsAreBelowNext, FreshAreFree, IsFoundAt, IsFreeAt, IsSameAt, NamedAreFound, PutGivesProblem, PutIsFound, PutKeepsOthers, PutByName, TakeGivesProblem, TakeFreesNumbers, TakeKeepsOthers, TakeByName, TakeOfNone}
+use Rattle.plan_types.specs.Laws.{
+  RequestsStandByName,
+  IsBelowNext,
+  RequestsAreBelowNext,
+  FoundAreBelowNext,
+  StopsAreBelowNext,
+  FreshAreFree,
+  IsFoundAt,
+  IsFreeAt,
+  IsSameAt,
+  NamedAreFound,
+  PutGivesProblem,
+  PutIsFound,
+  PutKeepsOthers,
+  PutByName,
+  TakeGivesProblem,
+  TakeFreesNumbers,
+  TakeKeepsOthers,
+  TakeByName,
+  TakeOfNone,
+}
 use Rattle.plan_types.specs.Request.{request_name, stop_in, partner_in, pickup_in}
 use Rattle.plan_types.specs.declared.requests.Stop.{Stop}
 use Rattle.plan_types.specs.declared.requests.Request.{Request}
 use Rattle.plan_types.specs.declared.requests.Request.TheVariants.{Single, Pair}
-use Rattle.plan_types.proofs.LookupLemmas.{none_some, first_some-holds, below-each, NumbersBelow, lookup-request_with, lookup-name-free, stop_at-below, itself, itself-asks, none-asked, found-with_entry}
+use Rattle.plan_types.proofs.LookupLemmas.{
+  none_some,
+  first_some-holds,
+  below-each,
+  NumbersBelow,
+  lookup-request_with,
+  lookup-name-free,
+  stop_at-below,
+  itself,
+  itself-asks,
+  none-asked,
+  found-with_entry,
+}
 use Rattle.plan_types.proofs.InsertLemmas.{lookup-with_entry, splits_free}
 use Rattle.plan_types.proofs.InstanceLemmas.{IsInstance-with_request}
 use Rattle.plan_types.proofs.TakeLemmas.{named-found, freed, kept-others, lookup-without, without-none, IsInstance-without_request}
@@ -32,7 +64,8 @@ requests_are_below_next p k name r valid at =
 
 pub found_are_below_next : FoundAreBelowNext
 found_are_below_next p n r valid is =
-    first_some-holds (λ r. option_map (λ _. r) (stop_in n r)) (NumbersBelow p.next_number) (IsBelowNext p) (λ r q below h. itself r q (stop_in n r) below h) p.requests r (below-each p.next_number p.requests valid.above) is
+    first_some-holds (λ r. option_map (λ _. r) (stop_in n r)) (NumbersBelow p.next_number) (IsBelowNext p)
+    (λ r q below h. itself r q (stop_in n r) below h) p.requests r (below-each p.next_number p.requests valid.above) is
   where
     itself : (r q : Request) (o : Option Stop) → NumbersBelow p.next_number r → option_map (λ _. r) o ≡ Some q → IsBelowNext p q
     itself r q None below h = absurd (none_some q h)
@@ -93,7 +126,9 @@ some_of (Some x) h = (x, refl)
 some_of None h = absurd (let g : false ≡ true = h in cc)
 
 pub named_are_found : NamedAreFound
-named_are_found p n name r valid at has = let s = some_of (stop_in n r) has in found_at p n r (named-found n (itself n) (itself-asks n) p.requests name r s.0 r valid.distinct at s.1 (ap (option_map (λ _. r)) s.1))
+named_are_found p n name r valid at has =
+    let s = some_of (stop_in n r) has in
+    found_at p n r (named-found n (itself n) (itself-asks n) p.requests name r s.0 r valid.distinct at s.1 (ap (option_map (λ _. r)) s.1))
 
 pub put_gives_problem : PutGivesProblem
 put_gives_problem p r valid fits free = IsInstance-with_request p r valid fits free (splits_free p r valid free)
@@ -101,11 +136,15 @@ put_gives_problem p r valid fits free = IsInstance-with_request p r valid fits f
 pub put_is_found : PutIsFound
 put_is_found p r n valid free has =
     let s = some_of (stop_in n r) has in
-    found_at (with_request p r) n r (found-with_entry p r n (itself n) (itself-asks n) free (splits_free p r valid free) ∙ ap (λ (o : Option Stop). option_or (option_map (λ _. r) o) (request_with p n)) s.1)
+    found_at (with_request p r) n r
+    (found-with_entry p r n (itself n) (itself-asks n) free (splits_free p r valid free)
+    ∙ ap (λ (o : Option Stop). option_or (option_map (λ _. r) o) (request_with p n)) s.1)
 
 pub put_keeps_others : PutKeepsOthers
 put_keeps_others p r n valid free none =
-    same_at p (with_request p r) n (found-with_entry p r n (itself n) (itself-asks n) free (splits_free p r valid free) ∙ ap (λ (o : Option Stop). option_or (option_map (λ _. r) o) (request_with p n)) none)
+    same_at p (with_request p r) n
+    (found-with_entry p r n (itself n) (itself-asks n) free (splits_free p r valid free)
+    ∙ ap (λ (o : Option Stop). option_or (option_map (λ _. r) o) (request_with p n)) none)
 
 pub put_by_name : PutByName
 put_by_name p r m valid free = lookup-with_entry p.requests r m (splits_free p r valid free) (lookup-name-free p r valid free)
@@ -120,12 +159,15 @@ take_frees_numbers p name n valid is = by (request_with p n) refl
     by None h = absurd (none_some name (sym (ap (option_map request_name) h) ∙ is))
     by (Some r) h =
         let same : request_name r ≡ name = (let g : Some (request_name r) ≡ Some name = sym (ap (option_map request_name) h) ∙ is in cc) in
-        let none : first_some (stop_in n) (without_entry p.requests name) ≡ None = subst (λ m. first_some (stop_in n) (without_entry p.requests m) ≡ None) same (freed p.requests n r valid.named valid.distinct h) in
+        let none : first_some (stop_in n) (without_entry p.requests name) ≡ None =
+        subst (λ m. first_some (stop_in n) (without_entry p.requests m) ≡ None) same (freed p.requests n r valid.named valid.distinct h) in
         free_at (without_request p name) n (none-asked n (itself n) (itself-asks n) (without_entry p.requests name) none)
 
 pub take_keeps_others : TakeKeepsOthers
 take_keeps_others p name n valid other =
-    same_at p (without_request p name) n (kept-others n name (itself n) (itself-asks n) p.requests valid.named valid.distinct (λ r h same. other (ap (option_map request_name) h ∙ ap Some same)))
+    same_at p (without_request p name) n
+    (kept-others n name (itself n) (itself-asks n) p.requests valid.named valid.distinct
+    (λ r h same. other (ap (option_map request_name) h ∙ ap Some same)))
 
 pub take_by_name : TakeByName
 take_by_name p name m = lookup-without p.requests name m

@@ -1,3 +1,4 @@
+-- The lemma files, which upper crates may cite.
 pub mod InsertLemmas
 pub mod InstanceLemmas
 pub mod LawProofs

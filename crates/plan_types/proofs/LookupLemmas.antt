@@ -12,19 +12,36 @@ use Rattle.std.proofs.Common.{map, ◌++◌, length, take, drop}
 use Rattle.std.proofs.Math.Seq.{take-append_seam}
 use Rattle.plan_types.specs.Limits.{IsStop}
 use Rattle.plan_types.specs.Request.{request_name, stop_in, partner_in, pickup_in, stops_of, IsRequest}
-use Rattle.plan_types.specs.Instance.{Instance, first_some, stop_at, name_at, request_with, partner_at, pickup_at, stops_among, numbers_among, lesser_names, greater_names, with_entry, Splits, IsInstance, IsTaken}
+use Rattle.plan_types.specs.Instance.{
+  Instance,
+  first_some,
+  stop_at,
+  name_at,
+  request_with,
+  partner_at,
+  pickup_at,
+  stops_among,
+  numbers_among,
+  lesser_names,
+  greater_names,
+  with_entry,
+  Splits,
+  IsInstance,
+  IsTaken,
+}
 use Rattle.plan_types.specs.Located.{located_in}
 use Rattle.plan_types.specs.declared.requests.Stop.{Stop}
 use Rattle.plan_types.specs.declared.problems.Located.{Located}
 use Rattle.plan_types.specs.declared.requests.Request.{Request}
 use Rattle.plan_types.specs.declared.requests.Request.TheVariants.{Single, Pair}
 
-option_or-map : {X Y : Type 0} (g : X → Y) (o p : Option X) → option_or (option_map g o) (option_map g p) ≡ option_map g (option_or o p)
+pub option_or-map : {X Y : Type 0} (g : X → Y) (o p : Option X) → option_or (option_map g o) (option_map g p) ≡ option_map g (option_or o p)
 option_or-map g None p = refl
 option_or-map g (Some x) p = refl
 
 -- a look-up whose answers are a function of another's
-pub first_some-map : {X Y : Type 0} (g : X → Y) (f : Request → Option X) (h : Request → Option Y) → ((r : Request) → h r ≡ option_map g (f r)) → (es : List (ℕ × Request)) → first_some h es ≡ option_map g (first_some f es)
+pub first_some-map : {X Y : Type 0} (g : X → Y) (f : Request → Option X) (h : Request → Option Y) → ((r : Request) → h r ≡ option_map g (f r))
+    → (es : List (ℕ × Request)) → first_some h es ≡ option_map g (first_some f es)
 first_some-map g f h same [] = refl
 first_some-map g f h same (e ∷ es) = rw (same e.1, first_some-map g f h same es) (option_or-map g (f e.1) (first_some f es))
 
@@ -32,7 +49,8 @@ option_map-id : {X Y : Type 0} (g : X → Y) (back : Y → X) (id : (x : X) → 
 option_map-id g back id None = refl
 option_map-id g back id (Some x) = ap Some (sym (id x))
 
-option_map-const : {X Y Z : Type 0} (g : X → Y) (z : Z) (back : Y → Z) (is : (x : X) → back (g x) ≡ z) (o : Option X) → option_map (λ _. z) o ≡ option_map back (option_map g o)
+option_map-const : {X Y Z : Type 0} (g : X → Y) (z : Z) (back : Y → Z) (is : (x : X) → back (g x) ≡ z) (o : Option X)
+    → option_map (λ _. z) o ≡ option_map back (option_map g o)
 option_map-const g z back is None = refl
 option_map-const g z back is (Some x) = ap Some (sym (is x))
 
@@ -42,7 +60,8 @@ stop_from_located es n = first_some-map (λ l. l.stop) (located_in n) (stop_in n
 
 pub name_from_located : (p : Instance) (n : ℕ) → name_at p n ≡ option_map (λ l. l.name) (first_some (located_in n) p.requests)
 name_from_located p n =
-    sym (first_some-map request_name (λ r. option_map (λ _. r) (stop_in n r)) (λ r. option_map (λ _. request_name r) (stop_in n r)) (λ r. option_map-twice r (stop_in n r)) p.requests)
+    sym (first_some-map request_name (λ r. option_map (λ _. r) (stop_in n r)) (λ r. option_map (λ _. request_name r) (stop_in n r))
+    (λ r. option_map-twice r (stop_in n r)) p.requests)
     ∙ first_some-map (λ l. l.name) (located_in n) _ (λ r. option_map-const _ (request_name r) (λ l. l.name) (λ x. refl) (stop_in n r)) p.requests
   where
     option_map-twice : (r : Request) (o : Option Stop) → option_map (λ _. request_name r) o ≡ option_map request_name (option_map (λ _. r) o)
@@ -53,7 +72,8 @@ name_from_located p n =
 pub none_some : {X : Type 0} (x : X) → None ≡ Some x → ⊥
 none_some x h = cc
 
-pub first_some-holds : {X : Type 0} (f : Request → Option X) (P : Request → Type 0) (Q : X → Type 0) → ((r : Request) (x : X) → P r → f r ≡ Some x → Q x) → (es : List (ℕ × Request)) (x : X) → AllByRecursion (λ e. P e.1) es → first_some f es ≡ Some x → Q x
+pub first_some-holds : {X : Type 0} (f : Request → Option X) (P : Request → Type 0) (Q : X → Type 0) → ((r : Request) (x : X) → P r → f r ≡ Some x → Q x)
+    → (es : List (ℕ × Request)) (x : X) → AllByRecursion (λ e. P e.1) es → first_some f es ≡ Some x → Q x
 first_some-holds f P Q each [] x all is = absurd (none_some x is)
 first_some-holds f P Q each (e ∷ es) x all is = by (f e.1) refl (λ h. first_some-holds f P Q each es x all.1 h)
   where
@@ -70,11 +90,14 @@ chosen a n s o Q x here there is = elim (eqb_tells a n) [
 
 pub stop_in-holds : (n : ℕ) (r : Request) (s : Stop) → IsRequest r → stop_in n r ≡ Some s → (s.number ≡ n) × IsStop s
 stop_in-holds n (Single a) s valid is = chosen a.number n a None (λ s. (s.number ≡ n) × IsStop s) s (λ e. (e, valid.0)) (λ e. absurd (none_some s e)) is
-stop_in-holds n (Pair a b) s valid is = chosen a.number n a _ (λ s. (s.number ≡ n) × IsStop s) s (λ e. (e, valid.0)) (chosen b.number n b None (λ s. (s.number ≡ n) × IsStop s) s (λ e. (e, valid.1)) (λ e. absurd (none_some s e))) is
+stop_in-holds n (Pair a b) s valid is =
+    chosen a.number n a _ (λ s. (s.number ≡ n) × IsStop s) s (λ e. (e, valid.0))
+    (chosen b.number n b None (λ s. (s.number ≡ n) × IsStop s) s (λ e. (e, valid.1)) (λ e. absurd (none_some s e))) is
 
 -- a stop that is found has the number sought, and keeps its limits
 pub stop_from_first : (p : Instance) (n : ℕ) (s : Stop) → IsInstance p → stop_at p n ≡ Some s → (s.number ≡ n) × IsStop s
-stop_from_first p n s valid is = first_some-holds (stop_in n) IsRequest (λ s. (s.number ≡ n) × IsStop s) (λ r x v h. stop_in-holds n r x v h) p.requests s valid.valid is
+stop_from_first p n s valid is =
+    first_some-holds (stop_in n) IsRequest (λ s. (s.number ≡ n) × IsStop s) (λ r x v h. stop_in-holds n r x v h) p.requests s valid.valid is
 
 -- what the table's entry says of the stop
 pub stop_at_located : (p : Instance) (n : ℕ) (l : Located) → first_some (located_in n) p.requests ≡ Some l → stop_at p n ≡ Some l.stop
@@ -93,7 +116,8 @@ stop_at-free p (Single a) n s free is =
     chosen a.number n a None (λ _. stop_at p n ≡ None) s (λ e. subst (λ m. stop_at p m ≡ None) e (none_from_not_some _ free)) (λ e. absurd (none_some s e)) is
 stop_at-free p (Pair a b) n s free is =
     chosen a.number n a _ (λ _. stop_at p n ≡ None) s (λ e. subst (λ m. stop_at p m ≡ None) e (none_from_not_some _ (λ t. free (inl t))))
-    (chosen b.number n b None (λ _. stop_at p n ≡ None) s (λ e. subst (λ m. stop_at p m ≡ None) e (none_from_not_some _ (λ t. free (inr t)))) (λ e. absurd (none_some s e))) is
+    (chosen b.number n b None (λ _. stop_at p n ≡ None) s (λ e. subst (λ m. stop_at p m ≡ None) e (none_from_not_some _ (λ t. free (inr t))))
+    (λ e. absurd (none_some s e))) is
 
 first_none : {X : Type 0} (o p : Option X) → option_or o p ≡ None → o ≡ None
 first_none None p h = refl
@@ -115,7 +139,8 @@ stop_in-name (Pair a b) n h = elim (eqb_tells n a.number) [
 ]
 
 -- where no stop has this number no request has it as its name
-pub lookup-free : (es : List (ℕ × Request)) (n : ℕ) → AllByRecursion (λ e. e.0 ≡ request_name e.1) es → first_some (stop_in n) es ≡ None → lookup (nat_eq n) es ≡ None
+pub lookup-free : (es : List (ℕ × Request)) (n : ℕ) → AllByRecursion (λ e. e.0 ≡ request_name e.1) es → first_some (stop_in n) es ≡ None
+    → lookup (nat_eq n) es ≡ None
 lookup-free [] n named h = refl
 lookup-free (e ∷ es) n named h =
     let apart : nat_eq n e.0 ≡ false = rw named.0 (stop_in-name e.1 n (first_none _ _ h)) in
@@ -138,10 +163,12 @@ numbers-free (e ∷ es) n h = by e.1 (first_none _ _ h) (numbers-free es n (rest
     apart : (a : Stop) (o : Option Stop) → cond (eqb a.number n) (Some a) o ≡ None → (nat_eq n a.number ≡ false) × (o ≡ None)
     apart a o h = elim (eqb_tells n a.number) [
       | inl t ↦ absurd (none_some a (sym h ∙ rw (eq-eqb a.number n (sym t.1)) refl))
-      | inr t ↦ (t.0, let g : cond (eqb a.number n) (Some a) o ≡ None = h in elim (eqb_tells a.number n) [ inl u ↦ absurd (t.1 (sym u.1)) | inr u ↦ (rw u.0 at g) ])
+      | inr t ↦
+          (t.0, let g : cond (eqb a.number n) (Some a) o ≡ None = h in elim (eqb_tells a.number n) [ inl u ↦ absurd (t.1 (sym u.1)) | inr u ↦ (rw u.0 at g) ])
     ]
 
-    by : (r : Request) → stop_in n r ≡ None → AllByRecursion (λ m. nat_eq n m ≡ false) (numbers_among es) → AllByRecursion (λ m. nat_eq n m ≡ false) (map (λ s. s.number) (stops_of r ++ stops_among es))
+    by : (r : Request) → stop_in n r ≡ None → AllByRecursion (λ m. nat_eq n m ≡ false) (numbers_among es)
+        → AllByRecursion (λ m. nat_eq n m ≡ false) (map (λ s. s.number) (stops_of r ++ stops_among es))
     by (Single a) h rest = ((apart a None h).0, rest)
     by (Pair a b) h rest = let f = apart a _ h in (f.0, ((apart b None f.1).0, rest))
 
@@ -154,7 +181,8 @@ first_some-append f (x ∷ xs) ys = ap (option_or (f x.1)) (first_some-append f 
     option_or-assoc (Some x) b c = refl
 
 -- a look-up that the new request answers finds its answer, wherever it stands
-pub first_some-insert : {X : Type 0} (f : Request → Option X) (xs ys : List (ℕ × Request)) (e : ℕ × Request) → ((x : X) → f e.1 ≡ Some x → first_some f (xs ++ ys) ≡ None) → first_some f (xs ++ e ∷ ys) ≡ option_or (f e.1) (first_some f (xs ++ ys))
+pub first_some-insert : {X : Type 0} (f : Request → Option X) (xs ys : List (ℕ × Request)) (e : ℕ × Request)
+    → ((x : X) → f e.1 ≡ Some x → first_some f (xs ++ ys) ≡ None) → first_some f (xs ++ e ∷ ys) ≡ option_or (f e.1) (first_some f (xs ++ ys))
 first_some-insert {X} f xs ys e apart = first_some-append f xs (e ∷ ys) ∙ by (f e.1) refl
   where
     by : (o : Option X) → f e.1 ≡ o → option_or (first_some f xs) (option_or o (first_some f ys)) ≡ option_or o (first_some f (xs ++ ys))
@@ -176,17 +204,20 @@ pub located-asks : (n : ℕ) → AsksStop n (located_in n)
 located-asks n r h = ap (option_map (λ s. record { name = request_name r; partner = partner_in n r; stop = s })) h
 
 -- it finds nothing where no request has the stop
-pub none-asked : {X : Type 0} (n : ℕ) (f : Request → Option X) → AsksStop n f → (es : List (ℕ × Request)) → first_some (stop_in n) es ≡ None → first_some f es ≡ None
+pub none-asked : {X : Type 0} (n : ℕ) (f : Request → Option X) → AsksStop n f → (es : List (ℕ × Request)) → first_some (stop_in n) es ≡ None
+    → first_some f es ≡ None
 none-asked n f asks [] h = refl
 none-asked n f asks (e ∷ es) h = rw (asks e.1 (first_none _ _ h)) (none-asked n f asks es (rest_none _ _ h))
 
 -- what is found after a request that is not taken is put among the others
-pub found-with_entry : {X : Type 0} (p : Instance) (r : Request) (n : ℕ) (f : Request → Option X) → AsksStop n f → (IsTaken p r → ⊥) → Splits p.requests (request_name r) → first_some f (with_entry p.requests r) ≡ option_or (f r) (first_some f p.requests)
+pub found-with_entry : {X : Type 0} (p : Instance) (r : Request) (n : ℕ) (f : Request → Option X) → AsksStop n f → (IsTaken p r → ⊥)
+    → Splits p.requests (request_name r) → first_some f (with_entry p.requests r) ≡ option_or (f r) (first_some f p.requests)
 found-with_entry p r n f asks free split =
     let lesser = lesser_names p.requests (request_name r) in
     let greater = greater_names p.requests (request_name r) in
     let whole : first_some f (lesser ++ greater) ≡ first_some f p.requests = ap (first_some f) split in
-    first_some-insert f lesser greater (request_name r, r) (λ x h. whole ∙ none-asked n f asks p.requests (nothing (stop_in n r) refl x h)) ∙ ap (option_or (f r)) whole
+    first_some-insert f lesser greater (request_name r, r) (λ x h. whole ∙ none-asked n f asks p.requests (nothing (stop_in n r) refl x h))
+    ∙ ap (option_or (f r)) whole
   where
     nothing : (o : Option Stop) → stop_in n r ≡ o → (x : _) → f r ≡ Some x → stop_at p n ≡ None
     nothing None e x h = absurd (none_some x (sym (asks r e) ∙ h))
@@ -210,12 +241,14 @@ found-name f own (e ∷ es) r P named all is = by (f e.1) refl (λ h. found-name
 
 -- the request that has a stop is the one that stands under its name
 lookup-found : (f : Request → Option Request) (own : (r q : Request) → f r ≡ Some q → q ≡ r) (es : List (ℕ × Request)) (r : Request)
-    → AllByRecursion (λ e. e.0 ≡ request_name e.1) es → IsStrictlySortedBy nat_cmp (keys_of es) → first_some f es ≡ Some r → lookup (nat_eq (request_name r)) es ≡ Some r
+    → AllByRecursion (λ e. e.0 ≡ request_name e.1) es → IsStrictlySortedBy nat_cmp (keys_of es) → first_some f es ≡ Some r
+    → lookup (nat_eq (request_name r)) es ≡ Some r
 unfolding IsStrictlySortedBy
 lookup-found f own [] r named rising is = absurd (none_some r is)
 lookup-found f own (e ∷ es) r named rising is = by (f e.1) refl (λ h. lookup-found f own es r named.1 rising.1 h)
   where
-    by : (o : Option Request) → f e.1 ≡ o → (first_some f es ≡ Some r → lookup (nat_eq (request_name r)) es ≡ Some r) → lookup (nat_eq (request_name r)) (e ∷ es) ≡ Some r
+    by : (o : Option Request) → f e.1 ≡ o → (first_some f es ≡ Some r → lookup (nat_eq (request_name r)) es ≡ Some r)
+        → lookup (nat_eq (request_name r)) (e ∷ es) ≡ Some r
     by None o rest =
         let h : first_some f es ≡ Some r = (let h : option_or (f e.1) (first_some f es) ≡ Some r = is in rw o at h) in
         let less : nat_cmp e.0 (request_name r) ≡ Less = found-name f own es r (λ y. nat_cmp e.0 y ≡ Less) named.1 rising.0 h in
@@ -234,7 +267,8 @@ lookup-found f own (e ∷ es) r named rising is = by (f e.1) refl (λ h. lookup-
         rw hit (ap Some (sym same))
 
 pub lookup-request_with : (p : Instance) (n : ℕ) (r : Request) → IsInstance p → request_with p n ≡ Some r → lookup (nat_eq (request_name r)) p.requests ≡ Some r
-lookup-request_with p n r valid is = lookup-found (λ r. option_map (λ _. r) (stop_in n r)) (λ r q h. itself r q (stop_in n r) h) p.requests r valid.named valid.rising is
+lookup-request_with p n r valid is =
+    lookup-found (λ r. option_map (λ _. r) (stop_in n r)) (λ r q h. itself r q (stop_in n r) h) p.requests r valid.named valid.rising is
   where
     itself : (r q : Request) (o : Option Stop) → option_map (λ _. r) o ≡ Some q → q ≡ r
     itself r q None h = absurd (none_some q h)
@@ -250,18 +284,23 @@ unfolding NumbersBelow
 below-each m [] all = tt
 below-each m (e ∷ es) all = by e.1 all (λ h. below-each m es h)
   where
-    by : (r : Request) → AllByRecursion (λ n. n < m) (map (λ s. s.number) (stops_of r ++ stops_among es)) → (AllByRecursion (λ n. n < m) (numbers_among es) → AllByRecursion (λ e. NumbersBelow m e.1) es) → NumbersBelow m r × AllByRecursion (λ e. NumbersBelow m e.1) es
+    by : (r : Request) → AllByRecursion (λ n. n < m) (map (λ s. s.number) (stops_of r ++ stops_among es))
+        → (AllByRecursion (λ n. n < m) (numbers_among es) → AllByRecursion (λ e. NumbersBelow m e.1) es)
+        → NumbersBelow m r × AllByRecursion (λ e. NumbersBelow m e.1) es
     by (Single a) all rest = (all.0, rest all.1)
     by (Pair a b) all rest = ((all.0, all.1.0), rest all.1.1)
 
 -- the number of a stop that is there is below the next
 pub stop_at-below : (p : Instance) (n : ℕ) (s : Stop) → IsInstance p → stop_at p n ≡ Some s → n < p.next_number
 unfolding NumbersBelow
-stop_at-below p n s valid is = first_some-holds (stop_in n) (NumbersBelow p.next_number) (λ _. n < p.next_number) each p.requests s (below-each p.next_number p.requests valid.above) is
+stop_at-below p n s valid is =
+    first_some-holds (stop_in n) (NumbersBelow p.next_number) (λ _. n < p.next_number) each p.requests s (below-each p.next_number p.requests valid.above) is
   where
     each : (r : Request) (x : Stop) → NumbersBelow p.next_number r → stop_in n r ≡ Some x → n < p.next_number
     each (Single a) x below h = chosen a.number n a None (λ _. n < p.next_number) x (λ e. omega arith) (λ e. absurd (none_some x e)) h
-    each (Pair a b) x below h = chosen a.number n a _ (λ _. n < p.next_number) x (λ e. let g = below.0 in omega arith) (chosen b.number n b None (λ _. n < p.next_number) x (λ e. let g = below.1 in omega arith) (λ e. absurd (none_some x e))) h
+    each (Pair a b) x below h =
+        chosen a.number n a _ (λ _. n < p.next_number) x (λ e. let g = below.0 in omega arith)
+        (chosen b.number n b None (λ _. n < p.next_number) x (λ e. let g = below.1 in omega arith) (λ e. absurd (none_some x e))) h
 
 -- the request under the name is the one that has the stop
 pub lookup-name_at : (p : Instance) (n name : ℕ) → IsInstance p → name_at p n ≡ Some name → lookup (nat_eq name) p.requests ≡ request_with p n
@@ -275,13 +314,16 @@ lookup-name_at p n name valid is = by (request_with p n) refl
 
 -- what the table's entry says where the request says it
 module _ {X : Type 0} (n : ℕ) (of_request : Request → Option X) (of_entry : Located → Option X)
-    (same : (r : Request) (s : Stop) → stop_in n r ≡ Some s → of_request r ≡ of_entry (record { name = request_name r; partner = partner_in n r; stop = s })) where
+    (same : (r : Request) (s : Stop) → stop_in n r ≡ Some s
+    → of_request r ≡ of_entry (record { name = request_name r; partner = partner_in n r; stop = s })) where
   said : (es : List (ℕ × Request)) → option_and_then of_request (first_some (itself n) es) ≡ option_and_then of_entry (first_some (located_in n) es)
   said [] = refl
   said (e ∷ es) = by (stop_in n e.1) refl (said es)
     where
-      by : (o : Option Stop) → stop_in n e.1 ≡ o → option_and_then of_request (first_some (itself n) es) ≡ option_and_then of_entry (first_some (located_in n) es)
-          → option_and_then of_request (option_or (itself n e.1) (first_some (itself n) es)) ≡ option_and_then of_entry (option_or (located_in n e.1) (first_some (located_in n) es))
+      by : (o : Option Stop) → stop_in n e.1 ≡ o
+          → option_and_then of_request (first_some (itself n) es) ≡ option_and_then of_entry (first_some (located_in n) es)
+          → option_and_then of_request (option_or (itself n e.1) (first_some (itself n) es))
+          ≡ option_and_then of_entry (option_or (located_in n e.1) (first_some (located_in n) es))
       by None o rest = rw o rest
       by (Some s) o rest = rw o (same e.1 s o)
 
@@ -289,7 +331,8 @@ module _ {X : Type 0} (n : ℕ) (of_request : Request → Option X) (of_entry : 
 pub partner_from_located : (p : Instance) (n : ℕ) → partner_at p n ≡ option_and_then (λ l. l.partner) (first_some (located_in n) p.requests)
 partner_from_located p n = said n (partner_in n) (λ l. l.partner) (λ r s h. refl) p.requests
 
-pub pickup_from_located : (p : Instance) (n : ℕ) → pickup_at p n ≡ option_and_then (λ l. cond (eqb l.name n) None (Some l.name)) (first_some (located_in n) p.requests)
+pub pickup_from_located : (p : Instance) (n : ℕ)
+    → pickup_at p n ≡ option_and_then (λ l. cond (eqb l.name n) None (Some l.name)) (first_some (located_in n) p.requests)
 pickup_from_located p n = said n (pickup_in n) (λ l. cond (eqb l.name n) None (Some l.name)) same p.requests
   where
     same : (r : Request) (s : Stop) → stop_in n r ≡ Some s → pickup_in n r ≡ cond (eqb (request_name r) n) None (Some (request_name r))
@@ -306,12 +349,18 @@ pickup_from_located p n = said n (pickup_in n) (λ l. cond (eqb l.name n) None (
     ]
 
 -- and they are below the next number
-below_of : (p : Instance) (n m : ℕ) (of_request : Request → Option ℕ) → ((r : Request) → NumbersBelow p.next_number r → of_request r ≡ Some m → m < p.next_number) → IsInstance p → option_and_then of_request (request_with p n) ≡ Some m → m < p.next_number
+below_of : (p : Instance) (n m : ℕ) (of_request : Request → Option ℕ)
+    → ((r : Request) → NumbersBelow p.next_number r → of_request r ≡ Some m → m < p.next_number) → IsInstance p
+    → option_and_then of_request (request_with p n) ≡ Some m → m < p.next_number
 below_of p n m of_request each valid is = by (request_with p n) refl
   where
     by : (o : Option Request) → request_with p n ≡ o → m < p.next_number
     by None h = absurd (none_some m (sym (ap (option_and_then of_request) h) ∙ is))
-    by (Some r) h = each r (first_some-holds (itself n) (NumbersBelow p.next_number) (NumbersBelow p.next_number) own p.requests r (below-each p.next_number p.requests valid.above) h) (sym (ap (option_and_then of_request) h) ∙ is)
+    by (Some r) h =
+        each r
+        (first_some-holds (itself n) (NumbersBelow p.next_number) (NumbersBelow p.next_number) own p.requests r
+        (below-each p.next_number p.requests valid.above) h)
+        (sym (ap (option_and_then of_request) h) ∙ is)
       where
         own : (r q : Request) → NumbersBelow p.next_number r → itself n r ≡ Some q → NumbersBelow p.next_number q
         own r q below h = of_stop (stop_in n r) h
@@ -326,7 +375,9 @@ partner-below p n m valid is = below_of p n m (partner_in n) each valid is
   where
     each : (r : Request) → NumbersBelow p.next_number r → partner_in n r ≡ Some m → m < p.next_number
     each (Single a) below h = absurd (none_some m h)
-    each (Pair a b) below h = chosen a.number n b.number _ (λ x. x < p.next_number) m (λ e. below.1) (chosen b.number n a.number None (λ x. x < p.next_number) m (λ e. below.0) (λ e. absurd (none_some m e))) h
+    each (Pair a b) below h =
+        chosen a.number n b.number _ (λ x. x < p.next_number) m (λ e. below.1)
+        (chosen b.number n a.number None (λ x. x < p.next_number) m (λ e. below.0) (λ e. absurd (none_some m e))) h
 
 pub pickup-below : (p : Instance) (n m : ℕ) → IsInstance p → pickup_at p n ≡ Some m → m < p.next_number
 unfolding NumbersBelow
@@ -336,7 +387,8 @@ pickup-below p n m valid is = below_of p n m (pickup_in n) each valid is
     each (Single a) below h = absurd (none_some m h)
     each (Pair a b) below h = elim (eqb_tells a.number n) [
       | inl t ↦ absurd (none_some m (let g : cond (eqb a.number n) None (cond (eqb b.number n) (Some a.number) None) ≡ Some m = h in rw (t.0) at g))
-      | inr t ↦ chosen b.number n a.number None (λ x. x < p.next_number) m (λ e. below.0) (λ e. absurd (none_some m e)) (let g : cond (eqb a.number n) None (cond (eqb b.number n) (Some a.number) None) ≡ Some m = h in rw (t.0) at g)
+      | inr t ↦ chosen b.number n a.number None (λ x. x < p.next_number) m (λ e. below.0) (λ e. absurd (none_some m e))
+          (let g : cond (eqb a.number n) None (cond (eqb b.number n) (Some a.number) None) ≡ Some m = h in rw (t.0) at g)
     ]
 
 -- the same of an answer

@@ -1,5 +1,40 @@
 -- One request less among those that stand by name.
-use Rattle.std.proofs.Common.{◌≡◌, ◌≢◌, ℕ, ◌⊎◌, true, false, Bool, not, cond, List, [], ◌∷◌, map, ◌++◌, filter, Option, Some, None, refl, sym, ap, subst, ◌∙◌, inl, inr, eqb, nat_eq, ◌<◌, ◌≤◌, length, zero, suc, is_some, arith}
+use Rattle.std.proofs.Common.{
+  ◌≡◌,
+  ◌≢◌,
+  ℕ,
+  ◌⊎◌,
+  true,
+  false,
+  Bool,
+  not,
+  cond,
+  List,
+  [],
+  ◌∷◌,
+  map,
+  ◌++◌,
+  filter,
+  Option,
+  Some,
+  None,
+  refl,
+  sym,
+  ap,
+  subst,
+  ◌∙◌,
+  inl,
+  inr,
+  eqb,
+  nat_eq,
+  ◌<◌,
+  ◌≤◌,
+  length,
+  zero,
+  suc,
+  is_some,
+  arith,
+}
 use Rattle.std.specs.List.{AllByRecursion, IsDistinct}
 use Rattle.std.specs.List.Sorted.{IsStrictlySortedBy}
 use Rattle.std.specs.Map.{lookup, keys_of, remove_entry}
@@ -17,11 +52,13 @@ use Rattle.plan_types.specs.declared.requests.Request.{Request}
 use Rattle.plan_types.specs.declared.requests.Request.TheVariants.{Single, Pair}
 use Rattle.plan_types.proofs.LookupLemmas.{none_some, itself, AsksStop, itself-asks, located-asks, none-asked, lookup-request_with}
 
-none-filter : {X : Type 0} (f : Request → Option X) (q : ℕ × Request → Bool) (es : List (ℕ × Request)) → first_some f es ≡ None → first_some f (filter q es) ≡ None
+none-filter : {X : Type 0} (f : Request → Option X) (q : ℕ × Request → Bool) (es : List (ℕ × Request)) → first_some f es ≡ None
+    → first_some f (filter q es) ≡ None
 none-filter f q [] h = refl
 none-filter {X} f q (e ∷ es) h = by (f e.1) refl (λ g. none-filter f q es g)
   where
-    by : (o : Option X) → f e.1 ≡ o → (first_some f es ≡ None → first_some f (filter q es) ≡ None) → first_some f (cond (q e) (e ∷ filter q es) (filter q es)) ≡ None
+    by : (o : Option X) → f e.1 ≡ o → (first_some f es ≡ None → first_some f (filter q es) ≡ None)
+        → first_some f (cond (q e) (e ∷ filter q es) (filter q es)) ≡ None
     by (Some x) o rest = absurd (none_some x (sym (let g : option_or (f e.1) (first_some f es) ≡ None = h in rw o at g)))
     by None o rest = kept (q e)
       where
@@ -41,12 +78,14 @@ none-apart (e ∷ es) n all = by e.1 all (λ h. none-apart es n h)
     flip m h = elim (eqb_tells m n) [ inl t ↦ absurd (let g : true ≡ false = sym (eq-eqb n m (sym t.1)) ∙ h in cc) | inr t ↦ t.0 ]
 
     by : (r : Request) → AllByRecursion (λ m. nat_eq n m ≡ false) (map (λ s. s.number) (stops_of r ++ stops_among es))
-        → (AllByRecursion (λ m. nat_eq n m ≡ false) (numbers_among es) → first_some (stop_in n) es ≡ None) → option_or (stop_in n r) (first_some (stop_in n) es) ≡ None
+        → (AllByRecursion (λ m. nat_eq n m ≡ false) (numbers_among es) → first_some (stop_in n) es ≡ None)
+        → option_or (stop_in n r) (first_some (stop_in n) es) ≡ None
     by (Single a) all rest = rw (flip a.number all.0) (rest all.1)
     by (Pair a b) all rest = rw (flip a.number all.0, flip b.number all.1.0) (rest all.1.1)
 
 -- where a request has the stop no later one has it
-apart : (e : ℕ × Request) (es : List (ℕ × Request)) (n : ℕ) (s : Stop) → IsDistinct nat_eq (numbers_among (e ∷ es)) → stop_in n e.1 ≡ Some s → first_some (stop_in n) es ≡ None
+apart : (e : ℕ × Request) (es : List (ℕ × Request)) (n : ℕ) (s : Stop) → IsDistinct nat_eq (numbers_among (e ∷ es)) → stop_in n e.1 ≡ Some s
+    → first_some (stop_in n) es ≡ None
 unfolding IsDistinct
 apart e es n s distinct is = by e.1 distinct is
   where
@@ -73,13 +112,16 @@ distinct-rest e es distinct = by e.1 distinct
 
 -- a look-up of one of its stops finds the request under a name
 module _ {X : Type 0} (n : ℕ) (f : Request → Option X) (asks : AsksStop n f) where
-  pub named-found : (es : List (ℕ × Request)) (name : ℕ) (r : Request) (s : Stop) (x : X) → IsDistinct nat_eq (numbers_among es) → lookup (nat_eq name) es ≡ Some r → stop_in n r ≡ Some s → f r ≡ Some x → first_some f es ≡ Some x
+  pub named-found : (es : List (ℕ × Request)) (name : ℕ) (r : Request) (s : Stop) (x : X) → IsDistinct nat_eq (numbers_among es)
+      → lookup (nat_eq name) es ≡ Some r → stop_in n r ≡ Some s → f r ≡ Some x → first_some f es ≡ Some x
   named-found [] name r s x distinct at has is = absurd (none_some r at)
   named-found (e ∷ es) name r s x distinct at has is = by (eqb_tells name e.0) (λ h. named-found es name r s x (distinct-rest e es distinct) h has is)
     where
-      by : ((eqb name e.0 ≡ true) × (name ≡ e.0)) ⊎ ((eqb name e.0 ≡ false) × (name ≢ e.0)) → (lookup (nat_eq name) es ≡ Some r → first_some f es ≡ Some x) → option_or (f e.1) (first_some f es) ≡ Some x
+      by : ((eqb name e.0 ≡ true) × (name ≡ e.0)) ⊎ ((eqb name e.0 ≡ false) × (name ≢ e.0)) → (lookup (nat_eq name) es ≡ Some r → first_some f es ≡ Some x)
+          → option_or (f e.1) (first_some f es) ≡ Some x
       by (inl t) rest =
-          let same : e.1 ≡ r = (let g : cond (eqb name e.0) (Some e.1) (lookup (nat_eq name) es) ≡ Some r = at in let h : Some e.1 ≡ Some r = (rw (t.0) at g) in cc) in
+          let same : e.1 ≡ r =
+          (let g : cond (eqb name e.0) (Some e.1) (lookup (nat_eq name) es) ≡ Some r = at in let h : Some e.1 ≡ Some r = (rw (t.0) at g) in cc) in
           rw (ap f same ∙ is) refl
       by (inr t) rest = head (stop_in n e.1) refl
         where
@@ -102,7 +144,8 @@ found-has (e ∷ es) n r is none = by (stop_in n e.1) refl (λ h. found-has es n
         none_some x (sym none ∙ ap (stop_in n) (sym same) ∙ o)
 
 -- nothing is left at a number of the request that is taken out
-pub freed : (es : List (ℕ × Request)) (n : ℕ) (r : Request) → AllByRecursion (λ e. e.0 ≡ request_name e.1) es → IsDistinct nat_eq (numbers_among es) → first_some (itself n) es ≡ Some r → first_some (stop_in n) (without_entry es (request_name r)) ≡ None
+pub freed : (es : List (ℕ × Request)) (n : ℕ) (r : Request) → AllByRecursion (λ e. e.0 ≡ request_name e.1) es → IsDistinct nat_eq (numbers_among es)
+    → first_some (itself n) es ≡ Some r → first_some (stop_in n) (without_entry es (request_name r)) ≡ None
 freed [] n r named distinct is = refl
 freed (e ∷ es) n r named distinct is = by (stop_in n e.1) refl (λ h. freed es n r named.1 (distinct-rest e es distinct) h)
   where
@@ -125,12 +168,15 @@ freed (e ∷ es) n r named distinct is = by (stop_in n e.1) refl (λ h. freed es
         rw out (none-filter (stop_in n) (λ e. not (eqb e.0 (request_name r))) es (apart e es n x distinct o))
 
 -- at other numbers a look-up finds what it found
-pub kept-others : {X : Type 0} (n name : ℕ) (f : Request → Option X) → AsksStop n f → (es : List (ℕ × Request)) → AllByRecursion (λ e. e.0 ≡ request_name e.1) es → IsDistinct nat_eq (numbers_among es)
+pub kept-others : {X : Type 0} (n name : ℕ) (f : Request → Option X) → AsksStop n f → (es : List (ℕ × Request))
+    → AllByRecursion (λ e. e.0 ≡ request_name e.1) es → IsDistinct nat_eq (numbers_among es)
     → ((r : Request) → first_some (itself n) es ≡ Some r → request_name r ≢ name) → first_some f (without_entry es name) ≡ first_some f es
 kept-others n name f asks [] named distinct other = refl
-kept-others {X} n name f asks (e ∷ es) named distinct other = by (stop_in n e.1) refl (λ h. kept-others n name f asks es named.1 (distinct-rest e es distinct) h)
+kept-others {X} n name f asks (e ∷ es) named distinct other =
+    by (stop_in n e.1) refl (λ h. kept-others n name f asks es named.1 (distinct-rest e es distinct) h)
   where
-    by : (o : Option Stop) → stop_in n e.1 ≡ o → (((r : Request) → first_some (itself n) es ≡ Some r → request_name r ≢ name) → first_some f (without_entry es name) ≡ first_some f es)
+    by : (o : Option Stop) → stop_in n e.1 ≡ o
+        → (((r : Request) → first_some (itself n) es ≡ Some r → request_name r ≢ name) → first_some f (without_entry es name) ≡ first_some f es)
         → first_some f (cond (not (eqb e.0 name)) (e ∷ without_entry es name) (without_entry es name)) ≡ option_or (f e.1) (first_some f es)
     by None o rest = kept (not (eqb e.0 name))
       where
@@ -158,21 +204,34 @@ lookup-without [] name m = by (eqb m name)
     by false = refl
 lookup-without (e ∷ es) name m = by (eqb_tells e.0 name) (eqb_tells m name) (lookup-without es name m)
   where
-    by : ((eqb e.0 name ≡ true) × (e.0 ≡ name)) ⊎ ((eqb e.0 name ≡ false) × (e.0 ≢ name)) → ((eqb m name ≡ true) × (m ≡ name)) ⊎ ((eqb m name ≡ false) × (m ≢ name))
+    by : ((eqb e.0 name ≡ true) × (e.0 ≡ name)) ⊎ ((eqb e.0 name ≡ false) × (e.0 ≢ name))
+        → ((eqb m name ≡ true) × (m ≡ name)) ⊎ ((eqb m name ≡ false) × (m ≢ name))
         → lookup (nat_eq m) (without_entry es name) ≡ cond (eqb m name) None (lookup (nat_eq m) es)
-        → lookup (nat_eq m) (cond (not (eqb e.0 name)) (e ∷ without_entry es name) (without_entry es name)) ≡ cond (eqb m name) None (cond (eqb m e.0) (Some e.1) (lookup (nat_eq m) es))
-    by (inl t) (inl u) rest = rw (t.0, u.0) (let g : lookup (nat_eq m) (without_entry es name) ≡ cond (eqb m name) None (lookup (nat_eq m) es) = rest in rw (u.0) at g)
-    by (inl t) (inr u) rest = rw (t.0, u.0, ne_eqb m e.0 (λ h. u.1 (h ∙ t.1))) (let g : lookup (nat_eq m) (without_entry es name) ≡ cond (eqb m name) None (lookup (nat_eq m) es) = rest in rw (u.0) at g)
-    by (inr t) (inl u) rest = rw (t.0, u.0, ne_eqb m e.0 (λ h. t.1 (sym h ∙ u.1))) (let g : lookup (nat_eq m) (without_entry es name) ≡ cond (eqb m name) None (lookup (nat_eq m) es) = rest in rw (u.0) at g)
-    by (inr t) (inr u) rest = rw (t.0, u.0) (ap (cond (eqb m e.0) (Some e.1)) (let g : lookup (nat_eq m) (without_entry es name) ≡ cond (eqb m name) None (lookup (nat_eq m) es) = rest in rw (u.0) at g))
+        → lookup (nat_eq m) (cond (not (eqb e.0 name)) (e ∷ without_entry es name) (without_entry es name))
+        ≡ cond (eqb m name) None (cond (eqb m e.0) (Some e.1) (lookup (nat_eq m) es))
+    by (inl t) (inl u) rest =
+        rw (t.0, u.0) (let g : lookup (nat_eq m) (without_entry es name) ≡ cond (eqb m name) None (lookup (nat_eq m) es) = rest in rw (u.0) at g)
+    by (inl t) (inr u) rest =
+        rw (t.0, u.0, ne_eqb m e.0 (λ h. u.1 (h ∙ t.1)))
+        (let g : lookup (nat_eq m) (without_entry es name) ≡ cond (eqb m name) None (lookup (nat_eq m) es) = rest in rw (u.0) at g)
+    by (inr t) (inl u) rest =
+        rw (t.0, u.0, ne_eqb m e.0 (λ h. t.1 (sym h ∙ u.1)))
+        (let g : lookup (nat_eq m) (without_entry es name) ≡ cond (eqb m name) None (lookup (nat_eq m) es) = rest in rw (u.0) at g)
+    by (inr t) (inr u) rest =
+        rw (t.0, u.0)
+        (ap (cond (eqb m e.0) (Some e.1))
+        (let g : lookup (nat_eq m) (without_entry es name) ≡ cond (eqb m name) None (lookup (nat_eq m) es) = rest in rw (u.0) at g))
 
 pub without-none : (es : List (ℕ × Request)) (name : ℕ) → lookup (nat_eq name) es ≡ None → without_entry es name ≡ es
 without-none [] name none = refl
 without-none (e ∷ es) name none = by (eqb_tells name e.0) (λ h. without-none es name h)
   where
-    by : ((eqb name e.0 ≡ true) × (name ≡ e.0)) ⊎ ((eqb name e.0 ≡ false) × (name ≢ e.0)) → (lookup (nat_eq name) es ≡ None → without_entry es name ≡ es) → cond (not (eqb e.0 name)) (e ∷ without_entry es name) (without_entry es name) ≡ e ∷ es
+    by : ((eqb name e.0 ≡ true) × (name ≡ e.0)) ⊎ ((eqb name e.0 ≡ false) × (name ≢ e.0)) → (lookup (nat_eq name) es ≡ None → without_entry es name ≡ es)
+        → cond (not (eqb e.0 name)) (e ∷ without_entry es name) (without_entry es name) ≡ e ∷ es
     by (inl t) rest = absurd (none_some e.1 (sym (let g : cond (eqb name e.0) (Some e.1) (lookup (nat_eq name) es) ≡ None = none in rw (t.0) at g)))
-    by (inr t) rest = rw (ne_eqb e.0 name (λ h. t.1 (sym h))) (ap (λ l. e ∷ l) (rest (let g : cond (eqb name e.0) (Some e.1) (lookup (nat_eq name) es) ≡ None = none in rw (t.0) at g)))
+    by (inr t) rest =
+        rw (ne_eqb e.0 name (λ h. t.1 (sym h)))
+        (ap (λ l. e ∷ l) (rest (let g : cond (eqb name e.0) (Some e.1) (lookup (nat_eq name) es) ≡ None = none in rw (t.0) at g)))
 
 -- a name below each that follows is none of them
 lookup-below : (es : List (ℕ × Request)) (name : ℕ) → AllByRecursion (λ y. nat_cmp name y ≡ Less) (keys_of es) → lookup (nat_eq name) es ≡ None
@@ -187,7 +246,8 @@ pub removed : (es : List (ℕ × Request)) (name : ℕ) → IsStrictlySortedBy n
 unfolding IsStrictlySortedBy
 removed [] name rising = refl
 removed (e ∷ es) name rising = elim (eqb_tells name e.0) [
-  | inl t ↦ rw (t.0, eq-eqb e.0 name (sym t.1)) (sym (without-none es name (lookup-below es name (subst (λ m. AllByRecursion (λ y. nat_cmp m y ≡ Less) (keys_of es)) (sym t.1) rising.0))))
+  | inl t ↦ rw (t.0, eq-eqb e.0 name (sym t.1))
+      (sym (without-none es name (lookup-below es name (subst (λ m. AllByRecursion (λ y. nat_cmp m y ≡ Less) (keys_of es)) (sym t.1) rising.0))))
   | inr t ↦ rw (t.0, ne_eqb e.0 name (λ h. t.1 (sym h))) (ap (λ l. e ∷ l) (removed es name rising.1))
 ]
 
@@ -208,7 +268,8 @@ keys-filter P q (e ∷ es) all = by (q e) (keys-filter P q es all.1)
     by true rest = (all.0, rest)
     by false rest = rest
 
-rising-filter : (q : ℕ × Request → Bool) (es : List (ℕ × Request)) → IsStrictlySortedBy nat_cmp (keys_of es) → IsStrictlySortedBy nat_cmp (keys_of (filter q es))
+rising-filter : (q : ℕ × Request → Bool) (es : List (ℕ × Request)) → IsStrictlySortedBy nat_cmp (keys_of es)
+    → IsStrictlySortedBy nat_cmp (keys_of (filter q es))
 unfolding IsStrictlySortedBy
 rising-filter q [] rising = tt
 rising-filter q (e ∷ es) rising = by (q e) (rising-filter q es rising.1)
@@ -217,11 +278,14 @@ rising-filter q (e ∷ es) rising = by (q e) (rising-filter q es rising.1)
     by true rest = (keys-filter (λ y. nat_cmp e.0 y ≡ Less) q es rising.0, rest)
     by false rest = rest
 
-numbers-filter : (P : ℕ → Type 0) (q : ℕ × Request → Bool) (es : List (ℕ × Request)) → AllByRecursion P (numbers_among es) → AllByRecursion P (numbers_among (filter q es))
+numbers-filter : (P : ℕ → Type 0) (q : ℕ × Request → Bool) (es : List (ℕ × Request)) → AllByRecursion P (numbers_among es)
+    → AllByRecursion P (numbers_among (filter q es))
 numbers-filter P q [] all = tt
 numbers-filter P q (e ∷ es) all = by e.1 refl all (λ h. numbers-filter P q es h)
   where
-    by : (r : Request) → e.1 ≡ r → AllByRecursion P (map (λ s. s.number) (stops_of r ++ stops_among es)) → (AllByRecursion P (numbers_among es) → AllByRecursion P (numbers_among (filter q es))) → AllByRecursion P (numbers_among (cond (q e) (e ∷ filter q es) (filter q es)))
+    by : (r : Request) → e.1 ≡ r → AllByRecursion P (map (λ s. s.number) (stops_of r ++ stops_among es))
+        → (AllByRecursion P (numbers_among es) → AllByRecursion P (numbers_among (filter q es)))
+        → AllByRecursion P (numbers_among (cond (q e) (e ∷ filter q es) (filter q es)))
     by (Single a) is all rest = kept (q e)
       where
         kept : (b : Bool) → AllByRecursion P (numbers_among (cond b (e ∷ filter q es) (filter q es)))
@@ -238,7 +302,9 @@ unfolding IsDistinct
 distinct-filter q [] distinct = tt
 distinct-filter q (e ∷ es) distinct = by e.1 refl distinct (λ h. distinct-filter q es h)
   where
-    by : (r : Request) → e.1 ≡ r → IsDistinct nat_eq (map (λ s. s.number) (stops_of r ++ stops_among es)) → (IsDistinct nat_eq (numbers_among es) → IsDistinct nat_eq (numbers_among (filter q es))) → IsDistinct nat_eq (numbers_among (cond (q e) (e ∷ filter q es) (filter q es)))
+    by : (r : Request) → e.1 ≡ r → IsDistinct nat_eq (map (λ s. s.number) (stops_of r ++ stops_among es))
+        → (IsDistinct nat_eq (numbers_among es) → IsDistinct nat_eq (numbers_among (filter q es)))
+        → IsDistinct nat_eq (numbers_among (cond (q e) (e ∷ filter q es) (filter q es)))
     by (Single a) is d rest = kept (q e)
       where
         kept : (b : Bool) → IsDistinct nat_eq (numbers_among (cond b (e ∷ filter q es) (filter q es)))
@@ -247,7 +313,9 @@ distinct-filter q (e ∷ es) distinct = by e.1 refl distinct (λ h. distinct-fil
     by (Pair a b) is d rest = kept (q e)
       where
         kept : (c : Bool) → IsDistinct nat_eq (numbers_among (cond c (e ∷ filter q es) (filter q es)))
-        kept true = rw is ((d.0.0, numbers-filter (λ y. nat_eq a.number y ≡ false) q es d.0.1), (numbers-filter (λ y. nat_eq b.number y ≡ false) q es d.1.0, rest d.1.1))
+        kept true =
+            rw is
+            ((d.0.0, numbers-filter (λ y. nat_eq a.number y ≡ false) q es d.0.1), (numbers-filter (λ y. nat_eq b.number y ≡ false) q es d.1.0, rest d.1.1))
         kept false = rest d.1.1
 
 -- a problem without one of its requests is a problem
@@ -274,13 +342,17 @@ within (x ∷ xs) zero l is = omega arith
 within (x ∷ xs) (suc n) l is = let h = within xs n l is in omega arith
 
 -- and so over the stops of each request
-pub reaches : (p : Instance) (name : ℕ) (r : Request) (xs : List (Option Located)) → IsInstance p → ((n : ℕ) → located_at xs n ≡ first_some (located_in n) p.requests) → lookup (nat_eq name) p.requests ≡ Some r → number_after r ≤ length xs
+pub reaches : (p : Instance) (name : ℕ) (r : Request) (xs : List (Option Located)) → IsInstance p
+    → ((n : ℕ) → located_at xs n ≡ first_some (located_in n) p.requests) → lookup (nat_eq name) p.requests ≡ Some r → number_after r ≤ length xs
 reaches p name r xs valid table at = by r refl
   where
     each : (n : ℕ) (s : Stop) → stop_in n r ≡ Some s → n < length xs
     each n s has =
         let l : Located = record { name = request_name r; partner = partner_in n r; stop = s } in
-        within xs n l (table n ∙ named-found n (located_in n) (located-asks n) p.requests name r s l valid.distinct at has (ap (option_map (λ s. record { name = request_name r; partner = partner_in n r; stop = s })) has))
+        within xs n l
+        (table n
+        ∙ named-found n (located_in n) (located-asks n) p.requests name r s l valid.distinct at has
+        (ap (option_map (λ s. record { name = request_name r; partner = partner_in n r; stop = s })) has))
 
     by : (q : Request) → r ≡ q → number_after q ≤ length xs
     by (Single a) is = let h = each a.number a (ap (stop_in a.number) is ∙ rw (eq-eqb a.number a.number refl) refl) in omega arith
@@ -293,13 +365,16 @@ reaches p name r xs valid table at = by r refl
         omega arith
 
 -- what stands under a name has that name
-named-own : (es : List (ℕ × Request)) (name : ℕ) (r : Request) → AllByRecursion (λ e. e.0 ≡ request_name e.1) es → lookup (nat_eq name) es ≡ Some r → request_name r ≡ name
+named-own : (es : List (ℕ × Request)) (name : ℕ) (r : Request) → AllByRecursion (λ e. e.0 ≡ request_name e.1) es → lookup (nat_eq name) es ≡ Some r
+    → request_name r ≡ name
 named-own [] name r named at = absurd (none_some r at)
 named-own (e ∷ es) name r named at = by (eqb_tells name e.0) (λ h. named-own es name r named.1 h)
   where
-    by : ((eqb name e.0 ≡ true) × (name ≡ e.0)) ⊎ ((eqb name e.0 ≡ false) × (name ≢ e.0)) → (lookup (nat_eq name) es ≡ Some r → request_name r ≡ name) → request_name r ≡ name
+    by : ((eqb name e.0 ≡ true) × (name ≡ e.0)) ⊎ ((eqb name e.0 ≡ false) × (name ≢ e.0)) → (lookup (nat_eq name) es ≡ Some r → request_name r ≡ name)
+        → request_name r ≡ name
     by (inl t) rest =
-        let same : e.1 ≡ r = (let g : cond (eqb name e.0) (Some e.1) (lookup (nat_eq name) es) ≡ Some r = at in let h : Some e.1 ≡ Some r = (rw (t.0) at g) in cc) in
+        let same : e.1 ≡ r =
+        (let g : cond (eqb name e.0) (Some e.1) (lookup (nat_eq name) es) ≡ Some r = at in let h : Some e.1 ≡ Some r = (rw (t.0) at g) in cc) in
         sym (ap request_name same) ∙ sym named.0 ∙ sym t.1
     by (inr t) rest = rest (let g : cond (eqb name e.0) (Some e.1) (lookup (nat_eq name) es) ≡ Some r = at in rw (t.0) at g)
 
@@ -311,15 +386,18 @@ cleared p name n r valid at = by (stop_in n r) refl
     own : request_name r ≡ name
     own = named-own p.requests name r valid.named at
 
-    by : (o : Option Stop) → stop_in n r ≡ o → cond (is_some o) None (first_some (located_in n) p.requests) ≡ first_some (located_in n) (without_entry p.requests name)
+    by : (o : Option Stop) → stop_in n r ≡ o
+        → cond (is_some o) None (first_some (located_in n) p.requests) ≡ first_some (located_in n) (without_entry p.requests name)
     by (Some s) has =
         let found = named-found n (itself n) (itself-asks n) p.requests name r s r valid.distinct at has (ap (option_map (λ _. r)) has) in
         let none = freed p.requests n r valid.named valid.distinct found in
-        sym (subst (λ m. first_some (located_in n) (without_entry p.requests m) ≡ None) own (none-asked n (located_in n) (located-asks n) (without_entry p.requests (request_name r)) none))
+        sym (subst (λ m. first_some (located_in n) (without_entry p.requests m) ≡ None) own
+        (none-asked n (located_in n) (located-asks n) (without_entry p.requests (request_name r)) none))
     by None has = sym (kept-others n name (located_in n) (located-asks n) p.requests valid.named valid.distinct other)
       where
         other : (q : Request) → first_some (itself n) p.requests ≡ Some q → request_name q ≢ name
         other q found same =
-            let there : lookup (nat_eq name) p.requests ≡ Some q = subst (λ m. lookup (nat_eq m) p.requests ≡ Some q) same (lookup-request_with p n q valid found) in
+            let there : lookup (nat_eq name) p.requests ≡ Some q =
+            subst (λ m. lookup (nat_eq m) p.requests ≡ Some q) same (lookup-request_with p n q valid found) in
             let one : q ≡ r = (let g : Some q ≡ Some r = sym there ∙ at in cc) in
             found-has p.requests n q found (ap (stop_in n) one ∙ has)

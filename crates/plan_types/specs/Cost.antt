@@ -4,7 +4,9 @@ use Rattle.plan_types.specs.declared.plans.Cost.{Cost}
 
 -- a costs less than b: it leaves fewer requests out, or as many and uses fewer vehicles, or as many and drives less
 abbrev pub cost_below : Cost → Cost → Bool
-cost_below a b = nat_lt a.unplanned b.unplanned || (a.unplanned == b.unplanned && (nat_lt a.vehicles b.vehicles || (a.vehicles == b.vehicles && nat_lt a.distance b.distance)))
+cost_below a b =
+    nat_lt a.unplanned b.unplanned ||
+    (a.unplanned == b.unplanned && (nat_lt a.vehicles b.vehicles || (a.vehicles == b.vehicles && nat_lt a.distance b.distance)))
 
 -- a costs no more than b
 abbrev pub cost_at_most : Cost → Cost → Bool
@@ -12,7 +14,8 @@ cost_at_most a b = not (cost_below b a)
 
 -- the same as a sentence
 abbrev pub IsCostBelow : Cost → Cost → Type 0
-IsCostBelow a b = (a.unplanned < b.unplanned) ⊎ ((a.unplanned ≡ b.unplanned) × ((a.vehicles < b.vehicles) ⊎ ((a.vehicles ≡ b.vehicles) × (a.distance < b.distance))))
+IsCostBelow a b =
+    (a.unplanned < b.unplanned) ⊎ ((a.unplanned ≡ b.unplanned) × ((a.vehicles < b.vehicles) ⊎ ((a.vehicles ≡ b.vehicles) × (a.distance < b.distance))))
 
 -- what is below, and what is at most, as sentences
 abbrev pub BelowTells : Type 0

@@ -73,7 +73,9 @@ PutKeepsOthers = (p : Instance) (r : Request) (n : ℕ) → IsInstance p → ¬ 
 
 -- nor do the requests of other names
 abbrev pub PutByName : Type 0
-PutByName = (p : Instance) (r : Request) (m : ℕ) → IsInstance p → ¬ IsTaken p r → lookup (nat_eq m) (with_request p r).requests ≡ (if m == request_name r then Some r else lookup (nat_eq m) p.requests)
+PutByName =
+    (p : Instance) (r : Request) (m : ℕ) → IsInstance p → ¬ IsTaken p r
+    → lookup (nat_eq m) (with_request p r).requests ≡ (if m == request_name r then Some r else lookup (nat_eq m) p.requests)
 
 -- a problem without one of its requests is a problem
 abbrev pub TakeGivesProblem : Type 0

@@ -1,3 +1,4 @@
+-- A request whose numbers are free makes a problem of a problem: it is found at its numbers, and all else stays.
 use Rattle.plan_types.proofs.LawProofs.{put_gives_problem, put_is_found, put_keeps_others, put_by_name}
 use Rattle.plan_types.proofs.laws.put_adds_one_request.Goals as goal
 

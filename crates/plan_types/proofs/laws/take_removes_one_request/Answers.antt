@@ -1,3 +1,4 @@
+-- A problem without one of its requests is a problem: nothing is found at the request's numbers, and all else stays.
 use Rattle.plan_types.proofs.LawProofs.{take_gives_problem, take_frees_numbers, take_keeps_others, take_by_name, take_of_none}
 use Rattle.plan_types.proofs.laws.take_removes_one_request.Goals as goal
 

@@ -1,3 +1,4 @@
+-- A request with a new name goes last where all names are lesser, else behind the last lesser name and before the first greater one.
 use Rattle.std.proofs.Common.{sym, ◌∙◌, ◌≡◌, None, subst, nat_eq, ℕ}
 use Rattle.std.specs.Map.{lookup}
 use Rattle.plan_types.proofs.InsertLemmas.{inserted_before, inserted_last, with_entry-at}
@@ -10,7 +11,8 @@ returns-clause-ok c =
     let place = c.place_of-place in
     let absent : lookup (nat_eq c.name-name.result) es ≡ None = subst (λ (n : ℕ). lookup (nat_eq n) es ≡ None) (sym named) c.requires.absent in
     c.in_ok-insert_before.ensures.entries
-    ∙ inserted_before c.name-name.result c.args.request es place.result c.in_ok-insert_before.field-0.0 place.ensures.within absent c.in_ok-insert_before.ensures.index
+    ∙ inserted_before c.name-name.result c.args.request es place.result c.in_ok-insert_before.field-0.0 place.ensures.within absent
+    c.in_ok-insert_before.ensures.index
     ∙ with_entry-at es c.name-name.result c.args.request place.result named place.ensures.lesser place.ensures.greater
 
 pub returns-then-is_above_all-clause-ok : goal.returns-then-is_above_all-clause-ok

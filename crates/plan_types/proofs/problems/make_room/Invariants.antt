@@ -1,3 +1,4 @@
+-- Empty entries at the end leave what the table has at each number, and each turn brings it nearer to the length that is wanted.
 use Rattle.std.proofs.Common.{◌≡◌, ℕ, ◌-◌, vec_len}
 use Rattle.plan_types.specs.Located.{located_at}
 use Rattle.plan_types.proofs.problems.make_room.Given as goal

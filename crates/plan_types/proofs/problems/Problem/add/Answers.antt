@@ -1,3 +1,4 @@
+-- A request with free numbers goes under a free name, and the problem with it is valid; the table of stops has then what its requests say.
 use Rattle.std.proofs.Common.{rules, List, Option, sym, ap, ◌∙◌}
 use Rattle.plan_types.specs.Request.{IsRequest}
 use Rattle.plan_types.specs.Located.{instance_of, located_in, located_at}
@@ -21,11 +22,14 @@ invariant_of-self-2 c =
     let free : IsTaken (instance_of c.self.inside) c.args.request → ⊥ = search rules in
     let put = c.in_ok-insert_by_name.ensures in
     record {
-      valid = rw (put.ok, c.max-self-inside.ensures, c.number_after-after.ensures) (IsInstance-with_request p c.args.request c.self.invariant.valid fits free (splits_free p c.args.request c.self.invariant.valid free));
+      valid = rw (put.ok, c.max-self-inside.ensures, c.number_after-after.ensures)
+          (IsInstance-with_request p c.args.request c.self.invariant.valid fits free (splits_free p c.args.request c.self.invariant.valid free));
       located = λ n.
           rw (put.ok)
-          (ap (λ (l : List (Option Located)). located_at l n) (take-overwritten c.make_room.new.located.len c.locate.new.located c.make_room.new.located.items (search rules))
+          (ap (λ (l : List (Option Located)). located_at l n)
+          (take-overwritten c.make_room.new.located.len c.locate.new.located c.make_room.new.located.items (search rules))
           ∙ c.locate.ensures n
-          ∙ ap (option_or (located_in n c.args.request)) (ap (λ (l : List (Option Located)). located_at l n) c.deref_mut.ensures.value ∙ c.in_ok-make_room.ensures.same n ∙ c.self.invariant.located n)
+          ∙ ap (option_or (located_in n c.args.request))
+          (ap (λ (l : List (Option Located)). located_at l n) c.deref_mut.ensures.value ∙ c.in_ok-make_room.ensures.same n ∙ c.self.invariant.located n)
           ∙ sym (found-with_entry p c.args.request n (located_in n) (located-asks n) free (splits_free p c.args.request c.self.invariant.valid free)));
     }

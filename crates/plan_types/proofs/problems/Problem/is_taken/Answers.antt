@@ -1,3 +1,4 @@
+-- Where no stop has the pickup's number, a pair is taken just where one has the delivery's.
 use Rattle.std.proofs.Common.{◌≡◌, true, false, sym, ◌∙◌, inl, inr}
 use Rattle.plan_types.proofs.problems.Problem.is_taken.Goals as goal
 

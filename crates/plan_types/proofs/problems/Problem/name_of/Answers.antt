@@ -1,3 +1,4 @@
+-- The name in the table at a number is that of the request with this stop, and the request stands under it.
 use Rattle.std.proofs.Common.{sym, ap, ◌∙◌}
 use Rattle.std.specs.Option.{option_map}
 use Rattle.plan_types.proofs.LookupLemmas.{name_from_located, lookup-name_at}

@@ -1,3 +1,4 @@
+-- Within the limits a problem without requests is valid, and an empty table agrees with it.
 use Rattle.std.proofs.Common.{rules, arith, refl}
 use Rattle.plan_types.proofs.InstanceLemmas.{IsInstance-new}
 use Rattle.plan_types.proofs.problems.Problem.new.Goals as goal

@@ -1,3 +1,4 @@
+-- A stop whose request has another name is a delivery, and that name is the number of its pickup.
 use Rattle.std.proofs.Common.{◌≡◌, sym, ap, ◌∙◌, cond, Some, None, eqb}
 use Rattle.std.proofs.lemmas.Bool.{ne_eqb, eq-eqb}
 use Rattle.std.specs.Option.{option_and_then, option_copied}

@@ -1,3 +1,4 @@
+-- The stop in the table at a number is the one that the requests have: of this number, within its limits, and below the next number.
 use Rattle.std.proofs.Common.{sym}
 use Rattle.plan_types.proofs.LookupLemmas.{stop_at_located, stop_at_none, stop_from_first, stop_at-below}
 use Rattle.plan_types.proofs.problems.Problem.stop.Goals as goal

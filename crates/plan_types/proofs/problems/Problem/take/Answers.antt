@@ -1,3 +1,4 @@
+-- The problem without the request is valid, and the table without the request's stops agrees with it.
 use Rattle.std.proofs.Common.{rules, ◌≡◌, List, Option, Some, None, nat_eq, ap, ◌∙◌, cond, is_some}
 use Rattle.std.specs.Map.{lookup}
 use Rattle.plan_types.specs.Instance.{Instance, without_request}
@@ -11,7 +12,8 @@ use Rattle.plan_types.proofs.problems.Problem.take.Goals as goal
 pub vacate-requires : goal.vacate-requires
 vacate-requires c =
     let at : lookup (nat_eq c.args.name) c.self.inside.requests.entries ≡ Some c.in_ok-request.request = search rules in
-    rw (c.deref_mut.ensures.value) (reaches (instance_of c.self.inside) c.args.name c.in_ok-request.request c.self.inside.located.items c.self.invariant.valid c.self.invariant.located at)
+    rw (c.deref_mut.ensures.value)
+    (reaches (instance_of c.self.inside) c.args.name c.in_ok-request.request c.self.inside.located.items c.self.invariant.valid c.self.invariant.located at)
 
 pub returns-in_err-request-clause-after : goal.returns-in_err-request-clause-after
 returns-in_err-request-clause-after c =
@@ -27,9 +29,11 @@ invariant_of-self-2 c =
       valid = rw (left) (IsInstance-without_request p c.args.name c.self.invariant.valid);
       located = λ n.
           rw (left)
-          (ap (λ (l : List (Option Located)). located_at l n) (take-overwritten c.self.inside.located.len c.vacate.new.located c.self.inside.located.items (search rules))
+          (ap (λ (l : List (Option Located)). located_at l n)
+          (take-overwritten c.self.inside.located.len c.vacate.new.located c.self.inside.located.items (search rules))
           ∙ c.vacate.ensures n
-          ∙ ap (cond (is_some (stop_in n c.in_ok-request.request)) None) (ap (λ (l : List (Option Located)). located_at l n) c.deref_mut.ensures.value ∙ c.self.invariant.located n)
+          ∙ ap (cond (is_some (stop_in n c.in_ok-request.request)) None)
+          (ap (λ (l : List (Option Located)). located_at l n) c.deref_mut.ensures.value ∙ c.self.invariant.located n)
           ∙ cleared p c.args.name n c.in_ok-request.request c.self.invariant.valid at);
     }
 
