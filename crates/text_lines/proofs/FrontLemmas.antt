@@ -12,7 +12,7 @@ use Rattle.text_lines.specs.Words.{EndsWord, IsWord, is_blank, words_of}
 use Rattle.text_lines.proofs.NumberLemmas.{digit_at, digit_bounds, digits_some, is_digits-all, number_of-signed, sign_and_rest, with_sign}
 use Rattle.text_lines.proofs.WordLemmas.{words_of-front}
 
-digit_no_blank : (b : ℕ) → is_ascii_digit b ≡ true → is_blank b ≡ false
+pub digit_no_blank : (b : ℕ) → is_ascii_digit b ≡ true → is_blank b ≡ false
 digit_no_blank b e = let range = digit_bounds b e in grind (arith, nat_tests)
 
 digits_no_blank : (ds : List ℕ) → is_digits ds ≡ true → AllByRecursion (λ b. is_blank b ≡ false) ds
@@ -28,7 +28,9 @@ with_sign-append true xs ys = refl
 with_sign-append false xs ys = refl
 
 -- What is split into a minus or none, digits, and a rest that ends their word.
-pub begins_with_number : (text body digits rest : List ℕ) (negative : Bool) (len : ℕ) → negative ≡ starts_with_minus text → body ≡ without_minus text → list_all is_ascii_digit (take len body) ≡ true → digits ≡ take len body → rest ≡ drop len body → (length digits ≡ 0 → ⊥) → EndsWord rest → BeginsWithNumber text (signed negative (digits_value 10 digits)) rest
+pub begins_with_number : (text body digits rest : List ℕ) (negative : Bool) (len : ℕ) → negative ≡ starts_with_minus text → body ≡ without_minus text
+    → list_all is_ascii_digit (take len body) ≡ true → digits ≡ take len body → rest ≡ drop len body → (length digits ≡ 0 → ⊥) → EndsWord rest
+    → BeginsWithNumber text (signed negative (digits_value 10 digits)) rest
 begins_with_number text body digits rest negative len sign unsigned all front back some ends =
     let word = with_sign negative digits in
     let is : is_digits digits ≡ true = is_digits-all digits some ∙ ap (list_all is_ascii_digit) front ∙ all in

@@ -64,7 +64,8 @@ number_from_word word number is =
       fraction = drop len body;
       whole = sign.1 ∙ ap (λ more. sign.0 ++ more) (sym (take-append-drop len body));
       is_sign = sign.2;
-      are_digits = is_digits-front body len refl (λ none. omega (arith, none, length-take len body, ltb-true 0 len tests.0, prefix_len-le-length is_ascii_digit body));
+      are_digits = is_digits-front body len refl
+          (λ none. omega (arith, none, length-take len body, ltb-true 0 len tests.0, prefix_len-le-length is_ascii_digit body));
       is_fraction = fraction_from_test (drop len body) tests.1;
       value = sym found.2 ∙ ap (signed (starts_with_minus word)) (sym both.1) ∙ ap (λ minus. signed minus (digits_value 10 (take len body))) (sym sign.3);
     }
@@ -74,7 +75,8 @@ no_digit : (fraction : List ℕ) → IsZeroFraction fraction → prefix_len is_a
 no_digit fraction (inl none) = ap (prefix_len is_ascii_digit) none
 no_digit fraction (inr (count, is)) = ap (prefix_len is_ascii_digit) is
 
-digits_front : (digits fraction : List ℕ) → list_all is_ascii_digit digits ≡ true → IsZeroFraction fraction → prefix_len is_ascii_digit (digits ++ fraction) ≡ length digits
+digits_front : (digits fraction : List ℕ) → list_all is_ascii_digit digits ≡ true → IsZeroFraction fraction
+    → prefix_len is_ascii_digit (digits ++ fraction) ≡ length digits
 digits_front [] fraction all is = no_digit fraction is
 digits_front (d ∷ digits) fraction all is =
     let both = and_parts (is_ascii_digit d) (list_all is_ascii_digit digits) all in
@@ -85,16 +87,19 @@ unfolding is_digits
 all_digits [] is = absurd (false≢true is)
 all_digits (d ∷ digits) is = is
 
-whole_from_parts : (digits fraction : List ℕ) → is_digits digits ≡ true → IsZeroFraction fraction → whole_of (digits ++ fraction) ≡ Some (digits_value 10 digits)
+whole_from_parts : (digits fraction : List ℕ) → is_digits digits ≡ true → IsZeroFraction fraction
+    → whole_of (digits ++ fraction) ≡ Some (digits_value 10 digits)
 whole_from_parts digits fraction are is =
     let body = digits ++ fraction in
     let len : prefix_len is_ascii_digit body ≡ length digits = digits_front digits fraction (all_digits digits are) is in
-    whole_of-some body (omega (arith, len, digits_some digits are)) (ap (λ k. is_zero_fraction (drop k body)) len ∙ ap is_zero_fraction (drop_at digits fraction (length digits) refl) ∙ test_from_fraction fraction is)
+    whole_of-some body (omega (arith, len, digits_some digits are))
+    (ap (λ k. is_zero_fraction (drop k body)) len ∙ ap is_zero_fraction (drop_at digits fraction (length digits) refl) ∙ test_from_fraction fraction is)
     ∙ ap (λ k. Some (digits_value 10 (take k body))) len
     ∙ ap (λ ds. Some (digits_value 10 ds)) (take_at digits fraction (length digits) refl)
 
 -- digits begin with no sign
-bare : (digits rest : List ℕ) → is_digits digits ≡ true → (starts_with_minus (digits ++ rest) ≡ false) × (without_leading_sign (digits ++ rest) ≡ digits ++ rest)
+bare : (digits rest : List ℕ) → is_digits digits ≡ true
+    → (starts_with_minus (digits ++ rest) ≡ false) × (without_leading_sign (digits ++ rest) ≡ digits ++ rest)
 unfolding is_digits
 bare [] rest are = absurd (false≢true are)
 bare (d ∷ digits) rest are =
@@ -103,11 +108,14 @@ bare (d ∷ digits) rest are =
     let plus : eqb d 43 ≡ false = ne_eqb d 43 (λ is. omega (arith, is, range.0)) in
     (minus, rw (minus, plus) refl)
 
-number_from_sign : (sign digits rest : List ℕ) → IsSign sign → is_digits digits ≡ true → number_of (sign ++ (digits ++ rest)) ≡ option_map (signed (starts_with_minus sign)) (whole_of (digits ++ rest))
+number_from_sign : (sign digits rest : List ℕ) → IsSign sign → is_digits digits ≡ true
+    → number_of (sign ++ (digits ++ rest)) ≡ option_map (signed (starts_with_minus sign)) (whole_of (digits ++ rest))
 unfolding number_of
 number_from_sign sign digits rest (inl none) are =
     let is = bare digits rest are in
-    rw none (ap (λ minus. option_map (signed minus) (whole_of (without_leading_sign (digits ++ rest)))) is.0 ∙ ap (λ body. option_map (signed false) (whole_of body)) is.1)
+    rw none
+    (ap (λ minus. option_map (signed minus) (whole_of (without_leading_sign (digits ++ rest)))) is.0
+    ∙ ap (λ body. option_map (signed false) (whole_of body)) is.1)
 number_from_sign sign digits rest (inr (inl plus)) are = rw plus refl
 number_from_sign sign digits rest (inr (inr minus)) are = rw minus refl
 

@@ -1,5 +1,38 @@
 -- The laws of lines, words and numbers.
-use Rattle.std.proofs.Common.{◌≡◌, ℕ, suc, inl, inr, ◌<◌, ◌≤◌, ◌^◌, true, false, not, List, [], ◌∷◌, ◌++◌, length, get_or, take, drop, map, Some, pos, refl, sym, ap, subst, ◌∙◌, arith, length-append, length-take, ⊎_elim, get_or-take}
+use Rattle.std.proofs.Common.{
+  ◌≡◌,
+  ℕ,
+  suc,
+  inl,
+  inr,
+  ◌<◌,
+  ◌≤◌,
+  ◌^◌,
+  true,
+  false,
+  not,
+  List,
+  [],
+  ◌∷◌,
+  ◌++◌,
+  length,
+  get_or,
+  take,
+  drop,
+  map,
+  Some,
+  pos,
+  refl,
+  sym,
+  ap,
+  subst,
+  ◌∙◌,
+  arith,
+  length-append,
+  length-take,
+  ⊎_elim,
+  get_or-take,
+}
 use Rattle.std.specs.Char.{is_ascii_digit}
 use Rattle.std.specs.Fmt.{decimal}
 use Rattle.std.specs.List.{position_or_len, prefix_len, list_all, flat_map}
@@ -32,7 +65,8 @@ cut_first : (piece rest : List ℕ) → HasNoFeed piece → pieces_of (piece ++ 
 cut_first piece rest none =
     let text = piece ++ 10 ∷ rest in
     let n = length piece in
-    pieces_at text n (omega (arith, length-append piece (10 ∷ rest))) (λ j h here. no_feed_at piece none j h (sym (get_or_append_left piece (10 ∷ rest) 0 j h) ∙ here)) (get_or_at piece 10 rest 0 n refl)
+    pieces_at text n (omega (arith, length-append piece (10 ∷ rest)))
+    (λ j h here. no_feed_at piece none j h (sym (get_or_append_left piece (10 ∷ rest) 0 j h) ∙ here)) (get_or_at piece 10 rest 0 n refl)
     ∙ ap (λ p. p ∷ pieces_of (drop (suc n) text)) (take_at piece (10 ∷ rest) n refl)
     ∙ ap (λ r. piece ∷ pieces_of r) (drop_after piece 10 rest)
 
@@ -64,7 +98,8 @@ pieces_from_cut (p ∷ []) text (none, inr (is, last)) =
     ap pieces_of (sym same) ∙ pieces_whole p last (no_feed_at p (All-head HasNoFeed p [] none))
 pieces_from_cut (p ∷ q ∷ ps) text (none, inr (is, last)) = by_rest (ends_with_feed q ps) (λ rest. pieces_from_cut (q ∷ ps) rest)
   where
-    by_rest : ((rest : List ℕ) × (flat_map ended (q ∷ ps) ≡ rest ++ 10 ∷ [])) → ((rest : List ℕ) → IsCutAtLineFeeds rest (q ∷ ps) → pieces_of rest ≡ q ∷ ps) → pieces_of text ≡ p ∷ q ∷ ps
+    by_rest : ((rest : List ℕ) × (flat_map ended (q ∷ ps) ≡ rest ++ 10 ∷ [])) → ((rest : List ℕ) → IsCutAtLineFeeds rest (q ∷ ps) → pieces_of rest ≡ q ∷ ps)
+        → pieces_of text ≡ p ∷ q ∷ ps
     by_rest (rest, ends) others =
         let whole : (p ++ 10 ∷ []) ++ rest ≡ text =
         append_cancel_right ((p ++ 10 ∷ []) ++ rest) text (10 ∷ [])

@@ -1,3 +1,4 @@
+-- The lemma files, which upper crates may cite.
 pub mod PieceLemmas
 pub mod PlaceLemmas
 pub mod WordLemmas

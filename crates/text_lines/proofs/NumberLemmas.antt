@@ -1,5 +1,46 @@
 -- Digits, their values, and where a number ends.
-use Rattle.std.proofs.Common.{◌≡◌, ℕ, ◌-◌, ◌<◌, ◌≤◌, Bool, true, false, ◌⊎◌, inl, inr, ⊎_elim, List, [], ◌∷◌, ◌++◌, length, map, get_or, take, drop, Option, Some, None, refl, sym, ap, subst, ◌∙◌, arith, eqb, ℤ, SomeIff, cond, pos, negsuc, take_all, eqb-true, option_map, int_le}
+use Rattle.std.proofs.Common.{
+  ◌≡◌,
+  ℕ,
+  ◌-◌,
+  ◌<◌,
+  ◌≤◌,
+  Bool,
+  true,
+  false,
+  ◌⊎◌,
+  inl,
+  inr,
+  ⊎_elim,
+  List,
+  [],
+  ◌∷◌,
+  ◌++◌,
+  length,
+  map,
+  get_or,
+  take,
+  drop,
+  Option,
+  Some,
+  None,
+  refl,
+  sym,
+  ap,
+  subst,
+  ◌∙◌,
+  arith,
+  eqb,
+  ℤ,
+  SomeIff,
+  cond,
+  pos,
+  negsuc,
+  take_all,
+  eqb-true,
+  option_map,
+  int_le,
+}
 use Rattle.std.specs.Prelude.{◌≤ℤ◌, ◌<ℤ◌, ◌&&◌, nat_lt, nat_le, ◌==◌, ◌^◌, Result, Ok, Err}
 use Rattle.std.specs.Int.RustNames.{unsigned_abs}
 use Rattle.std.specs.Result.{OkIff, result_ok}
@@ -31,11 +72,14 @@ value_front : (xs ys : List ℕ) → digits_value 10 xs ≤ digits_value 10 (xs 
 value_front xs ys =
     let n = number_from_digits 10 (map digit_value xs) in
     let whole : digits_value 10 (xs ++ ys) ≡ number_from_digits_after 10 n (map digit_value ys) =
-    digits_value_is 10 (xs ++ ys) ∙ ap (number_from_digits 10) (map-append digit_value xs ys) ∙ number_after_append 10 0 (map digit_value xs) (map digit_value ys) in
+    digits_value_is 10 (xs ++ ys) ∙ ap (number_from_digits 10) (map-append digit_value xs ys)
+    ∙ number_after_append 10 0 (map digit_value xs) (map digit_value ys) in
     omega (arith, digits_value_is 10 xs, whole, number_after_ge 10 n (map digit_value ys) (omega arith))
 
 pub value-take-le : (ds : List ℕ) (i : ℕ) → digits_value 10 (take i ds) ≤ digits_value 10 ds
-value-take-le ds i = let P : List ℕ → Type 0 = λ xs. digits_value 10 (take i ds) ≤ digits_value 10 xs in subst P (take-append-drop i ds) (value_front (take i ds) (drop i ds))
+value-take-le ds i =
+    let P : List ℕ → Type 0 = λ xs. digits_value 10 (take i ds) ≤ digits_value 10 xs in
+    subst P (take-append-drop i ds) (value_front (take i ds) (drop i ds))
 
 -- all pass where the passing front is as long as the list
 pub list_all-prefix_len : (p : ℕ → Bool) (xs : List ℕ) → list_all p xs ≡ (prefix_len p xs == length xs)
@@ -87,12 +131,14 @@ pub is_digits-front : (body : List ℕ) (n : ℕ) → n ≡ prefix_len is_ascii_
 is_digits-front body n same l =
     is_digits-all (take n body) l ∙ ap (λ k. list_all is_ascii_digit (take k body)) same ∙ front_passes is_ascii_digit body
 
-pub whole_of-none : (body : List ℕ) → (nat_lt 0 (prefix_len is_ascii_digit body) ≡ false) ⊎ (is_zero_fraction (drop (prefix_len is_ascii_digit body) body) ≡ false) → whole_of body ≡ None
+pub whole_of-none : (body : List ℕ)
+    → (nat_lt 0 (prefix_len is_ascii_digit body) ≡ false) ⊎ (is_zero_fraction (drop (prefix_len is_ascii_digit body) body) ≡ false) → whole_of body ≡ None
 unfolding whole_of
 whole_of-none body (inl e) = cond-false _ _ _ (and_left _ _ e)
 whole_of-none body (inr e) = cond-false _ _ _ (and_right _ _ e)
 
-pub whole_of-some : (body : List ℕ) → 0 < prefix_len is_ascii_digit body → is_zero_fraction (drop (prefix_len is_ascii_digit body) body) ≡ true → whole_of body ≡ Some (digits_value 10 (take (prefix_len is_ascii_digit body) body))
+pub whole_of-some : (body : List ℕ) → 0 < prefix_len is_ascii_digit body → is_zero_fraction (drop (prefix_len is_ascii_digit body) body) ≡ true
+    → whole_of body ≡ Some (digits_value 10 (take (prefix_len is_ascii_digit body) body))
 unfolding whole_of
 whole_of-some body l e = cond-true _ _ _ (and_from _ _ (lt-ltb 0 (prefix_len is_ascii_digit body) l) e)
 
@@ -166,7 +212,8 @@ number_of-digits ds e =
     let range = digit_bounds (get_or ds 0 0) (digit_at ds e 0 (digits_some ds e)) in
     let minus : starts_with_minus ds ≡ false = ne_eqb (get_or ds 0 0) 45 (λ is. omega (arith, is, range.0)) in
     let plus : eqb (get_or ds 0 0) 43 ≡ false = ne_eqb (get_or ds 0 0) 43 (λ is. omega (arith, is, range.0)) in
-    let bare : without_leading_sign ds ≡ ds = cond-false (starts_with_minus ds) (drop 1 ds) (without_leading_plus ds) minus ∙ ap (λ b. drop (cond b 1 0) ds) plus in
+    let bare : without_leading_sign ds ≡ ds =
+    cond-false (starts_with_minus ds) (drop 1 ds) (without_leading_plus ds) minus ∙ ap (λ b. drop (cond b 1 0) ds) plus in
     ap (λ b. option_map (signed b) (whole_of (without_leading_sign ds))) minus
     ∙ ap (λ w. option_map (signed false) (whole_of w)) bare
     ∙ ap (option_map (signed false)) (whole_of-digits ds e)
@@ -203,7 +250,8 @@ not_le_from a b e l = grind (arith, ints)
 pub within-from_SomeIff : (least most z : ℤ) (o : Option ℤ) → SomeIff o ((least ≤ℤ z) × (z ≤ℤ most)) z → o ≡ within least most (Some z)
 within-from_SomeIff least most z o h = within_cases (int_le least z) (int_le z most) refl refl o h
   where
-    within_cases : (a b : Bool) → int_le least z ≡ a → int_le z most ≡ b → (o : Option ℤ) → SomeIff o ((least ≤ℤ z) × (z ≤ℤ most)) z → o ≡ cond (a && b) (Some z) None
+    within_cases : (a b : Bool) → int_le least z ≡ a → int_le z most ≡ b → (o : Option ℤ) → SomeIff o ((least ≤ℤ z) × (z ≤ℤ most)) z
+        → o ≡ cond (a && b) (Some z) None
     within_cases true true low high (Some x) h = ap Some h.1
     within_cases true true low high None h = absurd (h (le_from least z low, le_from z most high))
     within_cases true false low high (Some x) h = absurd (not_le_from z most high h.0.1)

@@ -17,7 +17,8 @@ unfolding pieces_of
 pieces_nil = refl
 
 -- the first line feed stands at k
-pub pieces_at : (xs : List ℕ) (k : ℕ) → k < length xs → ((j : ℕ) → j < k → get_or xs j 0 ≡ 10 → ⊥) → get_or xs k 0 ≡ 10 → pieces_of xs ≡ take k xs ∷ pieces_of (drop (suc k) xs)
+pub pieces_at : (xs : List ℕ) (k : ℕ) → k < length xs → ((j : ℕ) → j < k → get_or xs j 0 ≡ 10 → ⊥) → get_or xs k 0 ≡ 10
+    → pieces_of xs ≡ take k xs ∷ pieces_of (drop (suc k) xs)
 pieces_at [] k l none here = absurd (omega arith)
 pieces_at (b ∷ bs) zero l none here = pieces_cons b bs true (eq-eqb b 10 here)
 pieces_at (b ∷ bs) (suc k) l none here =
@@ -94,7 +95,8 @@ no_feeds_more b [] e h = All-cons HasNoFeed (b ∷ []) [] (no_feed_more b [] e n
 no_feeds_more b (p ∷ ps) e h =
     All-cons HasNoFeed (b ∷ p) ps (no_feed_more b p e (All-head HasNoFeed p ps h)) (All-tail HasNoFeed p ps h)
 
-cut_step : (b : ℕ) (bs : List ℕ) (ps : List (List ℕ)) (t : Bool) → eqb b 10 ≡ t → All HasNoFeed ps × Joins bs ps → All HasNoFeed (cond t ([] ∷ ps) (onto_first b ps)) × Joins (b ∷ bs) (cond t ([] ∷ ps) (onto_first b ps))
+cut_step : (b : ℕ) (bs : List ℕ) (ps : List (List ℕ)) (t : Bool) → eqb b 10 ≡ t → All HasNoFeed ps × Joins bs ps
+    → All HasNoFeed (cond t ([] ∷ ps) (onto_first b ps)) × Joins (b ∷ bs) (cond t ([] ∷ ps) (onto_first b ps))
 cut_step b bs ps true e h =
     (All-cons HasNoFeed [] ps no_feed_nil h.0, let here : b ≡ 10 = eqb-true b 10 e in rw here (joins_feed bs ps h.1))
 cut_step b bs ps false e h = (no_feeds_more b ps e h.0, joins_more b bs ps h.1)

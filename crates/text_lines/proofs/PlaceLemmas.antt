@@ -17,11 +17,13 @@ not_not false = refl
 
 module _ (p : ℕ → Bool) (text : List ℕ) (r : Option ℕ) where
   -- before the first that passes
-  pub place_or_len : r ≡ cond (nat_lt (position_or_len p text) (length text)) (Some (position_or_len p text)) None → unwrap_or r (length text) ≡ position_or_len p text
+  pub place_or_len : r ≡ cond (nat_lt (position_or_len p text) (length text)) (Some (position_or_len p text)) None
+      → unwrap_or r (length text) ≡ position_or_len p text
   place_or_len e = told (position_or_len p text) (length text) r (prefix_len-le-length (λ b. not (p b)) text) e
 
   -- before the first that doesn't
-  pub front_or_len : r ≡ cond (nat_lt (position_or_len (λ b. not (p b)) text) (length text)) (Some (position_or_len (λ b. not (p b)) text)) None → unwrap_or r (length text) ≡ prefix_len p text
+  pub front_or_len : r ≡ cond (nat_lt (position_or_len (λ b. not (p b)) text) (length text)) (Some (position_or_len (λ b. not (p b)) text)) None
+      → unwrap_or r (length text) ≡ prefix_len p text
   front_or_len e =
       told (position_or_len (λ b. not (p b)) text) (length text) r (prefix_len-le-length (λ b. not (not (p b))) text) e
       ∙ ap (λ q. prefix_len q text) (λ i b. not_not (p b) i)

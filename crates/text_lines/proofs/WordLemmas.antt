@@ -1,5 +1,35 @@
 -- The first word of a line and the others.
-use Rattle.std.proofs.Common.{◌≡◌, ℕ, ◌+◌, ◌<◌, ◌≤◌, one-add, Bool, true, false, not, cond, ⊎_elim, List, [], ◌∷◌, ◌++◌, length, get_or, take, drop, refl, sym, ap, subst, ◌∙◌, arith, take_at, drop_at, length-append}
+use Rattle.std.proofs.Common.{
+  ◌≡◌,
+  ℕ,
+  ◌+◌,
+  ◌<◌,
+  ◌≤◌,
+  one-add,
+  Bool,
+  true,
+  false,
+  not,
+  cond,
+  ⊎_elim,
+  List,
+  [],
+  ◌∷◌,
+  ◌++◌,
+  length,
+  get_or,
+  take,
+  drop,
+  refl,
+  sym,
+  ap,
+  subst,
+  ◌∙◌,
+  arith,
+  take_at,
+  drop_at,
+  length-append,
+}
 use Rattle.std.specs.Prelude.{filter}
 use Rattle.std.specs.List.{All, onto_first, slice_split, prefix_len, position_or_len, after_first}
 use Rattle.std.proofs.lemmas.Bool.{cond_both, cases_lt, lt-ltb}
@@ -17,7 +47,8 @@ pub words_nil : words_of [] ≡ []
 unfolding words_of
 words_nil = refl
 
-trim_step : (b : ℕ) (bs : List ℕ) (t : Bool) → is_blank b ≡ t → words_of (drop (prefix_len is_blank bs) bs) ≡ words_of bs → words_of (drop (cond t (1 + prefix_len is_blank bs) 0) (b ∷ bs)) ≡ words_of (b ∷ bs)
+trim_step : (b : ℕ) (bs : List ℕ) (t : Bool) → is_blank b ≡ t → words_of (drop (prefix_len is_blank bs) bs) ≡ words_of bs
+    → words_of (drop (cond t (1 + prefix_len is_blank bs) 0) (b ∷ bs)) ≡ words_of (b ∷ bs)
 trim_step b bs true e h = rw one-add (h ∙ sym (words_blank b bs e))
 trim_step b bs false e h = refl
 
@@ -33,7 +64,8 @@ keeps : (w : List ℕ) (ws : List (List ℕ)) → has_a_byte w ≡ true → filt
 keeps w ws e = ap (λ t. cond t (w ∷ filter has_a_byte ws) (filter has_a_byte ws)) e
 
 -- the word ends at a blank
-word_then_blank : (xs : List ℕ) → 0 < position_or_len is_blank xs → position_or_len is_blank xs < length xs → words_of xs ≡ take (position_or_len is_blank xs) xs ∷ words_of (drop (position_or_len is_blank xs) xs)
+word_then_blank : (xs : List ℕ) → 0 < position_or_len is_blank xs → position_or_len is_blank xs < length xs
+    → words_of xs ≡ take (position_or_len is_blank xs) xs ∷ words_of (drop (position_or_len is_blank xs) xs)
 unfolding words_of
 word_then_blank xs l more =
     let n = position_or_len is_blank xs in
@@ -51,7 +83,8 @@ word_to_end xs l all =
     ap (filter has_a_byte) (slice_split_none is_blank xs none) ∙ keeps xs [] (lt-ltb 0 (length xs) l)
 
 -- the first word, where the line doesn't begin with a blank
-pub words_of-word : (xs : List ℕ) → 0 < position_or_len is_blank xs → words_of xs ≡ take (position_or_len is_blank xs) xs ∷ words_of (drop (position_or_len is_blank xs) xs)
+pub words_of-word : (xs : List ℕ) → 0 < position_or_len is_blank xs
+    → words_of xs ≡ take (position_or_len is_blank xs) xs ∷ words_of (drop (position_or_len is_blank xs) xs)
 words_of-word xs l =
     let n = position_or_len is_blank xs in
     ⊎_elim
@@ -83,7 +116,8 @@ words_of-none xs e =
     (cases_lt n (length xs))
 
 -- One step: ys is xs without the blanks at its front, w has its bytes before the next blank, and rest the others.
-module _ (xs ys w rest : List ℕ) (n : ℕ) (trims : ys ≡ drop (prefix_len is_blank xs) xs) (ends : n ≡ position_or_len is_blank ys) (front : w ≡ take n ys) (back : rest ≡ drop n ys) where
+module _ (xs ys w rest : List ℕ) (n : ℕ) (trims : ys ≡ drop (prefix_len is_blank xs) xs) (ends : n ≡ position_or_len is_blank ys) (front : w ≡ take n ys)
+    (back : rest ≡ drop n ys) where
   word_length : length w ≡ n
   word_length =
       let fits = prefix_len-le-length (λ b. not (is_blank b)) ys in
@@ -108,13 +142,17 @@ module _ (xs ys w rest : List ℕ) (n : ℕ) (trims : ys ≡ drop (prefix_len is
 
 -- a line has no more words than bytes
 filter-cons-le : (w : List ℕ) (ws : List (List ℕ)) → length (filter has_a_byte ws) ≤ length (filter has_a_byte (w ∷ ws))
-filter-cons-le w ws = cond_both (has_a_byte w) (w ∷ filter has_a_byte ws) (filter has_a_byte ws) (λ vs. length (filter has_a_byte ws) ≤ length vs) (λ _. omega arith) (λ _. omega arith)
+filter-cons-le w ws =
+    cond_both (has_a_byte w) (w ∷ filter has_a_byte ws) (filter has_a_byte ws) (λ vs. length (filter has_a_byte ws) ≤ length vs) (λ _. omega arith)
+    (λ _. omega arith)
 
 onto_first-le : (b : ℕ) (ps : List (List ℕ)) → length (filter has_a_byte (onto_first b ps)) ≤ length (filter has_a_byte ps) + 1
 onto_first-le b [] = omega (arith, ap length (keeps (b ∷ []) [] (lt-ltb 0 1 (omega arith))))
 onto_first-le b (p ∷ ps) = omega (arith, ap length (keeps (b ∷ p) ps (lt-ltb 0 (length (b ∷ p)) (omega arith))), filter-cons-le p ps)
 
-split-le : (b : ℕ) (bs : List ℕ) (t : Bool) → length (filter has_a_byte (cond t ([] ∷ slice_split is_blank bs) (onto_first b (slice_split is_blank bs)))) ≤ length (filter has_a_byte (slice_split is_blank bs)) + 1
+split-le : (b : ℕ) (bs : List ℕ) (t : Bool)
+    → length (filter has_a_byte (cond t ([] ∷ slice_split is_blank bs) (onto_first b (slice_split is_blank bs))))
+    ≤ length (filter has_a_byte (slice_split is_blank bs)) + 1
 split-le b bs true = omega arith
 split-le b bs false = onto_first-le b (slice_split is_blank bs)
 

@@ -1,5 +1,38 @@
 -- Words that are numbers, and their values.
-use Rattle.std.specs.Prelude.{negsuc, ◌≡◌, ◌<◌, ◌^◌, ℕ, Bool, true, false, ◌&&◌, ◌==◌, nat_lt, nat_le, if◌then◌else◌, List, [], ◌∷◌, ◌++◌, ◌⊎◌, ◌↔◌, length, replicate, take, drop, codes, Option, Some, None, ℤ, pos, neg_ℤ, int_le, slice_get}
+use Rattle.std.specs.Prelude.{
+  negsuc,
+  ◌≡◌,
+  ◌<◌,
+  ◌^◌,
+  ℕ,
+  Bool,
+  true,
+  false,
+  ◌&&◌,
+  ◌==◌,
+  nat_lt,
+  nat_le,
+  if◌then◌else◌,
+  List,
+  [],
+  ◌∷◌,
+  ◌++◌,
+  ◌⊎◌,
+  ◌↔◌,
+  length,
+  replicate,
+  take,
+  drop,
+  codes,
+  Option,
+  Some,
+  None,
+  ℤ,
+  pos,
+  neg_ℤ,
+  int_le,
+  slice_get,
+}
 use Rattle.std.specs.Char.{is_ascii_digit}
 use Rattle.std.specs.Fmt.{decimal}
 use Rattle.std.specs.List.{list_all, prefix_len}

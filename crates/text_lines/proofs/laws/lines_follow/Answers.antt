@@ -1,3 +1,4 @@
+-- Each line ends at a line feed or with the text, and an empty text has none.
 use Rattle.text_lines.proofs.LawProofs.{end_at_feeds, end_with_text}
 use Rattle.text_lines.proofs.PieceLemmas.{lines_nil}
 use Rattle.text_lines.proofs.laws.lines_follow.Goals as goal

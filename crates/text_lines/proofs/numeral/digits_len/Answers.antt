@@ -1,3 +1,4 @@
+-- The place of the first byte that is no digit, or the text's length where there is none, counts the digits at the front.
 use Rattle.std.proofs.Common.{not, ◌∙◌, rules, tests}
 use Rattle.std.proofs.lemmas.Iterator.{YieldsList-from_slice}
 use Rattle.std.proofs.lemmas.Iterator.Search.{position_from_yields_List}
@@ -10,4 +11,5 @@ returns-clause-value c =
     let text = c.args.text.now in
     c.unwrap_or.ensures
     ∙ front_or_len is_ascii_digit text c.position.result
-    (position_from_yields_List (λ b. not (is_ascii_digit b)) _ _ c.position.result c.position.ensures.ran (YieldsList-from_slice text cc) (λ x b q k. search (rules, tests)))
+    (position_from_yields_List (λ b. not (is_ascii_digit b)) _ _ c.position.result c.position.ensures.ran (YieldsList-from_slice text cc)
+    (λ x b q k. search (rules, tests)))

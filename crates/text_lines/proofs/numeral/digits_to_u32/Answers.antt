@@ -1,3 +1,4 @@
+-- A word has a value below 2^32 just where it is digits alone, and their value fits a `u64` and then a `u32`.
 use Rattle.std.proofs.Common.{◌<◌, ◌^◌, ◌∙◌, Some, sym, ap, arith}
 use Rattle.std.specs.Option.{SomeIff}
 use Rattle.std.specs.Str.Parse.{digits_value}
@@ -20,7 +21,8 @@ pub returns : goal.returns
 returns c =
     let word = c.args.word.now in
     let yes = digits_of-yes word (sym c.in_ok-value.ensures.digits) in
-    let value : SomeIff (Some c.in_ok-value-2.field-0) (digits_value 10 word < 2 ^ 64) (digits_value 10 word) = rw c.in_ok-value-2.was at c.in_ok-value.ensures.value in
+    let value : SomeIff (Some c.in_ok-value-2.field-0) (digits_value 10 word < 2 ^ 64) (digits_value 10 word) =
+    rw c.in_ok-value-2.was at c.in_ok-value.ensures.value in
     below-from_OkIff c.in_ok-value-2.field-0 c.ok.result c.try_from.result c.ok.ensures.value c.try_from.ensures
     ∙ ap (λ v. below (2 ^ 32) (Some v)) value.1
     ∙ sym (ap (below (2 ^ 32)) yes)

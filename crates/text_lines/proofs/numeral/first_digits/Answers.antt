@@ -1,3 +1,4 @@
+-- The digits that are counted at the front of the first bytes are digits at the front of the text.
 use Rattle.std.proofs.Common.{take, sym, ap, ◌∙◌, arith}
 use Rattle.std.proofs.lemmas.List.Sums.{prefix_len-le-length}
 use Rattle.std.specs.Char.{is_ascii_digit}

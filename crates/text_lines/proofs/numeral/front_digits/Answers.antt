@@ -1,3 +1,4 @@
+-- The bytes that are counted as digits at the front of a text are digits, so they have a value.
 use Rattle.std.proofs.Common.{◌≡◌, true, take, subst, sym}
 use Rattle.std.specs.Char.{is_ascii_digit}
 use Rattle.std.specs.List.{list_all}

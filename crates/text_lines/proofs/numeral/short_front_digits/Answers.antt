@@ -1,3 +1,4 @@
+-- Up to 19 digits have a value below 2^64, so nothing overflows; the first other byte, or the end, tells how many there are.
 use Rattle.std.proofs.Common.{◌≡◌, ℕ, ◌+◌, ◌*◌, ◌^◌, ◌<◌, ◌≤◌, true, length, get_or, take, sym, ap, ◌∙◌, arith, add-one}
 use borrow.Author.Count.{below_more}
 use Rattle.std.proofs.Math.Nat.{pow-suc, pow-le-pow_right}
@@ -18,11 +19,14 @@ fits_more v i d small short digit =
 
 pub returns-then-not-is_ascii_digit-clause-len : goal.returns-then-not-is_ascii_digit-clause-len
 returns-then-not-is_ascii_digit-clause-len c =
-    sym (prefix_len_is is_ascii_digit c.args.text.now c.loop-i.i 0 (omega arith) c.loop-i.invariant.digits (λ h. sym c.is_ascii_digit.ensures.value ∙ c.if-not-is_ascii_digit.true))
+    sym (prefix_len_is is_ascii_digit c.args.text.now c.loop-i.i 0 (omega arith) c.loop-i.invariant.digits
+    (λ h. sym c.is_ascii_digit.ensures.value ∙ c.if-not-is_ascii_digit.true))
 
 pub returns-then-not-is_ascii_digit-clause-value : goal.returns-then-not-is_ascii_digit-clause-value
 returns-then-not-is_ascii_digit-clause-value c =
-    let same = sym (prefix_len_is is_ascii_digit c.args.text.now c.loop-i.i 0 (omega arith) c.loop-i.invariant.digits (λ h. sym c.is_ascii_digit.ensures.value ∙ c.if-not-is_ascii_digit.true)) in
+    let same =
+    sym (prefix_len_is is_ascii_digit c.args.text.now c.loop-i.i 0 (omega arith) c.loop-i.invariant.digits
+    (λ h. sym c.is_ascii_digit.ensures.value ∙ c.if-not-is_ascii_digit.true)) in
     c.loop-i.invariant.value ∙ ap (λ n. digits_value 10 (take n c.args.text.now)) same
 
 pub overflow_mul-value : goal.overflow_mul-value
@@ -49,11 +53,13 @@ loop-i-preserved c =
 
 pub returns-clause-len : goal.returns-clause-len
 returns-clause-len c =
-    sym (prefix_len_is is_ascii_digit c.args.text.now (length c.args.text.now) 0 (omega arith) (λ k h. c.loop-i.invariant.digits k (omega arith)) (λ h. absurd (omega arith)))
+    sym (prefix_len_is is_ascii_digit c.args.text.now (length c.args.text.now) 0 (omega arith) (λ k h. c.loop-i.invariant.digits k (omega arith))
+    (λ h. absurd (omega arith)))
 
 pub returns-clause-value : goal.returns-clause-value
 returns-clause-value c =
     let text = c.args.text.now in
-    let same : length text ≡ prefix_len is_ascii_digit text = sym (prefix_len_is is_ascii_digit text (length text) 0 (omega arith) (λ k h. c.loop-i.invariant.digits k (omega arith)) (λ h. absurd (omega arith))) in
+    let same : length text ≡ prefix_len is_ascii_digit text =
+    sym (prefix_len_is is_ascii_digit text (length text) 0 (omega arith) (λ k h. c.loop-i.invariant.digits k (omega arith)) (λ h. absurd (omega arith))) in
     let here : c.loop-i.i ≡ prefix_len is_ascii_digit text = omega (arith, same) in
     c.loop-i.invariant.value ∙ ap (λ n. digits_value 10 (take n text)) here

@@ -1,9 +1,9 @@
+-- The bytes so far are digits, with this value, which lies below 10 to their number.
 use Rattle.std.proofs.Common.{◌≡◌, ℕ, ◌<◌, ◌^◌, true, get_or, take}
 use Rattle.std.specs.Char.{is_ascii_digit}
 use Rattle.std.specs.Str.Parse.{digits_value}
 use Rattle.text_lines.proofs.numeral.short_front_digits.Given as goal
 
--- the bytes so far are digits, with this value
 abbrev pub invariant-loop-i : goal.invariant-loop-i
 invariant-loop-i l = record {
   digits : (k : ℕ) → k < l.i → is_ascii_digit (get_or l.text k 0) ≡ true;

@@ -1,3 +1,4 @@
+-- A word is digits alone just where there are some at its front, and as many as it has bytes.
 use Rattle.std.proofs.Common.{◌∙◌, sym, arith}
 use Rattle.text_lines.proofs.NumberLemmas.{is_digits-full, is_digits-none, is_digits-short}
 use Rattle.text_lines.proofs.numeral.word_value.Goals as goal

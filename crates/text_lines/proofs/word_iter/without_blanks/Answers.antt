@@ -1,3 +1,4 @@
+-- The first byte that is no blank, or the end, is where the blanks at the front end.
 use Rattle.std.proofs.Common.{drop, not, ap, ◌∙◌, rules, tests}
 use Rattle.std.proofs.lemmas.Iterator.{YieldsList-from_slice}
 use Rattle.std.proofs.lemmas.Iterator.Search.{position_from_yields_List}
@@ -11,5 +12,6 @@ returns c =
     let text = c.args.text.now in
     let len = c.unwrap_or-blanks.ensures
     ∙ front_or_len is_blank text c.position.result
-    (position_from_yields_List (λ b. not (is_blank b)) _ _ c.position.result c.position.ensures.ran (YieldsList-from_slice text cc) (λ x b q k. search (rules, tests))) in
+    (position_from_yields_List (λ b. not (is_blank b)) _ _ c.position.result c.position.ensures.ran (YieldsList-from_slice text cc)
+    (λ x b q k. search (rules, tests))) in
     take_rest text c.unwrap_or-blanks.result ∙ ap (λ n. drop n text) len

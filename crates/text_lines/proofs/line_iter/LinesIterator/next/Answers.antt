@@ -1,3 +1,4 @@
+-- The first piece of what is left is the next line, and the lines behind it are one fewer; where nothing is left there is none.
 use Rattle.std.proofs.Common.{◌∷◌, ap, sym, ◌∙◌, arith, length}
 use Rattle.std.proofs.lemmas.Bool.{eqb-true}
 use Rattle.std.proofs.lemmas.List.{nil_from_length}

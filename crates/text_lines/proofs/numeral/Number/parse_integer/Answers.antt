@@ -1,3 +1,4 @@
+-- An integer is a minus or no sign and 1 to 20 digits: neither a longer word is one, nor a word with another byte.
 use Rattle.std.proofs.Common.{sym, length, arith}
 use Rattle.std.proofs.lemmas.Bool.{le-leb, lt-leb}
 use Rattle.text_lines.specs.Numbers.{integer_of}
@@ -14,10 +15,20 @@ pub returns-in_err-value : goal.returns-in_err-value
 unfolding integer_of
 returns-in_err-value c =
     let digits = c.split_minus-negative.result.1.now in
-    rw (c.from_residual.ensures, ← c.split_minus-negative.ensures.rest, le-leb (length digits) 20 (omega arith), digits_of-no digits (sym c.in_err-value.ensures.digits))
+    rw (
+      c.from_residual.ensures,
+      ← c.split_minus-negative.ensures.rest,
+      le-leb (length digits) 20 (omega arith),
+      digits_of-no digits (sym c.in_err-value.ensures.digits),
+    )
 
 pub returns : goal.returns
 unfolding integer_of
 returns c =
     let digits = c.split_minus-negative.result.1.now in
-    rw (← c.split_minus-negative.ensures.rest, ← c.split_minus-negative.ensures.minus, le-leb (length digits) 20 (omega arith), digits_of-yes digits (sym c.in_ok-value.ensures.digits))
+    rw (
+      ← c.split_minus-negative.ensures.rest,
+      ← c.split_minus-negative.ensures.minus,
+      le-leb (length digits) 20 (omega arith),
+      digits_of-yes digits (sym c.in_ok-value.ensures.digits),
+    )

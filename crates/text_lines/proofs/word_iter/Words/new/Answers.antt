@@ -1,3 +1,4 @@
+-- A line has no more words than bytes.
 use Rattle.text_lines.proofs.WordLemmas.{length-words_of-le}
 use Rattle.text_lines.proofs.word_iter.Words.new.Goals as goal
 

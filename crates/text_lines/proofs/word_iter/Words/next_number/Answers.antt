@@ -1,3 +1,4 @@
+-- A number at the front of what is left is that of the next word, and the words behind it are those of the rest.
 use Rattle.std.proofs.Common.{w32, drop, sym, ap, ◌∙◌, to_z-of_z}
 use Rattle.text_lines.specs.Fronts.{BeginsWithNumber}
 use Rattle.text_lines.specs.Numbers.{first_number, within}

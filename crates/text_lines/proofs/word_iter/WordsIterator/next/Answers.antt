@@ -1,3 +1,4 @@
+-- The bytes behind the blanks, up to the next blank, are the next word, and the words behind it are one fewer; where there are none, no word is left.
 use Rattle.std.proofs.Common.{ap, sym, ◌∙◌, arith, length, not}
 use Rattle.std.proofs.lemmas.Bool.{eqb-true, eqb-false}
 use Rattle.std.proofs.lemmas.List.Sums.{prefix_len-le-length}
