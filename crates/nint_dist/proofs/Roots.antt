@@ -31,7 +31,8 @@ whole (suc depth) (suc s) h =
 -- where the number before d is too small, no smaller one is large enough
 pub least_from : (s d : ℕ) → (0 < d → (d - 1) * d < s) → (e : ℕ) → s ≤ e * (e + 1) → d ≤ e
 least_from s d before e h =
-    ⊎_elim (λ (small : e < d). absurd (omega (arith, before (omega arith), mul-le e (e + 1) (d - 1) d (omega arith) (omega arith)))) (λ (k : d ≤ e). k) (cases_lt e d)
+    ⊎_elim (λ (small : e < d). absurd (omega (arith, before (omega arith), mul-le e (e + 1) (d - 1) d (omega arith) (omega arith)))) (λ (k : d ≤ e). k)
+    (cases_lt e d)
 
 -- two nearest roots of one number are the same
 pub same_root : (s d e : ℕ) → IsNearestRoot s d → IsNearestRoot s e → d ≡ e
@@ -47,8 +48,14 @@ before_square (suc q) h =
 pub beside : (s g : ℕ) → (0 < g → g * (g + 1) < s + 2 * g) → s ≤ g * (g + 1) + 2 * g + 2 → IsNearestRoot s (cond (nat_lt (g * (g + 1)) s) (g + 1) g)
 beside s g from to =
     cond_both (nat_lt (g * (g + 1)) s) (g + 1) g (IsNearestRoot s)
-    (λ yes. let past : g * (g + 1) < s = ltb-true _ _ yes in record { reaches = omega (arith, to); least = least_from s (g + 1) (λ _. let one_less : g + 1 - 1 ≡ g = omega arith in rw one_less past) })
-    (λ no. let within : s ≤ g * (g + 1) = ltb-false _ _ no in record { reaches = within; least = least_from s g (λ positive. omega (arith, from positive, before_square g positive)) })
+    (λ yes. let past : g * (g + 1) < s = ltb-true _ _ yes in record {
+      reaches = omega (arith, to);
+      least = least_from s (g + 1) (λ _. let one_less : g + 1 - 1 ≡ g = omega arith in rw one_less past);
+    })
+    (λ no. let within : s ≤ g * (g + 1) = ltb-false _ _ no in record {
+      reaches = within;
+      least = least_from s g (λ positive. omega (arith, from positive, before_square g positive));
+    })
 
 -- the number above g or g itself, as a sum
 pub as_sum : (g : ℕ) (above : Bool) → cond above (g + 1) g ≡ g + bool_byte above

@@ -17,7 +17,11 @@ product-le u v = by (cases_lt u v)
   where
     by : (u < v) ⊎ (v ≤ u) → u * v + u * v ≤ u * u + v * v
     by (inl less) = let far : u + (v - u) ≡ v = omega arith in subst (λ w. u * w + u * w ≤ u * u + w * w) far (product-ordered u (v - u))
-    by (inr more) = let far : v + (u - v) ≡ u = omega arith in let le = product-ordered v (u - v) in let there : v * u + v * u ≤ v * v + u * u = subst (λ w. v * w + v * w ≤ v * v + w * w) far le in omega arith
+    by (inr more) =
+        let far : v + (u - v) ≡ u = omega arith in
+        let le = product-ordered v (u - v) in
+        let there : v * u + v * u ≤ v * v + u * u = subst (λ w. v * w + v * w ≤ v * v + w * w) far le in
+        omega arith
 
 -- the product of two vectors is at most that of their lengths
 vectors-le : (x y u v : ℕ) → (x * u + y * v) * (x * u + y * v) ≤ (x * x + y * y) * (u * u + v * v)

@@ -1,2 +1,3 @@
+-- what public contracts say
 pub mod Distance
 pub mod NearestRoot

@@ -1,3 +1,4 @@
+-- A way over a third stop is shorter than the direct one by 1 at most.
 use Rattle.nint_dist.proofs.Triangle.{saves-one}
 use Rattle.nint_dist.proofs.detours_save_at_most_one.Goals as goal
 

@@ -1,3 +1,4 @@
+-- The root so far is not below the nearest one, and each turn lowers it; so the first that can't be lowered is the nearest.
 use Rattle.std.proofs.Common.{◌≤◌, ◌+◌, ◌*◌, ◌^◌}
 use Rattle.nint_dist.proofs.root.lowered.Given as goal
 

@@ -1,3 +1,4 @@
+-- A number has one nearest root, so each way of finding it gives the one of the definition.
 use Rattle.nint_dist.specs.NearestRoot.{nearest_root}
 use Rattle.nint_dist.proofs.Roots.{nearest, same_root}
 use Rattle.nint_dist.proofs.root.nint_root.Goals as goal

@@ -1,3 +1,4 @@
+-- The root so far is at most 2^32, and each turn brings it nearer to that, so the loop ends.
 use Rattle.std.proofs.Common.{◌≤◌, ◌-◌, ◌^◌}
 use Rattle.nint_dist.proofs.root.raised.Given as goal
 

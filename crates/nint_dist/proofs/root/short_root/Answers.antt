@@ -1,3 +1,4 @@
+-- Where its product lies so near, the nearest root is the guess or the number above it.
 use Rattle.std.proofs.Common.{◌+◌, sym, subst, ◌∙◌, ap}
 use Rattle.nint_dist.specs.NearestRoot.{IsNearestRoot}
 use Rattle.nint_dist.proofs.Roots.{beside, as_sum}
