@@ -27,7 +27,8 @@ module _ (p q : Instance) (route : List ℕ) (same : AgreeOn p q route) where
   starts : (i : ℕ) → start p route i ≡ start q route i
   unfolding start
   starts i =
-      ap (λ (f : ℕ → Stop). greatest (map (λ j. (f j).earliest + sum (map (λ k. (f k).service + distance (f k) (f (k + 1))) (range_with_len j (i - j)))) (range_with_len 0 (i + 1))))
+      ap (λ (f : ℕ → Stop). greatest
+      (map (λ j. (f j).earliest + sum (map (λ k. (f k).service + distance (f k) (f (k + 1))) (range_with_len j (i - j)))) (range_with_len 0 (i + 1))))
       (λ t k. places k t)
 
   loads : (i : ℕ) → load p route i ≡ load q route i

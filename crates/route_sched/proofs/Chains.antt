@@ -33,7 +33,8 @@ greatest_from-one f i = omega arith
 greatest_from-add : (f g : ℕ → ℕ) (c i n : ℕ) → ((j : ℕ) → i ≤ j → j ≤ i + n → g j ≡ f j + c) → greatest_from g i (n + 1) ≡ greatest_from f i (n + 1) + c
 greatest_from-add f g c i zero each = omega (arith, each i (omega arith) (omega arith), greatest_from-one f i, greatest_from-one g i)
 greatest_from-add f g c i (suc n) each =
-    let before : greatest_from g i (suc n) ≡ greatest_from f i (suc n) + c = subst (λ m. greatest_from g i m ≡ greatest_from f i m + c) (add-one n) (greatest_from-add f g c i n (λ j h k. each j h (omega arith))) in
+    let before : greatest_from g i (suc n) ≡ greatest_from f i (suc n) + c =
+    subst (λ m. greatest_from g i m ≡ greatest_from f i m + c) (add-one n) (greatest_from-add f g c i n (λ j h k. each j h (omega arith))) in
     omega (arith, greatest_from-more f i (suc n), greatest_from-more g i (suc n), each (i + suc n) (omega arith) (omega arith), before)
 
 pub chain-first : (e f : ℕ → ℕ) (i : ℕ) → chain e f i i ≡ e i
@@ -52,8 +53,10 @@ chain-next e f i k h =
     let some : k + 1 - i ≡ (k - i) + 1 = omega arith in
     let end : i + (k + 1 - i) ≡ k + 1 = omega arith in
     let none_between : sum_between f (k + 1) (k + 1) ≡ 0 = sum_between-none f (k + 1) in
-    let grown : greatest_from to_next i ((k - i) + 1) ≡ greatest_from to_here i ((k - i) + 1) + f k = greatest_from-add to_here to_next (f k) i (k - i) (λ j _ m. omega (arith, sum_between-more f j k (omega arith))) in
-    let grown' : greatest_from to_next i (k + 1 - i) ≡ greatest_from to_here i (k + 1 - i) + f k = subst (λ n. greatest_from to_next i n ≡ greatest_from to_here i n + f k) (sym some) grown in
+    let grown : greatest_from to_next i ((k - i) + 1) ≡ greatest_from to_here i ((k - i) + 1) + f k =
+    greatest_from-add to_here to_next (f k) i (k - i) (λ j _ m. omega (arith, sum_between-more f j k (omega arith))) in
+    let grown' : greatest_from to_next i (k + 1 - i) ≡ greatest_from to_here i (k + 1 - i) + f k =
+    subst (λ n. greatest_from to_next i n ≡ greatest_from to_here i n + f k) (sym some) grown in
     let last : greatest_from to_next i (k + 1 + 1 - i) ≡ max (greatest_from to_next i (k + 1 - i)) (to_next (k + 1)) =
     ap (greatest_from to_next i) more ∙ (greatest_from-more to_next i (k + 1 - i) ∙ ap (λ m. max (greatest_from to_next i (k + 1 - i)) (to_next m)) end) in
     omega (arith, last, none_between, grown')

@@ -11,18 +11,25 @@ use Rattle.route_sched.specs.Route.{AreLiveOnce, IsLive, IsPlan}
 use Rattle.route_sched.proofs.Counting.{distinct_right}
 
 -- the routes before one, that one, and those after it
-concat_split : (routes : List (List ℕ)) (k : ℕ) → k < length routes → concat routes ≡ concat (take k routes) ++ (get_or routes k [] ++ concat (drop (k + 1) routes))
+concat_split : (routes : List (List ℕ)) (k : ℕ) → k < length routes
+    → concat routes ≡ concat (take k routes) ++ (get_or routes k [] ++ concat (drop (k + 1) routes))
 concat_split routes k h =
-    ap concat (sym (take-append-drop k routes)) ∙ (concat-append (take k routes) (drop k routes) ∙ ap (λ rs. concat (take k routes) ++ concat rs) (drop_more routes k [] h))
+    ap concat (sym (take-append-drop k routes))
+    ∙ (concat-append (take k routes) (drop k routes) ∙ ap (λ rs. concat (take k routes) ++ concat rs) (drop_more routes k [] h))
 
 -- one route more
 pub concat_more : (routes : List (List ℕ)) (k : ℕ) → k < length routes → concat (take (k + 1) routes) ≡ concat (take k routes) ++ get_or routes k []
 concat_more routes k h =
-    ap concat (take_more routes k [] h) ∙ (concat-append (take k routes) (get_or routes k [] ∷ []) ∙ ap (λ r. concat (take k routes) ++ r) (append-nil (get_or routes k [])))
+    ap concat (take_more routes k [] h)
+    ∙ (concat-append (take k routes) (get_or routes k [] ∷ []) ∙ ap (λ r. concat (take k routes) ++ r) (append-nil (get_or routes k [])))
 
 pub length-concat-take-le : (routes : List (List ℕ)) (k : ℕ) → length (concat (take k routes)) ≤ length (concat routes)
 length-concat-take-le routes k =
-    omega (arith, length-append (concat (take k routes)) (concat (drop k routes)), ap length (ap concat (sym (take-append-drop k routes)) ∙ concat-append (take k routes) (drop k routes)))
+    omega (
+      arith,
+      length-append (concat (take k routes)) (concat (drop k routes)),
+      ap length (ap concat (sym (take-append-drop k routes)) ∙ concat-append (take k routes) (drop k routes)),
+    )
 
 distinct_left : (xs ys : List ℕ) → IsDistinct eqb (xs ++ ys) → IsDistinct eqb xs
 unfolding IsDistinct
@@ -36,7 +43,9 @@ distinct_left (x ∷ xs) ys distinct = (apart xs distinct.0, distinct_left xs ys
 -- a part of a list of live stops
 live_part : (p : Instance) (xs ys zs : List ℕ) → AreLiveOnce p (xs ++ (ys ++ zs)) → AreLiveOnce p ys
 live_part p xs ys zs once = record {
-  live = subst (λ ns. All (IsLive p) ns) (take_at ys zs (length ys) refl) (All-take (IsLive p) (length ys) (ys ++ zs) (subst (λ ns. All (IsLive p) ns) (drop_at xs (ys ++ zs) (length xs) refl) (All-drop (IsLive p) (length xs) (xs ++ (ys ++ zs)) once.live)));
+  live = subst (λ ns. All (IsLive p) ns) (take_at ys zs (length ys) refl)
+      (All-take (IsLive p) (length ys) (ys ++ zs)
+      (subst (λ ns. All (IsLive p) ns) (drop_at xs (ys ++ zs) (length xs) refl) (All-drop (IsLive p) (length xs) (xs ++ (ys ++ zs)) once.live)));
   distinct = distinct_left ys zs (distinct_right xs (ys ++ zs) once.distinct);
 }
 
@@ -50,7 +59,8 @@ routes_of_plan p routes plan = All-from_get_or (AreLiveOnce p) routes [] (λ k h
 
 -- ---- stops by number
 -- what stands in a route stands in the routes
-pub part_of_routes : (routes : List (List ℕ)) (k n : ℕ) → k < length routes → list_any (eqb n) (get_or routes k []) ≡ true → list_any (eqb n) (concat routes) ≡ true
+pub part_of_routes : (routes : List (List ℕ)) (k n : ℕ) → k < length routes → list_any (eqb n) (get_or routes k []) ≡ true
+    → list_any (eqb n) (concat routes) ≡ true
 part_of_routes routes k n h there =
     rw (concat_split routes k h, list_any-append (eqb n) (concat (take k routes)) _, list_any-append (eqb n) (get_or routes k []) _)
     (or_right _ _ (or_left _ _ there))

@@ -82,7 +82,8 @@ owns n e = is_some (stop_in n e.1)
 numbers_of : Request → List ℕ
 numbers_of r = map (λ s. s.number) (stops_of r)
 
-owned_le : (n : ℕ) (s : Stop) (o : Option Stop) (rest : ℕ) → bit (is_some o) ≤ rest → bit (is_some (cond (eqb s.number n) (Some s) o)) ≤ bit (eqb n s.number) + rest
+owned_le : (n : ℕ) (s : Stop) (o : Option Stop) (rest : ℕ) → bit (is_some o) ≤ rest
+    → bit (is_some (cond (eqb s.number n) (Some s) o)) ≤ bit (eqb n s.number) + rest
 owned_le n s o rest h =
     elim (eqb_tells s.number n) [
       | inl t ↦ let back : eqb n s.number ≡ true = eq-eqb n s.number (sym t.1) in rw (t.0, back) (omega arith)
@@ -113,7 +114,8 @@ total_le_one : (n : ℕ) (xs : List ℕ) → IsDistinct eqb xs → total (λ m. 
 total_le_one n xs distinct = omega (arith, total_member n xs distinct, bit_le (member xs n))
 
 -- a number that the first of these owns is owned by no other
-others_own_none : (n : ℕ) (e : ℕ × Request) (es : List (ℕ × Request)) → IsDistinct eqb (numbers_among (e ∷ es)) → owns n e ≡ true → total (λ e. bit (owns n e)) es ≡ 0
+others_own_none : (n : ℕ) (e : ℕ × Request) (es : List (ℕ × Request)) → IsDistinct eqb (numbers_among (e ∷ es)) → owns n e ≡ true
+    → total (λ e. bit (owns n e)) es ≡ 0
 others_own_none n e es distinct own =
     let once = total_le_one n (numbers_among (e ∷ es)) distinct in
     let parts = rw (numbers_among-cons e es, total-append (λ m. bit (eqb n m)) (numbers_of e.1) (numbers_among es)) at once in
@@ -129,26 +131,36 @@ bit_and_le true b = bit_le b
 bit_and_le false b = omega arith
 
 -- Of the requests with distinct numbers, the one that owns n is counted where q holds of its name.
-owner_total : (n : ℕ) (q : ℕ → Bool) (es : List (ℕ × Request)) → IsDistinct eqb (numbers_among es) → total (λ e. bit (owns n e && q (request_name e.1))) es ≡ bit (passes q (option_map request_name (first_some (λ r. option_map (λ _. r) (stop_in n r)) es)))
+owner_total : (n : ℕ) (q : ℕ → Bool) (es : List (ℕ × Request)) → IsDistinct eqb (numbers_among es)
+    → total (λ e. bit (owns n e && q (request_name e.1))) es ≡ bit (passes q (option_map request_name (first_some (λ r. option_map (λ _. r) (stop_in n r)) es)))
 unfolding owns
 owner_total n q [] distinct = refl
-owner_total n q (e ∷ es) distinct = from (stop_in n e.1) none_else (owner_total n q es (distinct_right (numbers_of e.1) (numbers_among es) (rw (numbers_among-cons e es) at distinct)))
+owner_total n q (e ∷ es) distinct =
+    from (stop_in n e.1) none_else (owner_total n q es (distinct_right (numbers_of e.1) (numbers_among es) (rw (numbers_among-cons e es) at distinct)))
   where
     rest : ℕ
     rest = total (λ e. bit (owns n e && q (request_name e.1))) es
 
     none_else : is_some (stop_in n e.1) ≡ true → rest ≡ 0
-    none_else own = omega (arith, others_own_none n e es distinct own, total-le (λ e. bit (owns n e && q (request_name e.1))) (λ e. bit (owns n e)) es (λ e. bit_and_le (owns n e) (q (request_name e.1))))
+    none_else own =
+        omega (
+          arith,
+          others_own_none n e es distinct own,
+          total-le (λ e. bit (owns n e && q (request_name e.1))) (λ e. bit (owns n e)) es (λ e. bit_and_le (owns n e) (q (request_name e.1))),
+        )
 
     later : ℕ
     later = bit (passes q (option_map request_name (first_some (λ r. option_map (λ _. r) (stop_in n r)) es)))
 
-    from : (o : Option Stop) → (is_some o ≡ true → rest ≡ 0) → rest ≡ later → bit (is_some o && q (request_name e.1)) + rest ≡ bit (passes q (option_map request_name (option_or (option_map (λ _. e.1) o) (first_some (λ r. option_map (λ _. r) (stop_in n r)) es))))
+    from : (o : Option Stop) → (is_some o ≡ true → rest ≡ 0) → rest ≡ later
+        → bit (is_some o && q (request_name e.1)) + rest
+        ≡ bit (passes q (option_map request_name (option_or (option_map (λ _. e.1) o) (first_some (λ r. option_map (λ _. r) (stop_in n r)) es))))
     from None others ih = omega (arith, ih)
     from (Some s) others ih = omega (arith, others refl)
 
 -- ---- a request is counted at one of its stops that a route has: at the one that gives the name, or else at the other
-total_single : (xs : List ℕ) (s : Stop) → IsDistinct eqb xs → total (λ n. bit (is_some (stop_in n (Single s)) && is_counted xs n s.number)) xs ≡ bit (list_any (eqb s.number) xs || false)
+total_single : (xs : List ℕ) (s : Stop) → IsDistinct eqb xs
+    → total (λ n. bit (is_some (stop_in n (Single s)) && is_counted xs n s.number)) xs ≡ bit (list_any (eqb s.number) xs || false)
 unfolding member
 total_single xs s distinct =
     total-same _ (λ n. bit (eqb s.number n)) xs (every each xs) ∙ (total_member s.number xs distinct ∙ ap bit (sym (or-false (list_any (eqb s.number) xs))))
@@ -170,7 +182,9 @@ total_unless b false xs distinct = total-same _ (λ n. bit (eqb b n)) xs (every 
     same true = refl
     same false = refl
 
-total_pair : (xs : List ℕ) (p d : Stop) → IsDistinct eqb xs → p.number ≢ d.number → total (λ n. bit (is_some (stop_in n (Pair p d)) && is_counted xs n p.number)) xs ≡ bit (list_any (eqb p.number) xs || (list_any (eqb d.number) xs || false))
+total_pair : (xs : List ℕ) (p d : Stop) → IsDistinct eqb xs → p.number ≢ d.number
+    → total (λ n. bit (is_some (stop_in n (Pair p d)) && is_counted xs n p.number)) xs
+    ≡ bit (list_any (eqb p.number) xs || (list_any (eqb d.number) xs || false))
 unfolding member
 total_pair xs p d distinct apart =
     total-same _ (λ n. bit (eqb p.number n) + bit (eqb d.number n && not m)) xs (every (λ n. each n m) xs)
@@ -180,7 +194,9 @@ total_pair xs p d distinct apart =
     m : Bool
     m = list_any (eqb p.number) xs
 
-    each : (n : ℕ) (m : Bool) → bit (is_some (cond (eqb p.number n) (Some p) (cond (eqb d.number n) (Some d) None)) && (eqb p.number n || not m)) ≡ bit (eqb p.number n) + bit (eqb d.number n && not m)
+    each : (n : ℕ) (m : Bool)
+        → bit (is_some (cond (eqb p.number n) (Some p) (cond (eqb d.number n) (Some d) None)) && (eqb p.number n || not m))
+        ≡ bit (eqb p.number n) + bit (eqb d.number n && not m)
     each n m =
         elim (eqb_tells p.number n) [
           | inl t ↦ let other : eqb d.number n ≡ false = ne_eqb d.number n (λ e. apart (t.1 ∙ sym e)) in rw (t.0, other) refl
@@ -193,11 +209,14 @@ total_pair xs p d distinct apart =
     joined false false x y p q = omega (arith, p, q)
 
 -- ---- all requests
-total_request : (routes : List (List ℕ)) (r : Request) → IsDistinct eqb (concat routes) → IsRequest r → total (λ n. bit (is_some (stop_in n r) && is_counted (concat routes) n (request_name r))) (concat routes) ≡ bit (is_planned routes r)
+total_request : (routes : List (List ℕ)) (r : Request) → IsDistinct eqb (concat routes) → IsRequest r
+    → total (λ n. bit (is_some (stop_in n r) && is_counted (concat routes) n (request_name r))) (concat routes) ≡ bit (is_planned routes r)
 total_request routes (Single s) distinct valid = total_single (concat routes) s distinct
 total_request routes (Pair p d) distinct valid = total_pair (concat routes) p d distinct valid.2
 
-total_requests : (routes : List (List ℕ)) (es : List (ℕ × Request)) → IsDistinct eqb (concat routes) → AllByRecursion (λ e. IsRequest e.1) es → total (λ e. total (λ n. bit (is_some (stop_in n e.1) && is_counted (concat routes) n (request_name e.1))) (concat routes)) es ≡ total (λ e. bit (is_planned routes e.1)) es
+total_requests : (routes : List (List ℕ)) (es : List (ℕ × Request)) → IsDistinct eqb (concat routes) → AllByRecursion (λ e. IsRequest e.1) es
+    → total (λ e. total (λ n. bit (is_some (stop_in n e.1) && is_counted (concat routes) n (request_name e.1))) (concat routes)) es
+    ≡ total (λ e. bit (is_planned routes e.1)) es
 total_requests routes [] distinct valid = refl
 total_requests routes (e ∷ es) distinct valid = omega (arith, total_request routes e.1 distinct valid.0, total_requests routes es distinct valid.1)
 
@@ -210,11 +229,14 @@ both_ways f (e ∷ es) = omega (arith, one (f e), both_ways f es)
     one false = refl
 
 -- a request that is not counted is unplanned
-pub counted_unplanned : (p : Instance) (routes : List (List ℕ)) → IsInstance p → IsDistinct eqb (concat routes) → counted_among p (concat routes) (concat routes) + unplanned_count p routes ≡ length p.requests
+pub counted_unplanned : (p : Instance) (routes : List (List ℕ)) → IsInstance p → IsDistinct eqb (concat routes)
+    → counted_among p (concat routes) (concat routes) + unplanned_count p routes ≡ length p.requests
 unfolding owns
 counted_unplanned p routes valid distinct =
     let by_stop = count_by_is (counts p (concat routes)) (concat routes) in
-    let by_owner = total-same (λ n. bit (counts p (concat routes) n)) _ (concat routes) (every (λ n. sym (owner_total n (is_counted (concat routes) n) p.requests valid.distinct)) (concat routes)) in
+    let by_owner =
+    total-same (λ n. bit (counts p (concat routes) n)) _ (concat routes)
+    (every (λ n. sym (owner_total n (is_counted (concat routes) n) p.requests valid.distinct)) (concat routes)) in
     let by_request = total-swap (λ n e. bit (owns n e && is_counted (concat routes) n (request_name e.1))) (concat routes) p.requests in
     let planned = by_stop ∙ (by_owner ∙ (by_request ∙ total_requests routes p.requests distinct valid.valid)) in
     omega (arith, planned, count_by_is (λ e. not (is_planned routes e.1)) p.requests, both_ways (λ e. is_planned routes e.1) p.requests)

@@ -1,3 +1,4 @@
+-- The lemma files, which upper crates may cite.
 pub mod Agreeing
 pub mod Chains
 pub mod Concats

@@ -41,7 +41,8 @@ number_among : (n : ℕ) (es : List (ℕ × Request)) → AllByRecursion (λ e. 
 number_among n [] valid some = absurd (false≢true some)
 number_among n (e ∷ es) valid some = from (stop_in n e.1) (number_in n e.1 valid.0) (λ h. number_among n es valid.1 h) some
   where
-    from : (o : Option Stop) → (IsSome o → IsNumber n) → (IsSome (first_some (stop_in n) es) → IsNumber n) → IsSome (option_or o (first_some (stop_in n) es)) → IsNumber n
+    from : (o : Option Stop) → (IsSome o → IsNumber n) → (IsSome (first_some (stop_in n) es) → IsNumber n) → IsSome (option_or o (first_some (stop_in n) es))
+        → IsNumber n
     from None here there h = there h
     from (Some s) here there h = here h
 
@@ -72,7 +73,8 @@ place-return p route k h =
     let none : get_or route k 0 ≡ 0 = get_or_past route k 0 h in rw (add-one k, none) refl
 
 -- a number that is live is at its stop
-pub place-stop : (p : Instance) (route : List ℕ) (k n : ℕ) (s : Stop) → n ≡ get_or route k 0 → stop_at p n ≡ Some s → s.number ≡ n → IsStop s → place p route (k + 1) ≡ s
+pub place-stop : (p : Instance) (route : List ℕ) (k n : ℕ) (s : Stop) → n ≡ get_or route k 0 → stop_at p n ≡ Some s → s.number ≡ n → IsStop s
+    → place p route (k + 1) ≡ s
 unfolding place
 place-stop p route k n s at found is valid =
     let here : get_or route k 0 ≡ n = sym at in

@@ -19,14 +19,17 @@ unfolding start place
 start-first p route = omega arith
 
 -- by its definition a start is a chain of all places before it
-pub start-chain : (p : Instance) (route : List ℕ) (i : ℕ) → start p route i ≡ chain (λ j. (place p route j).earliest) (λ k. (place p route k).service + leg p route k) 0 i
+pub start-chain : (p : Instance) (route : List ℕ) (i : ℕ)
+    → start p route i ≡ chain (λ j. (place p route j).earliest) (λ k. (place p route k).service + leg p route k) 0 i
 unfolding start chain sum_between
 start-chain p route i = let all : i + 1 - 0 ≡ i + 1 = omega arith in rw all refl
 
 -- Who arrives early waits.
-pub start-next : (p : Instance) (route : List ℕ) (i : ℕ) → start p route (i + 1) ≡ max (place p route (i + 1)).earliest (start p route i + ((place p route i).service + leg p route i))
+pub start-next : (p : Instance) (route : List ℕ) (i : ℕ)
+    → start p route (i + 1) ≡ max (place p route (i + 1)).earliest (start p route i + ((place p route i).service + leg p route i))
 start-next p route i =
-    rw (start-chain p route i, start-chain p route (i + 1)) (chain-next (λ j. (place p route j).earliest) (λ k. (place p route k).service + leg p route k) 0 i (omega arith))
+    rw (start-chain p route i, start-chain p route (i + 1))
+    (chain-next (λ j. (place p route j).earliest) (λ k. (place p route k).service + leg p route k) 0 i (omega arith))
 
 pub load-first : (p : Instance) (route : List ℕ) → load p route 0 ≡ pos 0
 unfolding load
@@ -36,7 +39,8 @@ pub load-next : (p : Instance) (route : List ℕ) (i : ℕ) → load p route (i 
 unfolding load
 load-next p route i =
     let demand : ℕ → ℤ = λ k. (place p route k).demand in
-    ap (λ xs. fold ◌+ℤ◌ (pos 0) xs) (map-range_with_len_more demand 1 i (i + 1) (omega arith)) ∙ fold_push ◌+ℤ◌ (pos 0) (map demand (range_with_len 1 i)) (demand (i + 1))
+    ap (λ xs. fold ◌+ℤ◌ (pos 0) xs) (map-range_with_len_more demand 1 i (i + 1) (omega arith))
+    ∙ fold_push ◌+ℤ◌ (pos 0) (map demand (range_with_len 1 i)) (demand (i + 1))
 
 -- ---- the length of a route, leg by leg
 pub length_before : Instance → List ℕ → ℕ → ℕ
@@ -72,11 +76,13 @@ route_length-empty p [] none = route_length-nil p
 route_length-empty p (n ∷ route) none = absurd (omega arith)
 
 -- the length up to the next place, from what is known at this one
-pub length_before-leg : (p : Instance) (route : List ℕ) (k : ℕ) (here there : Stop) (so_far way : ℕ) → here ≡ place p route k → there ≡ place p route (k + 1) → so_far ≡ length_before p route k → way ≡ distance here there → so_far + way ≡ length_before p route (k + 1)
+pub length_before-leg : (p : Instance) (route : List ℕ) (k : ℕ) (here there : Stop) (so_far way : ℕ) → here ≡ place p route k → there ≡ place p route (k + 1)
+    → so_far ≡ length_before p route k → way ≡ distance here there → so_far + way ≡ length_before p route (k + 1)
 length_before-leg p route k here there so_far way at next is far =
     let same : way ≡ leg p route k = rw (← at, ← next) far in omega (arith, length_before-next p route k)
 
 -- as long as two legs for each stop
-pub route_length_le : (p : Instance) (route : List ℕ) (k so_far way : ℕ) → k ≡ length route → so_far + way ≡ route_length p route → so_far ≤ 2828427 * k → way ≤ 2828427 → so_far + way ≤ 5656854 * length route
+pub route_length_le : (p : Instance) (route : List ℕ) (k so_far way : ℕ) → k ≡ length route → so_far + way ≡ route_length p route → so_far ≤ 2828427 * k
+    → way ≤ 2828427 → so_far + way ≤ 5656854 * length route
 route_length_le p route zero so_far way end is few short = omega (arith, route_length-empty p route (sym end))
 route_length_le p route (suc k) so_far way end is few short = omega arith

@@ -17,14 +17,17 @@ visits_from-cons p route k h =
     let more : length route + 1 - k ≡ suc (length route + 1 - (k + 1)) = omega arith in
     ap (λ n. map (visit_after p route) (range_with_len k n)) more
 
-same_visit : (a b : Stop) (t u : ℕ) (x y : ℤ) (d e : ℕ) → a ≡ b → t ≡ u → x ≡ y → d ≡ e → ◌≡◌ {A = Visit} (record { stop = a; start = t; load = x; leg = d }) (record { stop = b; start = u; load = y; leg = e })
+same_visit : (a b : Stop) (t u : ℕ) (x y : ℤ) (d e : ℕ) → a ≡ b → t ≡ u → x ≡ y → d ≡ e
+    → ◌≡◌ {A = Visit} (record { stop = a; start = t; load = x; leg = d }) (record { stop = b; start = u; load = y; leg = e })
 same_visit a b t u x y d e p q r s = rw (p, q, r, s) refl
 
-start_behind : (p : Instance) (route : List ℕ) (k : ℕ) (here there : Stop) (now : ℕ) → here ≡ place p route k → now ≡ start p route k → there ≡ place p route (k + 1) → max (now + here.service + distance here there) there.earliest ≡ start p route (k + 1)
+start_behind : (p : Instance) (route : List ℕ) (k : ℕ) (here there : Stop) (now : ℕ) → here ≡ place p route k → now ≡ start p route k
+    → there ≡ place p route (k + 1) → max (now + here.service + distance here there) there.earliest ≡ start p route (k + 1)
 start_behind p route k here there now at is next = rw (start-next p route k, ← at, ← is, ← next) (omega arith)
 
 -- the visit behind a place, from that of the place
-pub visit_after_is : (p : Instance) (route : List ℕ) (k : ℕ) (last : Visit) (stop : Stop) → last.stop ≡ place p route k → last.start ≡ start p route k → last.load ≡ load p route k → stop ≡ place p route (k + 1) → next_visit last stop ≡ visit_after p route k
+pub visit_after_is : (p : Instance) (route : List ℕ) (k : ℕ) (last : Visit) (stop : Stop) → last.stop ≡ place p route k → last.start ≡ start p route k
+    → last.load ≡ load p route k → stop ≡ place p route (k + 1) → next_visit last stop ≡ visit_after p route k
 visit_after_is p route k last stop at now on_board next =
     same_visit _ _ _ _ _ _ _ _ next (start_behind p route k last.stop stop last.start at now next)
     (rw (load-next p route k, on_board, next) refl) (rw (at, next) refl)
@@ -52,5 +55,6 @@ loads_among_visits p route =
     rw (visits_from_start p route, take-map-range_with_len (visit_after p route) 0 (length route + 1) (length route) (omega arith)) (map_map _ _ _)
 
 -- an iterator at the beginning of a route gives all its visits
-pub all_visits : (w : Walk) (p : Instance) (route : List ℕ) → w ≡ record { problem = p; route = route; place = 0 } → visits_from w.problem w.route w.place ≡ visits_from p route 0
+pub all_visits : (w : Walk) (p : Instance) (route : List ℕ) → w ≡ record { problem = p; route = route; place = 0 }
+    → visits_from w.problem w.route w.place ≡ visits_from p route 0
 all_visits w p route is = ap (λ w. visits_from w.problem w.route w.place) is

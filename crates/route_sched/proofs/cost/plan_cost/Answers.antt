@@ -1,3 +1,4 @@
+-- The stops of a plan are live, so their numbers are at most 40,000.
 use Rattle.std.proofs.Common.{subst}
 use Rattle.plan_types.specs.Instance.{IsInstance}
 use Rattle.std.specs.List.{concat}

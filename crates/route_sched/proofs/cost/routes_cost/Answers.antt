@@ -1,3 +1,4 @@
+-- The routes of a plan share no stop, so they have so few that the distance of all of them fits a `u64`.
 use Rattle.std.proofs.Common.{subst, arith}
 use Rattle.std.specs.List.{concat}
 use Rattle.plan_types.specs.Instance.{IsInstance}

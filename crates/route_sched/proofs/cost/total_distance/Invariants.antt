@@ -1,3 +1,4 @@
+-- The total is how far the vehicles so far drive, at most 5,656,854 for each of their stops; with at most 2^64 for each route it fits.
 use Rattle.std.proofs.Common.{◌≡◌, ◌≤◌, ◌*◌, ◌^◌, length, take}
 use Rattle.std.specs.List.{concat, sum_by}
 use Rattle.route_sched.specs.Schedule.{route_length}

@@ -1,3 +1,4 @@
+-- The loads of the visits along a route, but for the return's, are the loads of its schedule.
 use Rattle.std.proofs.Common.{◌∙◌, ap, rules, length}
 use Rattle.std.proofs.lemmas.Iterator.{YieldsList-from_map, YieldsList-from_take, items_from_collect}
 use Rattle.std.specs.Iterator.Adapters.{take_source, take_count}
@@ -13,6 +14,7 @@ returns c =
     (items_from_collect _ c.collect.ensures.ran
     (YieldsList-from_map _ (λ v. v.load)
     (YieldsList-from_take (length c.args.route.now)
-    (YieldsList-from_first (λ x. x) (λ (w : Walk). visits_from w.problem w.route w.place) _ (all_visits _ c.args.problem.now c.args.route.now (ap (λ s. take_source s) c.map.ensures.source ∙ (c.take.ensures.source ∙ c.new.ensures))))
+    (YieldsList-from_first (λ x. x) (λ (w : Walk). visits_from w.problem w.route w.place) _
+    (all_visits _ c.args.problem.now c.args.route.now (ap (λ s. take_source s) c.map.ensures.source ∙ (c.take.ensures.source ∙ c.new.ensures))))
     (ap (λ s. take_count s) c.map.ensures.source ∙ c.take.ensures.count))
     c.map.ensures.closure (λ x r q k. search rules)))

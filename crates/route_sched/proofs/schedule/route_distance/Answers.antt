@@ -1,3 +1,4 @@
+-- With each leg the distance is that of the way to the next place; behind the last leg it is the route's length, at most 5,656,854 for each stop.
 use Rattle.std.proofs.Common.{rules, ◌≡◌, ◌∙◌, ◌+◌, ◌≤◌, length, sym, ap, subst, arith}
 use Rattle.plan_types.specs.Instance.{IsInstance}
 use Rattle.route_sched.proofs.LiveStops.{few_stops, place-first}
@@ -44,4 +45,5 @@ pub returns-else-is_empty-2-clause-bound : goal.returns-else-is_empty-2-clause-b
 returns-else-is_empty-2-clause-bound c =
     let end : c.loop-k.k ≡ length c.args.route.now = omega arith in
     let short : c.from-distance.result ≤ 2828427 = omega (arith, c.dist.ensures.bound) in
-    route_length_le c.args.problem.now c.args.route.now c.loop-k.k c.loop-k.distance c.from-distance.result end (returns-else-is_empty-2-clause-value c) c.loop-k.invariant.bound short
+    route_length_le c.args.problem.now c.args.route.now c.loop-k.k c.loop-k.distance c.from-distance.result end
+    (returns-else-is_empty-2-clause-value c) c.loop-k.invariant.bound short

@@ -1,3 +1,4 @@
+-- The starts of the visits along a route, the return among them, are the starts of its schedule.
 use Rattle.std.proofs.Common.{◌∙◌, rules}
 use Rattle.std.proofs.lemmas.Iterator.{YieldsList-from_map, items_from_collect}
 use Rattle.std.proofs.lemmas.Iterator.Consumers.{YieldsList-from_first}
@@ -11,5 +12,6 @@ returns c =
     rw (← starts_among_visits c.args.problem.now c.args.route.now)
     (items_from_collect _ c.collect.ensures.ran
     (YieldsList-from_map _ (λ v. v.start)
-    (YieldsList-from_first (λ x. x) (λ (w : Walk). visits_from w.problem w.route w.place) _ (all_visits _ c.args.problem.now c.args.route.now (c.map.ensures.source ∙ c.new.ensures)))
+    (YieldsList-from_first (λ x. x) (λ (w : Walk). visits_from w.problem w.route w.place) _
+    (all_visits _ c.args.problem.now c.args.route.now (c.map.ensures.source ∙ c.new.ensures)))
     c.map.ensures.closure (λ x r q k. search rules)))

@@ -1,3 +1,4 @@
+-- What is made of the last visit and the next stop is the schedule's visit behind this place, and the visits behind it are one fewer.
 use Rattle.std.proofs.Common.{◌≡◌, ◌+◌, ◌∙◌, ◌∷◌, ◌<◌, length, sym, ap, subst, arith}
 use Rattle.plan_types.specs.Limits.{IsVisit}
 use Rattle.plan_types.specs.declared.requests.Stop.{Stop}
@@ -10,7 +11,8 @@ use Rattle.route_sched.proofs.Visited.{visits_from-cons, visit_after_is, length-
 use Rattle.route_sched.proofs.visits.VisitsIterator.next.Goals as goal
 
 -- what is made of the last visit is the visit behind its place
-visit_is : (a : Inside) (v : Visit) (stop : Stop) → IsWalk a → v ≡ next_visit a.last stop → stop ≡ place a.problem.now a.route.now (a.place + 1) → v ≡ visit_after a.problem.now a.route.now a.place
+visit_is : (a : Inside) (v : Visit) (stop : Stop) → IsWalk a → v ≡ next_visit a.last stop → stop ≡ place a.problem.now a.route.now (a.place + 1)
+    → v ≡ visit_after a.problem.now a.route.now a.place
 visit_is a v stop is made at = made ∙ visit_after_is a.problem.now a.route.now a.place a.last stop is.stop is.start is.load at
 
 pub invariant_of-self : goal.invariant_of-self
@@ -26,7 +28,16 @@ invariant_of-self c =
       stop = ap (λ v. v.stop) met;
       visit = visit;
       start = ap (λ v. v.start) met;
-      start_bound = omega (arith, ap (λ v. v.start) made.value, ap (λ v. v.leg) made.value, made.leg, is.start_bound, is.visit.service, c.stop_behind-stop.ensures.visit.window, c.stop_behind-stop.ensures.visit.latest);
+      start_bound = omega (
+        arith,
+        ap (λ v. v.start) made.value,
+        ap (λ v. v.leg) made.value,
+        made.leg,
+        is.start_bound,
+        is.visit.service,
+        c.stop_behind-stop.ensures.visit.window,
+        c.stop_behind-stop.ensures.visit.latest,
+      );
       load = ap (λ v. v.load) met;
       load_bound = omega (arith, made.load, is.load_bound);
     }
@@ -40,8 +51,11 @@ returns-clause-steps c =
 
 pub returns-clause-goes : goal.returns-clause-goes
 returns-clause-goes c =
-    let fewer : length (visits_from c.self.inside.problem.now c.self.inside.route.now (c.self.inside.place + 1)) < length (visits_from c.args.self.now.problem c.args.self.now.route c.args.self.now.place) =
-    subst (λ w. length (visits_from c.self.inside.problem.now c.self.inside.route.now (c.self.inside.place + 1)) < length (visits_from w.problem w.route w.place)) c.self.view_is
+    let fewer : length (visits_from c.self.inside.problem.now c.self.inside.route.now (c.self.inside.place + 1))
+    < length (visits_from c.args.self.now.problem c.args.self.now.route c.args.self.now.place) =
+    subst
+    (λ w. length (visits_from c.self.inside.problem.now c.self.inside.route.now (c.self.inside.place + 1)) < length (visits_from w.problem w.route w.place))
+    c.self.view_is
     (length-visits_from c.self.inside.problem.now c.self.inside.route.now c.self.inside.place c.if-self.false)
     in
     record { on = λ _. (tt, tt, fewer); keeps = tt; rests = λ _. tt }
