@@ -8,11 +8,30 @@ use Rattle.sector_disk.specs.Model.{Disk, Show, settled, run, IsImage, sectors_f
 use Rattle.sector_disk.specs.ModelLaws.{run-append, seen-sectors_from, image_from_reached}
 use Rattle.sector_disk.specs.Memory.{Call, events_of, len_of}
 use Rattle.sector_disk.specs.MemoryLaws.{run_inside}
-use Rattle.sector_disk.specs.FileRecord.{Answer, ReadGave, ReadFailed, WriteFinished, WriteFailed, SyncFinished, SyncFailed, Entry, events_after, events_in, Agrees, is_inside, all_inside, GoesOnReading, ReadsOn, calls_of, calls_in}
+use Rattle.sector_disk.specs.FileRecord.{
+  Answer,
+  ReadGave,
+  ReadFailed,
+  WriteFinished,
+  WriteFailed,
+  SyncFinished,
+  SyncFailed,
+  Entry,
+  events_after,
+  events_in,
+  Agrees,
+  is_inside,
+  all_inside,
+  GoesOnReading,
+  ReadsOn,
+  calls_of,
+  calls_in,
+}
 use Rattle.sector_disk.specs.FileLaws.{file_reads_possible}
 use Rattle.sector_disk.specs.Laws.{StaysHonest, IsAsInMemory}
 
-agrees : (n : ℕ) (disk : Disk) (shown : List ℕ) (answer : Answer) (bytes : List ℕ) → IsImage n disk disk.seen → IsTrue (is_inside (512 * n) answer bytes) → GoesOnReading disk shown answer bytes → Agrees n disk shown answer bytes
+agrees : (n : ℕ) (disk : Disk) (shown : List ℕ) (answer : Answer) (bytes : List ℕ) → IsImage n disk disk.seen → IsTrue (is_inside (512 * n) answer bytes)
+    → GoesOnReading disk shown answer bytes → Agrees n disk shown answer bytes
 agrees n disk shown (ReadGave first) bytes seen inside on = on
 agrees n disk shown ReadFailed bytes seen inside on = tt
 agrees n disk shown (WriteFinished first) bytes seen inside on = tt
@@ -28,10 +47,14 @@ pub stays_honest : StaysHonest
 stays_honest n start shown [] possible inside on = possible
 stays_honest n start shown (entry ∷ earlier) possible inside on =
     let parts = and_parts (is_inside (512 * n) entry.0 entry.1) (all_inside (512 * n) earlier) inside in
-    let before = stays_honest n start shown earlier possible parts.1 on.0 in
-    (before, agrees n (run start (events_in shown earlier)) (shown (length earlier)) entry.0 entry.1 (file_reads_possible n start shown earlier before parts.1) parts.0 on.1)
+    let before = stays_honest n start shown earlier possible parts.1 on.0 in (
+      before,
+      agrees n (run start (events_in shown earlier)) (shown (length earlier)) entry.0 entry.1
+          (file_reads_possible n start shown earlier before parts.1) parts.0 on.1,
+    )
 
-same_call : (disk : Disk) (shown : List ℕ) (answer : Answer) (bytes : List ℕ) → GoesOnReading disk shown answer bytes → run disk (events_after shown answer bytes) ≡ run disk (flat_map events_of (calls_of answer bytes))
+same_call : (disk : Disk) (shown : List ℕ) (answer : Answer) (bytes : List ℕ) → GoesOnReading disk shown answer bytes
+    → run disk (events_after shown answer bytes) ≡ run disk (flat_map events_of (calls_of answer bytes))
 same_call disk shown (ReadGave first) bytes on = refl
 same_call disk shown ReadFailed bytes on = refl
 same_call disk shown (WriteFinished first) bytes on =
@@ -45,7 +68,8 @@ same_call disk shown (WriteFailed first) bytes on =
 same_call disk shown SyncFinished bytes on = refl
 same_call disk shown SyncFailed bytes on = ap (λ (image : List ℕ). record disk { seen = image }) on
 
-same_calls : (start : Disk) (shown : ℕ → List ℕ) (entries : List Entry) → ReadsOn start shown entries → run start (events_in shown entries) ≡ run start (flat_map events_of (calls_in entries))
+same_calls : (start : Disk) (shown : ℕ → List ℕ) (entries : List Entry) → ReadsOn start shown entries
+    → run start (events_in shown entries) ≡ run start (flat_map events_of (calls_in entries))
 same_calls start shown [] on = refl
 same_calls start shown (entry ∷ earlier) on =
     let image = shown (length earlier) in

@@ -1,12 +1,61 @@
 -- What a call of a device means for its images.
-use Rattle.std.proofs.Common.{◌≡◌, ◌⊎◌, inl, inr, ⊎_elim, ℕ, suc, ◌+◌, ◌*◌, ◌/◌, ◌<◌, ◌≤◌, Bool, true, false, List, [], ◌∷◌, ◌++◌, length, take, drop, refl, sym, ◌∙◌, ap, subst, arith, length-append, Result, Ok, Err, is_ok}
+use Rattle.std.proofs.Common.{
+  ◌≡◌,
+  ◌⊎◌,
+  inl,
+  inr,
+  ⊎_elim,
+  ℕ,
+  suc,
+  ◌+◌,
+  ◌*◌,
+  ◌/◌,
+  ◌<◌,
+  ◌≤◌,
+  Bool,
+  true,
+  false,
+  List,
+  [],
+  ◌∷◌,
+  ◌++◌,
+  length,
+  take,
+  drop,
+  refl,
+  sym,
+  ◌∙◌,
+  ap,
+  subst,
+  arith,
+  length-append,
+  Result,
+  Ok,
+  Err,
+  is_ok,
+}
 use Rattle.std.proofs.lemmas.List.{take-append-le, drop-append-le, take_all, drop_all}
 use Rattle.std.proofs.lemmas.Bool.{cases_lt, false≢true}
 use Rattle.std.specs.Prelude.{IsOk, OnOk, OnErr}
 use Rattle.std.specs.List.{Contains}
 use Rattle.sector_disk.specs.Image.{sector, written}
 use Rattle.sector_disk.specs.Model.{Disk, Event, Finish, Sync, Show, run, IsImage, sectors_from, finished}
-use Rattle.sector_disk.specs.ModelLaws.{run-append, seen-sectors_from, finished-append, length-sectors_from, finished-sectors_from, finished-drop_sectors, take-sectors_from, image_later, image_reached, image_from_reached, settled_only, left_before, left_within, left_cases}
+use Rattle.sector_disk.specs.ModelLaws.{
+  run-append,
+  seen-sectors_from,
+  finished-append,
+  length-sectors_from,
+  finished-sectors_from,
+  finished-drop_sectors,
+  take-sectors_from,
+  image_later,
+  image_reached,
+  image_from_reached,
+  settled_only,
+  left_before,
+  left_within,
+  left_cases,
+}
 use Rattle.sector_disk.specs.Sectors.{Reached, AddsContents, Only, SameImages, Passes}
 use Rattle.sector_disk.specs.History.{History, disk_in, seen_in, MayLeaveIn, clock_in, MayHaveLeftIn}
 
@@ -55,23 +104,41 @@ module _ (old : History) (first k : ℕ) (bytes : List ℕ) (rest : List Event) 
   unfinished : (j : ℕ) → j ≤ k → finished (drop j (sectors ++ rest)) ≡ finished (sectors ++ rest)
   unfinished j le =
       ap finished (drop-append-le j sectors rest (omega (arith, le, length-sectors_from first bytes k)))
-      ∙ omega (arith, finished-append (drop j sectors) rest, finished-append sectors rest, finished-drop_sectors first bytes k j, finished-sectors_from first bytes k)
+      ∙ omega (
+        arith,
+        finished-append (drop j sectors) rest,
+        finished-append sectors rest,
+        finished-drop_sectors first bytes k j,
+        finished-sectors_from first bytes k,
+      )
 
   -- time goes on, if what its sectors leave is within it
-  passes : length rest ≤ 1 → (within : List ℕ → Type 0) → ((image : List ℕ) → IsImage old.sectors (run (disk_in old) sectors) image → within image) → PassesIn old new within
+  passes : length rest ≤ 1 → (within : List ℕ → Type 0) → ((image : List ℕ) → IsImage old.sectors (run (disk_in old) sectors) image → within image)
+      → PassesIn old new within
   passes few within inside = record {
     later = omega (arith, length-append old.events (sectors ++ rest));
-    nothing_else = λ t m image le is. ⊎_elim (λ past. inl past) (λ now. inr (at now.0 m image now.2 now.3)) (left_cases old.sectors old.start old.events (sectors ++ rest) old.calls t m image is);
+    nothing_else = λ t m image le is. ⊎_elim (λ past. inl past) (λ now. inr (at now.0 m image now.2 now.3))
+        (left_cases old.sectors old.start old.events (sectors ++ rest) old.calls t m image is);
     keeps = λ t m image le past. left_before old.sectors old.start old.events (sectors ++ rest) old.calls t m image past;
   }
     where
-      at : (j m : ℕ) (image : List ℕ) → m + finished (drop j (sectors ++ rest)) ≡ old.calls + finished (sectors ++ rest) → IsImage old.sectors (run (disk_in old) (take j (sectors ++ rest))) image
+      at : (j m : ℕ) (image : List ℕ) → m + finished (drop j (sectors ++ rest)) ≡ old.calls + finished (sectors ++ rest)
+          → IsImage old.sectors (run (disk_in old) (take j (sectors ++ rest))) image
           → ((m ≡ old.calls) × within image) ⊎ ((m ≡ new.calls) × MayLeaveIn new image)
       at j m image count is = ⊎_elim
           (λ (early : j < suc k). let le : j ≤ k = omega arith in
-          inl (omega (arith, count, unfinished j le), inside image (image_later old.sectors (disk_in old) first bytes j k image le (subst (λ (l : List Event). IsImage old.sectors (run (disk_in old) l) image) (cut j le) is))))
+          inl (
+            omega (arith, count, unfinished j le),
+            inside image
+                (image_later old.sectors (disk_in old) first bytes j k image le
+                (subst (λ (l : List Event). IsImage old.sectors (run (disk_in old) l) image) (cut j le) is)),
+          ))
           (λ (late : suc k ≤ j). let all : length (sectors ++ rest) ≤ j = omega (arith, few, length-append sectors rest, length-sectors_from first bytes k) in
-          inr (omega (arith, count, ap finished (drop_all j (sectors ++ rest) all)), subst (λ (d : Disk). IsImage old.sectors d image) (ap (run (disk_in old)) (take_all j (sectors ++ rest) all) ∙ sym (run-append old.start old.events (sectors ++ rest))) is))
+          inr (
+            omega (arith, count, ap finished (drop_all j (sectors ++ rest) all)),
+            subst (λ (d : Disk). IsImage old.sectors d image)
+                (ap (run (disk_in old)) (take_all j (sectors ++ rest) all) ∙ sym (run-append old.start old.events (sectors ++ rest))) is,
+          ))
           (cases_lt j (suc k))
 
   disk_is : disk_in new ≡ run (run (disk_in old) sectors) rest
@@ -79,15 +146,20 @@ module _ (old : History) (first k : ℕ) (bytes : List ℕ) (rest : List Event) 
 
   -- what is left behind it is what its sectors leave
   leaves : IsQuiet rest → (image : List ℕ) → MayLeaveIn new image → IsImage old.sectors (run (disk_in old) sectors) image
-  leaves quiet image is = with_same old.sectors (run (run (disk_in old) sectors) rest) (run (disk_in old) sectors) image (quiet.same _) (subst (λ (d : Disk). IsImage old.sectors d image) disk_is is)
+  leaves quiet image is =
+      with_same old.sectors (run (run (disk_in old) sectors) rest) (run (disk_in old) sectors) image (quiet.same _)
+      (subst (λ (d : Disk). IsImage old.sectors d image) disk_is is)
 
   all_left : IsQuiet rest → (image : List ℕ) → IsImage old.sectors (run (disk_in old) sectors) image → MayLeaveIn new image
-  all_left quiet image is = subst (λ (d : Disk). IsImage old.sectors d image) (sym disk_is) (with_same old.sectors (run (disk_in old) sectors) (run (run (disk_in old) sectors) rest) image (λ i. sym (quiet.same _ i)) is)
+  all_left quiet image is =
+      subst (λ (d : Disk). IsImage old.sectors d image) (sym disk_is)
+      (with_same old.sectors (run (disk_in old) sectors) (run (run (disk_in old) sectors) rest) image (λ i. sym (quiet.same _ i)) is)
 
 -- what a write may have come to: it finished, or some of its sectors were written
 pub data WriteCase (old new : History) (first : ℕ) (bytes : List ℕ) : Bool → Type 0 where
   finishes : GoesOn old new (sectors_from first bytes (length bytes / 512) ++ Finish first bytes ∷ []) → WriteCase old new first bytes true
-  tears : (k : ℕ) → k ≤ length bytes / 512 → (rest : List Event) → IsQuiet rest → GoesOn old new (sectors_from first bytes k ++ rest) → WriteCase old new first bytes false
+  tears : (k : ℕ) → k ≤ length bytes / 512 → (rest : List Event) → IsQuiet rest → GoesOn old new (sectors_from first bytes k ++ rest)
+      → WriteCase old new first bytes false
 
 pub record Writes {T E : Type 0} (old new : History) (first : ℕ) (bytes : List ℕ) (result : Result T E) : Type 0 where
   pub seen : OnOk result (seen_in new ≡ written first bytes (seen_in old))
@@ -96,18 +168,25 @@ pub record Writes {T E : Type 0} (old new : History) (first : ℕ) (bytes : List
   pub moments : PassesIn old new (Reached first bytes (MayLeaveIn old))
 
 -- a write of whole sectors inside the device, of which what reads give is possible
-module _ (old : History) (first : ℕ) (bytes : List ℕ) (whole : length bytes ≡ 512 * (length bytes / 512)) (inside : first + length bytes / 512 ≤ old.sectors) (possible : MayLeaveIn old (seen_in old)) where
-  reached : (k : ℕ) → k ≤ length bytes / 512 → (image : List ℕ) → IsImage old.sectors (run (disk_in old) (sectors_from first bytes k)) image → Reached first bytes (MayLeaveIn old) image
-  reached k le image is = image_reached old.sectors (disk_in old) first (length bytes / 512) bytes whole inside possible image (image_later old.sectors (disk_in old) first bytes k (length bytes / 512) image le is)
+module _ (old : History) (first : ℕ) (bytes : List ℕ) (whole : length bytes ≡ 512 * (length bytes / 512)) (inside : first + length bytes / 512 ≤ old.sectors)
+    (possible : MayLeaveIn old (seen_in old)) where
+  reached : (k : ℕ) → k ≤ length bytes / 512 → (image : List ℕ) → IsImage old.sectors (run (disk_in old) (sectors_from first bytes k)) image
+      → Reached first bytes (MayLeaveIn old) image
+  reached k le image is =
+      image_reached old.sectors (disk_in old) first (length bytes / 512) bytes whole inside possible image
+      (image_later old.sectors (disk_in old) first bytes k (length bytes / 512) image le is)
 
-  from_reached : (image : List ℕ) → Reached first bytes (MayLeaveIn old) image → IsImage old.sectors (run (disk_in old) (sectors_from first bytes (length bytes / 512))) image
+  from_reached : (image : List ℕ) → Reached first bytes (MayLeaveIn old) image
+      → IsImage old.sectors (run (disk_in old) (sectors_from first bytes (length bytes / 512))) image
   from_reached = image_from_reached old.sectors (disk_in old) first (length bytes / 512) bytes whole inside
 
-  adds : {T E : Type 0} (result : Result T E) (k : ℕ) → k ≤ length bytes / 512 → (IsOk result → k ≡ length bytes / 512) → (rest : List Event) → IsQuiet rest → AddsContents result first bytes (MayLeaveIn old) (MayLeaveIn (after old (sectors_from first bytes k ++ rest)))
+  adds : {T E : Type 0} (result : Result T E) (k : ℕ) → k ≤ length bytes / 512 → (IsOk result → k ≡ length bytes / 512) → (rest : List Event) → IsQuiet rest
+      → AddsContents result first bytes (MayLeaveIn old) (MayLeaveIn (after old (sectors_from first bytes k ++ rest)))
   adds result k le all rest quiet = record {
     nothing_else = λ image is. reached k le image (leaves old first k bytes rest quiet image is);
     keeps = λ image is. all_left old first k bytes rest quiet image (image_later old.sectors (disk_in old) first bytes 0 k image (omega arith) is);
-    all = λ ok image is. all_left old first k bytes rest quiet image (image_later old.sectors (disk_in old) first bytes (length bytes / 512) k image (omega (arith, all ok)) (from_reached image is));
+    all = λ ok image is. all_left old first k bytes rest quiet image
+        (image_later old.sectors (disk_in old) first bytes (length bytes / 512) k image (omega (arith, all ok)) (from_reached image is));
   }
 
   pub write_means : {T E : Type 0} (new : History) (result : Result T E) → WriteCase old new first bytes (is_ok result) → Writes old new first bytes result
@@ -121,7 +200,8 @@ module _ (old : History) (first : ℕ) (bytes : List ℕ) (whole : length bytes 
         within = λ t image le is. left_within old.sectors old.start old.events (sectors ++ last) old.calls t k old.calls image le
             (omega (arith, length-append sectors last, length-sectors_from first bytes k))
             (omega (arith, unfinished old first k bytes last k (omega arith)))
-            (subst (λ (l : List Event). IsImage old.sectors (run (disk_in old) l) image) (sym (cut old first k bytes last k (omega arith))) (from_reached image is));
+            (subst (λ (l : List Event). IsImage old.sectors (run (disk_in old) l) image) (sym (cut old first k bytes last k (omega arith)))
+            (from_reached image is));
         moments = passes old first k bytes last (omega arith) (Reached first bytes (MayLeaveIn old)) (reached k (omega arith));
       })
   write_means new (Err e) (tears k le rest quiet on) = rw (is_after old new (sectors_from first bytes k ++ rest) on) (record {
@@ -142,10 +222,12 @@ pub record Syncs {T E : Type 0} (old new : History) (result : Result T E) : Type
   pub contents : OnErr result (SameImages (MayLeaveIn old) (MayLeaveIn new))
   pub moments : PassesIn old new (MayLeaveIn old)
 
-pub sync_means : {T E : Type 0} (old new : History) → MayLeaveIn old (seen_in old) → (result : Result T E) → SyncCase old new (is_ok result) → Syncs old new result
+pub sync_means : {T E : Type 0} (old new : History) → MayLeaveIn old (seen_in old) → (result : Result T E) → SyncCase old new (is_ok result)
+    → Syncs old new result
 sync_means old new possible (Ok x) (syncs on) = rw (is_after old new (Sync ∷ []) on) (record {
   seen = ap (λ (d : Disk). d.seen) (disk_is old 0 0 [] (Sync ∷ []));
-  durable = λ image is. settled_only old.sectors (seen_in old) image possible.size (subst (λ (d : Disk). IsImage old.sectors d image) (disk_is old 0 0 [] (Sync ∷ [])) is);
+  durable = λ image is. settled_only old.sectors (seen_in old) image possible.size
+      (subst (λ (d : Disk). IsImage old.sectors d image) (disk_is old 0 0 [] (Sync ∷ [])) is);
   contents = tt;
   moments = passes old 0 0 [] (Sync ∷ []) (omega arith) (MayLeaveIn old) (λ image is. is);
 })

@@ -32,7 +32,8 @@ seen-events_of disk Synced = refl
 pub events-push : (calls : List Call) (call : Call) → flat_map events_of (calls ++ call ∷ []) ≡ flat_map events_of calls ++ events_of call
 events-push calls call = flat_map-append events_of calls (call ∷ []) ∙ ap (λ (l : List Event). flat_map events_of calls ++ l) (append-nil (events_of call))
 
-pub seen-push : (start : Disk) (calls : List Call) (call : Call) → (run start (flat_map events_of (calls ++ call ∷ []))).seen ≡ seen_after call (run start (flat_map events_of calls)).seen
+pub seen-push : (start : Disk) (calls : List Call) (call : Call)
+    → (run start (flat_map events_of (calls ++ call ∷ []))).seen ≡ seen_after call (run start (flat_map events_of calls)).seen
 seen-push start calls call =
     ap (λ (l : List Event). (run start l).seen) (events-push calls call)
     ∙ ap (λ (d : Disk). d.seen) (run-append start (flat_map events_of calls) (events_of call))
@@ -40,29 +41,37 @@ seen-push start calls call =
 
 pub is_run_from : (size first n : ℕ) → 0 < n → n % 512 ≡ 0 → 512 * first + n ≤ size → IsTrue (is_run size first n)
 is_run_from size first n some whole inside =
-    and_from (nat_lt 0 n && (n % 512 == 0)) (nat_le (512 * first + n) size) (and_from (nat_lt 0 n) (n % 512 == 0) (lt-ltb 0 n some) (eq-eqb (n % 512) 0 whole)) (le-leb (512 * first + n) size inside)
+    and_from (nat_lt 0 n && (n % 512 == 0)) (nat_le (512 * first + n) size) (and_from (nat_lt 0 n) (n % 512 == 0) (lt-ltb 0 n some) (eq-eqb (n % 512) 0 whole))
+    (le-leb (512 * first + n) size inside)
 
 -- the image for reads has the device's length
-pub seen_size : (start : List ℕ) (calls : List Call) → length start % 512 ≡ 0 → IsTrue (all_fit (length start) calls) → length (run (settled start) (flat_map events_of calls)).seen ≡ length start
+pub seen_size : (start : List ℕ) (calls : List Call) → length start % 512 ≡ 0 → IsTrue (all_fit (length start) calls)
+    → length (run (settled start) (flat_map events_of calls)).seen ≡ length start
 seen_size start calls whole fit =
     let size = whole_sectors (length start) whole in
-    let sound = sound_calls (length start / 512) calls (settled start) (settled_image (length start / 512) start size) (subst (λ (n : ℕ). IsTrue (all_fit n calls)) size fit) in
+    let sound =
+    sound_calls (length start / 512) calls (settled start) (settled_image (length start / 512) start size)
+    (subst (λ (n : ℕ). IsTrue (all_fit n calls)) size fit) in
     sound.size ∙ sym size
 
 pub image_size : (start image : List ℕ) (kept : List Kept) → IsKept start image kept → length image ≡ length start
 image_size start image kept is = ap length is.reads ∙ seen_size start (map call_of kept) is.whole is.fit
 
 -- one call more
-pub keeps : (start image new_image : List ℕ) (kept new_kept : List Kept) (call : Call) → IsKept start image kept → map call_of new_kept ≡ map call_of kept ++ call ∷ [] → IsTrue (fits (length start) call) → new_image ≡ seen_after call image
+pub keeps : (start image new_image : List ℕ) (kept new_kept : List Kept) (call : Call) → IsKept start image kept
+    → map call_of new_kept ≡ map call_of kept ++ call ∷ [] → IsTrue (fits (length start) call) → new_image ≡ seen_after call image
     → IsKept start new_image new_kept
 keeps start image new_image kept new_kept call is more fit same = record {
   whole = is.whole;
-  fit = ap (all_fit (length start)) more ∙ list_all-append (fits (length start)) (map call_of kept) (call ∷ []) ∙ and_from (all_fit (length start) (map call_of kept)) (fits (length start) call && true) is.fit (and_from (fits (length start) call) true fit refl);
-  reads = same ∙ ap (seen_after call) is.reads ∙ sym (ap (λ (l : List Call). (run (settled start) (flat_map events_of l)).seen) more ∙ seen-push (settled start) (map call_of kept) call);
+  fit = ap (all_fit (length start)) more ∙ list_all-append (fits (length start)) (map call_of kept) (call ∷ [])
+      ∙ and_from (all_fit (length start) (map call_of kept)) (fits (length start) call && true) is.fit (and_from (fits (length start) call) true fit refl);
+  reads = same ∙ ap (seen_after call) is.reads
+      ∙ sym (ap (λ (l : List Call). (run (settled start) (flat_map events_of l)).seen) more ∙ seen-push (settled start) (map call_of kept) call);
 }
 
 -- each of them fits
-pub fits_at : (size : ℕ) (kept : List Kept) (i : ℕ) (d : Kept) → i < length kept → IsTrue (all_fit size (map call_of kept)) → IsTrue (fits size (call_of (get_or kept i d)))
+pub fits_at : (size : ℕ) (kept : List Kept) (i : ℕ) (d : Kept) → i < length kept → IsTrue (all_fit size (map call_of kept))
+    → IsTrue (fits size (call_of (get_or kept i d)))
 fits_at size kept i d lt fit = and_at (λ (l : List Kept). all_fit size (map call_of l)) (λ e. fits size (call_of e)) refl (λ e l. refl) kept i d lt fit
 
 pub calls_split : (kept : List Kept) (n : ℕ) → map call_of kept ≡ map call_of (take n kept) ++ map call_of (drop n kept)

@@ -1,3 +1,4 @@
+-- The lemma files, for this crate alone.
 mod Calls
 mod Contents
 mod FileGoes

@@ -6,7 +6,23 @@ use Rattle.std.specs.declared.io.ErrorKind.{ErrorKind}
 use Rattle.sector_disk.specs.declared.file_device.FileFault.{FileFault}
 use Rattle.sector_disk.specs.declared.file_device.FileFault.TheVariants as faults
 use Rattle.sector_disk.specs.declared.system_call.SystemCall.{SystemCall}
-use Rattle.sector_disk.specs.declared.system_call.SystemCall.TheVariants.{Find, FindFailed, Open, Lock, Measure, MeasureFailed, SetLen, ReadAt, ReadAtFailed, WriteAt, WriteAtFailed, SyncData, SyncAll, OpenFolder, SyncFolder}
+use Rattle.sector_disk.specs.declared.system_call.SystemCall.TheVariants.{
+  Find,
+  FindFailed,
+  Open,
+  Lock,
+  Measure,
+  MeasureFailed,
+  SetLen,
+  ReadAt,
+  ReadAtFailed,
+  WriteAt,
+  WriteAtFailed,
+  SyncData,
+  SyncAll,
+  OpenFolder,
+  SyncFolder,
+}
 use Rattle.sector_disk.specs.SystemCalls.{Noted, is_memory}
 use Rattle.sector_disk.specs.Opening.{Failure, fault_of, failure_in, failure_of, first_failure, folder_failure, is_in_use, is_not_offered, lock_failure, unsaid}
 

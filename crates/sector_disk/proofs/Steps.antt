@@ -1,5 +1,38 @@
 -- One event more, in the loops of a crash.
-use Rattle.std.proofs.Common.{◌≡◌, ℕ, zero, suc, ◌+◌, ◌-◌, ◌<◌, ◌≤◌, true, false, List, [], ◌∷◌, ◌++◌, length, map, take, drop, get_or, refl, sym, ◌∙◌, ap, arith, length-append, Option, Some, None, IsTrue, ◌&&◌, Vec, length-take-le}
+use Rattle.std.proofs.Common.{
+  ◌≡◌,
+  ℕ,
+  zero,
+  suc,
+  ◌+◌,
+  ◌-◌,
+  ◌<◌,
+  ◌≤◌,
+  true,
+  false,
+  List,
+  [],
+  ◌∷◌,
+  ◌++◌,
+  length,
+  map,
+  take,
+  drop,
+  get_or,
+  refl,
+  sym,
+  ◌∙◌,
+  ap,
+  arith,
+  length-append,
+  Option,
+  Some,
+  None,
+  IsTrue,
+  ◌&&◌,
+  Vec,
+  length-take-le,
+}
 use Rattle.std.specs.Prelude.{is_some, slice_get}
 use Rattle.std.specs.Option.{option_to_list, option_copied}
 use Rattle.std.specs.Borrow.{Bor}
@@ -23,8 +56,12 @@ module _ (kept : List Kept) (i : ℕ) (d : Kept) (lt : i < length kept) where
   pub calls_more : map call_of (take (i + 1) kept) ≡ map call_of (take i kept) ++ call_of (get_or kept i d) ∷ []
   calls_more = map_more call_of kept i d lt
 
-  pub seen_more : (start : List ℕ) → (run (settled start) (flat_map events_of (map call_of (take (i + 1) kept)))).seen ≡ seen_after (call_of (get_or kept i d)) (run (settled start) (flat_map events_of (map call_of (take i kept)))).seen
-  seen_more start = ap (λ (l : List Call). (run (settled start) (flat_map events_of l)).seen) calls_more ∙ seen-push (settled start) (map call_of (take i kept)) (call_of (get_or kept i d))
+  pub seen_more : (start : List ℕ)
+      → (run (settled start) (flat_map events_of (map call_of (take (i + 1) kept)))).seen
+      ≡ seen_after (call_of (get_or kept i d)) (run (settled start) (flat_map events_of (map call_of (take i kept)))).seen
+  seen_more start =
+      ap (λ (l : List Call). (run (settled start) (flat_map events_of l)).seen) calls_more
+      ∙ seen-push (settled start) (map call_of (take i kept)) (call_of (get_or kept i d))
 
   pub length-filter_more : (sector : ℕ) → length (filter_map (content_of sector) (map call_of (take (i + 1) kept)))
       ≡ length (filter_map (content_of sector) (map call_of (take i kept))) + length (option_to_list (content_of sector (call_of (get_or kept i d))))
@@ -52,15 +89,18 @@ module _ (kept : List Kept) (i : ℕ) (d : Kept) (lt : i < length kept) where
       ap (run (settled start)) same ∙ run-append (settled start) (flat_map events_of calls) (events_of Synced) in
       after ∙ ap (λ (disk : Disk). settled disk.seen) (sym after)
 
-  pub writes_more : (synced : ℕ) → synced ≤ i → IsTrue (is_write (call_of (get_or kept i d))) → IsTrue (list_all is_write (map call_of (drop synced (take i kept)))) → IsTrue (list_all is_write (map call_of (drop synced (take (i + 1) kept))))
+  pub writes_more : (synced : ℕ) → synced ≤ i → IsTrue (is_write (call_of (get_or kept i d)))
+      → IsTrue (list_all is_write (map call_of (drop synced (take i kept)))) → IsTrue (list_all is_write (map call_of (drop synced (take (i + 1) kept))))
   writes_more synced le write all =
       let e = get_or kept i d in
       let long : synced ≤ length (take i kept) = omega (arith, length-take-le i kept (omega arith)) in
-      let rest : drop synced (take (i + 1) kept) ≡ drop synced (take i kept) ++ e ∷ [] = ap (drop synced) (take_more kept i d lt) ∙ drop-append-le synced (take i kept) (e ∷ []) long in
+      let rest : drop synced (take (i + 1) kept) ≡ drop synced (take i kept) ++ e ∷ [] =
+      ap (drop synced) (take_more kept i d lt) ∙ drop-append-le synced (take i kept) (e ∷ []) long in
       ap (λ (l : List Kept). list_all is_write (map call_of l)) rest
       ∙ ap (list_all is_write) (map-append call_of (drop synced (take i kept)) (e ∷ []))
       ∙ list_all-append is_write (map call_of (drop synced (take i kept))) (call_of e ∷ [])
-      ∙ and_from (list_all is_write (map call_of (drop synced (take i kept)))) (is_write (call_of e) && true) all (and_from (is_write (call_of e)) true write refl)
+      ∙ and_from (list_all is_write (map call_of (drop synced (take i kept)))) (is_write (call_of e) && true) all
+      (and_from (is_write (call_of e)) true write refl)
 
 pub not_sync : (e : Kept) → (e ≡ KeptSync → ⊥) → IsTrue (is_write (call_of e))
 not_sync (KeptWrite first bytes) h = refl

@@ -17,14 +17,16 @@ module _ (X Y Z W : List ℕ → Type 0) (x : (image : List ℕ) → X image →
   }
 
   module _ {D : Type 0} (on : sectors.Ghosts D) where
-    pub commits_by : {T E : Type 0} (result : Result T E) (steps quiet : ℕ) (old new : D) → Commits on result steps quiet X Y old new → Commits on result steps quiet Z W old new
+    pub commits_by : {T E : Type 0} (result : Result T E) (steps quiet : ℕ) (old new : D) → Commits on result steps quiet X Y old new
+        → Commits on result steps quiet Z W old new
     commits_by result steps quiet old new is = record {
       moments = weakened on.clock on.possible_since old new _ _ (within_by steps quiet (on.calls old)) is.moments;
       after = on_ok_weaker result (λ each image left. y image (each image left)) is.after;
     }
 
 -- of the images until some of its calls have finished no more need be said
-pub unquiet : (X Y : List ℕ → Type 0) (steps quiet calls m : ℕ) (image : List ℕ) → IsInCommit X Y steps quiet calls m image → IsInCommit X Y steps 0 calls m image
+pub unquiet : (X Y : List ℕ → Type 0) (steps quiet calls m : ℕ) (image : List ℕ) → IsInCommit X Y steps quiet calls m image
+    → IsInCommit X Y steps 0 calls m image
 unquiet X Y steps quiet calls m image within = record {
   from = within.from;
   to = within.to;
@@ -37,7 +39,8 @@ module _ {D : Type 0} (on : sectors.Ghosts D) where
   at_last : {T E : Type 0} (result : Result T E) (steps quiet : ℕ) (X Y : List ℕ → Type 0) (old new : D)
       → ((t : ℕ) (image : List ℕ) → t ≤ on.clock new → on.possible new image → on.possible_since new t (on.calls new) image)
       → OnOk result (on.calls new ≡ on.calls old + steps) → During on old new (IsInCommit X Y steps quiet) → OnOk result (Each on new Y)
-  at_last (Ok v) steps quiet X Y old new counts finished all = λ image left. (all.each (on.calls new) image (counts (on.clock old) image all.later left)).done finished
+  at_last (Ok v) steps quiet X Y old new counts finished all =
+      λ image left. (all.each (on.calls new) image (counts (on.clock old) image all.later left)).done finished
   at_last (Err e) steps quiet X Y old new counts finished all = finished
 
   -- what is possible at the return of a success is of the last moment

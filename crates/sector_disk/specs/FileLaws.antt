@@ -5,9 +5,25 @@ use Rattle.sector_disk.specs.Model.{Disk, Show, run, IsImage, sectors_from}
 use Rattle.sector_disk.specs.ModelLaws.{run-append, settled_image}
 use Rattle.sector_disk.specs.Memory.{Wrote}
 use Rattle.sector_disk.specs.MemoryLaws.{sound_call}
-use Rattle.sector_disk.specs.FileRecord.{Answer, ReadGave, ReadFailed, WriteFinished, WriteFailed, SyncFinished, SyncFailed, Entry, events_after, events_in, Agrees, AnswersAsModel, is_inside, all_inside}
+use Rattle.sector_disk.specs.FileRecord.{
+  Answer,
+  ReadGave,
+  ReadFailed,
+  WriteFinished,
+  WriteFailed,
+  SyncFinished,
+  SyncFailed,
+  Entry,
+  events_after,
+  events_in,
+  Agrees,
+  AnswersAsModel,
+  is_inside,
+  all_inside,
+}
 
-sound_answer : (n : ℕ) (disk : Disk) (shown : List ℕ) (answer : Answer) (bytes : List ℕ) → IsImage n disk disk.seen → Agrees n disk shown answer bytes → IsTrue (is_inside (512 * n) answer bytes)
+sound_answer : (n : ℕ) (disk : Disk) (shown : List ℕ) (answer : Answer) (bytes : List ℕ) → IsImage n disk disk.seen → Agrees n disk shown answer bytes
+    → IsTrue (is_inside (512 * n) answer bytes)
     → IsImage n (run disk (events_after shown answer bytes)) (run disk (events_after shown answer bytes)).seen
 sound_answer n disk shown (ReadGave first) bytes seen agrees inside = seen
 sound_answer n disk shown ReadFailed bytes seen agrees inside = seen
@@ -19,7 +35,8 @@ sound_answer n disk shown SyncFinished bytes seen agrees inside = settled_image 
 sound_answer n disk shown SyncFailed bytes seen agrees inside = record { size = agrees.size; each = agrees.each }
 
 -- what reads give is a possible image
-pub file_reads_possible : (n : ℕ) (start : Disk) (shown : ℕ → List ℕ) (entries : List Entry) → AnswersAsModel n start shown entries → IsTrue (all_inside (512 * n) entries)
+pub file_reads_possible : (n : ℕ) (start : Disk) (shown : ℕ → List ℕ) (entries : List Entry) → AnswersAsModel n start shown entries
+    → IsTrue (all_inside (512 * n) entries)
     → IsImage n (run start (events_in shown entries)) (run start (events_in shown entries)).seen
 file_reads_possible n start shown [] honest inside = honest
 file_reads_possible n start shown (entry ∷ earlier) honest inside =
@@ -27,4 +44,5 @@ file_reads_possible n start shown (entry ∷ earlier) honest inside =
     let before = file_reads_possible n start shown earlier honest.0 parts.1 in
     let disk = run start (events_in shown earlier) in
     let image = shown (length earlier) in
-    subst (λ (d : Disk). IsImage n d d.seen) (sym (run-append start (events_in shown earlier) (events_after image entry.0 entry.1))) (sound_answer n disk image entry.0 entry.1 before honest.1 parts.0)
+    subst (λ (d : Disk). IsImage n d d.seen) (sym (run-append start (events_in shown earlier) (events_after image entry.0 entry.1)))
+    (sound_answer n disk image entry.0 entry.1 before honest.1 parts.0)

@@ -86,7 +86,8 @@ calls_of SyncFailed bytes = []
 -- Reads give what the model's device has, and where a write or a sync fails they go on as before it.
 abbrev pub ReadsOn : Disk → (ℕ → List ℕ) → List Entry → Type 0
 ReadsOn start shown [] = Unit {0}
-ReadsOn start shown (entry ∷ earlier) = ReadsOn start shown earlier × GoesOnReading (run start (events_in shown earlier)) (shown (length earlier)) entry.0 entry.1
+ReadsOn start shown (entry ∷ earlier) =
+    ReadsOn start shown earlier × GoesOnReading (run start (events_in shown earlier)) (shown (length earlier)) entry.0 entry.1
 
 -- the writes and syncs of a record, the oldest first, as a device in memory lists them
 abbrev pub calls_in : List Entry → List Call

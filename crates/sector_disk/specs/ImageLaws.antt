@@ -1,5 +1,36 @@
 -- Sectors of images.
-use Rattle.std.proofs.Common.{◌≡◌, ◌⊎◌, inl, inr, ⊎_elim, ℕ, zero, suc, ◌+◌, ◌-◌, ◌*◌, ◌<◌, ◌≤◌, List, [], ◌∷◌, ◌++◌, length, take, drop, refl, sym, ◌∙◌, ap, subst, arith, length-append, length-take, length-drop, take-append-drop}
+use Rattle.std.proofs.Common.{
+  ◌≡◌,
+  ◌⊎◌,
+  inl,
+  inr,
+  ⊎_elim,
+  ℕ,
+  zero,
+  suc,
+  ◌+◌,
+  ◌-◌,
+  ◌*◌,
+  ◌<◌,
+  ◌≤◌,
+  List,
+  [],
+  ◌∷◌,
+  ◌++◌,
+  length,
+  take,
+  drop,
+  refl,
+  sym,
+  ◌∙◌,
+  ap,
+  subst,
+  arith,
+  length-append,
+  length-take,
+  length-drop,
+  take-append-drop,
+}
 use Rattle.std.proofs.lemmas.List.{take_at, take-append-le, drop-drop, drop-append-le, drop_at}
 use Rattle.std.proofs.lemmas.Bool.{cases_lt}
 use Rattle.sector_disk.specs.Image.{sector, written, Mixes}
@@ -64,7 +95,9 @@ module _ (first k : ℕ) (bytes image : List ℕ) (whole : length bytes ≡ 512 
       (λ (before : i < first). inr (sector-written_before i before))
       (λ (from : first ≤ i). ⊎_elim
       (λ (within : i < first + k). inl (i - first, omega arith, omega arith))
-      (λ (after : first + k ≤ i). inr (let at : first + k + (i - (first + k)) ≡ i = omega arith in subst (λ (n : ℕ). sector n (written first bytes image) ≡ sector n image) at (sector-written_after (i - (first + k)))))
+      (λ (after : first + k ≤ i). inr
+      (let at : first + k + (i - (first + k))
+      ≡ i = omega arith in subst (λ (n : ℕ). sector n (written first bytes image) ≡ sector n image) at (sector-written_after (i - (first + k)))))
       (cases_lt i (first + k)))
       (cases_lt i first)
 
@@ -90,25 +123,30 @@ image_of (suc n) P each =
     let size : length (first.0 ++ rest.0) ≡ 512 * suc n = simp length-append (omega (arith, first.1, rest.1)) in
     (first.0 ++ rest.0, size, at first.0 first.1 rest.0 first.2 rest.2)
   where
-    at : (content : List ℕ) → length content ≡ 512 → (image : List ℕ) → P 0 content → ((i : ℕ) → i < n → P (suc i) (sector i image)) → (i : ℕ) → i < suc n → P i (sector i (content ++ image))
+    at : (content : List ℕ) → length content ≡ 512 → (image : List ℕ) → P 0 content → ((i : ℕ) → i < n → P (suc i) (sector i image)) → (i : ℕ) → i < suc n
+        → P i (sector i (content ++ image))
     at content size image p rest zero h = subst (P 0) (sym (take_at content image 512 size)) p
     at content size image p rest (suc i) h =
-        let same : sector i image ≡ sector (suc i) (content ++ image) = sym (sector_right 1 i content image (size ∙ refl)) ∙ ap (λ (m : ℕ). sector m (content ++ image)) (omega arith) in
+        let same : sector i image ≡ sector (suc i) (content ++ image) =
+        sym (sector_right 1 i content image (size ∙ refl)) ∙ ap (λ (m : ℕ). sector m (content ++ image)) (omega arith) in
         subst (P (suc i)) same (rest i (omega arith))
 
 -- outside the run a mixture has the old content
-pub mixes_outside : (first k : ℕ) (bytes old mixture : List ℕ) → length bytes ≡ 512 * k → 512 * first + 512 * k ≤ length old → Mixes old (written first bytes old) mixture → (i : ℕ) → (i < first) ⊎ (first + k ≤ i)
+pub mixes_outside : (first k : ℕ) (bytes old mixture : List ℕ) → length bytes ≡ 512 * k → 512 * first + 512 * k ≤ length old
+    → Mixes old (written first bytes old) mixture → (i : ℕ) → (i < first) ⊎ (first + k ≤ i)
     → sector i mixture ≡ sector i old
 mixes_outside first k bytes old mixture whole inside mix i out = ⊎_elim
     (λ same. same)
     (λ new. new ∙ ⊎_elim
-    (λ (within : (j : ℕ) × (i ≡ first + j) × (j < k)). absurd (⊎_elim (λ (low : i < first). omega (arith, within.1)) (λ (high : first + k ≤ i). omega (arith, within.1, within.2)) out))
+    (λ (within : (j : ℕ) × (i ≡ first + j) × (j < k)). absurd
+    (⊎_elim (λ (low : i < first). omega (arith, within.1)) (λ (high : first + k ≤ i). omega (arith, within.1, within.2)) out))
     (λ kept. kept)
     (sector-written_cases first k bytes old whole inside i))
     (mix.each i)
 
 -- the same sector at one place, and the same elsewhere
-same_elsewhere : (n first : ℕ) (xs ys : List ℕ) → length xs ≡ 512 * n → length ys ≡ 512 * n → sector first xs ≡ sector first ys → ((i : ℕ) → (i < first) ⊎ (first + 1 ≤ i) → sector i xs ≡ sector i ys) → xs ≡ ys
+same_elsewhere : (n first : ℕ) (xs ys : List ℕ) → length xs ≡ 512 * n → length ys ≡ 512 * n → sector first xs ≡ sector first ys
+    → ((i : ℕ) → (i < first) ⊎ (first + 1 ≤ i) → sector i xs ≡ sector i ys) → xs ≡ ys
 same_elsewhere n first xs ys long_xs long_ys here there = same_sectors n xs ys long_xs long_ys (λ i lt. ⊎_elim
     (λ (low : i < first). there i (inl low))
     (λ (from : first ≤ i). ⊎_elim
@@ -118,7 +156,8 @@ same_elsewhere n first xs ys long_xs long_ys here there = same_sectors n xs ys l
     (cases_lt i first))
 
 -- a write of one sector is there or not
-pub mixes_one : (n first : ℕ) (bytes old mixture : List ℕ) → length old ≡ 512 * n → length bytes ≡ 512 → first < n → Mixes old (written first bytes old) mixture → (mixture ≡ old) ⊎ (mixture ≡ written first bytes old)
+pub mixes_one : (n first : ℕ) (bytes old mixture : List ℕ) → length old ≡ 512 * n → length bytes ≡ 512 → first < n → Mixes old (written first bytes old) mixture
+    → (mixture ≡ old) ⊎ (mixture ≡ written first bytes old)
 mixes_one n first bytes old mixture size one inside mix =
     let whole : length bytes ≡ 512 * 1 = omega (arith, one) in
     let within : 512 * first + 512 * 1 ≤ length old = omega (arith, size) in

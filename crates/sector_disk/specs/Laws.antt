@@ -13,7 +13,9 @@ HasOneImage = (n : ℕ) (disk : Disk) (image : List ℕ) → length disk.seen �
 -- After a stop within a write, when j of its sectors were written: each of them has its old content or the new one, each
 -- for itself, and every image of that kind is possible.
 abbrev pub HasOldOrNew : Type 0
-HasOldOrNew = (n first j : ℕ) (disk : Disk) (bytes image : List ℕ) → length bytes % 512 ≡ 0 → 512 * first + length bytes ≤ 512 * n → 512 * j ≤ length bytes → IsImage n disk disk.seen
+HasOldOrNew =
+    (n first j : ℕ) (disk : Disk) (bytes image : List ℕ) → length bytes % 512 ≡ 0 → 512 * first + length bytes ≤ 512 * n → 512 * j ≤ length bytes
+    → IsImage n disk disk.seen
     → IsImage n (run disk (sectors_from first bytes j)) image ↔ Reached first (take (512 * j) bytes) (IsImage n disk) image
 
 -- An image that a stop may leave is left by a crash with some list of choices, each a number of 32 bits. (A sector may have
@@ -24,10 +26,13 @@ HasChoices = (m : Memory) (image : List ℕ) → ((i : ℕ) → i < len_of m →
 
 -- A file of which reads give what the model's device has, and go on as before where a call fails, is honest.
 abbrev pub StaysHonest : Type 0
-StaysHonest = (n : ℕ) (start : Disk) (shown : ℕ → List ℕ) (entries : List Entry) → IsImage n start start.seen → IsTrue (all_inside (512 * n) entries) → ReadsOn start shown entries → AnswersAsModel n start shown entries
+StaysHonest =
+    (n : ℕ) (start : Disk) (shown : ℕ → List ℕ) (entries : List Entry) → IsImage n start start.seen → IsTrue (all_inside (512 * n) entries)
+    → ReadsOn start shown entries → AnswersAsModel n start shown entries
 
 -- After the same writes and syncs such a file and a device in memory are the same: reads give the same bytes, and a stop may
 -- leave the same images.
 abbrev pub IsAsInMemory : Type 0
 IsAsInMemory = (m : Memory) (shown : ℕ → List ℕ) (entries : List Entry) → calls_in entries ≡ m.history → ReadsOn (settled m.start) shown entries
-    → (let file = file_history (len_of m) (settled m.start) shown entries m.calls in (seen_in file ≡ seen_of m) × ((image : List ℕ) → MayLeaveIn file image ↔ MayLeave m image))
+    → (let file = file_history (len_of m) (settled m.start) shown entries m.calls in (seen_in file ≡ seen_of m)
+    × ((image : List ℕ) → MayLeaveIn file image ↔ MayLeave m image))

@@ -1,5 +1,40 @@
 -- A device in memory, as its callers see it: the list of its writes and syncs since it was made or crashed.
-use Rattle.std.specs.Prelude.{◌≡◌, ◌⊎◌, ◌↔◌, ℕ, ◌+◌, ◌-◌, ◌*◌, ◌/◌, ◌%◌, ◌^◌, ◌<◌, min, Bool, true, false, not, ◌&&◌, ◌||◌, nat_lt, nat_le, List, [], ◌∷◌, ◌++◌, length, Option, Some, None, Result, is_ok, if◌then◌else◌, ◌==◌, replicate, slice_index_or}
+use Rattle.std.specs.Prelude.{
+  ◌≡◌,
+  ◌⊎◌,
+  ◌↔◌,
+  ℕ,
+  ◌+◌,
+  ◌-◌,
+  ◌*◌,
+  ◌/◌,
+  ◌%◌,
+  ◌^◌,
+  ◌<◌,
+  min,
+  Bool,
+  true,
+  false,
+  not,
+  ◌&&◌,
+  ◌||◌,
+  nat_lt,
+  nat_le,
+  List,
+  [],
+  ◌∷◌,
+  ◌++◌,
+  length,
+  Option,
+  Some,
+  None,
+  Result,
+  is_ok,
+  if◌then◌else◌,
+  ◌==◌,
+  replicate,
+  slice_index_or,
+}
 use Rattle.std.specs.List.{flat_map, list_all}
 use Rattle.sector_disk.specs.Image.{sector}
 use Rattle.sector_disk.specs.Sectors.{SameImages}
@@ -113,14 +148,16 @@ failed m = record { ok = false; state = record (with_fault m) { once = one_less_
 
 -- a write or a sync that finishes
 abbrev pub done : Memory → Call → Outcome
-done m call = record { ok = true; state = record m { history = m.history ++ call ∷ []; calls = m.calls + 1; fuse = one_less m.fuse; once = one_less_or_out m.once } }
+done m call =
+    record { ok = true; state = record m { history = m.history ++ call ∷ []; calls = m.calls + 1; fuse = one_less m.fuse; once = one_less_or_out m.once } }
 
 abbrev pub read_of : Memory → Outcome
 read_of m = if is_due m then failed m else record { ok = true; state = record m { once = one_less_or_out m.once } }
 
 -- a write that fails and whose sectors are possible contents
 abbrev pub torn_by : Memory → Call → Outcome
-torn_by m call = record { ok = false; state = record (with_fault m) { history = m.history ++ call ∷ []; torn = m.torn || is_now m.fuse; once = one_less_or_out m.once } }
+torn_by m call =
+    record { ok = false; state = record (with_fault m) { history = m.history ++ call ∷ []; torn = m.torn || is_now m.fuse; once = one_less_or_out m.once } }
 
 abbrev pub write_of : Memory → ℕ → List ℕ → Outcome
 write_of m first bytes =
@@ -155,7 +192,8 @@ pub record IsSameDevice (old new : Memory) : Type 0 where
 
 -- each of n sectors has its possible content with this number, modulo their count
 abbrev pub TakesChoices : ℕ → Disk → (ℕ → ℕ) → List ℕ → Type 0
-TakesChoices n disk choices image = (i : ℕ) → i < n → (let contents = disk.contents i in sector i image ≡ slice_index_or contents (choices i % length contents) [])
+TakesChoices n disk choices image =
+    (i : ℕ) → i < n → (let contents = disk.contents i in sector i image ≡ slice_index_or contents (choices i % length contents) [])
 
 -- A stop leaves the image that was chosen. Both counts stay, and what was to fail is taken out.
 pub record Crashes (choices : ℕ → ℕ) (old new : Memory) : Type 0 where

@@ -25,17 +25,23 @@ run_inside n first len is =
     (whole_sectors len parts.1, omega (arith, parts.2, whole_sectors len parts.1))
 
 -- what reads give after a call is possible if it was before
-pub sound_call : (n : ℕ) (call : Call) (disk : Disk) → IsImage n disk disk.seen → IsTrue (fits (512 * n) call) → IsImage n (run disk (events_of call)) (run disk (events_of call)).seen
+pub sound_call : (n : ℕ) (call : Call) (disk : Disk) → IsImage n disk disk.seen → IsTrue (fits (512 * n) call)
+    → IsImage n (run disk (events_of call)) (run disk (events_of call)).seen
 sound_call n (Wrote first bytes) disk seen fit =
     let inside = run_inside n first (length bytes) fit in
     let k = length bytes / 512 in
     let size = length-written first k bytes disk.seen inside.0 (omega (arith, inside.1, seen.size)) in
     let mid = run disk (sectors_from first bytes k) in
     let new = written first bytes disk.seen in
-    let whole : IsImage n mid new = image_from_reached n disk first k bytes inside.0 inside.1 new (disk.seen, seen, record { size = size; each = λ i. inr refl }) in
+    let whole : IsImage n mid new =
+    image_from_reached n disk first k bytes inside.0 inside.1 new (disk.seen, seen, record { size = size; each = λ i. inr refl }) in
     let same : written first bytes mid.seen ≡ new = ap (written first bytes) (seen-sectors_from disk first bytes k) in
-    let at : next mid (Finish first bytes) ≡ run disk (events_of (Wrote first bytes)) = sym (run-append disk (sectors_from first bytes k) (Finish first bytes ∷ [])) in
-    subst (λ (d : Disk). IsImage n d d.seen) at (record { size = ap length same ∙ whole.size; each = λ i h. subst (λ (image : List ℕ). Contains (mid.contents i) (sector i image)) (sym same) (whole.each i h) })
+    let at : next mid (Finish first bytes) ≡ run disk (events_of (Wrote first bytes)) =
+    sym (run-append disk (sectors_from first bytes k) (Finish first bytes ∷ [])) in
+    subst (λ (d : Disk). IsImage n d d.seen) at (record {
+      size = ap length same ∙ whole.size;
+      each = λ i h. subst (λ (image : List ℕ). Contains (mid.contents i) (sector i image)) (sym same) (whole.each i h);
+    })
 sound_call n (Tore first bytes) disk seen fit =
     let inside = run_inside n first (length bytes) fit in
     let k = length bytes / 512 in
@@ -43,7 +49,8 @@ sound_call n (Tore first bytes) disk seen fit =
     subst (λ (image : List ℕ). IsImage n (run disk (sectors_from first bytes k)) image) (sym (seen-sectors_from disk first bytes k)) kept
 sound_call n Synced disk seen fit = settled_image n disk.seen seen.size
 
-pub sound_calls : (n : ℕ) (calls : List Call) (disk : Disk) → IsImage n disk disk.seen → IsTrue (all_fit (512 * n) calls) → IsImage n (run disk (flat_map events_of calls)) (run disk (flat_map events_of calls)).seen
+pub sound_calls : (n : ℕ) (calls : List Call) (disk : Disk) → IsImage n disk disk.seen → IsTrue (all_fit (512 * n) calls)
+    → IsImage n (run disk (flat_map events_of calls)) (run disk (flat_map events_of calls)).seen
 sound_calls n [] disk seen fit = seen
 sound_calls n (call ∷ calls) disk seen fit =
     let parts = and_parts (fits (512 * n) call) (all_fit (512 * n) calls) fit in

@@ -1,5 +1,39 @@
 -- What events do to the possible images of a device.
-use Rattle.std.proofs.Common.{◌≡◌, ◌≢◌, ◌⊎◌, inl, inr, ⊎_elim, ℕ, zero, suc, ◌+◌, ◌-◌, ◌*◌, ◌<◌, ◌≤◌, Bool, true, false, List, [], ◌∷◌, ◌++◌, length, take, drop, refl, sym, ◌∙◌, ap, subst, arith, length-append, if◌then◌else◌, ◌==◌}
+use Rattle.std.proofs.Common.{
+  ◌≡◌,
+  ◌≢◌,
+  ◌⊎◌,
+  inl,
+  inr,
+  ⊎_elim,
+  ℕ,
+  zero,
+  suc,
+  ◌+◌,
+  ◌-◌,
+  ◌*◌,
+  ◌<◌,
+  ◌≤◌,
+  Bool,
+  true,
+  false,
+  List,
+  [],
+  ◌∷◌,
+  ◌++◌,
+  length,
+  take,
+  drop,
+  refl,
+  sym,
+  ◌∙◌,
+  ap,
+  subst,
+  arith,
+  length-append,
+  if◌then◌else◌,
+  ◌==◌,
+}
 use Rattle.std.specs.List.{Contains}
 use Rattle.std.proofs.lemmas.List.{take-append-le, drop-append-le, drop_all}
 use Rattle.std.proofs.lemmas.List.Elements.{Contains-append_left, Contains-push, Contains-push_cases}
@@ -39,7 +73,8 @@ finished-drop_sectors first bytes (suc n) (suc j) = finished-drop_sectors (suc f
 pub take-sectors_from : (first : ℕ) (bytes : List ℕ) (n j : ℕ) → j ≤ n → take j (sectors_from first bytes n) ≡ sectors_from first bytes j
 take-sectors_from first bytes n zero h = refl
 take-sectors_from first bytes zero (suc j) h = absurd (omega arith)
-take-sectors_from first bytes (suc n) (suc j) h = ap (λ (l : List Event). Sector first (take 512 bytes) ∷ l) (take-sectors_from (suc first) (drop 512 bytes) n j (omega arith))
+take-sectors_from first bytes (suc n) (suc j) h =
+    ap (λ (l : List Event). Sector first (take 512 bytes) ∷ l) (take-sectors_from (suc first) (drop 512 bytes) n j (omega arith))
 
 pub seen-sectors_from : (disk : Disk) (first : ℕ) (bytes : List ℕ) (n : ℕ) → (run disk (sectors_from first bytes n)).seen ≡ disk.seen
 seen-sectors_from disk first bytes zero = refl
@@ -58,7 +93,8 @@ new_if : (b : Bool) (xs : List (List ℕ)) (new : List ℕ) → b ≡ true → C
 new_if true xs new h = Contains-push xs new
 new_if false xs new h = cc
 
-pub contents_keep : (disk : Disk) (first : ℕ) (bytes : List ℕ) (n i : ℕ) (x : List ℕ) → Contains (disk.contents i) x → Contains ((run disk (sectors_from first bytes n)).contents i) x
+pub contents_keep : (disk : Disk) (first : ℕ) (bytes : List ℕ) (n i : ℕ) (x : List ℕ) → Contains (disk.contents i) x
+    → Contains ((run disk (sectors_from first bytes n)).contents i) x
 contents_keep disk first bytes zero i x h = h
 contents_keep disk first bytes (suc n) i x h =
     contents_keep (next disk (Sector first (take 512 bytes))) (suc first) (drop 512 bytes) n i x (keep_if (first == i) (disk.contents i) (take 512 bytes) x h)
@@ -71,18 +107,25 @@ contents_gain disk first bytes (suc n) i x h = ⊎_elim
     (λ old. inl old)
     (λ (new : ((first == i) ≡ true) × (x ≡ take 512 bytes)). inr (0, at_first new.0, omega arith, new.1))
     (gain_if (first == i) (disk.contents i) (take 512 bytes) x before))
-    (λ (later : (j : ℕ) × (i ≡ suc first + j) × (j < n) × (x ≡ sector j (drop 512 bytes))). inr (suc later.0, omega (arith, later.1), omega (arith, later.2), later.3 ∙ sector_drop 1 later.0 bytes ∙ ap (λ (m : ℕ). sector m bytes) (omega arith)))
+    (λ (later : (j : ℕ) × (i ≡ suc first + j) × (j < n) × (x ≡ sector j (drop 512 bytes))). inr
+    (suc later.0, omega (arith, later.1), omega (arith, later.2), later.3 ∙ sector_drop 1 later.0 bytes ∙ ap (λ (m : ℕ). sector m bytes) (omega arith)))
     (contents_gain (next disk (Sector first (take 512 bytes))) (suc first) (drop 512 bytes) n i x h)
   where
     at_first : (first == i) ≡ true → i ≡ first + 0
-    at_first t = ⊎_elim (λ (yes : ((first == i) ≡ true) × (first ≡ i)). omega (arith, yes.1)) (λ (no : ((first == i) ≡ false) × (first ≢ i)). cc (t, no.0)) (eqb_tells first i)
+    at_first t =
+        ⊎_elim (λ (yes : ((first == i) ≡ true) × (first ≡ i)). omega (arith, yes.1)) (λ (no : ((first == i) ≡ false) × (first ≢ i)). cc (t, no.0))
+        (eqb_tells first i)
 
-pub contents_new : (disk : Disk) (first : ℕ) (bytes : List ℕ) (n j : ℕ) → j < n → Contains ((run disk (sectors_from first bytes n)).contents (first + j)) (sector j bytes)
+pub contents_new : (disk : Disk) (first : ℕ) (bytes : List ℕ) (n j : ℕ) → j < n
+    → Contains ((run disk (sectors_from first bytes n)).contents (first + j)) (sector j bytes)
 contents_new disk first bytes zero j h = absurd (omega arith)
 contents_new disk first bytes (suc n) zero h =
     let at : first ≡ first + 0 = omega arith in
-    let here : (first == (first + 0)) ≡ true = ⊎_elim (λ (yes : ((first == (first + 0)) ≡ true) × (first ≡ first + 0)). yes.0) (λ (no : ((first == (first + 0)) ≡ false) × (first ≢ first + 0)). absurd (no.1 at)) (eqb_tells first (first + 0)) in
-    contents_keep (next disk (Sector first (take 512 bytes))) (suc first) (drop 512 bytes) n (first + 0) (take 512 bytes) (new_if (first == (first + 0)) (disk.contents (first + 0)) (take 512 bytes) here)
+    let here : (first == (first + 0)) ≡ true =
+    ⊎_elim (λ (yes : ((first == (first + 0)) ≡ true) × (first ≡ first + 0)). yes.0)
+    (λ (no : ((first == (first + 0)) ≡ false) × (first ≢ first + 0)). absurd (no.1 at)) (eqb_tells first (first + 0)) in
+    contents_keep (next disk (Sector first (take 512 bytes))) (suc first) (drop 512 bytes) n (first + 0) (take 512 bytes)
+    (new_if (first == (first + 0)) (disk.contents (first + 0)) (take 512 bytes) here)
 contents_new disk first bytes (suc n) (suc j) h =
     let later = contents_new (next disk (Sector first (take 512 bytes))) (suc first) (drop 512 bytes) n j (omega arith) in
     let at : suc first + j ≡ first + suc j = omega arith in
@@ -97,17 +140,22 @@ image_later n disk first bytes j k image le is = record {
   size = is.size;
   each = λ i h. ⊎_elim
       (λ old. contents_keep disk first bytes k i (sector i image) old)
-      (λ (new : (l : ℕ) × (i ≡ first + l) × (l < j) × (sector i image ≡ sector l bytes)). subst (λ (x : List ℕ). Contains ((run disk (sectors_from first bytes k)).contents i) x) (sym new.3)
-      (subst (λ (m : ℕ). Contains ((run disk (sectors_from first bytes k)).contents m) (sector new.0 bytes)) (sym new.1) (contents_new disk first bytes k new.0 (omega (arith, new.2, le)))))
+      (λ (new : (l : ℕ) × (i ≡ first + l) × (l < j) × (sector i image ≡ sector l bytes)). subst
+      (λ (x : List ℕ). Contains ((run disk (sectors_from first bytes k)).contents i) x) (sym new.3)
+      (subst (λ (m : ℕ). Contains ((run disk (sectors_from first bytes k)).contents m) (sector new.0 bytes)) (sym new.1)
+      (contents_new disk first bytes k new.0 (omega (arith, new.2, le)))))
       (contents_gain disk first bytes j i (sector i image) (is.each i h));
 }
 
 -- a write of k sectors inside a device of n sectors, of which what reads give is possible
 module _ (n : ℕ) (disk : Disk) (first k : ℕ) (bytes : List ℕ) (whole : length bytes ≡ 512 * k) (inside : first + k ≤ n) where
   -- what all its sectors may leave is what a stop within it may leave
-  pub image_reached : IsImage n disk disk.seen → (image : List ℕ) → IsImage n (run disk (sectors_from first bytes k)) image → Reached first bytes (IsImage n disk) image
+  pub image_reached : IsImage n disk disk.seen → (image : List ℕ) → IsImage n (run disk (sectors_from first bytes k)) image
+      → Reached first bytes (IsImage n disk) image
   image_reached seen image is =
-      let P : ℕ → List ℕ → Type 0 = λ i content. Contains (disk.contents i) content × ((sector i image ≡ content) ⊎ ((j : ℕ) × (i ≡ first + j) × (j < k) × (sector i image ≡ sector j bytes))) in
+      let P : ℕ → List ℕ → Type 0 =
+      λ i content. Contains (disk.contents i) content
+      × ((sector i image ≡ content) ⊎ ((j : ℕ) × (i ≡ first + j) × (j < k) × (sector i image ≡ sector j bytes))) in
       let made = image_of n P (λ i h. ⊎_elim
       (λ old. (sector i image, length-sector i image (omega (arith, is.size)), (old, inl refl)))
       (λ new. (sector i disk.seen, length-sector i disk.seen (omega (arith, seen.size)), (seen.each i h, inr new)))
@@ -115,15 +163,25 @@ module _ (n : ℕ) (disk : Disk) (first k : ℕ) (bytes : List ℕ) (whole : len
       let before = made.0 in (
         before,
         record { size = made.1; each = λ i h. (made.2 i h).0 },
-        record { size = is.size ∙ sym made.1; each = λ i. ⊎_elim (λ within. mixed before made.1 i (made.2 i within).1) (λ past. inl (outside image is.size i past ∙ sym (outside before made.1 i past))) (cases_lt i n) },
+        record {
+          size = is.size ∙ sym made.1;
+          each =
+              λ i. ⊎_elim (λ within. mixed before made.1 i (made.2 i within).1)
+              (λ past. inl (outside image is.size i past ∙ sym (outside before made.1 i past))) (cases_lt i n);
+        },
       )
     where
       outside : (xs : List ℕ) → length xs ≡ 512 * n → (i : ℕ) → n ≤ i → sector i xs ≡ []
       outside xs size i past = ap (take 512) (drop_all (512 * i) xs (omega arith))
 
-      mixed : (before : List ℕ) → length before ≡ 512 * n → (i : ℕ) → (sector i image ≡ sector i before) ⊎ ((j : ℕ) × (i ≡ first + j) × (j < k) × (sector i image ≡ sector j bytes)) → (sector i image ≡ sector i before) ⊎ (sector i image ≡ sector i (written first bytes before))
+      mixed : (before : List ℕ) → length before ≡ 512 * n → (i : ℕ)
+          → (sector i image ≡ sector i before) ⊎ ((j : ℕ) × (i ≡ first + j) × (j < k) × (sector i image ≡ sector j bytes))
+          → (sector i image ≡ sector i before) ⊎ (sector i image ≡ sector i (written first bytes before))
       mixed before size i (inl same) = inl same
-      mixed before size i (inr new) = inr (new.3 ∙ sym (ap (λ (m : ℕ). sector m (written first bytes before)) new.1 ∙ sector-written_inside first k bytes before whole (omega (arith, size)) new.0 new.2))
+      mixed before size i (inr new) =
+          inr (new.3
+          ∙ sym (ap (λ (m : ℕ). sector m (written first bytes before)) new.1
+          ∙ sector-written_inside first k bytes before whole (omega (arith, size)) new.0 new.2))
 
   pub image_from_reached : (image : List ℕ) → Reached first bytes (IsImage n disk) image → IsImage n (run disk (sectors_from first bytes k)) image
   image_from_reached image reached =
@@ -140,12 +198,17 @@ module _ (n : ℕ) (disk : Disk) (first k : ℕ) (bytes : List ℕ) (whole : len
             (mix.each i);
       }
     where
-      old : (i : ℕ) (before image : List ℕ) → Contains (disk.contents i) (sector i before) → sector i image ≡ sector i before → Contains ((run disk (sectors_from first bytes k)).contents i) (sector i image)
-      old i before image had same = subst (λ (x : List ℕ). Contains ((run disk (sectors_from first bytes k)).contents i) x) (sym same) (contents_keep disk first bytes k i (sector i before) had)
+      old : (i : ℕ) (before image : List ℕ) → Contains (disk.contents i) (sector i before) → sector i image ≡ sector i before
+          → Contains ((run disk (sectors_from first bytes k)).contents i) (sector i image)
+      old i before image had same =
+          subst (λ (x : List ℕ). Contains ((run disk (sectors_from first bytes k)).contents i) x) (sym same)
+          (contents_keep disk first bytes k i (sector i before) had)
 
-      new : (i j : ℕ) → i ≡ first + j → j < k → (before image : List ℕ) → length before ≡ 512 * n → sector i image ≡ sector i (written first bytes before) → Contains ((run disk (sectors_from first bytes k)).contents i) (sector i image)
+      new : (i j : ℕ) → i ≡ first + j → j < k → (before image : List ℕ) → length before ≡ 512 * n → sector i image ≡ sector i (written first bytes before)
+          → Contains ((run disk (sectors_from first bytes k)).contents i) (sector i image)
       new i j at lt before image size same =
-          let is : sector i image ≡ sector j bytes = same ∙ ap (λ (m : ℕ). sector m (written first bytes before)) at ∙ sector-written_inside first k bytes before whole (omega (arith, size)) j lt in
+          let is : sector i image ≡ sector j bytes =
+          same ∙ ap (λ (m : ℕ). sector m (written first bytes before)) at ∙ sector-written_inside first k bytes before whole (omega (arith, size)) j lt in
           subst (λ (x : List ℕ). Contains ((run disk (sectors_from first bytes k)).contents i) x) (sym is)
           (subst (λ (m : ℕ). Contains ((run disk (sectors_from first bytes k)).contents m) (sector j bytes)) (sym at) (contents_new disk first bytes k j lt))
 
@@ -154,7 +217,8 @@ pub settled_image : (n : ℕ) (image : List ℕ) → length image ≡ 512 * n �
 settled_image n image size = record { size = size; each = λ i h. Contains-push [] (sector i image) }
 
 pub settled_only : (n : ℕ) (seen image : List ℕ) → length seen ≡ 512 * n → IsImage n (settled seen) image → image ≡ seen
-settled_only n seen image size is = same_sectors n image seen is.size size (λ i h. same i (Contains-push_cases [] (sector i seen) (sector i image) (is.each i h)))
+settled_only n seen image size is =
+    same_sectors n image seen is.size size (λ i h. same i (Contains-push_cases [] (sector i seen) (sector i image) (is.each i h)))
   where
     same : (i : ℕ) → Contains [] (sector i image) ⊎ (sector i seen ≡ sector i image) → sector i image ≡ sector i seen
     same i (inl none) = absurd (omega (arith, none.1))
@@ -162,28 +226,33 @@ settled_only n seen image size is = same_sectors n image seen is.size size (λ i
 
 -- moments
 module _ (n : ℕ) (start : Disk) (events more : List Event) (calls : ℕ) where
-  pub left_before : (from m : ℕ) (image : List ℕ) → MightHaveLeft n start events calls from m image → MightHaveLeft n start (events ++ more) (calls + finished more) from m image
+  pub left_before : (from m : ℕ) (image : List ℕ) → MightHaveLeft n start events calls from m image
+      → MightHaveLeft n start (events ++ more) (calls + finished more) from m image
   left_before from m image left = record {
     moment = left.moment;
     begun = left.begun;
     reached = omega (arith, left.reached, length-append events more);
-    count = ap (λ (l : List Event). m + finished l) (drop-append-le left.moment events more left.reached) ∙ omega (arith, left.count, finished-append (drop left.moment events) more);
+    count = ap (λ (l : List Event). m + finished l) (drop-append-le left.moment events more left.reached)
+        ∙ omega (arith, left.count, finished-append (drop left.moment events) more);
     is_image = subst (λ (l : List Event). IsImage n (run start l) image) (sym (take-append-le left.moment events more left.reached)) left.is_image;
   }
 
   -- a moment of the events that came last
-  pub left_within : (from j m : ℕ) (image : List ℕ) → from ≤ length events → j ≤ length more → m + finished (drop j more) ≡ calls + finished more → IsImage n (run (run start events) (take j more)) image
+  pub left_within : (from j m : ℕ) (image : List ℕ) → from ≤ length events → j ≤ length more → m + finished (drop j more) ≡ calls + finished more
+      → IsImage n (run (run start events) (take j more)) image
       → MightHaveLeft n start (events ++ more) (calls + finished more) from m image
   left_within from j m image le lt count is = record {
     moment = length events + j;
     begun = omega (arith, le);
     reached = omega (arith, lt, length-append events more);
     count = ap (λ (l : List Event). m + finished l) (drop-append-add events more j) ∙ count;
-    is_image = subst (λ (l : List Event). IsImage n (run start l) image) (sym (take-append-add events more j)) (subst (λ (d : Disk). IsImage n d image) (sym (run-append start events (take j more))) is);
+    is_image = subst (λ (l : List Event). IsImage n (run start l) image) (sym (take-append-add events more j))
+        (subst (λ (d : Disk). IsImage n d image) (sym (run-append start events (take j more))) is);
   }
 
   pub left_cases : (from m : ℕ) (image : List ℕ) → MightHaveLeft n start (events ++ more) (calls + finished more) from m image
-      → MightHaveLeft n start events calls from m image ⊎ ((j : ℕ) × (j ≤ length more) × (m + finished (drop j more) ≡ calls + finished more) × IsImage n (run (run start events) (take j more)) image)
+      → MightHaveLeft n start events calls from m image
+      ⊎ ((j : ℕ) × (j ≤ length more) × (m + finished (drop j more) ≡ calls + finished more) × IsImage n (run (run start events) (take j more)) image)
   left_cases from m image left = ⊎_elim
       (λ (early : left.moment < length events). inl (record {
         moment = left.moment;
@@ -195,12 +264,16 @@ module _ (n : ℕ) (start : Disk) (events more : List Event) (calls : ℕ) where
       (λ (late : length events ≤ left.moment). let at : left.moment ≡ length events + (left.moment - length events) = omega arith in inr (
         left.moment - length events,
         omega (arith, left.reached, length-append events more),
-        ap (λ (l : List Event). m + finished l) (sym (ap (λ (k : ℕ). drop k (events ++ more)) at ∙ drop-append-add events more (left.moment - length events))) ∙ left.count,
-        subst (λ (d : Disk). IsImage n d image) (run-append start events (take (left.moment - length events) more)) (subst (λ (l : List Event). IsImage n (run start l) image) (ap (λ (k : ℕ). take k (events ++ more)) at ∙ take-append-add events more (left.moment - length events)) left.is_image),
+        ap (λ (l : List Event). m + finished l) (sym (ap (λ (k : ℕ). drop k (events ++ more)) at ∙ drop-append-add events more (left.moment - length events)))
+            ∙ left.count,
+        subst (λ (d : Disk). IsImage n d image) (run-append start events (take (left.moment - length events) more))
+            (subst (λ (l : List Event). IsImage n (run start l) image)
+            (ap (λ (k : ℕ). take k (events ++ more)) at ∙ take-append-add events more (left.moment - length events)) left.is_image),
       ))
       (cases_lt left.moment (length events))
     where
       early_count : left.moment < length events → m + finished (drop left.moment events) ≡ calls
       early_count early =
-          let split : finished (drop left.moment (events ++ more)) ≡ finished (drop left.moment events) + finished more = ap finished (drop-append-le left.moment events more (omega arith)) ∙ finished-append (drop left.moment events) more in
+          let split : finished (drop left.moment (events ++ more)) ≡ finished (drop left.moment events) + finished more =
+          ap finished (drop-append-le left.moment events more (omega arith)) ∙ finished-append (drop left.moment events) more in
           omega (arith, left.count, split)

@@ -12,7 +12,22 @@ use Rattle.sector_disk.specs.declared.opened_file.OpeningFault.{OpeningFault}
 use Rattle.sector_disk.specs.declared.system_call.Access.{Access}
 use Rattle.sector_disk.specs.declared.system_call.Access.TheVariants.{Read, Write, Make}
 use Rattle.sector_disk.specs.declared.system_call.SystemCall.{SystemCall}
-use Rattle.sector_disk.specs.declared.system_call.SystemCall.TheVariants.{Find, FindFailed, Open, Lock, Measure, MeasureFailed, SetLen, ReadAt, ReadAtFailed, WriteAt, WriteAtFailed, SyncAll, OpenFolder, SyncFolder}
+use Rattle.sector_disk.specs.declared.system_call.SystemCall.TheVariants.{
+  Find,
+  FindFailed,
+  Open,
+  Lock,
+  Measure,
+  MeasureFailed,
+  SetLen,
+  ReadAt,
+  ReadAtFailed,
+  WriteAt,
+  WriteAtFailed,
+  SyncAll,
+  OpenFolder,
+  SyncFolder,
+}
 use Rattle.sector_disk.specs.SystemCalls.{Noted, is_memory, answered}
 
 -- a failure of the system as a fault

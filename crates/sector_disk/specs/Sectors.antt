@@ -61,7 +61,8 @@ pub record SameImages (before after : List ℕ → Type 0) : Type 0 where
 -- left before the call, what the call itself may leave with the old count, or what is possible now with the new one.
 pub record Elapses (before now : ℕ) (past since : ℕ → ℕ → List ℕ → Type 0) (old_calls new_calls : ℕ) (within possible : List ℕ → Type 0) : Type 0 where
   pub later : before ≤ now
-  pub nothing_else : (t m : ℕ) (image : List ℕ) → t ≤ before → since t m image → past t m image ⊎ ((m ≡ old_calls) × within image) ⊎ ((m ≡ new_calls) × possible image)
+  pub nothing_else : (t m : ℕ) (image : List ℕ) → t ≤ before → since t m image
+      → past t m image ⊎ ((m ≡ old_calls) × within image) ⊎ ((m ≡ new_calls) × possible image)
   pub keeps : (t m : ℕ) (image : List ℕ) → t ≤ before → past t m image → since t m image
 
 -- And so it does over a call of a device within which a stop leaves these images.

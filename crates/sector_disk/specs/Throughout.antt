@@ -14,7 +14,8 @@ module _ {D : Type 0} (clock : D → ℕ) (since : D → ℕ → ℕ → List �
   goes_on old mid new P old_calls new_calls within possible so_far time in_it after = record {
     later = omega (arith, so_far.later, time.later);
     each = λ m image left. ⊎_elim (so_far.each m image) (called m image) (time.nothing_else (clock old) m image so_far.later left);
-    before = λ t m image le left. ⊎_elim (so_far.before t m image le) (λ now. inr (called m image now)) (time.nothing_else t m image (omega (arith, le, so_far.later)) left);
+    before = λ t m image le left. ⊎_elim (so_far.before t m image le) (λ now. inr (called m image now))
+        (time.nothing_else t m image (omega (arith, le, so_far.later)) left);
   }
     where
       called : (m : ℕ) (image : List ℕ) → ((m ≡ old_calls) × within image) ⊎ ((m ≡ new_calls) × possible image) → P m image
@@ -22,14 +23,16 @@ module _ {D : Type 0} (clock : D → ℕ) (since : D → ℕ → ℕ → List �
       called m image (inr now) = subst (λ (c : ℕ). P c image) (sym now.0) (after image now.1)
 
   -- a call that is made of calls
-  pub joined : (old mid new : D) (P : ℕ → List ℕ → Type 0) → Throughout clock since old mid P → Throughout clock since mid new P → Throughout clock since old new P
+  pub joined : (old mid new : D) (P : ℕ → List ℕ → Type 0) → Throughout clock since old mid P → Throughout clock since mid new P
+      → Throughout clock since old new P
   joined old mid new P first second = record {
     later = omega (arith, first.later, second.later);
     each = λ m image left. ⊎_elim (first.each m image) (λ now. now) (second.before (clock old) m image first.later left);
     before = λ t m image le left. ⊎_elim (first.before t m image le) (λ now. inr now) (second.before t m image (omega (arith, le, first.later)) left);
   }
 
-  pub weakened : (old new : D) (P Q : ℕ → List ℕ → Type 0) → ((m : ℕ) (image : List ℕ) → P m image → Q m image) → Throughout clock since old new P → Throughout clock since old new Q
+  pub weakened : (old new : D) (P Q : ℕ → List ℕ → Type 0) → ((m : ℕ) (image : List ℕ) → P m image → Q m image) → Throughout clock since old new P
+      → Throughout clock since old new Q
   weakened old new P Q weaker all = record {
     later = all.later;
     each = λ m image left. weaker m image (all.each m image left);

@@ -1,3 +1,4 @@
+-- After a successful sync, and no write since, a stop leaves one image: the one that reads give.
 use Rattle.sector_disk.proofs.LawProofs.{has_one_image}
 use Rattle.sector_disk.proofs.laws.one_image_after_a_sync.Goals as goal
 

@@ -1,3 +1,4 @@
+-- A call that writes to the sector is one more that does, and another changes nothing.
 use Rattle.std.proofs.Common.{◌≡◌, ◌∙◌, get_or, ap, sym, arith}
 use Rattle.std.specs.Option.{option_copied}
 use Rattle.sector_disk.specs.Kept.{call_of}

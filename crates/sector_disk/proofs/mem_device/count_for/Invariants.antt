@@ -1,3 +1,4 @@
+-- So many are counted as write to the sector, of the calls so far.
 use Rattle.std.proofs.Common.{◌≡◌, ◌≤◌, length, map, take}
 use Rattle.std.specs.List.{filter_map}
 use Rattle.sector_disk.specs.Kept.{call_of}

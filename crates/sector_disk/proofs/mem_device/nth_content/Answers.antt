@@ -1,3 +1,4 @@
+-- Behind a call that writes to the sector one fewer is to be passed, and behind another as many.
 use Rattle.std.proofs.Common.{◌≡◌, ◌∙◌, ◌+◌, ◌<◌, ℕ, List, Option, Some, None, map, drop, get_or, ap, sym, arith}
 use Rattle.std.specs.Prelude.{slice_get}
 use Rattle.std.specs.Option.{option_copied}

@@ -1,3 +1,4 @@
+-- The content that is sought is, of those of the calls to come, the one behind as many as are left.
 use Rattle.std.proofs.Common.{◌≡◌, map, drop}
 use Rattle.std.specs.Prelude.{slice_get}
 use Rattle.std.specs.List.{filter_map}

@@ -1,3 +1,4 @@
+-- A finished write lies within the image, and reads give it then; another call changes nothing of what they give.
 use Rattle.std.proofs.Common.{◌≡◌, ◌∙◌, ℕ, List, length, map, take, get_or, subst, sym, ap, arith, IsTrue}
 use Rattle.std.specs.List.{flat_map}
 use Rattle.sector_disk.specs.Image.{written}
@@ -24,7 +25,8 @@ loop-call-preserved c =
     let image = c.args.image.now in
     let before = (run (settled image) (flat_map events_of (map call_of (take c.loop-call.call-index c.args.calls.now)))).seen in
     let more = seen_more c.args.calls.now c.loop-call.call-index c.call-item.result c.loop-call-test.true image in
-    let at : seen_after (call_of c.call-item.result) before ≡ seen_after (call_of (get_or c.args.calls.now c.loop-call.call-index c.call-item.result)) before = ap (λ (e : Kept). seen_after (call_of e) before) c.call-item.is in
+    let at : seen_after (call_of c.call-item.result) before ≡ seen_after (call_of (get_or c.args.calls.now c.loop-call.call-index c.call-item.result)) before =
+    ap (λ (e : Kept). seen_after (call_of e) before) c.call-item.is in
     elim c.match-call.branch [
       | in-Write w ↦ w.image-is ∙ w.put.ensures
           ∙ ap (λ (bytes : List ℕ). written w.in-Write.first bytes c.loop-call.image) w.deref.ensures.value

@@ -1,3 +1,4 @@
+-- The image is what reads give after the calls so far.
 use Rattle.std.proofs.Common.{◌≡◌, map, take}
 use Rattle.std.specs.List.{flat_map}
 use Rattle.sector_disk.specs.Model.{settled, run}

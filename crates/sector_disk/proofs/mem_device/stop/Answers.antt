@@ -1,3 +1,4 @@
+-- Up to the last sync a sector has one possible content, and then those written to it since; so the one that is put is the chosen one.
 use Rattle.std.proofs.Common.{◌≡◌, ◌∙◌, ◌∷◌, [], ◌-◌, ◌/◌, ◌%◌, ℕ, List, length, map, take, drop, ap, sym, subst, arith}
 use Rattle.std.specs.Prelude.{slice_index, slice_index_or}
 use Rattle.std.specs.List.{flat_map, filter_map}
@@ -30,5 +31,6 @@ returns c = λ i lt.
     let size : length c.replay.new.image / 512 ≡ length start / 512 = ap (λ (m : ℕ). m / 512) c.replay.auto.image in
     let rest : take (length calls - n) (drop n calls) ≡ drop n calls = take_rest calls n in
     let taken : sector i c.choose.new.image ≡ chosen (sector i c.replay.new.image) (filter_map (content_of i) back) choice =
-    c.choose.ensures i (omega (arith, lt, size)) ∙ ap (λ (l : List Kept). chosen (sector i c.replay.new.image) (filter_map (content_of i) (map call_of l)) choice) rest in
+    c.choose.ensures i (omega (arith, lt, size))
+    ∙ ap (λ (l : List Kept). chosen (sector i c.replay.new.image) (filter_map (content_of i) (map call_of l)) choice) rest in
     subst (λ (l : List (List ℕ)). sector i c.choose.new.image ≡ slice_index_or l (choice % length l) []) (sym contents) taken

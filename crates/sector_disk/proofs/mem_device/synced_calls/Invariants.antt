@@ -1,3 +1,4 @@
+-- The calls up to the last sync so far are settled, and those since are writes.
 use Rattle.std.proofs.Common.{◌≤◌, map, take, drop, IsTrue}
 use Rattle.std.specs.List.{list_all}
 use Rattle.sector_disk.specs.Kept.{call_of}

@@ -1,3 +1,4 @@
+-- A part that is read goes behind those before it, as of one read.
 use Rattle.std.proofs.Common.{◌≡◌, ◌+◌, ◌*◌, ◌≤◌, length, take, drop, sym, ◌∙◌, subst, rules, arith, List, ℕ}
 use Rattle.std.proofs.lemmas.List.{length-append, length-take-le, length-drop}
 use Rattle.sector_disk.specs.Told.{Reads, told_by}
@@ -13,7 +14,11 @@ loop-at-preserved c =
     let n = c.in_ok-at-2.field-0 in
     let inside : at ≤ length old = c.loop-at.invariant.0 in
     let rest : length piece ≡ length (drop at old) = (search rules) ∙ sym (length-drop at old) in
-    let gone = goes_further Reads c.loop-at.noted c.read_some-in-loop-at.new.noted (c.args.first * 512) entries old piece at c.loop-at.invariant.1 c.loop-at-test.true rest n c.in_ok-at-2.ensures.noted in (
-      subst (λ (xs : List ℕ). at + n ≤ length xs) (sym (put_rest at old piece)) (omega (arith, length-append (take at old) piece, length-take-le at old inside, c.in_ok-at-2.ensures.moved.inside)),
-      subst (λ (xs : List ℕ). told_by c.read_some-in-loop-at.new.noted ≡ so_far entries Reads (c.args.first * 512) xs (at + n)) (sym (put_rest at old piece)) gone,
+    let gone =
+    goes_further Reads c.loop-at.noted c.read_some-in-loop-at.new.noted
+    (c.args.first * 512) entries old piece at c.loop-at.invariant.1 c.loop-at-test.true rest n c.in_ok-at-2.ensures.noted in (
+      subst (λ (xs : List ℕ). at + n ≤ length xs) (sym (put_rest at old piece))
+          (omega (arith, length-append (take at old) piece, length-take-le at old inside, c.in_ok-at-2.ensures.moved.inside)),
+      subst (λ (xs : List ℕ). told_by c.read_some-in-loop-at.new.noted ≡ so_far entries Reads (c.args.first * 512) xs (at + n))
+          (sym (put_rest at old piece)) gone,
     )

@@ -1,3 +1,4 @@
+-- The parts so far are noted as one read that has come so far, and each turn leaves less to be read.
 use Rattle.std.proofs.Common.{◌≡◌, ◌≤◌, ◌-◌, length}
 use Rattle.sector_disk.specs.Told.{Reads, told_by}
 use Rattle.sector_disk.proofs.ToldSteps.{so_far}

@@ -1,3 +1,4 @@
+-- No call has failed, and the file is as long as it is filled so far; each turn leaves less to be filled.
 use Rattle.std.proofs.Common.{◌≡◌, ◌≤◌, ◌-◌, Some, None}
 use Rattle.sector_disk.specs.SystemCalls.{answered}
 use Rattle.sector_disk.specs.Opening.{first_failure, len_after, opened_in}
@@ -7,4 +8,5 @@ abbrev pub decreases-loop-at : goal.decreases-loop-at
 decreases-loop-at l = l.to - l.at
 
 abbrev pub invariant-loop-at : goal.invariant-loop-at
-invariant-loop-at l = (l.at ≤ l.to) × (first_failure (answered l.noted) ≡ None) × (len_after (answered l.noted) ≡ Some l.at) × (opened_in l.noted ≡ opened_in l.initial.noted)
+invariant-loop-at l =
+    (l.at ≤ l.to) × (first_failure (answered l.noted) ≡ None) × (len_after (answered l.noted) ≡ Some l.at) × (opened_in l.noted ≡ opened_in l.initial.noted)

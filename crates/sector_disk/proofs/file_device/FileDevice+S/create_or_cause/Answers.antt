@@ -1,3 +1,4 @@
+-- No call of the system fails by a bad length, so a length that a file can have is not refused as one.
 use Rattle.std.proofs.Common.{sym, ◌∙◌}
 use Rattle.sector_disk.specs.SystemCalls.{answered}
 use Rattle.sector_disk.specs.Opening.{failure_by}
@@ -6,4 +7,5 @@ use Rattle.sector_disk.proofs.file_device.FileDevice+S.create_or_cause.Goals as 
 
 pub returns-clause-not_too_long : goal.returns-clause-not_too_long
 returns-clause-not_too_long g c = λ short bad.
-    no_length (answered c.make_file.new.noted) (failure_by c.in-Err.refusal.fault c.in-Err.refusal.cause) c.in-Err.ensures.refused.told (sym c.new-in-Err.ensures.fault ∙ bad)
+    no_length (answered c.make_file.new.noted) (failure_by c.in-Err.refusal.fault c.in-Err.refusal.cause) c.in-Err.ensures.refused.told
+    (sym c.new-in-Err.ensures.fault ∙ bad)

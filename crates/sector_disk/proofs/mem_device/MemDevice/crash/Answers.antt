@@ -1,3 +1,4 @@
+-- The image of the choices is one that a stop may leave; reads give it then, and it is the only one that another stop may leave.
 use Rattle.std.proofs.Common.{◌≡◌, ◌∙◌, ◌*◌, ◌/◌, ℕ, List, ◌++◌, length, take, drop, map, ap, sym, subst, arith}
 use Rattle.std.specs.Prelude.{slice_index}
 use Rattle.std.specs.List.{flat_map}
@@ -19,14 +20,24 @@ copy_from_slice-requires c =
     d.image.ok.0 ∙ image_size d.start.items d.image.items d.history.items d.kept ∙ sym d.start.ok.0 ∙ sym c.deref-2.ensures.len
 
 -- what was chosen is possible, and is copied whole
-left : (c : After-clear) → (let d = c.args.self.now in let image = c.stop.new.image in (take d.start.len (image ++ drop (length image) d.start.items) ≡ image) × IsImage (len_of (memory d)) (disk_of (memory d)) image)
+left : (c : After-clear)
+    → (let d = c.args.self.now in let image = c.stop.new.image in (take d.start.len (image ++ drop (length image) d.start.items) ≡ image)
+    × IsImage (len_of (memory d)) (disk_of (memory d)) image)
 left c =
     let d = c.args.self.now in
     let choices = λ (i : ℕ). slice_index c.args.choices.now i in
-    let at_start = subst (λ (start : List ℕ). TakesChoices (length start / 512) (run (settled start) (flat_map events_of (map call_of c.deref.result.now))) choices c.stop.new.image) c.deref_mut.ensures.value c.stop.ensures in
+    let at_start =
+    subst
+    (λ (start : List ℕ). TakesChoices (length start / 512)
+    (run (settled start) (flat_map events_of (map call_of c.deref.result.now))) choices c.stop.new.image)
+    c.deref_mut.ensures.value c.stop.ensures in
     let takes : TakesChoices (len_of (memory d)) (disk_of (memory d)) choices c.stop.new.image =
-    subst (λ (calls : List Kept). TakesChoices (len_of (memory d)) (run (settled d.start.items) (flat_map events_of (map call_of calls))) choices c.stop.new.image) c.deref.ensures.value at_start in
-    let size : length c.stop.new.image ≡ 512 * len_of (memory d) = omega (arith, c.stop.auto.image, ap length c.deref_mut.ensures.value, whole_sectors (length d.start.items) d.kept.whole) in (
+    subst
+    (λ (calls : List Kept). TakesChoices (len_of (memory d))
+    (run (settled d.start.items) (flat_map events_of (map call_of calls))) choices c.stop.new.image)
+    c.deref.ensures.value at_start in
+    let size : length c.stop.new.image ≡ 512 * len_of (memory d) =
+    omega (arith, c.stop.auto.image, ap length c.deref_mut.ensures.value, whole_sectors (length d.start.items) d.kept.whole) in (
       take_at c.stop.new.image (drop (length c.stop.new.image) d.start.items) d.start.len (c.stop.auto.image ∙ c.deref_mut.ensures.len),
       chosen_image (len_of (memory d)) (disk_of (memory d)) choices c.stop.new.image (memory_reads_possible (memory d) d.kept.whole d.kept.fit) size takes,
     )
@@ -34,14 +45,18 @@ left c =
 pub returns-clause-stop : goal.returns-clause-stop
 returns-clause-stop c =
     let d = c.args.self.now in
-    let is = left (goal.at.returns-clause-stop c).After-clear in
-    (_, subst (IsImage (len_of (memory d)) (disk_of (memory d))) (sym is.0) is.1, disk_start _ (map call_of c.clear.new.self.items) (ap (map call_of) c.clear.ensures.items))
+    let is = left (goal.at.returns-clause-stop c).After-clear in (
+      _,
+      subst (IsImage (len_of (memory d)) (disk_of (memory d))) (sym is.0) is.1,
+      disk_start _ (map call_of c.clear.new.self.items) (ap (map call_of) c.clear.ensures.items),
+    )
 
 pub returns-clause-possible : goal.returns-clause-possible
 returns-clause-possible c =
     let d = c.args.self.now in
     let is = left (goal.at.returns-clause-possible c).After-clear in
-    subst (IsImage (len_of (memory d)) (disk_of (memory d))) (sym (seen_start _ (map call_of c.clear.new.self.items) (ap (map call_of) c.clear.ensures.items) ∙ is.0)) is.1
+    subst (IsImage (len_of (memory d)) (disk_of (memory d)))
+    (sym (seen_start _ (map call_of c.clear.new.self.items) (ap (map call_of) c.clear.ensures.items) ∙ is.0)) is.1
 
 pub returns-clause-only : goal.returns-clause-only
 returns-clause-only c =

@@ -1,3 +1,4 @@
+-- A stop of a new device leaves one image: the one that reads give.
 use Rattle.std.proofs.Common.{map, ap, rules}
 use Rattle.sector_disk.specs.Kept.{call_of}
 use Rattle.sector_disk.proofs.Contents.{only_start}

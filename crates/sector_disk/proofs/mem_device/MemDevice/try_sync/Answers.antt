@@ -1,3 +1,4 @@
+-- The image is still that of the calls with a sync behind them.
 use Rattle.std.proofs.Common.{refl, rules}
 use Rattle.sector_disk.specs.Memory.{Synced}
 use Rattle.sector_disk.proofs.Keeps.{keeps}

@@ -1,3 +1,4 @@
+-- The image has as many sectors as there were at the start.
 use Rattle.std.proofs.Common.{◌∙◌, ◌/◌, ap, ℕ}
 use Rattle.sector_disk.proofs.Keeps.{image_size}
 use Rattle.sector_disk.proofs.mem_device.MemDeviceSectors.len.Goals as goal

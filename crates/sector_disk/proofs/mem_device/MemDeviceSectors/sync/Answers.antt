@@ -1,3 +1,4 @@
+-- What a sync of a device in memory answers and leaves is a sync of the model.
 use Rattle.sector_disk.specs.Memory.{history_of}
 use Rattle.sector_disk.specs.MemDevice.{memory}
 use Rattle.sector_disk.specs.MemoryLaws.{memory_reads_possible}
@@ -9,7 +10,8 @@ made : (c : goal.After-try_sync) → Syncs (history_of (memory c.args.self.now))
 made c =
     let d = c.args.self.now in
     let possible = memory_reads_possible (memory d) d.kept.whole d.kept.fit in
-    sync_means (history_of (memory d)) (history_of (memory c.try_sync.new.self)) possible c.try_sync.result (sync_case (memory d) (memory c.try_sync.new.self) c.try_sync.result c.try_sync.ensures.exact)
+    sync_means (history_of (memory d)) (history_of (memory c.try_sync.new.self)) possible c.try_sync.result
+    (sync_case (memory d) (memory c.try_sync.new.self) c.try_sync.result c.try_sync.ensures.exact)
 
 pub returns-clause-reads : goal.returns-clause-reads
 returns-clause-reads c = λ _. (made c).seen
