@@ -71,7 +71,8 @@ customers_say : (ws : List (List ℕ)) → Say (list_any (λ w. is_none (custome
 customers_say [] = (refl, refl)
 customers_say (w ∷ ws) = one (customer_of w) _ _ (customers_of ws) (customers_say ws)
   where
-    one : (o : Option ℕ) (any : Bool) (ns : List ℕ) (q : Option (List ℕ)) → Say any ns q → Say (is_none o || any) (unwrap_or o 0 ∷ ns) (option_and_then (λ n. option_map (λ ms. n ∷ ms) q) o)
+    one : (o : Option ℕ) (any : Bool) (ns : List ℕ) (q : Option (List ℕ)) → Say any ns q
+        → Say (is_none o || any) (unwrap_or o 0 ∷ ns) (option_and_then (λ n. option_map (λ ms. n ∷ ms) q) o)
     one None any ns q say = refl
     one (Some n) any ns None say = say
     one (Some n) any ns (Some ms) say = (say.0, ap (λ ks. n ∷ ks) say.1)
@@ -81,7 +82,9 @@ abbrev pub bad : Bool → Option (List ℕ) → Option (List ℕ) → Bool
 bad blank tail word = not blank && not (is_some tail) && not (is_some word)
 
 abbrev pub bad_number : Option (List ℕ) → Option (List ℕ) → Bool
-bad_number tail word = cond (is_some tail) (option_map_or (list_any (λ w. is_none (customer_of w))) (option_map words_of tail) false) (option_map_or (λ w. is_none (cost_of w)) word false)
+bad_number tail word =
+    cond (is_some tail) (option_map_or (list_any (λ w. is_none (customer_of w))) (option_map words_of tail) false)
+    (option_map_or (λ w. is_none (cost_of w)) word false)
 
 abbrev pub routed : Option (List ℕ) → Option (List ℕ)
 routed tail = option_map (map (λ w. unwrap_or (customer_of w) 0)) (option_map words_of tail)
@@ -111,7 +114,8 @@ LineSays n blank tail word (Ok (Route r)) = Harmless blank tail word (Some r)
 LineSays n blank tail word (Ok (Cost c)) = Ending blank tail word c
 LineSays n blank tail word (Err f) = (f.line ≡ n) × IsOfKind blank tail word f.kind
 
-line_says : (n : ℕ) (blank : Bool) (tail word : Option (List ℕ)) → (blank ≡ true → (tail ≡ None) × (word ≡ None)) → (is_some tail ≡ true → word ≡ None) → LineSays n blank tail word (cond blank (Ok Blank) (shown_line n tail word))
+line_says : (n : ℕ) (blank : Bool) (tail word : Option (List ℕ)) → (blank ≡ true → (tail ≡ None) × (word ≡ None)) → (is_some tail ≡ true → word ≡ None)
+    → LineSays n blank tail word (cond blank (Ok Blank) (shown_line n tail word))
 line_says n true tail word empty apart = rw ((empty refl).0, (empty refl).1) (record { no_cost = refl; shape = refl; numbers = refl; route_is = refl })
 line_says n false None None empty apart = (refl, refl)
 line_says n false None (Some w) empty apart = by_cost (cost_of w) refl
@@ -122,7 +126,9 @@ line_says n false None (Some w) empty apart = by_cost (cost_of w) refl
 line_says n false (Some tail) (Some w) empty apart = absurd (none_some (sym (apart refl)))
 line_says n false (Some tail) None empty apart = by_customers (customers_of (words_of tail)) (customers_say (words_of tail))
   where
-    by_customers : (q : Option (List ℕ)) → Say (list_any (λ w. is_none (customer_of w)) (words_of tail)) (map (λ w. unwrap_or (customer_of w) 0) (words_of tail)) q → LineSays n false (Some tail) None (or_bad_number Route n q)
+    by_customers : (q : Option (List ℕ))
+        → Say (list_any (λ w. is_none (customer_of w)) (words_of tail)) (map (λ w. unwrap_or (customer_of w) 0) (words_of tail)) q
+        → LineSays n false (Some tail) None (or_bad_number Route n q)
     by_customers None say = (refl, say)
     by_customers (Some ns) say = record { no_cost = refl; shape = refl; numbers = say.0; route_is = ap Some say.1 }
 

@@ -1,3 +1,4 @@
+-- The lemma files, which upper crates may cite.
 pub mod FaultLemmas
 pub mod ReadLemmas
 pub mod ShapeLemmas

@@ -12,7 +12,8 @@ with_routes-twice rs r (Ok s) = ap (λ all. Ok (record s { routes = all })) (sym
 with_routes-twice rs r (Err f) = refl
 
 -- the line that comes says l, and all lines together say what is known
-module _ (all : Result Solution SolFault) (rs : List (List ℕ)) (n : ℕ) (left : List (List ℕ)) (line : List ℕ) (rest : List (List ℕ)) (next : left ≡ line ∷ rest) (said : all ≡ with_routes rs (reading n left)) where
+module _ (all : Result Solution SolFault) (rs : List (List ℕ)) (n : ℕ) (left : List (List ℕ)) (line : List ℕ) (rest : List (List ℕ)) (next : left ≡ line ∷ rest)
+    (said : all ≡ with_routes rs (reading n left)) where
   said_next : all ≡ with_routes rs (onto_line (line_of (n + 1) line) (reading (n + 1) rest))
   unfolding reading
   said_next = said ∙ ap (λ ls. with_routes rs (reading n ls)) next
@@ -24,7 +25,10 @@ module _ (all : Result Solution SolFault) (rs : List (List ℕ)) (n : ℕ) (left
   said-route r is = said_next ∙ (ap (λ l. with_routes rs (onto_line l (reading (n + 1) rest))) is ∙ with_routes-twice rs r (reading (n + 1) rest))
 
   pub said-cost : (c : ℕ) → line_of (n + 1) line ≡ Ok (Cost c) → all ≡ Ok (record { routes = rs; cost = c })
-  said-cost c is = said_next ∙ (ap (λ l. with_routes rs (onto_line l (reading (n + 1) rest))) is ∙ ap (λ (all : List (List ℕ)). Ok (record { routes = all; cost = c })) (append-nil rs))
+  said-cost c is =
+      said_next
+      ∙ (ap (λ l. with_routes rs (onto_line l (reading (n + 1) rest))) is
+      ∙ ap (λ (all : List (List ℕ)). Ok (record { routes = all; cost = c })) (append-nil rs))
 
   pub said-err : (f : SolFault) → line_of (n + 1) line ≡ Err f → all ≡ Err f
   said-err f is = said_next ∙ ap (λ l. with_routes rs (onto_line l (reading (n + 1) rest))) is
@@ -33,6 +37,7 @@ module _ (all : Result Solution SolFault) (rs : List (List ℕ)) (n : ℕ) (left
   fewer most few = omega (arith, ap length next)
 
 -- no line comes
-pub said-end : (all : Result Solution SolFault) (rs : List (List ℕ)) (n : ℕ) (left : List (List ℕ)) → left ≡ [] → all ≡ with_routes rs (reading n left) → all ≡ Err (record { line = n + 1; kind = NoCost })
+pub said-end : (all : Result Solution SolFault) (rs : List (List ℕ)) (n : ℕ) (left : List (List ℕ)) → left ≡ [] → all ≡ with_routes rs (reading n left)
+    → all ≡ Err (record { line = n + 1; kind = NoCost })
 unfolding reading
 said-end all rs n left none said = said ∙ ap (λ ls. with_routes rs (reading n ls)) none

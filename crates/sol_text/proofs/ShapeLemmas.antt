@@ -1,5 +1,35 @@
 -- Route lines and cost lines, from what follows their parts to the parts and back.
-use Rattle.std.proofs.Common.{◌≡◌, ℕ, ◌<◌, Bool, true, false, ◌||◌, inl, inr, eqb, List, [], ◌∷◌, ◌++◌, length, take, drop, map, Some, None, refl, sym, ap, subst, ◌∙◌, arith, ⊎_elim, get_or-take, length-take, length-append}
+use Rattle.std.proofs.Common.{
+  ◌≡◌,
+  ℕ,
+  ◌<◌,
+  Bool,
+  true,
+  false,
+  ◌||◌,
+  inl,
+  inr,
+  eqb,
+  List,
+  [],
+  ◌∷◌,
+  ◌++◌,
+  length,
+  take,
+  drop,
+  map,
+  Some,
+  None,
+  refl,
+  sym,
+  ap,
+  subst,
+  ◌∙◌,
+  arith,
+  ⊎_elim,
+  length-take,
+  length-append,
+}
 use Rattle.std.specs.Prelude.{◌↔◌, codes, nat_le, nat_lt}
 use Rattle.std.specs.Char.{is_ascii_digit, to_ascii_lowercase}
 use Rattle.std.specs.List.{list_all, prefix_len}
@@ -8,10 +38,12 @@ use Rattle.std.proofs.lemmas.Bool.{and_from, and_parts, cases_lt, eq-eqb, eqb-tr
 use Rattle.std.proofs.lemmas.Bool.Decides.{eqb_tells}
 use Rattle.std.proofs.lemmas.List.{append_assoc, drop_all, drop_at, drop_more, take-append-drop}
 use Rattle.std.proofs.lemmas.List.Folds.{list_all-append}
-use Rattle.std.proofs.lemmas.List.Sums.{list_all-from_AllPass, prefix_len_passes, prefix_len_stops}
+use Rattle.std.proofs.lemmas.List.Sums.{prefix_len_stops}
 use Rattle.std.proofs.lemmas.Option.{cond_some, option_and_then_some}
 use Rattle.text_lines.specs.Words.{EndsWord, IsMadeOf, IsWord, is_blank, is_blank_line, words_of}
 use Rattle.text_lines.specs.Numbers.{is_digits}
+use Rattle.text_lines.proofs.FrontLemmas.{digit_no_blank}
+use Rattle.text_lines.proofs.NumberLemmas.{front_passes}
 use Rattle.sol_text.specs.LineShapes.{after_blanks, after_colon, after_digits, after_key, after_one, after_separator, cost_tail, cost_word, only_word, route_tail}
 use Rattle.sol_text.specs.Laws.{IsCostLine, IsPerhaps, IsRouteLine, begins_with_colon}
 
@@ -27,13 +59,6 @@ abbrev StartsOther : (ℕ → Bool) → List ℕ → Type 0
 StartsOther p [] = Unit {0}
 StartsOther p (b ∷ text) = p b ≡ false
 
-front_passes : (p : ℕ → Bool) (text : List ℕ) → list_all p (take (prefix_len p text) text) ≡ true
-front_passes p text =
-    let n = prefix_len p text in
-    list_all-from_AllPass p (take n text) (λ k d h.
-    let before : k < n = omega (arith, length-take n text) in
-    rw get_or-take (prefix_len_passes p text k d before))
-
 rest_is_other : (p : ℕ → Bool) (text : List ℕ) → StartsOther p (drop (prefix_len p text) text)
 rest_is_other p text =
     let n = prefix_len p text in
@@ -45,10 +70,13 @@ rest_is_other p text =
 front_length : (p : ℕ → Bool) (front rest : List ℕ) → list_all p front ≡ true → StartsOther p rest → prefix_len p (front ++ rest) ≡ length front
 front_length p [] [] is other = refl
 front_length p [] (b ∷ rest) is other = rw other refl
-front_length p (b ∷ front) rest is other = let parts = and_parts (p b) (list_all p front) is in rw (parts.0, front_length p front rest parts.1 other) (omega arith)
+front_length p (b ∷ front) rest is other =
+    let parts = and_parts (p b) (list_all p front) is in
+    rw (parts.0, front_length p front rest parts.1 other) (omega arith)
 
 -- ---- a key
-key_from_after : (key text rest : List ℕ) → after_key key text ≡ Some rest → (letters : List ℕ) × (map to_ascii_lowercase letters ≡ key) × (text ≡ letters ++ rest)
+key_from_after : (key text rest : List ℕ) → after_key key text ≡ Some rest
+    → (letters : List ℕ) × (map to_ascii_lowercase letters ≡ key) × (text ≡ letters ++ rest)
 key_from_after [] text rest is = ([], refl, some_same is)
 key_from_after (c ∷ key) [] rest is = absurd (none_some is)
 key_from_after (c ∷ key) (b ∷ text) rest is =
@@ -57,7 +85,8 @@ key_from_after (c ∷ key) (b ∷ text) rest is =
       | inr t ↦ absurd (none_some (rw t.0 at is))
     ]
   where
-    more : ((letters : List ℕ) × (map to_ascii_lowercase letters ≡ key) × (text ≡ letters ++ rest)) → to_ascii_lowercase b ≡ c → (letters : List ℕ) × (map to_ascii_lowercase letters ≡ c ∷ key) × (b ∷ text ≡ letters ++ rest)
+    more : ((letters : List ℕ) × (map to_ascii_lowercase letters ≡ key) × (text ≡ letters ++ rest)) → to_ascii_lowercase b ≡ c
+        → (letters : List ℕ) × (map to_ascii_lowercase letters ≡ c ∷ key) × (b ∷ text ≡ letters ++ rest)
     more (letters, same, whole) letter = (b ∷ letters, ap (λ l. l ∷ map to_ascii_lowercase letters) letter ∙ ap (λ k. c ∷ k) same, ap (λ t. b ∷ t) whole)
 
 after_key_is : (letters rest : List ℕ) → after_key (map to_ascii_lowercase letters) (letters ++ rest) ≡ Some rest
@@ -76,13 +105,16 @@ key_short (c ∷ key) (b ∷ text) short =
     elim (eqb_tells (to_ascii_lowercase b) (to_ascii_lowercase c)) [ inl t ↦ rw t.0 rest | inr t ↦ rw t.0 refl ]
 
 -- nor one that begins with other letters
-pub key_other : (key front rest : List ℕ) → length front ≡ length key → (map to_ascii_lowercase front ≡ map to_ascii_lowercase key → ⊥) → after_key (map to_ascii_lowercase key) (front ++ rest) ≡ None
+pub key_other : (key front rest : List ℕ) → length front ≡ length key → (map to_ascii_lowercase front ≡ map to_ascii_lowercase key → ⊥)
+    → after_key (map to_ascii_lowercase key) (front ++ rest) ≡ None
 key_other [] [] rest same other = absurd (other refl)
 key_other [] (b ∷ front) rest same other = absurd (omega (arith, same))
 key_other (c ∷ key) [] rest same other = absurd (omega (arith, same))
 key_other (c ∷ key) (b ∷ front) rest same other =
     elim (eqb_tells (to_ascii_lowercase b) (to_ascii_lowercase c)) [
-      | inl t ↦ rw t.0 (key_other key front rest (omega (arith, same)) (λ e. other (ap (λ l. l ∷ map to_ascii_lowercase front) t.1 ∙ ap (λ ls. to_ascii_lowercase c ∷ ls) e)))
+      | inl t ↦ rw t.0
+          (key_other key front rest (omega (arith, same))
+          (λ e. other (ap (λ l. l ∷ map to_ascii_lowercase front) t.1 ∙ ap (λ ls. to_ascii_lowercase c ∷ ls) e)))
       | inr t ↦ rw t.0 refl
     ]
 
@@ -132,13 +164,6 @@ colon_from_after (b ∷ text) rest is =
     let both = cond_some (eqb b 58) text rest is in ap (λ c. c ∷ text) (eqb-true b 58 both.0) ∙ ap (λ t. 58 ∷ t) both.1
 
 -- ---- a byte is of one sort
-pub digit_not_blank : (b : ℕ) → is_ascii_digit b ≡ true → is_blank b ≡ false
-digit_not_blank b is =
-    let range = leb-true 48 b (and_parts (nat_le 48 b) (nat_le b 57) is).0 in
-    let no_space : eqb b 32 ≡ false = ne_eqb b 32 (λ e. absurd (omega (arith, range, e))) in
-    let no_tab : eqb b 9 ≡ false = ne_eqb b 9 (λ e. absurd (omega (arith, range, e))) in
-    rw (no_space, no_tab) refl
-
 digit_not_mark : (b : ℕ) → is_ascii_digit b ≡ true → eqb b 35 ≡ false
 digit_not_mark b is = let range = leb-true 48 b (and_parts (nat_le 48 b) (nat_le b 57) is).0 in ne_eqb b 35 (λ e. absurd (omega (arith, range, e)))
 
@@ -152,7 +177,7 @@ blank_not_digit b is =
 number_not_blank : (ds rest : List ℕ) → is_digits ds ≡ true → StartsOther is_blank (ds ++ rest)
 unfolding is_digits
 number_not_blank [] rest is = absurd (false≢true is)
-number_not_blank (d ∷ ds) rest is = digit_not_blank d (and_parts (is_ascii_digit d) (list_all is_ascii_digit ds) is).0
+number_not_blank (d ∷ ds) rest is = digit_no_blank d (and_parts (is_ascii_digit d) (list_all is_ascii_digit ds) is).0
 
 number_not_mark : (ds rest : List ℕ) → is_digits ds ≡ true → after_one 35 (ds ++ rest) ≡ ds ++ rest
 unfolding is_digits
@@ -204,7 +229,8 @@ blanks_append : (a b : List ℕ) → is_blank_line a ≡ true → is_blank_line 
 blanks_append a b p q = list_all-append is_blank a b ∙ and_from (is_blank_line a) (is_blank_line b) p q
 
 -- blanks, a mark or none, and blanks before what is neither
-after_mark_is : (mark : ℕ) (gap front gap2 rest : List ℕ) → is_blank mark ≡ false → is_blank_line gap ≡ true → IsPerhaps mark front → is_blank_line gap2 ≡ true → StartsOther is_blank rest → after_one mark rest ≡ rest → after_blanks (after_one mark (after_blanks (gap ++ (front ++ (gap2 ++ rest))))) ≡ rest
+after_mark_is : (mark : ℕ) (gap front gap2 rest : List ℕ) → is_blank mark ≡ false → is_blank_line gap ≡ true → IsPerhaps mark front → is_blank_line gap2 ≡ true
+    → StartsOther is_blank rest → after_one mark rest ≡ rest → after_blanks (after_one mark (after_blanks (gap ++ (front ++ (gap2 ++ rest))))) ≡ rest
 after_mark_is mark gap front gap2 rest solid blank (inl none) blank2 other unmarked =
     let joined : gap ++ (front ++ (gap2 ++ rest)) ≡ (gap ++ gap2) ++ rest = ap (λ f. gap ++ (f ++ (gap2 ++ rest))) none ∙ sym (append_assoc gap gap2 rest) in
     ap (λ t. after_blanks (after_one mark (after_blanks t))) joined
@@ -225,11 +251,17 @@ unfolding route_tail
 route_tail_from_line line tail is =
     let last = is.before_colon ++ 58 ∷ tail in
     let rest = is.before_mark ++ (is.mark ++ (is.before_number ++ (is.number ++ last))) in
-    let numbered = after_mark_is 35 is.before_mark is.mark is.before_number (is.number ++ last) refl is.blank_mark is.is_mark is.blank_number (number_not_blank is.number last is.is_number) (number_not_mark is.number last is.is_number) in
+    let numbered =
+    after_mark_is 35 is.before_mark is.mark is.before_number (is.number ++ last) refl is.blank_mark is.is_mark is.blank_number
+    (number_not_blank is.number last is.is_number) (number_not_mark is.number last is.is_number) in
     ap route_tail is.whole
-    ∙ ap (λ o. option_and_then (λ more. after_colon (after_blanks more)) (option_and_then (λ more. after_digits (after_blanks (after_one 35 (after_blanks more)))) o)) (key_is (codes "route") is.key rest is.is_key)
+    ∙ ap
+    (λ o. option_and_then (λ more. after_colon (after_blanks more))
+    (option_and_then (λ more. after_digits (after_blanks (after_one 35 (after_blanks more)))) o))
+    (key_is (codes "route") is.key rest is.is_key)
     ∙ ap (λ t. option_and_then (λ more. after_colon (after_blanks more)) (after_digits t)) numbered
-    ∙ ap (λ o. option_and_then (λ more. after_colon (after_blanks more)) o) (after_digits_is is.number last is.is_number (no_digit_first is.before_colon tail is.blank_colon))
+    ∙ ap (λ o. option_and_then (λ more. after_colon (after_blanks more)) o)
+    (after_digits_is is.number last is.is_number (no_digit_first is.before_colon tail is.blank_colon))
     ∙ ap after_colon (after_blanks_is is.before_colon (58 ∷ tail) is.blank_colon refl)
 
 -- ---- a cost line
@@ -260,7 +292,8 @@ separates_from_after (b ∷ text) tail is =
     some_gap [] (c ∷ body) whole or bare = let same : b ≡ c = cc in absurd (false≢true (rw (same, bare.0, bare.1) at or))
     some_gap (g ∷ gap) body whole or bare = omega arith
 
-    by_body : (body gap : List ℕ) → b ∷ text ≡ gap ++ body → is_blank_line gap ≡ true → StartsOther is_blank body → is_blank b || eqb b 58 ≡ true → Separates (b ∷ text) (after_one 58 body)
+    by_body : (body gap : List ℕ) → b ∷ text ≡ gap ++ body → is_blank_line gap ≡ true → StartsOther is_blank body → is_blank b || eqb b 58 ≡ true
+        → Separates (b ∷ text) (after_one 58 body)
     by_body [] gap whole blank other or = record {
       gap = gap;
       colon = [];
@@ -301,7 +334,8 @@ only_from_word [] word is = absurd (none_some is)
 only_from_word (w ∷ []) word is = ap (λ v. v ∷ []) (some_same is)
 only_from_word (w ∷ v ∷ ws) word is = absurd (none_some is)
 
-bare_word : (before word behind : List ℕ) → is_blank_line before ≡ true → 0 < length word → StartsBare (before ++ (word ++ behind)) → begins_with_colon word ≡ false
+bare_word : (before word behind : List ℕ) → is_blank_line before ≡ true → 0 < length word → StartsBare (before ++ (word ++ behind))
+    → begins_with_colon word ≡ false
 bare_word [] [] behind blank some bare = absurd (omega arith)
 bare_word [] (b ∷ word) behind blank some bare = bare.1
 bare_word (b ∷ before) word behind blank some bare = absurd (false≢true (sym bare.0 ∙ (and_parts (is_blank b) (is_blank_line before) blank).0))
@@ -319,7 +353,8 @@ word_no_colon [] rest is bare = absurd (omega (arith, is.0))
 word_no_colon (b ∷ word) rest is bare = rw bare refl
 
 -- what follows a separator: a colon, or blanks before what is neither
-separated_tail : (gap colon x y : List ℕ) → is_blank_line gap ≡ true → IsPerhaps 58 colon → 0 < length (gap ++ colon) → after_one 58 (after_blanks (gap ++ (colon ++ x))) ≡ y → after_separator (gap ++ (colon ++ x)) ≡ Some y
+separated_tail : (gap colon x y : List ℕ) → is_blank_line gap ≡ true → IsPerhaps 58 colon → 0 < length (gap ++ colon)
+    → after_one 58 (after_blanks (gap ++ (colon ++ x))) ≡ y → after_separator (gap ++ (colon ++ x)) ≡ Some y
 separated_tail [] colon x y blank (inl none) some is = absurd (omega (arith, ap length none))
 separated_tail [] colon x y blank (inr colon_is) some is = rw colon_is (ap Some (rw colon_is at is))
 separated_tail (b ∷ gap) colon x y blank is_colon some is =
@@ -331,9 +366,11 @@ module _ (made_of : (line : List ℕ) (words : List (List ℕ)) → (words_of li
   cost_line_from_word line word is =
       option_and_then_some (λ tail. only_word (words_of tail)) _ word is (λ tail was only.
       option_and_then_some after_separator _ tail was (λ rest keyed after.
-      parts rest tail (key_from_after (codes "cost") line rest keyed) (separates_from_after rest tail after) ((made_of tail (word ∷ [])).0 (only_from_word (words_of tail) word only))))
+      parts rest tail (key_from_after (codes "cost") line rest keyed) (separates_from_after rest tail after)
+      ((made_of tail (word ∷ [])).0 (only_from_word (words_of tail) word only))))
     where
-      parts : (rest tail : List ℕ) → (letters : List ℕ) × (map to_ascii_lowercase letters ≡ codes "cost") × (line ≡ letters ++ rest) → Separates rest tail → IsMadeOf tail (word ∷ []) → IsCostLine line word
+      parts : (rest tail : List ℕ) → (letters : List ℕ) × (map to_ascii_lowercase letters ≡ codes "cost") × (line ≡ letters ++ rest) → Separates rest tail
+          → IsMadeOf tail (word ∷ []) → IsCostLine line word
       parts rest tail (key, is_key, keyed) s (before, behind, whole, blank, is_word, ends, blank_behind) = record {
         key = key;
         before_colon = s.gap;
@@ -351,7 +388,8 @@ module _ (made_of : (line : List ℕ) (words : List (List ℕ)) → (words_of li
         blank_behind = blank_behind;
       }
 
-  tail_word : (before word behind : List ℕ) → is_blank_line before ≡ true → IsWord word → is_blank_line behind ≡ true → only_word (words_of (before ++ (word ++ behind))) ≡ Some word
+  tail_word : (before word behind : List ℕ) → is_blank_line before ≡ true → IsWord word → is_blank_line behind ≡ true
+      → only_word (words_of (before ++ (word ++ behind))) ≡ Some word
   tail_word before word behind blank is_word blank_behind =
       ap only_word ((made_of (before ++ (word ++ behind)) (word ∷ [])).1 (before, behind, refl, blank, is_word, ends_word behind blank_behind, blank_behind))
 
@@ -364,18 +402,23 @@ module _ (made_of : (line : List ℕ) (words : List (List ℕ)) → (words_of li
       ∙ ap (λ o. option_and_then (λ tail. only_word (words_of tail)) (option_and_then after_separator o)) (key_is (codes "cost") is.key rest is.is_key)
       ∙ by_colon is.is_colon
     where
-      by_colon : IsPerhaps 58 is.colon → option_and_then (λ tail. only_word (words_of tail)) (after_separator (is.before_colon ++ (is.colon ++ (is.before_word ++ (word ++ is.behind))))) ≡ Some word
+      by_colon : IsPerhaps 58 is.colon
+          → option_and_then (λ tail. only_word (words_of tail)) (after_separator (is.before_colon ++ (is.colon ++ (is.before_word ++ (word ++ is.behind)))))
+          ≡ Some word
       by_colon (inl none) =
           ap (option_and_then (λ tail. only_word (words_of tail)))
           (separated_tail is.before_colon is.colon (is.before_word ++ (word ++ is.behind)) (word ++ is.behind) is.blank_colon (inl none) is.separated
           (ap (λ c. after_one 58 (after_blanks (is.before_colon ++ (c ++ (is.before_word ++ (word ++ is.behind)))))) none
           ∙ ap (λ t. after_one 58 (after_blanks t)) (sym (append_assoc is.before_colon is.before_word (word ++ is.behind)))
-          ∙ ap (after_one 58) (after_blanks_is (is.before_colon ++ is.before_word) (word ++ is.behind) (blanks_append is.before_colon is.before_word is.blank_colon is.blank_word) (word_not_blank word is.behind is.is_word))
+          ∙ ap (after_one 58)
+          (after_blanks_is (is.before_colon ++ is.before_word) (word ++ is.behind)
+          (blanks_append is.before_colon is.before_word is.blank_colon is.blank_word) (word_not_blank word is.behind is.is_word))
           ∙ word_no_colon word is.behind is.is_word (is.bare none)))
           ∙ tail_word [] word is.behind refl is.is_word is.blank_behind
       by_colon (inr some) =
           ap (option_and_then (λ tail. only_word (words_of tail)))
-          (separated_tail is.before_colon is.colon (is.before_word ++ (word ++ is.behind)) (is.before_word ++ (word ++ is.behind)) is.blank_colon (inr some) is.separated
+          (separated_tail is.before_colon is.colon (is.before_word ++ (word ++ is.behind)) (is.before_word ++ (word ++ is.behind)) is.blank_colon
+          (inr some) is.separated
           (ap (λ c. after_one 58 (after_blanks (is.before_colon ++ (c ++ (is.before_word ++ (word ++ is.behind)))))) some
           ∙ ap (after_one 58) (after_blanks_is is.before_colon (58 ∷ (is.before_word ++ (word ++ is.behind))) is.blank_colon refl)))
           ∙ tail_word is.before_word word is.behind is.blank_word is.is_word is.blank_behind

@@ -24,20 +24,23 @@ lower line rest k BadNumber h = ((omega (arith, h.0.0), h.0.1.1), h.1)
 lower line rest k NoCost h = (omega (arith, h.0), h.1.1)
 lower line rest k OutOfMemory h = h
 
-raise : (line : List ℕ) (rest : List (List ℕ)) (k : ℕ) (kind : SolFaultKind) → is_cost_line line ≡ false → FaultAmong rest k kind → FaultAmong (line ∷ rest) (suc k) kind
+raise : (line : List ℕ) (rest : List (List ℕ)) (k : ℕ) (kind : SolFaultKind) → is_cost_line line ≡ false → FaultAmong rest k kind
+    → FaultAmong (line ∷ rest) (suc k) kind
 raise line rest k BadLine no_cost h = ((omega (arith, h.0.0), (no_cost, h.0.1)), h.1)
 raise line rest k BadNumber no_cost h = ((omega (arith, h.0.0), (no_cost, h.0.1)), h.1)
 raise line rest k NoCost no_cost h = (omega (arith, h.0), (no_cost, h.1))
 raise line rest k OutOfMemory no_cost h = h
 
 -- a line has the faults of its kind
-at_head : (line : List ℕ) (rest : List (List ℕ)) (kind : SolFaultKind) → IsOfKind (is_blank_line line) (route_tail line) (cost_word line) kind → FaultAmong (line ∷ rest) 0 kind
+at_head : (line : List ℕ) (rest : List (List ℕ)) (kind : SolFaultKind) → IsOfKind (is_blank_line line) (route_tail line) (cost_word line) kind
+    → FaultAmong (line ∷ rest) 0 kind
 at_head line rest BadLine h = ((omega arith, tt), h)
 at_head line rest BadNumber h = ((omega arith, tt), h)
 at_head line rest NoCost h = absurd h
 at_head line rest OutOfMemory h = h
 
-none_at_head : (line : List ℕ) (rest : List (List ℕ)) (kind : SolFaultKind) → bad (is_blank_line line) (route_tail line) (cost_word line) ≡ false → bad_number (route_tail line) (cost_word line) ≡ false → FaultAmong (line ∷ rest) 0 kind → ⊥
+none_at_head : (line : List ℕ) (rest : List (List ℕ)) (kind : SolFaultKind) → bad (is_blank_line line) (route_tail line) (cost_word line) ≡ false
+    → bad_number (route_tail line) (cost_word line) ≡ false → FaultAmong (line ∷ rest) 0 kind → ⊥
 none_at_head line rest BadLine shape numbers h = both_ways _ shape h.1
 none_at_head line rest BadNumber shape numbers h = both_ways _ numbers h.1
 none_at_head line rest NoCost shape numbers h = absurd (omega (arith, h.0))
@@ -53,11 +56,13 @@ none_behind_cost line rest k OutOfMemory is h = h
 not_first : (line : List ℕ) (rest : List (List ℕ)) → is_cost_line line ≡ false → before_first is_cost_line (line ∷ rest) ≡ line ∷ before_first is_cost_line rest
 not_first line rest no_cost = rw (no_cost, one-add) refl
 
-solution-cons : (line : List ℕ) (rest : List (List ℕ)) → is_cost_line line ≡ false → solution_among (line ∷ rest) ≡ record { routes = cons_option (route_of line) (solution_among rest).routes; cost = (solution_among rest).cost }
+solution-cons : (line : List ℕ) (rest : List (List ℕ)) → is_cost_line line ≡ false
+    → solution_among (line ∷ rest) ≡ record { routes = cons_option (route_of line) (solution_among rest).routes; cost = (solution_among rest).cost }
 solution-cons line rest no_cost =
     rw (not_first line rest no_cost, no_cost) refl
 
-solution-cost : (line : List ℕ) (rest : List (List ℕ)) (c : ℕ) → is_cost_line line ≡ true → option_and_then cost_of (cost_word line) ≡ Some c → solution_among (line ∷ rest) ≡ record { routes = []; cost = c }
+solution-cost : (line : List ℕ) (rest : List (List ℕ)) (c : ℕ) → is_cost_line line ≡ true → option_and_then cost_of (cost_word line) ≡ Some c
+    → solution_among (line ∷ rest) ≡ record { routes = []; cost = c }
 solution-cost line rest c is_cost is = rw (is_cost, is) refl
 
 -- ---- what reading tells
@@ -75,12 +80,14 @@ Told n lines (Ok s) = NoneAmong lines × (s ≡ solution_among lines)
 Told n lines (Err f) = IsFirstAmong n lines f
 
 -- a line without faults before lines without faults
-none_ahead : (line : List ℕ) (rest : List (List ℕ)) (route : Option (List ℕ)) → Harmless (is_blank_line line) (route_tail line) (cost_word line) route → NoneAmong rest → NoneAmong (line ∷ rest)
+none_ahead : (line : List ℕ) (rest : List (List ℕ)) (route : Option (List ℕ)) → Harmless (is_blank_line line) (route_tail line) (cost_word line) route
+    → NoneAmong rest → NoneAmong (line ∷ rest)
 none_ahead line rest route is none zero kind h = none_at_head line rest kind is.shape is.numbers h
 none_ahead line rest route is none (suc k) kind h = none k kind (lower line rest k kind h)
 
 -- a line without faults before the first fault
-first_later : (n : ℕ) (line : List ℕ) (rest : List (List ℕ)) (route : Option (List ℕ)) (f : SolFault) → Harmless (is_blank_line line) (route_tail line) (cost_word line) route → IsFirstAmong (n + 1) rest f → IsFirstAmong n (line ∷ rest) f
+first_later : (n : ℕ) (line : List ℕ) (rest : List (List ℕ)) (route : Option (List ℕ)) (f : SolFault)
+    → Harmless (is_blank_line line) (route_tail line) (cost_word line) route → IsFirstAmong (n + 1) rest f → IsFirstAmong n (line ∷ rest) f
 first_later n line rest route f is first = record {
   place = suc first.place;
   line = omega (arith, first.line);
@@ -92,7 +99,8 @@ first_later n line rest route f is first = record {
     least zero kind h = absurd (none_at_head line rest kind is.shape is.numbers h)
     least (suc k) kind h = omega (arith, first.least k kind (lower line rest k kind h))
 
-onto : (n : ℕ) (line : List ℕ) (rest : List (List ℕ)) (l : Result Line SolFault) → SaysOf (n + 1) line l → (r : Result Solution SolFault) → Told (n + 1) rest r → Told n (line ∷ rest) (onto_line l r)
+onto : (n : ℕ) (line : List ℕ) (rest : List (List ℕ)) (l : Result Line SolFault) → SaysOf (n + 1) line l → (r : Result Solution SolFault) → Told (n + 1) rest r
+    → Told n (line ∷ rest) (onto_line l r)
 onto n line rest (Err f) says r told = record {
   place = 0;
   line = says.0 ∙ omega arith;
@@ -101,11 +109,17 @@ onto n line rest (Err f) says r told = record {
 }
 onto n line rest (Ok Blank) says (Err f) told = first_later n line rest None f says told
 onto n line rest (Ok (Route x)) says (Err f) told = first_later n line rest (Some x) f says told
-onto n line rest (Ok Blank) says (Ok s) told = (none_ahead line rest None says told.0, told.1 ∙ sym (solution-cons line rest says.no_cost ∙ ap (λ o. record { routes = cons_option o (solution_among rest).routes; cost = first_cost rest }) says.route_is))
+onto n line rest (Ok Blank) says (Ok s) told = (
+  none_ahead line rest None says told.0,
+  told.1
+      ∙ sym (solution-cons line rest says.no_cost
+      ∙ ap (λ o. record { routes = cons_option o (solution_among rest).routes; cost = first_cost rest }) says.route_is),
+)
 onto n line rest (Ok (Route x)) says (Ok s) told = (
   none_ahead line rest (Some x) says told.0,
   ap (λ s. record { routes = x ∷ s.routes; cost = s.cost }) told.1
-      ∙ sym (solution-cons line rest says.no_cost ∙ ap (λ o. record { routes = cons_option o (solution_among rest).routes; cost = first_cost rest }) says.route_is),
+      ∙ sym (solution-cons line rest says.no_cost
+      ∙ ap (λ o. record { routes = cons_option o (solution_among rest).routes; cost = first_cost rest }) says.route_is),
 )
 onto n line rest (Ok (Cost c)) says r told = (none, sym (solution-cost line rest c says.is_cost says.cost_is))
   where
@@ -126,7 +140,8 @@ spells_from_told text s is = (λ line kind fault. all.0 fault.0 kind fault.2, al
     all = subst (λ r. Told 0 (lines_of text) r) is (told 0 (lines_of text))
 
 pub first_from_told : (text : List ℕ) (f : SolFault) → reading 0 (lines_of text) ≡ Err f → IsFirstFault text f
-first_from_told text f is = ((first.place, first.line ∙ omega arith, first.fault), λ line kind fault. omega (arith, first.line, fault.1, first.least fault.0 kind fault.2))
+first_from_told text f is =
+    ((first.place, first.line ∙ omega arith, first.fault), λ line kind fault. omega (arith, first.line, fault.1, first.least fault.0 kind fault.2))
   where
     first : IsFirstAmong 0 (lines_of text) f
     first = subst (λ r. Told 0 (lines_of text) r) is (told 0 (lines_of text))

@@ -11,11 +11,12 @@ use Rattle.std.proofs.lemmas.List.Sums.{AllPass-from_list_all}
 use Rattle.text_lines.specs.Lines.{EndAtFeeds, HasNoFeed, lines_of}
 use Rattle.text_lines.specs.Words.{EndsWord, IsMadeOf, IsWord, is_blank, is_blank_line, words_of}
 use Rattle.text_lines.specs.Numbers.{AreRead, is_digits}
+use Rattle.text_lines.proofs.FrontLemmas.{digit_no_blank}
 use Rattle.sol_text.specs.LineShapes.{route_tail, cost_word}
 use Rattle.sol_text.specs.Values.{customer_of, cost_of}
 use Rattle.sol_text.specs.Reading.{customers_of, line_of, onto_line, reading, with_routes}
 use Rattle.sol_text.specs.Laws.{begins_with_colon}
-use Rattle.sol_text.proofs.ShapeLemmas.{all_digits, cost_word_from_line, digit_not_blank, route_tail_from_line}
+use Rattle.sol_text.proofs.ShapeLemmas.{all_digits, cost_word_from_line, route_tail_from_line}
 use Rattle.sol_text.specs.Written.{used_routes, customers_text, route_text, routes_text, cost_text, solution_text}
 use Rattle.sol_text.specs.declared.lines.Line.TheVariants.{Route, Cost}
 
@@ -28,7 +29,9 @@ Printable xs = list_all printable xs ≡ true
 
 printable-append : (xs ys : List ℕ) → Printable xs → Printable ys → Printable (xs ++ ys)
 printable-append [] ys p q = q
-printable-append (x ∷ xs) ys p q = let parts = and_parts (printable x) (list_all printable xs) p in and_from (printable x) (list_all printable (xs ++ ys)) parts.0 (printable-append xs ys parts.1 q)
+printable-append (x ∷ xs) ys p q =
+    let parts = and_parts (printable x) (list_all printable xs) p in
+    and_from (printable x) (list_all printable (xs ++ ys)) parts.0 (printable-append xs ys parts.1 q)
 
 digit_printable : (b : ℕ) → is_ascii_digit b ≡ true → printable b ≡ true
 unfolding printable
@@ -36,7 +39,9 @@ digit_printable b is = le-leb 32 b (omega (arith, leb-true 48 b (and_parts (nat_
 
 digits_printable : (xs : List ℕ) → list_all is_ascii_digit xs ≡ true → Printable xs
 digits_printable [] is = refl
-digits_printable (x ∷ xs) is = let parts = and_parts (is_ascii_digit x) (list_all is_ascii_digit xs) is in and_from (printable x) (list_all printable xs) (digit_printable x parts.0) (digits_printable xs parts.1)
+digits_printable (x ∷ xs) is =
+    let parts = and_parts (is_ascii_digit x) (list_all is_ascii_digit xs) is in
+    and_from (printable x) (list_all printable xs) (digit_printable x parts.0) (digits_printable xs parts.1)
 
 -- a line of printable bytes stays itself
 printable_at : (xs : List ℕ) (j b : ℕ) → Printable xs → j < length xs → get_or xs j 0 ≡ b → 32 ≤ b
@@ -49,14 +54,15 @@ no_feed line p (j, h, here) = absurd (omega (arith, printable_at line j 10 p h (
 whole_line : (line : List ℕ) → Printable line → strip_carriage_return line ≡ line
 whole_line [] p = refl
 whole_line (x ∷ xs) p =
-    let no_return : eqb (get_or (x ∷ xs) (length (x ∷ xs) - 1) 0) 13 ≡ false = ne_eqb (get_or (x ∷ xs) (length (x ∷ xs) - 1) 0) 13 (λ e. absurd (omega (arith, printable_at (x ∷ xs) (length (x ∷ xs) - 1) 13 p (omega arith) e))) in
+    let no_return : eqb (get_or (x ∷ xs) (length (x ∷ xs) - 1) 0) 13 ≡ false =
+    ne_eqb (get_or (x ∷ xs) (length (x ∷ xs) - 1) 0) 13 (λ e. absurd (omega (arith, printable_at (x ∷ xs) (length (x ∷ xs) - 1) 13 p (omega arith) e))) in
     rw no_return refl
 
 -- ---- words
 -- a word of digits has no blank
 digits_apart : (ds : List ℕ) → list_all is_ascii_digit ds ≡ true → AllByRecursion (λ b. is_blank b ≡ false) ds
 digits_apart [] is = tt
-digits_apart (d ∷ ds) is = let parts = and_parts (is_ascii_digit d) (list_all is_ascii_digit ds) is in (digit_not_blank d parts.0, digits_apart ds parts.1)
+digits_apart (d ∷ ds) is = let parts = and_parts (is_ascii_digit d) (list_all is_ascii_digit ds) is in (digit_no_blank d parts.0, digits_apart ds parts.1)
 
 digits_are_word : (ds : List ℕ) → is_digits ds ≡ true → IsWord ds
 digits_are_word ds is = let all = all_digits ds is in (all.0, digits_apart ds all.1)
@@ -98,7 +104,8 @@ used_small [] all = tt
 used_small (route ∷ routes) all =
     let parts = part_small route (concat routes) all in one (not (eqb (length route) 0)) parts.0 (used_small routes parts.1)
   where
-    one : (b : Bool) → AllByRecursion (λ n. n < 2 ^ 32) route → AreSmall (used_routes routes) → AreSmall (cond b (route ∷ used_routes routes) (used_routes routes))
+    one : (b : Bool) → AllByRecursion (λ n. n < 2 ^ 32) route → AreSmall (used_routes routes)
+        → AreSmall (cond b (route ∷ used_routes routes) (used_routes routes))
     one true small rest = (small, rest)
     one false small rest = rest
 
@@ -158,7 +165,8 @@ module _ (ended : EndAtFeeds) (made_of : (line : List ℕ) (words : List (List �
   customers-written [] small = refl
   customers-written (n ∷ route) small = rw (customer-written n small.0, customers-written route small.1) refl
 
-  line_of-route : (k number : ℕ) (route : List ℕ) → number < 2 ^ 64 → AllByRecursion (λ n. n < 2 ^ 32) route → line_of k (route_text number route) ≡ Ok (Route route)
+  line_of-route : (k number : ℕ) (route : List ℕ) → number < 2 ^ 64 → AllByRecursion (λ n. n < 2 ^ 32) route
+      → line_of k (route_text number route) ≡ Ok (Route route)
   unfolding line_of
   line_of-route k number route fits small =
       rw (route_shown number route, route_tail-written number route fits, words-written route small, customers-written route small) refl
@@ -201,7 +209,8 @@ module _ (ended : EndAtFeeds) (made_of : (line : List ℕ) (words : List (List �
   unfolding printable
   customers_printable [] small = refl
   customers_printable (n ∷ route) small =
-      printable-append (32 ∷ decimal n) (customers_text route) (space (decimal n) (decimal_printable n (omega (arith, small.0)))) (customers_printable route small.1)
+      printable-append (32 ∷ decimal n) (customers_text route) (space (decimal n) (decimal_printable n (omega (arith, small.0))))
+      (customers_printable route small.1)
     where
       space : (xs : List ℕ) → Printable xs → Printable (32 ∷ xs)
       space xs p = and_from (printable 32) (list_all printable xs) (le-leb 32 32 (omega arith)) p
@@ -210,14 +219,16 @@ module _ (ended : EndAtFeeds) (made_of : (line : List ℕ) (words : List (List �
   unfolding route_text printable
   route_printable number route fits small =
       printable-append (codes "Route #") (decimal number ++ (58 ∷ customers_text route)) refl
-      (printable-append (decimal number) (58 ∷ customers_text route) (decimal_printable number fits) (printable-append (58 ∷ []) (customers_text route) refl (customers_printable route small)))
+      (printable-append (decimal number) (58 ∷ customers_text route) (decimal_printable number fits)
+      (printable-append (58 ∷ []) (customers_text route) refl (customers_printable route small)))
 
   cost_printable : (cost : ℕ) → cost < 2 ^ 64 → Printable (cost_text cost)
   unfolding cost_text printable
   cost_printable cost fits = printable-append (codes "Cost ") (decimal cost) refl (decimal_printable cost fits)
 
   -- what is written reads back
-  reading-written : (k number : ℕ) (routes : List (List ℕ)) (cost : ℕ) → number + length routes < 2 ^ 64 → AreSmall routes → cost < 2 ^ 64 → reading k (lines_of (routes_text number routes ++ (cost_text cost ++ 10 ∷ []))) ≡ Ok (record { routes = routes; cost = cost })
+  reading-written : (k number : ℕ) (routes : List (List ℕ)) (cost : ℕ) → number + length routes < 2 ^ 64 → AreSmall routes → cost < 2 ^ 64
+      → reading k (lines_of (routes_text number routes ++ (cost_text cost ++ 10 ∷ []))) ≡ Ok (record { routes = routes; cost = cost })
   unfolding reading
   reading-written k number [] cost few small fits =
       ap (λ ls. reading k ls) (line_ends (cost_text cost) [] (cost_printable cost fits))
@@ -230,5 +241,6 @@ module _ (ended : EndAtFeeds) (made_of : (line : List ℕ) (words : List (List �
       ∙ (ap (λ l. onto_line l (reading (k + 1) (lines_of later))) (line_of-route (k + 1) number route small_number small.0)
       ∙ ap (λ r. with_routes (route ∷ []) r) (reading-written (k + 1) (number + 1) routes cost (omega arith) small.1 fits)))
 
-  pub reads_back : (routes : List (List ℕ)) (cost : ℕ) → 1 + length routes < 2 ^ 64 → AreSmall routes → cost < 2 ^ 64 → reading 0 (lines_of (solution_text routes cost)) ≡ Ok (record { routes = routes; cost = cost })
+  pub reads_back : (routes : List (List ℕ)) (cost : ℕ) → 1 + length routes < 2 ^ 64 → AreSmall routes → cost < 2 ^ 64
+      → reading 0 (lines_of (solution_text routes cost)) ≡ Ok (record { routes = routes; cost = cost })
   reads_back routes cost few small fits = reading-written 0 1 routes cost few small fits

@@ -1,3 +1,4 @@
+-- A line's fault, or its cost, is that of all lines; a route goes behind those before it, and a blank line changes nothing.
 use Rattle.std.proofs.Common.{◌+◌, ◌∙◌, Ok, sym, ap, inl, inr}
 use Rattle.std.proofs.lemmas.Result.{err_from_is_err_and}
 use Rattle.sol_text.specs.Reading.{reading, with_routes}
@@ -28,13 +29,15 @@ loop-line-preserved c =
     record {
       few = fewer _ c.loop-line.routes.items c.loop-line.number _ _ _ c.in-Some.ensures.steps is.said _ is.few;
       said =
-          said-route _ c.loop-line.routes.items c.loop-line.number _ _ _ c.in-Some.ensures.steps is.said c.in-Route.route (c.in_ok-parse_line.ensures ∙ ap Ok c.in-Route.is)
+          said-route _ c.loop-line.routes.items c.loop-line.number _ _ _ c.in-Some.ensures.steps is.said c.in-Route.route
+          (c.in_ok-parse_line.ensures ∙ ap Ok c.in-Route.is)
           ∙ ap (λ rs. with_routes rs (reading (c.loop-line.number + 1) c.next.new.self)) (sym c.in_ok-push-in-Route.ensures.items);
     }
 
 pub returns-in-Cost : goal.returns-in-Cost
 returns-in-Cost c =
-    said-cost _ c.loop-line.routes.items c.loop-line.number _ _ _ c.in-Some.ensures.steps c.loop-line.invariant.said c.in-Cost.cost (c.in_ok-parse_line.ensures ∙ ap Ok c.in-Cost.is)
+    said-cost _ c.loop-line.routes.items c.loop-line.number _ _ _ c.in-Some.ensures.steps c.loop-line.invariant.said c.in-Cost.cost
+    (c.in_ok-parse_line.ensures ∙ ap Ok c.in-Cost.is)
     ∙ ap (λ rs. Ok (record { routes = rs; cost = c.in-Cost.cost })) (sym c.from.ensures)
 
 pub returns : goal.returns

@@ -1,9 +1,9 @@
+-- The routes so far, with what the lines to come say, are what all lines say; and no line has a number above the text's length.
 use Rattle.std.proofs.Common.{◌≡◌, ◌+◌, ◌≤◌, length}
 use Rattle.text_lines.specs.Lines.{lines_of}
 use Rattle.sol_text.specs.Reading.{reading, with_routes}
 use Rattle.sol_text.proofs.read.read_lines.Given as goal
 
--- the routes so far, and what the lines to come say, are what all lines say
 abbrev pub invariant-loop-line : goal.invariant-loop-line
 invariant-loop-line l = record {
   few : l.number + length l.line-iterator ≤ length l.text;

@@ -1,3 +1,4 @@
+-- What the lines say, one after the other, is the one solution that the text spells, or else the text's first fault.
 use Rattle.std.proofs.Common.{◌≡◌, ◌∙◌, ◌⊎◌, ℕ, List, Result, Ok, Err, sym, inl, inr, IfOk, IfErr}
 use Rattle.text_lines.specs.Lines.{lines_of}
 use Rattle.sol_text.specs.Reading.{Gives, reading}

@@ -1,8 +1,8 @@
+-- The text so far, and that of the used routes to come, is that of all used routes; their numbers rise by at most one for each route.
 use Rattle.std.proofs.Common.{◌≡◌, ◌≤◌, ◌+◌, ◌++◌, drop}
 use Rattle.sol_text.specs.Written.{used_routes, routes_text}
 use Rattle.sol_text.proofs.write.write_routes.Given as goal
 
--- the text so far and that of the routes to come
 abbrev pub invariant-loop-route : goal.invariant-loop-route
 invariant-loop-route l = record {
   few : l.number ≤ l.route-index + 1;
