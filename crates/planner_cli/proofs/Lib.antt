@@ -1,3 +1,4 @@
+-- The lemma files, which upper crates may cite.
 pub mod DoubtLemmas
 pub mod OkLemmas
 pub mod OpenLemmas

@@ -1,3 +1,4 @@
+-- What is proved of recovery and of stopped servings holds of runs, whole or behind their opening: no acknowledged command is lost, nor an answered one.
 use Rattle.planner_cli.proofs.StopLemmas.{input_read, run_headline, run_keeps_answers, served_run_headline, served_run_keeps_answers}
 use Rattle.planner_cli.proofs.laws.stopped_runs_recover.Goals as goal
 
