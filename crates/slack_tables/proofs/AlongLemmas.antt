@@ -34,7 +34,8 @@ pub load-next : (at : ℕ → Stop) (k : ℕ) → load_along at (k + 1) ≡ load
 unfolding load_along
 load-next at k =
     let demand : ℕ → ℤ = λ m. (at m).demand in
-    ap (λ xs. fold ◌+ℤ◌ (pos 0) xs) (map-range_with_len_more demand 1 k (k + 1) (omega arith)) ∙ fold_push ◌+ℤ◌ (pos 0) (map demand (range_with_len 1 k)) (demand (k + 1))
+    ap (λ xs. fold ◌+ℤ◌ (pos 0) xs) (map-range_with_len_more demand 1 k (k + 1) (omega arith))
+    ∙ fold_push ◌+ℤ◌ (pos 0) (map demand (range_with_len 1 k)) (demand (k + 1))
 
 pub length-first : (at : ℕ → Stop) → length_along at 0 ≡ 0
 unfolding length_along

@@ -68,7 +68,8 @@ limits-to p route nothing keeps = record {
         let next = load-next (place p route) (length route) in
         subst (λ k. load_along (place p route) k ≤ℤ pos p.capacity) end (omega (arith, ints))
 
-    window-by : p.kind ≡ LiLim → (k : ℕ) → 1 ≤ k → (k < length route + 1) ⊎ (length route + 1 ≤ k) → k ≤ length route + 1 → start_along (place p route) k ≤ (place p route k).latest
+    window-by : p.kind ≡ LiLim → (k : ℕ) → 1 ≤ k → (k < length route + 1) ⊎ (length route + 1 ≤ k) → k ≤ length route + 1
+        → start_along (place p route) k ≤ (place p route k).latest
     window-by lilim k h (inl before) l = subst (λ x. x ≤ (place p route k).latest) (start-is p route k) (keeps.window lilim k h (omega arith))
     window-by lilim k h (inr last) l =
         let end : length route + 1 ≡ k = omega arith in

@@ -35,11 +35,16 @@ module _ (a b : ℕ → Stop) (n : ℕ) (same : (k : ℕ) → k ≤ n → b k �
   pub kept-same : (kind : Kind) (capacity : ℕ) → IsInLimits kind capacity a n → IsInLimits kind capacity b n
   kept-same kind capacity is = record {
     load = λ k h j. subst (λ x. x ≤ℤ pos capacity) (sym (same-load a b n same k j)) (is.load k h j);
-    window = λ lilim k h j. (let start = same-start a b n same k j in let stop : (b k).latest ≡ (a k).latest = ap (λ s. s.latest) (same k j) in let le = is.window lilim k h j in omega arith);
+    window = λ lilim k h j.
+        (let start = same-start a b n same k j in
+        let stop : (b k).latest ≡ (a k).latest = ap (λ s. s.latest) (same k j) in
+        let le = is.window lilim k h j in
+        omega arith);
   }
 
 -- ---- the table of a route
-module _ (p : Instance) (c : Course) (places : List Row) (table : AreKnown c places) (course : IsCourseIn p c) (route : List ℕ) (n : ℕ) (d : Row) (within : n + 1 < length places) (front : IsFront places route n) where
+module _ (p : Instance) (c : Course) (places : List Row) (table : AreKnown c places) (course : IsCourseIn p c) (route : List ℕ) (n : ℕ)
+    (d : Row) (within : n + 1 < length places) (front : IsFront places route n) where
   on : place p (route_of c) ≡ stop_on c
   on = places-on p (route_of c) c course
 
@@ -48,8 +53,10 @@ module _ (p : Instance) (c : Course) (places : List Row) (table : AreKnown c pla
   same-number k h =
       let stop : (get_or places (k + 1) d).at.stop ≡ stop_on c (k + 1) = (table.known (k + 1) d (omega arith)).at.stop in
       let next : stop_on c (k + 1) ≡ get_or c.stops k c.depot = ap (stop_on c) (add-one k) in
-      let read : get_or (route_of c) k c.depot.number ≡ (get_or c.stops k c.depot).number = get_or-map (λ (s : Stop). s.number) c.stops k c.depot c.depot.number (omega arith) in
-      let default : get_or (route_of c) k 0 ≡ get_or (route_of c) k c.depot.number = get_or_default (route_of c) k 0 c.depot.number (omega (arith, length-map c.stops (λ (s : Stop). s.number))) in
+      let read : get_or (route_of c) k c.depot.number ≡ (get_or c.stops k c.depot).number =
+      get_or-map (λ (s : Stop). s.number) c.stops k c.depot c.depot.number (omega arith) in
+      let default : get_or (route_of c) k 0 ≡ get_or (route_of c) k c.depot.number =
+      get_or_default (route_of c) k 0 c.depot.number (omega (arith, length-map c.stops (λ (s : Stop). s.number))) in
       sym (front k d h) ∙ (ap (λ s. s.number) (stop ∙ next) ∙ (sym read ∙ sym default))
 
   same-place : (k : ℕ) → k ≤ n → place p route k ≡ stop_on c k
@@ -75,7 +82,10 @@ module _ (p : Instance) (c : Course) (places : List Row) (table : AreKnown c pla
       capacity = sym (ap (λ (q : Course). q.capacity) course)
 
       kept-fewer-to : (m : ℕ) → m ≤ length c.stops + 1 → IsInLimits p.kind p.capacity (stop_on c) m
-      kept-fewer-to m h = subst (λ x. IsInLimits x p.capacity (stop_on c) m) kind (subst (λ x. IsInLimits c.kind x (stop_on c) m) capacity (kept-fewer (record { kind = c.kind; capacity = c.capacity }) (stop_on c) m (length c.stops + 1) h table.limits))
+      kept-fewer-to m h =
+          subst (λ x. IsInLimits x p.capacity (stop_on c) m) kind
+          (subst (λ x. IsInLimits c.kind x (stop_on c) m) capacity
+          (kept-fewer (record { kind = c.kind; capacity = c.capacity }) (stop_on c) m (length c.stops + 1) h table.limits))
 
 pub knows-fronts : (p : Instance) (c : Course) (places : List Row) → AreKnown c places → IsCourseIn p c → KnowsFronts p places
 knows-fronts p c places table course = λ route n d within front. has-come p c places table course route n d within front
@@ -96,7 +106,8 @@ module _ (p : Instance) (c : Course) (places : List Row) (table : AreKnown c pla
   unfolding place
   as-place route k = ap (λ m. stop_numbered p (get_or (0 ∷ route) m 0)) (sym (add-one k))
 
-  pub stop-at : (route : List ℕ) (n k : ℕ) (d : Row) → n < length places → (get_or places n d).at.stop.number ≡ get_or route k 0 → IsStopAt p route (k + 1) (get_or places n d).at.stop
+  pub stop-at : (route : List ℕ) (n k : ℕ) (d : Row) → n < length places → (get_or places n d).at.stop.number ≡ get_or route k 0
+      → IsStopAt p route (k + 1) (get_or places n d).at.stop
   stop-at route n k d within same =
       let on : (get_or places n d).at.stop ≡ stop_on c n = (table.known n d within).at.stop in
       record {
@@ -108,7 +119,8 @@ pub knows-stops : (p : Instance) (c : Course) (places : List Row) → AreKnown c
 knows-stops p c places table course = λ route n k d depot within same. stop-at p c places table course depot route n k d within same
 
 -- before its first stop
-pub come-begin : (p : Instance) (route : List ℕ) (n : ℕ) (depot : Stop) (a : Progress) → n ≡ 0 → depot ≡ p.depot → IsVisit depot → a ≡ leaving depot → HasCome p route n a
+pub come-begin : (p : Instance) (route : List ℕ) (n : ℕ) (depot : Stop) (a : Progress) → n ≡ 0 → depot ≡ p.depot → IsVisit depot
+    → a ≡ leaving depot → HasCome p route n a
 come-begin p route n depot a none is visit made = subst (λ m. HasCome p route m a) (sym none) (record {
   at = at-begin (place p route) depot a (place-first p route ∙ sym is) made;
   within = within-begin depot a visit made;

@@ -1,5 +1,6 @@
 -- Stops put into a route: what the code finds is by how much the new route is longer, where it keeps its limits.
-use Rattle.std.proofs.Common.{◌≡◌, ◌≢◌, ℕ, zero, suc, ◌+◌, ◌-◌, ◌<◌, ◌≤◌, Bool, true, false, eqb, cond, ℤ, pos, ◌+ℤ◌, List, [], ◌∷◌, get_or, length, Option, Some, None, refl, sym, ap, ◌∙◌, arith, add-one, subst}
+use Rattle.std.proofs.Common.{◌≡◌, ◌≢◌, ℕ, zero, suc, ◌+◌, ◌-◌, ◌<◌, ◌≤◌, Bool, true, false, eqb, cond, ℤ, pos}
+use Rattle.std.proofs.Common.{◌+ℤ◌, List, [], ◌∷◌, get_or, length, Option, Some, None, refl, sym, ap, ◌∙◌, arith, add-one, subst}
 use Rattle.std.specs.Prelude.{IsSome, nat_eq}
 use Rattle.std.specs.List.{AllByRecursion, insert}
 use Rattle.std.specs.Map.{lookup}
@@ -45,36 +46,48 @@ module _ (c : Course) (places : List Row) (table : AreKnown c places) (b : ℕ �
     front-in = kept-same (stop_on c) b m front c.kind c.capacity (kept-fewer (limits_of c) (stop_on c) m (length c.stops + 1) (omega arith) table.limits)
 
   -- a stop at place j of the new route, then place n of the table and all behind it
-  rest-is : (j n l : ℕ) (d : Row) (at : Progress) (s : Stop) → 1 ≤ j → n ≤ length c.stops + 1 → l ≡ j + 1 + (length c.stops + 1 - n) → b j ≡ s → ((k : ℕ) → b (j + 1 + k) ≡ stop_on c (n + k)) → IsAt b (j - 1) at → In (limits_of c) b (j - 1) → IsEnd l (with_stop (limits_of c) at s (get_or places n d))
+  rest-is : (j n l : ℕ) (d : Row) (at : Progress) (s : Stop) → 1 ≤ j → n ≤ length c.stops + 1 → l ≡ j + 1 + (length c.stops + 1 - n)
+      → b j ≡ s → ((k : ℕ) → b (j + 1 + k) ≡ stop_on c (n + k)) → IsAt b (j - 1) at → In (limits_of c) b (j - 1)
+      → IsEnd l (with_stop (limits_of c) at s (get_or places n d))
   rest-is j n l d at s one h end here same is kept =
       let rest = length c.stops + 1 - n in
       let total : n + rest ≡ length c.stops + 1 = omega arith in
-      let known : IsKnown c.kind (stop_on c) (n + rest) n (get_or places n d) = subst (λ q. IsKnown c.kind (stop_on c) q n (get_or places n d)) (sym total) (table.known n d (omega arith)) in
+      let known : IsKnown c.kind (stop_on c) (n + rest) n (get_or places n d) =
+      subst (λ q. IsKnown c.kind (stop_on c) q n (get_or places n d)) (sym total) (table.known n d (omega arith)) in
       let small : IsSmallRow (get_or places n d) = table.small n d (omega arith) in
       let late : (get_or places n d).at.stop.latest ≡ (stop_on c n).latest = ap (λ s. s.latest) (known.at.stop) in
-      let is_end = stop-is (limits_of c) (stop_on c) b n (j + 1) rest same (get_or places n d) known (omega arith) (j - 1) at s (omega arith) is kept (sym here ∙ ap b (sym (omega arith))) in
+      let is_end = stop-is (limits_of c) (stop_on c) b n (j + 1) rest same (get_or places n d) known (omega arith) (j - 1) at s
+      (omega arith) is kept (sym here ∙ ap b (sym (omega arith))) in
       subst (λ q. EndIs (limits_of c) b l (length_along (stop_on c) q) (with_stop (limits_of c) at s (get_or places n d))) total
       (subst (λ q. EndIs (limits_of c) b q (length_along (stop_on c) (n + rest)) (with_stop (limits_of c) at s (get_or places n d))) (sym end) is_end)
 
-  pub single-is : (i : ℕ) (s : Stop) (d : Row) → 1 ≤ i → i ≤ length c.stops + 1 → ((k : ℕ) → k ≤ i - 1 → b k ≡ stop_on c k) → b i ≡ s → ((k : ℕ) → b (i + 1 + k) ≡ stop_on c (i + k)) → IsEnd (length c.stops + 2) (with_single (limits_of c) places s i d)
+  pub single-is : (i : ℕ) (s : Stop) (d : Row) → 1 ≤ i → i ≤ length c.stops + 1 → ((k : ℕ) → k ≤ i - 1 → b k ≡ stop_on c k) → b i ≡ s
+      → ((k : ℕ) → b (i + 1 + k) ≡ stop_on c (i + k)) → IsEnd (length c.stops + 2) (with_single (limits_of c) places s i d)
   single-is i s d one most front here behind =
-      rest-is i i (length c.stops + 2) d (get_or places (i - 1) d).at s one most (omega arith) here behind (front-at (i - 1) front (omega arith) d) (front-in (i - 1) front (omega arith))
+      rest-is i i (length c.stops + 2) d (get_or places (i - 1) d).at s one most (omega arith) here behind
+      (front-at (i - 1) front (omega arith) d) (front-in (i - 1) front (omega arith))
 
   -- the pickup at place i, then n places of the table
-  walked-is : (i n : ℕ) (p : Stop) (d : Row) → 1 ≤ i → i + n ≤ length c.stops + 1 → ((k : ℕ) → k ≤ i - 1 → b k ≡ stop_on c k) → b i ≡ p → ((k : ℕ) → k < n → b (i + 1 + k) ≡ stop_on c (i + k)) → WalkIs (limits_of c) b (i + n) (walked (limits_of c) places p i d n)
+  walked-is : (i n : ℕ) (p : Stop) (d : Row) → 1 ≤ i → i + n ≤ length c.stops + 1 → ((k : ℕ) → k ≤ i - 1 → b k ≡ stop_on c k) → b i ≡ p
+      → ((k : ℕ) → k < n → b (i + 1 + k) ≡ stop_on c (i + k)) → WalkIs (limits_of c) b (i + n) (walked (limits_of c) places p i d n)
   unfolding WalkIs
   walked-is i zero p d one most front first middle =
       subst (λ k. WalkIs (limits_of c) b k (walked (limits_of c) places p i d 0)) (omega arith)
-      (walk-on (limits_of c) b (i - 1) (Some (get_or places (i - 1) d).at) p (front-at (i - 1) front (omega arith) d, front-in (i - 1) front (omega arith)) (sym (ap b (omega arith) ∙ first)))
+      (walk-on (limits_of c) b (i - 1) (Some (get_or places (i - 1) d).at) p
+      (front-at (i - 1) front (omega arith) d, front-in (i - 1) front (omega arith)) (sym (ap b (omega arith) ∙ first)))
   walked-is i (suc n) p d one most front first middle =
       subst (λ k. WalkIs (limits_of c) b k (walked (limits_of c) places p i d (suc n))) (omega arith)
-      (walk-on (limits_of c) b (i + n) (walked (limits_of c) places p i d n) (get_or places (i + n) d).at.stop (walked-is i n p d one (omega arith) front first (λ k h. middle k (omega arith)))
+      (walk-on (limits_of c) b (i + n) (walked (limits_of c) places p i d n) (get_or places (i + n) d).at.stop
+      (walked-is i n p d one (omega arith) front first (λ k h. middle k (omega arith)))
       ((table.known (i + n) d (omega arith)).at.stop ∙ sym (ap b (omega arith) ∙ middle n (omega arith))))
 
-  pub pair-is : (i j : ℕ) (p q : Stop) (d : Row) → 1 ≤ i → i < j → j ≤ length c.stops + 2 → ((k : ℕ) → k ≤ i - 1 → b k ≡ stop_on c k) → b i ≡ p → ((k : ℕ) → i + 1 + k < j → b (i + 1 + k) ≡ stop_on c (i + k)) → b j ≡ q → ((k : ℕ) → b (j + 1 + k) ≡ stop_on c (j - 1 + k)) → IsEnd (length c.stops + 3) (with_pair (limits_of c) places p q i j d)
+  pub pair-is : (i j : ℕ) (p q : Stop) (d : Row) → 1 ≤ i → i < j → j ≤ length c.stops + 2 → ((k : ℕ) → k ≤ i - 1 → b k ≡ stop_on c k)
+      → b i ≡ p → ((k : ℕ) → i + 1 + k < j → b (i + 1 + k) ≡ stop_on c (i + k)) → b j ≡ q
+      → ((k : ℕ) → b (j + 1 + k) ≡ stop_on c (j - 1 + k)) → IsEnd (length c.stops + 3) (with_pair (limits_of c) places p q i j d)
   unfolding walk_to
   pair-is i j p q d one order most front first middle second behind =
-      let walk = subst (λ k. WalkIs (limits_of c) b k (walked (limits_of c) places p i d (j - (i + 1)))) (omega arith) (walked-is i (j - (i + 1)) p d one (omega arith) front first (λ k h. middle k (omega arith))) in
+      let walk = subst (λ k. WalkIs (limits_of c) b k (walked (limits_of c) places p i d (j - (i + 1)))) (omega arith)
+      (walked-is i (j - (i + 1)) p d one (omega arith) front first (λ k h. middle k (omega arith))) in
       end-then (limits_of c) b (j - 1) (length c.stops + 3) _ _ (λ at. with_stop (limits_of c) at q (get_or places (j - 1) d)) (omega arith) walk
       (λ at is kept. rest-is j (j - 1) (length c.stops + 3) d at q (omega arith) (omega arith) (omega arith) second behind is kept)
 
@@ -90,7 +103,10 @@ insert-at p route m x within = rw (add-one m) (ap (stop_numbered p) (get_or-inse
 
 insert-behind : (p : Instance) (route : List ℕ) (m x k : ℕ) → m ≤ length route → m ≤ k → place p (insert route m x) (k + 1 + 1) ≡ place p route (k + 1)
 unfolding place
-insert-behind p route m x k within h = rw (add-one (k + 1), add-one k) (ap (stop_numbered p) (subst (λ i. get_or (insert route m x) i 0 ≡ get_or route k 0) (add-one k) (get_or-insert_above route m x 0 k h within)))
+insert-behind p route m x k within h =
+    rw (add-one (k + 1), add-one k)
+    (ap (stop_numbered p)
+    (subst (λ i. get_or (insert route m x) i 0 ≡ get_or route k 0) (add-one k) (get_or-insert_above route m x 0 k h within)))
 
 -- the stop of a live request under its number
 numbered-is : (p : Instance) (s : Stop) → IsStop s → stop_at p s.number ≡ Some s → stop_numbered p s.number ≡ s
@@ -103,7 +119,10 @@ valid-among name [] r valid is = absurd (cc)
 valid-among name (e ∷ es) r valid is = by (eqb name e.0) refl (λ found. valid-among name es r valid.1 found)
   where
     by : (t : Bool) → eqb name e.0 ≡ t → (lookup (nat_eq name) es ≡ Some r → IsRequest r) → IsRequest r
-    by true h later = let same : Some e.1 ≡ Some r = subst (λ t. cond t (Some e.1) (lookup (nat_eq name) es) ≡ Some r) h is in let one : e.1 ≡ r = cc in subst IsRequest one valid.0
+    by true h later =
+        let same : Some e.1 ≡ Some r = subst (λ t. cond t (Some e.1) (lookup (nat_eq name) es) ≡ Some r) h is in
+        let one : e.1 ≡ r = cc in
+        subst IsRequest one valid.0
     by false h later = later (subst (λ t. cond t (Some e.1) (lookup (nat_eq name) es) ≡ Some r) h is)
 
 pub request-valid : (p : Instance) (name : ℕ) (r : Request) → IsInstance p → request_named p name ≡ Some r → IsRequest r
@@ -119,7 +138,8 @@ pub delivery-found : (p d : Stop) → p.number ≢ d.number → stop_in d.number
 delivery-found p d apart = rw (ne_eqb p.number d.number apart, eq-eqb d.number d.number refl) refl
 
 -- a stop that the request has stands in the problem under its number
-pub stands : (p : Instance) (name : ℕ) (r : Request) (s : Stop) → NamedAreFound → IsInstance p → request_named p name ≡ Some r → IsStop s → stop_in s.number r ≡ Some s → stop_numbered p s.number ≡ s
+pub stands : (p : Instance) (name : ℕ) (r : Request) (s : Stop) → NamedAreFound → IsInstance p → request_named p name ≡ Some r
+    → IsStop s → stop_in s.number r ≡ Some s → stop_numbered p s.number ≡ s
 stands p name r s law valid named stop own =
     numbered-is p s stop ((law p s.number name r valid named (subst (λ o. IsSome o) (sym own) refl)).stop ∙ own)
 
@@ -142,16 +162,25 @@ module _ (p : Instance) (c : Course) (places : List Row) (table : AreKnown c pla
 
   added-is : (new : List ℕ) (l : ℕ) (o : Option ℤ) → l ≡ length new + 1 → IsEnd c places table (place p new) l o → IsAdded p (route_of c) new o
   unfolding EndIs
-  added-is new l None end never = λ keeps. never (subst (λ l. IsInLimits c.kind c.capacity (place p new) l) (sym end) (subst (λ q. IsInLimits c.kind q (place p new) (length new + 1)) same_capacity (subst (λ q. IsInLimits q p.capacity (place p new) (length new + 1)) same_kind (limits-to p new valid.depot.demand keeps))))
+  added-is new l None end never = λ keeps.
+      never (subst (λ l. IsInLimits c.kind c.capacity (place p new) l) (sym end)
+      (subst (λ q. IsInLimits c.kind q (place p new) (length new + 1)) same_capacity
+      (subst (λ q. IsInLimits q p.capacity (place p new) (length new + 1)) same_kind (limits-to p new valid.depot.demand keeps))))
   added-is new l (Some added) end found =
       let keeps : IsInLimits c.kind c.capacity (place p new) (length new + 1) = subst (λ l. IsInLimits c.kind c.capacity (place p new) l) end found.0 in
-      let by_capacity : IsInLimits c.kind p.capacity (place p new) (length new + 1) = subst (λ q. IsInLimits c.kind q (place p new) (length new + 1)) (sym same_capacity) keeps in
-      let by_kind : IsInLimits p.kind p.capacity (place p new) (length new + 1) = subst (λ q. IsInLimits q p.capacity (place p new) (length new + 1)) (sym same_kind) by_capacity in
+      let by_capacity : IsInLimits c.kind p.capacity (place p new) (length new + 1) =
+      subst (λ q. IsInLimits c.kind q (place p new) (length new + 1)) (sym same_capacity) keeps in
+      let by_kind : IsInLimits p.kind p.capacity (place p new) (length new + 1) =
+      subst (λ q. IsInLimits q p.capacity (place p new) (length new + 1)) (sym same_kind) by_capacity in
       let far : length_along (place p new) l ≡ route_length p new = ap (length_along (place p new)) end ∙ sym (length-is p new) in
-      let near : length_along (stop_on c) (length c.stops + 1) ≡ route_length p (route_of c) = ap (λ f. length_along f (length c.stops + 1)) (sym on_course) ∙ (ap (λ n. length_along (place p (route_of c)) (n + 1)) long ∙ sym (length-is p (route_of c))) in
+      let near : length_along (stop_on c) (length c.stops + 1) ≡ route_length p (route_of c) =
+      ap (λ f. length_along f (length c.stops + 1)) (sym on_course)
+      ∙ (ap (λ n. length_along (place p (route_of c)) (n + 1)) long ∙ sym (length-is p (route_of c))) in
       (limits-from p new by_kind, ap pos (sym far) ∙ (found.1 ∙ ap (λ n. pos n +ℤ added) near))
 
-  pub single-added : (law : NamedAreFound) (name i j : ℕ) (s : Stop) (d : Row) (o : Option ℤ) → request_named p name ≡ Some (Single s) → ArePlaces (Single s) (length (route_of c)) i j → o ≡ with_single (limits_of c) places s i d → IsAdded p (route_of c) (inserted (Single s) i j (route_of c)) o
+  pub single-added : (law : NamedAreFound) (name i j : ℕ) (s : Stop) (d : Row) (o : Option ℤ) → request_named p name ≡ Some (Single s)
+      → ArePlaces (Single s) (length (route_of c)) i j → o ≡ with_single (limits_of c) places s i d
+      → IsAdded p (route_of c) (inserted (Single s) i j (route_of c)) o
   single-added law name i j s d o named are made =
       let stop = request-valid p name (Single s) valid named in
       let own : stop_numbered p s.number ≡ s = stands p name (Single s) s law valid named stop.0 (single-found s) in
@@ -162,11 +191,15 @@ module _ (p : Instance) (c : Course) (places : List Row) (table : AreKnown c pla
       (λ k h. insert-before p (route_of c) (i - 1) s.number k fits h ∙ at-course k)
       (let at : i - 1 + 1 ≡ i = omega arith in ap (place p new) (sym at) ∙ (insert-at p (route_of c) (i - 1) s.number fits ∙ own))
       (λ k. (let here : i + 1 + k ≡ (i - 1 + k) + 1 + 1 = omega arith in let there : (i - 1 + k) + 1 ≡ i + k = omega arith in
-      ap (place p new) here ∙ (insert-behind p (route_of c) (i - 1) s.number (i - 1 + k) fits (omega arith) ∙ (ap (place p (route_of c)) there ∙ at-course (i + k))))) in
+      ap (place p new) here
+      ∙ (insert-behind p (route_of c) (i - 1) s.number (i - 1 + k) fits (omega arith)
+      ∙ (ap (place p (route_of c)) there ∙ at-course (i + k))))) in
       added-is new (length c.stops + 2) o (omega (arith, long, length-insert (route_of c) (i - 1) s.number fits))
       (subst (IsEnd c places table (place p new) (length c.stops + 2)) (sym made) end)
 
-  pub pair-added : (law : NamedAreFound) (name i j : ℕ) (s t : Stop) (d : Row) (o : Option ℤ) → request_named p name ≡ Some (Pair s t) → ArePlaces (Pair s t) (length (route_of c)) i j → o ≡ with_pair (limits_of c) places s t i j d → IsAdded p (route_of c) (inserted (Pair s t) i j (route_of c)) o
+  pub pair-added : (law : NamedAreFound) (name i j : ℕ) (s t : Stop) (d : Row) (o : Option ℤ) → request_named p name ≡ Some (Pair s t)
+      → ArePlaces (Pair s t) (length (route_of c)) i j → o ≡ with_pair (limits_of c) places s t i j d
+      → IsAdded p (route_of c) (inserted (Pair s t) i j (route_of c)) o
   pair-added law name i j s t d o named are made =
       let request = request-valid p name (Pair s t) valid named in
       let pickup : stop_numbered p s.number ≡ s = stands p name (Pair s t) s law valid named request.0 (pickup-found s t) in
@@ -181,13 +214,21 @@ module _ (p : Instance) (c : Course) (places : List Row) (table : AreKnown c pla
       let end = pair-is c places table (place p new) i j s t d one order (omega (arith, long))
       (λ k h. insert-before p inner (j - 1) t.number k fits_inner (omega arith) ∙ (insert-before p (route_of c) (i - 1) s.number k fits h ∙ at-course k))
       (let at : i - 1 + 1 ≡ i = omega arith in
-      insert-before p inner (j - 1) t.number i fits_inner (omega arith) ∙ (ap (place p inner) (sym at) ∙ (insert-at p (route_of c) (i - 1) s.number fits ∙ pickup)))
+      insert-before p inner (j - 1) t.number i fits_inner (omega arith)
+      ∙ (ap (place p inner) (sym at) ∙ (insert-at p (route_of c) (i - 1) s.number fits ∙ pickup)))
       (λ k h. (let here : i + 1 + k ≡ (i - 1 + k) + 1 + 1 = omega arith in let there : (i - 1 + k) + 1 ≡ i + k = omega arith in
       insert-before p inner (j - 1) t.number (i + 1 + k) fits_inner (omega arith) ∙
-      (ap (place p inner) here ∙ (insert-behind p (route_of c) (i - 1) s.number (i - 1 + k) fits (omega arith) ∙ (ap (place p (route_of c)) there ∙ at-course (i + k))))))
+      (ap (place p inner) here
+      ∙ (insert-behind p (route_of c) (i - 1) s.number (i - 1 + k) fits (omega arith)
+      ∙ (ap (place p (route_of c)) there ∙ at-course (i + k))))))
       (let at : j - 1 + 1 ≡ j = omega arith in ap (place p new) (sym at) ∙ (insert-at p inner (j - 1) t.number fits_inner ∙ delivery))
-      (λ k. (let here : j + 1 + k ≡ (j - 1 + k) + 1 + 1 = omega arith in let there : (j - 1 + k) + 1 ≡ (j - 2 + k) + 1 + 1 = omega arith in let last_one : (j - 2 + k) + 1 ≡ j - 1 + k = omega arith in
+      (λ k.
+      (let here : j + 1 + k ≡ (j - 1 + k) + 1 + 1 = omega arith in
+      let there : (j - 1 + k) + 1 ≡ (j - 2 + k) + 1 + 1 = omega arith in
+      let last_one : (j - 2 + k) + 1 ≡ j - 1 + k = omega arith in
       ap (place p new) here ∙ (insert-behind p inner (j - 1) t.number (j - 1 + k) fits_inner (omega arith) ∙
-      (ap (place p inner) there ∙ (insert-behind p (route_of c) (i - 1) s.number (j - 2 + k) fits (omega arith) ∙ (ap (place p (route_of c)) last_one ∙ at-course (j - 1 + k))))))) in
+      (ap (place p inner) there
+      ∙ (insert-behind p (route_of c) (i - 1) s.number (j - 2 + k) fits (omega arith)
+      ∙ (ap (place p (route_of c)) last_one ∙ at-course (j - 1 + k))))))) in
       added-is new (length c.stops + 3) o (omega (arith, long, longer, length-insert inner (j - 1) t.number fits_inner))
       (subst (IsEnd c places table (place p new) (length c.stops + 3)) (sym made) end)

@@ -1,5 +1,6 @@
 -- What the two passes leave is what a table knows of each place.
-use Rattle.std.proofs.Common.{◌≡◌, ℕ, zero, suc, ◌+◌, ◌-◌, ◌^◌, ◌<◌, ◌≤◌, ◌⊎◌, ◌↔◌, min, ℤ, ◌≤ℤ◌, List, get_or, length, refl, sym, ap, ◌∙◌, arith, subst, inl, inr}
+use Rattle.std.proofs.Common.{◌≡◌, ℕ, zero, suc, ◌+◌, ◌-◌, ◌^◌, ◌<◌, ◌≤◌, ◌⊎◌, ◌↔◌, min}
+use Rattle.std.proofs.Common.{ℤ, ◌≤ℤ◌, List, get_or, length, refl, sym, ap, ◌∙◌, arith, subst, inl, inr}
 use Rattle.std.specs.Prelude.{unsigned_abs}
 use Rattle.std.specs.Int.{int_max}
 use Rattle.std.proofs.lemmas.Bool.{cases_lt}
@@ -21,8 +22,10 @@ module _ (kind : Kind) (capacity : ℕ) (stops : ℕ → Stop) (last : ℕ) (lim
   -- the schedule's own start goes on
   pub goes_on : (k : ℕ) → GoesOnAlong kind stops last k (start_along stops k)
   goes_on k = λ lilim j h l.
-      let spliced : start_along stops (k + (j - k)) ≡ moved_along stops k (start_along stops k) (k + (j - k)) = spliced-start stops stops k k (λ i. refl) (j - k) in
-      let same : start_along stops j ≡ moved_along stops k (start_along stops k) j = subst (λ i. start_along stops i ≡ moved_along stops k (start_along stops k) i) (sym (omega arith)) spliced in
+      let spliced : start_along stops (k + (j - k)) ≡ moved_along stops k (start_along stops k) (k + (j - k)) =
+      spliced-start stops stops k k (λ i. refl) (j - k) in
+      let same : start_along stops j ≡ moved_along stops k (start_along stops k) j =
+      subst (λ i. start_along stops i ≡ moved_along stops k (start_along stops k) i) (sym (omega arith)) spliced in
       let le = limits.window lilim j (omega arith) l in
       omega arith
 
@@ -68,7 +71,8 @@ module _ (kind : Kind) (capacity : ℕ) (stops : ℕ → Stop) (last : ℕ) (lim
           let e = opened last d (omega arith) in
           let is : get_or new k d ≡ get_or old last d = ap (λ i. get_or new i d) end ∙ end-is d in
           let limit : (get_or new k d).latest_start ≡ 18446744073709551615 = ap (λ x. x.latest_start) is ∙ e.latest_start in
-          let most : (get_or new k d).most_load ≡ load_along stops k = ap (λ x. x.most_load) is ∙ (e.most_load ∙ (e.at.load ∙ ap (load_along stops) (sym end))) in
+          let most : (get_or new k d).most_load ≡ load_along stops k =
+          ap (λ x. x.most_load) is ∙ (e.most_load ∙ (e.at.load ∙ ap (load_along stops) (sym end))) in
           let few : unsigned_abs (get_or old last d).most_load ≤ 2 ^ 50 = e.small.most_load in (
             record {
               at = at-known k d (omega arith);
@@ -82,10 +86,14 @@ module _ (kind : Kind) (capacity : ℕ) (stops : ℕ → Stop) (last : ℕ) (lim
             subst (λ x. unsigned_abs x.most_load ≤ 2 ^ 50) (sym is) few,
           )
 
-      latest-is : (k : ℕ) (d : Row) → kind ≡ LiLim → k < last → (get_or new k d).latest_start ≡ min (get_or new (k + 1) d).latest_start (stops (k + 1)).latest - stay stops k
+      latest-is : (k : ℕ) (d : Row) → kind ≡ LiLim → k < last
+          → (get_or new k d).latest_start ≡ min (get_or new (k + 1) d).latest_start (stops (k + 1)).latest - stay stops k
       latest-is k d lilim h =
-          let made : (get_or new k d).latest_start ≡ latest_before kind (get_or old k d) (get_or new (k + 1) d) = ap (λ x. x.latest_start) (filled.each k d (omega arith)) in
-          let by_kind : latest_before kind (get_or old k d) (get_or new (k + 1) d) ≡ latest_before LiLim (get_or old k d) (get_or new (k + 1) d) = ap (λ q. latest_before q (get_or old k d) (get_or new (k + 1) d)) lilim in
+          let made : (get_or new k d).latest_start ≡ latest_before kind (get_or old k d) (get_or new (k + 1) d) =
+          ap (λ x. x.latest_start) (filled.each k d (omega arith)) in
+          let by_kind : latest_before kind (get_or old k d) (get_or new (k + 1) d)
+          ≡ latest_before LiLim (get_or old k d) (get_or new (k + 1) d) =
+          ap (λ q. latest_before q (get_or old k d) (get_or new (k + 1) d)) lilim in
           let next = at-known (k + 1) d (omega arith) in
           let late : (get_or new (k + 1) d).at.stop.latest ≡ (stops (k + 1)).latest = ap (λ s. s.latest) (next.stop) in
           let far : (get_or new (k + 1) d).at.distance ≡ (get_or old (k + 1) d).at.distance = ap (λ a. a.distance) (same-at (k + 1) d (omega arith)) in
@@ -98,27 +106,37 @@ module _ (kind : Kind) (capacity : ℕ) (stops : ℕ → Stop) (last : ℕ) (lim
           let f = opened (k + 1) d (omega arith) in
           let known = next.0 in
           let visit = f.small.at.visit in
-          let latest : (stops (k + 1)).latest ≤ 100000000 = (let v = visit.latest in let s : (get_or old (k + 1) d).at.stop.latest ≡ (stops (k + 1)).latest = ap (λ s. s.latest) (f.at.stop) in omega arith) in
-          let most : (get_or new k d).most_load ≡ int_max (load_along stops k) (get_or new (k + 1) d).most_load = ap (λ x. x.most_load) (filled.each k d (omega arith)) ∙ ap (λ x. int_max x (get_or new (k + 1) d).most_load) (e.at.load) in
+          let latest : (stops (k + 1)).latest ≤ 100000000 =
+          (let v = visit.latest in
+          let s : (get_or old (k + 1) d).at.stop.latest ≡ (stops (k + 1)).latest = ap (λ s. s.latest) (f.at.stop) in
+          omega arith) in
+          let most : (get_or new k d).most_load ≡ int_max (load_along stops k) (get_or new (k + 1) d).most_load =
+          ap (λ x. x.most_load) (filled.each k d (omega arith)) ∙ ap (λ x. int_max x (get_or new (k + 1) d).most_load) (e.at.load) in
           let small : unsigned_abs (load_along stops k) ≤ 2 ^ 50 = subst (λ x. unsigned_abs x ≤ 2 ^ 50) (e.at.load) (e.small.at.load) in (
             record {
               at = at-known k d (omega arith);
               latest_start = λ lilim t few.
                   (let start = start-next stops k in
                   let window = limits.window lilim (k + 1) (omega arith) (omega arith) in
-                  let fits : start_along stops (k + 1) ≤ (get_or new (k + 1) d).latest_start = (known.latest_start lilim (start_along stops (k + 1)) (omega arith)).0 (goes_on (k + 1)) in
-                  let bound = bound-before kind stops last k (get_or new (k + 1) d).latest_start (start_along stops (k + 1)) lilim h (λ u v. known.latest_start lilim u v) (omega arith) fits window latest (omega arith) t few in
+                  let fits : start_along stops (k + 1) ≤ (get_or new (k + 1) d).latest_start =
+                  (known.latest_start lilim (start_along stops (k + 1)) (omega arith)).0 (goes_on (k + 1)) in
+                  let bound = bound-before kind stops last k (get_or new (k + 1) d).latest_start (start_along stops (k + 1)) lilim h
+                  (λ u v. known.latest_start lilim u v) (omega arith) fits window latest (omega arith) t few in
                   subst (λ x. GoesOnAlong kind stops last k t ↔ (t ≤ x)) (sym (latest-is k d lilim h)) bound);
               limit = λ lilim _. omega (arith, latest-is k d lilim h);
               most_load = λ c. (
                 (λ le m j l. by c le m j l (cases_lt k m) most),
-                (λ each. subst (λ x. x ≤ℤ c) (sym most) (let here = each k (omega arith) (omega arith) in let behind = (known.most_load c).1 (λ m j l. each m (omega arith) l) in omega (arith, ints, clamps))),
+                (λ each. subst (λ x. x ≤ℤ c) (sym most)
+                    (let here = each k (omega arith) (omega arith) in
+                    let behind = (known.most_load c).1 (λ m j l. each m (omega arith) l) in
+                    omega (arith, ints, clamps))),
               );
             },
             subst (λ x. unsigned_abs x ≤ 2 ^ 50) (sym most) (let behind = next.1 in omega (arith, ints, clamps)),
           )
         where
-          by : (c : ℤ) → (get_or new k d).most_load ≤ℤ c → (m : ℕ) → k ≤ m → m ≤ last → (k < m) ⊎ (m ≤ k) → (get_or new k d).most_load ≡ int_max (load_along stops k) (get_or new (k + 1) d).most_load → load_along stops m ≤ℤ c
+          by : (c : ℤ) → (get_or new k d).most_load ≤ℤ c → (m : ℕ) → k ≤ m → m ≤ last → (k < m) ⊎ (m ≤ k)
+              → (get_or new k d).most_load ≡ int_max (load_along stops k) (get_or new (k + 1) d).most_load → load_along stops m ≤ℤ c
           by c le m j l (inl after) most = (next.0.most_load c).0 (omega (arith, ints, clamps)) m (omega arith) l
           by c le m j l (inr first) most = let same : k ≡ m = omega arith in subst (λ i. load_along stops i ≤ℤ c) same (omega (arith, ints, clamps))
 

@@ -29,7 +29,9 @@ moved-behind at i t (suc n) =
     let more : i + 1 + suc n ≡ i + 1 + n + 1 = omega arith in
     let before : moved_along at i t (i + 1 + n) ≡ moved_along at (i + 1) (arrival at i t) (i + 1 + n) = moved-behind at i t n in
     let step : moved_along at i t (i + 1 + n + 1) ≡ moved_along at (i + 1) (arrival at i t) (i + 1 + n + 1) =
-    moved-next at i t (i + 1 + n) (omega arith) ∙ (ap (λ u. max (at (i + 1 + n + 1)).earliest (u + stay at (i + 1 + n))) before ∙ sym (moved-next at (i + 1) (arrival at i t) (i + 1 + n) (omega arith))) in
+    moved-next at i t (i + 1 + n) (omega arith)
+    ∙ (ap (λ u. max (at (i + 1 + n + 1)).earliest (u + stay at (i + 1 + n))) before
+    ∙ sym (moved-next at (i + 1) (arrival at i t) (i + 1 + n) (omega arith))) in
     rw more step
 
 pub moved-from : (at : ℕ → Stop) (i t k : ℕ) → i < k → moved_along at i t k ≡ moved_along at (i + 1) (arrival at i t) k
@@ -38,7 +40,8 @@ moved-from at i t k h =
 
 module _ (kind : Kind) (at : ℕ → Stop) (last : ℕ) where
   -- a start goes on where the next one is in time and goes on
-  pub goes_on-next : (i t : ℕ) → kind ≡ LiLim → i < last → GoesOnAlong kind at last i t → (arrival at i t ≤ (at (i + 1)).latest) × GoesOnAlong kind at last (i + 1) (arrival at i t)
+  pub goes_on-next : (i t : ℕ) → kind ≡ LiLim → i < last → GoesOnAlong kind at last i t
+      → (arrival at i t ≤ (at (i + 1)).latest) × GoesOnAlong kind at last (i + 1) (arrival at i t)
   goes_on-next i t lilim h goes =
       let here = goes lilim (i + 1) (omega arith) (omega arith) in
       let is = moved-arrival at i t in
@@ -49,7 +52,9 @@ module _ (kind : Kind) (at : ℕ → Stop) (last : ℕ) where
       let same = moved-from at i t k h in
       elim (cases_lt (i + 1) k) [
         | inl j ↦ (let there = goes lilim k j l in omega arith)
-        | inr j ↦ (let is = moved-arrival at i t in let end : k ≡ i + 1 = omega arith in subst (λ k. moved_along at i t k ≤ (at k).latest) (sym end) (omega arith))
+        | inr j ↦ (let is = moved-arrival at i t in
+            let end : k ≡ i + 1 = omega arith in
+            subst (λ k. moved_along at i t k ≤ (at k).latest) (sym end) (omega arith))
       ]
 
   -- what one place lets be the latest start
@@ -57,7 +62,9 @@ module _ (kind : Kind) (at : ℕ → Stop) (last : ℕ) where
   IsBound i limit = (t : ℕ) → t ≤ 2 ^ 60 → GoesOnAlong kind at last i t ↔ (t ≤ limit)
 
   -- behind the last place nothing is missed
-  pub bound-before : (i limit start : ℕ) → kind ≡ LiLim → i < last → IsBound (i + 1) limit → (at (i + 1)).earliest ≤ start → start ≤ limit → start ≤ (at (i + 1)).latest → (at (i + 1)).latest ≤ 100000000 → stay at i ≤ start → IsBound i (min limit (at (i + 1)).latest - stay at i)
+  pub bound-before : (i limit start : ℕ) → kind ≡ LiLim → i < last → IsBound (i + 1) limit → (at (i + 1)).earliest ≤ start
+      → start ≤ limit → start ≤ (at (i + 1)).latest → (at (i + 1)).latest ≤ 100000000 → stay at i ≤ start
+      → IsBound i (min limit (at (i + 1)).latest - stay at i)
   unfolding IsBound arrival
   bound-before i limit start lilim h next early fits window late long = λ t few. (
     (λ goes.

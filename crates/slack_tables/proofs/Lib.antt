@@ -1,3 +1,4 @@
+-- The lemma files, which upper crates may cite.
 pub mod AlongLemmas
 pub mod BestLemmas
 pub mod CourseLemmas

@@ -1,5 +1,6 @@
 -- The places of a route, one after another on the way forward.
-use Rattle.std.proofs.Common.{◌≡◌, ℕ, ◌+◌, ◌^◌, ◌<◌, ◌≤◌, ◌⊎◌, List, get_or, length, refl, sym, ap, ◌∙◌, arith, subst, inl, inr, set, length-set, get_or-set_same, get_or-set_other}
+use Rattle.std.proofs.Common.{◌≡◌, ℕ, ◌+◌, ◌^◌, ◌<◌, ◌≤◌, ◌⊎◌, List, get_or, length, refl}
+use Rattle.std.proofs.Common.{sym, ap, ◌∙◌, arith, subst, inl, inr, set, length-set, get_or-set_same, get_or-set_other}
 use Rattle.std.proofs.lemmas.Bool.{cases_lt}
 use Rattle.plan_types.specs.Limits.{IsVisit}
 use Rattle.plan_types.specs.declared.requests.Stop.{Stop}
@@ -21,7 +22,13 @@ at-first stops depot is = record {
 }
 
 pub within-first : (depot : Stop) → IsVisit depot → IsWithin 0 (leaving depot)
-within-first depot visit = record { visit = visit; start = (let w = visit.window in let l = visit.latest in omega arith); load = omega arith; distance = omega arith }
+within-first depot visit =
+    record {
+      visit = visit;
+      start = (let w = visit.window in let l = visit.latest in omega arith);
+      load = omega arith;
+      distance = omega arith;
+    }
 
 pub within-next : (k : ℕ) (a b : Progress) → IsWithin k a → IsNear a b → IsWithin (k + 1) b
 within-next k a b is near = record {
@@ -48,13 +55,17 @@ open-is stops k a few at is =
 pub open-to-none : (stops : ℕ → Stop) (places : List Row) → AreOpenTo stops 0 places
 open-to-none stops places = record { each = λ k d h _. absurd (omega arith) }
 
-pub open-to-more : (stops : ℕ → Stop) (n : ℕ) (places new : List Row) (a : Progress) → AreOpenTo stops n places → n ≤ 40003 → IsAt stops n a → IsWithin n a → new ≡ set places n (open_row a) → AreOpenTo stops (n + 1) new
-open-to-more stops n places new a is few at within made = subst (AreOpenTo stops (n + 1)) (sym made) (record { each = λ k d h l. by k d (cases_lt k n) h (omega (arith, length-set places n (open_row a))) })
+pub open-to-more : (stops : ℕ → Stop) (n : ℕ) (places new : List Row) (a : Progress) → AreOpenTo stops n places → n ≤ 40003
+    → IsAt stops n a → IsWithin n a → new ≡ set places n (open_row a) → AreOpenTo stops (n + 1) new
+open-to-more stops n places new a is few at within made =
+    subst (AreOpenTo stops (n + 1)) (sym made)
+    (record { each = λ k d h l. by k d (cases_lt k n) h (omega (arith, length-set places n (open_row a))) })
   where
     by : (k : ℕ) (d : Row) → (k < n) ⊎ (n ≤ k) → k < n + 1 → k < length places → IsOpen stops k (get_or (set places n (open_row a)) k d)
     by k d (inl before) h l = subst (IsOpen stops k) (sym (get_or-set_other places n k (open_row a) d (omega arith))) (is.each k d before l)
     by k d (inr here) h l =
-        subst (λ i. IsOpen stops i (get_or (set places n (open_row a)) i d)) (omega arith) (subst (IsOpen stops n) (sym (get_or-set_same places n (open_row a) d (omega arith))) (open-is stops n a few at within))
+        subst (λ i. IsOpen stops i (get_or (set places n (open_row a)) i d)) (omega arith)
+        (subst (IsOpen stops n) (sym (get_or-set_same places n (open_row a) d (omega arith))) (open-is stops n a few at within))
 
 -- ---- the same, of what the code has
 pub at-begin : (stops : ℕ → Stop) (depot : Stop) (a : Progress) → stops 0 ≡ depot → a ≡ leaving depot → IsAt stops 0 a

@@ -33,21 +33,26 @@ module _ (c : Course) (places : List Row) (table : AreKnown c places) (p : Insta
   pub length-read : (d : Row) → (get_or places (length places - 1) d).at.distance ≡ route_length p route
   length-read d =
       let end : length places - 1 ≡ length route + 1 = omega (arith, long) in
-      (table.known (length places - 1) d (omega arith)).at.distance ∙ (ap (λ f. length_along f (length places - 1)) on ∙ (ap (length_along (place p route)) end ∙ sym (length-is p route)))
+      (table.known (length places - 1) d (omega arith)).at.distance
+      ∙ (ap (λ f. length_along f (length places - 1)) on ∙ (ap (length_along (place p route)) end ∙ sym (length-is p route)))
 
   goes-to : (i t : ℕ) → GoesOnAlong c.kind (stop_on c) (length c.stops + 1) i t → GoesOn p route i t
   goes-to i t goes = λ lilim k h l.
       let kind : c.kind ≡ LiLim = sym (ap (λ q. q.kind) is) ∙ lilim in
-      subst (λ x. x ≤ (place p route k).latest) (sym (moved-is p route i t k)) (subst (λ f. moved_along f i t k ≤ (f k).latest) on (goes kind k h (omega (arith, long))))
+      subst (λ x. x ≤ (place p route k).latest) (sym (moved-is p route i t k))
+      (subst (λ f. moved_along f i t k ≤ (f k).latest) on (goes kind k h (omega (arith, long))))
 
   goes-from : (i t : ℕ) → GoesOn p route i t → GoesOnAlong c.kind (stop_on c) (length c.stops + 1) i t
   goes-from i t goes = λ lilim k h l.
       let kind : p.kind ≡ LiLim = ap (λ q. q.kind) is ∙ lilim in
-      subst (λ f. moved_along f i t k ≤ (f k).latest) (sym on) (subst (λ x. x ≤ (place p route k).latest) (moved-is p route i t k) (goes kind k h (omega (arith, long))))
+      subst (λ f. moved_along f i t k ≤ (f k).latest) (sym on)
+      (subst (λ x. x ≤ (place p route k).latest) (moved-is p route i t k) (goes kind k h (omega (arith, long))))
 
   pub latest-read : (k : ℕ) (d : Row) → c.kind ≡ LiLim → k < length c.stops + 1 → IsLatestStart p route k (get_or places k d).latest_start
   latest-read k d lilim h = record {
-    goes_on = goes-to k (get_or places k d).latest_start (let small = limit in (known.latest_start lilim (get_or places k d).latest_start (omega arith)).1 (omega arith));
+    goes_on =
+        goes-to k (get_or places k d).latest_start
+        (let small = limit in (known.latest_start lilim (get_or places k d).latest_start (omega arith)).1 (omega arith));
     greatest = λ u goes. by u (goes-from k u goes) (cases_lt (2 ^ 60) u);
   }
     where

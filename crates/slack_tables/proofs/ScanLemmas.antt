@@ -25,78 +25,124 @@ bits-below x y fits le = subst (λ z. z ≤ℤ y) (to_z-of_z w64 x fits) le
 
 -- ---- a single
 module _ (limits : Limits) (places : List Row) (s : Stop) (kept : ℕ) (d : Row) where
-  pub order : (a b : Addition) → PutsSingle limits places s kept d a → PutsSingle limits places s kept d b → a.distance ≤ℤ b.distance → a.pickup < b.pickup → ComesFirst a b
+  pub order : (a b : Addition) → PutsSingle limits places s kept d a → PutsSingle limits places s kept d b → a.distance ≤ℤ b.distance
+      → a.pickup < b.pickup → ComesFirst a b
   order a b _ _ le lt = first-pickup a b le lt
 
   abbrev pub SinglesSoFar : ℤ → ℕ → Best → Type 0
   SinglesSoFar below n best = SoFar (PutsSingle limits places s kept d) by_pickup order below n best.bound best.found
 
   pub singles-begin : (below : ℤ) (best : Best) → best ≡ none_below below → SinglesSoFar below (kept + 1) best
-  singles-begin below best made = subst (SinglesSoFar below (kept + 1)) (sym made) (none-yet (PutsSingle limits places s kept d) by_pickup order below (kept + 1) (λ a is lt. let behind = is.behind in omega arith))
+  singles-begin below best made =
+      subst (SinglesSoFar below (kept + 1)) (sym made)
+      (none-yet (PutsSingle limits places s kept d) by_pickup order below (kept + 1) (λ a is lt. let behind = is.behind in omega arith))
 
-  pub single-more : (below : ℤ) (i : ℕ) (best : Best) → SinglesSoFar below i best → kept < i → i < length places → (next : Best) → next ≡ offered best (with_single limits places s i d) i i → SinglesSoFar below (i + 1) next
+  pub single-more : (below : ℤ) (i : ℕ) (best : Best) → SinglesSoFar below i best → kept < i → i < length places → (next : Best)
+      → next ≡ offered best (with_single limits places s i d) i i → SinglesSoFar below (i + 1) next
   single-more below i best so behind within =
-      offered-more (PutsSingle limits places s kept d) by_pickup order (λ i. with_single limits places s i d) (λ a is. is.added) below i i i best so (λ a is here. (here, let one = is.one in omega arith)) (λ x. refl)
+      offered-more (PutsSingle limits places s kept d) by_pickup order (λ i. with_single limits places s i d)
+      (λ a is. is.added) below i i i best so (λ a is here. (here, let one = is.one in omega arith)) (λ x. refl)
       (λ x some. record { behind = behind; within = within; one = refl; added = some })
 
-  pub singles-end : (below : ℤ) (i : ℕ) (best : Best) → SinglesSoFar below i best → length places ≤ i → IsFirstOf (AddsSingle limits places s kept below d) best.found
-  singles-end below i best so end = all-seen (PutsSingle limits places s kept d) by_pickup order below best.bound i best.found so (λ a is. let within = is.within in omega arith)
+  pub singles-end : (below : ℤ) (i : ℕ) (best : Best) → SinglesSoFar below i best → length places ≤ i
+      → IsFirstOf (AddsSingle limits places s kept below d) best.found
+  singles-end below i best so end =
+      all-seen (PutsSingle limits places s kept d) by_pickup order below best.bound i best.found so
+      (λ a is. let within = is.within in omega arith)
 
 -- ---- the delivery of a pair
 module _ (limits : Limits) (places : List Row) (p q : Stop) (i : ℕ) (d : Row) where
-  pub order_here : (a b : Addition) → PutsDelivery limits places p q i d a → PutsDelivery limits places p q i d b → a.distance ≤ℤ b.distance → a.delivery < b.delivery → ComesFirst a b
+  pub order_here : (a b : Addition) → PutsDelivery limits places p q i d a → PutsDelivery limits places p q i d b
+      → a.distance ≤ℤ b.distance → a.delivery < b.delivery → ComesFirst a b
   order_here a b is it le lt = first-delivery a b le (is.here ∙ sym (it.here)) (omega arith)
 
   abbrev pub DeliveriesSoFar : ℤ → ℕ → Best → Type 0
   DeliveriesSoFar below n best = SoFar (PutsDelivery limits places p q i d) by_delivery order_here below n best.bound best.found
 
   pub deliveries-begin : (below : ℤ) (best : Best) → best ≡ none_below below → DeliveriesSoFar below (i + 1) best
-  deliveries-begin below best made = subst (DeliveriesSoFar below (i + 1)) (sym made) (none-yet (PutsDelivery limits places p q i d) by_delivery order_here below (i + 1) (λ a is lt. let behind = is.order in omega arith))
+  deliveries-begin below best made =
+      subst (DeliveriesSoFar below (i + 1)) (sym made)
+      (none-yet (PutsDelivery limits places p q i d) by_delivery order_here below (i + 1) (λ a is lt. let behind = is.order in omega arith))
 
-  pub delivery-more : (below : ℤ) (j : ℕ) (best : Best) → DeliveriesSoFar below j best → i < j → j ≤ length places → (next : Best) → next ≡ offered best (with_pair limits places p q i j d) i j → DeliveriesSoFar below (j + 1) next
+  pub delivery-more : (below : ℤ) (j : ℕ) (best : Best) → DeliveriesSoFar below j best → i < j → j ≤ length places → (next : Best)
+      → next ≡ offered best (with_pair limits places p q i j d) i j → DeliveriesSoFar below (j + 1) next
   delivery-more below j best so order within =
-      offered-more (PutsDelivery limits places p q i d) by_delivery order_here (λ j. with_pair limits places p q i j d) (λ a is. is.added) below j i j best so (λ a is there. (is.here, omega arith)) (λ x. refl)
+      offered-more (PutsDelivery limits places p q i d) by_delivery order_here (λ j. with_pair limits places p q i j d)
+      (λ a is. is.added) below j i j best so (λ a is there. (is.here, omega arith)) (λ x. refl)
       (λ x some. record { here = refl; order = order; within = within; added = some })
 
   -- or where none of the rest adds less
-  pub deliveries-stop : (below : ℤ) (j : ℕ) (best : Best) → DeliveriesSoFar below j best → ((k : ℕ) (x : ℤ) → j ≤ k → k ≤ length places → with_pair limits places p q i k d ≡ Some x → best.bound ≤ℤ x) → IsFirstOf (AddsDelivery limits places p q i below d) best.found
-  deliveries-stop below j best so dear = rest-dear (PutsDelivery limits places p q i d) by_delivery order_here below best.bound j best.found so (λ a is behind less. let le = dear a.delivery a.distance behind is.within is.added in absurd (omega (arith, ints)))
+  pub deliveries-stop : (below : ℤ) (j : ℕ) (best : Best) → DeliveriesSoFar below j best
+      → ((k : ℕ) (x : ℤ) → j ≤ k → k ≤ length places → with_pair limits places p q i k d ≡ Some x → best.bound ≤ℤ x)
+      → IsFirstOf (AddsDelivery limits places p q i below d) best.found
+  deliveries-stop below j best so dear =
+      rest-dear (PutsDelivery limits places p q i d) by_delivery order_here below best.bound j best.found so
+      (λ a is behind less. let le = dear a.delivery a.distance behind is.within is.added in absurd (omega (arith, ints)))
 
   -- or where all of them do not
-  pub deliveries-none : (below : ℤ) → ((k : ℕ) (x : ℤ) → i + 1 ≤ k → k ≤ length places → with_pair limits places p q i k d ≡ Some x → below ≤ℤ x) → IsFirstOf (AddsDelivery limits places p q i below d) None
-  deliveries-none below dear = λ a is. (let le = dear a.delivery a.distance (let order = is.0.order in omega arith) is.0.within is.0.added in let less = is.1 in absurd (omega (arith, ints)))
+  pub deliveries-none : (below : ℤ)
+      → ((k : ℕ) (x : ℤ) → i + 1 ≤ k → k ≤ length places → with_pair limits places p q i k d ≡ Some x → below ≤ℤ x)
+      → IsFirstOf (AddsDelivery limits places p q i below d) None
+  deliveries-none below dear = λ a is.
+      (let le = dear a.delivery a.distance (let order = is.0.order in omega arith) is.0.within is.0.added in
+      let less = is.1 in
+      absurd (omega (arith, ints)))
 
 -- ---- a pair
 module _ (limits : Limits) (places : List Row) (p q : Stop) (kept : ℕ) (d : Row) where
-  pub order_pair : (a b : Addition) → PutsPair limits places p q kept d a → PutsPair limits places p q kept d b → a.distance ≤ℤ b.distance → a.pickup < b.pickup → ComesFirst a b
+  pub order_pair : (a b : Addition) → PutsPair limits places p q kept d a → PutsPair limits places p q kept d b
+      → a.distance ≤ℤ b.distance → a.pickup < b.pickup → ComesFirst a b
   order_pair a b _ _ le lt = first-pickup a b le lt
 
   abbrev pub PairsSoFar : ℤ → ℕ → Best → Type 0
   PairsSoFar below n best = SoFar (PutsPair limits places p q kept d) by_pickup order_pair below n best.bound best.found
 
   pub pairs-begin : (below : ℤ) (n : ℕ) (best : Best) → n ≤ kept + 1 → best ≡ none_below below → PairsSoFar below n best
-  pairs-begin below n best few made = subst (PairsSoFar below n) (sym made) (none-yet (PutsPair limits places p q kept d) by_pickup order_pair below n (λ a is lt. let behind = is.behind in omega arith))
+  pairs-begin below n best few made =
+      subst (PairsSoFar below n) (sym made)
+      (none-yet (PutsPair limits places p q kept d) by_pickup order_pair below n (λ a is lt. let behind = is.behind in omega arith))
 
   at-pickup : (a : Addition) (i : ℕ) → PutsPair limits places p q kept d a → a.pickup ≡ i → PutsDelivery limits places p q i d a
-  at-pickup a i is here = record { here = here; order = subst (λ k. k < a.delivery) here is.order; within = is.within; added = subst (λ k. with_pair limits places p q k a.delivery d ≡ Some a.distance) here is.added }
+  at-pickup a i is here =
+      record {
+        here = here;
+        order = subst (λ k. k < a.delivery) here is.order;
+        within = is.within;
+        added = subst (λ k. with_pair limits places p q k a.delivery d ≡ Some a.distance) here is.added;
+      }
 
   of-pickup : (a : Addition) (i : ℕ) → kept < i → PutsDelivery limits places p q i d a → PutsPair limits places p q kept d a
   of-pickup a i behind is =
       let here : i ≡ a.pickup = sym (is.here) in
-      record { behind = subst (λ k. kept < k) here behind; order = subst (λ k. k < a.delivery) here is.order; within = is.within; added = subst (λ k. with_pair limits places p q k a.delivery d ≡ Some a.distance) here is.added }
+      record {
+        behind = subst (λ k. kept < k) here behind;
+        order = subst (λ k. k < a.delivery) here is.order;
+        within = is.within;
+        added = subst (λ k. with_pair limits places p q k a.delivery d ≡ Some a.distance) here is.added;
+      }
 
   module _ (below : ℤ) (i : ℕ) (best : Best) (so : PairsSoFar below i best) where
-    pub pair-more : (o : Option Addition) (next : Best) → kept < i → IsFirstOf (AddsDelivery limits places p q i best.bound d) o → next ≡ accepted best o → PairsSoFar below (i + 1) next
+    pub pair-more : (o : Option Addition) (next : Best) → kept < i → IsFirstOf (AddsDelivery limits places p q i best.bound d) o
+        → next ≡ accepted best o → PairsSoFar below (i + 1) next
     pair-more None next behind never made =
         subst (PairsSoFar below (i + 1)) (sym made)
-        (none-here (PutsPair limits places p q kept d) by_pickup order_pair below best.bound i best.found so (λ a is here under. never a (at-pickup a i is here, under)))
+        (none-here (PutsPair limits places p q kept d) by_pickup order_pair below best.bound i best.found so
+        (λ a is here under. never a (at-pickup a i is here, under)))
     pair-more (Some found) next behind is made =
         subst (PairsSoFar below (i + 1)) (sym made)
-        (better-here (PutsPair limits places p q kept d) by_pickup order_pair below best.bound i best.found found so (of-pickup found i behind is.0.0) (is.0.0.here) is.0.1 (λ a it here under. is.1 a (at-pickup a i it here, under)))
+        (better-here (PutsPair limits places p q kept d) by_pickup order_pair below best.bound i best.found found so
+        (of-pickup found i behind is.0.0) (is.0.0.here) is.0.1 (λ a it here under. is.1 a (at-pickup a i it here, under)))
 
   -- or where no later place of the pickup is left
-  pub pairs-stop : (below : ℤ) (i : ℕ) (best : Best) → PairsSoFar below i best → ((k j : ℕ) → i ≤ k → k < j → j ≤ length places → with_pair limits places p q k j d ≡ None) → IsFirstOf (AddsPair limits places p q kept below d) best.found
-  pairs-stop below i best so over = rest-dear (PutsPair limits places p q kept d) by_pickup order_pair below best.bound i best.found so (λ a is behind less. none-some a.distance (sym (over a.pickup a.delivery behind is.order is.within) ∙ is.added))
+  pub pairs-stop : (below : ℤ) (i : ℕ) (best : Best) → PairsSoFar below i best
+      → ((k j : ℕ) → i ≤ k → k < j → j ≤ length places → with_pair limits places p q k j d ≡ None)
+      → IsFirstOf (AddsPair limits places p q kept below d) best.found
+  pairs-stop below i best so over =
+      rest-dear (PutsPair limits places p q kept d) by_pickup order_pair below best.bound i best.found so
+      (λ a is behind less. none-some a.distance (sym (over a.pickup a.delivery behind is.order is.within) ∙ is.added))
 
-  pub pairs-end : (below : ℤ) (i : ℕ) (best : Best) → PairsSoFar below i best → length places ≤ i → IsFirstOf (AddsPair limits places p q kept below d) best.found
-  pairs-end below i best so end = all-seen (PutsPair limits places p q kept d) by_pickup order_pair below best.bound i best.found so (λ a is. let within = is.within in let order = is.order in omega arith)
+  pub pairs-end : (below : ℤ) (i : ℕ) (best : Best) → PairsSoFar below i best → length places ≤ i
+      → IsFirstOf (AddsPair limits places p q kept below d) best.found
+  pairs-end below i best so end =
+      all-seen (PutsPair limits places p q kept d) by_pickup order_pair below best.bound i best.found so
+      (λ a is. let within = is.within in let order = is.order in omega arith)

@@ -1,5 +1,6 @@
 -- What a request adds to a route at least.
-use Rattle.std.proofs.Common.{◌≡◌, ℕ, ◌+◌, ◌-◌, ◌*◌, ◌/◌, ◌^◌, ◌<◌, ◌≤◌, ◌⊎◌, int_le, ℤ, pos, ◌+ℤ◌, ◌-ℤ◌, ◌≤ℤ◌, ◌<ℤ◌, List, ◌∷◌, get_or, length, Some, None, sym, ap, ◌∙◌, arith, subst, inl, inr}
+use Rattle.std.proofs.Common.{◌≡◌, ℕ, ◌+◌, ◌-◌, ◌*◌, ◌/◌, ◌^◌, ◌<◌, ◌≤◌, ◌⊎◌, int_le, ℤ, pos, ◌+ℤ◌, ◌-ℤ◌}
+use Rattle.std.proofs.Common.{◌≤ℤ◌, ◌<ℤ◌, List, ◌∷◌, get_or, length, Some, None, sym, ap, ◌∙◌, arith, subst, inl, inr}
 use Rattle.std.specs.Prelude.{unsigned_abs}
 use Rattle.std.proofs.Math.Nat.{div-mul-le_self}
 use Rattle.std.proofs.lemmas.Nat.{mul-le}
@@ -18,7 +19,8 @@ use Rattle.slack_tables.specs.Inside.{AreKnown}
 use Rattle.slack_tables.specs.Legs.{AreLinked, detour_of}
 use Rattle.slack_tables.specs.Ride.{ride_of, driven, is_kept, is_borne, goes_on, served}
 use Rattle.slack_tables.specs.Scan.{AddsSingle, AddsPair}
-use Rattle.slack_tables.specs.Span.{IsInside, IsSmallSpan, IsSpanTo, AreEnds, IsSpan, IsNearest, IsFloor, IsFloorOfPair, IsFarSingle, IsFarPair, AreHome, AreLaden, edge_of}
+use Rattle.slack_tables.specs.Span.{IsInside, IsSmallSpan, IsSpanTo, AreEnds, IsSpan, IsNearest}
+use Rattle.slack_tables.specs.Span.{IsFloor, IsFloorOfPair, IsFarSingle, IsFarPair, AreHome, AreLaden, edge_of}
 use Rattle.slack_tables.specs.declared.progress.Limits.{Limits}
 use Rattle.slack_tables.specs.declared.progress.Row.{Row}
 use Rattle.slack_tables.specs.declared.ride.Ride.{Ride}
@@ -51,7 +53,8 @@ ways-le x y e reach =
     )
 
 -- the longer side first
-pub sides-le : (x y long short e : ℕ) → (x < y → (long ≡ y) × (short ≡ x)) → (y ≤ x → (long ≡ x) × (short ≡ y)) → x * x + y * y ≤ e * (e + 1) → long * long + short * short ≤ e * (e + 1)
+pub sides-le : (x y long short e : ℕ) → (x < y → (long ≡ y) × (short ≡ x)) → (y ≤ x → (long ≡ x) × (short ≡ y))
+    → x * x + y * y ≤ e * (e + 1) → long * long + short * short ≤ e * (e + 1)
 sides-le x y long short e up across reach = by (cases_lt x y)
   where
     by : (x < y) ⊎ (y ≤ x) → long * long + short * short ≤ e * (e + 1)
@@ -67,7 +70,8 @@ side-le x y e reach = by (cases_lt e x)
     by (inl less) = let square = mul-le (e + 1) (e + 1) x x (omega arith) (omega arith) in absurd (omega arith)
 
 -- no stop inside is nearer than the gaps to the span
-pub apart-le : DistancesAreNearestRoots → (a b : Stop) (x y w : ℕ) → ((e : ℕ) → x * x + y * y ≤ e * (e + 1) → w ≤ e) → x ≤ unsigned_abs (a.x -ℤ b.x) → y ≤ unsigned_abs (a.y -ℤ b.y) → w ≤ distance a b
+pub apart-le : DistancesAreNearestRoots → (a b : Stop) (x y w : ℕ) → ((e : ℕ) → x * x + y * y ≤ e * (e + 1) → w ≤ e)
+    → x ≤ unsigned_abs (a.x -ℤ b.x) → y ≤ unsigned_abs (a.y -ℤ b.y) → w ≤ distance a b
 apart-le law a b x y w least gap_x gap_y =
     let reach = (law a b).reaches in
     let squares_x = mul-le x x (unsigned_abs (a.x -ℤ b.x)) (unsigned_abs (a.x -ℤ b.x)) gap_x gap_x in
@@ -75,7 +79,10 @@ apart-le law a b x y w least gap_x gap_y =
     least (distance a b) (omega arith)
 
 -- ---- the span, place after place
-pub span-more : (places : List Row) (k : ℕ) (old new : Span) (before here : Row) → 1 ≤ k → IsSpanTo old places k → ((d : Row) → before ≡ get_or places (k - 1) d) → ((d : Row) → here ≡ get_or places k d) → IsInside new here.at.stop → ((s : Stop) → IsInside old s → IsInside new s) → edge_of before here ≤ℤ new.longest → old.longest ≤ℤ new.longest → IsSmallSpan new → IsSpanTo new places (k + 1)
+pub span-more : (places : List Row) (k : ℕ) (old new : Span) (before here : Row) → 1 ≤ k → IsSpanTo old places k
+    → ((d : Row) → before ≡ get_or places (k - 1) d) → ((d : Row) → here ≡ get_or places k d) → IsInside new here.at.stop
+    → ((s : Stop) → IsInside old s → IsInside new s) → edge_of before here ≤ℤ new.longest → old.longest ≤ℤ new.longest → IsSmallSpan new
+    → IsSpanTo new places (k + 1)
 span-more places k old new before here some is is_before is_here inside wider edge longer small = record {
   inside = λ m d h l. inside-by m d h l (cases_lt m k);
   longest = λ m d h l. longest-by m d h l (cases_lt (m + 1) k);
@@ -84,7 +91,8 @@ span-more places k old new before here some is is_before is_here inside wider ed
   where
     inside-by : (m : ℕ) (d : Row) → 1 ≤ m → m < k + 1 → (m < k) ⊎ (k ≤ m) → IsInside new (get_or places m d).at.stop
     inside-by m d h l (inl less) = wider _ (is.inside m d h less)
-    inside-by m d h l (inr more) = let same : k ≡ m = omega arith in subst (λ (e : Row). IsInside new e.at.stop) (is_here d ∙ ap (λ n. get_or places n d) same) inside
+    inside-by m d h l (inr more) =
+        let same : k ≡ m = omega arith in subst (λ (e : Row). IsInside new e.at.stop) (is_here d ∙ ap (λ n. get_or places n d) same) inside
 
     longest-by : (m : ℕ) (d : Row) → 1 ≤ m → m + 1 < k + 1 → (m + 1 < k) ⊎ (k ≤ m + 1) → edge_of (get_or places m d) (get_or places (m + 1) d) ≤ℤ new.longest
     longest-by m d h l (inl less) = let le = is.longest m d h less in omega (arith, ints)
@@ -111,7 +119,9 @@ laden c places table = let long = table.long in record {
   step = λ k d h.
       (let here = (table.known k d (omega arith)).at in
       let next = (table.known (k + 1) d h).at in
-      next.load ∙ (load-next (stop_on c) k ∙ (ap (λ x. x +ℤ (stop_on c (k + 1)).demand) (sym (here.load)) ∙ ap (λ (s : Stop). (get_or places k d).at.load +ℤ s.demand) (sym (next.stop)))));
+      next.load ∙ (load-next (stop_on c) k
+      ∙ (ap (λ x. x +ℤ (stop_on c (k + 1)).demand) (sym (here.load))
+      ∙ ap (λ (s : Stop). (get_or places k d).at.load +ℤ s.demand) (sym (next.stop)))));
   most = λ k d h.
       (let here = table.known k d h in
       let last = (table.known (length places - 1) d (omega arith)).at.load in
@@ -122,11 +132,18 @@ laden c places table = let long = table.long in record {
 -- ---- what a stop adds
 module _ (places : List Row) (depot : Stop) (span : Span) (is : IsSpan span places) (at_home : AreHome depot places) where
   -- a stop p comes behind place m and a stop q before the next one, and so much in between
-  between-le : (p q : Stop) (to_p to_q : Nearest) → IsNearest span depot p to_p → IsNearest span depot q to_q → (across : ℕ) (x : ℤ) → IsFloorOfPair span to_p to_q across x → (m : ℕ) (d : Row) → m + 1 < length places → x ≤ℤ (pos ((get_or places m d).at.distance + distance (get_or places m d).at.stop p + across + distance (get_or places (m + 1) d).at.stop q) -ℤ pos (get_or places (m + 1) d).at.distance)
+  between-le : (p q : Stop) (to_p to_q : Nearest) → IsNearest span depot p to_p → IsNearest span depot q to_q → (across : ℕ) (x : ℤ)
+      → IsFloorOfPair span to_p to_q across x → (m : ℕ) (d : Row) → m + 1 < length places
+      → x ≤ℤ (pos
+      ((get_or places m d).at.distance + distance (get_or places m d).at.stop p + across + distance (get_or places (m + 1) d).at.stop q)
+      -ℤ pos (get_or places (m + 1) d).at.distance)
   between-le p q to_p to_q near_p near_q across x floor m d within = by (cases_lt 0 m) (cases_lt (m + 2) (length places))
     where
       Goal : ℕ → Type 0
-      Goal k = x ≤ℤ (pos ((get_or places k d).at.distance + distance (get_or places k d).at.stop p + across + distance (get_or places (k + 1) d).at.stop q) -ℤ pos (get_or places (k + 1) d).at.distance)
+      Goal k =
+          x ≤ℤ (pos
+          ((get_or places k d).at.distance + distance (get_or places k d).at.stop p + across + distance (get_or places (k + 1) d).at.stop q)
+          -ℤ pos (get_or places (k + 1) d).at.distance)
 
       count : 2 ≤ is.count
       count = is.some
@@ -162,53 +179,85 @@ module _ (places : List Row) (depot : Stop) (span : Span) (is : IsSpan span plac
           subst Goal zero_m (let first : Goal 0 = omega (arith, ints) in first)
 
   -- what a stop adds behind place m
-  pub detour-le : (s : Stop) (near : Nearest) → IsNearest span depot s near → (x : ℤ) → IsFloor span near x → (m : ℕ) (d : Row) → m + 1 < length places → x ≤ℤ detour_of places s m d
+  pub detour-le : (s : Stop) (near : Nearest) → IsNearest span depot s near → (x : ℤ) → IsFloor span near x → (m : ℕ) (d : Row)
+      → m + 1 < length places → x ≤ℤ detour_of places s m d
   detour-le s near nearest x floor m d within =
       let inside = floor.inside in
       let tips = floor.tips in
-      let le = between-le s s near near nearest nearest 0 x (record { inside = omega (arith, ints); first = omega (arith, ints); last = omega (arith, ints) }) m d within in
+      let le = between-le s s near near nearest nearest 0 x
+      (record { inside = omega (arith, ints); first = omega (arith, ints); last = omega (arith, ints) }) m d within in
       omega (arith, ints)
 
   -- what a pair adds whose stops come side by side behind place m
-  pub beside-le : (p q : Stop) (to_p to_q : Nearest) → IsNearest span depot p to_p → IsNearest span depot q to_q → (across : ℕ) → across ≤ distance p q → (x : ℤ) → IsFloorOfPair span to_p to_q across x → (m : ℕ) (d : Row) → m + 1 < length places → x ≤ℤ (pos ((get_or places m d).at.distance + distance (get_or places m d).at.stop p + distance p q + distance (get_or places (m + 1) d).at.stop q) -ℤ pos (get_or places (m + 1) d).at.distance)
+  pub beside-le : (p q : Stop) (to_p to_q : Nearest) → IsNearest span depot p to_p → IsNearest span depot q to_q → (across : ℕ)
+      → across ≤ distance p q → (x : ℤ) → IsFloorOfPair span to_p to_q across x → (m : ℕ) (d : Row) → m + 1 < length places
+      → x ≤ℤ (pos ((get_or places m d).at.distance + distance (get_or places m d).at.stop p + distance p q
+      + distance (get_or places (m + 1) d).at.stop q)
+      -ℤ pos (get_or places (m + 1) d).at.distance)
   beside-le p q to_p to_q near_p near_q across between x floor m d within =
       let le = between-le p q to_p to_q near_p near_q across x floor m d within in omega (arith, ints)
 
 -- ---- a single
-singles-none : (limits : Limits) (places : List Row) (s : Stop) (kept : ℕ) (below : ℤ) (d : Row) → ((i : ℕ) (x : ℤ) → 1 ≤ i → i < length places → with_single limits places s i d ≡ Some x → below ≤ℤ x) → IsFirstOf (AddsSingle limits places s kept below d) None
-singles-none limits places s kept below d dear = λ a is. (let behind = is.0.behind in let le = dear a.pickup a.distance (omega arith) is.0.within is.0.added in let less = is.1 in absurd (omega (arith, ints)))
+singles-none : (limits : Limits) (places : List Row) (s : Stop) (kept : ℕ) (below : ℤ) (d : Row)
+    → ((i : ℕ) (x : ℤ) → 1 ≤ i → i < length places → with_single limits places s i d ≡ Some x → below ≤ℤ x)
+    → IsFirstOf (AddsSingle limits places s kept below d) None
+singles-none limits places s kept below d dear = λ a is.
+    (let behind = is.0.behind in
+    let le = dear a.pickup a.distance (omega arith) is.0.within is.0.added in
+    let less = is.1 in
+    absurd (omega (arith, ints)))
 
-pub far-single : (limits : Limits) (places : List Row) (depot s : Stop) (kept : ℕ) (below : ℤ) (d : Row) (span : Span) → IsSpan span places → AreHome depot places → IsFarSingle span depot s below → IsFirstOf (AddsSingle limits places s kept below d) None
+pub far-single : (limits : Limits) (places : List Row) (depot s : Stop) (kept : ℕ) (below : ℤ) (d : Row) (span : Span)
+    → IsSpan span places → AreHome depot places → IsFarSingle span depot s below → IsFirstOf (AddsSingle limits places s kept below d) None
 far-single limits places depot s kept below d span is at_home dear =
     singles-none limits places s kept below d
     (λ i x one within some.
-    (let cost = served-price limits (ride_of (get_or places (i - 1) d).at) (get_or places (i - 1) d).at.stop.service (distance (get_or places (i - 1) d).at.stop s) s (distance s (get_or places i d).at.stop) (get_or places i d) x some in
+    (let cost = served-price limits (ride_of (get_or places (i - 1) d).at) (get_or places (i - 1) d).at.stop.service
+    (distance (get_or places (i - 1) d).at.stop s) s (distance s (get_or places i d).at.stop) (get_or places i d) x some in
     let next : i - 1 + 1 ≡ i = omega arith in
-    let least = subst (λ k. dear.floor ≤ℤ (pos ((get_or places (i - 1) d).at.distance + distance (get_or places (i - 1) d).at.stop s + distance (get_or places k d).at.stop s) -ℤ pos (get_or places k d).at.distance)) next (detour-le places depot span is at_home s dear.near dear.nearest dear.floor dear.lowest (i - 1) d (omega arith)) in
+    let least =
+    subst (λ k. dear.floor
+    ≤ℤ (pos
+    ((get_or places (i - 1) d).at.distance + distance (get_or places (i - 1) d).at.stop s + distance (get_or places k d).at.stop s)
+    -ℤ pos (get_or places k d).at.distance)) next
+    (detour-le places depot span is at_home s dear.near dear.nearest dear.floor dear.lowest (i - 1) d (omega arith)) in
     let back = distance-back s (get_or places i d).at.stop in
     omega (arith, ints)))
 
 -- what a served stop brings on board fits
-borne : (limits : Limits) (r : Ride) (service to : ℕ) (s : Stop) (from : ℕ) (tail : Row) (x : ℤ) → served limits r service to s from tail ≡ Some x → (r.load +ℤ s.demand +ℤ tail.at.stop.demand -ℤ tail.at.load +ℤ tail.most_load) ≤ℤ pos limits.capacity
+borne : (limits : Limits) (r : Ride) (service to : ℕ) (s : Stop) (from : ℕ) (tail : Row) (x : ℤ)
+    → served limits r service to s from tail ≡ Some x
+    → (r.load +ℤ s.demand +ℤ tail.at.stop.demand -ℤ tail.at.load +ℤ tail.most_load) ≤ℤ pos limits.capacity
 borne limits r service to s from tail x is =
     let on = (and_parts (is_kept limits (driven r service to s) s) (goes_on limits (driven r service to s) s.service from tail) (cond_some _ _ x is).0).1 in
-    let there = (and_parts (is_kept limits (driven (driven r service to s) s.service from tail.at.stop) tail.at.stop) (is_borne limits (driven (driven r service to s) s.service from tail.at.stop) tail) on).1 in
+    let there = (and_parts (is_kept limits (driven (driven r service to s) s.service from tail.at.stop) tail.at.stop)
+    (is_borne limits (driven (driven r service to s) s.service from tail.at.stop) tail) on).1 in
     int_le-true _ _ (and_parts (int_le (r.load +ℤ s.demand +ℤ tail.at.stop.demand -ℤ tail.at.load +ℤ tail.most_load) (pos limits.capacity)) _ there).0
 
-pub full-single : (limits : Limits) (places : List Row) (s : Stop) (kept : ℕ) (below : ℤ) (d : Row) (span : Span) → IsSpan span places → AreLaden places → pos limits.capacity <ℤ (span.load +ℤ s.demand) → IsFirstOf (AddsSingle limits places s kept below d) None
+pub full-single : (limits : Limits) (places : List Row) (s : Stop) (kept : ℕ) (below : ℤ) (d : Row) (span : Span) → IsSpan span places
+    → AreLaden places → pos limits.capacity <ℤ (span.load +ℤ s.demand) → IsFirstOf (AddsSingle limits places s kept below d) None
 full-single limits places s kept below d span is laden over =
     singles-none limits places s kept below d
     (λ i x one within some.
-    (let light = borne limits (ride_of (get_or places (i - 1) d).at) (get_or places (i - 1) d).at.stop.service (distance (get_or places (i - 1) d).at.stop s) s (distance s (get_or places i d).at.stop) (get_or places i d) x some in
+    (let light = borne limits (ride_of (get_or places (i - 1) d).at) (get_or places (i - 1) d).at.stop.service
+    (distance (get_or places (i - 1) d).at.stop s) s (distance s (get_or places i d).at.stop) (get_or places i d) x some in
     let next : i - 1 + 1 ≡ i = omega arith in
-    let step = subst (λ k. (get_or places k d).at.load ≡ (get_or places (i - 1) d).at.load +ℤ (get_or places k d).at.stop.demand) next (laden.step (i - 1) d (omega arith)) in
+    let step = subst (λ k. (get_or places k d).at.load ≡ (get_or places (i - 1) d).at.load +ℤ (get_or places k d).at.stop.demand) next
+    (laden.step (i - 1) d (omega arith)) in
     let most = laden.most i d within in
     let end = is.ends.load d in
     absurd (omega (arith, ints))))
 
 -- ---- a pair
-pub far-pair : (limits : Limits) (places : List Row) (depot p q : Stop) (kept : ℕ) (below : ℤ) (d : Row) (span : Span) → AreLinked places → IsSpan span places → AreHome depot places → IsFarPair span depot p q below → IsFirstOf (AddsPair limits places p q kept below d) None
-far-pair limits places depot p q kept below d span linked is at_home dear = λ a adds. (let behind = adds.0.behind in let order = adds.0.order in let le = at-places a.pickup a.delivery a.distance (omega arith) order adds.0.within adds.0.added in let less = adds.1 in absurd (omega (arith, ints)))
+pub far-pair : (limits : Limits) (places : List Row) (depot p q : Stop) (kept : ℕ) (below : ℤ) (d : Row) (span : Span)
+    → AreLinked places → IsSpan span places → AreHome depot places → IsFarPair span depot p q below
+    → IsFirstOf (AddsPair limits places p q kept below d) None
+far-pair limits places depot p q kept below d span linked is at_home dear = λ a adds.
+    (let behind = adds.0.behind in
+    let order = adds.0.order in
+    let le = at-places a.pickup a.delivery a.distance (omega arith) order adds.0.within adds.0.added in
+    let less = adds.1 in
+    absurd (omega (arith, ints)))
   where
     at-places : (i j : ℕ) (x : ℤ) → 1 ≤ i → i < j → j ≤ length places → with_pair limits places p q i j d ≡ Some x → below ≤ℤ x
     at-places i j x one order within some = by (cases_lt j (i + 2))
@@ -219,22 +268,56 @@ far-pair limits places depot p q kept below d span linked is at_home dear = λ a
         by : (j < i + 2) ⊎ (i + 2 ≤ j) → below ≤ℤ x
         by (inl here) =
             let cost = near-is limits places p q i d linked x (subst (λ n. with_pair limits places p q i n d ≡ Some x) (omega arith) some) in
-            let least = subst (λ k. dear.beside ≤ℤ (pos ((get_or places (i - 1) d).at.distance + distance (get_or places (i - 1) d).at.stop p + distance p q + distance (get_or places k d).at.stop q) -ℤ pos (get_or places k d).at.distance)) next (beside-le places depot span is at_home p q dear.to_p dear.to_q dear.nearest_p dear.nearest_q dear.across dear.between dear.beside dear.lowest (i - 1) d (omega arith)) in
+            let least =
+            subst (λ k. dear.beside
+            ≤ℤ (pos ((get_or places (i - 1) d).at.distance + distance (get_or places (i - 1) d).at.stop p + distance p q
+            + distance (get_or places k d).at.stop q)
+            -ℤ pos (get_or places k d).at.distance)) next
+            (beside-le places depot span is at_home p q dear.to_p dear.to_q dear.nearest_p dear.nearest_q dear.across dear.between
+            dear.beside dear.lowest
+            (i - 1) d (omega arith)) in
             let le = dear.near in
             omega (arith, ints)
         by (inr further) =
-            let cost = apart-is limits places p q i d linked (j - 2) x (omega arith) (omega arith) (subst (λ n. with_pair limits places p q i n d ≡ Some x) (sym (omega arith)) some) in
-            let first = subst (λ k. dear.floor_p ≤ℤ (pos ((get_or places (i - 1) d).at.distance + distance (get_or places (i - 1) d).at.stop p + distance (get_or places k d).at.stop p) -ℤ pos (get_or places k d).at.distance)) next (detour-le places depot span is at_home p dear.to_p dear.nearest_p dear.floor_p dear.lowest_p (i - 1) d (omega arith)) in
+            let cost = apart-is limits places p q i d linked (j - 2) x (omega arith) (omega arith)
+            (subst (λ n. with_pair limits places p q i n d ≡ Some x) (sym (omega arith)) some) in
+            let first =
+            subst (λ k. dear.floor_p
+            ≤ℤ (pos ((get_or places (i - 1) d).at.distance + distance (get_or places (i - 1) d).at.stop p
+            + distance (get_or places k d).at.stop p)
+            -ℤ pos (get_or places k d).at.distance)) next
+            (detour-le places depot span is at_home p dear.to_p dear.nearest_p dear.floor_p dear.lowest_p (i - 1) d (omega arith)) in
             let second = detour-le places depot span is at_home q dear.to_q dear.nearest_q dear.floor_q dear.lowest_q (j - 2) d (omega arith) in
             let way = distance-back p (get_or places i d).at.stop in
             omega (arith, ints)
 
 -- ---- the span of the first stop alone
-pub span-begun : (places : List Row) (first : Row) (t o : ℤ) → ((d : Row) → first ≡ get_or places 1 d) → unsigned_abs t ≤ 2 ^ 52 → unsigned_abs o ≤ 2 ^ 52 → IsSpanTo (record { west = first.at.stop.x; east = first.at.stop.x; south = first.at.stop.y; north = first.at.stop.y; longest = pos 0; tips = t; load = o }) places 2
+pub span-begun : (places : List Row) (first : Row) (t o : ℤ) → ((d : Row) → first ≡ get_or places 1 d) → unsigned_abs t ≤ 2 ^ 52
+    → unsigned_abs o ≤ 2 ^ 52
+    → IsSpanTo
+    (record {
+      west = first.at.stop.x;
+      east = first.at.stop.x;
+      south = first.at.stop.y;
+      north = first.at.stop.y;
+      longest = pos 0;
+      tips = t;
+      load = o;
+    }) places 2
 span-begun places first t o is_first tips load = record {
   inside = λ k d h l.
       (let one : 1 ≡ k = omega arith in
-      subst (λ (e : Row). IsInside (record { west = first.at.stop.x; east = first.at.stop.x; south = first.at.stop.y; north = first.at.stop.y; longest = pos 0; tips = t; load = o }) e.at.stop) (is_first d ∙ ap (λ n. get_or places n d) one)
+      subst (λ (e : Row). IsInside
+      (record {
+        west = first.at.stop.x;
+        east = first.at.stop.x;
+        south = first.at.stop.y;
+        north = first.at.stop.y;
+        longest = pos 0;
+        tips = t;
+        load = o;
+      }) e.at.stop)
+      (is_first d ∙ ap (λ n. get_or places n d) one)
       (record { west = omega (arith, ints); east = omega (arith, ints); south = omega (arith, ints); north = omega (arith, ints) }));
   longest = λ k d h l. absurd (omega arith);
   small = record { longest = omega (arith, ints); tips = tips; load = load };

@@ -1,6 +1,7 @@
 -- A route that goes on from a place of another one: it keeps its limits where the stops between do and the place where they join
 -- is reached in time and with few goods.
-use Rattle.std.proofs.Common.{◌≡◌, ℕ, ◌+◌, ◌-◌, ◌<◌, ◌≤◌, ◌⊎◌, Bool, true, false, cond, ◌&&◌, int_le, ℤ, pos, ◌+ℤ◌, ◌-ℤ◌, ◌≤ℤ◌, Option, Some, None, refl, sym, ap, ◌∙◌, arith, subst, inl, inr, T}
+use Rattle.std.proofs.Common.{◌≡◌, ℕ, ◌+◌, ◌-◌, ◌<◌, ◌≤◌, ◌⊎◌, Bool, true, false, cond, ◌&&◌, int_le, ℤ, pos}
+use Rattle.std.proofs.Common.{◌+ℤ◌, ◌-ℤ◌, ◌≤ℤ◌, Option, Some, None, refl, sym, ap, ◌∙◌, arith, subst, inl, inr, T}
 use Rattle.std.specs.Prelude.{MatchOption}
 use Rattle.std.specs.Option.{option_and_then}
 use Rattle.std.proofs.lemmas.Bool.{and_parts, and_cases, cases_lt, leb-true, leb-false}
@@ -110,7 +111,8 @@ module _ (limits : Limits) (stops : ℕ → Stop) where
       there : IsAt stops (n + 1) (driven_on a s)
       there = at-next stops n a s is.0 next
 
-      by : (b : Bool) → is_kept limits (ride_of (driven_on a s)) s ≡ b → MatchOption (cond b (Some (driven_on a s)) None) (In (n + 1) → ⊥) (λ a. IsAt stops (n + 1) a × In (n + 1))
+      by : (b : Bool) → is_kept limits (ride_of (driven_on a s)) s ≡ b
+          → MatchOption (cond b (Some (driven_on a s)) None) (In (n + 1) → ⊥) (λ a. IsAt stops (n + 1) a × In (n + 1))
       by true h = (there, kept-more n _ is.1 there h)
       by false h = λ all. keeps-false (n + 1) _ there h (kept-here (n + 1) (n + 1) (omega arith) (omega arith) all)
 
@@ -118,7 +120,8 @@ module _ (limits : Limits) (stops : ℕ → Stop) where
   unfoldable pub EndIs : ℕ → ℕ → Option ℤ → Type 0
   EndIs l old o = MatchOption o (In l → ⊥) (λ added. In l × (pos (length_along stops l) ≡ pos old +ℤ added))
 
-  pub end-then : (n l old : ℕ) (o : Option Progress) (f : Progress → Option ℤ) → n ≤ l → WalkIs n o → ((a : Progress) → IsAt stops n a → In n → EndIs l old (f a)) → EndIs l old (option_and_then f o)
+  pub end-then : (n l old : ℕ) (o : Option Progress) (f : Progress → Option ℤ) → n ≤ l → WalkIs n o
+      → ((a : Progress) → IsAt stops n a → In n → EndIs l old (f a)) → EndIs l old (option_and_then f o)
   unfolding WalkIs EndIs
   end-then n l old None f le never rest = λ is. never (kept-fewer n l le is)
   end-then n l old (Some a) f le is rest = rest a is.0 is.1
@@ -129,20 +132,27 @@ module _ (limits : Limits) (a b : ℕ → Stop) (n s rest : ℕ) (same : (k : �
   same-here = let p : s + 0 ≡ s = omega arith in let q : n + 0 ≡ n = omega arith in subst (λ k. b k ≡ a n) p (subst (λ k. b (s + 0) ≡ a k) q (same 0))
 
   -- the loads there are the old ones and a difference
-  loads-true : (c e : ℤ) → e ≡ c -ℤ (load_along b s -ℤ load_along a n) → ((m : ℕ) → n ≤ m → m ≤ n + rest → load_along a m ≤ℤ e) → (k : ℕ) → s ≤ k → k ≤ s + rest → load_along b k ≤ℤ c
+  loads-true : (c e : ℤ) → e ≡ c -ℤ (load_along b s -ℤ load_along a n) → ((m : ℕ) → n ≤ m → m ≤ n + rest → load_along a m ≤ℤ e)
+      → (k : ℕ) → s ≤ k → k ≤ s + rest → load_along b k ≤ℤ c
   loads-true c e is old k h l =
-      let spliced : load_along b k +ℤ load_along a n ≡ load_along a (n + (k - s)) +ℤ load_along b s = subst (λ i. load_along b i +ℤ load_along a n ≡ load_along a (n + (k - s)) +ℤ load_along b s) (sym (omega arith)) (spliced-load a b n s same (k - s)) in
+      let spliced : load_along b k +ℤ load_along a n ≡ load_along a (n + (k - s)) +ℤ load_along b s =
+      subst (λ i. load_along b i +ℤ load_along a n ≡ load_along a (n + (k - s)) +ℤ load_along b s) (sym (omega arith))
+      (spliced-load a b n s same (k - s)) in
       let le = old (n + (k - s)) (omega arith) (omega arith) in
       omega (arith, ints)
 
-  loads-back : (c e : ℤ) → e ≡ c -ℤ (load_along b s -ℤ load_along a n) → ((k : ℕ) → s ≤ k → k ≤ s + rest → load_along b k ≤ℤ c) → (m : ℕ) → n ≤ m → m ≤ n + rest → load_along a m ≤ℤ e
+  loads-back : (c e : ℤ) → e ≡ c -ℤ (load_along b s -ℤ load_along a n) → ((k : ℕ) → s ≤ k → k ≤ s + rest → load_along b k ≤ℤ c)
+      → (m : ℕ) → n ≤ m → m ≤ n + rest → load_along a m ≤ℤ e
   loads-back c e is new m h l =
-      let spliced : load_along b (s + (m - n)) +ℤ load_along a n ≡ load_along a m +ℤ load_along b s = subst (λ i. load_along b (s + (m - n)) +ℤ load_along a n ≡ load_along a i +ℤ load_along b s) (sym (omega arith)) (spliced-load a b n s same (m - n)) in
+      let spliced : load_along b (s + (m - n)) +ℤ load_along a n ≡ load_along a m +ℤ load_along b s =
+      subst (λ i. load_along b (s + (m - n)) +ℤ load_along a n ≡ load_along a i +ℤ load_along b s) (sym (omega arith))
+      (spliced-load a b n s same (m - n)) in
       let le = new (s + (m - n)) (omega arith) (omega arith) in
       omega (arith, ints)
 
   -- the rest is on time exactly where its first start goes on
-  goes_on-true : GoesOnAlong limits.kind a (n + rest) n (start_along b s) → limits.kind ≡ LiLim → (k : ℕ) → s < k → k ≤ s + rest → start_along b k ≤ (b k).latest
+  goes_on-true : GoesOnAlong limits.kind a (n + rest) n (start_along b s) → limits.kind ≡ LiLim → (k : ℕ) → s < k → k ≤ s + rest
+      → start_along b k ≤ (b k).latest
   goes_on-true goes lilim k h l =
       let le = goes lilim (n + (k - s)) (omega arith) (omega arith) in
       let le' : start_along b (s + (k - s)) ≤ (b (s + (k - s))).latest = rw (spliced-start a b n s same (k - s), same (k - s)) le in
@@ -169,14 +179,17 @@ module _ (limits : Limits) (a b : ℕ → Stop) (n s rest : ℕ) (same : (k : �
               goes_on-true ((known.latest_start lilim (start_along b s) (omega arith)).1 (omega arith)) lilim k m l);
         }
 
-    bears-false : (at : Progress) → IsAt b s at → Keeps limits b s → is_borne limits (ride_of at) tail ≡ false → ((k : ℕ) → s < k → k ≤ s + rest → Keeps limits b k) → ⊥
+    bears-false : (at : Progress) → IsAt b s at → Keeps limits b s → is_borne limits (ride_of at) tail ≡ false
+        → ((k : ℕ) → s < k → k ≤ s + rest → Keeps limits b k) → ⊥
     bears-false at is here h each = by (and_cases _ _ h)
       where
         split : (k : ℕ) → s ≤ k → k ≤ s + rest → (s < k) ⊎ (k ≤ s) → load_along b k ≤ℤ pos limits.capacity
         split k h l (inl after) = (each k after l).load
         split k h l (inr first) = let e : s ≡ k = omega arith in subst (λ i. load_along b i ≤ℤ pos limits.capacity) e (here.load)
 
-        by : (int_le (at.load -ℤ tail.at.load +ℤ tail.most_load) (pos limits.capacity) ≡ false) ⊎ (is_in_time limits.kind at.start tail.latest_start ≡ false) → ⊥
+        by : (int_le (at.load -ℤ tail.at.load +ℤ tail.most_load) (pos limits.capacity) ≡ false)
+            ⊎ (is_in_time limits.kind at.start tail.latest_start ≡ false)
+            → ⊥
         by (inl over) =
             let e = pos limits.capacity -ℤ (load_along b s -ℤ load_along a n) in
             let most : tail.most_load ≤ℤ e = (known.most_load e).1 (loads-back (pos limits.capacity) e refl (λ k h l. split k h l (cases_lt s k))) in
@@ -197,9 +210,12 @@ module _ (limits : Limits) (a b : ℕ → Stop) (n s rest : ℕ) (same : (k : �
         omega (arith, ints)
 
     -- a stop, then the place itself and all behind it
-    pub stop-is : (m : ℕ) (at : Progress) (stop : Stop) → m + 1 + 1 ≡ s → IsAt b m at → In limits b m → stop ≡ b (m + 1) → EndIs limits b (s + rest) (length_along a (n + rest)) (with_stop limits at stop tail)
+    pub stop-is : (m : ℕ) (at : Progress) (stop : Stop) → m + 1 + 1 ≡ s → IsAt b m at → In limits b m → stop ≡ b (m + 1)
+        → EndIs limits b (s + rest) (length_along a (n + rest)) (with_stop limits at stop tail)
     unfolding EndIs
-    stop-is m at stop next is kept here = by (is_kept limits (ride_of first) stop) (is_kept limits (ride_of second) tail.at.stop) (is_borne limits (ride_of second) tail) refl refl refl
+    stop-is m at stop next is kept here =
+        by (is_kept limits (ride_of first) stop) (is_kept limits (ride_of second) tail.at.stop)
+        (is_borne limits (ride_of second) tail) refl refl refl
       where
         first : Progress
         first = driven_on at stop
@@ -213,13 +229,20 @@ module _ (limits : Limits) (a b : ℕ → Stop) (n s rest : ℕ) (same : (k : �
         at-second : IsAt b s second
         at-second = subst (λ k. IsAt b k second) next (at-next b (m + 1) first tail.at.stop at-first (known.at.stop ∙ (sym same-here ∙ ap b (sym next))))
 
-        all-in : is_kept limits (ride_of first) stop ≡ true → is_kept limits (ride_of second) tail.at.stop ≡ true → is_borne limits (ride_of second) tail ≡ true → In limits b (s + rest)
+        all-in : is_kept limits (ride_of first) stop ≡ true → is_kept limits (ride_of second) tail.at.stop ≡ true
+            → is_borne limits (ride_of second) tail ≡ true → In limits b (s + rest)
         all-in g h j =
-            let to_s = kept-behind limits b (m + 1) s (kept-more limits b m first kept at-first g) (λ k p l. let e : s ≡ k = omega arith in subst (Keeps limits b) e (keeps-true limits b s second at-second h)) in
+            let to_s = kept-behind limits b (m + 1) s (kept-more limits b m first kept at-first g)
+            (λ k p l. let e : s ≡ k = omega arith in subst (Keeps limits b) e (keeps-true limits b s second at-second h)) in
             kept-behind limits b s (s + rest) to_s (bears-true second at-second (keeps-true limits b s second at-second h) j)
 
-        by : (k l t : Bool) → is_kept limits (ride_of first) stop ≡ k → is_kept limits (ride_of second) tail.at.stop ≡ l → is_borne limits (ride_of second) tail ≡ t → EndIs limits b (s + rest) (length_along a (n + rest)) (cond (k && (l && t)) (Some (price (ride_of at) (distance at.stop stop) (distance stop tail.at.stop) tail)) None)
+        by : (k l t : Bool) → is_kept limits (ride_of first) stop ≡ k → is_kept limits (ride_of second) tail.at.stop ≡ l
+            → is_borne limits (ride_of second) tail ≡ t
+            → EndIs limits b (s + rest) (length_along a (n + rest))
+            (cond (k && (l && t)) (Some (price (ride_of at) (distance at.stop stop) (distance stop tail.at.stop) tail)) None)
         by false l t h _ _ = λ all. keeps-false limits b (m + 1) first at-first h (kept-here limits b (m + 1) (s + rest) (omega arith) (omega arith) all)
         by true false t _ h _ = λ all. keeps-false limits b s second at-second h (kept-here limits b s (s + rest) (omega arith) (omega arith) all)
-        by true true false _ h j = λ all. bears-false second at-second (keeps-true limits b s second at-second h) j (λ k p l. kept-here limits b k (s + rest) (omega arith) l all)
+        by true true false _ h j = λ all.
+            bears-false second at-second (keeps-true limits b s second at-second h) j
+            (λ k p l. kept-here limits b k (s + rest) (omega arith) l all)
         by true true true g h j = (all-in g h j, added-is second at-second)

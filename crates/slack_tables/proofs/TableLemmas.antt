@@ -1,5 +1,6 @@
 -- The table that the two passes make is one of the route's course.
-use Rattle.std.proofs.Common.{◌≡◌, ℕ, suc, ◌+◌, ◌-◌, ◌<◌, ◌≤◌, Bool, true, false, cond, eqb, List, [], ◌∷◌, Option, Some, None, map, take, drop, get_or, length, refl, sym, ap, ◌∙◌, arith, subst}
+use Rattle.std.proofs.Common.{◌≡◌, ℕ, suc, ◌+◌, ◌-◌, ◌<◌, ◌≤◌, Bool, true, false, cond, eqb, List, []}
+use Rattle.std.proofs.Common.{◌∷◌, Option, Some, None, map, take, drop, get_or, length, refl, sym, ap, ◌∙◌, arith, subst}
 use Rattle.std.specs.Prelude.{IsSome, unwrap_or}
 use Rattle.std.specs.List.{AllByRecursion}
 use Rattle.std.specs.Option.{option_or}
@@ -25,7 +26,8 @@ use Rattle.slack_tables.specs.declared.progress.Row.{Row}
 use Rattle.slack_tables.proofs.CourseLemmas.{place-on, places-on, limits-to}
 use Rattle.slack_tables.proofs.KnownLemmas.{timely, known, small, within}
 
-module _ (p : Instance) (route : List ℕ) (valid : IsInstance p) (keeps : KeepsLimits p route) (old : List Row) (opened : AreOpen (place p route) old) (long : length old ≡ length route + 2) where
+module _ (p : Instance) (route : List ℕ) (valid : IsInstance p) (keeps : KeepsLimits p route) (old : List Row)
+    (opened : AreOpen (place p route) old) (long : length old ≡ length route + 2) where
   limits : IsInLimits p.kind p.capacity (place p route) (length route + 1)
   limits = limits-to p route valid.depot.demand keeps
 
@@ -39,7 +41,8 @@ module _ (p : Instance) (route : List ℕ) (valid : IsInstance p) (keeps : Keeps
     stops-at : (d : Row) (i : ℕ) → i < length route → get_or (stops_within new) i p.depot ≡ get_or (map (stop_numbered p) route) i p.depot
     stops-at d i h =
         let rest = take (length new - 2) (drop 1 new) in
-        let rest_long : length (take (length new - 2) (drop 1 new)) ≡ length route = omega (arith, length-take (length new - 2) (drop 1 new), length-drop 1 new) in
+        let rest_long : length (take (length new - 2) (drop 1 new)) ≡ length route =
+        omega (arith, length-take (length new - 2) (drop 1 new), length-drop 1 new) in
         let read : get_or (stops_within new) i p.depot ≡ (get_or rest i d).at.stop = get_or-map (λ (e : Row). e.at.stop) rest i d p.depot (omega arith) in
         let there : get_or rest i d ≡ get_or new (1 + i) d = get_or-take (length new - 2) (drop 1 new) i d (omega arith) ∙ get_or_after_one new i d in
         let stop : (get_or new (1 + i) d).at.stop ≡ place p route (suc i) = (known-at (1 + i) d (omega arith)).at.stop ∙ ap (place p route) (omega arith) in
@@ -48,12 +51,15 @@ module _ (p : Instance) (route : List ℕ) (valid : IsInstance p) (keeps : Keeps
 
     stops-are : (d : Row) → stops_within new ≡ map (stop_numbered p) route
     stops-are d =
-        let rest_long : length (take (length new - 2) (drop 1 new)) ≡ length route = omega (arith, length-take (length new - 2) (drop 1 new), length-drop 1 new) in
+        let rest_long : length (take (length new - 2) (drop 1 new)) ≡ length route =
+        omega (arith, length-take (length new - 2) (drop 1 new), length-drop 1 new) in
         let short : length (stops_within new) ≡ length route = length-map (take (length new - 2) (drop 1 new)) (λ (e : Row). e.at.stop) ∙ rest_long in
-        ext_get_or p.depot (stops_within new) (map (stop_numbered p) route) (short ∙ sym (length-map route (stop_numbered p))) (λ i h. stops-at d i (omega arith))
+        ext_get_or p.depot (stops_within new) (map (stop_numbered p) route) (short ∙ sym (length-map route (stop_numbered p)))
+        (λ i h. stops-at d i (omega arith))
 
     -- what contracts see is the route's course
-    pub course-is : (d : Row) → ◌≡◌ {A = Course} (record { kind = p.kind; capacity = p.capacity; depot = p.depot; stops = stops_within new }) (course_of p route)
+    pub course-is : (d : Row)
+        → ◌≡◌ {A = Course} (record { kind = p.kind; capacity = p.capacity; depot = p.depot; stops = stops_within new }) (course_of p route)
     course-is d = ap (λ (ss : List Stop). record { kind = p.kind; capacity = p.capacity; depot = p.depot; stops = ss }) (stops-are d)
 
     are-known : AreKnown (course_of p route) new
@@ -65,8 +71,12 @@ module _ (p : Instance) (route : List ℕ) (valid : IsInstance p) (keeps : Keeps
           few = omega arith;
           small = λ k d h. small p.kind p.capacity (place p route) (length route + 1) limits old opened (omega arith) new filled k d (omega arith);
           within = λ k d h. within p.kind p.capacity (place p route) (length route + 1) limits old opened (omega arith) new filled k d (omega arith);
-          known = λ k d h. subst (λ n. IsKnown p.kind (stop_on (course_of p route)) (n + 1) k (get_or new k d)) (sym count) (subst (λ f. IsKnown p.kind f (length route + 1) k (get_or new k d)) on (known-at k d (omega arith)));
-          limits = subst (λ n. IsInLimits p.kind p.capacity (stop_on (course_of p route)) (n + 1)) (sym count) (subst (λ f. IsInLimits p.kind p.capacity f (length route + 1)) on limits);
+          known = λ k d h.
+              subst (λ n. IsKnown p.kind (stop_on (course_of p route)) (n + 1) k (get_or new k d)) (sym count)
+              (subst (λ f. IsKnown p.kind f (length route + 1) k (get_or new k d)) on (known-at k d (omega arith)));
+          limits =
+              subst (λ n. IsInLimits p.kind p.capacity (stop_on (course_of p route)) (n + 1)) (sym count)
+              (subst (λ f. IsInLimits p.kind p.capacity f (length route + 1)) on limits);
         }
 
     -- whatever contracts see it as
@@ -92,7 +102,8 @@ number-among : (n : ℕ) (es : List (ℕ × Request)) (s : Stop) → first_some 
 number-among n [] s is = nothing n s is
 number-among n (e ∷ es) s is = by (stop_in n e.1) (number-in n e.1 s) (number-among n es s) is
   where
-    by : (o : Option Stop) → (o ≡ Some s → s.number ≡ n) → (first_some (stop_in n) es ≡ Some s → s.number ≡ n) → option_or o (first_some (stop_in n) es) ≡ Some s → s.number ≡ n
+    by : (o : Option Stop) → (o ≡ Some s → s.number ≡ n) → (first_some (stop_in n) es ≡ Some s → s.number ≡ n)
+        → option_or o (first_some (stop_in n) es) ≡ Some s → s.number ≡ n
     by None here later h = later h
     by (Some t) here later h = here h
 
@@ -104,9 +115,12 @@ live-number p n valid live = by (stop_at p n) refl live (eqb n 0) refl
     by (Some s) is some true h = valid.depot.number ∙ sym (eqb-true n 0 h)
     by (Some s) is some false h = number-among n p.requests s is
 
-numbers-by : (p : Instance) (route : List ℕ) → IsInstance p → AllByRecursion (IsLive p) route → map (λ (s : Stop). s.number) (map (stop_numbered p) route) ≡ route
+numbers-by : (p : Instance) (route : List ℕ) → IsInstance p → AllByRecursion (IsLive p) route
+    → map (λ (s : Stop). s.number) (map (stop_numbered p) route) ≡ route
 numbers-by p [] valid live = refl
-numbers-by p (n ∷ route) valid live = ap (λ m. m ∷ map (λ (s : Stop). s.number) (map (stop_numbered p) route)) (live-number p n valid live.0) ∙ ap (λ ns. n ∷ ns) (numbers-by p route valid live.1)
+numbers-by p (n ∷ route) valid live =
+    ap (λ m. m ∷ map (λ (s : Stop). s.number) (map (stop_numbered p) route)) (live-number p n valid live.0)
+    ∙ ap (λ ns. n ∷ ns) (numbers-by p route valid live.1)
 
 -- the numbers of a route's course are the route
 pub numbers-are : (p : Instance) (route : List ℕ) → IsInstance p → AreLiveOnce p route → route_of (course_of p route) ≡ route

@@ -1,5 +1,6 @@
 -- Who is too late for a place of a table by more than 1 is too late for what is behind it, whatever stop comes in between.
-use Rattle.std.proofs.Common.{◌≡◌, ℕ, zero, suc, ◌+◌, ◌-◌, ◌<◌, ◌≤◌, ◌⊎◌, min, max, true, false, cond, int_le, ℤ, pos, ◌-ℤ◌, ◌+ℤ◌, List, get_or, length, Option, Some, None, refl, sym, ap, ◌∙◌, arith, subst, inl, inr}
+use Rattle.std.proofs.Common.{◌≡◌, ℕ, zero, suc, ◌+◌, ◌-◌, ◌<◌, ◌≤◌, ◌⊎◌, min, max, true, false, cond, int_le, ℤ}
+use Rattle.std.proofs.Common.{pos, ◌-ℤ◌, ◌+ℤ◌, List, get_or, length, Option, Some, None, refl, sym, ap, ◌∙◌, arith, subst, inl, inr}
 use Rattle.std.specs.Prelude.{nat_lt}
 use Rattle.std.proofs.lemmas.Bool.{leb-true, ltb-true, cases_lt, and_parts, or_cases, cond-false, false_from_ne_true}
 use Rattle.std.proofs.lemmas.Option.{none-some, option_and_then_some}
@@ -39,12 +40,20 @@ tight c places table = λ lilim k d h.
     let late : (get_or places (k + 1) d).at.stop.latest ≡ (stop_on c (k + 1)).latest = ap (λ (s : Stop). s.latest) (next.at.stop) in
     let latest : (stop_on c (k + 1)).latest ≤ 100000000 = omega arith in
     let window = table.limits.window lilim (k + 1) (omega arith) (omega arith) in
-    let fits : start_along (stop_on c) (k + 1) ≤ (get_or places (k + 1) d).latest_start = (next.latest_start lilim (start_along (stop_on c) (k + 1)) (omega arith)).0 (goes_on c.kind c.capacity (stop_on c) (length c.stops + 1) table.limits (k + 1)) in
-    let bound = bound-before c.kind (stop_on c) (length c.stops + 1) k (get_or places (k + 1) d).latest_start (start_along (stop_on c) (k + 1)) lilim (omega arith) (λ u v. next.latest_start lilim u v) (omega arith) fits window latest (omega arith) in
-    let goes : GoesOnAlong c.kind (stop_on c) (length c.stops + 1) k (min (get_or places (k + 1) d).latest_start (stop_on c (k + 1)).latest - stay (stop_on c) k) = (bound (min (get_or places (k + 1) d).latest_start (stop_on c (k + 1)).latest - stay (stop_on c) k) (omega arith)).1 (omega arith) in
+    let fits : start_along (stop_on c) (k + 1) ≤ (get_or places (k + 1) d).latest_start =
+    (next.latest_start lilim (start_along (stop_on c) (k + 1)) (omega arith)).0
+    (goes_on c.kind c.capacity (stop_on c) (length c.stops + 1) table.limits (k + 1)) in
+    let bound = bound-before c.kind (stop_on c) (length c.stops + 1) k (get_or places (k + 1) d).latest_start
+    (start_along (stop_on c) (k + 1)) lilim (omega arith) (λ u v. next.latest_start lilim u v) (omega arith) fits window latest
+    (omega arith) in
+    let goes : GoesOnAlong c.kind (stop_on c) (length c.stops + 1) k
+    (min (get_or places (k + 1) d).latest_start (stop_on c (k + 1)).latest - stay (stop_on c) k) =
+    (bound (min (get_or places (k + 1) d).latest_start (stop_on c (k + 1)).latest - stay (stop_on c) k) (omega arith)).1
+    (omega arith) in
     let less = (here.latest_start lilim (min (get_or places (k + 1) d).latest_start (stop_on c (k + 1)).latest - stay (stop_on c) k) (omega arith)).0 goes in
     let service : (get_or places k d).at.stop.service ≡ (stop_on c k).service = ap (λ (s : Stop). s.service) (here.at.stop) in
-    let way : distance (get_or places k d).at.stop (get_or places (k + 1) d).at.stop ≡ distance (stop_on c k) (stop_on c (k + 1)) = rw (here.at.stop, next.at.stop) refl in
+    let way : distance (get_or places k d).at.stop (get_or places (k + 1) d).at.stop ≡ distance (stop_on c k) (stop_on c (k + 1)) =
+    rw (here.at.stop, next.at.stop) refl in
     omega arith
 
 module _ (limits : Limits) (places : List Row) (d : Row) (lilim : limits.kind ≡ LiLim) (are : AreTight limits.kind places) (law : DetoursSaveAtMostOne) where
@@ -58,7 +67,9 @@ module _ (limits : Limits) (places : List Row) (d : Row) (lilim : limits.kind �
       let stop = after.0 in
       let next = are lilim k d within in
       let service : b.stop.service ≡ (get_or places k d).at.stop.service = ap (λ (s : Stop). s.service) stop in
-      let way : distance b.stop (get_or places (k + 1) d).at.stop ≡ distance (get_or places k d).at.stop (get_or places (k + 1) d).at.stop = ap (λ s. distance s (get_or places (k + 1) d).at.stop) stop in
+      let way : distance b.stop (get_or places (k + 1) d).at.stop
+      ≡ distance (get_or places k d).at.stop (get_or places (k + 1) d).at.stop =
+      ap (λ s. distance s (get_or places (k + 1) d).at.stop) stop in
       omega arith
 
   late-between : (a : Progress) (k : ℕ) (q : Stop) → IsLateFor a k → with_stop limits a q (get_or places k d) ≡ None
@@ -66,13 +77,18 @@ module _ (limits : Limits) (places : List Row) (d : Row) (lilim : limits.kind �
       let tail = get_or places k d in
       let b = driven_on a q in
       let c = driven_on (driven_on a q) tail.at.stop in
-      cond-false (is_served limits (ride_of a) a.stop.service (distance a.stop q) q (distance q tail.at.stop) tail) (Some (price (ride_of a) (distance a.stop q) (distance q tail.at.stop) tail)) None (false_from_ne_true _
+      cond-false (is_served limits (ride_of a) a.stop.service (distance a.stop q) q (distance q tail.at.stop) tail)
+      (Some (price (ride_of a) (distance a.stop q) (distance q tail.at.stop) tail)) None (false_from_ne_true _
       (λ all.
       (let first = and_parts (is_kept limits (ride_of b) q) _ all in
       let second = and_parts (is_kept limits (ride_of c) tail.at.stop) _ first.1 in
       let after = step-after limits b c tail.at.stop lilim (ap (λ k. cond k (Some c) None) second.0) in
       let saved = law a.stop tail.at.stop q in
-      let le = leb-true _ _ (subst (λ k. is_in_time k c.start tail.latest_start ≡ true) lilim (and_parts (int_le (c.load -ℤ tail.at.load +ℤ tail.most_load) (pos limits.capacity)) (is_in_time limits.kind c.start tail.latest_start) second.1).1) in
+      let le =
+      leb-true _ _
+      (subst (λ k. is_in_time k c.start tail.latest_start ≡ true) lilim
+      (and_parts (int_le (c.load -ℤ tail.at.load +ℤ tail.most_load) (pos limits.capacity))
+      (is_in_time limits.kind c.start tail.latest_start) second.1).1) in
       absurd (omega arith))))
 
   module _ (p : Stop) (i : ℕ) (first : (a : Progress) → stepped limits (get_or places (i - 1) d).at p ≡ Some a → IsLateFor a i) where
@@ -82,10 +98,13 @@ module _ (limits : Limits) (places : List Row) (d : Row) (lilim : limits.kind �
         subst (IsLateFor a) (sym (omega arith)) (first a (sym (walk-first limits places p i d) ∙ (sym (ap (walk_to limits places p i d) none) ∙ is)))
     walk-late (suc n) a within is =
         let next : i + 1 + suc n ≡ i + 1 + n + 1 = omega arith in
-        option_and_then_some _ _ a (sym (walk-more limits places p i d (i + 1 + n) (omega arith) (omega arith)) ∙ (sym (ap (walk_to limits places p i d) next) ∙ is))
+        option_and_then_some _ _ a
+        (sym (walk-more limits places p i d (i + 1 + n) (omega arith) (omega arith))
+        ∙ (sym (ap (walk_to limits places p i d) next) ∙ is))
         (λ b before step.
         (let late = walk-late n b (omega arith) before in
-        subst (IsLateFor a) (omega arith) (late-on b a (i + n) (omega arith) late (sym (ap (λ k. stepped limits b (get_or places k d).at.stop) (omega arith)) ∙ step))))
+        subst (IsLateFor a) (omega arith)
+        (late-on b a (i + n) (omega arith) late (sym (ap (λ k. stepped limits b (get_or places k d).at.stop) (omega arith)) ∙ step))))
 
     -- no delivery behind keeps the limits
     pub closed-by : (q : Stop) (j : ℕ) → i < j → j ≤ length places → with_pair limits places p q i j d ≡ None
@@ -112,13 +131,16 @@ module _ (limits : Limits) (places : List Row) (p : Stop) (i : ℕ) (are : AreTi
       by Vrp vrp = absurd (let no : false ≡ true = subst (λ k. is_due_before k e p.earliest ≡ true) vrp early in cc)
 
   -- a pickup that is late by ways from below, or makes the place behind it late
-  pub closed-late : limits.kind ≡ LiLim → (before next : Row) (to from : ℕ) → ((d : Row) → before ≡ get_or places (i - 1) d) → ((d : Row) → next ≡ get_or places i d) → ((d : Row) → to ≤ distance (get_or places (i - 1) d).at.stop p) → ((d : Row) → from ≤ distance (get_or places i d).at.stop p) → comes_late before next p to from ≡ true → IsClosed limits places p i
+  pub closed-late : limits.kind ≡ LiLim → (before next : Row) (to from : ℕ) → ((d : Row) → before ≡ get_or places (i - 1) d)
+      → ((d : Row) → next ≡ get_or places i d) → ((d : Row) → to ≤ distance (get_or places (i - 1) d).at.stop p)
+      → ((d : Row) → from ≤ distance (get_or places i d).at.stop p) → comes_late before next p to from ≡ true → IsClosed limits places p i
   closed-late lilim before next to from is_before is_next is_to is_from late = λ q j d. closed-by limits places d lilim are law p i (first d) q j
     where
       start : ℕ
       start = max (before.at.start + before.at.stop.service + to) p.earliest
 
-      first : (d : Row) (a : Progress) → stepped limits (get_or places (i - 1) d).at p ≡ Some a → due_of (get_or places i d) + 1 < a.start + a.stop.service + distance a.stop (get_or places i d).at.stop
+      first : (d : Row) (a : Progress) → stepped limits (get_or places (i - 1) d).at p ≡ Some a
+          → due_of (get_or places i d) + 1 < a.start + a.stop.service + distance a.stop (get_or places i d).at.stop
       first d a step = elim (or_cases (nat_lt p.latest start) (nat_lt (due_of next + 1) (start + p.service + from)) late) [
         | inl over ↦ (let less = ltb-true p.latest start over in let le = there in let in_time = after.2 in absurd (omega arith))
         | inr over ↦
@@ -126,11 +148,15 @@ module _ (limits : Limits) (places : List Row) (p : Stop) (i : ℕ) (are : AreTi
             let le = there in
             let same : due_of next ≡ due_of (get_or places i d) = ap due_of (is_next d) in
             let service : a.stop.service ≡ p.service = ap (λ (s : Stop). s.service) after.0 in
-            let way : distance a.stop (get_or places i d).at.stop ≡ distance (get_or places i d).at.stop p = ap (λ s. distance s (get_or places i d).at.stop) after.0 ∙ distance-back p (get_or places i d).at.stop in
+            let way : distance a.stop (get_or places i d).at.stop ≡ distance (get_or places i d).at.stop p =
+            ap (λ s. distance s (get_or places i d).at.stop) after.0 ∙ distance-back p (get_or places i d).at.stop in
             omega arith)
       ]
         where
-          after : (a.stop ≡ p) × ((get_or places (i - 1) d).at.start + (get_or places (i - 1) d).at.stop.service + distance (get_or places (i - 1) d).at.stop p ≤ a.start) × (a.start ≤ p.latest)
+          after : (a.stop ≡ p)
+              × ((get_or places (i - 1) d).at.start + (get_or places (i - 1) d).at.stop.service
+              + distance (get_or places (i - 1) d).at.stop p
+              ≤ a.start) × (a.start ≤ p.latest)
           after = step-after limits (get_or places (i - 1) d).at a p lilim step
 
           there : start ≤ a.start
@@ -143,7 +169,8 @@ module _ (limits : Limits) (places : List Row) (p : Stop) (i : ℕ) (are : AreTi
               omega arith
 
 -- ---- one place after another
-pub closed-more : (limits : Limits) (places : List Row) (p : Stop) (m n : ℕ) → AreClosed limits places p m n → IsClosed limits places p n → AreClosed limits places p m (n + 1)
+pub closed-more : (limits : Limits) (places : List Row) (p : Stop) (m n : ℕ) → AreClosed limits places p m n
+    → IsClosed limits places p n → AreClosed limits places p m (n + 1)
 closed-more limits places p m n are is = λ i behind before. by i behind before (cases_lt i n)
   where
     by : (i : ℕ) → m < i → i < n + 1 → (i < n) ⊎ (n ≤ i) → IsClosed limits places p i
@@ -151,16 +178,36 @@ closed-more limits places p m n are is = λ i behind before. by i behind before 
     by i behind before (inr last) = let same : n ≡ i = omega arith in subst (IsClosed limits places p) same is
 
 -- behind a place that is started after the pickup's latest time
-pub closed-past : (limits : Limits) (places : List Row) (p : Stop) (i : ℕ) (e : Row) → AreRising places → 1 ≤ i → ((d : Row) → e ≡ get_or places (i - 1) d) → is_in_time limits.kind e.at.start p.latest ≡ false → AreClosed limits places p (i - 1) (length places)
-closed-past limits places p i e rising one is late = λ k behind before q j d order last. late-pickup limits places p q d rising i k j one (omega arith) order last (subst (λ (e : Row). is_in_time limits.kind e.at.start p.latest ≡ false) (is d) late)
+pub closed-past : (limits : Limits) (places : List Row) (p : Stop) (i : ℕ) (e : Row) → AreRising places → 1 ≤ i
+    → ((d : Row) → e ≡ get_or places (i - 1) d) → is_in_time limits.kind e.at.start p.latest ≡ false
+    → AreClosed limits places p (i - 1) (length places)
+closed-past limits places p i e rising one is late = λ k behind before q j d order last.
+    late-pickup limits places p q d rising i k j one (omega arith) order last
+    (subst (λ (e : Row). is_in_time limits.kind e.at.start p.latest ≡ false) (is d) late)
 
 -- ---- what is closed adds nothing
-pub open-only : (limits : Limits) (places : List Row) (p q : Stop) (kept first : ℕ) (below : ℤ) (d : Row) (o : Option Addition) → kept < first → AreClosed limits places p kept first → IsFirstOf (AddsPair limits places p q (first - 1) below d) o → IsFirstOf (AddsPair limits places p q kept below d) o
-open-only limits places p q kept first below d o later closed is = first-same _ _ (λ a adds. (record { behind = let behind = adds.0.behind in omega arith; order = adds.0.order; within = adds.0.within; added = adds.0.added }, adds.1)) (λ a adds. (record { behind = by a adds (cases_lt a.pickup first); order = adds.0.order; within = adds.0.within; added = adds.0.added }, adds.1)) o is
+pub open-only : (limits : Limits) (places : List Row) (p q : Stop) (kept first : ℕ) (below : ℤ) (d : Row) (o : Option Addition)
+    → kept < first → AreClosed limits places p kept first → IsFirstOf (AddsPair limits places p q (first - 1) below d) o
+    → IsFirstOf (AddsPair limits places p q kept below d) o
+open-only limits places p q kept first below d o later closed is =
+    first-same _ _
+    (λ a adds. (
+      record { behind = let behind = adds.0.behind in omega arith; order = adds.0.order; within = adds.0.within; added = adds.0.added },
+      adds.1,
+    ))
+    (λ a adds. (
+      record { behind = by a adds (cases_lt a.pickup first); order = adds.0.order; within = adds.0.within; added = adds.0.added },
+      adds.1,
+    )) o is
   where
     by : (a : Addition) → AddsPair limits places p q kept below d a → (a.pickup < first) ⊎ (first ≤ a.pickup) → first - 1 < a.pickup
     by a adds (inl before) = absurd (none-some a.distance (sym (closed a.pickup adds.0.behind before q a.delivery d adds.0.order adds.0.within) ∙ adds.0.added))
     by a adds (inr behind) = omega arith
 
-pub none-open : (limits : Limits) (places : List Row) (p q : Stop) (kept : ℕ) (below : ℤ) (d : Row) → AreClosed limits places p kept (length places) → IsFirstOf (AddsPair limits places p q kept below d) None
-none-open limits places p q kept below d closed = λ a adds. none-some a.distance (sym (closed a.pickup adds.0.behind (let order = adds.0.order in let within = adds.0.within in omega arith) q a.delivery d adds.0.order adds.0.within) ∙ adds.0.added)
+pub none-open : (limits : Limits) (places : List Row) (p q : Stop) (kept : ℕ) (below : ℤ) (d : Row)
+    → AreClosed limits places p kept (length places) → IsFirstOf (AddsPair limits places p q kept below d) None
+none-open limits places p q kept below d closed = λ a adds.
+    none-some a.distance
+    (sym (closed a.pickup adds.0.behind
+    (let order = adds.0.order in let within = adds.0.within in omega arith) q a.delivery d adds.0.order adds.0.within)
+    ∙ adds.0.added)

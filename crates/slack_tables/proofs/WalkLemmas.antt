@@ -1,5 +1,6 @@
 -- A vehicle on its way with a pickup on board, place after place.
-use Rattle.std.proofs.Common.{◌≡◌, ℕ, zero, suc, ◌+◌, ◌-◌, ◌^◌, ◌<◌, ◌≤◌, Bool, true, false, cond, int_lt, T, ℤ, pos, ◌-ℤ◌, ◌<ℤ◌, List, get_or, length, Option, Some, None, refl, sym, ap, ◌∙◌, arith, subst}
+use Rattle.std.proofs.Common.{◌≡◌, ℕ, zero, suc, ◌+◌, ◌-◌, ◌^◌, ◌<◌, ◌≤◌, Bool, true, false, cond, int_lt, T}
+use Rattle.std.proofs.Common.{ℤ, pos, ◌-ℤ◌, ◌<ℤ◌, List, get_or, length, Option, Some, None, refl, sym, ap, ◌∙◌, arith, subst}
 use Rattle.std.specs.Prelude.{All, unsigned_abs}
 use Rattle.std.specs.Option.{option_and_then, option_map}
 use Rattle.std.proofs.lemmas.Bool.{ltb-true, lt-ltb, cond-true}
@@ -37,7 +38,8 @@ option_map-none : {A B : Type 0} (f : A → B) (o : Option A) → None ≡ optio
 option_map-none f None is = refl
 option_map-none f (Some x) is = absurd (none-some (f x) is)
 
-cond_map : {A B : Type 0} (b : Bool) (f : A → B) (o : Option A) (y : B) → Some y ≡ cond b (option_map f o) None → (b ≡ true) × (x : A) × (o ≡ Some x) × (y ≡ f x)
+cond_map : {A B : Type 0} (b : Bool) (f : A → B) (o : Option A) (y : B) → Some y ≡ cond b (option_map f o) None
+    → (b ≡ true) × (x : A) × (o ≡ Some x) × (y ≡ f x)
 cond_map true f o y is = let from = option_map-some f o y is in (refl, from.0, from.1, from.2)
 cond_map false f o y is = absurd (none-some y (sym is))
 
@@ -47,15 +49,20 @@ and_then-none f None each = refl
 and_then-none f (Some x) each = each x refl
 
 -- ---- a ride is what a vehicle's progress is at a stop
-stepped-is : (limits : Limits) (r : Ride) (a s : Stop) → stepped limits (ride_at r a) s ≡ option_map (λ r. ride_at r s) (ridden limits r a.service (distance a s) s)
+stepped-is : (limits : Limits) (r : Ride) (a s : Stop)
+    → stepped limits (ride_at r a) s ≡ option_map (λ r. ride_at r s) (ridden limits r a.service (distance a s) s)
 stepped-is limits r a s = by (is_kept limits (driven r a.service (distance a s) s) s)
   where
-    by : (b : Bool) → cond b (Some (ride_at (driven r a.service (distance a s) s) s)) None ≡ option_map (λ r. ride_at r s) (cond b (Some (driven r a.service (distance a s) s)) None)
+    by : (b : Bool)
+        → cond b (Some (ride_at (driven r a.service (distance a s) s) s)) None
+        ≡ option_map (λ r. ride_at r s) (cond b (Some (driven r a.service (distance a s) s)) None)
     by true = refl
     by false = refl
 
 -- every price is below the greatest number
-pub served-any : (limits : Limits) (a : Progress) (s : Stop) (tail e : Row) (r : Ride) (service to from : ℕ) → r ≡ ride_of a → service ≡ a.stop.service → to ≡ distance a.stop s → from ≡ distance tail.at.stop s → e ≡ tail → r.distance + to + from ≤ 2 ^ 60 → served_below (pos 9223372036854775807) limits r service to s from e ≡ with_stop limits a s tail
+pub served-any : (limits : Limits) (a : Progress) (s : Stop) (tail e : Row) (r : Ride) (service to from : ℕ) → r ≡ ride_of a
+    → service ≡ a.stop.service → to ≡ distance a.stop s → from ≡ distance tail.at.stop s → e ≡ tail → r.distance + to + from ≤ 2 ^ 60
+    → served_below (pos 9223372036854775807) limits r service to s from e ≡ with_stop limits a s tail
 served-any limits a s tail e r service to from is_ride is_service is_to is_from is_tail few =
     let less : price r to from e <ℤ pos 9223372036854775807 = omega (arith, ints) in
     let back : from ≡ distance s tail.at.stop = is_from ∙ distance-back tail.at.stop s in
@@ -66,7 +73,8 @@ served-any limits a s tail e r service to from is_ride is_service is_to is_from 
     by false none = absurd none
 
 -- what costs the bound or more is not taken anyway
-pub offer-below : (best : Best) (kept : Bool) (x : ℤ) (i j : ℕ) → offered best (cond (int_lt x best.bound) (cond kept (Some x) None) None) i j ≡ offered best (cond kept (Some x) None) i j
+pub offer-below : (best : Best) (kept : Bool) (x : ℤ) (i j : ℕ)
+    → offered best (cond (int_lt x best.bound) (cond kept (Some x) None) None) i j ≡ offered best (cond kept (Some x) None) i j
 offer-below best kept x i j = by kept (int_lt x best.bound) refl
   where
     by : (k l : Bool) → int_lt x best.bound ≡ l → offered best (cond l (cond k (Some x) None) None) i j ≡ offered best (cond k (Some x) None) i j
@@ -80,21 +88,32 @@ module _ (limits : Limits) (places : List Row) (p : Stop) (i : ℕ) (d : Row) wh
   unfolding walk_to
   walk-first = let none : i + 1 - (i + 1) ≡ 0 = omega arith in ap (walked limits places p i d) none
 
-  pub walk-more : (j : ℕ) → i < j → j ≤ length places → walk_to limits places p i d (j + 1) ≡ option_and_then (λ at. stepped limits at (get_or places (j - 1) d).at.stop) (walk_to limits places p i d j)
+  pub walk-more : (j : ℕ) → i < j → j ≤ length places
+      → walk_to limits places p i d (j + 1)
+      ≡ option_and_then (λ at. stepped limits at (get_or places (j - 1) d).at.stop) (walk_to limits places p i d j)
   unfolding walk_to
   walk-more j order within =
       let more : j + 1 - (i + 1) ≡ suc (j - (i + 1)) = omega arith in
       let here : i + (j - (i + 1)) ≡ j - 1 = omega arith in
-      ap (walked limits places p i d) more ∙ ap (λ k. option_and_then (λ at. stepped limits at (get_or places k d).at.stop) (walked limits places p i d (j - (i + 1)))) here
+      ap (walked limits places p i d) more
+      ∙ ap (λ k. option_and_then (λ at. stepped limits at (get_or places k d).at.stop) (walked limits places p i d (j - (i + 1)))) here
 
   -- the same by rides
-  pub first-ride : (before : Row) (to : ℕ) (o : Option Ride) → before ≡ get_or places (i - 1) d → to ≡ distance before.at.stop p → o ≡ ridden limits (ride_of before.at) before.at.stop.service to p → walk_to limits places p i d (i + 1) ≡ option_map (λ r. ride_at r p) o
+  pub first-ride : (before : Row) (to : ℕ) (o : Option Ride) → before ≡ get_or places (i - 1) d → to ≡ distance before.at.stop p
+      → o ≡ ridden limits (ride_of before.at) before.at.stop.service to p
+      → walk_to limits places p i d (i + 1) ≡ option_map (λ r. ride_at r p) o
   first-ride before to o is_before is_to made =
-      walk-first ∙ (ap (λ (e : Row). stepped limits e.at p) (sym is_before) ∙ (stepped-is limits (ride_of before.at) before.at.stop p ∙ ap (λ o. option_map (λ r. ride_at r p) o) (sym (made ∙ rw is_to refl))))
+      walk-first ∙ (ap (λ (e : Row). stepped limits e.at p) (sym is_before)
+      ∙ (stepped-is limits (ride_of before.at) before.at.stop p
+      ∙ ap (λ o. option_map (λ r. ride_at r p) o) (sym (made ∙ rw is_to refl))))
 
-  pub next-ride : (j : ℕ) (r : Ride) (a : Stop) (e : Row) (leg : ℕ) (o : Option Ride) → i < j → j ≤ length places → walk_to limits places p i d j ≡ Some (ride_at r a) → e ≡ get_or places (j - 1) d → leg ≡ distance a e.at.stop → o ≡ ridden limits r a.service leg e.at.stop → walk_to limits places p i d (j + 1) ≡ option_map (λ r. ride_at r e.at.stop) o
+  pub next-ride : (j : ℕ) (r : Ride) (a : Stop) (e : Row) (leg : ℕ) (o : Option Ride) → i < j → j ≤ length places
+      → walk_to limits places p i d j ≡ Some (ride_at r a) → e ≡ get_or places (j - 1) d → leg ≡ distance a e.at.stop
+      → o ≡ ridden limits r a.service leg e.at.stop → walk_to limits places p i d (j + 1) ≡ option_map (λ r. ride_at r e.at.stop) o
   next-ride j r a e leg o order within here is_e is_leg made =
-      walk-more j order within ∙ (ap (λ (e : Row). option_and_then (λ at. stepped limits at e.at.stop) (walk_to limits places p i d j)) (sym is_e) ∙ (ap (λ o. option_and_then (λ at. stepped limits at e.at.stop) o) here ∙
+      walk-more j order within
+      ∙ (ap (λ (e : Row). option_and_then (λ at. stepped limits at e.at.stop) (walk_to limits places p i d j)) (sym is_e)
+      ∙ (ap (λ o. option_and_then (λ at. stepped limits at e.at.stop) o) here ∙
       (stepped-is limits r a e.at.stop ∙ ap (λ o. option_map (λ r. ride_at r e.at.stop) o) (sym (made ∙ rw is_leg refl)))))
 
   -- where the vehicle can't go on, it doesn't come further
@@ -102,31 +121,43 @@ module _ (limits : Limits) (places : List Row) (p : Stop) (i : ℕ) (d : Row) wh
   walk-over j zero order within never = let same : j + 0 ≡ j = omega arith in ap (walk_to limits places p i d) same ∙ never
   walk-over j (suc n) order within never =
       let before : walk_to limits places p i d (j + n) ≡ None = walk-over j n order (omega arith) never in
-      ap (walk_to limits places p i d) (omega arith) ∙ (walk-more (j + n) (omega arith) (omega arith) ∙ ap (λ o. option_and_then (λ at. stepped limits at (get_or places (j + n - 1) d).at.stop) o) before)
+      ap (walk_to limits places p i d) (omega arith)
+      ∙ (walk-more (j + n) (omega arith) (omega arith)
+      ∙ ap (λ o. option_and_then (λ at. stepped limits at (get_or places (j + n - 1) d).at.stop) o) before)
 
   module _ (q : Stop) where
     -- nor does a delivery further on keep the limits
     pub pair-over : (j k : ℕ) → i < j → j ≤ k → k ≤ length places → walk_to limits places p i d j ≡ None → with_pair limits places p q i k d ≡ None
     pair-over j k order behind within never =
-        let there : walk_to limits places p i d k ≡ None = subst (λ m. walk_to limits places p i d m ≡ None) (omega arith) (walk-over j (k - j) order (omega arith) never) in
+        let there : walk_to limits places p i d k ≡ None =
+        subst (λ m. walk_to limits places p i d m ≡ None) (omega arith) (walk-over j (k - j) order (omega arith) never) in
         ap (λ o. option_and_then (λ at. with_stop limits at q (get_or places (k - 1) d)) o) there
 
-    pub pair-served : (j : ℕ) (r : Ride) (a : Stop) → walk_to limits places p i d j ≡ Some (ride_at r a) → with_pair limits places p q i j d ≡ served limits r a.service (distance a q) q (distance q (get_or places (j - 1) d).at.stop) (get_or places (j - 1) d)
+    pub pair-served : (j : ℕ) (r : Ride) (a : Stop) → walk_to limits places p i d j ≡ Some (ride_at r a)
+        → with_pair limits places p q i j d
+        ≡ served limits r a.service (distance a q) q (distance q (get_or places (j - 1) d).at.stop) (get_or places (j - 1) d)
     pair-served j r a here = ap (λ o. option_and_then (λ at. with_stop limits at q (get_or places (j - 1) d)) o) here
 
 -- ---- the ways of the table
-pub linked-at : (places : List Row) → AreLinked places → (j : ℕ) (d : Row) → 1 ≤ j → j < length places → (get_or places j d).at.distance ≡ (get_or places (j - 1) d).at.distance + distance (get_or places (j - 1) d).at.stop (get_or places j d).at.stop
+pub linked-at : (places : List Row) → AreLinked places → (j : ℕ) (d : Row) → 1 ≤ j → j < length places
+    → (get_or places j d).at.distance
+    ≡ (get_or places (j - 1) d).at.distance + distance (get_or places (j - 1) d).at.stop (get_or places j d).at.stop
 linked-at places linked j d one within =
     let next : j - 1 + 1 ≡ j = omega arith in
-    subst (λ k. (get_or places k d).at.distance ≡ (get_or places (j - 1) d).at.distance + distance (get_or places (j - 1) d).at.stop (get_or places k d).at.stop) next (linked (j - 1) d (omega arith))
+    subst (λ k. (get_or places k d).at.distance
+    ≡ (get_or places (j - 1) d).at.distance + distance (get_or places (j - 1) d).at.stop (get_or places k d).at.stop) next
+    (linked (j - 1) d (omega arith))
 
 -- ---- the loop over the delivery's places
 module _ (limits : Limits) (places : List Row) (p q : Stop) (i : ℕ) (d : Row) where
-  module _ (t : Trip) (before : Row) (to onward : ℕ) (is_limits : t.limits ≡ limits) (is_p : t.pickup ≡ p) (is_before : before ≡ get_or places (i - 1) d) (is_to : to ≡ distance before.at.stop p) where
+  module _ (t : Trip) (before : Row) (to onward : ℕ) (is_limits : t.limits ≡ limits) (is_p : t.pickup ≡ p)
+      (is_before : before ≡ get_or places (i - 1) d) (is_to : to ≡ distance before.at.stop p) where
     first : walk_to limits places p i d (i + 1) ≡ option_map (λ r. ride_at r p) (ridden t.limits (ride_of before.at) before.at.stop.service to t.pickup)
     first = first-ride limits places p i d before to _ is_before is_to (rw (is_limits, is_p) refl)
 
-    pub underway-begin : (on : Underway) → t.delivery ≡ q → t.across ≡ distance t.pickup t.delivery → onward ≡ distance (get_or places i d).at.stop p → Some on ≡ picked_up t before.at to onward → IsUnderway limits places p q i (i + 1) d on
+    pub underway-begin : (on : Underway) → t.delivery ≡ q → t.across ≡ distance t.pickup t.delivery
+        → onward ≡ distance (get_or places i d).at.stop p → Some on ≡ picked_up t before.at to onward
+        → IsUnderway limits places p q i (i + 1) d on
     underway-begin on is_q is_across is_onward made =
         let from = option_map-some _ _ on made in
         record {
@@ -134,27 +165,47 @@ module _ (limits : Limits) (places : List Row) (p q : Stop) (i : ℕ) (d : Row) 
           walk = first ∙ (ap (λ o. option_map (λ r. ride_at r p) o) from.1 ∙ ap (λ (w : Underway). Some (ride_at w.ride p)) (sym from.2));
           service = ap (λ w. w.service) from.2 ∙ ap (λ (x : Stop). x.service) is_p;
           to_delivery = ap (λ w. w.to_delivery) from.2 ∙ (is_across ∙ rw (is_p, is_q) refl);
-          onward = ap (λ w. w.onward) from.2 ∙ (is_onward ∙ (distance-back (get_or places i d).at.stop p ∙ ap (λ k. distance p (get_or places k d).at.stop) (sym (omega arith))));
+          onward =
+              ap (λ w. w.onward) from.2
+              ∙ (is_onward
+              ∙ (distance-back (get_or places i d).at.stop p ∙ ap (λ k. distance p (get_or places k d).at.stop) (sym (omega arith))));
         }
 
     -- where the pickup exceeds a limit, there is no place for the delivery
     pub not-begun : None ≡ picked_up t before.at to onward → (j : ℕ) → i + 1 ≤ j → j ≤ length places → with_pair limits places p q i j d ≡ None
-    not-begun made j behind last = pair-over limits places p i d q (i + 1) j (omega arith) behind last (first ∙ ap (λ o. option_map (λ r. ride_at r p) o) (option_map-none _ _ made))
+    not-begun made j behind last =
+        pair-over limits places p i d q (i + 1) j (omega arith) behind last
+        (first ∙ ap (λ o. option_map (λ r. ride_at r p) o) (option_map-none _ _ made))
 
   module _ (j : ℕ) (on : Underway) (order : i < j) (within : j ≤ length places) where
-    walk-next : IsUnderway limits places p q i j d on → walk_to limits places p i d (j + 1) ≡ option_map (λ r. ride_at r (get_or places (j - 1) d).at.stop) (ridden limits on.ride on.service on.onward (get_or places (j - 1) d).at.stop)
-    walk-next is = next-ride limits places p i d j on.ride is.stop (get_or places (j - 1) d) on.onward _ order within is.walk refl is.onward (rw is.service refl)
+    walk-next : IsUnderway limits places p q i j d on
+        → walk_to limits places p i d (j + 1)
+        ≡ option_map (λ r. ride_at r (get_or places (j - 1) d).at.stop)
+        (ridden limits on.ride on.service on.onward (get_or places (j - 1) d).at.stop)
+    walk-next is =
+        next-ride limits places p i d j on.ride is.stop (get_or places (j - 1) d) on.onward _ order within is.walk refl is.onward
+        (rw is.service refl)
 
     -- who goes on is at the next place, which is not the last
-    gone : (to : ℕ) (next : Underway) → Some next ≡ gone_on limits on places j to d → (j < length places) × (ridden limits on.ride on.service on.onward (get_or places (j - 1) d).at.stop ≡ Some next.ride) × (next ≡ gone_to next.ride places j to d)
+    gone : (to : ℕ) (next : Underway) → Some next ≡ gone_on limits on places j to d
+        → (j < length places) × (ridden limits on.ride on.service on.onward (get_or places (j - 1) d).at.stop ≡ Some next.ride)
+        × (next ≡ gone_to next.ride places j to d)
     gone to next made =
-        let ways = cond_map _ _ _ next made in
-        (ltb-true _ _ ways.0, ways.2 ∙ ap (λ (w : Underway). Some w.ride) (sym ways.3), ways.3 ∙ ap (λ (w : Underway). gone_to w.ride places j to d) (sym ways.3))
+        let ways = cond_map _ _ _ next made in (
+          ltb-true _ _ ways.0,
+          ways.2 ∙ ap (λ (w : Underway). Some w.ride) (sym ways.3),
+          ways.3
+              ∙ ap (λ (w : Underway). gone_to w.ride places j to d) (sym ways.3),
+        )
 
-    pub underway-more : IsUnderway limits places p q i j d on → AreLinked places → 1 ≤ i → (to : ℕ) (next : Underway) → to ≡ distance (get_or places (j - 1) d).at.stop q → Some next ≡ gone_on limits on places j to d → IsUnderway limits places p q i (j + 1) d next
+    pub underway-more : IsUnderway limits places p q i j d on → AreLinked places → 1 ≤ i → (to : ℕ) (next : Underway)
+        → to ≡ distance (get_or places (j - 1) d).at.stop q → Some next ≡ gone_on limits on places j to d
+        → IsUnderway limits places p q i (j + 1) d next
     underway-more is linked one to next is_to made =
         let after = gone to next made in
-        let edge : (get_or places j d).at.distance - (get_or places (j - 1) d).at.distance ≡ distance (get_or places (j - 1) d).at.stop (get_or places j d).at.stop = omega (arith, linked-at places linked j d (omega arith) after.0) in
+        let edge : (get_or places j d).at.distance - (get_or places (j - 1) d).at.distance
+        ≡ distance (get_or places (j - 1) d).at.stop (get_or places j d).at.stop =
+        omega (arith, linked-at places linked j d (omega arith) after.0) in
         record {
           stop = (get_or places (j - 1) d).at.stop;
           walk = walk-next is ∙ ap (λ o. option_map (λ r. ride_at r (get_or places (j - 1) d).at.stop) o) after.1;
@@ -166,34 +217,47 @@ module _ (limits : Limits) (places : List Row) (p q : Stop) (i : ℕ) (d : Row) 
     pub not-last : (to : ℕ) (next : Underway) → Some next ≡ gone_on limits on places j to d → j < length places
     not-last to next made = (gone to next made).0
 
-    pub near-more : IsNearWay places j d on → AreLinked places → 1 ≤ i → (to : ℕ) (next : Underway) → to ≤ 2 ^ 32 → Some next ≡ gone_on limits on places j to d → IsNearRide on.ride on.onward next.ride → IsNearWay places (j + 1) d next
+    pub near-more : IsNearWay places j d on → AreLinked places → 1 ≤ i → (to : ℕ) (next : Underway) → to ≤ 2 ^ 32
+        → Some next ≡ gone_on limits on places j to d → IsNearRide on.ride on.onward next.ride → IsNearWay places (j + 1) d next
     near-more is linked one to next is_to made near =
         let after = gone to next made in
         let onward : next.onward ≡ (get_or places j d).at.distance - (get_or places (j - 1) d).at.distance = ap (λ w. w.onward) after.2 in
         let is_to' : next.to_delivery ≡ to = ap (λ w. w.to_delivery) after.2 in
-        let here : (get_or places (j + 1 - 1) d).at.distance ≡ (get_or places j d).at.distance = (let e : j + 1 - 1 ≡ j = omega arith in ap (λ k. (get_or places k d).at.distance) e) in
+        let here : (get_or places (j + 1 - 1) d).at.distance ≡ (get_or places j d).at.distance =
+        (let e : j + 1 - 1 ≡ j = omega arith in ap (λ k. (get_or places k d).at.distance) e) in
         let link = linked-at places linked j d (omega arith) after.0 in
         let start = is.start in
         let load = is.load in
         record { start = omega arith; load = omega arith; distance = omega arith; to_delivery = omega arith }
 
     -- where the vehicle does not go on, there is no further place of the delivery
-    pub over : IsUnderway limits places p q i j d on → (to : ℕ) → None ≡ gone_on limits on places j to d → (k : ℕ) → j < k → k ≤ length places → with_pair limits places p q i k d ≡ None
+    pub over : IsUnderway limits places p q i j d on → (to : ℕ) → None ≡ gone_on limits on places j to d → (k : ℕ) → j < k
+        → k ≤ length places → with_pair limits places p q i k d ≡ None
     over is to made k behind last =
         let stays = option_map-none _ _ (made ∙ cond-true _ _ _ (lt-ltb j (length places) (omega arith))) in
-        pair-over limits places p i d q (j + 1) k (omega arith) (omega arith) last (walk-next is ∙ ap (λ o. option_map (λ r. ride_at r (get_or places (j - 1) d).at.stop) o) stays)
+        pair-over limits places p i d q (j + 1) k (omega arith) (omega arith) last
+        (walk-next is ∙ ap (λ o. option_map (λ r. ride_at r (get_or places (j - 1) d).at.stop) o) stays)
 
     -- what the loop offers is what the delivery at place j adds
-    pub offered-here : IsUnderway limits places p q i j d on → (best next : Best) (tail : Row) (from : ℕ) → tail ≡ get_or places (j - 1) d → from ≡ distance tail.at.stop q → next ≡ offered best (served_below best.bound limits on.ride on.service on.to_delivery q from tail) i j → next ≡ offered best (with_pair limits places p q i j d) i j
+    pub offered-here : IsUnderway limits places p q i j d on → (best next : Best) (tail : Row) (from : ℕ)
+        → tail ≡ get_or places (j - 1) d → from ≡ distance tail.at.stop q
+        → next ≡ offered best (served_below best.bound limits on.ride on.service on.to_delivery q from tail) i j
+        → next ≡ offered best (with_pair limits places p q i j d) i j
     offered-here is best next tail from is_tail is_from made =
         let cheap = offer-below best (is_served limits on.ride on.service on.to_delivery q from tail) (price on.ride on.to_delivery from tail) i j in
         let back : from ≡ distance q tail.at.stop = is_from ∙ distance-back tail.at.stop q in
-        let ways : served limits on.ride on.service on.to_delivery q from tail ≡ served limits on.ride is.stop.service (distance is.stop q) q (distance q tail.at.stop) tail = rw (is.service, is.to_delivery, back) refl in
-        let there : served limits on.ride is.stop.service (distance is.stop q) q (distance q tail.at.stop) tail ≡ served limits on.ride is.stop.service (distance is.stop q) q (distance q (get_or places (j - 1) d).at.stop) (get_or places (j - 1) d) = ap (λ (e : Row). served limits on.ride is.stop.service (distance is.stop q) q (distance q e.at.stop) e) is_tail in
+        let ways : served limits on.ride on.service on.to_delivery q from tail
+        ≡ served limits on.ride is.stop.service (distance is.stop q) q (distance q tail.at.stop) tail =
+        rw (is.service, is.to_delivery, back) refl in
+        let there : served limits on.ride is.stop.service (distance is.stop q) q (distance q tail.at.stop) tail
+        ≡ served limits on.ride is.stop.service (distance is.stop q) q (distance q (get_or places (j - 1) d).at.stop)
+        (get_or places (j - 1) d) =
+        ap (λ (e : Row). served limits on.ride is.stop.service (distance is.stop q) q (distance q e.at.stop) e) is_tail in
         made ∙ (cheap ∙ ap (λ o. offered best o i j) (ways ∙ (there ∙ sym (pair-served limits places p i d q j on.ride is.stop is.walk))))
 
 -- how far it is from where sums would wrap
-pub near-small : (places : List Row) (j : ℕ) (d : Row) (on : Underway) → All IsSmallRow places → length places ≤ 40003 → 1 ≤ j → j ≤ length places → IsNearWay places j d on → IsSmallRide (2 ^ 56) on.ride × (on.onward ≤ 2 ^ 56)
+pub near-small : (places : List Row) (j : ℕ) (d : Row) (on : Underway) → All IsSmallRow places → length places ≤ 40003 → 1 ≤ j
+    → j ≤ length places → IsNearWay places j d on → IsSmallRide (2 ^ 56) on.ride × (on.onward ≤ 2 ^ 56)
 near-small places j d on small few one within near =
     let place = (small (j - 1) d (omega arith)).at.distance in
     let start = near.start in
@@ -201,9 +265,13 @@ near-small places j d on small few one within near =
     (record { start = omega arith; load = omega arith; distance = omega arith }, omega arith)
 
 -- ---- a single
-pub offered-single : (limits : Limits) (places : List Row) (s : Stop) (i : ℕ) (d : Row) (best next : Best) → next ≡ offered best (served_single best.bound limits places s i d) i i → next ≡ offered best (with_single limits places s i d) i i
+pub offered-single : (limits : Limits) (places : List Row) (s : Stop) (i : ℕ) (d : Row) (best next : Best)
+    → next ≡ offered best (served_single best.bound limits places s i d) i i → next ≡ offered best (with_single limits places s i d) i i
 offered-single limits places s i d best next made =
     let before = get_or places (i - 1) d in
     let tail = get_or places i d in
-    let cheap = offer-below best (is_served limits (ride_of before.at) before.at.stop.service (distance before.at.stop s) s (distance tail.at.stop s) tail) (price (ride_of before.at) (distance before.at.stop s) (distance tail.at.stop s) tail) i i in
+    let cheap =
+    offer-below best
+    (is_served limits (ride_of before.at) before.at.stop.service (distance before.at.stop s) s (distance tail.at.stop s) tail)
+    (price (ride_of before.at) (distance before.at.stop s) (distance tail.at.stop s) tail) i i in
     made ∙ (cheap ∙ rw (distance-back tail.at.stop s) refl)

@@ -28,4 +28,6 @@ IsBestAddition p route r kept below answer = IsFirstOf (Adds p route r kept belo
 
 -- there is one first
 abbrev pub BestIsOne : Type 0
-BestIsOne = (p : Instance) (route : List ℕ) (r : Request) (kept : ℕ) (below : ℤ) (a b : Option Addition) → IsBestAddition p route r kept below a → IsBestAddition p route r kept below b → a ≡ b
+BestIsOne =
+    (p : Instance) (route : List ℕ) (r : Request) (kept : ℕ) (below : ℤ) (a b : Option Addition) → IsBestAddition p route r kept below a
+    → IsBestAddition p route r kept below b → a ≡ b

@@ -14,7 +14,11 @@ due_of e = min e.latest_start e.at.stop.latest
 
 -- who is at a place after its latest start is too late for the next one
 abbrev pub AreTight : Kind → List Row → Type 0
-AreTight kind places = kind ≡ LiLim → (k : ℕ) (d : Row) → k + 1 < length places → due_of (slice_index_or places (k + 1) d) ≤ (slice_index_or places k d).latest_start + (slice_index_or places k d).at.stop.service + distance (slice_index_or places k d).at.stop (slice_index_or places (k + 1) d).at.stop
+AreTight kind places =
+    kind ≡ LiLim → (k : ℕ) (d : Row) → k + 1 < length places
+    → due_of (slice_index_or places (k + 1) d)
+    ≤ (slice_index_or places k d).latest_start + (slice_index_or places k d).at.stop.service
+    + distance (slice_index_or places k d).at.stop (slice_index_or places (k + 1) d).at.stop
 
 -- no pair fits whose pickup stands at place i
 abbrev pub IsClosed : Limits → List Row → Stop → ℕ → Type 0

@@ -33,4 +33,5 @@ pub record KeepsLimits (p : Instance) (route : List ℕ) : Type 0 where
 
 -- by how much the new route is longer than the old one, or nothing where the new route exceeds a limit
 abbrev pub IsAdded : Instance → List ℕ → List ℕ → Option ℤ → Type 0
-IsAdded p old new answer = MatchOption answer (¬ KeepsLimits p new) (λ added. KeepsLimits p new × (pos (route_length p new) ≡ pos (route_length p old) +ℤ added))
+IsAdded p old new answer =
+    MatchOption answer (¬ KeepsLimits p new) (λ added. KeepsLimits p new × (pos (route_length p new) ≡ pos (route_length p old) +ℤ added))

@@ -7,7 +7,10 @@ use Rattle.slack_tables.specs.declared.ride.Detour.{Detour}
 
 -- each place tells how far the next one is
 abbrev pub AreLinked : List Row → Type 0
-AreLinked places = (k : ℕ) (d : Row) → k + 1 < length places → (slice_index_or places (k + 1) d).at.distance ≡ (slice_index_or places k d).at.distance + distance (slice_index_or places k d).at.stop (slice_index_or places (k + 1) d).at.stop
+AreLinked places =
+    (k : ℕ) (d : Row) → k + 1 < length places
+    → (slice_index_or places (k + 1) d).at.distance
+    ≡ (slice_index_or places k d).at.distance + distance (slice_index_or places k d).at.stop (slice_index_or places (k + 1) d).at.stop
 
 -- nobody is at a place before the one ahead of it
 abbrev pub AreRising : List Row → Type 0
@@ -15,7 +18,10 @@ AreRising places = (k : ℕ) (d : Row) → k + 1 < length places → (slice_inde
 
 -- by how much the way from place m to the next gets longer over the stop
 abbrev pub detour_of : List Row → Stop → ℕ → Row → ℤ
-detour_of places s m d = pos ((slice_index_or places m d).at.distance + distance (slice_index_or places m d).at.stop s + distance (slice_index_or places (m + 1) d).at.stop s) -ℤ pos (slice_index_or places (m + 1) d).at.distance
+detour_of places s m d =
+    pos ((slice_index_or places m d).at.distance + distance (slice_index_or places m d).at.stop s
+    + distance (slice_index_or places (m + 1) d).at.stop s)
+    -ℤ pos (slice_index_or places (m + 1) d).at.distance
 
 -- from place `first` on, no detour behind place k is less than its number
 pub record AreLeast (first : ℕ) (least : List ℤ) (places : List Row) (s : Stop) : Type 0 where

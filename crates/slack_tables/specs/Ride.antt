@@ -1,6 +1,7 @@
 -- How a vehicle goes on to a stop along a way whose length is given, and what a stop adds before a place of a table: each step of the
 -- code, for the scan, for one insertion and for the building of tables.
-use Rattle.std.specs.Prelude.{ℕ, ◌+◌, ◌^◌, ◌≤◌, max, nat_le, ℤ, pos, ◌+ℤ◌, ◌-ℤ◌, int_le, int_lt, unsigned_abs, Bool, true, ◌&&◌, Option, Some, None, if◌then◌else◌}
+use Rattle.std.specs.Prelude.{ℕ, ◌+◌, ◌^◌, ◌≤◌, max, nat_le, ℤ, pos, ◌+ℤ◌, ◌-ℤ◌}
+use Rattle.std.specs.Prelude.{int_le, int_lt, unsigned_abs, Bool, true, ◌&&◌, Option, Some, None, if◌then◌else◌}
 use Rattle.plan_types.specs.declared.requests.Stop.{Stop}
 use Rattle.plan_types.specs.declared.requests.Kind.{Kind}
 use Rattle.plan_types.specs.declared.requests.Kind.TheVariants.{LiLim, Vrp}

@@ -85,7 +85,13 @@ pub record IsNearUnderway (on : Underway) : Type 0 where
 
 -- at the next place of the table
 abbrev pub gone_to : Ride → List Row → ℕ → ℕ → Row → Underway
-gone_to r places j to d = record { ride = r; service = (slice_index_or places (j - 1) d).at.stop.service; to_delivery = to; onward = (slice_index_or places j d).at.distance - (slice_index_or places (j - 1) d).at.distance }
+gone_to r places j to d =
+    record {
+      ride = r;
+      service = (slice_index_or places (j - 1) d).at.stop.service;
+      to_delivery = to;
+      onward = (slice_index_or places j d).at.distance - (slice_index_or places (j - 1) d).at.distance;
+    }
 
 -- if it keeps the limits and is not the last
 abbrev pub gone_on : Limits → Underway → List Row → ℕ → ℕ → Row → Option Underway

@@ -30,4 +30,6 @@ pub record IsStopAt (p : Instance) (route : List ℕ) (k : ℕ) (s : Stop) : Typ
 
 -- where the numbers are the same, so are the stops
 abbrev pub KnowsStops : Instance → List Row → Type 0
-KnowsStops p places = (route : List ℕ) (n k : ℕ) (d : Row) → p.depot.number ≡ 0 → n < length places → (slice_index_or places n d).at.stop.number ≡ slice_index route k → IsStopAt p route (k + 1) (slice_index_or places n d).at.stop
+KnowsStops p places =
+    (route : List ℕ) (n k : ℕ) (d : Row) → p.depot.number ≡ 0 → n < length places
+    → (slice_index_or places n d).at.stop.number ≡ slice_index route k → IsStopAt p route (k + 1) (slice_index_or places n d).at.stop

@@ -96,10 +96,12 @@ pub record AreHome (depot : Stop) (places : List Row) : Type 0 where
 
 -- each place adds its demand to the load, and what is carried at the end is no more than the greatest load from any place on
 pub record AreLaden (places : List Row) : Type 0 where
-  pub step : (k : ℕ) (d : Row) → k + 1 < length places → (slice_index_or places (k + 1) d).at.load ≡ (slice_index_or places k d).at.load +ℤ (slice_index_or places (k + 1) d).at.stop.demand
+  pub step : (k : ℕ) (d : Row) → k + 1 < length places
+      → (slice_index_or places (k + 1) d).at.load ≡ (slice_index_or places k d).at.load +ℤ (slice_index_or places (k + 1) d).at.stop.demand
   pub most : (k : ℕ) (d : Row) → k < length places → (slice_index_or places (length places - 1) d).at.load ≤ℤ (slice_index_or places k d).most_load
 
 -- a single fits nowhere for less than the bound into a route of this span
 abbrev pub RulesOut : Limits → Span → Stop → Stop → ℤ → Type 0
 RulesOut limits span depot s below =
-    (places : List Row) (kept : ℕ) (d : Row) → IsSpan span places → AreLaden places → AreHome depot places → IsFirstOf (AddsSingle limits places s kept below d) None
+    (places : List Row) (kept : ℕ) (d : Row) → IsSpan span places → AreLaden places → AreHome depot places
+    → IsFirstOf (AddsSingle limits places s kept below d) None

@@ -1,3 +1,4 @@
+-- A place that has to be started by more than 1 before the pickup's window opens takes no pair, so the places left out go on.
 use Rattle.std.proofs.Common.{◌∙◌, sym, arith}
 use Rattle.slack_tables.proofs.TightLemmas.{closed-more, closed-due}
 use Rattle.slack_tables.proofs.closed.first_due.Goals as goal
@@ -5,5 +6,9 @@ use Rattle.slack_tables.proofs.closed.first_due.Goals as goal
 pub loop-i-preserved : goal.loop-i-preserved
 loop-i-preserved c = let behind = c.loop-i.invariant.behind in record {
   behind = omega arith;
-  closed = closed-more c.args.limits c.args.places.now c.args.pickup.now c.args.kept c.loop-i.i c.loop-i.invariant.closed (closed-due c.args.limits c.args.places.now c.args.pickup.now c.loop-i.i c.requires.tight c.detours_save_at_most_one.ensures c.small_row.result.now c.small_row.ensures.place (sym c.is_due_before.ensures ∙ c.if-not-is_due_before.false));
+  closed =
+      closed-more c.args.limits c.args.places.now c.args.pickup.now c.args.kept c.loop-i.i c.loop-i.invariant.closed
+      (closed-due c.args.limits c.args.places.now c.args.pickup.now c.loop-i.i c.requires.tight c.detours_save_at_most_one.ensures
+      c.small_row.result.now c.small_row.ensures.place
+      (sym c.is_due_before.ensures ∙ c.if-not-is_due_before.false));
 }

@@ -1,3 +1,4 @@
+-- No place so far behind the kept stops takes the pickup, so it may be left out up to the first that isn't due too early, or the end.
 use Rattle.std.proofs.Common.{◌<◌}
 use Rattle.slack_tables.specs.Closed.{AreClosed}
 use Rattle.slack_tables.proofs.closed.first_due.Given as goal

@@ -1,3 +1,4 @@
+-- No place so far behind the kept stops takes the pickup, and the way to it from the last of them is known from below, by which the next is judged.
 use Rattle.std.proofs.Common.{◌^◌, ◌-◌, ◌<◌, ◌≤◌, get_or}
 use Rattle.nint_dist.specs.Distance.{distance}
 use Rattle.slack_tables.specs.Closed.{AreClosed}

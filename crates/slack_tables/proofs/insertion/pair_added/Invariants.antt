@@ -1,3 +1,4 @@
+-- With the pickup on board the vehicle is where the walk to place k leads, so at the delivery's place it can be served from there.
 use Rattle.std.proofs.Common.{◌≡◌, ◌+◌, ◌*◌, ◌^◌, Some}
 use Rattle.plan_types.specs.Limits.{IsVisit}
 use Rattle.slack_tables.specs.Ride.{ride_at, IsSmallRide}
@@ -5,7 +6,6 @@ use Rattle.slack_tables.specs.Walk.{walk_to}
 use Rattle.slack_tables.specs.declared.progress.Row.{Row}
 use Rattle.slack_tables.proofs.insertion.pair_added.Given as goal
 
--- before place k, with the pickup on board
 abbrev pub invariant-loop-k : goal.invariant-loop-k
 invariant-loop-k l = record {
   walk : (d : Row) → walk_to l.limits l.places l.pickup l.i d (l.k + 1) ≡ Some (ride_at l.ride l.stop);

@@ -1,3 +1,4 @@
+-- From place k on each number is no more than any detour from its place on, so once k is the first place all of them are least.
 use Rattle.std.proofs.Common.{◌≤◌, ◌^◌, get_or}
 use Rattle.nint_dist.specs.Distance.{distance}
 use Rattle.slack_tables.specs.declared.progress.Row.{Row}

@@ -1,3 +1,4 @@
+-- Where all deliveries are dear, or the pickup breaks a limit, none adds less than the bound; else the vehicle sets out from the pickup.
 use Rattle.std.proofs.Common.{◌∙◌, w64, refl, subst, sym, ap}
 use mir.Val.{SFits}
 use Rattle.std.proofs.lemmas.Int.{to_z-of_z}
@@ -11,20 +12,44 @@ use Rattle.slack_tables.proofs.WalkLemmas.{underway-begin, not-begun}
 use Rattle.slack_tables.proofs.scan.best_at.Goals as goal
 
 pub best_delivery-requires-clause-underway : goal.best_delivery-requires-clause-underway
-best_delivery-requires-clause-underway c = λ d. underway-begin c.args.trip.now.limits c.args.places.now c.args.trip.now.pickup c.args.trip.now.delivery c.args.i d c.args.trip.now c.small_row-before.result.now c.leg_at-to.result c.leg_at-onward.result refl refl (c.small_row-before.ensures.place d) (c.leg_at-to.ensures.value d ∙ ap (λ (e : Row). distance e.at.stop c.args.trip.now.pickup) (sym (c.small_row-before.ensures.place d))) c.in-Some.first refl c.requires.scan.over.trip.across (c.leg_at-onward.ensures.value d) (sym c.in-Some.is ∙ c.pick_up.ensures.value)
+best_delivery-requires-clause-underway c = λ d.
+    (let before = c.small_row-before in
+    let trip = c.args.trip.now in
+    let places = c.args.places.now in
+    underway-begin trip.limits places trip.pickup trip.delivery c.args.i d trip before.result.now c.leg_at-to.result
+    c.leg_at-onward.result refl refl
+    (before.ensures.place d)
+    (c.leg_at-to.ensures.value d
+    ∙ ap (λ (e : Row). distance e.at.stop trip.pickup)
+    (sym (before.ensures.place d))) c.in-Some.first refl c.requires.scan.over.trip.across
+    (c.leg_at-onward.ensures.value d) (sym c.in-Some.is ∙ c.pick_up.ensures.value))
 
 pub returns-then-are_dear : goal.returns-then-are_dear
 returns-then-are_dear c = λ d.
-    (let below : SFits w64 c.args.below = record { sfits = c.ranges.below.sfits } in
-    let dear = subst (λ x. AreDear c.args.trip.now.limits c.args.places.now c.args.trip.now.pickup c.args.trip.now.delivery c.args.i x) (to_z-of_z w64 c.args.below below) (c.are_dear.ensures c.if-are_dear.true) in
-    deliveries-none c.args.trip.now.limits c.args.places.now c.args.trip.now.pickup c.args.trip.now.delivery c.args.i d c.args.below (λ j x behind last some. dear j x d behind last some))
+    (let trip = c.args.trip.now in
+    let places = c.args.places.now in
+    let below : SFits w64 c.args.below = record { sfits = c.ranges.below.sfits } in
+    let dear = subst (λ x. AreDear trip.limits places trip.pickup trip.delivery c.args.i x) (to_z-of_z w64 c.args.below below)
+    (c.are_dear.ensures c.if-are_dear.true) in
+    deliveries-none trip.limits places trip.pickup trip.delivery c.args.i d c.args.below (λ j x behind last some. dear j x d behind last some))
 
 pub returns-in_default : goal.returns-in_default
-returns-in_default c = λ d. deliveries-none c.args.trip.now.limits c.args.places.now c.args.trip.now.pickup c.args.trip.now.delivery c.args.i d c.args.below (λ j x behind last some.
-    (let never = not-begun c.args.trip.now.limits c.args.places.now c.args.trip.now.pickup c.args.trip.now.delivery c.args.i d c.args.trip.now c.small_row-before.result.now c.leg_at-to.result c.leg_at-onward.result refl refl (c.small_row-before.ensures.place d) (c.leg_at-to.ensures.value d ∙ ap (λ (e : Row). distance e.at.stop c.args.trip.now.pickup) (sym (c.small_row-before.ensures.place d))) (sym c.in_default.is ∙ c.pick_up.ensures.value) j behind last in
-    absurd (none-some x (sym never ∙ some))))
+returns-in_default c = λ d.
+    (let before = c.small_row-before in
+    let trip = c.args.trip.now in
+    let places = c.args.places.now in
+    deliveries-none trip.limits places trip.pickup trip.delivery c.args.i d c.args.below (λ j x behind last some.
+    (let never = not-begun trip.limits places trip.pickup trip.delivery c.args.i d trip before.result.now c.leg_at-to.result
+    c.leg_at-onward.result refl refl
+    (before.ensures.place d)
+    (c.leg_at-to.ensures.value d ∙ ap (λ (e : Row). distance e.at.stop trip.pickup) (sym (before.ensures.place d)))
+    (sym c.in_default.is ∙ c.pick_up.ensures.value) j behind last in
+    absurd (none-some x (sym never ∙ some)))))
 
 pub returns : goal.returns
 returns c = λ d.
-    (let below : SFits w64 c.args.below = record { sfits = c.ranges.below.sfits } in
-    subst (λ x. IsFirstOf (AddsDelivery c.args.trip.now.limits c.args.places.now c.args.trip.now.pickup c.args.trip.now.delivery c.args.i x d) c.best_delivery.result) (to_z-of_z w64 c.args.below below) (c.best_delivery.ensures d))
+    (let trip = c.args.trip.now in
+    let places = c.args.places.now in
+    let below : SFits w64 c.args.below = record { sfits = c.ranges.below.sfits } in
+    subst (λ x. IsFirstOf (AddsDelivery trip.limits places trip.pickup trip.delivery c.args.i x d) c.best_delivery.result)
+    (to_z-of_z w64 c.args.below below) (c.best_delivery.ensures d))

@@ -1,3 +1,4 @@
+-- The delivery here is offered; past its latest time, behind a broken limit or the last place, and where the rest is dear, the best so far stands.
 use Rattle.std.proofs.Common.{false, ◌≡◌, ◌∙◌, ◌+◌, ◌-◌, w64, rules, arith, subst, sym, ap}
 use mir.Val.{SFits}
 use Rattle.std.proofs.lemmas.Int.{to_z-of_z}
@@ -18,7 +19,9 @@ pub loop-j-init : goal.loop-j-init
 loop-j-init c = record {
   order = omega arith;
   within = omega arith;
-  best = λ d. deliveries-begin c.args.trip.now.limits c.args.places.now c.args.trip.now.pickup c.args.trip.now.delivery c.args.i d _ _ c.none_below-best.ensures;
+  best = λ d.
+      deliveries-begin c.args.trip.now.limits c.args.places.now c.args.trip.now.pickup c.args.trip.now.delivery c.args.i d _
+      _ c.none_below-best.ensures;
   underway = c.requires.underway;
   near = c.requires.near;
 }
@@ -26,12 +29,15 @@ loop-j-init c = record {
 pub serve_below-distance-requires-clause-at : goal.serve_below-distance-requires-clause-at
 serve_below-distance-requires-clause-at c =
     let within = c.loop-j.invariant.within in
-    (near-small c.args.places.now c.loop-j.j c.small_row-tail.result.now c.loop-j.on c.requires.scan.over.small c.requires.scan.over.few (omega arith) within (c.loop-j.invariant.near c.small_row-tail.result.now)).0
+    (near-small c.args.places.now c.loop-j.j c.small_row-tail.result.now c.loop-j.on c.requires.scan.over.small c.requires.scan.over.few
+    (omega arith) within (c.loop-j.invariant.near c.small_row-tail.result.now)).0
 
 pub go_on-requires-clause-ride : goal.go_on-requires-clause-ride
 go_on-requires-clause-ride c =
     let within = c.loop-j.invariant.within in
-    let small = (near-small c.args.places.now c.loop-j.j c.small_row-tail.result.now c.loop-j.on c.requires.scan.over.small c.requires.scan.over.few (omega arith) within (c.loop-j.invariant.near c.small_row-tail.result.now)).0 in
+    let small = (near-small c.args.places.now c.loop-j.j c.small_row-tail.result.now c.loop-j.on c.requires.scan.over.small
+    c.requires.scan.over.few
+    (omega arith) within (c.loop-j.invariant.near c.small_row-tail.result.now)).0 in
     let start = small.start in
     let load = small.load in
     record { start = omega arith; load = omega arith; distance = omega arith }
@@ -39,66 +45,135 @@ go_on-requires-clause-ride c =
 pub go_on-requires-clause-onward : goal.go_on-requires-clause-onward
 go_on-requires-clause-onward c =
     let within = c.loop-j.invariant.within in
-    let onward = (near-small c.args.places.now c.loop-j.j c.small_row-tail.result.now c.loop-j.on c.requires.scan.over.small c.requires.scan.over.few (omega arith) within (c.loop-j.invariant.near c.small_row-tail.result.now)).1 in
+    let onward = (near-small c.args.places.now c.loop-j.j c.small_row-tail.result.now c.loop-j.on c.requires.scan.over.small
+    c.requires.scan.over.few
+    (omega arith) within (c.loop-j.invariant.near c.small_row-tail.result.now)).1 in
     omega arith
 
 pub overflow_add-reach : goal.overflow_add-reach
 overflow_add-reach c =
-    let near = near-small c.args.places.now (c.args.i + 1) c.small_row-next.result.now c.args.first c.requires.scan.over.small c.requires.scan.over.few (omega arith) (omega arith) (c.requires.near c.small_row-next.result.now) in
+    let near =
+    near-small c.args.places.now
+    (c.args.i + 1) c.small_row-next.result.now c.args.first c.requires.scan.over.small c.requires.scan.over.few (omega arith)
+    (omega arith) (c.requires.near c.small_row-next.result.now) in
     search rules
 
 pub is_hopeless-requires-clause-reach : goal.is_hopeless-requires-clause-reach
 is_hopeless-requires-clause-reach c =
-    let near = near-small c.args.places.now (c.args.i + 1) c.small_row-next.result.now c.args.first c.requires.scan.over.small c.requires.scan.over.few (omega arith) (omega arith) (c.requires.near c.small_row-next.result.now) in
+    let near =
+    near-small c.args.places.now
+    (c.args.i + 1) c.small_row-next.result.now c.args.first c.requires.scan.over.small c.requires.scan.over.few (omega arith)
+    (omega arith) (c.requires.near c.small_row-next.result.now) in
     omega arith
 
 pub returns-then-is_hopeless : goal.returns-then-is_hopeless
 returns-then-is_hopeless c = λ d.
-    (let within = c.loop-j.invariant.within in
-    let order = c.loop-j.invariant.order in
-    let bound : SFits w64 c.loop-j.best.bound = search rules in
-    let served = subst (λ x. c.serve_below-distance.result ≡ served_below x c.args.trip.now.limits c.loop-j.on.ride c.loop-j.on.service c.loop-j.on.to_delivery c.args.trip.now.delivery c.leg_at.result c.small_row-tail.result.now) (to_z-of_z w64 c.loop-j.best.bound bound) c.serve_below-distance.ensures in
-    let below : SFits w64 c.args.below = record { sfits = c.ranges.below.sfits } in
-    let so = delivery-more c.args.trip.now.limits c.args.places.now c.args.trip.now.pickup c.args.trip.now.delivery c.args.i d _ c.loop-j.j c.loop-j.best (c.loop-j.invariant.best d) order within c.offer.new.self
-    (offered-here c.args.trip.now.limits c.args.places.now c.args.trip.now.pickup c.args.trip.now.delivery c.args.i d c.loop-j.j c.loop-j.on order within (c.loop-j.invariant.underway d) c.loop-j.best c.offer.new.self c.small_row-tail.result.now c.leg_at.result (c.small_row-tail.ensures.place d) (c.leg_at.ensures.value d ∙ ap (λ (e : Row). distance e.at.stop c.args.trip.now.delivery) (sym (c.small_row-tail.ensures.place d))) (c.offer.ensures ∙ ap (λ o. offered c.loop-j.best o c.args.i c.loop-j.j) served)) in
-    let dear = bits-below c.offer.new.self.bound _ (search rules) (c.is_hopeless.ensures.dear c.if-is_hopeless.true) in
-    let rest = dear-behind c.args.trip.now.limits c.args.places.now c.args.trip.now.pickup c.args.trip.now.delivery c.args.i d c.requires.scan.over.linked c.args.least.now c.requires.scan.least c.offer.new.self.bound (c.loop-j.j - 1) _ _ (omega arith) (c.is_hopeless.ensures.within c.if-is_hopeless.true) (let far = first-reach c.args.trip.now.limits c.args.places.now c.args.trip.now.pickup c.args.trip.now.delivery c.args.i d c.requires.scan.over.linked c.args.first (c.requires.underway d) in omega arith) (ap (λ (e : Row). e.at.distance) (c.small_row-next.ensures.place d)) dear in
-    subst (λ x. IsFirstOf (AddsDelivery c.args.trip.now.limits c.args.places.now c.args.trip.now.pickup c.args.trip.now.delivery c.args.i x d) c.offer.new.self.found) (to_z-of_z w64 c.args.below below)
-    (deliveries-stop c.args.trip.now.limits c.args.places.now c.args.trip.now.pickup c.args.trip.now.delivery c.args.i d _ (c.loop-j.j + 1) c.offer.new.self so (λ k x h l some. rest k x (omega arith) l some)))
-
-pub returns-in_default : goal.returns-in_default
-returns-in_default c = λ d.
-    (let within = c.loop-j.invariant.within in
-    let order = c.loop-j.invariant.order in
-    let bound : SFits w64 c.loop-j.best.bound = search rules in
-    let served = subst (λ x. c.serve_below-distance.result ≡ served_below x c.args.trip.now.limits c.loop-j.on.ride c.loop-j.on.service c.loop-j.on.to_delivery c.args.trip.now.delivery c.leg_at.result c.small_row-tail.result.now) (to_z-of_z w64 c.loop-j.best.bound bound) c.serve_below-distance.ensures in
-    let below : SFits w64 c.args.below = record { sfits = c.ranges.below.sfits } in
-    let so = delivery-more c.args.trip.now.limits c.args.places.now c.args.trip.now.pickup c.args.trip.now.delivery c.args.i d _ c.loop-j.j c.loop-j.best (c.loop-j.invariant.best d) order within c.offer.new.self
-    (offered-here c.args.trip.now.limits c.args.places.now c.args.trip.now.pickup c.args.trip.now.delivery c.args.i d c.loop-j.j c.loop-j.on order within (c.loop-j.invariant.underway d) c.loop-j.best c.offer.new.self c.small_row-tail.result.now c.leg_at.result (c.small_row-tail.ensures.place d) (c.leg_at.ensures.value d ∙ ap (λ (e : Row). distance e.at.stop c.args.trip.now.delivery) (sym (c.small_row-tail.ensures.place d))) (c.offer.ensures ∙ ap (λ o. offered c.loop-j.best o c.args.i c.loop-j.j) served)) in
-    let rest = over c.args.trip.now.limits c.args.places.now c.args.trip.now.pickup c.args.trip.now.delivery c.args.i d c.loop-j.j c.loop-j.on order within (c.loop-j.invariant.underway d) c.leg_at.result (sym c.in_default.is ∙ c.go_on.ensures.value d) in
-    subst (λ x. IsFirstOf (AddsDelivery c.args.trip.now.limits c.args.places.now c.args.trip.now.pickup c.args.trip.now.delivery c.args.i x d) c.offer.new.self.found) (to_z-of_z w64 c.args.below below)
-    (deliveries-stop c.args.trip.now.limits c.args.places.now c.args.trip.now.pickup c.args.trip.now.delivery c.args.i d _ (c.loop-j.j + 1) c.offer.new.self so (λ k x h l some. absurd (none-some x (sym (rest k (omega arith) l) ∙ some)))))
-
-pub loop-j-preserved : goal.loop-j-preserved
-loop-j-preserved c =
+    (let on = c.loop-j.on in
+    let tail = c.small_row-tail.result.now in
+    let trip = c.args.trip.now in
+    let places = c.args.places.now in
     let within = c.loop-j.invariant.within in
     let order = c.loop-j.invariant.order in
     let bound : SFits w64 c.loop-j.best.bound = search rules in
-    let served = subst (λ x. c.serve_below-distance.result ≡ served_below x c.args.trip.now.limits c.loop-j.on.ride c.loop-j.on.service c.loop-j.on.to_delivery c.args.trip.now.delivery c.leg_at.result c.small_row-tail.result.now) (to_z-of_z w64 c.loop-j.best.bound bound) c.serve_below-distance.ensures in
+    let served =
+    subst (λ x. c.serve_below-distance.result
+    ≡ served_below x trip.limits on.ride on.service on.to_delivery trip.delivery c.leg_at.result tail)
+    (to_z-of_z w64 c.loop-j.best.bound bound) c.serve_below-distance.ensures in
+    let below : SFits w64 c.args.below = record { sfits = c.ranges.below.sfits } in
+    let so = delivery-more trip.limits places trip.pickup trip.delivery c.args.i d _ c.loop-j.j c.loop-j.best
+    (c.loop-j.invariant.best d) order within c.offer.new.self
+    (offered-here trip.limits places trip.pickup trip.delivery c.args.i d c.loop-j.j on order within
+    (c.loop-j.invariant.underway d) c.loop-j.best c.offer.new.self tail c.leg_at.result (c.small_row-tail.ensures.place d)
+    (c.leg_at.ensures.value d ∙ ap (λ (e : Row). distance e.at.stop trip.delivery) (sym (c.small_row-tail.ensures.place d)))
+    (c.offer.ensures ∙ ap (λ o. offered c.loop-j.best o c.args.i c.loop-j.j) served)) in
+    let dear = bits-below c.offer.new.self.bound _ (search rules) (c.is_hopeless.ensures.dear c.if-is_hopeless.true) in
+    let rest = dear-behind trip.limits places trip.pickup trip.delivery c.args.i d c.requires.scan.over.linked c.args.least.now
+    c.requires.scan.least c.offer.new.self.bound
+    (c.loop-j.j - 1) _ _ (omega arith) (c.is_hopeless.ensures.within c.if-is_hopeless.true)
+    (let far = first-reach trip.limits places trip.pickup trip.delivery c.args.i d c.requires.scan.over.linked c.args.first
+    (c.requires.underway d) in
+    omega arith)
+    (ap (λ (e : Row). e.at.distance) (c.small_row-next.ensures.place d)) dear in
+    subst (λ x. IsFirstOf (AddsDelivery trip.limits places trip.pickup trip.delivery c.args.i x d) c.offer.new.self.found) (to_z-of_z w64 c.args.below below)
+    (deliveries-stop trip.limits places trip.pickup trip.delivery c.args.i d _ (c.loop-j.j + 1) c.offer.new.self so
+    (λ k x h l some. rest k x (omega arith) l some)))
+
+pub returns-in_default : goal.returns-in_default
+returns-in_default c = λ d.
+    (let on = c.loop-j.on in
+    let tail = c.small_row-tail.result.now in
+    let trip = c.args.trip.now in
+    let places = c.args.places.now in
+    let within = c.loop-j.invariant.within in
+    let order = c.loop-j.invariant.order in
+    let bound : SFits w64 c.loop-j.best.bound = search rules in
+    let served =
+    subst (λ x. c.serve_below-distance.result
+    ≡ served_below x trip.limits on.ride on.service on.to_delivery trip.delivery c.leg_at.result tail)
+    (to_z-of_z w64 c.loop-j.best.bound bound) c.serve_below-distance.ensures in
+    let below : SFits w64 c.args.below = record { sfits = c.ranges.below.sfits } in
+    let so = delivery-more trip.limits places trip.pickup trip.delivery c.args.i d _ c.loop-j.j c.loop-j.best
+    (c.loop-j.invariant.best d) order within c.offer.new.self
+    (offered-here trip.limits places trip.pickup trip.delivery c.args.i d c.loop-j.j on order within
+    (c.loop-j.invariant.underway d) c.loop-j.best c.offer.new.self tail c.leg_at.result (c.small_row-tail.ensures.place d)
+    (c.leg_at.ensures.value d ∙ ap (λ (e : Row). distance e.at.stop trip.delivery) (sym (c.small_row-tail.ensures.place d)))
+    (c.offer.ensures ∙ ap (λ o. offered c.loop-j.best o c.args.i c.loop-j.j) served)) in
+    let rest = over trip.limits places trip.pickup trip.delivery c.args.i d c.loop-j.j on order within
+    (c.loop-j.invariant.underway d) c.leg_at.result (sym c.in_default.is ∙ c.go_on.ensures.value d) in
+    subst (λ x. IsFirstOf (AddsDelivery trip.limits places trip.pickup trip.delivery c.args.i x d) c.offer.new.self.found) (to_z-of_z w64 c.args.below below)
+    (deliveries-stop trip.limits places trip.pickup trip.delivery c.args.i d _ (c.loop-j.j + 1) c.offer.new.self so
+    (λ k x h l some. absurd (none-some x (sym (rest k (omega arith) l) ∙ some)))))
+
+pub loop-j-preserved : goal.loop-j-preserved
+loop-j-preserved c =
+    let on = c.loop-j.on in
+    let tail = c.small_row-tail.result.now in
+    let trip = c.args.trip.now in
+    let places = c.args.places.now in
+    let within = c.loop-j.invariant.within in
+    let order = c.loop-j.invariant.order in
+    let bound : SFits w64 c.loop-j.best.bound = search rules in
+    let served =
+    subst (λ x. c.serve_below-distance.result
+    ≡ served_below x trip.limits on.ride on.service on.to_delivery trip.delivery c.leg_at.result tail)
+    (to_z-of_z w64 c.loop-j.best.bound bound) c.serve_below-distance.ensures in
     record {
       order = omega arith;
-      within = let more = not-last c.args.trip.now.limits c.args.places.now c.args.trip.now.pickup c.args.trip.now.delivery c.args.i c.small_row-tail.result.now c.loop-j.j c.loop-j.on order within c.leg_at.result c.in-Some.next (sym c.in-Some.is ∙ c.go_on.ensures.value c.small_row-tail.result.now) in omega arith;
-      best = λ d. delivery-more c.args.trip.now.limits c.args.places.now c.args.trip.now.pickup c.args.trip.now.delivery c.args.i d _ c.loop-j.j c.loop-j.best (c.loop-j.invariant.best d) order within c.offer.new.self
-          (offered-here c.args.trip.now.limits c.args.places.now c.args.trip.now.pickup c.args.trip.now.delivery c.args.i d c.loop-j.j c.loop-j.on order within (c.loop-j.invariant.underway d) c.loop-j.best c.offer.new.self c.small_row-tail.result.now c.leg_at.result (c.small_row-tail.ensures.place d) (c.leg_at.ensures.value d ∙ ap (λ (e : Row). distance e.at.stop c.args.trip.now.delivery) (sym (c.small_row-tail.ensures.place d))) (c.offer.ensures ∙ ap (λ o. offered c.loop-j.best o c.args.i c.loop-j.j) served));
-      underway = λ d. underway-more c.args.trip.now.limits c.args.places.now c.args.trip.now.pickup c.args.trip.now.delivery c.args.i d c.loop-j.j c.loop-j.on order within (c.loop-j.invariant.underway d) c.requires.scan.over.linked c.requires.from_one c.leg_at.result c.in-Some.next (c.leg_at.ensures.value d) (sym c.in-Some.is ∙ c.go_on.ensures.value d);
-      near = λ d. near-more c.args.trip.now.limits c.args.places.now c.args.trip.now.pickup c.args.trip.now.delivery c.args.i d c.loop-j.j c.loop-j.on order within (c.loop-j.invariant.near d) c.requires.scan.over.linked c.requires.from_one c.leg_at.result c.in-Some.next c.leg_at.ensures.bound (sym c.in-Some.is ∙ c.go_on.ensures.value d) c.in-Some.ensures.near;
+      within =
+          let more = not-last trip.limits places trip.pickup trip.delivery c.args.i tail c.loop-j.j on order within c.leg_at.result c.in-Some.next
+          (sym c.in-Some.is ∙ c.go_on.ensures.value tail) in
+          omega arith;
+      best = λ d.
+          delivery-more trip.limits places trip.pickup trip.delivery c.args.i d _ c.loop-j.j c.loop-j.best
+          (c.loop-j.invariant.best d) order within c.offer.new.self
+          (offered-here trip.limits places trip.pickup trip.delivery c.args.i d c.loop-j.j on order within
+          (c.loop-j.invariant.underway d) c.loop-j.best c.offer.new.self tail c.leg_at.result (c.small_row-tail.ensures.place d)
+          (c.leg_at.ensures.value d ∙ ap (λ (e : Row). distance e.at.stop trip.delivery) (sym (c.small_row-tail.ensures.place d)))
+          (c.offer.ensures ∙ ap (λ o. offered c.loop-j.best o c.args.i c.loop-j.j) served));
+      underway = λ d.
+          underway-more trip.limits places trip.pickup trip.delivery c.args.i d c.loop-j.j on order within
+          (c.loop-j.invariant.underway d) c.requires.scan.over.linked c.requires.from_one c.leg_at.result c.in-Some.next
+          (c.leg_at.ensures.value d) (sym c.in-Some.is ∙ c.go_on.ensures.value d);
+      near = λ d.
+          near-more trip.limits places trip.pickup trip.delivery c.args.i d c.loop-j.j on order within
+          (c.loop-j.invariant.near d) c.requires.scan.over.linked c.requires.from_one c.leg_at.result c.in-Some.next c.leg_at.ensures.bound
+          (sym c.in-Some.is ∙ c.go_on.ensures.value d) c.in-Some.ensures.near;
     }
 
 pub returns-then-not-is_in_time : goal.returns-then-not-is_in_time
 returns-then-not-is_in_time c = λ d.
-    (let within = c.loop-j.invariant.within in
+    (let on = c.loop-j.on in
+    let trip = c.args.trip.now in
+    let places = c.args.places.now in
+    let within = c.loop-j.invariant.within in
     let order = c.loop-j.invariant.order in
     let below : SFits w64 c.args.below = record { sfits = c.ranges.below.sfits } in
-    let late : is_in_time c.args.trip.now.limits.kind c.loop-j.on.ride.start c.args.trip.now.delivery.latest ≡ false = subst (λ n. is_in_time c.args.trip.now.limits.kind c.loop-j.on.ride.start n ≡ false) c.from-latest.ensures (sym c.is_in_time.ensures ∙ c.if-not-is_in_time.true) in
-    subst (λ x. IsFirstOf (AddsDelivery c.args.trip.now.limits c.args.places.now c.args.trip.now.pickup c.args.trip.now.delivery c.args.i x d) c.loop-j.best.found) (to_z-of_z w64 c.args.below below)
-    (deliveries-stop c.args.trip.now.limits c.args.places.now c.args.trip.now.pickup c.args.trip.now.delivery c.args.i d _ c.loop-j.j c.loop-j.best (c.loop-j.invariant.best d) (λ k x h l some. absurd (none-some x (sym (late-delivery c.args.trip.now.limits c.args.places.now c.args.trip.now.pickup c.args.trip.now.delivery c.args.i d c.loop-j.j k order h l _ (c.loop-j.invariant.underway d).walk late) ∙ some)))))
+    let late : is_in_time trip.limits.kind on.ride.start trip.delivery.latest ≡ false =
+    subst (λ n. is_in_time trip.limits.kind on.ride.start n ≡ false) c.from-latest.ensures
+    (sym c.is_in_time.ensures ∙ c.if-not-is_in_time.true) in
+    subst (λ x. IsFirstOf (AddsDelivery trip.limits places trip.pickup trip.delivery c.args.i x d) c.loop-j.best.found) (to_z-of_z w64 c.args.below below)
+    (deliveries-stop trip.limits places trip.pickup trip.delivery c.args.i d _ c.loop-j.j c.loop-j.best (c.loop-j.invariant.best d)
+    (λ k x h l some. absurd (none-some x
+    (sym (late-delivery trip.limits places trip.pickup trip.delivery c.args.i d c.loop-j.j k order h l _
+    (c.loop-j.invariant.underway d).walk late)
+    ∙ some)))))

@@ -1,3 +1,4 @@
+-- The best of the delivery's places before j is known, and the vehicle is before place j - 1; so where no later place is better it is the best of all.
 use Rattle.std.proofs.Common.{◌<◌, ◌≤◌, length}
 use Rattle.slack_tables.specs.declared.progress.Row.{Row}
 use Rattle.slack_tables.proofs.ScanLemmas.{DeliveriesSoFar}

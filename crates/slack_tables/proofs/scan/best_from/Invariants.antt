@@ -1,3 +1,4 @@
+-- The best with the pickup before place i is known, so at the end, or where the rest comes too late, it is the best of all.
 use Rattle.std.proofs.Common.{◌^◌, ◌-◌, ◌≤◌, get_or}
 use Rattle.nint_dist.specs.Distance.{distance}
 use Rattle.slack_tables.specs.declared.progress.Row.{Row}

@@ -1,3 +1,4 @@
+-- No pair fits before the first open place, so the best from there on is the best of all, and there is none where no place is open.
 use Rattle.std.proofs.Common.{◌-◌, rules, w64, subst}
 use mir.Val.{SFits}
 use Rattle.std.proofs.lemmas.Int.{to_z-of_z}
@@ -8,22 +9,43 @@ use Rattle.slack_tables.proofs.TightLemmas.{none-open, open-only}
 use Rattle.slack_tables.proofs.scan.best_pair.Goals as goal
 
 pub returns-then-first-places : goal.returns-then-first-places
-returns-then-first-places c = λ d. none-open c.args.limits c.args.places.now c.args.pickup.now c.args.delivery.now c.args.kept _ d (subst (AreClosed c.args.limits c.args.places.now c.args.pickup.now c.args.kept) (search rules) c.first_open-first.ensures.closed)
+returns-then-first-places c = λ d.
+    (let limits = c.args.limits in
+    let places = c.args.places.now in
+    let pickup = c.args.pickup.now in
+    let delivery = c.args.delivery.now in
+    none-open limits places pickup delivery c.args.kept _ d
+    (subst (AreClosed limits places pickup c.args.kept) (search rules) c.first_open-first.ensures.closed))
 
 pub returns-then-places-gt-ROOM : goal.returns-then-places-gt-ROOM
 returns-then-places-gt-ROOM c = λ d.
-    (let below : SFits w64 c.args.below = record { sfits = c.ranges.below.sfits } in
-    open-only c.args.limits c.args.places.now c.args.pickup.now c.args.delivery.now c.args.kept c.first_open-first.result _ d _ c.first_open-first.ensures.behind c.first_open-first.ensures.closed
-    (subst (λ x. IsFirstOf (AddsPair c.args.limits c.args.places.now c.args.pickup.now c.args.delivery.now (c.first_open-first.result - 1) x d) c.best_from.result) (to_z-of_z w64 c.args.below below) (c.best_from.ensures d)))
+    (let limits = c.args.limits in
+    let places = c.args.places.now in
+    let pickup = c.args.pickup.now in
+    let delivery = c.args.delivery.now in
+    let below : SFits w64 c.args.below = record { sfits = c.ranges.below.sfits } in
+    open-only limits places pickup delivery c.args.kept c.first_open-first.result _ d _ c.first_open-first.ensures.behind c.first_open-first.ensures.closed
+    (subst (λ x. IsFirstOf (AddsPair limits places pickup delivery (c.first_open-first.result - 1) x d) c.best_from.result)
+    (to_z-of_z w64 c.args.below below) (c.best_from.ensures d)))
 
 pub returns-then-places-gt-SHORT : goal.returns-then-places-gt-SHORT
 returns-then-places-gt-SHORT c = λ d.
-    (let below : SFits w64 c.args.below = record { sfits = c.ranges.below.sfits } in
-    open-only c.args.limits c.args.places.now c.args.pickup.now c.args.delivery.now c.args.kept c.first_open-first.result _ d _ c.first_open-first.ensures.behind c.first_open-first.ensures.closed
-    (subst (λ x. IsFirstOf (AddsPair c.args.limits c.args.places.now c.args.pickup.now c.args.delivery.now (c.first_open-first.result - 1) x d) c.best_with_room.result) (to_z-of_z w64 c.args.below below) (c.best_with_room.ensures d)))
+    (let limits = c.args.limits in
+    let places = c.args.places.now in
+    let pickup = c.args.pickup.now in
+    let delivery = c.args.delivery.now in
+    let below : SFits w64 c.args.below = record { sfits = c.ranges.below.sfits } in
+    open-only limits places pickup delivery c.args.kept c.first_open-first.result _ d _ c.first_open-first.ensures.behind c.first_open-first.ensures.closed
+    (subst (λ x. IsFirstOf (AddsPair limits places pickup delivery (c.first_open-first.result - 1) x d) c.best_with_room.result)
+    (to_z-of_z w64 c.args.below below) (c.best_with_room.ensures d)))
 
 pub returns : goal.returns
 returns c = λ d.
-    (let below : SFits w64 c.args.below = record { sfits = c.ranges.below.sfits } in
-    open-only c.args.limits c.args.places.now c.args.pickup.now c.args.delivery.now c.args.kept c.first_open-first.result _ d _ c.first_open-first.ensures.behind c.first_open-first.ensures.closed
-    (subst (λ x. IsFirstOf (AddsPair c.args.limits c.args.places.now c.args.pickup.now c.args.delivery.now (c.first_open-first.result - 1) x d) c.best_with_room-2.result) (to_z-of_z w64 c.args.below below) (c.best_with_room-2.ensures d)))
+    (let limits = c.args.limits in
+    let places = c.args.places.now in
+    let pickup = c.args.pickup.now in
+    let delivery = c.args.delivery.now in
+    let below : SFits w64 c.args.below = record { sfits = c.ranges.below.sfits } in
+    open-only limits places pickup delivery c.args.kept c.first_open-first.result _ d _ c.first_open-first.ensures.behind c.first_open-first.ensures.closed
+    (subst (λ x. IsFirstOf (AddsPair limits places pickup delivery (c.first_open-first.result - 1) x d) c.best_with_room-2.result)
+    (to_z-of_z w64 c.args.below below) (c.best_with_room-2.ensures d)))

@@ -1,3 +1,4 @@
+-- The best of the places before i is known, and from below the way to the single from the last of them; so at the end it is the best of all.
 use Rattle.std.proofs.Common.{◌^◌, ◌-◌, ◌<◌, ◌≤◌, get_or}
 use Rattle.nint_dist.specs.Distance.{distance}
 use Rattle.slack_tables.specs.declared.progress.Row.{Row}

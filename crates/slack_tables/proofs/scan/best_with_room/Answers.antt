@@ -1,3 +1,4 @@
+-- The bound is the number that its 64 bits stand for, so the best from the first place on is the best below it.
 use Rattle.std.proofs.Common.{◌-◌, w64, subst}
 use mir.Val.{SFits}
 use Rattle.std.proofs.lemmas.Int.{to_z-of_z}
@@ -8,4 +9,7 @@ use Rattle.slack_tables.proofs.scan.best_with_room.Goals as goal
 pub returns : goal.returns
 returns c = λ d.
     (let below : SFits w64 c.args.below = record { sfits = c.ranges.below.sfits } in
-    subst (λ x. IsFirstOf (AddsPair c.args.trip.now.limits c.args.places.now c.args.trip.now.pickup c.args.trip.now.delivery (c.args.first - 1) x d) c.best_from.result) (to_z-of_z w64 c.args.below below) (c.best_from.ensures d))
+    subst (λ x. IsFirstOf
+    (AddsPair c.args.trip.now.limits c.args.places.now c.args.trip.now.pickup c.args.trip.now.delivery
+    (c.args.first - 1) x d) c.best_from.result)
+    (to_z-of_z w64 c.args.below below) (c.best_from.ensures d))

@@ -1,3 +1,4 @@
+-- A single that exceeds the capacity at the end, or is far from the span, fits nowhere for less than the bound.
 use Rattle.std.proofs.Common.{w64, subst}
 use mir.Val.{SFits}
 use Rattle.std.proofs.lemmas.Int.{to_z-of_z}

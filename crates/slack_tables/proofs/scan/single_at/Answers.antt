@@ -1,3 +1,4 @@
+-- A price from below that comes to the bound leaves nothing below it; else what serving the stop adds is what the single adds here.
 use Rattle.std.proofs.Common.{◌≡◌, ◌∙◌, ◌-◌, ◌≤ℤ◌, w64, rules, get_or, arith, subst, ap}
 use mir.Val.{SFits}
 use Rattle.std.proofs.lemmas.Int.{ints, to_z-of_z}
@@ -10,32 +11,64 @@ use Rattle.slack_tables.proofs.scan.single_at.Goals as goal
 
 pub returns-then-price-below : goal.returns-then-price-below
 returns-then-price-below c = λ d.
-    (let below : SFits w64 c.args.below = record { sfits = c.ranges.below.sfits } in
+    (let places = c.args.places.now in
+    let stop = c.args.stop.now in
+    let below : SFits w64 c.args.below = record { sfits = c.ranges.below.sfits } in
     let fits : SFits w64 c.price.result = search rules in
     let start = ap (λ (r : Ride). r.distance) c.ride_of-ride.ensures in
     let before = ap (λ (e : Row). e.at.distance) (c.small_row-before.ensures.place d) in
     let end = ap (λ (e : Row). e.at.distance) (c.small_row-tail.ensures.place d) in
-    let dear : c.args.below ≤ℤ price (ride_of (get_or c.args.places.now (c.args.i - 1) d).at) c.args.near.to c.args.near.from (get_or c.args.places.now c.args.i d) = omega (arith, ints) in
-    served-dear c.args.below c.args.limits (ride_of (get_or c.args.places.now (c.args.i - 1) d).at) (get_or c.args.places.now (c.args.i - 1) d).at.stop.service (distance (get_or c.args.places.now (c.args.i - 1) d).at.stop c.args.stop.now) c.args.stop.now (distance (get_or c.args.places.now c.args.i d).at.stop c.args.stop.now) (get_or c.args.places.now c.args.i d) c.args.near.to c.args.near.from (c.requires.near.to d) (c.requires.near.from d) dear)
+    let dear : c.args.below
+    ≤ℤ price (ride_of (get_or places (c.args.i - 1) d).at) c.args.near.to c.args.near.from (get_or places c.args.i d) =
+    omega (arith, ints) in
+    served-dear c.args.below c.args.limits (ride_of (get_or places (c.args.i - 1) d).at)
+    (get_or places (c.args.i - 1) d).at.stop.service (distance (get_or places (c.args.i - 1) d).at.stop stop) stop
+    (distance (get_or places c.args.i d).at.stop stop) (get_or places c.args.i d) c.args.near.to c.args.near.from (c.requires.near.to d)
+    (c.requires.near.from d) dear)
 
 pub returns-then-price-below-2 : goal.returns-then-price-below-2
 returns-then-price-below-2 c = λ d.
-    (let below : SFits w64 c.args.below = record { sfits = c.ranges.below.sfits } in
+    (let places = c.args.places.now in
+    let stop = c.args.stop.now in
+    let below : SFits w64 c.args.below = record { sfits = c.ranges.below.sfits } in
     let value = c.price-2.ensures in
     let fits : SFits w64 c.price-2.result = search rules in
     let start = ap (λ (r : Ride). r.distance) c.ride_of-ride.ensures in
     let before = ap (λ (e : Row). e.at.distance) (c.small_row-before.ensures.place d) in
     let end = ap (λ (e : Row). e.at.distance) (c.small_row-tail.ensures.place d) in
-    let dear : c.args.below ≤ℤ price (ride_of (get_or c.args.places.now (c.args.i - 1) d).at) c.least_leg_at.result c.least_leg_at-2.result (get_or c.args.places.now c.args.i d) = omega (arith, ints) in
-    served-dear c.args.below c.args.limits (ride_of (get_or c.args.places.now (c.args.i - 1) d).at) (get_or c.args.places.now (c.args.i - 1) d).at.stop.service (distance (get_or c.args.places.now (c.args.i - 1) d).at.stop c.args.stop.now) c.args.stop.now (distance (get_or c.args.places.now c.args.i d).at.stop c.args.stop.now) (get_or c.args.places.now c.args.i d) c.least_leg_at.result c.least_leg_at-2.result (c.least_leg_at.ensures.value d) (c.least_leg_at-2.ensures.value d) dear)
+    let dear : c.args.below
+    ≤ℤ price (ride_of (get_or places (c.args.i - 1) d).at) c.least_leg_at.result c.least_leg_at-2.result (get_or places c.args.i d) =
+    omega (arith, ints) in
+    served-dear c.args.below c.args.limits (ride_of (get_or places (c.args.i - 1) d).at)
+    (get_or places (c.args.i - 1) d).at.stop.service (distance (get_or places (c.args.i - 1) d).at.stop stop) stop
+    (distance (get_or places c.args.i d).at.stop stop) (get_or places c.args.i d) c.least_leg_at.result c.least_leg_at-2.result
+    (c.least_leg_at.ensures.value d) (c.least_leg_at-2.ensures.value d) dear)
 
 pub returns : goal.returns
 returns c = λ d.
-    (let below : SFits w64 c.args.below = record { sfits = c.ranges.below.sfits } in
-    let raw = subst (λ x. c.serve_below.result ≡ served_below x c.args.limits c.ride_of-ride.result c.small_row-before.result.now.at.stop.service c.leg_at.result c.args.stop.now c.leg_at-2.result c.small_row-tail.result.now) (to_z-of_z w64 c.args.below below) c.serve_below.ensures in
-    let ride = ap (λ r. served_below c.args.below c.args.limits r c.small_row-before.result.now.at.stop.service c.leg_at.result c.args.stop.now c.leg_at-2.result c.small_row-tail.result.now) c.ride_of-ride.ensures in
-    let to = ap (λ n. served_below c.args.below c.args.limits (ride_of c.small_row-before.result.now.at) c.small_row-before.result.now.at.stop.service n c.args.stop.now c.leg_at-2.result c.small_row-tail.result.now) (c.leg_at.ensures.value d) in
-    let from = ap (λ n. served_below c.args.below c.args.limits (ride_of c.small_row-before.result.now.at) c.small_row-before.result.now.at.stop.service (distance (get_or c.args.places.now (c.args.i - 1) d).at.stop c.args.stop.now) c.args.stop.now n c.small_row-tail.result.now) (c.leg_at-2.ensures.value d) in
-    let before = ap (λ (e : Row). served_below c.args.below c.args.limits (ride_of e.at) e.at.stop.service (distance (get_or c.args.places.now (c.args.i - 1) d).at.stop c.args.stop.now) c.args.stop.now (distance (get_or c.args.places.now c.args.i d).at.stop c.args.stop.now) c.small_row-tail.result.now) (c.small_row-before.ensures.place d) in
-    let tail = ap (λ (e : Row). served_below c.args.below c.args.limits (ride_of (get_or c.args.places.now (c.args.i - 1) d).at) (get_or c.args.places.now (c.args.i - 1) d).at.stop.service (distance (get_or c.args.places.now (c.args.i - 1) d).at.stop c.args.stop.now) c.args.stop.now (distance (get_or c.args.places.now c.args.i d).at.stop c.args.stop.now) e) (c.small_row-tail.ensures.place d) in
+    (let here = c.small_row-before.result.now in
+    let next = c.small_row-tail.result.now in
+    let places = c.args.places.now in
+    let stop = c.args.stop.now in
+    let below : SFits w64 c.args.below = record { sfits = c.ranges.below.sfits } in
+    let raw =
+    subst (λ x. c.serve_below.result
+    ≡ served_below x c.args.limits c.ride_of-ride.result here.at.stop.service c.leg_at.result stop c.leg_at-2.result next)
+    (to_z-of_z w64 c.args.below below) c.serve_below.ensures in
+    let ride = ap (λ r. served_below c.args.below c.args.limits r here.at.stop.service c.leg_at.result stop c.leg_at-2.result next) c.ride_of-ride.ensures in
+    let to = ap (λ n. served_below c.args.below c.args.limits (ride_of here.at) here.at.stop.service n stop c.leg_at-2.result next)
+    (c.leg_at.ensures.value d) in
+    let from =
+    ap (λ n. served_below c.args.below c.args.limits (ride_of here.at) here.at.stop.service
+    (distance (get_or places (c.args.i - 1) d).at.stop stop) stop n next)
+    (c.leg_at-2.ensures.value d) in
+    let before =
+    ap (λ (e : Row). served_below c.args.below c.args.limits (ride_of e.at) e.at.stop.service
+    (distance (get_or places (c.args.i - 1) d).at.stop stop) stop (distance (get_or places c.args.i d).at.stop stop) next)
+    (c.small_row-before.ensures.place d) in
+    let tail =
+    ap (λ (e : Row). served_below c.args.below c.args.limits (ride_of (get_or places (c.args.i - 1) d).at)
+    (get_or places (c.args.i - 1) d).at.stop.service (distance (get_or places (c.args.i - 1) d).at.stop stop) stop
+    (distance (get_or places c.args.i d).at.stop stop) e)
+    (c.small_row-tail.ensures.place d) in
     raw ∙ (ride ∙ (to ∙ (from ∙ (before ∙ tail)))))

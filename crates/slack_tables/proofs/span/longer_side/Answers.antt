@@ -1,3 +1,4 @@
+-- No way is shorter than either of its sides.
 use Rattle.std.proofs.Common.{◌≤◌, ◌*◌, ◌+◌, arith}
 use Rattle.slack_tables.proofs.SpanLemmas.{side-le}
 use Rattle.slack_tables.proofs.span.longer_side.Goals as goal

@@ -1,3 +1,4 @@
+-- The greater of the first way and the last is no less than each.
 use Rattle.std.proofs.Common.{◌≤ℤ◌, ◌-◌, w64, rules, get_or, length, subst, sym, arith}
 use mir.Val.{SFits}
 use Rattle.std.proofs.lemmas.Int.{ints, clamps, to_z-of_z}
@@ -11,12 +12,17 @@ returns-clause-first c = λ d.
     let value = c.max.ensures.value in
     let le : edge_of c.small_row-depot.result.now c.small_row-first.result.now ≤ℤ c.max.result = omega (arith, ints, clamps) in
     subst (λ x. edge_of (get_or c.args.places.now 0 d) (get_or c.args.places.now 1 d) ≤ℤ x) (sym (to_z-of_z w64 c.max.result fits))
-    (subst (λ (e : Row). edge_of e (get_or c.args.places.now 1 d) ≤ℤ c.max.result) (c.small_row-depot.ensures.place d) (subst (λ (e : Row). edge_of c.small_row-depot.result.now e ≤ℤ c.max.result) (c.small_row-first.ensures.place d) le)))
+    (subst (λ (e : Row). edge_of e (get_or c.args.places.now 1 d) ≤ℤ c.max.result) (c.small_row-depot.ensures.place d)
+    (subst (λ (e : Row). edge_of c.small_row-depot.result.now e ≤ℤ c.max.result) (c.small_row-first.ensures.place d) le)))
 
 pub returns-clause-last : goal.returns-clause-last
 returns-clause-last c = λ d.
     (let fits : SFits w64 c.max.result = search rules in
     let value = c.max.ensures.value in
     let le : edge_of c.small_row-last.result.now c.small_row-end.result.now ≤ℤ c.max.result = omega (arith, ints, clamps) in
-    subst (λ x. edge_of (get_or c.args.places.now (length c.args.places.now - 2) d) (get_or c.args.places.now (length c.args.places.now - 1) d) ≤ℤ x) (sym (to_z-of_z w64 c.max.result fits))
-    (subst (λ (e : Row). edge_of e (get_or c.args.places.now (length c.args.places.now - 1) d) ≤ℤ c.max.result) (c.small_row-last.ensures.place d) (subst (λ (e : Row). edge_of c.small_row-last.result.now e ≤ℤ c.max.result) (c.small_row-end.ensures.place d) le)))
+    subst (λ x. edge_of (get_or c.args.places.now (length c.args.places.now - 2) d)
+    (get_or c.args.places.now (length c.args.places.now - 1) d)
+    ≤ℤ x) (sym (to_z-of_z w64 c.max.result fits))
+    (subst (λ (e : Row). edge_of e (get_or c.args.places.now (length c.args.places.now - 1) d) ≤ℤ c.max.result)
+    (c.small_row-last.ensures.place d)
+    (subst (λ (e : Row). edge_of c.small_row-last.result.now e ≤ℤ c.max.result) (c.small_row-end.ensures.place d) le)))

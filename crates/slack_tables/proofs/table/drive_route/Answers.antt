@@ -1,3 +1,4 @@
+-- One stop more is noted and its limits are kept; where they aren't the route breaks them, and once the vehicle is back it keeps them.
 use Rattle.std.proofs.Common.{◌≡◌, ◌∙◌, ◌+◌, length, set, refl, sym, ap, subst, arith, rules, false}
 use Rattle.std.proofs.Math.ListN.{length-set}
 use Rattle.route_sched.specs.Route.{place}
@@ -26,7 +27,8 @@ loop-k-init c =
       opened = c.copy_front.ensures.opened p route c.requires.fronts front first;
       come =
           subst (λ ride. HasCome p route c.same_front-front.result (ride_at ride c.stop_behind_front-from.result.now)) (sym c.ride_of-ride.ensures)
-          (subst (λ s. HasCome p route c.same_front-front.result (ride_at (ride_of c.behind_front.result) s)) (come.at.stop ∙ sym (c.stop_behind_front-from.ensures route front)) come);
+          (subst (λ s. HasCome p route c.same_front-front.result (ride_at (ride_of c.behind_front.result) s))
+          (come.at.stop ∙ sym (c.stop_behind_front-from.ensures route front)) come);
       seen = c.seen_at-seen.ensures;
     }
 
@@ -38,7 +40,8 @@ returns-then-not-is_kept-clause-kept c =
     let never : is_kept (limits_of p) c.driven_on-ride.result c.next_stop-stop.result.now ≡ false = search rules in (
       λ e. absurd (cc),
       λ keep. absurd (keeps-false (limits_of p) (place p c.args.route.now) (k + 1) _ at never
-          (kept-here (limits_of p) (place p c.args.route.now) (k + 1) (length c.args.route.now + 1) (omega arith) (omega arith) (limits-to p c.args.route.now c.limits_of-limits.ensures.valid.depot.demand keep))),
+          (kept-here (limits_of p) (place p c.args.route.now) (k + 1) (length c.args.route.now + 1) (omega arith) (omega arith)
+          (limits-to p c.args.route.now c.limits_of-limits.ensures.valid.depot.demand keep))),
     )
 
 pub loop-k-preserved : goal.loop-k-preserved
@@ -51,12 +54,17 @@ loop-k-preserved c =
     let within = within-next k _ _ is.come.within c.driven_on-ride.ensures.near in
     record {
       long = ap length c.put-in-loop-k.ensures ∙ (length-set c.loop-k.places (c.loop-k.k + 1) _ ∙ is.long);
-      opened = open-to-more stops (c.loop-k.k + 1) c.loop-k.places _ _ is.opened (omega arith) at within (c.put-in-loop-k.ensures ∙ ap (λ a. set c.loop-k.places (k + 1) (open_row a)) c.ride_at.ensures);
+      opened =
+          open-to-more stops (c.loop-k.k + 1) c.loop-k.places _ _ is.opened (omega arith) at within
+          (c.put-in-loop-k.ensures ∙ ap (λ a. set c.loop-k.places (k + 1) (open_row a)) c.ride_at.ensures);
       come = record { at = at; within = within; kept = kept-more (limits_of p) stops k _ is.come.kept at (search rules) };
       seen = c.next_seen-seen.ensures;
     }
 
 pub returns-clause-kept : goal.returns-clause-kept
 returns-clause-kept c =
-    let p = c.args.problem.now in
-    (λ _. limits-from p c.args.route.now (subst (λ n. IsInLimits p.kind p.capacity (place p c.args.route.now) n) (omega arith) c.loop-k.invariant.come.kept), λ _. refl)
+    let p = c.args.problem.now in (
+      λ _. limits-from p c.args.route.now
+          (subst (λ n. IsInLimits p.kind p.capacity (place p c.args.route.now) n) (omega arith) c.loop-k.invariant.come.kept),
+      λ _. refl,
+    )

@@ -1,3 +1,4 @@
+-- The vehicle has come to place k within its limits, the places so far are noted, and it is where it is seen; so once it is back the route keeps its limits.
 use Rattle.std.proofs.Common.{◌≡◌, ◌+◌, length}
 use Rattle.route_sched.specs.Route.{place}
 use Rattle.slack_tables.specs.Front.{HasCome}
@@ -6,7 +7,6 @@ use Rattle.slack_tables.specs.Ride.{ride_at}
 use Rattle.slack_tables.specs.Seen.{IsSeen}
 use Rattle.slack_tables.proofs.table.drive_route.Given as goal
 
--- the places so far, where the vehicle is, that it kept the limits up to there, and where the table has its stop
 abbrev pub invariant-loop-k : goal.invariant-loop-k
 invariant-loop-k l = record {
   long : length l.places ≡ length l.fn.places;

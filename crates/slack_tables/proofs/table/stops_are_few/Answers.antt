@@ -1,3 +1,4 @@
+-- Live and distinct stops of a valid problem are few.
 use Rattle.std.proofs.Common.{subst}
 use Rattle.plan_types.specs.Instance.{IsInstance}
 use Rattle.route_sched.proofs.LiveStops.{few_stops}

@@ -1,3 +1,4 @@
+-- The way between neighbouring places of a table is the difference of their distances, and no way is longer than 2828427.
 use Rattle.std.proofs.Common.{◌≡◌, ◌+◌, ◌-◌, ◌≤◌, get_or, refl, subst, sym}
 use Rattle.nint_dist.specs.Distance.{distance}
 use Rattle.slack_tables.specs.declared.progress.Row.{Row}
@@ -19,4 +20,5 @@ returns-then-is_next-clause-value c =
 
 pub returns-then-is_next-clause-bound : goal.returns-then-is_next-clause-bound
 returns-then-is_next-clause-bound c =
-    subst (λ way. way ≤ 2828427) (sym (returns-then-is_next-clause-value c)) (distance_le c.distances_are_nearest_roots.ensures c.args.from.now c.args.to.now c.requires.from c.requires.to)
+    subst (λ way. way ≤ 2828427) (sym (returns-then-is_next-clause-value c))
+    (distance_le c.distances_are_nearest_roots.ensures c.args.from.now c.args.to.now c.requires.from c.requires.to)

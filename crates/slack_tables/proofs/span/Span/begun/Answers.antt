@@ -1,3 +1,4 @@
+-- The first stop lies inside its own coordinates, and the tips and the load are those of the route's ends.
 use Rattle.std.proofs.Common.{w32, w64, ap, ◌∙◌, arith}
 use mir.Val.{SFits}
 use Rattle.std.proofs.lemmas.Int.{ints, to_z-of_z}
@@ -14,8 +15,15 @@ returns-clause-within c =
     let fy : SFits w32 c.small_row-first.result.now.at.stop.y = record { sfits = omega (arith, ints) } in
     let ft : SFits w64 c.tips.result = record { sfits = omega (arith, ints) } in
     let fo : SFits w64 c.small_row-end.result.now.at.load = record { sfits = omega (arith, ints) } in
-    rw (to_z-of_z w32 c.small_row-first.result.now.at.stop.x fx, to_z-of_z w32 c.small_row-first.result.now.at.stop.y fy, to_z-of_z w64 c.tips.result ft, to_z-of_z w64 c.small_row-end.result.now.at.load fo)
-    (span-begun c.args.places.now c.small_row-first.result.now c.tips.result c.small_row-end.result.now.at.load c.small_row-first.ensures.place tips (omega arith))
+    rw (
+      to_z-of_z w32 c.small_row-first.result.now.at.stop.x fx,
+      to_z-of_z w32 c.small_row-first.result.now.at.stop.y fy,
+      to_z-of_z w64 c.tips.result ft,
+      to_z-of_z w64 c.small_row-end.result.now.at.load fo,
+    )
+    (span-begun c.args.places.now c.small_row-first.result.now c.tips.result c.small_row-end.result.now.at.load
+    c.small_row-first.ensures.place tips
+    (omega arith))
 
 pub returns-clause-ends : goal.returns-clause-ends
 returns-clause-ends c =

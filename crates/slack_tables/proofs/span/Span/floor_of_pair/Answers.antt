@@ -1,3 +1,4 @@
+-- The least of what a pair adds side by side inside and at either end is no more than any of the three.
 use Rattle.std.proofs.Common.{w64, rules, subst, sym, arith}
 use Rattle.std.proofs.lemmas.Int.{ints, clamps, to_z-of_z}
 use Rattle.slack_tables.specs.Span.{IsFloorOfPair}

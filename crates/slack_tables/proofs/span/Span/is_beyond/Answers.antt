@@ -1,3 +1,4 @@
+-- No way to a stop inside is shorter than the longer of the two gaps to the span, so where that exceeds the reach each such way does.
 use Rattle.std.proofs.Common.{w32, rules, ◌≤ℤ◌, subst, sym, arith}
 use mir.Val.{SFits}
 use Rattle.std.proofs.lemmas.Bool.{ltb-true}
@@ -10,8 +11,12 @@ returns c = λ tells s inside.
     (let w : SFits w32 c.args.self.now.west = search rules in
     let x : SFits w32 c.args.center.now.x = search rules in
     let y : SFits w32 c.args.center.now.y = search rules in
-    let dx = c.gap-dx.ensures.below s.x (subst (λ z. z ≤ℤ s.x) (sym (to_z-of_z w32 c.args.self.now.west w)) inside.west) (subst (λ z. s.x ≤ℤ z) (sym (to_z-of_z w32 c.args.self.now.east (search rules))) inside.east) in
-    let dy = c.gap-dy.ensures.below s.y (subst (λ z. z ≤ℤ s.y) (sym (to_z-of_z w32 c.args.self.now.south (search rules))) inside.south) (subst (λ z. s.y ≤ℤ z) (sym (to_z-of_z w32 c.args.self.now.north (search rules))) inside.north) in
-    let near = apart-le c.distances_are_nearest_roots.ensures c.args.center.now s c.gap-dx.result c.gap-dy.result c.longer_side.result c.longer_side.ensures.below (omega (arith, ints)) (omega (arith, ints)) in
+    let dx = c.gap-dx.ensures.below s.x (subst (λ z. z ≤ℤ s.x) (sym (to_z-of_z w32 c.args.self.now.west w)) inside.west)
+    (subst (λ z. s.x ≤ℤ z) (sym (to_z-of_z w32 c.args.self.now.east (search rules))) inside.east) in
+    let dy = c.gap-dy.ensures.below s.y (subst (λ z. z ≤ℤ s.y) (sym (to_z-of_z w32 c.args.self.now.south (search rules))) inside.south)
+    (subst (λ z. s.y ≤ℤ z) (sym (to_z-of_z w32 c.args.self.now.north (search rules))) inside.north) in
+    let near = apart-le c.distances_are_nearest_roots.ensures c.args.center.now s c.gap-dx.result c.gap-dy.result c.longer_side.result
+    c.longer_side.ensures.below
+    (omega (arith, ints)) (omega (arith, ints)) in
     let far = ltb-true c.from.result c.longer_side.result tells in
     omega (arith, c.from.ensures))

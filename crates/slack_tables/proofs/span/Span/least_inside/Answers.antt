@@ -1,3 +1,4 @@
+-- A stop inside is at least both gaps away, so no way to it is shorter than the least over these gaps.
 use Rattle.std.proofs.Common.{w32, rules, ◌≤ℤ◌, subst, sym}
 use mir.Val.{SFits}
 use Rattle.std.proofs.lemmas.Int.{to_z-of_z}
@@ -9,6 +10,9 @@ returns-clause-below c = λ s inside.
     (let w : SFits w32 c.args.self.now.west = search rules in
     let x : SFits w32 c.args.stop.now.x = search rules in
     let y : SFits w32 c.args.stop.now.y = search rules in
-    let dx = c.gap-dx.ensures.below s.x (subst (λ z. z ≤ℤ s.x) (sym (to_z-of_z w32 c.args.self.now.west w)) inside.west) (subst (λ z. s.x ≤ℤ z) (sym (to_z-of_z w32 c.args.self.now.east (search rules))) inside.east) in
-    let dy = c.gap-dy.ensures.below s.y (subst (λ z. z ≤ℤ s.y) (sym (to_z-of_z w32 c.args.self.now.south (search rules))) inside.south) (subst (λ z. s.y ≤ℤ z) (sym (to_z-of_z w32 c.args.self.now.north (search rules))) inside.north) in
-    apart-le c.distances_are_nearest_roots.ensures s c.args.stop.now c.gap-dx.result c.gap-dy.result c.least_way.result c.least_way.ensures.below (rw (← to_z-of_z w32 c.args.stop.now.x x) dx) (rw (← to_z-of_z w32 c.args.stop.now.y y) dy))
+    let dx = c.gap-dx.ensures.below s.x (subst (λ z. z ≤ℤ s.x) (sym (to_z-of_z w32 c.args.self.now.west w)) inside.west)
+    (subst (λ z. s.x ≤ℤ z) (sym (to_z-of_z w32 c.args.self.now.east (search rules))) inside.east) in
+    let dy = c.gap-dy.ensures.below s.y (subst (λ z. z ≤ℤ s.y) (sym (to_z-of_z w32 c.args.self.now.south (search rules))) inside.south)
+    (subst (λ z. s.y ≤ℤ z) (sym (to_z-of_z w32 c.args.self.now.north (search rules))) inside.north) in
+    apart-le c.distances_are_nearest_roots.ensures s c.args.stop.now c.gap-dx.result c.gap-dy.result c.least_way.result c.least_way.ensures.below
+    (rw (← to_z-of_z w32 c.args.stop.now.x x) dx) (rw (← to_z-of_z w32 c.args.stop.now.y y) dy))

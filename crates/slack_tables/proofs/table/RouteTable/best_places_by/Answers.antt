@@ -1,3 +1,4 @@
+-- What the scan finds over the places of a table is the best addition to each route of its course.
 use Rattle.std.proofs.Common.{◌∙◌, w64, to_z, of_z, Some, sym, ap, subst}
 use mir.Val.{SFits}
 use Rattle.std.proofs.lemmas.Int.{to_z-of_z}
@@ -15,22 +16,39 @@ pub best_pair-requires-clause-rising : goal.best_pair-requires-clause-rising
 best_pair-requires-clause-rising c = rising c.args.self.now c.rows-places.result.now c.rows-places.ensures.known
 
 pub best_pair-requires-clause-tight : goal.best_pair-requires-clause-tight
-best_pair-requires-clause-tight c = subst (λ (q : Course). AreTight q.kind c.rows-places.result.now) (sym c.self.view_is) (tight c.args.self.now c.rows-places.result.now c.rows-places.ensures.known)
+best_pair-requires-clause-tight c =
+    subst (λ (q : Course). AreTight q.kind c.rows-places.result.now) (sym c.self.view_is)
+    (tight c.args.self.now c.rows-places.result.now c.rows-places.ensures.known)
 
 pub returns-in-Single : goal.returns-in-Single
 returns-in-Single c = λ p name valid is named.
-    (let d = open_row (leaving c.in-Single.stop) in
+    (let course = c.args.self.now in
+    let places = c.rows-places.result.now in
+    let stop = c.in-Single.stop in
+    let d = open_row (leaving stop) in
     let fits : SFits w64 c.args.below = record { sfits = c.ranges.below.sfits } in
-    let first = subst (λ x. IsFirstOf (AddsSingle (limits_of c.args.self.now) c.rows-places.result.now c.in-Single.stop c.args.kept x (open_row (leaving c.in-Single.stop))) c.best_single.result) (to_z-of_z w64 c.args.below fits)
-    (subst (λ (q : Course). IsFirstOf (AddsSingle (limits_of q) c.rows-places.result.now c.in-Single.stop c.args.kept (to_z w64 (of_z w64 c.args.below)) (open_row (leaving c.in-Single.stop))) c.best_single.result) c.self.view_is (c.best_single.ensures d)) in
-    subst (λ r. IsBestAddition p (route_of c.args.self.now) r c.args.kept c.args.below c.best_single.result) (sym c.in-Single.is)
-    (single-best p c.args.self.now c.rows-places.result.now c.rows-places.ensures.known valid is c.requests_are_found_by_stop.ensures name c.args.kept c.args.below d c.in-Single.stop c.best_single.result (named ∙ ap (λ r. Some r) c.in-Single.is) first))
+    let first = subst (λ x. IsFirstOf (AddsSingle (limits_of course) places stop c.args.kept x d) c.best_single.result) (to_z-of_z w64 c.args.below fits)
+    (subst (λ (q : Course). IsFirstOf
+    (AddsSingle (limits_of q) places stop c.args.kept (to_z w64 (of_z w64 c.args.below)) d) c.best_single.result) c.self.view_is
+    (c.best_single.ensures d)) in
+    subst (λ r. IsBestAddition p (route_of course) r c.args.kept c.args.below c.best_single.result) (sym c.in-Single.is)
+    (single-best p course places c.rows-places.ensures.known valid is c.requests_are_found_by_stop.ensures name c.args.kept
+    c.args.below d stop c.best_single.result
+    (named ∙ ap (λ r. Some r) c.in-Single.is) first))
 
 pub returns-in-Pair : goal.returns-in-Pair
 returns-in-Pair c = λ p name valid is named.
-    (let d = open_row (leaving c.in-Pair.pickup) in
+    (let course = c.args.self.now in
+    let places = c.rows-places.result.now in
+    let pickup = c.in-Pair.pickup in
+    let delivery = c.in-Pair.delivery in
+    let d = open_row (leaving pickup) in
     let fits : SFits w64 c.args.below = record { sfits = c.ranges.below.sfits } in
-    let first = subst (λ x. IsFirstOf (AddsPair (limits_of c.args.self.now) c.rows-places.result.now c.in-Pair.pickup c.in-Pair.delivery c.args.kept x (open_row (leaving c.in-Pair.pickup))) c.best_pair.result) (to_z-of_z w64 c.args.below fits)
-    (subst (λ (q : Course). IsFirstOf (AddsPair (limits_of q) c.rows-places.result.now c.in-Pair.pickup c.in-Pair.delivery c.args.kept (to_z w64 (of_z w64 c.args.below)) (open_row (leaving c.in-Pair.pickup))) c.best_pair.result) c.self.view_is (c.best_pair.ensures d)) in
-    subst (λ r. IsBestAddition p (route_of c.args.self.now) r c.args.kept c.args.below c.best_pair.result) (sym c.in-Pair.is)
-    (pair-best p c.args.self.now c.rows-places.result.now c.rows-places.ensures.known valid is c.requests_are_found_by_stop.ensures name c.args.kept c.args.below d c.in-Pair.pickup c.in-Pair.delivery c.best_pair.result (named ∙ ap (λ r. Some r) c.in-Pair.is) first))
+    let first = subst (λ x. IsFirstOf (AddsPair (limits_of course) places pickup delivery c.args.kept x d) c.best_pair.result) (to_z-of_z w64 c.args.below fits)
+    (subst (λ (q : Course). IsFirstOf
+    (AddsPair (limits_of q) places pickup delivery c.args.kept (to_z w64 (of_z w64 c.args.below)) d) c.best_pair.result) c.self.view_is
+    (c.best_pair.ensures d)) in
+    subst (λ r. IsBestAddition p (route_of course) r c.args.kept c.args.below c.best_pair.result) (sym c.in-Pair.is)
+    (pair-best p course places c.rows-places.ensures.known valid is c.requests_are_found_by_stop.ensures name c.args.kept c.args.below
+    d pickup delivery c.best_pair.result
+    (named ∙ ap (λ r. Some r) c.in-Pair.is) first))

@@ -1,3 +1,4 @@
+-- The distance that the return keeps is the length of each route of this course.
 use Rattle.std.proofs.Common.{◌∙◌, ap}
 use Rattle.slack_tables.specs.Opened.{leaving, open_row}
 use Rattle.slack_tables.specs.declared.progress.Row.{Row}

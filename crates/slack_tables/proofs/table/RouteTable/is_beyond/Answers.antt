@@ -1,3 +1,4 @@
+-- Each stop of the route lies inside the span, so what holds of those inside holds of it.
 use Rattle.std.proofs.Common.{◌<◌, subst, arith}
 use Rattle.nint_dist.specs.Distance.{distance}
 use Rattle.slack_tables.specs.Inside.{AreKnown}

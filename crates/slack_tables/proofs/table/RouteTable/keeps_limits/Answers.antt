@@ -1,3 +1,4 @@
+-- A table whose course is of this problem knows the fronts and the stops of its routes.
 use Rattle.slack_tables.proofs.table.RouteTable.keeps_limits.Goals as goal
 
 pub drive_route-requires-clause-fronts : goal.drive_route-requires-clause-fronts

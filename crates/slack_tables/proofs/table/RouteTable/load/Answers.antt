@@ -1,3 +1,4 @@
+-- The load that a place keeps is that of each route of this course.
 use Rattle.std.proofs.Common.{rules, w64, ◌∙◌, ap}
 use Rattle.std.proofs.lemmas.Int.{to_z-of_z}
 use Rattle.slack_tables.specs.Opened.{leaving, open_row}
@@ -8,4 +9,7 @@ use Rattle.slack_tables.proofs.table.RouteTable.load.Goals as goal
 pub returns : goal.returns
 returns c = λ p route is.
     (let d = open_row (leaving c.args.self.now.depot) in
-    to_z-of_z w64 c.load_at.result (search rules) ∙ (c.load_at.ensures ∙ (ap (λ (e : Row). e.at.load) (c.row_at.ensures d) ∙ load-read c.args.self.now c.rows-places.result.now c.rows-places.ensures.known p route is c.args.place d c.requires)))
+    to_z-of_z w64 c.load_at.result (search rules)
+    ∙ (c.load_at.ensures
+    ∙ (ap (λ (e : Row). e.at.load) (c.row_at.ensures d)
+    ∙ load-read c.args.self.now c.rows-places.result.now c.rows-places.ensures.known p route is c.args.place d c.requires)))

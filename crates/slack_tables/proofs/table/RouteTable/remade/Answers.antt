@@ -1,3 +1,4 @@
+-- The places of a route within its limits are those of its course, whose numbers are the route; the near table knows fronts and stops of this problem.
 use Rattle.std.proofs.Common.{◌∙◌, ap, subst}
 use Rattle.plan_types.specs.Instance.{IsInstance}
 use Rattle.slack_tables.specs.Course.{route_of}
@@ -10,7 +11,8 @@ returns-clause-route c =
     let valid : IsInstance c.args.problem.now = subst (λ q. IsInstance q) c.problem.view_is c.problem.invariant.valid in
     let made = c.in_ok-remake.ensures.made c.if-not-branch.false in
     let items = c.remake.new.places.items in
-    let course = ap (λ l. course_from l c.problem.inside.depot items) c.limits_of.ensures.value ∙ (ap (λ q. course_from (limits_of c.args.problem.now) q.depot items) c.problem.view_is ∙ made.course) in
+    let course = ap (λ l. course_from l c.problem.inside.depot items) c.limits_of.ensures.value
+    ∙ (ap (λ q. course_from (limits_of c.args.problem.now) q.depot items) c.problem.view_is ∙ made.course) in
     ap (λ course. route_of course) course ∙ numbers-are c.args.problem.now c.args.route.now valid c.requires.route
 
 pub remake-requires-clause-fronts : goal.remake-requires-clause-fronts

@@ -1,3 +1,4 @@
+-- A single that asks for more than the room exceeds the capacity at the route's end, so it fits nowhere.
 use Rattle.std.proofs.Common.{◌<ℤ◌, rules, None, subst, w64}
 use mir.Val.{SFits}
 use Rattle.std.proofs.lemmas.Int.{to_z-of_z}
@@ -18,6 +19,7 @@ returns c = λ s below over p name kept valid is named.
     let fits : SFits w64 c.room.result = search rules in
     let more = subst (λ x. x <ℤ s.demand) (to_z-of_z w64 c.room.result fits) over in
     let d = open_row (leaving s) in
-    let none = full-single c.self.inside.limits places s kept below d c.self.inside.span c.self.invariant.1 (laden c.args.self.now places table) (c.room.ensures s.demand more) in
+    let none = full-single c.self.inside.limits places s kept below d c.self.inside.span c.self.invariant.1
+    (laden c.args.self.now places table) (c.room.ensures s.demand more) in
     let first = subst (λ (q : Course). IsFirstOf (AddsSingle (limits_of q) places s kept below d) None) c.self.view_is none in
     single-best p c.args.self.now places table valid is c.requests_are_found_by_stop.ensures name kept below d s None named first)

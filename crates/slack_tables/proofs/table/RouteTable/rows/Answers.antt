@@ -1,3 +1,4 @@
+-- The places of a table are those of its course: each tells the next one's distance, and they know the fronts and stops of each problem with this course.
 use Rattle.std.proofs.Common.{subst, sym}
 use Rattle.slack_tables.specs.Inside.{AreKnown}
 use Rattle.slack_tables.proofs.BestLemmas.{linked}
@@ -5,7 +6,9 @@ use Rattle.slack_tables.proofs.FrontLemmas.{knows-fronts, knows-stops}
 use Rattle.slack_tables.proofs.table.RouteTable.rows.Goals as goal
 
 pub returns-clause-known : goal.returns-clause-known
-returns-clause-known c = subst (λ xs. AreKnown c.args.self.now xs) (sym c.as_slice.ensures.value) (subst (λ q. AreKnown q c.self.inside.places.items) c.self.view_is c.self.invariant.0)
+returns-clause-known c =
+    subst (λ xs. AreKnown c.args.self.now xs) (sym c.as_slice.ensures.value)
+    (subst (λ q. AreKnown q c.self.inside.places.items) c.self.view_is c.self.invariant.0)
 
 pub returns-clause-linked : goal.returns-clause-linked
 returns-clause-linked c = linked c.args.self.now _ (returns-clause-known c)

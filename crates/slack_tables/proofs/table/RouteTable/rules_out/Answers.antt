@@ -1,3 +1,4 @@
+-- The bound is the number that its 64 bits stand for, so what the floors rule out fits nowhere for less than it.
 use Rattle.std.proofs.Common.{w64, subst}
 use mir.Val.{SFits}
 use Rattle.std.proofs.lemmas.Int.{to_z-of_z}

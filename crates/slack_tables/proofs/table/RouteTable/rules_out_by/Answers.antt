@@ -1,3 +1,4 @@
+-- A single that the span rules out, or a pair that is far by it, fits nowhere into a route of this course for less than the bound.
 use Rattle.std.proofs.Common.{◌∙◌, ◌≤◌, None, Some, sym, ap, subst, w64}
 use mir.Val.{SFits}
 use Rattle.std.proofs.lemmas.Int.{to_z-of_z}
@@ -16,29 +17,41 @@ use Rattle.slack_tables.proofs.table.RouteTable.rules_out_by.Goals as goal
 
 pub returns-in-Single : goal.returns-in-Single
 returns-in-Single c = λ tells p name kept valid is named.
-    (let table : AreKnown c.args.self.now c.self.inside.places.items = subst (λ q. AreKnown q c.self.inside.places.items) c.self.view_is c.self.invariant.0 in
+    (let course = c.args.self.now in
+    let places = c.self.inside.places.items in
+    let inside = c.self.inside in
+    let table : AreKnown course places = subst (λ q. AreKnown q places) c.self.view_is c.self.invariant.0 in
     let d = open_row (leaving c.in-Single.stop) in
     let s = c.in-Single.stop in
     let fits : SFits w64 c.args.below = record { sfits = c.ranges.below.sfits } in
-    let floors = subst (λ r. AreFloors c.args.self.now.depot r c.args.ways.now) c.in-Single.is c.requires in
-    let near : c.args.ways.now.home ≤ distance c.self.inside.depot s = subst (λ (q : Course). c.args.ways.now.home ≤ distance q.depot s) (sym c.self.view_is) floors.below in
-    let out = subst (λ x. RulesOut c.self.inside.limits c.self.inside.span c.self.inside.depot s x) (to_z-of_z w64 c.args.below fits) (c.rules_out_single.ensures tells c.self.inside.depot near) in
-    let none = out c.self.inside.places.items kept d c.self.invariant.1 (laden c.args.self.now c.self.inside.places.items table) (home (course_within c.self.inside) c.self.inside.places.items c.self.invariant.0) in
-    let first = subst (λ (q : Course). IsFirstOf (AddsSingle (limits_of q) c.self.inside.places.items s kept c.args.below d) None) c.self.view_is none in
-    subst (λ r. IsBestAddition p (route_of c.args.self.now) r kept c.args.below None) (sym c.in-Single.is)
-    (single-best p c.args.self.now c.self.inside.places.items table valid is c.requests_are_found_by_stop.ensures name kept c.args.below d s None (named ∙ ap (λ r. Some r) c.in-Single.is) first))
+    let floors = subst (λ r. AreFloors course.depot r c.args.ways.now) c.in-Single.is c.requires in
+    let near : c.args.ways.now.home ≤ distance inside.depot s =
+    subst (λ (q : Course). c.args.ways.now.home ≤ distance q.depot s) (sym c.self.view_is) floors.below in
+    let out = subst (λ x. RulesOut inside.limits inside.span inside.depot s x) (to_z-of_z w64 c.args.below fits)
+    (c.rules_out_single.ensures tells inside.depot near) in
+    let none = out places kept d c.self.invariant.1 (laden course places table) (home (course_within inside) places c.self.invariant.0) in
+    let first = subst (λ (q : Course). IsFirstOf (AddsSingle (limits_of q) places s kept c.args.below d) None) c.self.view_is none in
+    subst (λ r. IsBestAddition p (route_of course) r kept c.args.below None) (sym c.in-Single.is)
+    (single-best p course places table valid is c.requests_are_found_by_stop.ensures name kept c.args.below d s None
+    (named ∙ ap (λ r. Some r) c.in-Single.is) first))
 
 pub returns-in-Pair : goal.returns-in-Pair
 returns-in-Pair c = λ tells p name kept valid is named.
-    (let table : AreKnown c.args.self.now c.self.inside.places.items = subst (λ q. AreKnown q c.self.inside.places.items) c.self.view_is c.self.invariant.0 in
+    (let course = c.args.self.now in
+    let places = c.self.inside.places.items in
+    let inside = c.self.inside in
+    let table : AreKnown course places = subst (λ q. AreKnown q places) c.self.view_is c.self.invariant.0 in
     let d = open_row (leaving c.in-Pair.pickup) in
     let a = c.in-Pair.pickup in
     let b = c.in-Pair.delivery in
     let fits : SFits w64 c.args.below = record { sfits = c.ranges.below.sfits } in
-    let floors = subst (λ r. AreFloors c.args.self.now.depot r c.args.ways.now) c.in-Pair.is c.requires in
-    let near : AreFloorsOfPair c.self.inside.depot a b c.args.ways.now = subst (λ (q : Course). AreFloorsOfPair q.depot a b c.args.ways.now) (sym c.self.view_is) floors.below in
-    let far = subst (λ x. IsFarPair c.self.inside.span c.self.inside.depot a b x) (to_z-of_z w64 c.args.below fits) (c.is_far_pair.ensures tells c.self.inside.depot near) in
-    let none = far-pair c.self.inside.limits c.self.inside.places.items c.self.inside.depot a b kept c.args.below d c.self.inside.span (linked c.args.self.now c.self.inside.places.items table) c.self.invariant.1 (home (course_within c.self.inside) c.self.inside.places.items c.self.invariant.0) far in
-    let first = subst (λ (q : Course). IsFirstOf (AddsPair (limits_of q) c.self.inside.places.items a b kept c.args.below d) None) c.self.view_is none in
-    subst (λ r. IsBestAddition p (route_of c.args.self.now) r kept c.args.below None) (sym c.in-Pair.is)
-    (pair-best p c.args.self.now c.self.inside.places.items table valid is c.requests_are_found_by_stop.ensures name kept c.args.below d a b None (named ∙ ap (λ r. Some r) c.in-Pair.is) first))
+    let floors = subst (λ r. AreFloors course.depot r c.args.ways.now) c.in-Pair.is c.requires in
+    let near : AreFloorsOfPair inside.depot a b c.args.ways.now = subst (λ (q : Course). AreFloorsOfPair q.depot a b c.args.ways.now)
+    (sym c.self.view_is) floors.below in
+    let far = subst (λ x. IsFarPair inside.span inside.depot a b x) (to_z-of_z w64 c.args.below fits) (c.is_far_pair.ensures tells inside.depot near) in
+    let none = far-pair inside.limits places inside.depot a b kept c.args.below d inside.span
+    (linked course places table) c.self.invariant.1 (home (course_within inside) places c.self.invariant.0) far in
+    let first = subst (λ (q : Course). IsFirstOf (AddsPair (limits_of q) places a b kept c.args.below d) None) c.self.view_is none in
+    subst (λ r. IsBestAddition p (route_of course) r kept c.args.below None) (sym c.in-Pair.is)
+    (pair-best p course places table valid is c.requests_are_found_by_stop.ensures name kept c.args.below d a b None
+    (named ∙ ap (λ r. Some r) c.in-Pair.is) first))

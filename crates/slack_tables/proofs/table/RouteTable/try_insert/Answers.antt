@@ -1,3 +1,4 @@
+-- What a single or a pair adds by the table's places is by how much the route gets longer, or none where it breaks a limit.
 use Rattle.std.proofs.Common.{◌≡◌, ◌∙◌, length, Option, Some, None, refl, sym, ap, subst}
 use Rattle.std.specs.Prelude.{IsSome, IsSomeAnd, IfSome}
 use Rattle.plan_types.specs.declared.requests.Request.{Request}
@@ -15,20 +16,41 @@ some-from P (Some r) h = refl
 
 pub returns-in-Single : goal.returns-in-Single
 returns-in-Single c =
-    let named : request_named c.args.problem.now c.args.name ≡ Some (Single c.in-Single.stop) = c.live_request.ensures.found ∙ ap (λ r. Some r) c.in-Single.is in
-    let are : ArePlaces (Single c.in-Single.stop) (length (route_of c.args.self.now)) c.args.i c.args.j = subst (λ o. IsSomeAnd o (λ r. ArePlaces r (length (route_of c.args.self.now)) c.args.i c.args.j)) named c.requires.places in
-    let d = open_row (leaving c.in-Single.stop) in
+    let problem = c.args.problem.now in
+    let course = c.args.self.now in
+    let route = route_of course in
+    let places = c.rows-places.result.now in
+    let i = c.args.i in
+    let j = c.args.j in
+    let name = c.args.name in
+    let stop = c.in-Single.stop in
+    let named : request_named problem name ≡ Some (Single stop) = c.live_request.ensures.found ∙ ap (λ r. Some r) c.in-Single.is in
+    let are : ArePlaces (Single stop) (length route) i j = subst (λ o. IsSomeAnd o (λ r. ArePlaces r (length route) i j)) named c.requires.places in
+    let d = open_row (leaving stop) in
     let made = c.single_added.ensures d in
-    let limits = ap (λ (q : Course). with_single (limits_of q) c.rows-places.result.now c.in-Single.stop c.args.i d) c.self.view_is in
-    subst (λ o. IfSome o (λ r. IsAdded c.args.problem.now (route_of c.args.self.now) (inserted r c.args.i c.args.j (route_of c.args.self.now)) c.single_added.result)) (sym named)
-    (single-added c.args.problem.now c.args.self.now c.rows-places.result.now c.rows-places.ensures.known c.live_request.ensures.problem c.requires.course c.requests_are_found_by_stop.ensures c.args.name c.args.i c.args.j c.in-Single.stop d c.single_added.result named are (made ∙ limits))
+    let limits = ap (λ (q : Course). with_single (limits_of q) places stop i d) c.self.view_is in
+    subst (λ o. IfSome o (λ r. IsAdded problem route (inserted r i j route) c.single_added.result)) (sym named)
+    (single-added problem course places c.rows-places.ensures.known c.live_request.ensures.problem c.requires.course
+    c.requests_are_found_by_stop.ensures name i j stop d c.single_added.result named are
+    (made ∙ limits))
 
 pub returns-in-Pair : goal.returns-in-Pair
 returns-in-Pair c =
-    let named : request_named c.args.problem.now c.args.name ≡ Some (Pair c.in-Pair.pickup c.in-Pair.delivery) = c.live_request.ensures.found ∙ ap (λ r. Some r) c.in-Pair.is in
-    let are : ArePlaces (Pair c.in-Pair.pickup c.in-Pair.delivery) (length (route_of c.args.self.now)) c.args.i c.args.j = subst (λ o. IsSomeAnd o (λ r. ArePlaces r (length (route_of c.args.self.now)) c.args.i c.args.j)) named c.requires.places in
-    let d = open_row (leaving c.in-Pair.pickup) in
+    let problem = c.args.problem.now in
+    let course = c.args.self.now in
+    let route = route_of course in
+    let places = c.rows-places.result.now in
+    let i = c.args.i in
+    let j = c.args.j in
+    let name = c.args.name in
+    let pickup = c.in-Pair.pickup in
+    let delivery = c.in-Pair.delivery in
+    let named : request_named problem name ≡ Some (Pair pickup delivery) = c.live_request.ensures.found ∙ ap (λ r. Some r) c.in-Pair.is in
+    let are : ArePlaces (Pair pickup delivery) (length route) i j = subst (λ o. IsSomeAnd o (λ r. ArePlaces r (length route) i j)) named c.requires.places in
+    let d = open_row (leaving pickup) in
     let made = c.pair_added.ensures d in
-    let limits = ap (λ (q : Course). with_pair (limits_of q) c.rows-places.result.now c.in-Pair.pickup c.in-Pair.delivery c.args.i c.args.j d) c.self.view_is in
-    subst (λ o. IfSome o (λ r. IsAdded c.args.problem.now (route_of c.args.self.now) (inserted r c.args.i c.args.j (route_of c.args.self.now)) c.pair_added.result)) (sym named)
-    (pair-added c.args.problem.now c.args.self.now c.rows-places.result.now c.rows-places.ensures.known c.live_request.ensures.problem c.requires.course c.requests_are_found_by_stop.ensures c.args.name c.args.i c.args.j c.in-Pair.pickup c.in-Pair.delivery d c.pair_added.result named are (made ∙ limits))
+    let limits = ap (λ (q : Course). with_pair (limits_of q) places pickup delivery i j d) c.self.view_is in
+    subst (λ o. IfSome o (λ r. IsAdded problem route (inserted r i j route) c.pair_added.result)) (sym named)
+    (pair-added problem course places c.rows-places.ensures.known c.live_request.ensures.problem c.requires.course
+    c.requests_are_found_by_stop.ensures name i j pickup delivery d c.pair_added.result named are
+    (made ∙ limits))
