@@ -21,15 +21,22 @@ use Rattle.move_ops.proofs.Changing.{said_feasible, passes_where_feasible}
 use Rattle.move_ops.proofs.Collecting.{all_changes, all_within, judged}
 
 -- the vehicles of changes are among those that have tours
-pub vehicles_within : (tours : List Course) (cs : List Change) → AllByRecursion (λ c. (1 ≤ c.vehicle) × (c.vehicle ≤ length (map route_of tours))) cs → All (λ (c : Change). (1 ≤ c.vehicle) × (c.vehicle ≤ length tours)) cs
+pub vehicles_within : (tours : List Course) (cs : List Change)
+    → AllByRecursion (λ c. (1 ≤ c.vehicle) × (c.vehicle ≤ length (map route_of tours))) cs
+    → All (λ (c : Change). (1 ≤ c.vehicle) × (c.vehicle ≤ length tours)) cs
 vehicles_within tours cs within =
-    All-from_recursion (λ (c : Change). (1 ≤ c.vehicle) × (c.vehicle ≤ length tours)) cs (subst (λ n. AllByRecursion (λ (c : Change). (1 ≤ c.vehicle) × (c.vehicle ≤ n)) cs) (length-map tours route_of) within)
+    All-from_recursion (λ (c : Change). (1 ≤ c.vehicle) × (c.vehicle ≤ length tours)) cs
+    (subst (λ n. AllByRecursion (λ (c : Change). (1 ≤ c.vehicle) × (c.vehicle ≤ n)) cs) (length-map tours route_of) within)
 
-keeps_all : (p : Instance) → IsInstance p → (cs : List Change) → list_all (λ c. feasible_alone p c.route) cs ≡ true → AllByRecursion (λ c. KeepsLimits p c.route) cs
+keeps_all : (p : Instance) → IsInstance p → (cs : List Change) → list_all (λ c. feasible_alone p c.route) cs ≡ true
+    → AllByRecursion (λ c. KeepsLimits p c.route) cs
 keeps_all p valid [] all = tt
-keeps_all p valid (c ∷ cs) all = let both = and_parts (feasible_alone p c.route) (list_all (λ (d : Change). feasible_alone p d.route) cs) all in (route_limits p valid c.route both.0, keeps_all p valid cs both.1)
+keeps_all p valid (c ∷ cs) all =
+    let both = and_parts (feasible_alone p c.route) (list_all (λ (d : Change). feasible_alone p d.route) cs) all in
+    (route_limits p valid c.route both.0, keeps_all p valid cs both.1)
 
-module _ (local : PassesAreLocal) (says : TestsSayFeasible) (p : Instance) (pins : List (List ℕ)) (d : Drafted) (is : IsDraftOf p pins d) (others : List (List ℕ)) (plan : IsPlan p others) (once : All (AreLiveOnce p) others)
+module _ (local : PassesAreLocal) (says : TestsSayFeasible) (p : Instance) (pins : List (List ℕ)) (d : Drafted)
+    (is : IsDraftOf p pins d) (others : List (List ℕ)) (plan : IsPlan p others) (once : All (AreLiveOnce p) others)
     (pinned : KeepsPins others pins) (long : length others ≡ length (draft_of d)) (cs : List Change) (are : AreChanges (draft_of d) others cs) where
   pub asked : All (λ c. AreLiveOnce p c.route) cs
   asked = all_changes (draft_of d) others cs are long (AreLiveOnce p) once

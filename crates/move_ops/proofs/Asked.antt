@@ -1,5 +1,6 @@
 -- The same of the tables: a table of each vehicle's route.
-use Rattle.std.proofs.Common.{◌≡◌, ◌⊎◌, ℕ, zero, suc, ◌+◌, ◌-◌, ◌<◌, ◌≤◌, true, List, [], ◌∷◌, length, map, get_or, slice_get, Option, Some, add-one, sym, ap, subst, ◌∙◌, inl, inr, arith}
+use Rattle.std.proofs.Common.{◌≡◌, ◌⊎◌, ℕ, zero, suc, ◌+◌, ◌-◌, ◌<◌, ◌≤◌, true, List, [], ◌∷◌}
+use Rattle.std.proofs.Common.{length, map, get_or, slice_get, Option, Some, add-one, sym, ap, subst, ◌∙◌, inl, inr, arith}
 use Rattle.std.specs.Prelude.{unwrap_or}
 use Rattle.std.specs.Option.{option_map}
 use Rattle.std.proofs.Math.ListN.{get_or-map, length-map}
@@ -24,7 +25,8 @@ use Rattle.move_ops.specs.Insertion.{of_vehicle}
 use Rattle.move_ops.specs.Laws.{PlansPassWithoutPins}
 use Rattle.move_ops.specs.Refreshing.{AreWithin}
 use Rattle.move_ops.specs.Tables.{plan_of, AreTablesIn}
-use Rattle.move_ops.specs.Choosing.{place_found, InsertionLaws, IsAsked, IsBestAmongThese, IsBestWithin, IsEntryOf, IsLookable, IsLookedAt, IsNamed, IsNamedOrUpTo, HasIdle, IsBetter, IsReach}
+use Rattle.move_ops.specs.Choosing.{place_found, InsertionLaws, IsAsked, IsBestAmongThese, IsBestWithin, IsEntryOf}
+use Rattle.move_ops.specs.Choosing.{IsLookable, IsLookedAt, IsNamed, IsNamedOrUpTo, HasIdle, IsBetter, IsReach}
 use Rattle.move_ops.specs.declared.tables.Found.{Found}
 use Rattle.move_ops.specs.declared.tables.Limit.{Limit}
 use Rattle.move_ops.proofs.Fitting.{route_limits}
@@ -36,17 +38,23 @@ use Rattle.move_ops.proofs.Choosing.{pin_within, bettered, skipped, these_same, 
 module _ (courses : List Course) (k : ℕ) (c : Course) (is : c ≡ get_or courses k c) (in_range : k < length courses) where
   pub course_at : (p : Instance) → AreTablesIn p courses → IsCourseIn p c
   course_at p tables =
-      let here : get_or (map (course_of p) (map route_of courses)) k (course_of p (route_of c)) ≡ course_of p (get_or (map route_of courses) k (route_of c)) = get_or-map (course_of p) (map route_of courses) k (route_of c) in
+      let here : get_or (map (course_of p) (map route_of courses)) k (course_of p (route_of c))
+      ≡ course_of p (get_or (map route_of courses) k (route_of c)) =
+      get_or-map (course_of p) (map route_of courses) k (route_of c) in
       let there : get_or (map route_of courses) k (route_of c) ≡ route_of (get_or courses k c) = get_or-map route_of courses k c in
       let back : route_of (get_or courses k c) ≡ route_of c = ap route_of (sym is) in
       let within : k < length (map (course_of p) (map route_of courses)) = (let e = ap length tables in omega arith) in
-      sym (ap (course_of p) (there ∙ back)) ∙ (sym here ∙ (get_or_default (map (course_of p) (map route_of courses)) k (course_of p (route_of c)) c within ∙ (ap (λ (l : List Course). get_or l k c) tables ∙ sym is)))
+      sym (ap (course_of p) (there ∙ back))
+      ∙ (sym here ∙ (get_or_default (map (course_of p) (map route_of courses)) k (course_of p (route_of c)) c within
+      ∙ (ap (λ (l : List Course). get_or l k c) tables ∙ sym is)))
 
   pub route_at : of_vehicle (plan_of courses) (k + 1) ≡ route_of c
   route_at =
-      let some : slice_get (map route_of courses) k ≡ Some (get_or (map route_of courses) k (route_of c)) = slice_get-get_or (map route_of courses) k (route_of c) (let e = length-map courses route_of in omega arith) in
+      let some : slice_get (map route_of courses) k ≡ Some (get_or (map route_of courses) k (route_of c)) =
+      slice_get-get_or (map route_of courses) k (route_of c) (let e = length-map courses route_of in omega arith) in
       let there : get_or (map route_of courses) k (route_of c) ≡ route_of (get_or courses k c) = get_or-map route_of courses k c in
-      subst (λ i. of_vehicle (plan_of courses) i ≡ route_of c) (sym (add-one k)) (ap (λ (o : Option (List ℕ)). unwrap_or o []) some ∙ (there ∙ ap route_of (sym is)))
+      subst (λ i. of_vehicle (plan_of courses) i ≡ route_of c) (sym (add-one k))
+      (ap (λ (o : Option (List ℕ)). unwrap_or o []) some ∙ (there ∙ ap route_of (sym is)))
 
   pub stops_long : length (route_of c) ≡ length c.stops
   stops_long = length-map c.stops (λ s. s.number)
@@ -91,8 +99,12 @@ module _ (laws : InsertionLaws) {p : Instance} {pins : List (List ℕ)} {courses
     ]
 
     -- before the first vehicle those are looked at that are named
-    pub from_named : (l : Limit) (best : Option Found) → IsBestAmongThese p pins (plan_of courses) r l (IsNamed (plan_of courses) entries (length entries)) best → IsBestAmongThese p pins (plan_of courses) r l (Looked 0) best
-    from_named l best first = these_same p pins (plan_of courses) r l (IsNamed (plan_of courses) entries (length entries)) (Looked 0) (λ u named. inr named) (λ u seen. elim seen [ inl none ↦ absurd (let low = none.0 in let high = none.1 in omega arith) | inr named ↦ named ]) best first
+    pub from_named : (l : Limit) (best : Option Found)
+        → IsBestAmongThese p pins (plan_of courses) r l (IsNamed (plan_of courses) entries (length entries)) best
+        → IsBestAmongThese p pins (plan_of courses) r l (Looked 0) best
+    from_named l best first =
+        these_same p pins (plan_of courses) r l (IsNamed (plan_of courses) entries (length entries)) (Looked 0) (λ u named. inr named)
+        (λ u seen. elim seen [ inl none ↦ absurd (let low = none.0 in let high = none.1 in omega arith) | inr named ↦ named ]) best first
 
     pub answered : (l : Limit) (answer : Option Found) → IsBestAmongThese p pins (plan_of courses) r l (Looked (length courses)) answer
         → IsBestWithin p pins (plan_of courses) r l (option_map place_found answer)
@@ -102,16 +114,19 @@ module _ (laws : InsertionLaws) {p : Instance} {pins : List (List ℕ)} {courses
     -- vehicles that are not looked at, all as one that was
     rest_skipped : (l : Limit) (left k : ℕ) → k + left ≡ length (plan_of courses)
         → ((v : ℕ) → k < v → v ≤ length (plan_of courses) → HasIdle (plan_of courses) k × (length (of_vehicle (plan_of courses) v) ≡ 0))
-        → (best : Option Found) → IsBestAmongThese p pins (plan_of courses) r l (Looked k) best → IsBestAmongThese p pins (plan_of courses) r l (Looked (length courses)) best
+        → (best : Option Found) → IsBestAmongThese p pins (plan_of courses) r l (Looked k) best
+        → IsBestAmongThese p pins (plan_of courses) r l (Looked (length courses)) best
     rest_skipped l zero k all idle best old =
         let e = length-map courses route_of in
         subst (λ n. IsBestAmongThese p pins (plan_of courses) r l (Looked n) best) (omega arith) old
     rest_skipped l (suc left) k all idle best old =
         let here = idle (k + 1) (omega arith) (omega arith) in
         rest_skipped l left (k + 1) (omega arith) (λ v above within. let h = idle v (omega arith) within in (idle_more (plan_of courses) k h.0, h.1)) best
-        (skipped laws asked l (Looked k) (Looked (k + 1)) (k + 1) (omega arith) (omega arith) (one_on k) (one_off k) (inl (omega arith, omega arith)) here.1 k (omega arith) (λ u from le. inl (from, le)) here.0 best old)
+        (skipped laws asked l (Looked k) (Looked (k + 1)) (k + 1) (omega arith) (omega arith) (one_on k) (one_off k)
+        (inl (omega arith, omega arith)) here.1 k (omega arith) (λ u from le. inl (from, le)) here.0 best old)
 
-    pub beyond : (l : Limit) (end : ℕ) → end ≤ length courses → IsReach (plan_of courses) end → (best : Option Found) → IsBestAmongThese p pins (plan_of courses) r l (Looked end) best
+    pub beyond : (l : Limit) (end : ℕ) → end ≤ length courses → IsReach (plan_of courses) end → (best : Option Found)
+        → IsBestAmongThese p pins (plan_of courses) r l (Looked end) best
         → IsBestAmongThese p pins (plan_of courses) r l (Looked (length courses)) best
     beyond l end within reach best old =
         let e = length-map courses route_of in
@@ -151,13 +166,24 @@ module _ (laws : InsertionLaws) {p : Instance} {pins : List (List ℕ)} {courses
     -- what is said by the table, said by the plan
     by_plan : (l : Limit) (best result : Option Found) → IsBetter p (route_of c) r (length (of_vehicle pins (k + 1))) (k + 1) l best result
         → IsBetter p (of_vehicle (plan_of courses) (k + 1)) r (length (of_vehicle pins (k + 1))) (k + 1) l best result
-    by_plan l best result better = subst (λ (route : List ℕ). IsBetter p route r (length (of_vehicle pins (k + 1))) (k + 1) l best result) (sym (route_at courses k c is in_range)) better
+    by_plan l best result better =
+        subst (λ (route : List ℕ). IsBetter p route r (length (of_vehicle pins (k + 1))) (k + 1) l best result)
+        (sym (route_at courses k c is in_range)) better
 
     module _ (entries : List (ℕ × Course)) where
       named_on : (n u : ℕ) → IsNamed (plan_of courses) entries n u → IsNamed (plan_of courses) entries (n + 1) u
-      named_on n u was = record { place = was.place; entry = was.entry; below = (let h = was.below in omega arith); at = was.at; same = was.same; some = was.some }
+      named_on n u was =
+          record {
+            place = was.place;
+            entry = was.entry;
+            below = (let h = was.below in omega arith);
+            at = was.at;
+            same = was.same;
+            some = was.some;
+          }
 
-      named_off : (n : ℕ) (e : ℕ × Course) → slice_get entries n ≡ Some e → e.0 ≡ k + 1 → (u : ℕ) → IsNamed (plan_of courses) entries (n + 1) u → (u ≡ k + 1) ⊎ IsNamed (plan_of courses) entries n u
+      named_off : (n : ℕ) (e : ℕ × Course) → slice_get entries n ≡ Some e → e.0 ≡ k + 1 → (u : ℕ)
+          → IsNamed (plan_of courses) entries (n + 1) u → (u ≡ k + 1) ⊎ IsNamed (plan_of courses) entries n u
       named_off n e at same u was = elim (cases_lt was.place n) [
         | inl less ↦ inr (record { place = was.place; entry = was.entry; below = less; at = was.at; same = was.same; some = was.some })
         | inr more ↦ inl (
@@ -167,19 +193,23 @@ module _ (laws : InsertionLaws) {p : Instance} {pins : List (List ℕ)} {courses
       ]
 
       -- a vehicle of the list more
-      pub named_more : (l : Limit) (n : ℕ) (e : ℕ × Course) → slice_get entries n ≡ Some e → e.0 ≡ k + 1 → 1 ≤ length c.stops → length c.stops ≤ 40001 → (best result : Option Found)
-          → IsBestAmongThese p pins (plan_of courses) r l (IsNamed (plan_of courses) entries n) best → IsLookedAt p (route_of c) r (length (of_vehicle pins (k + 1))) [] (k + 1) l best result
+      pub named_more : (l : Limit) (n : ℕ) (e : ℕ × Course) → slice_get entries n ≡ Some e → e.0 ≡ k + 1 → 1 ≤ length c.stops
+          → length c.stops ≤ 40001 → (best result : Option Found)
+          → IsBestAmongThese p pins (plan_of courses) r l (IsNamed (plan_of courses) entries n) best
+          → IsLookedAt p (route_of c) r (length (of_vehicle pins (k + 1))) [] (k + 1) l best result
           → IsBestAmongThese p pins (plan_of courses) r l (IsNamed (plan_of courses) entries (n + 1)) result
       named_more l n e at same some few best result old looked =
           let g = ap length (route_at courses k c is in_range) in
           let h = stops_long courses k c is in_range in
-          bettered laws asked l (IsNamed (plan_of courses) entries n) (IsNamed (plan_of courses) entries (n + 1)) (k + 1) (omega arith) high (named_on n) (named_off n e at same)
+          bettered laws asked l (IsNamed (plan_of courses) entries n) (IsNamed (plan_of courses) entries (n + 1)) (k + 1)
+          (omega arith) high (named_on n) (named_off n e at same)
           (record { place = n; entry = e; below = omega arith; at = at; same = same; some = omega arith }) (few_stops few) best result old
           (by_plan l best result (elim looked [ inl better ↦ better | inr known ↦ absurd (no_entry known.1.0 known.1.1 known.1.2) ]))
 
       -- one without stops
       pub named_idle : (l : Limit) (n : ℕ) (e : ℕ × Course) → slice_get entries n ≡ Some e → e.0 ≡ k + 1 → length c.stops ≡ 0 → (best : Option Found)
-          → IsBestAmongThese p pins (plan_of courses) r l (IsNamed (plan_of courses) entries n) best → IsBestAmongThese p pins (plan_of courses) r l (IsNamed (plan_of courses) entries (n + 1)) best
+          → IsBestAmongThese p pins (plan_of courses) r l (IsNamed (plan_of courses) entries n) best
+          → IsBestAmongThese p pins (plan_of courses) r l (IsNamed (plan_of courses) entries (n + 1)) best
       named_idle l n e at same none best old =
           these_same p pins (plan_of courses) r l (IsNamed (plan_of courses) entries n) (IsNamed (plan_of courses) entries (n + 1)) (named_on n) back best old
         where
@@ -190,28 +220,53 @@ module _ (laws : InsertionLaws) {p : Instance} {pins : List (List ℕ)} {courses
           ]
 
       pub one_more : (l : Limit) → length c.stops ≤ 40001 → (best result : Option Found) → IsBestAmongThese p pins (plan_of courses) r l (Looked entries k) best
-          → IsLookedAt p (route_of c) r (length (of_vehicle pins (k + 1))) entries (k + 1) l best result → IsBestAmongThese p pins (plan_of courses) r l (Looked entries (k + 1)) result
+          → IsLookedAt p (route_of c) r (length (of_vehicle pins (k + 1))) entries (k + 1) l best result
+          → IsBestAmongThese p pins (plan_of courses) r l (Looked entries (k + 1)) result
       one_more l few best result old looked = elim looked [
-        | inl better ↦ bettered laws asked l (Looked entries k) (Looked entries (k + 1)) (k + 1) (omega arith) high (one_on entries k) (one_off entries k) (inl (omega arith, omega arith)) (few_stops few) best result old (by_plan l best result better)
+        | inl better ↦ bettered laws asked l (Looked entries k) (Looked entries (k + 1)) (k + 1) (omega arith) high (one_on entries k)
+            (one_off entries k) (inl (omega arith, omega arith)) (few_stops few) best result old (by_plan l best result better)
         | inr known ↦ subst (IsBestAmongThese p pins (plan_of courses) r l (Looked entries (k + 1))) (sym known.2)
-            (these_same p pins (plan_of courses) r l (Looked entries k) (Looked entries (k + 1)) (one_on entries k) (λ u seen. elim (one_off entries k u seen) [ inl here ↦ subst (Looked entries k) (sym here) (inr (there known.0 known.1)) | inr before ↦ before ]) best old)
+            (these_same p pins (plan_of courses) r l (Looked entries k) (Looked entries (k + 1)) (one_on entries k)
+            (λ u seen. elim (one_off entries k u seen) [
+              | inl here ↦ subst (Looked entries k) (sym here)
+                  (inr (there known.0 known.1))
+              | inr before ↦ before
+            ]) best old)
       ]
         where
           there : 1 ≤ length (route_of c) → IsEntryOf entries (k + 1) → IsNamed (plan_of courses) entries (length entries) (k + 1)
-          there long entry = record { place = entry.0; entry = entry.1; below = slice_get_within entries entry.0 entry.1 entry.2; at = entry.2; same = entry.3; some = (let g = ap length (route_at courses k c is in_range) in omega arith) }
+          there long entry =
+              record {
+                place = entry.0;
+                entry = entry.1;
+                below = slice_get_within entries entry.0 entry.1 entry.2;
+                at = entry.2;
+                same = entry.3;
+                some = (let g = ap length (route_at courses k c is in_range) in omega arith);
+              }
 
-      pub one_skipped : (l : Limit) → length c.stops ≡ 0 → HasIdle (plan_of courses) k → (best : Option Found) → IsBestAmongThese p pins (plan_of courses) r l (Looked entries k) best → IsBestAmongThese p pins (plan_of courses) r l (Looked entries (k + 1)) best
+      pub one_skipped : (l : Limit) → length c.stops ≡ 0 → HasIdle (plan_of courses) k → (best : Option Found)
+          → IsBestAmongThese p pins (plan_of courses) r l (Looked entries k) best
+          → IsBestAmongThese p pins (plan_of courses) r l (Looked entries (k + 1)) best
       one_skipped l none idle best old =
-          skipped laws asked l (Looked entries k) (Looked entries (k + 1)) (k + 1) (omega arith) high (one_on entries k) (one_off entries k) (inl (omega arith, omega arith)) (empty_at none) k (omega arith) (λ u from le. inl (from, le)) idle best old
+          skipped laws asked l (Looked entries k) (Looked entries (k + 1)) (k + 1) (omega arith) high (one_on entries k)
+          (one_off entries k) (inl (omega arith, omega arith)) (empty_at none) k (omega arith)
+          (λ u from le. inl (from, le)) idle best old
 
 -- a table can be built of each route of a plan that passes
-module _ (local : PassesAreLocal) (plans : PlansAreLocal) (says : TestsSayFeasible) (p : Instance) (pins routes : List (List ℕ)) (good : passes p pins routes ≡ true) (k : ℕ) (route : List ℕ) (is : route ≡ get_or routes k route) (in_range : k < length routes) where
+module _ (local : PassesAreLocal) (plans : PlansAreLocal) (says : TestsSayFeasible) (p : Instance) (pins routes : List (List ℕ))
+    (good : passes p pins routes ≡ true) (k : ℕ) (route : List ℕ) (is : route ≡ get_or routes k route) (in_range : k < length routes) where
   pub route_once : AreLiveOnce p route
-  route_once = subst (AreLiveOnce p) (sym is) (All-get_or (AreLiveOnce p) routes k route in_range ((plans p routes).0 ((parts local p pins routes good).plan)).0)
+  route_once =
+      subst (AreLiveOnce p) (sym is)
+      (All-get_or (AreLiveOnce p) routes k route in_range ((plans p routes).0 ((parts local p pins routes good).plan)).0)
 
   pub route_keeps : IsInstance p → KeepsLimits p route
   route_keeps valid =
-      route_limits p valid route ((says p route).1 (subst (IsFeasibleAlone p) (sym is) (All-get_or (IsFeasibleAlone p) routes k route in_range ((parts local p pins routes good).feasible))))
+      route_limits p valid route
+      ((says p route).1
+      (subst (IsFeasibleAlone p) (sym is)
+      (All-get_or (IsFeasibleAlone p) routes k route in_range ((parts local p pins routes good).feasible))))
 
 no_pins : (r i n : ℕ) → Stands [] r i n → ⊥
 no_pins zero i n s = none_some s.0 s.1

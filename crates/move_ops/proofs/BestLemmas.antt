@@ -1,14 +1,17 @@
 -- The least of a list by an order, and the order of insertions.
-use Rattle.std.proofs.Common.{◌≡◌, ℕ, zero, suc, ◌<◌, ◌≤◌, ◌⊎◌, ◌&&◌, ◌||◌, Bool, true, false, not, eqb, ltb, leb, List, [], ◌∷◌, length, Option, Some, None, refl, sym, ap, subst, ◌∙◌, inl, inr, arith}
+use Rattle.std.proofs.Common.{◌≡◌, ℕ, zero, suc, ◌<◌, ◌≤◌, ◌⊎◌, ◌&&◌, ◌||◌, Bool, true, false, not, eqb, ltb}
+use Rattle.std.proofs.Common.{leb, List, [], ◌∷◌, length, Option, Some, None, refl, sym, ap, subst, ◌∙◌, inl, inr, arith}
 use Rattle.std.specs.List.{Contains}
 use Rattle.std.specs.Option.{MatchOption}
-use Rattle.std.proofs.lemmas.Bool.{and_from, and_parts, or_cases, cases_order, cases_lt, eq-eqb, eqb-true, ltb-true, lt-ltb, leb-true, le-leb, or_left, or_right, not-true, both_ways}
+use Rattle.std.proofs.lemmas.Bool.{and_from, and_parts, or_cases, cases_order, cases_lt, eq-eqb, eqb-true}
+use Rattle.std.proofs.lemmas.Bool.{ltb-true, lt-ltb, leb-true, le-leb, or_left, or_right, not-true, both_ways}
 use Rattle.plan_types.specs.Cost.{cost_below, cost_at_most, CostsAreTotal, CostsAreTransitive, BelowThenAtMost, AtMostThenBelow, BelowIsAtMost}
 use Rattle.plan_types.specs.declared.plans.Cost.{Cost}
 use Rattle.move_ops.specs.Insertion.{Insertion, insertions, insertions_of, is_no_later, is_no_worse, cost_with, better, least_by, best_insertion}
 use Rattle.move_ops.specs.Laws.{IsBest, BestInsertionsAreLeast, BestInsertionsAreUnique}
 
-module _ {X : Type 0} (at_most : X → X → Bool) (total : (x y : X) → (at_most x y ≡ true) ⊎ (at_most y x ≡ true)) (transitive : (x y z : X) → at_most x y ≡ true → at_most y z ≡ true → at_most x z ≡ true) where
+module _ {X : Type 0} (at_most : X → X → Bool) (total : (x y : X) → (at_most x y ≡ true) ⊎ (at_most y x ≡ true))
+    (transitive : (x y z : X) → at_most x y ≡ true → at_most y z ≡ true → at_most x z ≡ true) where
   itself : (x : X) → at_most x x ≡ true
   itself x = elim (total x x) [ inl h ↦ h | inr h ↦ h ]
 
@@ -35,7 +38,9 @@ module _ {X : Type 0} (at_most : X → X → Bool) (total : (x y : X) → (at_mo
       )
       by (Some z) best = choose (at_most x z) refl
         where
-          choose : (b : Bool) → at_most x z ≡ b → Contains (x ∷ xs) (better at_most x (Some z)) × ((y : X) → Contains (x ∷ xs) y → at_most (better at_most x (Some z)) y ≡ true)
+          choose : (b : Bool) → at_most x z ≡ b
+              → Contains (x ∷ xs) (better at_most x (Some z))
+              × ((y : X) → Contains (x ∷ xs) y → at_most (better at_most x (Some z)) y ≡ true)
           choose true e = rw e (
             (zero, omega arith, refl),
             λ y c. elim (one_of x y xs c) [
@@ -169,7 +174,8 @@ same_place x y s t = elim s [
 ]
 
 -- by cost, and then by place
-module _ (costs_total : CostsAreTotal) (costs_transitive : CostsAreTransitive) (below_at_most : BelowThenAtMost) (at_most_below : AtMostThenBelow) (weaken : BelowIsAtMost) where
+module _ (costs_total : CostsAreTotal) (costs_transitive : CostsAreTransitive) (below_at_most : BelowThenAtMost)
+    (at_most_below : AtMostThenBelow) (weaken : BelowIsAtMost) where
   abbrev by_both : Cost → Cost → Insertion → Insertion → Bool
   by_both a b x y = cost_below a b || (cost_at_most a b && is_no_later x y)
 
@@ -211,7 +217,8 @@ module _ (costs_total : CostsAreTotal) (costs_transitive : CostsAreTransitive) (
     ]
     | inr one ↦ elim (or_cases (cost_below b a) (cost_at_most b a && is_no_later y x) k) [
       | inl more ↦ absurd (both_ways (cost_below b a) (not-true (cost_below b a) (and_parts (cost_at_most a b) (is_no_later x y) one).0) more)
-      | inr two ↦ same_place x y (later_said x y (and_parts (cost_at_most a b) (is_no_later x y) one).1) (later_said y x (and_parts (cost_at_most b a) (is_no_later y x) two).1)
+      | inr two ↦ same_place x y (later_said x y (and_parts (cost_at_most a b) (is_no_later x y) one).1)
+          (later_said y x (and_parts (cost_at_most b a) (is_no_later y x) two).1)
     ]
   ]
 
@@ -225,7 +232,10 @@ module _ (costs_total : CostsAreTotal) (costs_transitive : CostsAreTransitive) (
       (least (is_no_worse p routes r) (λ x y. both_total (cost_with p routes r x) (cost_with p routes r y) x y)
       (λ x y z h k. both_transitive (cost_with p routes r x) (cost_with p routes r y) (cost_with p routes r z) x y z h k) (insertions_of p pins routes r)) refl
     where
-      by : (o : Option Insertion) → MatchOption o (insertions_of p pins routes r ≡ []) (λ x. Contains (insertions_of p pins routes r) x × ((y : Insertion) → Contains (insertions_of p pins routes r) y → is_no_worse p routes r x y ≡ true))
+      by : (o : Option Insertion)
+          → MatchOption o (insertions_of p pins routes r ≡ [])
+          (λ x. Contains (insertions_of p pins routes r) x
+          × ((y : Insertion) → Contains (insertions_of p pins routes r) y → is_no_worse p routes r x y ≡ true))
           → least_by (is_no_worse p routes r) (insertions_of p pins routes r) ≡ o
           → MatchOption (best_insertion p pins routes name) (insertions p pins routes name ≡ []) (IsBest p pins routes r)
       by None none e = rw (named, e) none

@@ -26,17 +26,20 @@ far_itself : (p : Instance) (routes other : List (List ℕ)) (below : ℤ) → r
 far_itself p routes other below same = subst (λ (l : List (List ℕ)). IsFar p routes l below) same (inl (omega arith))
 
 -- where a vehicle is opened or the bound is reached the result is far
-module _ (p : Instance) (routes : List (List ℕ)) (r : Request) (l : Limit) (none : l.opens ≡ false) (x : Insertion) (is : IsPriced p routes r x (opens p.kind (of_vehicle routes x.0)) (gain p routes r x)) where
+module _ (p : Instance) (routes : List (List ℕ)) (r : Request) (l : Limit) (none : l.opens ≡ false) (x : Insertion)
+    (is : IsPriced p routes r x (opens p.kind (of_vehicle routes x.0)) (gain p routes r x)) where
   far_at : (IsAllowed p routes r l x → ⊥) → IsFar p routes (with_request_at routes r x) l.below
   far_at out = by (opens p.kind (of_vehicle routes x.0)) refl is
     where
-      by : (o : Bool) → opens p.kind (of_vehicle routes x.0) ≡ o → IsPriced p routes r x o (gain p routes r x) → IsFar p routes (with_request_at routes r x) l.below
+      by : (o : Bool) → opens p.kind (of_vehicle routes x.0) ≡ o → IsPriced p routes r x o (gain p routes r x)
+          → IsFar p routes (with_request_at routes r x) l.below
       by true opened priced = inr (inl (let e = used_with p routes r x true (gain p routes r x) priced in omega arith))
       by false opened priced = by_lt_z {P = IsFar p routes (with_request_at routes r x) l.below} (gain p routes r x) l.below
           (λ less. absurd (out (inr (opened ∙ sym none, less))))
           (λ more. inr (inr (let e = distance_with p routes r x false (gain p routes r x) priced in omega (arith, ints))))
 
-  near_at : IsAllowed p routes r l x → unplanned_count p routes ≡ unplanned_count p (with_request_at routes r x) + 1 → IsFar p routes (with_request_at routes r x) l.below → ⊥
+  near_at : IsAllowed p routes r l x → unplanned_count p routes ≡ unplanned_count p (with_request_at routes r x) + 1
+      → IsFar p routes (with_request_at routes r x) l.below → ⊥
   near_at allowed fewer far = elim allowed [
     | inl opened ↦ absurd (let h : true ≡ false = sym opened.1 ∙ none in cc)
     | inr alike ↦ by (opens p.kind (of_vehicle routes x.0)) (alike.0 ∙ none) alike.1 is
@@ -53,7 +56,8 @@ module _ (p : Instance) (routes : List (List ℕ)) (r : Request) (l : Limit) (no
           ]
 
 -- of a draft
-module _ (laws : InsertionLaws) (p : Instance) (pins : List (List ℕ)) (d : Drafted) (is : IsDraftOf p pins d) (r : Request) (named : request_named p (request_name r) ≡ Some r) where
+module _ (laws : InsertionLaws) (p : Instance) (pins : List (List ℕ)) (d : Drafted) (is : IsDraftOf p pins d) (r : Request)
+    (named : request_named p (request_name r) ≡ Some r) where
   abbrev routes : List (List ℕ)
   routes = draft_of d
 
@@ -65,13 +69,18 @@ module _ (laws : InsertionLaws) (p : Instance) (pins : List (List ℕ)) (d : Dra
 
   among : (x : Insertion) → best_insertion p pins routes (request_name r) ≡ Some x → Contains (insertions_of p pins routes r) x
   among x best =
-      let least : IsBest p pins routes r x = subst (λ (o : Option Insertion). MatchOption o (insertions p pins routes (request_name r) ≡ []) (IsBest p pins routes r)) best (laws.least p pins routes (request_name r) r named) in
+      let least : IsBest p pins routes r x =
+      subst (λ (o : Option Insertion). MatchOption o (insertions p pins routes (request_name r) ≡ []) (IsBest p pins routes r)) best
+      (laws.least p pins routes (request_name r) r named) in
       least.among
 
   placed_at : (x : Insertion) → best_insertion p pins routes (request_name r) ≡ Some x → placed p pins routes (request_name r) ≡ with_request_at routes r x
-  placed_at x best = let told = listed p pins routes r x (within (insertions_of p pins routes r) x (among x best)) in rw (best, named, told.0, told.1, told.2) refl
+  placed_at x best =
+      let told = listed p pins routes r x (within (insertions_of p pins routes r) x (among x best)) in
+      rw (best, named, told.0, told.1, told.2) refl
 
-  priced : (x : Insertion) → best_insertion p pins routes (request_name r) ≡ Some x → IsPriced p routes r x (opens p.kind (of_vehicle routes x.0)) (gain p routes r x)
+  priced : (x : Insertion) → best_insertion p pins routes (request_name r) ≡ Some x
+      → IsPriced p routes r x (opens p.kind (of_vehicle routes x.0)) (gain p routes r x)
   priced x best = by (is_planned routes r) refl
     where
       by : (b : Bool) → is_planned routes r ≡ b → IsPriced p routes r x (opens p.kind (of_vehicle routes x.0)) (gain p routes r x)
@@ -93,12 +102,15 @@ module _ (laws : InsertionLaws) (p : Instance) (pins : List (List ℕ)) (d : Dra
     so_named = named_so p is.valid name r found
 
     -- it is put in
-    pub put_below : (x : Insertion) → IsBestWithin p pins routes r l (Some x) → IsPut p pins routes r x → (new : List (List ℕ)) → new ≡ with_request_at routes r x → IsPlacedBelow p pins name l.below true routes new
+    pub put_below : (x : Insertion) → IsBestWithin p pins routes r l (Some x) → IsPut p pins routes r x → (new : List (List ℕ))
+        → new ≡ with_request_at routes r x → IsPlacedBelow p pins name l.below true routes new
     put_below x best put new is_new =
         let there : placed p pins routes name ≡ with_request_at routes r x = ap (placed p pins routes) (sym so_named) ∙ placed_at x best.0 in
         record {
           put = λ made. is_new ∙ sym there;
-          near = λ made far. near_at p routes r l none x (priced x best.0) best.1 put.unplanned (subst (λ (other : List (List ℕ)). IsFar p routes other l.below) there far);
+          near = λ made far.
+              near_at p routes r l none x (priced x best.0) best.1 put.unplanned
+              (subst (λ (other : List (List ℕ)). IsFar p routes other l.below) there far);
           stays = λ kept. absurd (let h : true ≡ false = kept in cc);
           far = λ kept. absurd (let h : true ≡ false = kept in cc);
         }
@@ -114,10 +126,13 @@ module _ (laws : InsertionLaws) (p : Instance) (pins : List (List ℕ)) (d : Dra
       where
         by : (o : Option Insertion) → best_insertion p pins routes (request_name r) ≡ o → IsFar p routes (placed p pins routes (request_name r)) l.below
         by None best = far_itself p routes (placed p pins routes (request_name r)) l.below (placed_none p pins routes (request_name r) (sym best))
-        by (Some x) best = subst (λ (other : List (List ℕ)). IsFar p routes other l.below) (sym (placed_at x best)) (far_at p routes r l none x (priced x best) (out x (among x best)))
+        by (Some x) best =
+            subst (λ (other : List (List ℕ)). IsFar p routes other l.below) (sym (placed_at x best))
+            (far_at p routes r l none x (priced x best) (out x (among x best)))
 
 -- so is a name of no request
-pub unnamed_below : (p : Instance) (pins routes : List (List ℕ)) (name : ℕ) (below : ℤ) → request_named p name ≡ None → IsPlacedBelow p pins name below false routes routes
+pub unnamed_below : (p : Instance) (pins routes : List (List ℕ)) (name : ℕ) (below : ℤ) → request_named p name ≡ None
+    → IsPlacedBelow p pins name below false routes routes
 unnamed_below p pins routes name below none = record {
   put = λ made. absurd (let h : false ≡ true = made in cc);
   near = λ made. absurd (let h : false ≡ true = made in cc);

@@ -1,5 +1,6 @@
 -- No route is so long that distances would not fit: by far, since a distance is taken to be no more than the square.
-use Rattle.std.proofs.Common.{◌≡◌, ℕ, zero, suc, ◌+◌, ◌*◌, ◌/◌, ◌≤◌, ℤ, ◌-ℤ◌, eqb, leb, ltb, cond, Bool, true, false, List, [], ◌∷◌, length, map, sum, fold, mul-le-mul, Option, Some, None, get_or, refl, subst, ◌∙◌, inl, inr, arith}
+use Rattle.std.proofs.Common.{◌≡◌, ℕ, zero, suc, ◌+◌, ◌*◌, ◌/◌, ◌≤◌, ℤ, ◌-ℤ◌, eqb, leb, ltb, cond, Bool, true, false}
+use Rattle.std.proofs.Common.{List, [], ◌∷◌, length, map, sum, fold, mul-le-mul, Option, Some, None, get_or, refl, subst, ◌∙◌, inl, inr, arith}
 use Rattle.std.specs.Prelude.{unsigned_abs, unwrap_or}
 use Rattle.std.specs.List.{AllByRecursion, range_with_len}
 use Rattle.std.proofs.lemmas.Bool.{leb-true}

@@ -1,5 +1,6 @@
 -- A plan made of the routes of one that passes.
-use Rattle.std.proofs.Common.{◌≡◌, ℕ, zero, suc, ◌≤◌, Bool, true, false, List, [], ◌∷◌, All, length, map, Some, slice_get, refl, sym, ap, subst, ◌∙◌, inl, inr, arith}
+use Rattle.std.proofs.Common.{◌≡◌, ℕ, zero, suc, ◌≤◌, Bool, true, false, List, [], ◌∷◌, All}
+use Rattle.std.proofs.Common.{length, map, Some, slice_get, refl, sym, ap, subst, ◌∙◌, inl, inr, arith}
 use Rattle.std.specs.List.{AllByRecursion, list_all, concat}
 use Rattle.std.proofs.lemmas.Bool.{cases_Bool, and_parts, and_from}
 use Rattle.std.proofs.lemmas.List.Elements.{All-from_recursion, recursion_from_All}
@@ -46,7 +47,8 @@ module _ (local : PassesAreLocal) (says : TestsSayFeasible) (p : Instance) (pins
   said_feasible others all = said_all (feasible_alone p) (IsFeasibleAlone p) (λ x h. (says p x).1 h) others (recursion_from_All (IsFeasibleAlone p) others all)
 
   -- a plan of as many routes that keeps the pins passes exactly where all its routes are feasible
-  pub passes_where_feasible : (others : List (List ℕ)) → IsPlan p others → length others ≡ length routes → KeepsPins others pins → (b : Bool) → b ≡ list_all (feasible_alone p) others → passes p pins others ≡ b
+  pub passes_where_feasible : (others : List (List ℕ)) → IsPlan p others → length others ≡ length routes → KeepsPins others pins
+      → (b : Bool) → b ≡ list_all (feasible_alone p) others → passes p pins others ≡ b
   passes_where_feasible others plan same kept true e = passes_too local p pins routes good others plan same (feasible_said others (sym e)) kept
   passes_where_feasible others plan same kept false e = elim (cases_Bool (passes p pins others)) [
     | inr fails ↦ fails
@@ -58,7 +60,8 @@ pub each_once : PlansAreLocal → (p : Instance) (others : List (List ℕ)) → 
 each_once plans p others plan = ((plans p others).0 plan).0
 
 -- routes that are changed one by one
-pub item_map : (f : List ℕ → List ℕ) (routes : List (List ℕ)) (r : ℕ) (route : List ℕ) → item_at routes r ≡ Some route → item_at (map f routes) r ≡ Some (f route)
+pub item_map : (f : List ℕ → List ℕ) (routes : List (List ℕ)) (r : ℕ) (route : List ℕ) → item_at routes r ≡ Some route
+    → item_at (map f routes) r ≡ Some (f route)
 item_map f routes zero route at = absurd (none_some route at)
 item_map f [] (suc k) route at = absurd (none_some route at)
 item_map f (first ∷ rest) (suc zero) route at = ap (λ l. Some (f l)) (some_same first route at)
@@ -66,7 +69,8 @@ item_map f (first ∷ rest) (suc (suc k)) route at = item_map f rest (suc k) rou
 
 -- keep the pins where each does
 pub pins_map : (f : List ℕ → List ℕ) (routes pins : List (List ℕ)) → KeepsPins routes pins
-    → ((pin route : List ℕ) → ((k n : ℕ) → slice_get pin k ≡ Some n → slice_get route k ≡ Some n) → ((k n : ℕ) → slice_get pin k ≡ Some n → 1 ≤ times n (concat pins))
+    → ((pin route : List ℕ) → ((k n : ℕ) → slice_get pin k ≡ Some n → slice_get route k ≡ Some n)
+    → ((k n : ℕ) → slice_get pin k ≡ Some n → 1 ≤ times n (concat pins))
     → (k n : ℕ) → slice_get pin k ≡ Some n → slice_get (f route) k ≡ Some n)
     → KeepsPins (map f routes) pins
 pins_map f routes pins kept keeps r zero n s = absurd (none_some n s.2)

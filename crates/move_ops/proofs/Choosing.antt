@@ -1,5 +1,6 @@
 -- The best insertion over the first vehicles, and over one more.
-use Rattle.std.proofs.Common.{◌≡◌, ℕ, zero, suc, ◌+◌, ◌-◌, ◌<◌, ◌≤◌, ℤ, pos, ◌+ℤ◌, ◌-ℤ◌, ◌<ℤ◌, ◌≤ℤ◌, eqb, ltb, leb, cond, ◌&&◌, Bool, true, false, List, [], ◌∷◌, length, length-append, take, drop, get_or, slice_get, Option, Some, None, refl, sym, ap, subst, ◌∙◌, inl, inr, arith, nat_eq}
+use Rattle.std.proofs.Common.{◌≡◌, ℕ, zero, suc, ◌+◌, ◌-◌, ◌<◌, ◌≤◌, ℤ, pos, ◌+ℤ◌, ◌-ℤ◌, ◌<ℤ◌, ◌≤ℤ◌, eqb, ltb, leb, cond, ◌&&◌, Bool, true}
+use Rattle.std.proofs.Common.{false, List, [], ◌∷◌, length, length-append, take, drop, get_or, slice_get, Option, Some, None, refl, sym, ap, subst, ◌∙◌, inl, inr, arith, nat_eq}
 use Rattle.std.specs.List.{AllByRecursion, Contains, insert}
 use Rattle.std.specs.Map.{lookup}
 use Rattle.std.specs.Prelude.{◌⊎◌, ◌≢◌, nat_lt, ◌==◌, MatchOption, unwrap_or}
@@ -27,9 +28,11 @@ use Rattle.slack_tables.specs.Course.{Course, route_of, IsCourseIn}
 use Rattle.slack_tables.specs.FitsNowhere.{FitsNowhere}
 use Rattle.slack_tables.specs.Insertion.{request_named, KeepsLimits, ArePlaces, inserted}
 use Rattle.slack_tables.specs.declared.scan.Addition.{Addition}
-use Rattle.move_ops.specs.Insertion.{Insertion, is_no_later, of_vehicle, are_places, is_place_of, insertions_of, insertions, best_insertion, cost_with, is_no_worse}
+use Rattle.move_ops.specs.Insertion.{Insertion, is_no_later, of_vehicle, are_places, is_place_of}
+use Rattle.move_ops.specs.Insertion.{insertions_of, insertions, best_insertion, cost_with, is_no_worse}
 use Rattle.move_ops.specs.Laws.{IsBest}
-use Rattle.move_ops.specs.Choosing.{opens, gain, IsWithin, IsAllowed, IsBestWithin, bound_beside, bound_over, bound_of, place_found, found_at, InsertionLaws, IsAsked, IsBestAmong, IsBestAmongThese, IsLoose, HasIdle, IsBetterBelow, IsBetter}
+use Rattle.move_ops.specs.Choosing.{opens, gain, IsWithin, IsAllowed, IsBestWithin, bound_beside, bound_over, bound_of, place_found}
+use Rattle.move_ops.specs.Choosing.{found_at, InsertionLaws, IsAsked, IsBestAmong, IsBestAmongThese, IsLoose, HasIdle, IsBetterBelow, IsBetter}
 use Rattle.move_ops.specs.Tables.{plan_of}
 use Rattle.move_ops.specs.declared.tables.Found.{Found}
 use Rattle.move_ops.specs.declared.tables.Limit.{Limit}
@@ -43,7 +46,8 @@ use Rattle.move_ops.proofs.Costs.{IsPriced, Ahead, no_worse}
 use Rattle.move_ops.proofs.Bounds.{route_small}
 
 -- a request stands under its name
-pub name_of : (es : List (ℕ × Request)) (name : ℕ) (r : Request) → AllByRecursion (λ e. e.0 ≡ request_name e.1) es → lookup (nat_eq name) es ≡ Some r → request_name r ≡ name
+pub name_of : (es : List (ℕ × Request)) (name : ℕ) (r : Request) → AllByRecursion (λ e. e.0 ≡ request_name e.1) es
+    → lookup (nat_eq name) es ≡ Some r → request_name r ≡ name
 name_of [] name r named at = absurd (none_some r at)
 name_of (e ∷ es) name r named at = elim (eqb_tells name e.0) [
   | inl t ↦ (let same = some_same e.1 r (rw t.0 at at) in ap request_name (sym same) ∙ (sym named.0 ∙ sym t.1))
@@ -67,16 +71,19 @@ to_places (Pair c d) kept n i j t =
 
 pub from_places : (q : Request) (kept n i j : ℕ) → ArePlaces q n i j → kept < i → are_places q kept n i j ≡ true
 from_places (Single s) kept n i j places above =
-    and_from (ltb kept i) (leb i (n + 1) && eqb i j) (lt-ltb kept i above) (and_from (leb i (n + 1)) (eqb i j) (le-leb i (n + 1) places.1) (eq-eqb i j (sym places.2)))
+    and_from (ltb kept i) (leb i (n + 1) && eqb i j) (lt-ltb kept i above)
+    (and_from (leb i (n + 1)) (eqb i j) (le-leb i (n + 1) places.1) (eq-eqb i j (sym places.2)))
 from_places (Pair c d) kept n i j places above =
-    and_from (ltb kept i) (ltb i j && leb j (n + 2)) (lt-ltb kept i above) (and_from (ltb i j) (leb j (n + 2)) (lt-ltb i j places.1) (le-leb j (n + 2) places.2))
+    and_from (ltb kept i) (ltb i j && leb j (n + 2)) (lt-ltb kept i above)
+    (and_from (ltb i j) (leb j (n + 2)) (lt-ltb i j places.1) (le-leb j (n + 2) places.2))
 
 from_one : (q : Request) (n i j : ℕ) → ArePlaces q n i j → (1 ≤ i) × (i ≤ j) × (j ≤ n + 2)
 from_one (Single s) n i j places = let low = places.0 in let high = places.1 in let same = places.2 in (low, omega arith, omega arith)
 from_one (Pair c d) n i j places = let low = places.0 in let order = places.1 in let high = places.2 in (low, omega arith, high)
 
 -- ---- insertions by vehicle
-module _ (law : NamedAreFound) (stand : RequestsStandByName) (local : PassesAreLocal) (says : TestsSayFeasible) (p : Instance) (pins routes : List (List ℕ)) (valid : IsInstance p)
+module _ (law : NamedAreFound) (stand : RequestsStandByName) (local : PassesAreLocal) (says : TestsSayFeasible) (p : Instance)
+    (pins routes : List (List ℕ)) (valid : IsInstance p)
     (good : passes p pins routes ≡ true) (name : ℕ) (r : Request) (named : lookup (nat_eq name) p.requests ≡ Some r) (free : is_planned routes r ≡ false) where
   -- the request fits into the vehicle's route at places behind its pin
   pub record Fits (x : Insertion) : Type 0 where
@@ -92,7 +99,8 @@ module _ (law : NamedAreFound) (stand : RequestsStandByName) (local : PassesAreL
   feasible_at : (v : ℕ) → 1 ≤ v → v ≤ length routes → feasible_alone p (of_vehicle routes v) ≡ true
   feasible_at v from high = (says p (of_vehicle routes v)).1 (all_at (IsFeasibleAlone p) routes v from high ((parts local p pins routes good).feasible))
 
-  some_at : (x : Insertion) → 1 ≤ x.0 → x.0 ≤ length routes → ArePlaces r (length (of_vehicle routes x.0)) x.1 x.2 → length (inserted r x.1 x.2 (of_vehicle routes x.0)) ≡ 0 → ⊥
+  some_at : (x : Insertion) → 1 ≤ x.0 → x.0 ≤ length routes → ArePlaces r (length (of_vehicle routes x.0)) x.1 x.2
+      → length (inserted r x.1 x.2 (of_vehicle routes x.0)) ≡ 0 → ⊥
   some_at x from high places = some_new law stand p valid name r named (of_vehicle routes x.0) (away x.0 from high) x.1 x.2 places (feasible_at x.0 from high)
 
   pub insertion_fits : (x : Insertion) → Contains (insertions_of p pins routes r) x → Fits x
@@ -104,7 +112,9 @@ module _ (law : NamedAreFound) (stand : RequestsStandByName) (local : PassesAreL
       let high = leb-true x.0 (length routes) b.0 in
       let at = to_places r (length (of_vehicle pins x.0)) (length (of_vehicle routes x.0)) x.1 x.2 b.1 in
       let feasible : feasible_alone p (inserted r x.1 x.2 (of_vehicle routes x.0)) ≡ true =
-      sym (passes_where_feasible law local says p pins routes valid good name r named free x t.1 (feasible_alone p (inserted r x.1 x.2 (of_vehicle routes x.0))) refl) ∙ t.2 in
+      sym (passes_where_feasible law local says p pins routes valid good name r named free x t.1
+      (feasible_alone p (inserted r x.1 x.2 (of_vehicle routes x.0))) refl)
+      ∙ t.2 in
       record {
         from = low;
         within = high;
@@ -116,11 +126,15 @@ module _ (law : NamedAreFound) (stand : RequestsStandByName) (local : PassesAreL
   pub fits_insertion : (x : Insertion) → Fits x → Contains (insertions_of p pins routes r) x
   fits_insertion x f =
       let place : is_place_of pins routes r x ≡ true =
-      and_from (leb 1 x.0) (leb x.0 (length routes) && are_places r (length (of_vehicle pins x.0)) (length (of_vehicle routes x.0)) x.1 x.2) (le-leb 1 x.0 (f.from))
-      (and_from (leb x.0 (length routes)) (are_places r (length (of_vehicle pins x.0)) (length (of_vehicle routes x.0)) x.1 x.2) (le-leb x.0 (length routes) (f.within))
+      and_from (leb 1 x.0)
+      (leb x.0 (length routes) && are_places r (length (of_vehicle pins x.0)) (length (of_vehicle routes x.0)) x.1 x.2)
+      (le-leb 1 x.0 (f.from))
+      (and_from (leb x.0 (length routes)) (are_places r (length (of_vehicle pins x.0)) (length (of_vehicle routes x.0)) x.1 x.2)
+      (le-leb x.0 (length routes) (f.within))
       (from_places r (length (of_vehicle pins x.0)) (length (of_vehicle routes x.0)) x.1 x.2 (f.places) (f.behind))) in
       let feasible : feasible_alone p (inserted r x.1 x.2 (of_vehicle routes x.0)) ≡ true =
-      fits law stand p valid name r named (of_vehicle routes x.0) (away x.0 (f.from) (f.within)) x.1 x.2 (f.places) (feasible_at x.0 (f.from) (f.within)) (f.keeps) in
+      fits law stand p valid name r named (of_vehicle routes x.0) (away x.0 (f.from) (f.within)) x.1 x.2 (f.places)
+      (feasible_at x.0 (f.from) (f.within)) (f.keeps) in
       contained (insertions_of p pins routes r) x
       (to_list p pins routes r x free place (passes_where_feasible law local says p pins routes valid good name r named free x place true (sym feasible)))
 
@@ -147,11 +161,17 @@ module _ (law : NamedAreFound) (stand : RequestsStandByName) (local : PassesAreL
 
 -- ---- lengths
 pub insert_long : (xs : List ℕ) (k m : ℕ) → length (insert xs k m) ≡ length xs + 1
-insert_long xs k m = let e = length-append (take k xs) (m ∷ drop k xs) in let f = length-append (take k xs) (drop k xs) in let g = ap length (take-append-drop k xs) in let h : length (m ∷ drop k xs) ≡ length (drop k xs) + 1 = omega arith in omega arith
+insert_long xs k m =
+    let e = length-append (take k xs) (m ∷ drop k xs) in
+    let f = length-append (take k xs) (drop k xs) in
+    let g = ap length (take-append-drop k xs) in
+    let h : length (m ∷ drop k xs) ≡ length (drop k xs) + 1 = omega arith in
+    omega arith
 
 few_more : (q : Request) (i j : ℕ) (route : List ℕ) → length (inserted q i j route) ≤ length route + 2
 few_more (Single s) i j route = let e = insert_long route (i - 1) s.number in omega arith
-few_more (Pair a b) i j route = let e = insert_long route (i - 1) a.number in let f = insert_long (insert route (i - 1) a.number) (j - 1) b.number in omega arith
+few_more (Pair a b) i j route =
+    let e = insert_long route (i - 1) a.number in let f = insert_long (insert route (i - 1) a.number) (j - 1) b.number in omega arith
 
 module _ (local : PassesAreLocal) (p : Instance) (pins routes : List (List ℕ)) (good : passes p pins routes ≡ true) where
   -- a pin is no longer than its route
@@ -161,7 +181,9 @@ module _ (local : PassesAreLocal) (p : Instance) (pins routes : List (List ℕ))
       along : (pin : List ℕ) → item_at pins v ≡ Some pin → (k : ℕ) → length pin ≡ suc k → suc k ≤ length (of_vehicle routes v)
       along pin at k long =
           let here : slice_get pin k ≡ Some (get_or pin k 0) = slice_get-get_or pin k 0 (omega arith) in
-          within_list (of_vehicle routes v) (suc k) (get_or pin k 0) (in_vehicle routes v (suc k) (get_or pin k 0) ((parts local p pins routes good).pinned v (suc k) (get_or pin k 0) (pin, at, here)))
+          within_list (of_vehicle routes v) (suc k) (get_or pin k 0)
+          (in_vehicle routes v (suc k) (get_or pin k 0)
+          ((parts local p pins routes good).pinned v (suc k) (get_or pin k 0) (pin, at, here)))
 
       of_pin : (pin : List ℕ) → item_at pins v ≡ Some pin → (n : ℕ) → length pin ≡ n → length pin ≤ length (of_vehicle routes v)
       of_pin pin at zero long = omega arith
@@ -182,16 +204,28 @@ opened_empty LiLim route is = eqb-true (length route) 0 is
 opened_empty Vrp route is = absurd (let h : false ≡ true = is in cc)
 
 -- where nothing adds less than a greater bound, the best so far stays
-pub still : (p : Instance) (route : List ℕ) (r : Request) (kept v : ℕ) (l : Limit) (best : Option Found) (below : ℤ) → IsLoose v l best below → ((a : Addition) → Adds p route r kept below a → ⊥)
+pub still : (p : Instance) (route : List ℕ) (r : Request) (kept v : ℕ) (l : Limit) (best : Option Found) (below : ℤ)
+    → IsLoose v l best below → ((a : Addition) → Adds p route r kept below a → ⊥)
     → IsBetterBelow p route r kept v false best best (bound_of v false l best)
 still p route r kept v l best below loose empty = by (bound_of v false l best) refl
   where
     by : (o : Option ℤ) → bound_of v false l best ≡ o → IsBetterBelow p route r kept v false best best o
     by None is = refl
-    by (Some b) is = (None, (λ a adds. empty a (record { places = adds.places; behind = adds.behind; added = adds.added; cheaper = (let le = loose v (omega arith) b is in let less = adds.cheaper in omega (arith, ints)) })), refl)
+    by (Some b) is = (
+      None,
+      (λ a adds. empty a
+          (record {
+            places = adds.places;
+            behind = adds.behind;
+            added = adds.added;
+            cheaper = (let le = loose v (omega arith) b is in let less = adds.cheaper in omega (arith, ints));
+          })),
+      refl,
+    )
 
 -- so it is at a vehicle with stops of which a look tells that the request fits nowhere
-pub passed_over : (p : Instance) (r : Request) (c : Course) (kept v : ℕ) (l : Limit) (best : Option Found) (below : ℤ) → IsInstance p → IsCourseIn p c → request_named p (request_name r) ≡ Some r → (length c.stops ≡ 0 → ⊥)
+pub passed_over : (p : Instance) (r : Request) (c : Course) (kept v : ℕ) (l : Limit) (best : Option Found) (below : ℤ) → IsInstance p
+    → IsCourseIn p c → request_named p (request_name r) ≡ Some r → (length c.stops ≡ 0 → ⊥)
     → FitsNowhere c r below → IsLoose v l best below → IsBetter p (route_of c) r kept v l best best
 passed_over p r c kept v l best below valid course named stops out loose =
     let long = length-map c.stops (λ s. s.number) in
@@ -203,7 +237,8 @@ passed_over p r c kept v l best below valid course named stops out loose =
     (still p (route_of c) r kept v l best below loose (out p (request_name r) kept valid course named))
 
 -- so it is at a vehicle into whose route the request fits at no price
-pub passed_by : (p : Instance) (r : Request) (c : Course) (kept v : ℕ) (l : Limit) (best : Option Found) → IsInstance p → IsCourseIn p c → request_named p (request_name r) ≡ Some r → ((below : ℤ) → FitsNowhere c r below)
+pub passed_by : (p : Instance) (r : Request) (c : Course) (kept v : ℕ) (l : Limit) (best : Option Found) → IsInstance p → IsCourseIn p c
+    → request_named p (request_name r) ≡ Some r → ((below : ℤ) → FitsNowhere c r below)
     → IsBetter p (route_of c) r kept v l best best
 passed_by p r c kept v l best valid course named out = by (bound_of v (opens p.kind (route_of c)) l best)
   where
@@ -212,10 +247,19 @@ passed_by p r c kept v l best valid course named out = by (bound_of v (opens p.k
     by (Some below) = (None, out below p (request_name r) kept valid course named, refl)
 
 -- the same vehicles, said otherwise
-pub these_same : (p : Instance) (pins routes : List (List ℕ)) (r : Request) (l : Limit) (These Others : ℕ → Type 0) → ((u : ℕ) → These u → Others u) → ((u : ℕ) → Others u → These u)
+pub these_same : (p : Instance) (pins routes : List (List ℕ)) (r : Request) (l : Limit) (These Others : ℕ → Type 0)
+    → ((u : ℕ) → These u → Others u) → ((u : ℕ) → Others u → These u)
     → (best : Option Found) → IsBestAmongThese p pins routes r l These best → IsBestAmongThese p pins routes r l Others best
 these_same p pins routes r l These Others there back None none = λ y c others allowed. none y c (back y.0 others) allowed
-these_same p pins routes r l These Others there back (Some g) was = record { among = was.among; seen = there g.vehicle was.seen; allowed = was.allowed; opens = was.opens; added = was.added; least = λ y c others allowed. was.least y c (back y.0 others) allowed }
+these_same p pins routes r l These Others there back (Some g) was =
+    record {
+      among = was.among;
+      seen = there g.vehicle was.seen;
+      allowed = was.allowed;
+      opens = was.opens;
+      added = was.added;
+      least = λ y c others allowed. was.least y c (back y.0 others) allowed;
+    }
 
 -- ---- one vehicle more
 module _ (laws : InsertionLaws) {p : Instance} {pins : List (List ℕ)} {courses : List Course} {r : Request} (asked : IsAsked p pins courses r) where
@@ -240,24 +284,29 @@ module _ (laws : InsertionLaws) {p : Instance} {pins : List (List ℕ)} {courses
   price : (x : Insertion) → IsFit x → IsPriced p routes r x (opens p.kind (of_vehicle routes x.0)) (adds x)
   price x f = priced laws.found laws.stand laws.local laws.says p pins routes asked.valid asked.good (request_name r) r asked.named asked.free x f
 
-  pub priced_at : (x : Insertion) → Contains (insertions_of p pins routes r) x → IsPriced p routes r x (opens p.kind (of_vehicle routes x.0)) (gain p routes r x)
+  pub priced_at : (x : Insertion) → Contains (insertions_of p pins routes r) x
+      → IsPriced p routes r x (opens p.kind (of_vehicle routes x.0)) (gain p routes r x)
   priced_at x c = price x (fit x c)
 
-  no_worse_than : (x y : Insertion) (a b : Bool) (d e : ℤ) → IsPriced p routes r x a d → IsPriced p routes r y b e → Ahead p routes r x a d y b e → is_no_worse p routes r x y ≡ true
+  no_worse_than : (x y : Insertion) (a b : Bool) (d e : ℤ) → IsPriced p routes r x a d → IsPriced p routes r y b e
+      → Ahead p routes r x a d y b e → is_no_worse p routes r x y ≡ true
   no_worse_than x y a b d e one two ahead = no_worse p routes r laws.below_tells laws.at_most_tells x y a b d e one two ahead
 
   follow : (x y z : Insertion) → is_no_worse p routes r x y ≡ true → is_no_worse p routes r y z ≡ true → is_no_worse p routes r x z ≡ true
   follow x y z h k =
-      both_transitive laws.total laws.transitive laws.below_then_at_most laws.at_most_then_below laws.below_is_at_most (cost_with p routes r x) (cost_with p routes r y) (cost_with p routes r z) x y z h k
+      both_transitive laws.total laws.transitive laws.below_then_at_most laws.at_most_then_below laws.below_is_at_most
+      (cost_with p routes r x) (cost_with p routes r y) (cost_with p routes r z) x y z h k
 
-  price_found : (l : Limit) (These : ℕ → Type 0) (f : Found) → IsBestAmong p pins routes r l These f → IsPriced p routes r (place_found f) f.opens f.addition.distance
+  price_found : (l : Limit) (These : ℕ → Type 0) (f : Found) → IsBestAmong p pins routes r l These f
+      → IsPriced p routes r (place_found f) f.opens f.addition.distance
   price_found l These f best =
       let at = fit (place_found f) (best.among) in
       let plain = price (place_found f) at in
       record { from = at.from; within = at.within; some = plain.some; opens = best.opens; added = (best.added).1 }
 
   -- the first of two additions to one route is ahead
-  first_ahead : (v : ℕ) (o : Bool) (a b : Addition) → ComesFirst a b → Ahead p routes r (v, a.pickup, a.delivery) o a.distance (v, b.pickup, b.delivery) o b.distance
+  first_ahead : (v : ℕ) (o : Bool) (a b : Addition) → ComesFirst a b
+      → Ahead p routes r (v, a.pickup, a.delivery) o a.distance (v, b.pickup, b.delivery) o b.distance
   first_ahead v o a b first = by_lt_z {P = Ahead p routes r (v, a.pickup, a.delivery) o a.distance (v, b.pickup, b.delivery) o b.distance} a.distance b.distance
       (λ less. inr (refl, inl less))
       (λ more. (
@@ -278,7 +327,8 @@ module _ (laws : InsertionLaws) {p : Instance} {pins : List (List ℕ)} {courses
       )))
 
   -- some vehicles, and one more that may be among them
-  module _ (l : Limit) (These More : ℕ → Type 0) (v : ℕ) (low : 1 ≤ v) (high : v ≤ length routes) (grow : (u : ℕ) → These u → More u) (split : (u : ℕ) → More u → (u ≡ v) ⊎ These u) (last : More v) where
+  module _ (l : Limit) (These More : ℕ → Type 0) (v : ℕ) (low : 1 ≤ v) (high : v ≤ length routes) (grow : (u : ℕ) → These u → More u)
+      (split : (u : ℕ) → More u → (u ≡ v) ⊎ These u) (last : More v) where
     abbrev old_route : List ℕ
     old_route = of_vehicle routes v
 
@@ -286,7 +336,8 @@ module _ (laws : InsertionLaws) {p : Instance} {pins : List (List ℕ)} {courses
     pinned = length (of_vehicle pins v)
 
     -- an insertion at this vehicle, as an addition to its route
-    here : (y : Insertion) (below : ℤ) → IsFit y → y.0 ≡ v → adds y <ℤ below → Adds p old_route r pinned below (record { distance = adds y; pickup = y.1; delivery = y.2 })
+    here : (y : Insertion) (below : ℤ) → IsFit y → y.0 ≡ v → adds y <ℤ below
+        → Adds p old_route r pinned below (record { distance = adds y; pickup = y.1; delivery = y.2 })
     here y below f same less =
         subst (λ u. Adds p (of_vehicle routes u) r (length (of_vehicle pins u)) below (record { distance = adds y; pickup = y.1; delivery = y.2 })) same
         (record { places = f.places; behind = f.behind; added = (f.keeps, (price y f).added); cheaper = less })
@@ -294,7 +345,8 @@ module _ (laws : InsertionLaws) {p : Instance} {pins : List (List ℕ)} {courses
     fit_of : (a : Addition) (below : ℤ) → Adds p old_route r pinned below a → IsFit (v, a.pickup, a.delivery)
     fit_of a below is = record { from = low; within = high; places = is.places; behind = is.behind; keeps = (is.added).0 }
 
-    price_of : (a : Addition) (below : ℤ) (o : Bool) → opens p.kind old_route ≡ o → Adds p old_route r pinned below a → IsPriced p routes r (v, a.pickup, a.delivery) o a.distance
+    price_of : (a : Addition) (below : ℤ) (o : Bool) → opens p.kind old_route ≡ o → Adds p old_route r pinned below a
+        → IsPriced p routes r (v, a.pickup, a.delivery) o a.distance
     price_of a below o is_open is =
         let at = fit_of a below is in
         let plain = price (v, a.pickup, a.delivery) at in
@@ -306,7 +358,9 @@ module _ (laws : InsertionLaws) {p : Instance} {pins : List (List ℕ)} {courses
         record { from = f.from; within = f.within; some = plain.some; opens = ap (λ u. opens p.kind (of_vehicle routes u)) same ∙ is_open; added = plain.added }
 
     -- what was found stays the best, where it is no worse than those at this vehicle
-    keeps : (g : Found) → IsBestAmong p pins routes r l These g → ((y : Insertion) → Contains (insertions_of p pins routes r) y → y.0 ≡ v → IsLet l y → is_no_worse p routes r (place_found g) y ≡ true)
+    keeps : (g : Found) → IsBestAmong p pins routes r l These g
+        → ((y : Insertion) → Contains (insertions_of p pins routes r) y → y.0 ≡ v → IsLet l y
+        → is_no_worse p routes r (place_found g) y ≡ true)
         → IsBestAmong p pins routes r l More g
     keeps g was no_better = record {
       among = was.among;
@@ -318,10 +372,13 @@ module _ (laws : InsertionLaws) {p : Instance} {pins : List (List ℕ)} {courses
     }
 
     -- with a bound that tells what is better than the best so far
-    module _ (few : length old_route ≤ 40001) (o : Bool) (is_open : opens p.kind old_route ≡ o) (best : Option Found) (old : IsBestAmongThese p pins routes r l These best) (below : ℤ)
+    module _ (few : length old_route ≤ 40001) (o : Bool) (is_open : opens p.kind old_route ≡ o) (best : Option Found)
+        (old : IsBestAmongThese p pins routes r l These best) (below : ℤ)
         (allows : (d : ℤ) → d <ℤ below → IsWithin l o d)
-        (beats : (f : Found) → best ≡ Some f → (d : ℤ) → d <ℤ below → (x : Insertion) → x.0 ≡ v → Ahead p routes r x o d (place_found f) f.opens f.addition.distance)
-        (keeps_up : (f : Found) → best ≡ Some f → (y : Insertion) → y.0 ≡ v → v ≢ f.vehicle → adds y <ℤ pos 9223372036854775807 → below ≤ℤ adds y → Ahead p routes r (place_found f) f.opens f.addition.distance y o (adds y))
+        (beats : (f : Found) → best ≡ Some f → (d : ℤ) → d <ℤ below → (x : Insertion) → x.0 ≡ v
+        → Ahead p routes r x o d (place_found f) f.opens f.addition.distance)
+        (keeps_up : (f : Found) → best ≡ Some f → (y : Insertion) → y.0 ≡ v → v ≢ f.vehicle → adds y <ℤ pos 9223372036854775807
+        → below ≤ℤ adds y → Ahead p routes r (place_found f) f.opens f.addition.distance y o (adds y))
         (all_below : best ≡ None → (y : Insertion) → IsWithin l o (adds y) → adds y <ℤ pos 9223372036854775807 → adds y <ℤ below) where
       small : (y : Insertion) → IsFit y → y.0 ≡ v → adds y <ℤ pos 9223372036854775807
       small y f same =
@@ -334,9 +391,13 @@ module _ (laws : InsertionLaws) {p : Instance} {pins : List (List ℕ)} {courses
       as_here y same let_in = subst (λ b. IsWithin l b (adds y)) (ap (λ u. opens p.kind (of_vehicle routes u)) same ∙ is_open) let_in
 
       -- nothing below the bound here
-      stays : (b : Option Found) → best ≡ b → IsBestAmongThese p pins routes r l These b → ((a : Addition) → Adds p old_route r pinned below a → ⊥) → IsBestAmongThese p pins routes r l More b
+      stays : (b : Option Found) → best ≡ b → IsBestAmongThese p pins routes r l These b
+          → ((a : Addition) → Adds p old_route r pinned below a → ⊥) → IsBestAmongThese p pins routes r l More b
       stays None is none empty = λ y c these let_in. elim (split y.0 these) [
-        | inl same ↦ (let f = fit y c in empty (record { distance = adds y; pickup = y.1; delivery = y.2 }) (here y below f same (all_below is y (as_here y same let_in) (small y f same))))
+        | inl same ↦
+            (let f = fit y c in
+            empty (record { distance = adds y; pickup = y.1; delivery = y.2 })
+            (here y below f same (all_below is y (as_here y same let_in) (small y f same))))
         | inr before ↦ none y c before let_in
       ]
       stays (Some g) is was empty = keeps g was (λ y c same let_in. elim (eqb_tells v g.vehicle) [
@@ -345,7 +406,8 @@ module _ (laws : InsertionLaws) {p : Instance} {pins : List (List ℕ)} {courses
             let f = fit y c in
             by_lt_z {P = is_no_worse p routes r (place_found g) y ≡ true} (adds y) below
             (λ cheap. absurd (empty (record { distance = adds y; pickup = y.1; delivery = y.2 }) (here y below f same cheap)))
-            (λ dear. no_worse_than (place_found g) y g.opens o g.addition.distance (adds y) (price_found l These g was) (price_at y o is_open f same) (keeps_up g is y same t.1 (small y f same) dear)))
+            (λ dear. no_worse_than (place_found g) y g.opens o g.addition.distance (adds y) (price_found l These g was)
+            (price_at y o is_open f same) (keeps_up g is y same t.1 (small y f same) dear)))
       ])
 
       -- the first below the bound here
@@ -362,43 +424,58 @@ module _ (laws : InsertionLaws) {p : Instance} {pins : List (List ℕ)} {courses
               let f = fit y c in
               no_worse_than (v, a.pickup, a.delivery) y o o a.distance (adds y) (price_of a below o is_open adds_a) (price_at y o is_open f same)
               (by_lt_z {P = Ahead p routes r (v, a.pickup, a.delivery) o a.distance y o (adds y)} (adds y) below
-              (λ cheap. subst (λ u. Ahead p routes r (v, a.pickup, a.delivery) o a.distance (u, y.1, y.2) o (adds y)) (sym same) (first_ahead v o a (record { distance = adds y; pickup = y.1; delivery = y.2 }) (first (record { distance = adds y; pickup = y.1; delivery = y.2 }) (here y below f same cheap))))
+              (λ cheap. subst (λ u. Ahead p routes r (v, a.pickup, a.delivery) o a.distance (u, y.1, y.2) o (adds y)) (sym same)
+              (first_ahead v o a (record { distance = adds y; pickup = y.1; delivery = y.2 })
+              (first (record { distance = adds y; pickup = y.1; delivery = y.2 }) (here y below f same cheap))))
               (λ dear. (let less = adds_a.cheaper in inr (refl, inl (omega (arith, ints)))))))
           | inr these_before ↦ before b is was y c these_before let_in
         ];
       }
         where
-          before : (b : Option Found) → best ≡ b → IsBestAmongThese p pins routes r l These b → (y : Insertion) → Contains (insertions_of p pins routes r) y → These y.0 → IsLet l y
+          before : (b : Option Found) → best ≡ b → IsBestAmongThese p pins routes r l These b → (y : Insertion)
+              → Contains (insertions_of p pins routes r) y → These y.0 → IsLet l y
               → is_no_worse p routes r (v, a.pickup, a.delivery) y ≡ true
           before None is none y c these let_in = absurd (none y c these let_in)
           before (Some g) is was y c these let_in =
               follow (v, a.pickup, a.delivery) (place_found g) y
-              (no_worse_than (v, a.pickup, a.delivery) (place_found g) o g.opens a.distance g.addition.distance (price_of a below o is_open adds_a) (price_found l These g was) (beats g is a.distance (adds_a.cheaper) (v, a.pickup, a.delivery) refl))
+              (no_worse_than (v, a.pickup, a.delivery) (place_found g) o g.opens a.distance g.addition.distance
+              (price_of a below o is_open adds_a) (price_found l These g was)
+              (beats g is a.distance (adds_a.cheaper) (v, a.pickup, a.delivery) refl))
               (was.least y c these let_in)
 
-      pub chosen : (answer : Option Addition) → IsBestAddition p old_route r pinned below answer → IsBestAmongThese p pins routes r l More (option_or (option_map (found_at v o) answer) best)
+      pub chosen : (answer : Option Addition) → IsBestAddition p old_route r pinned below answer
+          → IsBestAmongThese p pins routes r l More (option_or (option_map (found_at v o) answer) best)
       chosen None empty = stays best refl old empty
       chosen (Some a) first = changes best refl old a first.0 first.1
 
     module _ (few : length old_route ≤ 40001) where
       -- among these vehicles and this one
-      pub bettered : (best result : Option Found) → IsBestAmongThese p pins routes r l These best → IsBetter p old_route r pinned v l best result → IsBestAmongThese p pins routes r l More result
+      pub bettered : (best result : Option Found) → IsBestAmongThese p pins routes r l These best
+          → IsBetter p old_route r pinned v l best result → IsBestAmongThese p pins routes r l More result
       bettered None result old better = by l.opens (opens p.kind old_route) refl refl better
         where
           -- the limit alone
           from_limit : (c o : Bool) → l.opens ≡ c → opens p.kind old_route ≡ o → o ≡ c
-              → (answer : Option Addition) × IsBestAddition p old_route r pinned l.below answer × (result ≡ option_or (option_map (found_at v o) answer) None) → IsBestAmongThese p pins routes r l More result
+              → (answer : Option Addition) × IsBestAddition p old_route r pinned l.below answer
+              × (result ≡ option_or (option_map (found_at v o) answer) None)
+              → IsBestAmongThese p pins routes r l More result
           from_limit c o is_c is_o same better =
               subst (IsBestAmongThese p pins routes r l More) (sym better.2)
               (chosen few o is_o None old l.below (λ d less. inr (same ∙ sym is_c, less)) (λ f is. absurd (none_some f is)) (λ f is. absurd (none_some f is))
-              (λ is y let_in small. elim let_in [ inl none ↦ absurd (let h : true ≡ false = sym none.1 ∙ (is_c ∙ (sym same ∙ none.0)) in cc) | inr less ↦ less.1 ]) better.0 better.1)
+              (λ is y let_in small. elim let_in [
+                | inl none ↦ absurd (let h : true ≡ false = sym none.1 ∙ (is_c ∙ (sym same ∙ none.0)) in
+                    cc)
+                | inr less ↦ less.1
+              ]) better.0 better.1)
 
-          by : (c o : Bool) → l.opens ≡ c → opens p.kind old_route ≡ o → IsBetterBelow p old_route r pinned v o None result (bound_over c l.below o) → IsBestAmongThese p pins routes r l More result
+          by : (c o : Bool) → l.opens ≡ c → opens p.kind old_route ≡ o
+              → IsBetterBelow p old_route r pinned v o None result (bound_over c l.below o) → IsBestAmongThese p pins routes r l More result
           by true true is_c is_o better = from_limit true true is_c is_o refl better
           by false false is_c is_o better = from_limit false false is_c is_o refl better
           by true false is_c is_o better =
               subst (IsBestAmongThese p pins routes r l More) (sym better.2)
-              (chosen few false is_o None old (pos 9223372036854775807) (λ d less. inl (refl, is_c)) (λ f is. absurd (none_some f is)) (λ f is. absurd (none_some f is)) (λ is y let_in small. small) better.0 better.1)
+              (chosen few false is_o None old (pos 9223372036854775807) (λ d less. inl (refl, is_c)) (λ f is. absurd (none_some f is))
+              (λ f is. absurd (none_some f is)) (λ is y let_in small. small) better.0 better.1)
           by false true is_c is_o better =
               subst (IsBestAmongThese p pins routes r l More) (sym better) (λ y c these let_in. elim (split y.0 these) [
                 | inl same ↦ absurd (shut y same let_in)
@@ -418,31 +495,47 @@ module _ (laws : InsertionLaws) {p : Instance} {pins : List (List ℕ)} {courses
           same_opens : (g : Found) → Some f ≡ Some g → g.opens ≡ f.opens
           same_opens g is = ap (λ (h : Found). h.opens) (sym (some_same f g is))
 
-          below_found : (o : Bool) → f.opens ≡ o → (g : Found) → Some f ≡ Some g → (d : ℤ) → d <ℤ bound_beside v f → (x : Insertion) → x.0 ≡ v → Ahead p routes r x o d (place_found g) g.opens g.addition.distance
-          below_found o same g is d less x at = subst (λ (h : Found). Ahead p routes r x o d (place_found h) h.opens h.addition.distance) (some_same f g is) (inr (
-            sym same,
-            elim (leb_tells (suc v) f.vehicle) [
-              | inl t ↦ by_lt_z {P = (d <ℤ f.addition.distance) ⊎ ((d ≡ f.addition.distance) × (is_no_later x (place_found f) ≡ true))} d f.addition.distance (λ closer. inl closer)
-                  (λ not_closer. inr (nearly t.0 not_closer, said_later x (place_found f) (inl (let first = t.1 in omega arith))))
-              | inr t ↦ inl (plainly t.0)
-            ],
-          ))
+          below_found : (o : Bool) → f.opens ≡ o → (g : Found) → Some f ≡ Some g → (d : ℤ) → d <ℤ bound_beside v f → (x : Insertion)
+              → x.0 ≡ v → Ahead p routes r x o d (place_found g) g.opens g.addition.distance
+          below_found o same g is d less x at =
+              subst (λ (h : Found). Ahead p routes r x o d (place_found h) h.opens h.addition.distance) (some_same f g is) (inr (
+                sym same,
+                elim (leb_tells (suc v) f.vehicle) [
+                  | inl t ↦ by_lt_z {P = (d <ℤ f.addition.distance)
+                      ⊎ ((d ≡ f.addition.distance) × (is_no_later x (place_found f) ≡ true))} d f.addition.distance
+                      (λ closer. inl closer)
+                      (λ not_closer. inr (nearly t.0 not_closer, said_later x (place_found f) (inl (let first = t.1 in omega arith))))
+                  | inr t ↦ inl (plainly t.0)
+                ],
+              ))
             where
               nearly : nat_lt v f.vehicle ≡ true → f.addition.distance ≤ℤ d → d ≡ f.addition.distance
-              nearly first le = let h : d <ℤ (f.addition.distance +ℤ pos 1) = subst (λ b. d <ℤ (cond b (f.addition.distance +ℤ pos 1) f.addition.distance)) first less in omega (arith, ints)
+              nearly first le =
+                  let h : d <ℤ (f.addition.distance +ℤ pos 1) = subst
+                  (λ b. d <ℤ (cond b (f.addition.distance +ℤ pos 1) f.addition.distance)) first less in
+                  omega (arith, ints)
 
               plainly : nat_lt v f.vehicle ≡ false → d <ℤ f.addition.distance
               plainly later = subst (λ b. d <ℤ (cond b (f.addition.distance +ℤ pos 1) f.addition.distance)) later less
 
-          no_less : (o : Bool) → f.opens ≡ o → (g : Found) → Some f ≡ Some g → (y : Insertion) → y.0 ≡ v → v ≢ g.vehicle → adds y <ℤ pos 9223372036854775807 → bound_beside v f ≤ℤ adds y → Ahead p routes r (place_found g) g.opens g.addition.distance y o (adds y)
+          no_less : (o : Bool) → f.opens ≡ o → (g : Found) → Some f ≡ Some g → (y : Insertion) → y.0 ≡ v → v ≢ g.vehicle
+              → adds y <ℤ pos 9223372036854775807 → bound_beside v f ≤ℤ adds y
+              → Ahead p routes r (place_found g) g.opens g.addition.distance y o (adds y)
           no_less o same g is y at other little le =
               subst (λ (h : Found). Ahead p routes r (place_found h) h.opens h.addition.distance y o (adds y)) (some_same f g is)
               (inr (
                 same,
                 elim (leb_tells (suc v) f.vehicle) [
                   | inl t ↦ inl (dearer t.0)
-                  | inr t ↦ by_lt_z {P = (f.addition.distance <ℤ adds y) ⊎ ((f.addition.distance ≡ adds y) × (is_no_later (place_found f) y ≡ true))} f.addition.distance (adds y) (λ closer. inl closer)
-                      (λ not_closer. inr (let h = as_dear t.0 in omega (arith, ints), said_later (place_found f) y (inl (let apart = not_same in let behind = t.1 in omega arith))))
+                  | inr t ↦ by_lt_z {P = (f.addition.distance <ℤ adds y)
+                      ⊎ ((f.addition.distance ≡ adds y) × (is_no_later (place_found f) y ≡ true))} f.addition.distance
+                      (adds y) (λ closer. inl closer)
+                      (λ not_closer. inr (
+                        let h = as_dear t.0 in
+                            omega (arith, ints),
+                        said_later (place_found f) y
+                            (inl (let apart = not_same in let behind = t.1 in omega arith)),
+                      ))
                 ],
               ))
             where
@@ -450,7 +543,10 @@ module _ (laws : InsertionLaws) {p : Instance} {pins : List (List ℕ)} {courses
               not_same one = other (sym one ∙ ap (λ (h : Found). h.vehicle) (some_same f g is))
 
               dearer : nat_lt v f.vehicle ≡ true → f.addition.distance <ℤ adds y
-              dearer first = let h : (f.addition.distance +ℤ pos 1) ≤ℤ adds y = subst (λ b. (cond b (f.addition.distance +ℤ pos 1) f.addition.distance) ≤ℤ adds y) first le in omega (arith, ints)
+              dearer first =
+                  let h : (f.addition.distance +ℤ pos 1)
+                  ≤ℤ adds y = subst (λ b. (cond b (f.addition.distance +ℤ pos 1) f.addition.distance) ≤ℤ adds y) first le in
+                  omega (arith, ints)
 
               as_dear : nat_lt v f.vehicle ≡ false → f.addition.distance ≤ℤ adds y
               as_dear later = subst (λ b. (cond b (f.addition.distance +ℤ pos 1) f.addition.distance) ≤ℤ adds y) later le
@@ -464,31 +560,43 @@ module _ (laws : InsertionLaws) {p : Instance} {pins : List (List ℕ)} {courses
             where
               no_more : d ≤ℤ f.addition.distance
               no_more = elim (leb_tells (suc v) f.vehicle) [
-                | inl t ↦ (let h : d <ℤ (f.addition.distance +ℤ pos 1) = subst (λ b. d <ℤ (cond b (f.addition.distance +ℤ pos 1) f.addition.distance)) t.0 less in omega (arith, ints))
-                | inr t ↦ (let h : d <ℤ f.addition.distance = subst (λ b. d <ℤ (cond b (f.addition.distance +ℤ pos 1) f.addition.distance)) t.0 less in omega (arith, ints))
+                | inl t ↦ (let h : d <ℤ (f.addition.distance +ℤ pos 1) = subst
+                    (λ b. d <ℤ (cond b (f.addition.distance +ℤ pos 1) f.addition.distance)) t.0 less in
+                    omega (arith, ints))
+                | inr t ↦ (let h : d <ℤ f.addition.distance = subst
+                    (λ b. d <ℤ (cond b (f.addition.distance +ℤ pos 1) f.addition.distance)) t.0 less in
+                    omega (arith, ints))
               ]
 
           -- where it opens a vehicle, those that open none are let in
           used_too : f.opens ≡ true → l.opens ≡ true
           used_too is_c = elim old.allowed [ inl opened ↦ opened.1 | inr alike ↦ sym alike.0 ∙ is_c ]
 
-          by : (c o : Bool) → f.opens ≡ c → opens p.kind old_route ≡ o → IsBetterBelow p old_route r pinned v o (Some f) result (bound_over c (bound_beside v f) o) → IsBestAmongThese p pins routes r l More result
+          by : (c o : Bool) → f.opens ≡ c → opens p.kind old_route ≡ o
+              → IsBetterBelow p old_route r pinned v o (Some f) result (bound_over c (bound_beside v f) o)
+              → IsBestAmongThese p pins routes r l More result
           by true true is_c is_o better =
               subst (IsBestAmongThese p pins routes r l More) (sym better.2)
-              (chosen few true is_o (Some f) old (bound_beside v f) (as_near true is_c) (below_found true is_c) (no_less true is_c) (λ is. absurd (none_some f (sym is))) better.0 better.1)
+              (chosen few true is_o (Some f) old (bound_beside v f) (as_near true is_c) (below_found true is_c) (no_less true is_c)
+              (λ is. absurd (none_some f (sym is))) better.0 better.1)
           by false false is_c is_o better =
               subst (IsBestAmongThese p pins routes r l More) (sym better.2)
-              (chosen few false is_o (Some f) old (bound_beside v f) (as_near false is_c) (below_found false is_c) (no_less false is_c) (λ is. absurd (none_some f (sym is))) better.0 better.1)
+              (chosen few false is_o (Some f) old (bound_beside v f) (as_near false is_c) (below_found false is_c) (no_less false is_c)
+              (λ is. absurd (none_some f (sym is))) better.0 better.1)
           by true false is_c is_o better =
               subst (IsBestAmongThese p pins routes r l More) (sym better.2)
-              (chosen few false is_o (Some f) old (pos 9223372036854775807) (λ d less. inl (refl, used_too is_c)) (λ g is d less x at. inl (refl, same_opens g is ∙ is_c))
+              (chosen few false is_o (Some f) old (pos 9223372036854775807) (λ d less. inl (refl, used_too is_c))
+              (λ g is d less x at. inl (refl, same_opens g is ∙ is_c))
               (λ g is y at other little much. absurd (omega (arith, ints))) (λ is. absurd (none_some f (sym is))) better.0 better.1)
           by false true is_c is_o better =
               subst (IsBestAmongThese p pins routes r l More) (sym better)
-              (keeps f old (λ y c same let_in. no_worse_than (place_found f) y f.opens true f.addition.distance (adds y) (price_found l These f old) (price_at y true is_o (fit y c) same) (inl (is_c, refl))))
+              (keeps f old
+              (λ y c same let_in. no_worse_than (place_found f) y f.opens true f.addition.distance (adds y) (price_found l These f old)
+              (price_at y true is_o (fit y c) same) (inl (is_c, refl))))
 
     -- an empty vehicle, where one was looked at before
-    pub skipped : length old_route ≡ 0 → (k : ℕ) → k < v → ((u : ℕ) → 1 ≤ u → u ≤ k → These u) → HasIdle routes k → (best : Option Found) → IsBestAmongThese p pins routes r l These best
+    pub skipped : length old_route ≡ 0 → (k : ℕ) → k < v → ((u : ℕ) → 1 ≤ u → u ≤ k → These u) → HasIdle routes k
+        → (best : Option Found) → IsBestAmongThese p pins routes r l These best
         → IsBestAmongThese p pins routes r l More best
     skipped none k ahead known idle best old = by best old
       where
@@ -516,28 +624,43 @@ module _ (laws : InsertionLaws) {p : Instance} {pins : List (List ℕ)} {courses
         before y f same =
             let one : of_vehicle routes idle.0 ≡ of_vehicle routes y.0 = alike ∙ ap (of_vehicle routes) (sym same) in
             let seen = idle.2 in
-            no_worse_than (idle.0, y.1, y.2) y (opens p.kind (of_vehicle routes idle.0)) (opens p.kind (of_vehicle routes y.0)) (adds (idle.0, y.1, y.2)) (adds y) (price (idle.0, y.1, y.2) (other y f same)) (price y f)
-            (inr (ap (opens p.kind) one, inr (ap (λ (l : List ℕ). pos (route_length p (inserted r y.1 y.2 l)) -ℤ pos (route_length p l)) one, said_later (idle.0, y.1, y.2) y (inl (omega arith)))))
+            no_worse_than (idle.0, y.1, y.2) y (opens p.kind (of_vehicle routes idle.0)) (opens p.kind (of_vehicle routes y.0))
+            (adds (idle.0, y.1, y.2)) (adds y) (price (idle.0, y.1, y.2) (other y f same)) (price y f)
+            (inr (
+              ap (opens p.kind) one,
+              inr (
+                ap (λ (l : List ℕ). pos (route_length p (inserted r y.1 y.2 l)) -ℤ pos (route_length p l)) one,
+                said_later (idle.0, y.1, y.2) y (inl (omega arith)),
+              ),
+            ))
 
         -- and let in
         let_too : (y : Insertion) → y.0 ≡ v → IsLet l y → IsLet l (idle.0, y.1, y.2)
         let_too y same let_in =
             let one : of_vehicle routes y.0 ≡ of_vehicle routes idle.0 = ap (of_vehicle routes) same ∙ sym alike in
-            subst (λ (route : List ℕ). IsWithin l (opens p.kind route) (pos (route_length p (inserted r y.1 y.2 route)) -ℤ pos (route_length p route))) one let_in
+            subst (λ (route : List ℕ). IsWithin l (opens p.kind route)
+            (pos (route_length p (inserted r y.1 y.2 route)) -ℤ pos (route_length p route))) one let_in
 
         by : (b : Option Found) → IsBestAmongThese p pins routes r l These b → IsBestAmongThese p pins routes r l More b
         by None empty = λ y c these let_in. elim (split y.0 these) [
-          | inl same ↦ (let f = fit y c in empty (idle.0, y.1, y.2) (listed_fit (idle.0, y.1, y.2) (other y f same)) (known idle.0 idle.1 idle.2) (let_too y same let_in))
+          | inl same ↦
+              (let f = fit y c in
+              empty (idle.0, y.1, y.2) (listed_fit (idle.0, y.1, y.2) (other y f same)) (known idle.0 idle.1 idle.2)
+              (let_too y same let_in))
           | inr before_it ↦ empty y c before_it let_in
         ]
         by (Some g) was = keeps g was (λ y c same let_in.
-            follow (place_found g) (idle.0, y.1, y.2) y (was.least (idle.0, y.1, y.2) (listed_fit (idle.0, y.1, y.2) (other y (fit y c) same)) (known idle.0 idle.1 idle.2) (let_too y same let_in)) (before y (fit y c) same))
+            follow (place_found g) (idle.0, y.1, y.2) y
+            (was.least (idle.0, y.1, y.2) (listed_fit (idle.0, y.1, y.2) (other y (fit y c) same)) (known idle.0 idle.1 idle.2)
+            (let_too y same let_in))
+            (before y (fit y c) same))
 
   -- what costs less than the limit is ahead of what doesn't
   abbrev LetOrBehind : Limit → Found → Insertion → Bool → Type 0
   LetOrBehind l f y o = IsLet l y ⊎ Ahead p routes r (place_found f) f.opens f.addition.distance y o (adds y)
 
-  let_or_behind : (l : Limit) (f : Found) → IsWithin l f.opens f.addition.distance → (y : Insertion) (o : Bool) → opens p.kind (of_vehicle routes y.0) ≡ o → LetOrBehind l f y o
+  let_or_behind : (l : Limit) (f : Found) → IsWithin l f.opens f.addition.distance → (y : Insertion) (o : Bool)
+      → opens p.kind (of_vehicle routes y.0) ≡ o → LetOrBehind l f y o
   let_or_behind l f near y o is_open = by l.opens o refl refl
     where
       let_so : IsWithin l o (adds y) → LetOrBehind l f y o
@@ -569,11 +692,13 @@ module _ (laws : InsertionLaws) {p : Instance} {pins : List (List ℕ)} {courses
 
   nothing : insertions p pins routes (request_name r) ≡ [] → (x : Insertion) → Contains (insertions_of p pins routes r) x → ⊥
   nothing none x c =
-      let same : insertions p pins routes (request_name r) ≡ insertions_of p pins routes r = ap (λ (o : Option Request). option_map_or (insertions_of p pins routes) o []) asked.named in
+      let same : insertions p pins routes (request_name r) ≡ insertions_of p pins routes r =
+      ap (λ (o : Option Request). option_map_or (insertions_of p pins routes) o []) asked.named in
       within [] x (subst (λ (xs : List Insertion). Contains xs x) (sym same ∙ none) c)
 
   -- among all vehicles
-  pub answer_is : (l : Limit) (These : ℕ → Type 0) → ((v : ℕ) → 1 ≤ v → v ≤ length routes → These v) → (answer : Option Found) → IsBestAmongThese p pins routes r l These answer
+  pub answer_is : (l : Limit) (These : ℕ → Type 0) → ((v : ℕ) → 1 ≤ v → v ≤ length routes → These v) → (answer : Option Found)
+      → IsBestAmongThese p pins routes r l These answer
       → IsBestWithin p pins routes r l (option_map place_found answer)
   answer_is l These all None none = λ y c let_in. none y c (let f = fit y c in all y.0 f.from f.within) let_in
   answer_is l These all (Some f) up = (by (best_insertion p pins routes (request_name r)) refl (laws.least p pins routes (request_name r) r asked.named), near)
@@ -587,12 +712,15 @@ module _ (laws : InsertionLaws) {p : Instance} {pins : List (List ℕ)} {courses
             | inr ahead ↦ no_worse_than (place_found f) y f.opens o f.addition.distance (adds y) (price_found l These f up) (price y fits) ahead
           ]
 
-      by : (o : Option Insertion) → best_insertion p pins routes (request_name r) ≡ o → MatchOption o (insertions p pins routes (request_name r) ≡ []) (IsBest p pins routes r) → o ≡ Some (place_found f)
+      by : (o : Option Insertion) → best_insertion p pins routes (request_name r) ≡ o
+          → MatchOption o (insertions p pins routes (request_name r) ≡ []) (IsBest p pins routes r) → o ≡ Some (place_found f)
       by None is none = absurd (nothing none (place_found f) up.among)
       by (Some x) is best = ap Some (laws.unique p pins routes r x (place_found f) best (record { among = up.among; least = least }))
 
       added : adds (place_found f) ≡ f.addition.distance
-      added = same (route_length p (inserted r f.addition.pickup f.addition.delivery (of_vehicle routes f.vehicle))) (route_length p (of_vehicle routes f.vehicle)) f.addition.distance up.added.1
+      added =
+          same (route_length p (inserted r f.addition.pickup f.addition.delivery (of_vehicle routes f.vehicle)))
+          (route_length p (of_vehicle routes f.vehicle)) f.addition.distance up.added.1
         where
           same : (a b : ℕ) (d : ℤ) → pos a ≡ pos b +ℤ d → pos a -ℤ pos b ≡ d
           same a b d is = omega (arith, ints)
@@ -601,7 +729,8 @@ module _ (laws : InsertionLaws) {p : Instance} {pins : List (List ℕ)} {courses
       near = subst (λ b. IsWithin l b (adds (place_found f))) (sym up.opens) (subst (λ d. IsWithin l f.opens d) (sym added) up.allowed)
 
   -- where the limit lets all in, the best insertion itself
-  pub unlimited : (l : Limit) → l.opens ≡ true → l.below ≡ pos 9223372036854775807 → (answer : Option Insertion) → IsBestWithin p pins routes r l answer → answer ≡ best_insertion p pins routes (request_name r)
+  pub unlimited : (l : Limit) → l.opens ≡ true → l.below ≡ pos 9223372036854775807 → (answer : Option Insertion)
+      → IsBestWithin p pins routes r l answer → answer ≡ best_insertion p pins routes (request_name r)
   unlimited l opens_all most (Some x) is = sym is.0
   unlimited l opens_all most None none = by (best_insertion p pins routes (request_name r)) refl (laws.least p pins routes (request_name r) r asked.named)
     where
@@ -615,6 +744,7 @@ module _ (laws : InsertionLaws) {p : Instance} {pins : List (List ℕ)} {courses
             (let e = few_more r x.1 x.2 (of_vehicle routes x.0) in let none = opened_empty p.kind (of_vehicle routes x.0) is in omega arith)),
       )
 
-      by : (o : Option Insertion) → best_insertion p pins routes (request_name r) ≡ o → MatchOption o (insertions p pins routes (request_name r) ≡ []) (IsBest p pins routes r) → None ≡ o
+      by : (o : Option Insertion) → best_insertion p pins routes (request_name r) ≡ o
+          → MatchOption o (insertions p pins routes (request_name r) ≡ []) (IsBest p pins routes r) → None ≡ o
       by None is best = refl
       by (Some x) is best = absurd (none x best.among (let_all x (fit x best.among) (opens p.kind (of_vehicle routes x.0)) refl))

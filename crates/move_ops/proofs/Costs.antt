@@ -1,5 +1,6 @@
 -- What a request put into a plan does to its cost, and which of two insertions is no worse.
-use Rattle.std.proofs.Common.{◌≡◌, ℕ, ◌+◌, ◌-◌, ◌<◌, ◌≤◌, ◌⊎◌, ℤ, pos, ◌+ℤ◌, ◌<ℤ◌, eqb, cond, ◌&&◌, ◌||◌, Bool, true, false, not, List, [], length, refl, sym, ap, ◌∙◌, inl, inr, arith, nat_eq}
+use Rattle.std.proofs.Common.{◌≡◌, ℕ, ◌+◌, ◌-◌, ◌<◌, ◌≤◌, ◌⊎◌, ℤ, pos, ◌+ℤ◌, ◌<ℤ◌, eqb, cond, ◌&&◌, ◌||◌}
+use Rattle.std.proofs.Common.{Bool, true, false, not, List, [], length, refl, sym, ap, ◌∙◌, inl, inr, arith, nat_eq}
 use Rattle.std.specs.List.{concat, list_any, count_by, sum_by}
 use Rattle.std.proofs.lemmas.Bool.{and_from, or_left, or_right}
 use Rattle.std.proofs.lemmas.Bool.Decides.{eqb_tells}
@@ -42,22 +43,27 @@ module _ (xs ys : List (List ℕ)) (same : (n : ℕ) → times n (concat xs) ≡
       ∙ ap (λ h. has_stop ys a.number || (h || false)) (any_same b.number (concat xs) (concat ys) (same b.number))
 
   pub unplanned_same : (p : Instance) → unplanned_count p xs ≡ unplanned_count p ys
-  unplanned_same p = let each : (λ (q : Request). is_planned xs q) ≡ (λ (q : Request). is_planned ys q) = λ i q. planned_same q i in ap (λ (f : Request → Bool). count_by (λ e. not (f e.1)) p.requests) each
+  unplanned_same p =
+      let each : (λ (q : Request). is_planned xs q) ≡ (λ (q : Request). is_planned ys q) = λ i q. planned_same q i in
+      ap (λ (f : Request → Bool). count_by (λ e. not (f e.1)) p.requests) each
 
 module _ (p : Instance) (routes : List (List ℕ)) (r : Request) where
   -- the plan with the request has each number as often, wherever it is put
-  pub often_with : (x : Insertion) → 1 ≤ x.0 → x.0 ≤ length routes → (n : ℕ) → times n (concat (with_request_at routes r x)) ≡ times n (concat routes) + times n (numbers_of r)
+  pub often_with : (x : Insertion) → 1 ≤ x.0 → x.0 ≤ length routes → (n : ℕ)
+      → times n (concat (with_request_at routes r x)) ≡ times n (concat routes) + times n (numbers_of r)
   often_with x from within n =
       let e = times_with n routes x.0 (inserted r x.1 x.2 (of_vehicle routes x.0)) from within in
       let f = times_inserted n r x.1 x.2 (of_vehicle routes x.0) in
       omega arith
 
-  unplanned_with : (x y : Insertion) → 1 ≤ x.0 → x.0 ≤ length routes → 1 ≤ y.0 → y.0 ≤ length routes → (cost_with p routes r x).unplanned ≡ (cost_with p routes r y).unplanned
+  unplanned_with : (x y : Insertion) → 1 ≤ x.0 → x.0 ≤ length routes → 1 ≤ y.0 → y.0 ≤ length routes
+      → (cost_with p routes r x).unplanned ≡ (cost_with p routes r y).unplanned
   unplanned_with x y from within low high =
       unplanned_same (with_request_at routes r x) (with_request_at routes r y) (λ n. often_with x from within n ∙ sym (often_with y low high n)) p
 
 -- ---- vehicles and distance
-pub replaced : (f : List ℕ → ℕ) (routes : List (List ℕ)) (v : ℕ) (new : List ℕ) → 1 ≤ v → v ≤ length routes → sum_by f (with_route routes v new) + f (of_vehicle routes v) ≡ sum_by f routes + f new
+pub replaced : (f : List ℕ → ℕ) (routes : List (List ℕ)) (v : ℕ) (new : List ℕ) → 1 ≤ v → v ≤ length routes
+    → sum_by f (with_route routes v new) + f (of_vehicle routes v) ≡ sum_by f routes + f new
 replaced f routes v new from within =
     let here = ap f (get_or_from_slice_get routes (v - 1) (of_vehicle routes v) [] (at_vehicle routes v from within)) in
     let e = sum_by-set f routes (v - 1) new [] (omega arith) in
@@ -108,19 +114,25 @@ module _ (p : Instance) (routes : List (List ℕ)) (r : Request) where
       omega (arith, ints)
 
   pub used_with : (x : Insertion) (o : Bool) (d : ℤ) → IsPriced x o d → (cost_with p routes r x).vehicles ≡ vehicle_count p.kind routes + cond o 1 0
-  used_with x o d is = vehicles_with p.kind routes x.0 (new_route x) (is.from) (is.within) (is.some) ∙ ap (λ (b : Bool). vehicle_count p.kind routes + cond b 1 0) (is.opens)
+  used_with x o d is =
+      vehicles_with p.kind routes x.0 (new_route x) (is.from) (is.within) (is.some)
+      ∙ ap (λ (b : Bool). vehicle_count p.kind routes + cond b 1 0) (is.opens)
 
   module _ (below : BelowTells) (at_most : AtMostTells) where
     pub no_worse : (x y : Insertion) (a b : Bool) (d e : ℤ) → IsPriced x a d → IsPriced y b e → Ahead x a d y b e → is_no_worse p routes r x y ≡ true
     no_worse x y a b d e one two ahead = elim ahead [
-      | inl opened ↦ or_left (cost_below (cost_with p routes r x) (cost_with p routes r y)) (cost_at_most (cost_with p routes r x) (cost_with p routes r y) && is_no_later x y)
+      | inl opened ↦ or_left (cost_below (cost_with p routes r x) (cost_with p routes r y))
+          (cost_at_most (cost_with p routes r x) (cost_with p routes r y) && is_no_later x y)
           ((below (cost_with p routes r x) (cost_with p routes r y)).1 (inr (left_out, inl (fewer opened.0 opened.1))))
       | inr alike ↦ elim alike.1 [
-        | inl less ↦ or_left (cost_below (cost_with p routes r x) (cost_with p routes r y)) (cost_at_most (cost_with p routes r x) (cost_with p routes r y) && is_no_later x y)
+        | inl less ↦ or_left (cost_below (cost_with p routes r x) (cost_with p routes r y))
+            (cost_at_most (cost_with p routes r x) (cost_with p routes r y) && is_no_later x y)
             ((below (cost_with p routes r x) (cost_with p routes r y)).1 (inr (left_out, inr (as_many alike.0, nearer less))))
-        | inr same ↦ or_right (cost_below (cost_with p routes r x) (cost_with p routes r y)) (cost_at_most (cost_with p routes r x) (cost_with p routes r y) && is_no_later x y)
+        | inr same ↦ or_right (cost_below (cost_with p routes r x) (cost_with p routes r y))
+            (cost_at_most (cost_with p routes r x) (cost_with p routes r y) && is_no_later x y)
             (and_from (cost_at_most (cost_with p routes r x) (cost_with p routes r y)) (is_no_later x y)
-            ((at_most (cost_with p routes r x) (cost_with p routes r y)).1 (inr (same_cost (cost_with p routes r x) (cost_with p routes r y) left_out (as_many alike.0) (as_far same.0)))) same.1)
+            ((at_most (cost_with p routes r x) (cost_with p routes r y)).1
+            (inr (same_cost (cost_with p routes r x) (cost_with p routes r y) left_out (as_many alike.0) (as_far same.0)))) same.1)
       ]
     ]
       where

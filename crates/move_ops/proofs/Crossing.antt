@@ -1,5 +1,6 @@
 -- Two routes of a plan that passes exchange their ends.
-use Rattle.std.proofs.Common.{◌≡◌, ℕ, zero, suc, ◌+◌, ◌-◌, ◌≤◌, ◌&&◌, not, Bool, true, false, cond, eqb, leb, List, length, take, drop, Some, None, refl, sym, ap, subst, ◌∙◌, inl, inr, arith}
+use Rattle.std.proofs.Common.{◌≡◌, ℕ, zero, suc, ◌+◌, ◌-◌, ◌≤◌, ◌&&◌, not, Bool, true, false, cond, eqb}
+use Rattle.std.proofs.Common.{leb, List, length, take, drop, Some, None, refl, sym, ap, subst, ◌∙◌, inl, inr, arith}
 use Rattle.std.specs.List.{concat}
 use Rattle.std.proofs.lemmas.Bool.{cases_Bool, and_parts, and_from, eq-eqb, leb-true}
 use Rattle.std.proofs.lemmas.List.{length-set}
@@ -63,7 +64,9 @@ module _ (local : PassesAreLocal) (p : Instance) (pins routes : List (List ℕ))
       omega arith
 
   pub crossed_plan : IsPlan p others
-  crossed_plan = once_from p (concat others) (λ n. let e = same_times n in let f = once_few p (concat routes) plan n in omega arith) (λ n some. let e = same_times n in once_live p (concat routes) plan n (omega arith))
+  crossed_plan =
+      once_from p (concat others) (λ n. let e = same_times n in let f = once_few p (concat routes) plan n in omega arith)
+      (λ n some. let e = same_times n in once_live p (concat routes) plan n (omega arith))
 
   all_many : length others ≡ length routes
   all_many = length-set half (b - 1) y ∙ as_many
@@ -91,7 +94,8 @@ module _ (local : PassesAreLocal) (p : Instance) (pins routes : List (List ℕ))
   module _ (a_kept : length (of_vehicle pins a) ≤ ca) (b_kept : length (of_vehicle pins b) ≤ cb) where
     half_pinned : KeepsPins half pins
     half_pinned = pins_with routes pins a x a_from a_within ((parts local p pins routes good).pinned)
-        (λ k n pinned at. front_joined (of_vehicle routes a) (of_vehicle routes b) ca cb k n (let h = within_list (of_vehicle pins a) k n pinned in omega arith) at)
+        (λ k n pinned at. front_joined (of_vehicle routes a) (of_vehicle routes b) ca cb k n
+        (let h = within_list (of_vehicle pins a) k n pinned in omega arith) at)
 
     pub crossed_passes : IsFeasibleAlone p x → IsFeasibleAlone p y → passes p pins others ≡ true
     crossed_passes first second =
@@ -123,10 +127,15 @@ module _ (local : PassesAreLocal) (says : TestsSayFeasible) (p : Instance) (pins
       (leb-true 1 v one.0, leb-true v (length routes) two.0, leb-true (length (of_vehicle pins v)) c three.0)
 
   both_cut : (is_cut pins routes a ca ≡ true) × (is_cut pins routes b cb ≡ true)
-  both_cut = and_parts (is_cut pins routes a ca) (is_cut pins routes b cb) (and_parts (not (eqb a b)) (is_cut pins routes a ca && is_cut pins routes b cb) (sym can)).1
+  both_cut =
+      and_parts (is_cut pins routes a ca) (is_cut pins routes b cb)
+      (and_parts (not (eqb a b)) (is_cut pins routes a ca && is_cut pins routes b cb) (sym can)).1
 
   differ : b ≡ a → ⊥
-  differ same = let h : not (eqb a b) ≡ true = (and_parts (not (eqb a b)) (is_cut pins routes a ca && is_cut pins routes b cb) (sym can)).0 in let e : false ≡ true = rw (eq-eqb a b (sym same)) at h in cc
+  differ same =
+      let h : not (eqb a b) ≡ true = (and_parts (not (eqb a b)) (is_cut pins routes a ca && is_cut pins routes b cb) (sym can)).0 in
+      let e : false ≡ true = rw (eq-eqb a b (sym same)) at h in
+      cc
 
   pub of_a : (1 ≤ a) × (a ≤ length routes) × (length (of_vehicle pins a) ≤ ca)
   of_a = cut_parts a ca both_cut.0
@@ -143,7 +152,8 @@ module _ (local : PassesAreLocal) (says : TestsSayFeasible) (p : Instance) (pins
   not_both : (f s : Bool) → (f && s) ≡ false → f ≡ true → s ≡ true → ⊥
   not_both f s none first second = let h : true ≡ false = sym (and_from f s first second) ∙ none in cc
 
-  passes_where_both : (f s : Bool) → f ≡ feasible_alone p (joined (of_vehicle routes a) ca (of_vehicle routes b) cb) → s ≡ feasible_alone p (joined (of_vehicle routes b) cb (of_vehicle routes a) ca)
+  passes_where_both : (f s : Bool) → f ≡ feasible_alone p (joined (of_vehicle routes a) ca (of_vehicle routes b) cb)
+      → s ≡ feasible_alone p (joined (of_vehicle routes b) cb (of_vehicle routes a) ca)
       → passes p pins (with_ends_exchanged routes a ca b cb) ≡ (f && s)
   passes_where_both f s e g = elim (cases_Bool (f && s)) [
     | inl both ↦ (
@@ -154,12 +164,15 @@ module _ (local : PassesAreLocal) (says : TestsSayFeasible) (p : Instance) (pins
     | inr none ↦ elim (cases_Bool (passes p pins (with_ends_exchanged routes a ca b cb))) [
       | inr fails ↦ fails ∙ sym none
       | inl passed ↦ absurd (not_both f s none
-          (e ∙ (says p (joined (of_vehicle routes a) ca (of_vehicle routes b) cb)).1 (first_feasible local p pins routes good a ca b cb differ of_a.0 of_a.1 of_b.0 of_b.1 passed))
-          (g ∙ (says p (joined (of_vehicle routes b) cb (of_vehicle routes a) ca)).1 (second_feasible local p pins routes good a ca b cb differ of_a.0 of_a.1 of_b.0 of_b.1 passed)))
+          (e ∙ (says p (joined (of_vehicle routes a) ca (of_vehicle routes b) cb)).1
+          (first_feasible local p pins routes good a ca b cb differ of_a.0 of_a.1 of_b.0 of_b.1 passed))
+          (g ∙ (says p (joined (of_vehicle routes b) cb (of_vehicle routes a) ca)).1
+          (second_feasible local p pins routes good a ca b cb differ of_a.0 of_a.1 of_b.0 of_b.1 passed)))
     ]
   ]
 
-  pub crossed_is : (f s : Bool) → f ≡ feasible_alone p (joined (of_vehicle routes a) ca (of_vehicle routes b) cb) → s ≡ feasible_alone p (joined (of_vehicle routes b) cb (of_vehicle routes a) ca)
+  pub crossed_is : (f s : Bool) → f ≡ feasible_alone p (joined (of_vehicle routes a) ca (of_vehicle routes b) cb)
+      → s ≡ feasible_alone p (joined (of_vehicle routes b) cb (of_vehicle routes a) ca)
       → crossed p pins routes a ca b cb ≡ cond (f && s) (Some (with_ends_exchanged routes a ca b cb)) None
   crossed_is f s e g = rw (sym can, passes_where_both f s e g) refl
 

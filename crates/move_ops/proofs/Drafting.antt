@@ -1,5 +1,6 @@
 -- A draft and what it keeps.
-use Rattle.std.proofs.Common.{◌≡◌, add-one, ℕ, zero, suc, ◌+◌, ◌-◌, ◌<◌, ◌≤◌, ◌||◌, not, Bool, true, false, List, [], ◌∷◌, ◌++◌, length, drop, map, set, get_or, Option, Some, slice_get, refl, sym, ap, subst, ◌∙◌, inl, inr, arith, nat_eq, ◌⊎◌, filter}
+use Rattle.std.proofs.Common.{◌≡◌, add-one, ℕ, zero, suc, ◌+◌, ◌-◌, ◌<◌, ◌≤◌, ◌||◌, not, Bool, true, false, List, [], ◌∷◌, ◌++◌}
+use Rattle.std.proofs.Common.{length, drop, map, set, get_or, Option, Some, slice_get, refl, sym, ap, subst, ◌∙◌, inl, inr, arith, nat_eq, ◌⊎◌, filter}
 use Rattle.std.specs.Prelude.{unwrap_or}
 use Rattle.std.specs.List.{concat}
 use Rattle.std.proofs.lemmas.Bool.{cases_Bool, cases_lt, or_left, or_right, or_parts, or_from}
@@ -26,7 +27,8 @@ use Rattle.std.proofs.lemmas.Option.{slice_get_past, slice_get_within}
 
 -- ---- seats
 -- the number of a seat 0 has stayed, and is no stop seated now
-pub seat_first : (n x v : ℕ) → 1 ≤ v → (seats : List ℕ) → x < length seats → slice_get (set seats x v) n ≡ Some 0 → (nat_eq n x ≡ false) × (slice_get seats n ≡ Some 0)
+pub seat_first : (n x v : ℕ) → 1 ≤ v → (seats : List ℕ) → x < length seats → slice_get (set seats x v) n ≡ Some 0
+    → (nat_eq n x ≡ false) × (slice_get seats n ≡ Some 0)
 seat_first n x v some seats within at = elim (eqb_tells n x) [
   | inl t ↦ absurd (let e : v ≡ 0 = some_same v 0 (sym (get_set seats x v within) ∙ (ap (λ k. slice_get (set seats x v) k) (sym t.1) ∙ at)) in omega arith)
   | inr t ↦ (t.0, sym (get_set_other seats x n v t.1) ∙ at)
@@ -49,7 +51,9 @@ append_false n xs ys none = or_parts (has xs n) (has ys n) (sym (list_any-append
 -- a number that no route has, and the new route neither
 pub none_with : (n : ℕ) (routes : List (List ℕ)) (k : ℕ) (new : List ℕ) → has_stop routes n ≡ false → has new n ≡ false → has_stop (set routes k new) n ≡ false
 none_with n [] k new none out = none
-none_with n (r ∷ routes) zero new none out = let h = append_false n r (concat routes) none in list_any-append (nat_eq n) new (concat routes) ∙ or_from (has new n) (has_stop routes n) out h.1
+none_with n (r ∷ routes) zero new none out =
+    let h = append_false n r (concat routes) none in
+    list_any-append (nat_eq n) new (concat routes) ∙ or_from (has new n) (has_stop routes n) out h.1
 none_with n (r ∷ routes) (suc k) new none out =
     let h = append_false n r (concat routes) none in
     list_any-append (nat_eq n) r (concat (set routes k new)) ∙ or_from (has r n) (has_stop (set routes k new) n) h.0 (none_with n routes k new h.1 out)
@@ -58,17 +62,20 @@ none_with n (r ∷ routes) (suc k) new none out =
 pub plan_with : (tables : List Course) (k : ℕ) (c : Course) → plan_of (set tables k c) ≡ set (plan_of tables) k (route_of c)
 plan_with tables k c = map-set route_of tables k c
 
-pub seats_with : (old new : List ℕ) (tables : List Course) (k : ℕ) (c : Course) → AreSeats old (plan_of tables) → ((n : ℕ) → slice_get new n ≡ Some 0 → has (route_of c) n ≡ false)
+pub seats_with : (old new : List ℕ) (tables : List Course) (k : ℕ) (c : Course) → AreSeats old (plan_of tables)
+    → ((n : ℕ) → slice_get new n ≡ Some 0 → has (route_of c) n ≡ false)
     → ((n : ℕ) → slice_get new n ≡ Some 0 → slice_get old n ≡ Some 0) → AreSeats new (plan_of (set tables k c))
 seats_with old new tables k c are out kept n at =
     ap (λ (l : List (List ℕ)). has_stop l n) (plan_with tables k c) ∙ none_with n (plan_of tables) k (route_of c) (are n (kept n at)) (out n at)
 
 -- ---- vehicles behind the front
-idle_with : (routes : List (List ℕ)) (v : ℕ) (route : List ℕ) (old new : ℕ) → 1 ≤ v → AreIdleBehind old routes → old ≤ new → v ≤ new → AreIdleBehind new (set routes (v - 1) route)
+idle_with : (routes : List (List ℕ)) (v : ℕ) (route : List ℕ) (old new : ℕ) → 1 ≤ v → AreIdleBehind old routes → old ≤ new → v ≤ new
+    → AreIdleBehind new (set routes (v - 1) route)
 idle_with routes v route old new from idle more within u above =
     ap (λ (o : Option (List ℕ)). length (unwrap_or o [])) (item_set_other routes v u route from (λ same. absurd (omega arith))) ∙ idle u (omega arith)
 
-pub front_with : (tours set_tours : List Course) (v : ℕ) (tour : Course) (old new : ℕ) → set_tours ≡ set tours (v - 1) tour → 1 ≤ v → AreIdleBehind old (plan_of tours) → old ≤ new → v ≤ new → AreIdleBehind new (plan_of set_tours)
+pub front_with : (tours set_tours : List Course) (v : ℕ) (tour : Course) (old new : ℕ) → set_tours ≡ set tours (v - 1) tour → 1 ≤ v
+    → AreIdleBehind old (plan_of tours) → old ≤ new → v ≤ new → AreIdleBehind new (plan_of set_tours)
 front_with tours set_tours v tour old new is from idle more within =
     subst (AreIdleBehind new) (sym (ap plan_of is ∙ plan_with tours (v - 1) tour)) (idle_with (plan_of tours) v (route_of tour) old new from idle more within)
 
@@ -94,16 +101,20 @@ set_back [] k c d at = refl
 set_back (t ∷ tours) zero c d at = ap (λ (x : Course). x ∷ tours) (sym (some_same t d at))
 set_back (t ∷ tours) (suc k) c d at = ap (λ l. t ∷ l) (set_back tours k c d at)
 
-pub undone_with : (tours new : List Course) (log more : List (ℕ × Course)) (v : ℕ) (c d : Course) → slice_get tours (v - 1) ≡ Some d → new ≡ set tours (v - 1) c → more ≡ log ++ (v, d) ∷ [] → undone new more ≡ undone tours log
+pub undone_with : (tours new : List Course) (log more : List (ℕ × Course)) (v : ℕ) (c d : Course) → slice_get tours (v - 1) ≡ Some d
+    → new ≡ set tours (v - 1) c → more ≡ log ++ (v, d) ∷ [] → undone new more ≡ undone tours log
 undone_with tours new log more v c d at is_new is_more =
-    ap (λ l. undone l more) is_new ∙ (ap (λ l. undone (set tours (v - 1) c) l) is_more ∙ (undone_more (set tours (v - 1) c) log v d ∙ ap (λ l. undone l log) (set_back tours (v - 1) c d at)))
+    ap (λ l. undone l more) is_new
+    ∙ (ap (λ l. undone (set tours (v - 1) c) l) is_more
+    ∙ (undone_more (set tours (v - 1) c) log v d ∙ ap (λ l. undone l log) (set_back tours (v - 1) c d at)))
 
 pub within_more : (n : ℕ) (log : List (ℕ × Course)) (v : ℕ) (c : Course) → 1 ≤ v → v ≤ n → AreWithin n log → AreWithin n (log ++ (v, c) ∷ [])
 within_more n [] v c low high all = ((low, high), tt)
 within_more n (e ∷ log) v c low high all = (all.0, within_more n log v c low high all.1)
 
 -- ---- a vehicle's route
-pub vehicle_route : (tours : List Course) (v : ℕ) (c : Course) → (v ≡ 0 → ⊥) → v - 1 < length tours → c ≡ get_or tours (v - 1) c → route_of c ≡ of_vehicle (plan_of tours) v
+pub vehicle_route : (tours : List Course) (v : ℕ) (c : Course) → (v ≡ 0 → ⊥) → v - 1 < length tours → c ≡ get_or tours (v - 1) c
+    → route_of c ≡ of_vehicle (plan_of tours) v
 vehicle_route tours zero c some below at = absurd (some refl)
 vehicle_route tours (suc k) c some below at =
     let e : suc k - 1 ≡ k = omega arith in sym (route_at tours k c (rw e at at) (omega arith)) ∙ ap (of_vehicle (plan_of tours)) (add-one k)
@@ -139,10 +150,14 @@ length_undone tours [] = refl
 length_undone tours (e ∷ log) = length-set (undone tours log) (e.0 - 1) e.1 ∙ length_undone tours log
 
 -- its oldest change tells it
-pub base_first : (tours : List Course) (e : ℕ × Course) (log : List (ℕ × Course)) (v : ℕ) → 1 ≤ v → v ≤ length tours → e.0 ≡ v → slice_get (undone tours (e ∷ log)) (v - 1) ≡ Some e.1
-base_first tours e log v from within same = ap (λ k. slice_get (set (undone tours log) (k - 1) e.1) (v - 1)) same ∙ get_set (undone tours log) (v - 1) e.1 (omega (arith, length_undone tours log))
+pub base_first : (tours : List Course) (e : ℕ × Course) (log : List (ℕ × Course)) (v : ℕ) → 1 ≤ v → v ≤ length tours → e.0 ≡ v
+    → slice_get (undone tours (e ∷ log)) (v - 1) ≡ Some e.1
+base_first tours e log v from within same =
+    ap (λ k. slice_get (set (undone tours log) (k - 1) e.1) (v - 1)) same
+    ∙ get_set (undone tours log) (v - 1) e.1 (omega (arith, length_undone tours log))
 
-pub base_later : (tours : List Course) (e : ℕ × Course) (log : List (ℕ × Course)) (v : ℕ) → 1 ≤ v → 1 ≤ e.0 → (e.0 ≡ v → ⊥) → slice_get (undone tours (e ∷ log)) (v - 1) ≡ slice_get (undone tours log) (v - 1)
+pub base_later : (tours : List Course) (e : ℕ × Course) (log : List (ℕ × Course)) (v : ℕ) → 1 ≤ v → 1 ≤ e.0 → (e.0 ≡ v → ⊥)
+    → slice_get (undone tours (e ∷ log)) (v - 1) ≡ slice_get (undone tours log) (v - 1)
 base_later tours e log v from above other = get_set_other (undone tours log) (e.0 - 1) (v - 1) e.1 (λ same. other (omega arith))
 
 got : (tours : List Course) (k : ℕ) (b d : Course) → slice_get tours k ≡ Some b → b ≡ get_or tours k d
@@ -155,7 +170,8 @@ pub base_course : (p : Instance) (tours : List Course) (k : ℕ) (b : Course) �
 base_course p tours k b at tables = course_at tours k b (got tours k b b at) (slice_get_within tours k b at) p tables
 
 -- ---- the draft becomes another plan
-module _ (p : Instance) (pins : List (List ℕ)) (old new : Drafted) (is : IsDraftOf p pins old) (back : undone new.tours new.log ≡ undone old.tours old.log) (pinned : new.pinned ≡ old.pinned)
+module _ (p : Instance) (pins : List (List ℕ)) (old new : Drafted) (is : IsDraftOf p pins old)
+    (back : undone new.tours new.log ≡ undone old.tours old.log) (pinned : new.pinned ≡ old.pinned)
     (base_cost : new.base_cost ≡ old.base_cost) where
   pub changed : passes p pins (draft_of new) ≡ true → AreTablesIn p new.tours → new.cost ≡ cost_of p (draft_of new) → IsDraftOf p pins new
   changed good tables cost = record {
@@ -174,10 +190,12 @@ pub has_in_vehicle : (routes : List (List ℕ)) (v n : ℕ) → has (of_vehicle 
 has_in_vehicle routes zero n had = absurd (let h : false ≡ true = had in cc)
 has_in_vehicle [] (suc k) n had = absurd (let h : false ≡ true = had in cc)
 has_in_vehicle (r ∷ routes) (suc zero) n had = list_any-append (nat_eq n) r (concat routes) ∙ or_left (has r n) (has_stop routes n) had
-has_in_vehicle (r ∷ routes) (suc (suc k)) n had = list_any-append (nat_eq n) r (concat routes) ∙ or_right (has r n) (has_stop routes n) (has_in_vehicle routes (suc k) n had)
+has_in_vehicle (r ∷ routes) (suc (suc k)) n had =
+    list_any-append (nat_eq n) r (concat routes) ∙ or_right (has r n) (has_stop routes n) (has_in_vehicle routes (suc k) n had)
 
 -- ---- tables with another one
-pub tables_with : (p : Instance) (tours : List Course) (k : ℕ) (tour : Course) → AreTablesIn p tours → course_of p (route_of tour) ≡ tour → AreTablesIn p (set tours k tour)
+pub tables_with : (p : Instance) (tours : List Course) (k : ℕ) (tour : Course) → AreTablesIn p tours
+    → course_of p (route_of tour) ≡ tour → AreTablesIn p (set tours k tour)
 tables_with p tours k tour are is =
     ap (tables_of p) (plan_with tours k tour)
     ∙ (map-set (course_of p) (plan_of tours) k (route_of tour)
@@ -203,7 +221,9 @@ gone_in keep n out (x ∷ xs) = elim (eqb_tells n x) [
 gone : (keep : ℕ → Bool) (n : ℕ) → keep n ≡ false → (routes : List (List ℕ)) → has_stop (map (filter keep) routes) n ≡ false
 gone keep n out [] = refl
 gone keep n out (r ∷ routes) =
-    list_any-append (nat_eq n) (filter keep r) (concat (map (filter keep) routes)) ∙ or_from (has (filter keep r) n) (has_stop (map (filter keep) routes) n) (gone_in keep n out r) (gone keep n out routes)
+    list_any-append (nat_eq n) (filter keep r) (concat (map (filter keep) routes))
+    ∙ or_from (has (filter keep r) n) (has_stop (map (filter keep) routes) n) (gone_in keep n out r) (gone keep n out routes)
 
-pub named_gone : (p : Instance) (names : List ℕ) (routes given : List (List ℕ)) → given ≡ without_named p names routes → (n : ℕ) → is_of_named p names n ≡ true → has_stop given n ≡ false
+pub named_gone : (p : Instance) (names : List ℕ) (routes given : List (List ℕ)) → given ≡ without_named p names routes → (n : ℕ)
+    → is_of_named p names n ≡ true → has_stop given n ≡ false
 named_gone p names routes given are n named = ap (λ (l : List (List ℕ)). has_stop l n) are ∙ gone (λ m. not (is_of_named p names m)) n (rw named refl) routes

@@ -19,8 +19,10 @@ use Rattle.move_ops.proofs.Applying.{asked, judge, made}
 use Rattle.move_ops.proofs.Exchanging.{others_plan, others_pinned, others_once, exchanged_is}
 use Rattle.move_ops.proofs.Leaving.{as_many}
 
-module _ (found : NamedAreFound) (local : PassesAreLocal) (plans : PlansAreLocal) (says : TestsSayFeasible) (p : Instance) (pins : List (List ℕ)) (d : Drafted) (is : IsDraftOf p pins d)
-    (a b : ℕ) (apart : a ≡ b → ⊥) (r s : Request) (first : lookup (nat_eq a) p.requests ≡ Some r) (second : lookup (nat_eq b) p.requests ≡ Some s) (can : are_exchangeable pins (draft_of d) r s ≡ true)
+module _ (found : NamedAreFound) (local : PassesAreLocal) (plans : PlansAreLocal) (says : TestsSayFeasible) (p : Instance)
+    (pins : List (List ℕ)) (d : Drafted) (is : IsDraftOf p pins d)
+    (a b : ℕ) (apart : a ≡ b → ⊥) (r s : Request) (first : lookup (nat_eq a) p.requests ≡ Some r)
+    (second : lookup (nat_eq b) p.requests ≡ Some s) (can : are_exchangeable pins (draft_of d) r s ≡ true)
     (cs : List Change) (are : AreChanges (draft_of d) (map (map (counterpart r s)) (draft_of d)) cs) (given : List Change) (same : given ≡ cs) where
   abbrev others : List (List ℕ)
   others = map (map (counterpart r s)) (draft_of d)
@@ -43,8 +45,11 @@ module _ (found : NamedAreFound) (local : PassesAreLocal) (plans : PlansAreLocal
   judged : (t : Bool) → t ≡ list_all (λ x. feasible_alone p x.route) given → t ≡ list_all (λ x. feasible_alone p x.route) cs
   judged t e = e ∙ ap (list_all (λ (x : Change). feasible_alone p x.route)) same
 
-  pub exchange_is : (t : Bool) → t ≡ list_all (λ x. feasible_alone p x.route) given → cond t (Some (map (map (counterpart r s)) (draft_of d))) None ≡ exchanged p pins (draft_of d) a b
-  exchange_is t e = sym (exchanged_is found p is.valid a b apart r s first second local plans says pins (draft_of d) is.draft can t (judged t e ∙ judge local says p pins d is others plan once pinned long cs are))
+  pub exchange_is : (t : Bool) → t ≡ list_all (λ x. feasible_alone p x.route) given
+      → cond t (Some (map (map (counterpart r s)) (draft_of d))) None ≡ exchanged p pins (draft_of d) a b
+  exchange_is t e =
+      sym (exchanged_is found p is.valid a b apart r s first second local plans says pins (draft_of d) is.draft can t
+      (judged t e ∙ judge local says p pins d is others plan once pinned long cs are))
 
   pub exchange_made : RequestsStandByName → true ≡ list_all (λ x. feasible_alone p x.route) given → IsChange p pins (draft_of d) cs d.cost.unplanned
   exchange_made stand e =

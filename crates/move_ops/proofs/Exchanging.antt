@@ -1,5 +1,6 @@
 -- Two requests of a plan that passes take one another's places.
-use Rattle.std.proofs.Common.{◌≡◌, ℕ, ◌+◌, ◌≤◌, ◌&&◌, ◌||◌, Bool, true, false, cond, eqb, nat_eq, List, [], ◌∷◌, All, map, Some, None, slice_get, refl, sym, ap, subst, ◌∙◌, inl, inr, arith}
+use Rattle.std.proofs.Common.{◌≡◌, ℕ, ◌+◌, ◌≤◌, ◌&&◌, ◌||◌, Bool, true, false, cond, eqb, nat_eq, List, []}
+use Rattle.std.proofs.Common.{◌∷◌, All, map, Some, None, slice_get, refl, sym, ap, subst, ◌∙◌, inl, inr, arith}
 use Rattle.std.specs.List.{list_all, list_any, concat}
 use Rattle.std.specs.Map.{lookup}
 use Rattle.std.specs.Option.{option_map}
@@ -129,7 +130,8 @@ module _ (f : ℕ → ℕ) (back : (n : ℕ) → f (f n) ≡ n) where
 front_mapped : (f : ℕ → ℕ) (route : List ℕ) (k n : ℕ) → slice_get route k ≡ Some n → f n ≡ n → slice_get (map f route) k ≡ Some n
 front_mapped f route k n at stays = slice_get-map f route k ∙ (ap (option_map f) at ∙ ap Some stays)
 
-mapped_pinned : (f : ℕ → ℕ) (routes pins : List (List ℕ)) → KeepsPins routes pins → ((n : ℕ) → 1 ≤ times n (concat pins) → f n ≡ n) → KeepsPins (map (map f) routes) pins
+mapped_pinned : (f : ℕ → ℕ) (routes pins : List (List ℕ)) → KeepsPins routes pins → ((n : ℕ) → 1 ≤ times n (concat pins) → f n ≡ n)
+    → KeepsPins (map (map f) routes) pins
 mapped_pinned f routes pins kept stays =
     pins_map (map f) routes pins kept (λ pin route same stand k n at. front_mapped f route k n (same k n at) (stays n (stand k n at)))
 
@@ -154,7 +156,8 @@ first_among n m xs same = let e = one_here n m same in omega arith
 second_among : (n m l : ℕ) → n ≡ m → 1 ≤ times n (l ∷ m ∷ [])
 second_among n m l same = let e = one_here n m same in omega arith
 
-counterpart_back : (r s : Request) → IsRequest r → IsRequest s → ((n : ℕ) → 1 ≤ times n (numbers_of r) → 1 ≤ times n (numbers_of s) → ⊥) → (n : ℕ) → counterpart r s (counterpart r s n) ≡ n
+counterpart_back : (r s : Request) → IsRequest r → IsRequest s → ((n : ℕ) → 1 ≤ times n (numbers_of r) → 1 ≤ times n (numbers_of s) → ⊥)
+    → (n : ℕ) → counterpart r s (counterpart r s n) ≡ n
 counterpart_back (Single s) (Single t) valid too apart n = swap_back s.number t.number n
 counterpart_back (Single s) (Pair c d) valid too apart n = refl
 counterpart_back (Pair a b) (Single t) valid too apart n = refl
@@ -169,7 +172,8 @@ counterpart_turned : (r s : Request) (n : ℕ) → counterpart r s n ≡ counter
 counterpart_turned (Single s) (Single t) n = swap_turned s.number t.number n
 counterpart_turned (Single s) (Pair c d) n = refl
 counterpart_turned (Pair a b) (Single t) n = refl
-counterpart_turned (Pair a b) (Pair c d) n = ap (swapped a.number c.number) (swap_turned b.number d.number n) ∙ swap_turned a.number c.number (swapped d.number b.number n)
+counterpart_turned (Pair a b) (Pair c d) n =
+    ap (swapped a.number c.number) (swap_turned b.number d.number n) ∙ swap_turned a.number c.number (swapped d.number b.number n)
 
 same_form_turned : (r s : Request) → have_same_form r s ≡ have_same_form s r
 same_form_turned (Single s) (Single t) = refl
@@ -188,24 +192,31 @@ any_two n m xs ys same = by (list_any (nat_eq n) xs) (list_any (nat_eq m) ys) re
     by false true d e = absurd (let h = often_had xs n (let k = had_often ys m e in omega arith) in let c : true ≡ false = sym h ∙ d in cc)
 
 module _ (routes others : List (List ℕ)) where
-  first_planned : (r s : Request) → IsRequest r → IsRequest s → ((n : ℕ) → 1 ≤ times n (numbers_of r) → 1 ≤ times n (numbers_of s) → ⊥) → have_same_form r s ≡ true
+  first_planned : (r s : Request) → IsRequest r → IsRequest s → ((n : ℕ) → 1 ≤ times n (numbers_of r) → 1 ≤ times n (numbers_of s) → ⊥)
+      → have_same_form r s ≡ true
       → ((n : ℕ) → has_stop others n ≡ has_stop routes (counterpart r s n)) → is_planned others r ≡ is_planned routes s
   first_planned (Single s) (Single t) valid too apart form had = ap (λ h. h || false) (had s.number ∙ ap (has_stop routes) (swap_left s.number t.number))
   first_planned (Single s) (Pair c d) valid too apart form had = absurd (let k : false ≡ true = form in cc)
   first_planned (Pair a b) (Single t) valid too apart form had = absurd (let k : false ≡ true = form in cc)
   first_planned (Pair a b) (Pair c d) valid too apart form had =
-      let a_d = λ (same : a.number ≡ d.number). apart a.number (first_among a.number a.number (b.number ∷ []) refl) (second_among a.number d.number c.number same) in
-      let c_b = λ (same : c.number ≡ b.number). apart c.number (second_among c.number b.number a.number same) (first_among c.number c.number (d.number ∷ []) refl) in
-      ap (λ h. h || (has_stop others b.number || false)) (had a.number ∙ ap (has_stop routes) (both_a a.number b.number c.number d.number (valid.2) a_d c_b (too.2)))
-      ∙ ap (λ h. has_stop routes c.number || (h || false)) (had b.number ∙ ap (has_stop routes) (both_b a.number b.number c.number d.number (valid.2) a_d c_b (too.2)))
+      let a_d = λ (same : a.number ≡ d.number). apart a.number (first_among a.number a.number (b.number ∷ []) refl)
+      (second_among a.number d.number c.number same) in
+      let c_b = λ (same : c.number ≡ b.number). apart c.number (second_among c.number b.number a.number same)
+      (first_among c.number c.number (d.number ∷ []) refl) in
+      ap (λ h. h || (has_stop others b.number || false))
+      (had a.number ∙ ap (has_stop routes) (both_a a.number b.number c.number d.number (valid.2) a_d c_b (too.2)))
+      ∙ ap (λ h. has_stop routes c.number || (h || false))
+      (had b.number ∙ ap (has_stop routes) (both_b a.number b.number c.number d.number (valid.2) a_d c_b (too.2)))
 
 -- requests of two names share no number
-module _ (found : NamedAreFound) (p : Instance) (valid : IsInstance p) (a b : ℕ) (apart : a ≡ b → ⊥) (r s : Request) (is_r : lookup (nat_eq a) p.requests ≡ Some r) (is_s : lookup (nat_eq b) p.requests ≡ Some s) where
+module _ (found : NamedAreFound) (p : Instance) (valid : IsInstance p) (a b : ℕ) (apart : a ≡ b → ⊥) (r s : Request)
+    (is_r : lookup (nat_eq a) p.requests ≡ Some r) (is_s : lookup (nat_eq b) p.requests ≡ Some s) where
   share_none : (n : ℕ) → 1 ≤ times n (numbers_of r) → 1 ≤ times n (numbers_of s) → ⊥
   share_none n one two =
       let e = (found p n a r valid is_r (in_numbers n r one)).name in
       let f = (found p n b s valid is_s (in_numbers n s two)).name in
-      apart (sym (name_of p.requests a r (valid.named) is_r) ∙ (some_same (request_name r) (request_name s) (sym e ∙ f) ∙ name_of p.requests b s (valid.named) is_s))
+      apart (sym (name_of p.requests a r (valid.named) is_r)
+      ∙ (some_same (request_name r) (request_name s) (sym e ∙ f) ∙ name_of p.requests b s (valid.named) is_s))
 
   back : (n : ℕ) → counterpart r s (counterpart r s n) ≡ n
   back = counterpart_back r s (request-valid p a r valid is_r) (request-valid p b s valid is_s) share_none
@@ -219,11 +230,13 @@ module _ (found : NamedAreFound) (p : Instance) (valid : IsInstance p) (a b : �
 
   pub first_for_second : (routes : List (List ℕ)) → have_same_form r s ≡ true → is_planned (map (map (counterpart r s)) routes) r ≡ is_planned routes s
   first_for_second routes form =
-      first_planned routes (map (map (counterpart r s)) routes) r s (request-valid p a r valid is_r) (request-valid p b s valid is_s) share_none form (had_exchanged routes)
+      first_planned routes (map (map (counterpart r s)) routes) r s (request-valid p a r valid is_r)
+      (request-valid p b s valid is_s) share_none form (had_exchanged routes)
 
   pub second_for_first : (routes : List (List ℕ)) → have_same_form r s ≡ true → is_planned (map (map (counterpart r s)) routes) s ≡ is_planned routes r
   second_for_first routes form =
-      first_planned routes (map (map (counterpart r s)) routes) s r (request-valid p b s valid is_s) (request-valid p a r valid is_r) (λ n two one. share_none n one two)
+      first_planned routes (map (map (counterpart r s)) routes) s r (request-valid p b s valid is_s) (request-valid p a r valid is_r)
+      (λ n two one. share_none n one two)
       (same_form_turned s r ∙ form) (λ n. had_exchanged routes n ∙ ap (has_stop routes) (counterpart_turned r s n))
 
   stays_live : (n : ℕ) → IsLive p (counterpart r s n) → IsLive p n
@@ -235,7 +248,8 @@ module _ (found : NamedAreFound) (p : Instance) (valid : IsInstance p) (a b : �
     ]
   ]
 
-  module _ (local : PassesAreLocal) (plans : PlansAreLocal) (says : TestsSayFeasible) (pins routes : List (List ℕ)) (good : passes p pins routes ≡ true) (can : are_exchangeable pins routes r s ≡ true) where
+  module _ (local : PassesAreLocal) (plans : PlansAreLocal) (says : TestsSayFeasible) (pins routes : List (List ℕ))
+      (good : passes p pins routes ≡ true) (can : are_exchangeable pins routes r s ≡ true) where
     both_movable : (is_movable pins routes r ≡ true) × (is_movable pins routes s ≡ true)
     both_movable =
         let one = and_parts (is_movable pins routes r) (is_movable pins routes s && have_same_form r s) can in
@@ -255,6 +269,14 @@ module _ (found : NamedAreFound) (p : Instance) (valid : IsInstance p) (a b : �
     pub others_once : All (AreLiveOnce p) (map (map (counterpart r s)) routes)
     others_once = each_once plans p others others_plan
 
-    pub exchanged_is : (t : Bool) → t ≡ list_all (feasible_alone p) (map (map (counterpart r s)) routes) → exchanged p pins routes a b ≡ cond t (Some (map (map (counterpart r s)) routes)) None
+    pub exchanged_is : (t : Bool) → t ≡ list_all (feasible_alone p) (map (map (counterpart r s)) routes)
+        → exchanged p pins routes a b ≡ cond t (Some (map (map (counterpart r s)) routes)) None
     exchanged_is t e =
-        rw (ne_eqb a b apart, is_r, is_s, can, passes_where_feasible local says p pins routes good others others_plan (length-map routes (map (counterpart r s))) others_pinned t e) refl
+        rw (
+          ne_eqb a b apart,
+          is_r,
+          is_s,
+          can,
+          passes_where_feasible local says p pins routes good others others_plan
+              (length-map routes (map (counterpart r s))) others_pinned t e,
+        ) refl

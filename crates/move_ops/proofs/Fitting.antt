@@ -1,5 +1,6 @@
 -- A request put into a route that is feasible alone: the new route is feasible alone too exactly where it keeps the limits of load and time.
-use Rattle.std.proofs.Common.{◌≡◌, ℕ, zero, suc, ◌+◌, ◌-◌, ◌<◌, ◌≤◌, ◌≤ℤ◌, ◌<ℤ◌, ℤ, pos, nat_le, nat_eq, eqb, ◌&&◌, Bool, true, false, not, int_lt, List, [], ◌∷◌, ◌++◌, length, length-append, take, drop, Option, Some, None, IsSome, refl, sym, ap, subst, ◌∙◌, inl, inr, arith, rules, T}
+use Rattle.std.proofs.Common.{◌≡◌, ℕ, zero, suc, ◌+◌, ◌-◌, ◌<◌, ◌≤◌, ◌≤ℤ◌, ◌<ℤ◌, ℤ, pos, nat_le, nat_eq, eqb, ◌&&◌, Bool, true, false, not, int_lt}
+use Rattle.std.proofs.Common.{List, [], ◌∷◌, ◌++◌, length, length-append, take, drop, Option, Some, None, IsSome, refl, sym, ap, subst, ◌∙◌, inl, inr, arith, rules, T}
 use Rattle.std.specs.Prelude.{◌↔◌}
 use Rattle.std.specs.List.{list_all, insert}
 use Rattle.std.specs.Option.{option_map_or}
@@ -71,7 +72,10 @@ none_ahead ns (Some m) each = by (has ns m) refl
 
 pub ahead_none : (ns : List ℕ) (o : Option ℕ) (m : ℕ) → o ≡ Some m → not (option_map_or (has ns) o false) ≡ true → times m ns ≡ 0
 ahead_none ns o m is clear = elim (cases_lt 0 (times m ns)) [
-  | inl some ↦ (let h = often_had ns m (omega arith) in let k : not (has ns m) ≡ true = rw is at clear in absurd (both_ways (has ns m) (not-true (has ns m) k) h))
+  | inl some ↦
+      (let h = often_had ns m (omega arith) in
+      let k : not (has ns m) ≡ true = rw is at clear in
+      absurd (both_ways (has ns m) (not-true (has ns m) k) h))
   | inr none ↦ omega arith
 ]
 
@@ -101,11 +105,15 @@ module _ (p : Instance) (route : List ℕ) where
       record {
         load = λ i from to. at_most i (range_true (λ i. not (int_lt (pos p.capacity) (load p route i))) 1 (length route) both.0 i from (omega arith));
         window = λ lilim i from to.
-            leb-true (start p route i) (place p route i).latest (range_true (λ i. nat_le (start p route i) (place p route i).latest) 1 (length route) (timely p.kind refl both.1 lilim).0 i from (omega arith));
-        return = λ lilim. elim (or_cases (eqb (length route) 0) (nat_le (start p route (length route + 1)) p.depot.latest) (timely p.kind refl both.1 lilim).1) [
-          | inl e ↦ idle lilim (eqb-true (length route) 0 e)
-          | inr e ↦ leb-true (start p route (length route + 1)) p.depot.latest e
-        ];
+            leb-true (start p route i) (place p route i).latest
+            (range_true (λ i. nat_le (start p route i) (place p route i).latest) 1 (length route)
+            (timely p.kind refl both.1 lilim).0 i from (omega arith));
+        return = λ lilim.
+            elim (or_cases (eqb (length route) 0) (nat_le (start p route (length route + 1)) p.depot.latest)
+            (timely p.kind refl both.1 lilim).1) [
+              | inl e ↦ idle lilim (eqb-true (length route) 0 e)
+              | inr e ↦ leb-true (start p route (length route + 1)) p.depot.latest e
+            ];
       }
 
   pub kept_limits : KeepsLimits p route → keeps ≡ true
@@ -119,14 +127,18 @@ module _ (p : Instance) (route : List ℕ) where
       below l le = below_by l le (int_lt (pos p.capacity) l) refl
 
       capacity : keeps_capacity p route ≡ true
-      capacity = true_range (λ i. not (int_lt (pos p.capacity) (load p route i))) 1 (length route) (λ i from to. below (load p route i) (limits.load i from (omega arith)))
+      capacity =
+          true_range (λ i. not (int_lt (pos p.capacity) (load p route i))) 1 (length route)
+          (λ i from to. below (load p route i) (limits.load i from (omega arith)))
 
       times_of : (kind : Kind) → p.kind ≡ kind → keeps_times kind p route ≡ true
       times_of Vrp is = refl
       times_of LiLim is =
           and_from (keeps_windows p route) (is_back_in_time p route)
-          (true_range (λ i. nat_le (start p route i) (place p route i).latest) 1 (length route) (λ i from to. le-leb (start p route i) (place p route i).latest (limits.window is i from (omega arith))))
-          (or_right (eqb (length route) 0) (nat_le (start p route (length route + 1)) p.depot.latest) (le-leb (start p route (length route + 1)) p.depot.latest (limits.return is)))
+          (true_range (λ i. nat_le (start p route i) (place p route i).latest) 1 (length route)
+          (λ i from to. le-leb (start p route i) (place p route i).latest (limits.window is i from (omega arith))))
+          (or_right (eqb (length route) 0) (nat_le (start p route (length route + 1)) p.depot.latest)
+          (le-leb (start p route (length route + 1)) p.depot.latest (limits.return is)))
 
 -- ---- pairs
 pub partner_numbers : (q : Request) (n m : ℕ) → partner_in n q ≡ Some m → 1 ≤ times m (numbers_of q)
@@ -156,7 +168,8 @@ pickup_first (Pair a b) n m is = elim (eqb_tells a.number n) [
 
 module _ (p : Instance) where
   -- a stop put where no delivery of its stands before it and no pickup of its behind
-  first_put : (m k : ℕ) (ns : List ℕ) → picks_up_first p ns ≡ true → ((n : ℕ) → 1 ≤ times n (take k ns) → pickup_at p n ≡ Some m → ⊥) → ((q : ℕ) → pickup_at p m ≡ Some q → times q (drop k ns) ≡ 0) → picks_up_first p (take k ns ++ m ∷ drop k ns) ≡ true
+  first_put : (m k : ℕ) (ns : List ℕ) → picks_up_first p ns ≡ true → ((n : ℕ) → 1 ≤ times n (take k ns) → pickup_at p n ≡ Some m → ⊥)
+      → ((q : ℕ) → pickup_at p m ≡ Some q → times q (drop k ns) ≡ 0) → picks_up_first p (take k ns ++ m ∷ drop k ns) ≡ true
   first_put m zero ns first front behind =
       and_from (not (option_map_or (has ns) (pickup_at p m) false)) (picks_up_first p ns) (none_ahead ns (pickup_at p m) behind) first
   first_put m (suc k) [] first front behind =
@@ -199,7 +212,8 @@ module _ (found : NamedAreFound) (stand : RequestsStandByName) (p : Instance) (v
       by None e = absurd (let h : None ≡ Some m = rw e at is in none_some m h)
       by (Some q) e = in_request q e (pickup_first q n m (let h : pickup_in n q ≡ Some m = rw e at is in h))
 
-  module _ (name : ℕ) (r : Request) (named : lookup (nat_eq name) p.requests ≡ Some r) (old : List ℕ) (free : (n : ℕ) → 1 ≤ times n (numbers_of r) → times n old ≡ 0) where
+  module _ (name : ℕ) (r : Request) (named : lookup (nat_eq name) p.requests ≡ Some r) (old : List ℕ)
+      (free : (n : ℕ) → 1 ≤ times n (numbers_of r) → times n old ≡ 0) where
     partner_own : (n : ℕ) → 1 ≤ times n (numbers_of r) → partner_at p n ≡ partner_in n r
     partner_own n some = (found p n name r valid named (in_numbers n r some)).partner
 
@@ -214,22 +228,31 @@ module _ (found : NamedAreFound) (stand : RequestsStandByName) (p : Instance) (v
         omega arith
 
     whole_new : (new : List ℕ) → ((n : ℕ) → times n new ≡ times n old + times n (numbers_of r)) → has_whole_pairs p old ≡ true → has_whole_pairs p new ≡ true
-    whole_new new each whole = all_by_times (λ n. option_map_or (has new) (partner_at p n) true) new (λ n some. there_whole new (partner_at p n) (λ m is. often_had new m (partner_there n some m is)))
+    whole_new new each whole =
+        all_by_times (λ n. option_map_or (has new) (partner_at p n) true) new
+        (λ n some. there_whole new (partner_at p n) (λ m is. often_had new m (partner_there n some m is)))
       where
         partner_there : (n : ℕ) → 1 ≤ times n new → (m : ℕ) → partner_at p n ≡ Some m → 1 ≤ times m new
         partner_there n some m is = elim (cases_lt 0 (times n (numbers_of r))) [
           | inl own ↦ (let h = partner_numbers r n m (sym (partner_own n own) ∙ is) in let e = each m in omega arith)
           | inr other ↦ (
-              let h = had_often old m (whole_there old (partner_at p n) m is (times_by_all (λ n. option_map_or (has old) (partner_at p n) true) old n whole (omega arith))) in
+              let h =
+              had_often old m
+              (whole_there old (partner_at p n) m is
+              (times_by_all (λ n. option_map_or (has old) (partner_at p n) true) old n whole (omega arith))) in
               omega arith)
         ]
 
 insert_some : (ns : List ℕ) (k m : ℕ) → length (insert ns k m) ≡ 0 → ⊥
-insert_some ns k m none = let e = length-append (take k ns) (m ∷ drop k ns) in let f : length (m ∷ drop k ns) ≡ length (drop k ns) + 1 = omega arith in omega arith
+insert_some ns k m none =
+    let e = length-append (take k ns) (m ∷ drop k ns) in
+    let f : length (m ∷ drop k ns) ≡ length (drop k ns) + 1 = omega arith in
+    omega arith
 
 -- ---- one request put in
 module _ (found : NamedAreFound) (stand : RequestsStandByName) (p : Instance) (valid : IsInstance p) where
-  first_new : (name : ℕ) (r : Request) → lookup (nat_eq name) p.requests ≡ Some r → (old : List ℕ) → ((n : ℕ) → 1 ≤ times n (numbers_of r) → times n old ≡ 0) → (i j : ℕ)
+  first_new : (name : ℕ) (r : Request) → lookup (nat_eq name) p.requests ≡ Some r → (old : List ℕ)
+      → ((n : ℕ) → 1 ≤ times n (numbers_of r) → times n old ≡ 0) → (i j : ℕ)
       → ArePlaces r (length old) i j → picks_up_first p old ≡ true → picks_up_first p (inserted r i j old) ≡ true
   first_new name (Single s) named old free i j places first =
       let own : 1 ≤ times s.number (numbers_of (Single s)) = (let e = one_here s.number s.number refl in omega arith) in
@@ -256,9 +279,11 @@ module _ (found : NamedAreFound) (stand : RequestsStandByName) (p : Instance) (v
       ])
       (λ q is. (
       let told = pickup_first (Pair a b) b.number q (sym (pickup_own found stand p valid name (Pair a b) named old free b.number finish) ∙ is) in
-      subst (λ (m : ℕ). times m (drop (j - 1) (insert old (i - 1) a.number)) ≡ 0) told.1 (drop_past a.number (i - 1) (j - 1) old (omega arith) (omega arith) (free a.number start))))
+      subst (λ (m : ℕ). times m (drop (j - 1) (insert old (i - 1) a.number)) ≡ 0) told.1
+      (drop_past a.number (i - 1) (j - 1) old (omega arith) (omega arith) (free a.number start))))
 
-  module _ (name : ℕ) (r : Request) (named : lookup (nat_eq name) p.requests ≡ Some r) (old : List ℕ) (free : (n : ℕ) → 1 ≤ times n (numbers_of r) → times n old ≡ 0) (i j : ℕ) (places : ArePlaces r (length old) i j)
+  module _ (name : ℕ) (r : Request) (named : lookup (nat_eq name) p.requests ≡ Some r) (old : List ℕ)
+      (free : (n : ℕ) → 1 ≤ times n (numbers_of r) → times n old ≡ 0) (i j : ℕ) (places : ArePlaces r (length old) i j)
       (feasible : feasible_alone p old ≡ true) where
     pairs : (has_whole_pairs p old ≡ true) × (picks_up_first p old ≡ true)
     unfolding feasible_alone
@@ -316,13 +341,16 @@ unpaired : (p : Instance) (route : List ℕ) (a : Bool) → a ≡ are_paired p r
 unfolding feasible_alone
 unpaired p route a is none = not_both a (has_whole_pairs p route) (picks_up_first p route) (keeps p route) is none
 
-whole_alone : (p : Instance) (route : List ℕ) → has_whole_pairs p route ≡ true → picks_up_first p route ≡ true → KeepsLimits p route → feasible_alone p route ≡ true
+whole_alone : (p : Instance) (route : List ℕ) → has_whole_pairs p route ≡ true → picks_up_first p route ≡ true → KeepsLimits p route
+    → feasible_alone p route ≡ true
 unfolding feasible_alone
 whole_alone p route whole first limits =
-    and_from (has_whole_pairs p route) (picks_up_first p route && keeps p route) whole (and_from (picks_up_first p route) (keeps p route) first (kept_limits p route limits))
+    and_from (has_whole_pairs p route) (picks_up_first p route && keeps p route) whole
+    (and_from (picks_up_first p route) (keeps p route) first (kept_limits p route limits))
 
 -- where the limits are kept, the pairs decide
-pub within_limits : (p : Instance) → (route : List ℕ) (a b : Bool) → a ≡ are_paired p route → b ≡ true → (b ≡ true) ↔ KeepsLimits p route → a ≡ feasible_alone p route
+pub within_limits : (p : Instance) → (route : List ℕ) (a b : Bool) → a ≡ are_paired p route → b ≡ true
+    → (b ≡ true) ↔ KeepsLimits p route → a ≡ feasible_alone p route
 within_limits p route true b is kept limits =
     let both = and_parts (has_whole_pairs p route) (picks_up_first p route) (sym is) in
     sym (whole_alone p route both.0 both.1 (limits.0 kept))
@@ -337,6 +365,7 @@ outside_limits p valid route b broken limits = by (feasible_alone p route) refl
     by true f = absurd (let h : b ≡ true = limits.1 (route_limits p valid route f) in both_ways b broken h)
 
 -- where the pairs are whole and picked up first, the limits decide
-pub paired : (p : Instance) → IsInstance p → (route : List ℕ) (b : Bool) → are_paired p route ≡ true → (b ≡ true) ↔ KeepsLimits p route → b ≡ feasible_alone p route
+pub paired : (p : Instance) → IsInstance p → (route : List ℕ) (b : Bool) → are_paired p route ≡ true → (b ≡ true) ↔ KeepsLimits p route
+    → b ≡ feasible_alone p route
 paired p valid route true pairs limits = within_limits p route true true (sym pairs) refl limits
 paired p valid route false pairs limits = outside_limits p valid route false refl limits

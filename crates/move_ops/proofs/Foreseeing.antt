@@ -1,5 +1,6 @@
 -- What an exchange or 2-opt* would cost, by the ways that change alone.
-use Rattle.std.proofs.Common.{◌≡◌, ℕ, zero, suc, ◌+◌, ◌-◌, ◌<◌, ◌≤◌, ◌⊎◌, cond, eqb, ◌&&◌, Bool, true, false, not, List, [], ◌∷◌, length, map, Option, Some, None, IsSome, slice_get, refl, sym, ap, subst, ◌∙◌, inl, inr, arith}
+use Rattle.std.proofs.Common.{◌≡◌, ℕ, zero, suc, ◌+◌, ◌-◌, ◌<◌, ◌≤◌, ◌⊎◌, cond, eqb, ◌&&◌, Bool, true, false, not, List}
+use Rattle.std.proofs.Common.{[], ◌∷◌, length, map, Option, Some, None, IsSome, slice_get, refl, sym, ap, subst, ◌∙◌, inl, inr, arith}
 use Rattle.std.specs.Prelude.{unwrap_or}
 use Rattle.std.specs.List.{concat}
 use Rattle.std.proofs.lemmas.Bool.{and_parts, eq-eqb}
@@ -44,9 +45,11 @@ made_where : {X : Type 0} (t : Bool) (o : Option X) (x : X) → cond t o None �
 made_where true o x e = (refl, e)
 made_where false o x e = absurd (none_some x e)
 
-crossed_plan : (p : Instance) (pins routes : List (List ℕ)) (a ca b cb : ℕ) (new : List (List ℕ)) → crossed p pins routes a ca b cb ≡ Some new → (b ≡ a → ⊥) × (with_ends_exchanged routes a ca b cb ≡ new)
+crossed_plan : (p : Instance) (pins routes : List (List ℕ)) (a ca b cb : ℕ) (new : List (List ℕ))
+    → crossed p pins routes a ca b cb ≡ Some new → (b ≡ a → ⊥) × (with_ends_exchanged routes a ca b cb ≡ new)
 crossed_plan p pins routes a ca b cb new e =
-    let one = made_where (not (eqb a b) && (is_cut pins routes a ca && is_cut pins routes b cb)) (passing p pins (with_ends_exchanged routes a ca b cb)) new e in (
+    let one = made_where (not (eqb a b) && (is_cut pins routes a ca && is_cut pins routes b cb))
+    (passing p pins (with_ends_exchanged routes a ca b cb)) new e in (
       (λ same. elim (eqb_tells a b) [
         | inl t ↦ (let h : false ≡ true = rw t.0 at (and_parts (not (eqb a b)) (is_cut pins routes a ca && is_cut pins routes b cb) one.0).0 in cc)
         | inr t ↦ t.1 (sym same)
@@ -54,7 +57,8 @@ crossed_plan p pins routes a ca b cb new e =
       (passing_some p pins (with_ends_exchanged routes a ca b cb) new one.1).1,
     )
 
-exchanged_plan : (p : Instance) (pins routes : List (List ℕ)) (a b : ℕ) (r s : Request) (new : List (List ℕ)) → request_named p a ≡ Some r → request_named p b ≡ Some s → exchanged p pins routes a b ≡ Some new
+exchanged_plan : (p : Instance) (pins routes : List (List ℕ)) (a b : ℕ) (r s : Request) (new : List (List ℕ))
+    → request_named p a ≡ Some r → request_named p b ≡ Some s → exchanged p pins routes a b ≡ Some new
     → (a ≡ b → ⊥) × (are_exchangeable pins routes r s ≡ true) × (map (map (counterpart r s)) routes ≡ new)
 exchanged_plan p pins routes a b r s new is_r is_s e = elim (eqb_tells a b) [
   | inl t ↦ absurd (none_some new (rw t.0 at e))
@@ -68,26 +72,37 @@ exchanged_plan p pins routes a b r s new is_r is_s e = elim (eqb_tells a b) [
 abbrev pub cut : ℕ → ℕ → Cut
 cut v k = record { vehicle = v; stops = k }
 
-module _ (p : Instance) (pins : List (List ℕ)) (d : Drafted) (is : IsDraftOf p pins d) (vrp : p.kind ≡ Vrp) (before after : ℕ) (cost : Cost) (moved : IsMoved d.cost before after cost) where
-  cost_is : (new : List (List ℕ)) → unplanned_count p (draft_of d) ≡ unplanned_count p new → total_length p new + before ≡ total_length p (draft_of d) + after → cost ≡ cost_of p new
+module _ (p : Instance) (pins : List (List ℕ)) (d : Drafted) (is : IsDraftOf p pins d) (vrp : p.kind ≡ Vrp) (before after : ℕ)
+    (cost : Cost) (moved : IsMoved d.cost before after cost) where
+  cost_is : (new : List (List ℕ)) → unplanned_count p (draft_of d) ≡ unplanned_count p new
+      → total_length p new + before ≡ total_length p (draft_of d) + after → cost ≡ cost_of p new
   cost_is new left driven =
       let was = ap (λ (k : Cost). k.distance) is.cost in
       let e = moved.distance in
       same_cost cost (cost_of p new) (moved.unplanned ∙ (ap (λ (k : Cost). k.unplanned) is.cost ∙ left))
-      (moved.vehicles ∙ (ap (λ (k : Cost). k.vehicles) is.cost ∙ (ap (λ (k : Kind). vehicle_count k (draft_of d)) vrp ∙ sym (ap (λ (k : Kind). vehicle_count k new) vrp))))
+      (moved.vehicles
+      ∙ (ap (λ (k : Cost). k.vehicles) is.cost
+      ∙ (ap (λ (k : Kind). vehicle_count k (draft_of d)) vrp ∙ sym (ap (λ (k : Kind). vehicle_count k new) vrp))))
       (omega arith)
 
   module _ (local : PassesAreLocal) (a ca b cb : ℕ) (a_cut : IsCutOf (draft_of d) (cut a ca)) (b_cut : IsCutOf (draft_of d) (cut b cb))
-      (was : before ≡ way_across p (of_vehicle (draft_of d) a) ca (of_vehicle (draft_of d) a) (ca + 1) + way_across p (of_vehicle (draft_of d) b) cb (of_vehicle (draft_of d) b) (cb + 1))
-      (then : after ≡ way_across p (of_vehicle (draft_of d) a) ca (of_vehicle (draft_of d) b) (cb + 1) + way_across p (of_vehicle (draft_of d) b) cb (of_vehicle (draft_of d) a) (ca + 1)) where
+      (was : before
+      ≡ way_across p (of_vehicle (draft_of d) a) ca (of_vehicle (draft_of d) a) (ca + 1)
+      + way_across p (of_vehicle (draft_of d) b) cb (of_vehicle (draft_of d) b) (cb + 1))
+      (then : after
+      ≡ way_across p (of_vehicle (draft_of d) a) ca (of_vehicle (draft_of d) b) (cb + 1)
+      + way_across p (of_vehicle (draft_of d) b) cb (of_vehicle (draft_of d) a) (ca + 1)) where
     pub crossed_cost : IsCostIfMade p (crossed p pins (draft_of d) a ca b cb) cost
     crossed_cost new made =
         let there = crossed_plan p pins (draft_of d) a ca b cb new made in
         let apart = there.0 in
         let xs = of_vehicle (draft_of d) a in
         let ys = of_vehicle (draft_of d) b in
-        let left = unplanned_same (draft_of d) (with_ends_exchanged (draft_of d) a ca b cb) (λ n. sym (same_times local p pins (draft_of d) is.draft a ca b cb apart a_cut.from a_cut.within b_cut.from b_cut.within n)) p in
-        let total = lengths_of_two p (draft_of d) a b (joined (of_vehicle (draft_of d) a) ca (of_vehicle (draft_of d) b) cb) (joined (of_vehicle (draft_of d) b) cb (of_vehicle (draft_of d) a) ca) a_cut.from a_cut.within b_cut.from b_cut.within apart in
+        let left = unplanned_same (draft_of d) (with_ends_exchanged (draft_of d) a ca b cb)
+        (λ n. sym (same_times local p pins
+        (draft_of d) is.draft a ca b cb apart a_cut.from a_cut.within b_cut.from b_cut.within n)) p in
+        let total = lengths_of_two p (draft_of d) a b (joined (of_vehicle (draft_of d) a) ca (of_vehicle (draft_of d) b) cb)
+        (joined (of_vehicle (draft_of d) b) cb (of_vehicle (draft_of d) a) ca) a_cut.from a_cut.within b_cut.from b_cut.within apart in
         let ends = lengths_crossed p (of_vehicle (draft_of d) a) (of_vehicle (draft_of d) b) ca cb a_cut.stops b_cut.stops in
         let same = ap (total_length p) there.1 in
         cost_is new (left ∙ ap (unplanned_count p) there.1) (omega arith)
@@ -105,7 +120,8 @@ some_in routes (suc u) n some = (omega arith, let h = some_there routes u n some
 abbrev pub seat_at : Stop → ℕ → ℕ → Seat
 seat_at s v k = record { stop = s; vehicle = v; index = k }
 
-pub seat_is : (p : Instance) (routes : List (List ℕ)) (name : ℕ) (s : Stop) (v k : ℕ) → IsInstance p → request_named p name ≡ Some (Single s) → slice_get (of_vehicle routes v) k ≡ Some s.number → IsSeatOf p routes name (seat_at s v k)
+pub seat_is : (p : Instance) (routes : List (List ℕ)) (name : ℕ) (s : Stop) (v k : ℕ) → IsInstance p
+    → request_named p name ≡ Some (Single s) → slice_get (of_vehicle routes v) k ≡ Some s.number → IsSeatOf p routes name (seat_at s v k)
 seat_is p routes name s v k valid named at =
     let there = some_in routes v s.number (stands_once_more s.number k (of_vehicle routes v) at) in
     record {
@@ -126,7 +142,8 @@ is_number s n some = elim (eqb_tells s.number n) [
 ]
 
 -- ---- two vehicles
-both_have : (n : ℕ) (routes : List (List ℕ)) (v w : ℕ) → 1 ≤ v → v ≤ length routes → 1 ≤ w → w ≤ length routes → (w ≡ v → ⊥) → times n (of_vehicle routes v) + times n (of_vehicle routes w) ≤ times n (concat routes)
+both_have : (n : ℕ) (routes : List (List ℕ)) (v w : ℕ) → 1 ≤ v → v ≤ length routes → 1 ≤ w → w ≤ length routes → (w ≡ v → ⊥)
+    → times n (of_vehicle routes v) + times n (of_vehicle routes w) ≤ times n (concat routes)
 both_have n routes v w v_from v_within w_from w_within apart =
     let long = length-set routes (v - 1) [] in
     let e = times_with n routes v [] v_from v_within in
@@ -136,7 +153,8 @@ both_have n routes v w v_from v_within w_from w_within apart =
     omega arith
 
 -- ---- an exchange
-module _ (found : NamedAreFound) (by_name : RequestsStandByName) (local : PassesAreLocal) (p : Instance) (pins : List (List ℕ)) (d : Drafted) (is : IsDraftOf p pins d) (a b : ℕ) (one other : Seat)
+module _ (found : NamedAreFound) (by_name : RequestsStandByName) (local : PassesAreLocal) (p : Instance) (pins : List (List ℕ))
+    (d : Drafted) (is : IsDraftOf p pins d) (a b : ℕ) (one other : Seat)
     (is_one : IsSeatOf p (draft_of d) a one) (is_other : IsSeatOf p (draft_of d) b other) (apart : one.vehicle ≡ other.vehicle → ⊥) where
   abbrev x : ℕ
   x = one.stop.number
@@ -158,7 +176,9 @@ module _ (found : NamedAreFound) (by_name : RequestsStandByName) (local : Passes
 
   both_few : (n : ℕ) → times n first + times n second ≤ 1
   both_few n =
-      let e = both_have n (draft_of d) one.vehicle other.vehicle is_one.seat.from is_one.seat.within is_other.seat.from is_other.seat.within (λ same. apart (sym same)) in
+      let e =
+      both_have n (draft_of d) one.vehicle other.vehicle is_one.seat.from is_one.seat.within is_other.seat.from is_other.seat.within
+      (λ same. apart (sym same)) in
       let g = few n in
       omega arith
 
@@ -171,14 +191,20 @@ module _ (found : NamedAreFound) (by_name : RequestsStandByName) (local : Passes
   first_length : route_length p (map f first) + ways_over p first one.index one.stop ≡ route_length p first + ways_over p first one.index other.stop
   first_length =
       length_exchanged p f first one.index x is_one.at (let e = both_few x in omega arith)
-      (λ m unlike there. swap_other x y m unlike (λ same. (let e = both_few y in let g = y_second in let h : 1 ≤ times y first = subst (λ k. 1 ≤ times k first) same there in omega arith)))
+      (λ m unlike there. swap_other x y m unlike
+      (λ same.
+      (let e = both_few y in let g = y_second in let h : 1 ≤ times y first = subst (λ k. 1 ≤ times k first) same there in omega arith)))
       one.stop other.stop (numbered found p a one.stop is.valid is_one.named)
       (ap (stop_numbered p) (swap_left x y) ∙ numbered found p b other.stop is.valid is_other.named)
 
   second_length : route_length p (map f second) + ways_over p second other.index other.stop ≡ route_length p second + ways_over p second other.index one.stop
   second_length =
       length_exchanged p f second other.index y is_other.at (let e = both_few y in omega arith)
-      (λ m unlike there. swap_other x y m (λ same. (let e = both_few x in let g = x_first in let h : 1 ≤ times x second = subst (λ k. 1 ≤ times k second) same there in omega arith)) unlike)
+      (λ m unlike there. swap_other x y m
+      (λ same. (let e = both_few x in
+      let g = x_first in
+      let h : 1 ≤ times x second = subst (λ k. 1 ≤ times k second) same there in
+      omega arith)) unlike)
       other.stop one.stop (numbered found p b other.stop is.valid is_other.named)
       (ap (stop_numbered p) (swap_right x y) ∙ numbered found p a one.stop is.valid is_one.named)
 
@@ -193,15 +219,18 @@ module _ (found : NamedAreFound) (by_name : RequestsStandByName) (local : Passes
         omega arith)
   ]
 
-  both_found : AreVehiclesOf (draft_of d) (λ n. IsSome (stop_in n (Single one.stop)) ⊎ IsSome (stop_in n (Single other.stop))) (one.vehicle ∷ other.vehicle ∷ [])
+  both_found : AreVehiclesOf (draft_of d) (λ n. IsSome (stop_in n (Single one.stop)) ⊎ IsSome (stop_in n (Single other.stop)))
+      (one.vehicle ∷ other.vehicle ∷ [])
   both_found u n asked had = elim asked [
     | inl some ↦ (
         let same = is_number one.stop n some in
-        let e : u ≡ one.vehicle = one_vehicle x one.vehicle u is_one.seat.from is_one.seat.within x_first (subst (λ k. 1 ≤ times k (of_vehicle (draft_of d) u)) same (had_often (of_vehicle (draft_of d) u) n had)) in
+        let e : u ≡ one.vehicle = one_vehicle x one.vehicle u is_one.seat.from is_one.seat.within x_first
+        (subst (λ k. 1 ≤ times k (of_vehicle (draft_of d) u)) same (had_often (of_vehicle (draft_of d) u) n had)) in
         rw (eq-eqb u one.vehicle e) refl)
     | inr some ↦ (
         let same = is_number other.stop n some in
-        let e : u ≡ other.vehicle = one_vehicle y other.vehicle u is_other.seat.from is_other.seat.within y_second (subst (λ k. 1 ≤ times k (of_vehicle (draft_of d) u)) same (had_often (of_vehicle (draft_of d) u) n had)) in
+        let e : u ≡ other.vehicle = one_vehicle y other.vehicle u is_other.seat.from is_other.seat.within y_second
+        (subst (λ k. 1 ≤ times k (of_vehicle (draft_of d) u)) same (had_often (of_vehicle (draft_of d) u) n had)) in
         elim (eqb_tells u one.vehicle) [
           | inl t ↦ rw t.0 refl
           | inr t ↦ rw (t.0, eq-eqb u other.vehicle e) refl
@@ -211,17 +240,23 @@ module _ (found : NamedAreFound) (by_name : RequestsStandByName) (local : Passes
   two_routes : with_route (with_route (draft_of d) one.vehicle (map f first)) other.vehicle (map f second) ≡ map (map f) (draft_of d)
   two_routes =
       (exchanged_changes (Single one.stop) (Single other.stop) (draft_of d) (one.vehicle ∷ other.vehicle ∷ [])
-      (All-from_recursion (λ (u : ℕ). (1 ≤ u) × (u ≤ length (draft_of d))) (one.vehicle ∷ other.vehicle ∷ []) ((is_one.seat.from, is_one.seat.within), ((is_other.seat.from, is_other.seat.within), tt)))
+      (All-from_recursion (λ (u : ℕ). (1 ≤ u) × (u ≤ length (draft_of d))) (one.vehicle ∷ other.vehicle ∷ [])
+      ((is_one.seat.from, is_one.seat.within), ((is_other.seat.from, is_other.seat.within), tt)))
       both_found).plan
 
   module _ (vrp : p.kind ≡ Vrp) (before after : ℕ) (cost : Cost) (moved : IsMoved d.cost before after cost)
-      (was : before ≡ ways_over p (of_vehicle (draft_of d) one.vehicle) one.index one.stop + ways_over p (of_vehicle (draft_of d) other.vehicle) other.index other.stop)
-      (then : after ≡ ways_over p (of_vehicle (draft_of d) one.vehicle) one.index other.stop + ways_over p (of_vehicle (draft_of d) other.vehicle) other.index one.stop) where
+      (was : before
+      ≡ ways_over p (of_vehicle (draft_of d) one.vehicle) one.index one.stop
+      + ways_over p (of_vehicle (draft_of d) other.vehicle) other.index other.stop)
+      (then : after
+      ≡ ways_over p (of_vehicle (draft_of d) one.vehicle) one.index other.stop
+      + ways_over p (of_vehicle (draft_of d) other.vehicle) other.index one.stop) where
     pub exchanged_cost : IsCostIfMade p (exchanged p pins (draft_of d) a b) cost
     exchanged_cost new made =
         let there = exchanged_plan p pins (draft_of d) a b (Single one.stop) (Single other.stop) new is_one.named is_other.named made in
         let left = as_many found by_name p is.valid a b there.0 (Single one.stop) (Single other.stop) is_one.named is_other.named pins (draft_of d) there.1 in
-        let total = lengths_of_two p (draft_of d) one.vehicle other.vehicle (map f first) (map f second) is_one.seat.from is_one.seat.within is_other.seat.from is_other.seat.within (λ same. apart (sym same)) in
+        let total = lengths_of_two p (draft_of d) one.vehicle other.vehicle (map f first)
+        (map f second) is_one.seat.from is_one.seat.within is_other.seat.from is_other.seat.within (λ same. apart (sym same)) in
         let same = ap (total_length p) (two_routes ∙ there.2) in
         let e = first_length in
         let g = second_length in

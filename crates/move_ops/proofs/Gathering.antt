@@ -1,5 +1,6 @@
 -- The changes of the vehicles that have some stops.
-use Rattle.std.proofs.Common.{rules, ◌≡◌, ℕ, zero, suc, ◌+◌, ◌-◌, ◌<◌, ◌≤◌, ◌⊎◌, not, Bool, true, false, eqb, List, [], ◌∷◌, ◌++◌, length, map, filter, set, Option, Some, None, IsSome, slice_get, refl, sym, ap, subst, ◌∙◌, inl, inr, arith, nat_eq}
+use Rattle.std.proofs.Common.{rules, ◌≡◌, ℕ, zero, suc, ◌+◌, ◌-◌, ◌<◌, ◌≤◌, ◌⊎◌, not, Bool, true, false, eqb, List, [], ◌∷◌}
+use Rattle.std.proofs.Common.{◌++◌, length, map, filter, set, Option, Some, None, IsSome, slice_get, refl, sym, ap, subst, ◌∙◌, inl, inr, arith, nat_eq}
 use Rattle.std.specs.List.{AllByRecursion, IsDistinct, concat}
 use Rattle.std.specs.Map.{lookup}
 use Rattle.std.specs.Option.{option_map, option_map_or}
@@ -29,7 +30,8 @@ use Rattle.move_ops.proofs.Drafting.{has_in_vehicle}
 use Rattle.move_ops.proofs.Removing.{found_has}
 
 -- ---- a stop that stands once is in one route alone
-one_vehicle : (n : ℕ) (routes : List (List ℕ)) (u v : ℕ) → times n (concat routes) ≤ 1 → has (of_vehicle routes u) n ≡ true → has (of_vehicle routes v) n ≡ true → u ≡ v
+one_vehicle : (n : ℕ) (routes : List (List ℕ)) (u v : ℕ) → times n (concat routes) ≤ 1 → has (of_vehicle routes u) n ≡ true
+    → has (of_vehicle routes v) n ≡ true → u ≡ v
 one_vehicle n routes zero v few one two = absurd (false≢true one)
 one_vehicle n routes (suc i) zero few one two = absurd (false≢true two)
 one_vehicle n [] (suc i) (suc j) few one two = absurd (false≢true one)
@@ -65,7 +67,9 @@ module _ (routes : List (List ℕ)) (stop : ℕ) (before : List ℕ) where
 
   module _ (once : IsDistinct nat_eq (concat routes)) (vehicle : ℕ) (there : has (of_vehicle routes vehicle) stop ≡ true) where
     is_it : (v n : ℕ) → n ≡ stop → has (of_vehicle routes v) n ≡ true → v ≡ vehicle
-    is_it v n is had = one_vehicle stop routes v vehicle (at_most_once (concat routes) once stop) (subst (λ (m : ℕ). has (of_vehicle routes v) m ≡ true) is had) there
+    is_it v n is had =
+        one_vehicle stop routes v vehicle (at_most_once (concat routes) once stop)
+        (subst (λ (m : ℕ). has (of_vehicle routes v) m ≡ true) is had) there
 
     pub noted_old : has before vehicle ≡ true → Notes routes (λ n. n ≡ stop) before before
     noted_old among = record {
@@ -90,7 +94,8 @@ module _ (routes : List (List ℕ)) (stop : ℕ) (before : List ℕ) where
 
 -- ---- those of a request's stops
 module _ (routes : List (List ℕ)) where
-  pub noted_pair : (a b : Stop) (before mid after : List ℕ) → Notes routes (λ n. n ≡ a.number) before mid → Notes routes (λ n. n ≡ b.number) mid after → Notes routes (λ n. IsSome (stop_in n (Pair a b))) before after
+  pub noted_pair : (a b : Stop) (before mid after : List ℕ) → Notes routes (λ n. n ≡ a.number) before mid
+      → Notes routes (λ n. n ≡ b.number) mid after → Notes routes (λ n. IsSome (stop_in n (Pair a b))) before after
   noted_pair a b before mid after one two = record {
     within = λ all. two.within (one.within all);
     stays = λ v h. two.stays v (one.stays v h);
@@ -108,26 +113,36 @@ module _ (routes : List (List ℕ)) where
     asked_of : (n : ℕ) → is_of_named p (name ∷ []) n ≡ true → (q : Request) × (lookup (nat_eq name) p.requests ≡ Some q) × (IsSome (stop_in n q))
     asked_of n = by (request_with p n) refl
       where
-        by : (o : Option Request) → request_with p n ≡ o → option_map_or (has (name ∷ [])) (option_map request_name o) false ≡ true → (q : Request) × (lookup (nat_eq name) p.requests ≡ Some q) × (IsSome (stop_in n q))
+        by : (o : Option Request) → request_with p n ≡ o → option_map_or (has (name ∷ [])) (option_map request_name o) false ≡ true
+            → (q : Request) × (lookup (nat_eq name) p.requests ≡ Some q) × (IsSome (stop_in n q))
         by None e named = absurd (false≢true named)
         by (Some q) e named = elim (or_cases (eqb (request_name q) name) false named) [
-          | inl t ↦ (q, subst (λ (k : ℕ). lookup (nat_eq k) p.requests ≡ Some q) (eqb-true (request_name q) name t) (by_name p n q valid e), in_numbers n q (found_has n q p.requests e))
+          | inl t ↦ (
+            q,
+            subst (λ (k : ℕ). lookup (nat_eq k) p.requests ≡ Some q) (eqb-true (request_name q) name t) (by_name p n q valid e),
+            in_numbers n q (found_has n q p.requests e),
+          )
           | inr f ↦ absurd (false≢true f)
         ]
 
-    pub noted_named : (r : Request) → lookup (nat_eq name) p.requests ≡ Some r → (before after : List ℕ) → Notes routes (λ n. IsSome (stop_in n r)) before after → Notes routes (λ n. is_of_named p (name ∷ []) n ≡ true) before after
+    pub noted_named : (r : Request) → lookup (nat_eq name) p.requests ≡ Some r → (before after : List ℕ)
+        → Notes routes (λ n. IsSome (stop_in n r)) before after → Notes routes (λ n. is_of_named p (name ∷ []) n ≡ true) before after
     noted_named r at before after is = record {
       within = is.within;
       stays = is.stays;
-      found = λ v n named had. (let q = asked_of n named in is.found v n (subst (λ (x : Request). IsSome (stop_in n x)) (some_same q.0 r (sym q.1 ∙ at)) q.2) had);
+      found = λ v n named had.
+          (let q = asked_of n named in
+          is.found v n (subst (λ (x : Request). IsSome (stop_in n x)) (some_same q.0 r (sym q.1 ∙ at)) q.2) had);
     }
 
   -- ---- those of the names so far
   module _ (p : Instance) where
-    first_or_later : (name : ℕ) (rest : List ℕ) (n : ℕ) → is_of_named p (name ∷ rest) n ≡ true → (is_of_named p (name ∷ []) n ≡ true) ⊎ (is_of_named p rest n ≡ true)
+    first_or_later : (name : ℕ) (rest : List ℕ) (n : ℕ) → is_of_named p (name ∷ rest) n ≡ true
+        → (is_of_named p (name ∷ []) n ≡ true) ⊎ (is_of_named p rest n ≡ true)
     first_or_later name rest n = by (name_at p n)
       where
-        by : (o : Option ℕ) → option_map_or (has (name ∷ rest)) o false ≡ true → (option_map_or (has (name ∷ [])) o false ≡ true) ⊎ (option_map_or (has rest) o false ≡ true)
+        by : (o : Option ℕ) → option_map_or (has (name ∷ rest)) o false ≡ true
+            → (option_map_or (has (name ∷ [])) o false ≡ true) ⊎ (option_map_or (has rest) o false ≡ true)
         by None named = absurd (false≢true named)
         by (Some k) named = elim (or_cases (eqb k name) (has rest k) named) [
           | inl t ↦ inl (or_left (eqb k name) false t)
@@ -137,7 +152,8 @@ module _ (routes : List (List ℕ)) where
     abbrev pub FoundSoFar : List ℕ → List ℕ → List ℕ → Type 0
     FoundSoFar names left vs = (v n : ℕ) → is_of_named p names n ≡ true → has (of_vehicle routes v) n ≡ true → (has vs v ≡ true) ⊎ (is_of_named p left n ≡ true)
 
-    pub found_more : (names left rest : List ℕ) (name : ℕ) (before after : List ℕ) → left ≡ name ∷ rest → FoundSoFar names left before → Notes routes (λ n. is_of_named p (name ∷ []) n ≡ true) before after → FoundSoFar names rest after
+    pub found_more : (names left rest : List ℕ) (name : ℕ) (before after : List ℕ) → left ≡ name ∷ rest → FoundSoFar names left before
+        → Notes routes (λ n. is_of_named p (name ∷ []) n ≡ true) before after → FoundSoFar names rest after
     found_more names left rest name before after are so_far is v n named had = elim (so_far v n named had) [
       | inl there ↦ inl (is.stays v there)
       | inr later ↦ elim (first_or_later name rest n (subst (λ (l : List ℕ). is_of_named p l n ≡ true) are later)) [
@@ -171,7 +187,8 @@ module _ (f : List ℕ → List ℕ) (old : List (List ℕ)) where
   change_at v = record { vehicle = v; route = f (of_vehicle old v) }
 
   reached : (vs : List ℕ) (cur : List (List ℕ)) (k : ℕ) → k < length cur → AllByRecursion (λ v. (1 ≤ v) × (v ≤ length old)) vs
-      → (has vs (k + 1) ≡ true) ⊎ (slice_get cur k ≡ Some (f (of_vehicle old (k + 1)))) → slice_get (with_routes cur (map change_at vs)) k ≡ Some (f (of_vehicle old (k + 1)))
+      → (has vs (k + 1) ≡ true) ⊎ (slice_get cur k ≡ Some (f (of_vehicle old (k + 1))))
+      → slice_get (with_routes cur (map change_at vs)) k ≡ Some (f (of_vehicle old (k + 1)))
   reached [] cur k below all told = elim told [
     | inl had ↦ absurd (false≢true had)
     | inr at ↦ at
@@ -181,18 +198,22 @@ module _ (f : List ℕ → List ℕ) (old : List (List ℕ)) where
       reached vs (with_route cur v (f (of_vehicle old v))) k (omega arith) all.1 (elim (eqb_tells (k + 1) v) [
         | inl t ↦ (
             let e : v - 1 ≡ k = omega arith in
-            inr (subst (λ (j : ℕ). slice_get (set cur j (f (of_vehicle old v))) k ≡ Some (f (of_vehicle old v))) (sym e) (get_set cur k (f (of_vehicle old v)) below) ∙ ap (λ (u : ℕ). Some (f (of_vehicle old u))) (sym t.1)))
+            inr (subst (λ (j : ℕ). slice_get (set cur j (f (of_vehicle old v))) k ≡ Some (f (of_vehicle old v))) (sym e)
+            (get_set cur k (f (of_vehicle old v)) below)
+            ∙ ap (λ (u : ℕ). Some (f (of_vehicle old u))) (sym t.1)))
         | inr t ↦ elim told [
           | inl had ↦ inl (rw t.0 at had)
           | inr at ↦ (let apart = t.1 in inr (get_set_other cur (v - 1) k (f (of_vehicle old v)) (λ same. apart (omega arith)) ∙ at))
         ]
       ])
 
-  routes_there : (vs : List ℕ) → AllByRecursion (λ v. (1 ≤ v) × (v ≤ length old)) vs → AllByRecursion (λ c. c.route ≡ of_vehicle (map f old) c.vehicle) (map change_at vs)
+  routes_there : (vs : List ℕ) → AllByRecursion (λ v. (1 ≤ v) × (v ≤ length old)) vs
+      → AllByRecursion (λ c. c.route ≡ of_vehicle (map f old) c.vehicle) (map change_at vs)
   routes_there [] all = tt
   routes_there (v ∷ vs) all = (sym (of_map f old v all.0.0 all.0.1), routes_there vs all.1)
 
-  all_in : (vs : List ℕ) → AllByRecursion (λ v. (1 ≤ v) × (v ≤ length old)) vs → AllByRecursion (λ c. (1 ≤ c.vehicle) × (c.vehicle ≤ length old)) (map change_at vs)
+  all_in : (vs : List ℕ) → AllByRecursion (λ v. (1 ≤ v) × (v ≤ length old)) vs
+      → AllByRecursion (λ c. (1 ≤ c.vehicle) × (c.vehicle ≤ length old)) (map change_at vs)
   all_in [] all = tt
   all_in (v ∷ vs) all = (all.0, all_in vs all.1)
 
@@ -200,12 +221,17 @@ module _ (f : List ℕ → List ℕ) (old : List (List ℕ)) where
   get_mapped k below =
       let m = length-map old f in
       let e : k + 1 - 1 ≡ k = omega arith in
-      subst (λ (j : ℕ). slice_get (map f old) j ≡ Some (of_vehicle (map f old) (k + 1))) e (at_vehicle (map f old) (k + 1) (omega arith) (omega arith)) ∙ ap (λ (l : List ℕ). Some l) (of_map f old (k + 1) (omega arith) (omega arith))
+      subst (λ (j : ℕ). slice_get (map f old) j ≡ Some (of_vehicle (map f old) (k + 1))) e
+      (at_vehicle (map f old) (k + 1) (omega arith) (omega arith))
+      ∙ ap (λ (l : List ℕ). Some l) (of_map f old (k + 1) (omega arith) (omega arith))
 
   get_old : (k : ℕ) → k < length old → slice_get old k ≡ Some (of_vehicle old (k + 1))
-  get_old k below = let e : k + 1 - 1 ≡ k = omega arith in subst (λ (j : ℕ). slice_get old j ≡ Some (of_vehicle old (k + 1))) e (at_vehicle old (k + 1) (omega arith) (omega arith))
+  get_old k below =
+      let e : k + 1 - 1 ≡ k = omega arith in
+      subst (λ (j : ℕ). slice_get old j ≡ Some (of_vehicle old (k + 1))) e (at_vehicle old (k + 1) (omega arith) (omega arith))
 
-  gathered : (vs : List ℕ) → AreIn old vs → ((v : ℕ) → has vs v ≡ false → f (of_vehicle old v) ≡ of_vehicle old v) → AreChanges old (map f old) (map change_at vs)
+  gathered : (vs : List ℕ) → AreIn old vs → ((v : ℕ) → has vs v ≡ false → f (of_vehicle old v) ≡ of_vehicle old v)
+      → AreChanges old (map f old) (map change_at vs)
   gathered vs within others =
       let all = recursion_from_All (λ (v : ℕ). (1 ≤ v) × (v ≤ length old)) vs within in
       record {
@@ -222,7 +248,8 @@ module _ (f : List ℕ → List ℕ) (old : List (List ℕ)) where
         | inr g ↦ inr (get_old k below ∙ ap (λ (l : List ℕ). Some l) (sym (others (k + 1) g)))
       ]
 
-pub named_changes : (p : Instance) (names : List ℕ) (old : List (List ℕ)) (vs : List ℕ) → AreIn old vs → AreVehiclesOf old (λ n. is_of_named p names n ≡ true) vs
+pub named_changes : (p : Instance) (names : List ℕ) (old : List (List ℕ)) (vs : List ℕ) → AreIn old vs
+    → AreVehiclesOf old (λ n. is_of_named p names n ≡ true) vs
     → AreChanges old (without_named p names old) (map (change_at (filter (λ n. not (is_of_named p names n))) old) vs)
 named_changes p names old vs within found =
     gathered (filter (λ n. not (is_of_named p names n))) old vs within
@@ -275,7 +302,8 @@ mapped_whole f (x ∷ xs) all =
     let same : f x ≡ x = all x (or_left (eqb x x) (has xs x) (eq-eqb x x refl)) in
     ap (λ (y : ℕ). y ∷ map f xs) same ∙ ap (λ (l : List ℕ). x ∷ l) (mapped_whole f xs (λ n h. all n (or_right (eqb n x) (has xs n) h)))
 
-pub exchanged_changes : (r s : Request) (old : List (List ℕ)) (vs : List ℕ) → AreIn old vs → AreVehiclesOf old (λ n. IsSome (stop_in n r) ⊎ IsSome (stop_in n s)) vs
+pub exchanged_changes : (r s : Request) (old : List (List ℕ)) (vs : List ℕ) → AreIn old vs
+    → AreVehiclesOf old (λ n. IsSome (stop_in n r) ⊎ IsSome (stop_in n s)) vs
     → AreChanges old (map (map (counterpart r s)) old) (map (change_at (map (counterpart r s)) old) vs)
 exchanged_changes r s old vs within found =
     gathered (map (counterpart r s)) old vs within

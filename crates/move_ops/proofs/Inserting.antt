@@ -1,5 +1,6 @@
 -- A request put into a route of a plan that passes.
-use Rattle.std.proofs.Common.{◌≡◌, ℕ, zero, suc, ◌+◌, ◌-◌, ◌<◌, ◌≤◌, ◌||◌, Bool, true, false, cond, eqb, ltb, leb, ◌&&◌, List, [], ◌∷◌, ◌++◌, length, take, drop, Some, None, IsSome, slice_get, refl, sym, subst, ◌∙◌, inl, inr, arith, rules, nat_eq}
+use Rattle.std.proofs.Common.{◌≡◌, ℕ, zero, suc, ◌+◌, ◌-◌, ◌<◌, ◌≤◌, ◌||◌, Bool, true, false, cond, eqb, ltb, leb, ◌&&◌, List}
+use Rattle.std.proofs.Common.{[], ◌∷◌, ◌++◌, length, take, drop, Some, None, IsSome, slice_get, refl, sym, subst, ◌∙◌, inl, inr, arith, rules, nat_eq}
 use Rattle.std.specs.List.{AllByRecursion, concat}
 use Rattle.std.specs.Map.{lookup}
 use Rattle.std.proofs.lemmas.Bool.{cases_lt, cases_Bool, and_parts, eq-eqb, eqb-true, ne_eqb, ltb-true, leb-true, or_parts}
@@ -47,10 +48,12 @@ front_put route i m (suc j) n below at = get_front (i - 1) route (m ∷ drop (i 
 
 pub front_inserted : (r : Request) (route : List ℕ) (i j k n : ℕ) → k < i → i ≤ j → item_at route k ≡ Some n → item_at (inserted r i j route) k ≡ Some n
 front_inserted (Single s) route i j k n below order at = front_put route i s.number k n below at
-front_inserted (Pair a b) route i j k n below order at = front_put (put_at route i a.number) j b.number k n (omega arith) (front_put route i a.number k n below at)
+front_inserted (Pair a b) route i j k n below order at =
+    front_put (put_at route i a.number) j b.number k n (omega arith) (front_put route i a.number k n below at)
 
 -- the request's stops are live, and stand in no route
-pub found_live : NamedAreFound → (p : Instance) (name n : ℕ) (r : Request) → IsInstance p → lookup (nat_eq name) p.requests ≡ Some r → IsSome (stop_in n r) → IsLive p n
+pub found_live : NamedAreFound → (p : Instance) (name n : ℕ) (r : Request) → IsInstance p → lookup (nat_eq name) p.requests ≡ Some r
+    → IsSome (stop_in n r) → IsLive p n
 found_live found p name n r valid at some = subst (λ o. IsSome o) (sym (found p n name r valid at some).stop) some
 
 pub valid_request : (es : List (ℕ × Request)) (name : ℕ) (r : Request) → AllByRecursion (λ e. IsRequest e.1) es → lookup (nat_eq name) es ≡ Some r → IsRequest r
@@ -103,8 +106,10 @@ nowhere routes (Pair a b) free n some =
       ]
     ]
 
-module _ (found : NamedAreFound) (local : PassesAreLocal) (p : Instance) (pins routes : List (List ℕ)) (valid : IsInstance p) (good : passes p pins routes ≡ true)
-    (name : ℕ) (r : Request) (named : lookup (nat_eq name) p.requests ≡ Some r) (free : is_planned routes r ≡ false) (v i j : ℕ) (from : 1 ≤ v) (within : v ≤ length routes) where
+module _ (found : NamedAreFound) (local : PassesAreLocal) (p : Instance) (pins routes : List (List ℕ)) (valid : IsInstance p)
+    (good : passes p pins routes ≡ true)
+    (name : ℕ) (r : Request) (named : lookup (nat_eq name) p.requests ≡ Some r) (free : is_planned routes r ≡ false) (v i j : ℕ)
+    (from : 1 ≤ v) (within : v ≤ length routes) where
   plan : IsPlan p routes
   plan = (parts local p pins routes good).plan
 
@@ -133,38 +138,54 @@ module _ (found : NamedAreFound) (local : PassesAreLocal) (p : Instance) (pins r
   inserted_plan = once_from p (concat (with_route routes v (inserted r i j (of_vehicle routes v)))) few_new live_new
 
   within_new : (n : ℕ) → times n (inserted r i j (of_vehicle routes v)) ≤ times n (concat (with_route routes v (inserted r i j (of_vehicle routes v))))
-  within_new n = let e = times_with n routes v (inserted r i j (of_vehicle routes v)) from within in let f = times_in_vehicle n routes v from within in omega arith
+  within_new n =
+      let e = times_with n routes v (inserted r i j (of_vehicle routes v)) from within in
+      let f = times_in_vehicle n routes v from within in
+      omega arith
 
   -- and so are those of the new route
   pub inserted_once : AreLiveOnce p (inserted r i j (of_vehicle routes v))
-  inserted_once = once_from p (inserted r i j (of_vehicle routes v)) (λ n. let e = within_new n in let f = few_new n in omega arith) (λ n some. let e = within_new n in live_new n (omega arith))
+  inserted_once =
+      once_from p (inserted r i j (of_vehicle routes v)) (λ n. let e = within_new n in let f = few_new n in omega arith)
+      (λ n some. let e = within_new n in live_new n (omega arith))
 
   module _ (behind : length (of_vehicle pins v) < i) (order : i ≤ j) where
     -- the plan passes where the new route is feasible alone, and only there
-    pub inserted_passes : IsFeasibleAlone p (inserted r i j (of_vehicle routes v)) → passes p pins (with_route routes v (inserted r i j (of_vehicle routes v))) ≡ true
+    pub inserted_passes : IsFeasibleAlone p (inserted r i j (of_vehicle routes v))
+        → passes p pins (with_route routes v (inserted r i j (of_vehicle routes v))) ≡ true
     inserted_passes feasible =
-        passes_too local p pins routes good (with_route routes v (inserted r i j (of_vehicle routes v))) inserted_plan (length-set routes (v - 1) (inserted r i j (of_vehicle routes v)))
+        passes_too local p pins routes good (with_route routes v (inserted r i j (of_vehicle routes v))) inserted_plan
+        (length-set routes (v - 1) (inserted r i j (of_vehicle routes v)))
         (All-set (IsFeasibleAlone p) routes (v - 1) (inserted r i j (of_vehicle routes v)) feasible ((parts local p pins routes good).feasible))
         (pins_with routes pins v (inserted r i j (of_vehicle routes v)) from within ((parts local p pins routes good).pinned)
         (λ k n pinned at. front_inserted r (of_vehicle routes v) i j k n (let h = within_list (of_vehicle pins v) k n pinned in omega arith) order at))
 
-  pub inserted_feasible : passes p pins (with_route routes v (inserted r i j (of_vehicle routes v))) ≡ true → IsFeasibleAlone p (inserted r i j (of_vehicle routes v))
+  pub inserted_feasible : passes p pins (with_route routes v (inserted r i j (of_vehicle routes v))) ≡ true
+      → IsFeasibleAlone p (inserted r i j (of_vehicle routes v))
   inserted_feasible passed =
       subst (IsFeasibleAlone p) (same_vehicle routes v (inserted r i j (of_vehicle routes v)) from within)
-      (all_at (IsFeasibleAlone p) (with_route routes v (inserted r i j (of_vehicle routes v))) v from (let e = length-set routes (v - 1) (inserted r i j (of_vehicle routes v)) in omega arith)
+      (all_at (IsFeasibleAlone p) (with_route routes v (inserted r i j (of_vehicle routes v))) v from
+      (let e = length-set routes (v - 1) (inserted r i j (of_vehicle routes v)) in omega arith)
       (((local p pins (with_route routes v (inserted r i j (of_vehicle routes v)))).0 passed).feasible))
 
-module _ (found : NamedAreFound) (local : PassesAreLocal) (says : TestsSayFeasible) (p : Instance) (pins routes : List (List ℕ)) (valid : IsInstance p) (good : passes p pins routes ≡ true)
-    (name : ℕ) (r : Request) (named : lookup (nat_eq name) p.requests ≡ Some r) (free : is_planned routes r ≡ false) (x : Insertion) (place : is_place_of pins routes r x ≡ true) where
+module _ (found : NamedAreFound) (local : PassesAreLocal) (says : TestsSayFeasible) (p : Instance) (pins routes : List (List ℕ))
+    (valid : IsInstance p) (good : passes p pins routes ≡ true)
+    (name : ℕ) (r : Request) (named : lookup (nat_eq name) p.requests ≡ Some r) (free : is_planned routes r ≡ false) (x : Insertion)
+    (place : is_place_of pins routes r x ≡ true) where
   -- what the test of the place says
   low : 1 ≤ x.0
-  low = leb-true 1 x.0 (and_parts (leb 1 x.0) (leb x.0 (length routes) && are_places r (length (of_vehicle pins x.0)) (length (of_vehicle routes x.0)) x.1 x.2) place).0
+  low =
+      leb-true 1 x.0
+      (and_parts (leb 1 x.0)
+      (leb x.0 (length routes) && are_places r (length (of_vehicle pins x.0)) (length (of_vehicle routes x.0)) x.1 x.2) place).0
 
   rest : (leb x.0 (length routes) && are_places r (length (of_vehicle pins x.0)) (length (of_vehicle routes x.0)) x.1 x.2) ≡ true
   rest = (and_parts (leb 1 x.0) (leb x.0 (length routes) && are_places r (length (of_vehicle pins x.0)) (length (of_vehicle routes x.0)) x.1 x.2) place).1
 
   high : x.0 ≤ length routes
-  high = leb-true x.0 (length routes) (and_parts (leb x.0 (length routes)) (are_places r (length (of_vehicle pins x.0)) (length (of_vehicle routes x.0)) x.1 x.2) rest).0
+  high =
+      leb-true x.0 (length routes)
+      (and_parts (leb x.0 (length routes)) (are_places r (length (of_vehicle pins x.0)) (length (of_vehicle routes x.0)) x.1 x.2) rest).0
 
   ordered : (q : Request) (kept stops i j : ℕ) → are_places q kept stops i j ≡ true → (kept < i) × (i ≤ j)
   ordered (Single s) kept stops i j t =
@@ -179,7 +200,9 @@ module _ (found : NamedAreFound) (local : PassesAreLocal) (says : TestsSayFeasib
       (ltb-true kept i a.0, omega arith)
 
   order : (length (of_vehicle pins x.0) < x.1) × (x.1 ≤ x.2)
-  order = ordered r (length (of_vehicle pins x.0)) (length (of_vehicle routes x.0)) x.1 x.2 (and_parts (leb x.0 (length routes)) (are_places r (length (of_vehicle pins x.0)) (length (of_vehicle routes x.0)) x.1 x.2) rest).1
+  order =
+      ordered r (length (of_vehicle pins x.0)) (length (of_vehicle routes x.0)) x.1 x.2
+      (and_parts (leb x.0 (length routes)) (are_places r (length (of_vehicle pins x.0)) (length (of_vehicle routes x.0)) x.1 x.2) rest).1
 
   -- the new route may be asked
   pub route_once : AreLiveOnce p (inserted r x.1 x.2 (of_vehicle routes x.0))
@@ -187,13 +210,17 @@ module _ (found : NamedAreFound) (local : PassesAreLocal) (says : TestsSayFeasib
 
   -- the plan passes exactly where the new route is feasible alone
   pub passes_where_feasible : (b : Bool) → b ≡ feasible_alone p (inserted r x.1 x.2 (of_vehicle routes x.0)) → passes p pins (with_request_at routes r x) ≡ b
-  passes_where_feasible true e = inserted_passes found local p pins routes valid good name r named free x.0 x.1 x.2 low high order.0 order.1 ((says p (inserted r x.1 x.2 (of_vehicle routes x.0))).0 (sym e))
+  passes_where_feasible true e =
+      inserted_passes found local p pins routes valid good name r named free x.0 x.1 x.2 low high order.0 order.1
+      ((says p (inserted r x.1 x.2 (of_vehicle routes x.0))).0 (sym e))
   passes_where_feasible false e = elim (cases_Bool (passes p pins (with_request_at routes r x))) [
     | inr fails ↦ fails
     | inl passed ↦ (
-        let h = (says p (inserted r x.1 x.2 (of_vehicle routes x.0))).1 (inserted_feasible found local p pins routes valid good name r named free x.0 x.1 x.2 low high passed) in
+        let h = (says p (inserted r x.1 x.2 (of_vehicle routes x.0))).1
+        (inserted_feasible found local p pins routes valid good name r named free x.0 x.1 x.2 low high passed) in
         absurd (let k : false ≡ true = e ∙ h in cc))
   ]
 
-  pub put_in_is : (b : Bool) → b ≡ feasible_alone p (inserted r x.1 x.2 (of_vehicle routes x.0)) → put_in p pins routes name x ≡ cond b (Some (with_request_at routes r x)) None
+  pub put_in_is : (b : Bool) → b ≡ feasible_alone p (inserted r x.1 x.2 (of_vehicle routes x.0))
+      → put_in p pins routes name x ≡ cond b (Some (with_request_at routes r x)) None
   put_in_is b e = rw (named, free, place, passes_where_feasible b e) refl

@@ -28,7 +28,8 @@ if_some p pins routes given false at = absurd (none_some given at)
 
 module _ (local : PassesAreLocal) (says : TestsSayFeasible) (p : Instance) (pins : List (List ℕ)) (d : Drafted) (is : IsDraftOf p pins d) (a ca b cb : ℕ)
     (can : true ≡ (not (eqb a b) && (is_cut pins (draft_of d) a ca && is_cut pins (draft_of d) b cb)))
-    (first second : List ℕ) (is_first : first ≡ joined (of_vehicle (draft_of d) a) ca (of_vehicle (draft_of d) b) cb) (is_second : second ≡ joined (of_vehicle (draft_of d) b) cb (of_vehicle (draft_of d) a) ca) where
+    (first second : List ℕ) (is_first : first ≡ joined (of_vehicle (draft_of d) a) ca (of_vehicle (draft_of d) b) cb)
+    (is_second : second ≡ joined (of_vehicle (draft_of d) b) cb (of_vehicle (draft_of d) a) ca) where
   pub once_first : AreLiveOnce p first
   once_first = subst (AreLiveOnce p) (sym is_first) (first_route_once local says p pins (draft_of d) (is.draft) a ca b cb can)
 
@@ -47,13 +48,20 @@ module _ (local : PassesAreLocal) (says : TestsSayFeasible) (p : Instance) (pins
   abbrev both : List Change
   both = record { vehicle = a; route = first } ∷ record { vehicle = b; route = second } ∷ []
 
-  pub crossed_change : (cs : List Change) → cs ≡ record { vehicle = a; route = first } ∷ record { vehicle = b; route = second } ∷ [] → true ≡ feasible_alone p first → true ≡ feasible_alone p second → IsChange p pins (draft_of d) cs d.cost.unplanned
-  crossed_change cs are f s = subst (λ (l : List Change). IsChange p pins (draft_of d) l d.cost.unplanned) (sym are) (let x = of_a local says p pins (draft_of d) (is.draft) a ca b cb can in let y = of_b local says p pins (draft_of d) (is.draft) a ca b cb can in record {
-    within = All-from_recursion (λ (c : Change). (1 ≤ c.vehicle) × (c.vehicle ≤ length (draft_of d))) both ((x.0, x.1), ((y.0, y.1), tt));
-    once = All-from_recursion (λ (c : Change). AreLiveOnce p c.route) both (once_first, (once_second, tt));
-    keeps = All-from_recursion (λ (c : Change). KeepsLimits p c.route) both (route_limits p (is.valid) first (sym f), (route_limits p (is.valid) second (sym s), tt));
-    passes = if_some p pins (with_ends_exchanged (draft_of d) a ca b cb) (with_route (with_route (draft_of d) a first) b second)
-        (not (eqb a b) && (is_cut pins (draft_of d) a ca && is_cut pins (draft_of d) b cb)) (sym (answer true true f s));
-    unplanned = ap (λ c. c.unplanned) (is.cost) ∙ unplanned_same (draft_of d) (with_route (with_route (draft_of d) a first) b second)
-        (λ n. sym (ap (λ (l : List (List ℕ)). times n (concat l)) made ∙ as_often local says p pins (draft_of d) (is.draft) a ca b cb can n)) p;
-  })
+  pub crossed_change : (cs : List Change) → cs ≡ record { vehicle = a; route = first } ∷ record { vehicle = b; route = second } ∷ []
+      → true ≡ feasible_alone p first → true ≡ feasible_alone p second → IsChange p pins (draft_of d) cs d.cost.unplanned
+  crossed_change cs are f s =
+      subst (λ (l : List Change). IsChange p pins (draft_of d) l d.cost.unplanned) (sym are)
+      (let x = of_a local says p pins (draft_of d) (is.draft) a ca b cb can in
+      let y = of_b local says p pins (draft_of d) (is.draft) a ca b cb can in
+      record {
+        within = All-from_recursion (λ (c : Change). (1 ≤ c.vehicle) × (c.vehicle ≤ length (draft_of d))) both ((x.0, x.1), ((y.0, y.1), tt));
+        once = All-from_recursion (λ (c : Change). AreLiveOnce p c.route) both (once_first, (once_second, tt));
+        keeps =
+            All-from_recursion (λ (c : Change). KeepsLimits p c.route) both
+            (route_limits p (is.valid) first (sym f), (route_limits p (is.valid) second (sym s), tt));
+        passes = if_some p pins (with_ends_exchanged (draft_of d) a ca b cb) (with_route (with_route (draft_of d) a first) b second)
+            (not (eqb a b) && (is_cut pins (draft_of d) a ca && is_cut pins (draft_of d) b cb)) (sym (answer true true f s));
+        unplanned = ap (λ c. c.unplanned) (is.cost) ∙ unplanned_same (draft_of d) (with_route (with_route (draft_of d) a first) b second)
+            (λ n. sym (ap (λ (l : List (List ℕ)). times n (concat l)) made ∙ as_often local says p pins (draft_of d) (is.draft) a ca b cb can n)) p;
+      })

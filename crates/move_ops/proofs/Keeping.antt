@@ -42,7 +42,10 @@ stays_kept n keep (x ∷ xs) some = by (keep x) refl (λ more. stays_kept n keep
     by false f rest = rest (let h : 1 ≤ times n (filter keep (x ∷ xs)) = some in rw f at h)
     by true t rest = elim (eqb_tells n x) [
       | inl here ↦ ap keep here.1 ∙ t
-      | inr other ↦ rest (let h : 1 ≤ times n (x ∷ filter keep xs) = (let k : 1 ≤ times n (filter keep (x ∷ xs)) = some in rw t at k) in let e = none_here n x other.0 in omega arith)
+      | inr other ↦ rest
+          (let h : 1 ≤ times n (x ∷ filter keep xs) = (let k : 1 ≤ times n (filter keep (x ∷ xs)) = some in rw t at k) in
+          let e = none_here n x other.0 in
+          omega arith)
     ]
 
 module _ (found : NamedAreFound) (stand : RequestsStandByName) (p : Instance) (valid : IsInstance p) where
@@ -54,7 +57,8 @@ module _ (found : NamedAreFound) (stand : RequestsStandByName) (p : Instance) (v
       by None e = absurd (let h : None ≡ Some m = rw e at is in none_some m h)
       by (Some r) e =
           let partner : partner_in n r ≡ Some m = rw e at is in
-          (found p m (request_name r) r valid (stand p n r valid e) (in_numbers m r (partner_numbers r n m partner))).name ∙ sym (ap (option_map request_name) e)
+          (found p m (request_name r) r valid (stand p n r valid e) (in_numbers m r (partner_numbers r n m partner))).name
+          ∙ sym (ap (option_map request_name) e)
 
   module _ (names : List ℕ) where
     abbrev keep : ℕ → Bool
@@ -80,7 +84,10 @@ module _ (found : NamedAreFound) (stand : RequestsStandByName) (p : Instance) (v
         let both = and_parts (not (option_map_or (has ns) (pickup_at p n) false)) (picks_up_first p ns) first in
         let rest = first_left ns both.1 in
         elim (cases_Bool (keep n)) [
-          | inl t ↦ rw t (and_from (not (option_map_or (has (filter keep ns)) (pickup_at p n) false)) (picks_up_first p (filter keep ns)) (none_ahead (filter keep ns) (pickup_at p n) (λ m is. (let none = ahead_none ns (pickup_at p n) m is both.0 in let few = times_kept m keep ns in omega arith))) rest)
+          | inl t ↦ rw t
+              (and_from (not (option_map_or (has (filter keep ns)) (pickup_at p n) false)) (picks_up_first p (filter keep ns))
+              (none_ahead (filter keep ns) (pickup_at p n)
+              (λ m is. (let none = ahead_none ns (pickup_at p n) m is both.0 in let few = times_kept m keep ns in omega arith))) rest)
           | inr f ↦ rw f rest
         ]
 
@@ -91,11 +98,13 @@ module _ (found : NamedAreFound) (stand : RequestsStandByName) (p : Instance) (v
         let rest = and_parts (picks_up_first p route) _ all.1 in
         and_from (has_whole_pairs p (filter keep route)) (picks_up_first p (filter keep route)) (whole_left route all.0) (first_left route rest.0)
 
-    each_left : (routes : List (List ℕ)) → list_all (feasible_alone p) routes ≡ true → AllByRecursion (λ route. are_paired p route ≡ true) (without_named p names routes)
+    each_left : (routes : List (List ℕ)) → list_all (feasible_alone p) routes ≡ true
+        → AllByRecursion (λ route. are_paired p route ≡ true) (without_named p names routes)
     each_left [] all = tt
     each_left (route ∷ routes) all =
         let both = and_parts (feasible_alone p route) (list_all (feasible_alone p) routes) all in
         (paired_left route both.0, each_left routes both.1)
 
-    pub left_paired : (routes : List (List ℕ)) → list_all (feasible_alone p) routes ≡ true → All (λ route. are_paired p route ≡ true) (without_named p names routes)
+    pub left_paired : (routes : List (List ℕ)) → list_all (feasible_alone p) routes ≡ true
+        → All (λ route. are_paired p route ≡ true) (without_named p names routes)
     left_paired routes all = All-from_recursion (λ route. are_paired p route ≡ true) (without_named p names routes) (each_left routes all)

@@ -1,5 +1,6 @@
 -- How many requests a plan leaves out when some are taken out, or two of them exchanged.
-use Rattle.std.proofs.Common.{◌≡◌, ℕ, zero, suc, ◌+◌, ◌<◌, ◌≤◌, ◌&&◌, ◌||◌, not, Bool, true, false, cond, eqb, List, [], ◌∷◌, map, filter, length, get_or, Option, Some, None, IsSome, refl, sym, ap, subst, ◌∙◌, inl, inr, arith, nat_eq}
+use Rattle.std.proofs.Common.{◌≡◌, ℕ, zero, suc, ◌+◌, ◌<◌, ◌≤◌, ◌&&◌, ◌||◌, not, Bool, true, false, cond, eqb, List, []}
+use Rattle.std.proofs.Common.{◌∷◌, map, filter, length, get_or, Option, Some, None, IsSome, refl, sym, ap, subst, ◌∙◌, inl, inr, arith, nat_eq}
 use Rattle.std.specs.List.{AllByRecursion, list_all, concat}
 use Rattle.std.specs.Map.{lookup}
 use Rattle.std.specs.Option.{option_map, option_map_or}
@@ -32,8 +33,11 @@ has_item [] k below = absurd (omega arith)
 has_item (n ∷ ns) zero below = rw (eq-eqb n n refl) refl
 has_item (n ∷ ns) (suc k) below = or_right (eqb (get_or ns k 0) n) (has ns (get_or ns k 0)) (has_item ns k (omega arith))
 
-pub named_stop : NamedAreFound → (p : Instance) → IsInstance p → (names : List ℕ) (name : ℕ) (r : Request) → has names name ≡ true → lookup (nat_eq name) p.requests ≡ Some r → (n : ℕ) → IsSome (stop_in n r) → is_of_named p names n ≡ true
-named_stop found p valid names name r there at n some = ap (λ (o : Option ℕ). option_map_or (has names) o false) ((found p n name r valid at some).name) ∙ (ap (has names) (name_of p.requests name r (valid.named) at) ∙ there)
+pub named_stop : NamedAreFound → (p : Instance) → IsInstance p → (names : List ℕ) (name : ℕ) (r : Request) → has names name ≡ true
+    → lookup (nat_eq name) p.requests ≡ Some r → (n : ℕ) → IsSome (stop_in n r) → is_of_named p names n ≡ true
+named_stop found p valid names name r there at n some =
+    ap (λ (o : Option ℕ). option_map_or (has names) o false) ((found p n name r valid at some).name)
+    ∙ (ap (has names) (name_of p.requests name r (valid.named) at) ∙ there)
 
 -- ---- a number among those that are kept
 module _ (keep : ℕ → Bool) (n : ℕ) where
@@ -76,7 +80,8 @@ module _ (keep : ℕ → Bool) (n : ℕ) where
       let h = gone_all k routes in
       omega arith
 
-alike : (keep other : ℕ → Bool) (n : ℕ) → keep n ≡ other n → (routes : List (List ℕ)) → times n (concat (map (filter keep) routes)) ≡ times n (concat (map (filter other) routes))
+alike : (keep other : ℕ → Bool) (n : ℕ) → keep n ≡ other n → (routes : List (List ℕ))
+    → times n (concat (map (filter keep) routes)) ≡ times n (concat (map (filter other) routes))
 alike keep other n same routes = elim (cases_Bool (keep n)) [
   | inl t ↦ kept_all keep n t routes ∙ sym (kept_all other n (sym same ∙ t) routes)
   | inr f ↦ gone_all keep n f routes ∙ sym (gone_all other n (sym same ∙ f) routes)
@@ -121,20 +126,29 @@ module _ (found : NamedAreFound) (by_name : RequestsStandByName) (p : Instance) 
     pub gone_now : (routes : List (List ℕ)) → is_planned (without_named p (name ∷ names) routes) r ≡ false
     gone_now routes = by r (λ m some. named_gone p (name ∷ names) routes (without_named p (name ∷ names) routes) refl m (stops_of_it m some))
       where
-        by : (q : Request) → ((m : ℕ) → 1 ≤ times m (numbers_of q) → has_stop (without_named p (name ∷ names) routes) m ≡ false) → is_planned (without_named p (name ∷ names) routes) q ≡ false
+        by : (q : Request) → ((m : ℕ) → 1 ≤ times m (numbers_of q) → has_stop (without_named p (name ∷ names) routes) m ≡ false)
+            → is_planned (without_named p (name ∷ names) routes) q ≡ false
         by (Single s) none = rw (none s.number (let e = one_here s.number s.number refl in omega arith)) refl
-        by (Pair a b) none = rw (none a.number (let e = one_here a.number a.number refl in omega arith), none b.number (let e = one_here b.number b.number refl in omega arith)) refl
+        by (Pair a b) none =
+            rw (
+              none a.number (let e = one_here a.number a.number refl in omega arith),
+              none b.number (let e = one_here b.number b.number refl in omega arith),
+            ) refl
 
     still_there : has names name ≡ false → (routes : List (List ℕ)) → is_planned (without_named p names routes) r ≡ is_planned routes r
-    still_there fresh routes = by r (λ m some. any_same m (concat (without_named p names routes)) (concat routes) (kept_all (λ n. not (is_of_named p names n)) m (rw (stops_not_of fresh m some) refl) routes))
+    still_there fresh routes =
+        by r (λ m some. any_same m (concat (without_named p names routes)) (concat routes)
+        (kept_all (λ n. not (is_of_named p names n)) m (rw (stops_not_of fresh m some) refl) routes))
       where
-        by : (q : Request) → ((m : ℕ) → 1 ≤ times m (numbers_of q) → has_stop (without_named p names routes) m ≡ has_stop routes m) → is_planned (without_named p names routes) q ≡ is_planned routes q
+        by : (q : Request) → ((m : ℕ) → 1 ≤ times m (numbers_of q) → has_stop (without_named p names routes) m ≡ has_stop routes m)
+            → is_planned (without_named p names routes) q ≡ is_planned routes q
         by (Single s) same = ap (λ b. b || false) (same s.number (let e = one_here s.number s.number refl in omega arith))
         by (Pair a b) same =
             ap (λ h. h || (has_stop (without_named p names routes) b.number || false)) (same a.number (let e = one_here a.number a.number refl in omega arith))
             ∙ ap (λ h. has_stop routes a.number || (h || false)) (same b.number (let e = one_here b.number b.number refl in omega arith))
 
-    one_fewer : (routes : List (List ℕ)) → is_planned routes r ≡ true → has names name ≡ false → unplanned_count p (without_named p (name ∷ names) routes) ≡ unplanned_count p (without_named p names routes) + 1
+    one_fewer : (routes : List (List ℕ)) → is_planned routes r ≡ true → has names name ≡ false
+        → unplanned_count p (without_named p (name ∷ names) routes) ≡ unplanned_count p (without_named p names routes) + 1
     one_fewer routes planned fresh =
         one_more_planned (without_named p (name ∷ names) routes) (without_named p names routes) r
         (λ m none. alike (λ n. not (is_of_named p (name ∷ names) n)) (λ n. not (is_of_named p names n)) m (ap not (others_as m none)) routes)
@@ -162,7 +176,8 @@ module _ (found : NamedAreFound) (by_name : RequestsStandByName) (p : Instance) 
     abbrev pub IsThere : ℕ → Type 0
     IsThere name = (r : Request) × (lookup (nat_eq name) p.requests ≡ Some r) × (is_planned routes r ≡ true)
 
-    pub left_out : (names : List ℕ) → AllByRecursion IsThere names → unplanned_count p (without_named p names routes) ≡ unplanned_count p routes + distinct_count names
+    pub left_out : (names : List ℕ) → AllByRecursion IsThere names
+        → unplanned_count p (without_named p names routes) ≡ unplanned_count p routes + distinct_count names
     left_out [] all =
         let e = unplanned_same (without_named p [] routes) routes (λ m. kept_all (λ n. not (is_of_named p [] n)) m (rw (none_named m) refl) routes) p in
         omega arith
@@ -190,13 +205,16 @@ module _ (found : NamedAreFound) (by_name : RequestsStandByName) (p : Instance) 
         by None e t = absurd (let k : false ≡ true = t in cc)
         by (Some r) e t = (r, e, (and_parts (is_planned routes r) (not (is_planned pins r)) t).0)
 
-    pub taken_out : (pins : List (List ℕ)) (names : List ℕ) → list_all (is_movable_name p pins routes) names ≡ true → unplanned_count p (without_named p names routes) ≡ unplanned_count p routes + distinct_count names
+    pub taken_out : (pins : List (List ℕ)) (names : List ℕ) → list_all (is_movable_name p pins routes) names ≡ true
+        → unplanned_count p (without_named p names routes) ≡ unplanned_count p routes + distinct_count names
     taken_out pins names movable = left_out names (there pins names movable)
 
 -- ---- two requests exchanged
 module _ (found : NamedAreFound) (by_name : RequestsStandByName) (p : Instance) (valid : IsInstance p) (a b : ℕ) (apart : a ≡ b → ⊥) (r s : Request)
-    (is_r : lookup (nat_eq a) p.requests ≡ Some r) (is_s : lookup (nat_eq b) p.requests ≡ Some s) (pins routes : List (List ℕ)) (can : are_exchangeable pins routes r s ≡ true) where
-  none_of : (names : List ℕ) (name m : ℕ) (q : Request) → lookup (nat_eq name) p.requests ≡ Some q → has names name ≡ true → is_of_named p names m ≡ false → times m (numbers_of q) ≡ 0
+    (is_r : lookup (nat_eq a) p.requests ≡ Some r) (is_s : lookup (nat_eq b) p.requests ≡ Some s) (pins routes : List (List ℕ))
+    (can : are_exchangeable pins routes r s ≡ true) where
+  none_of : (names : List ℕ) (name m : ℕ) (q : Request) → lookup (nat_eq name) p.requests ≡ Some q → has names name ≡ true
+      → is_of_named p names m ≡ false → times m (numbers_of q) ≡ 0
   none_of names name m q at among out = elim (eqb_tells (times m (numbers_of q)) 0) [
     | inl t ↦ t.1
     | inr t ↦ absurd (
@@ -214,12 +232,17 @@ module _ (found : NamedAreFound) (by_name : RequestsStandByName) (p : Instance) 
     | inr f ↦ rw (f, eq-eqb b b refl) refl
   ]
 
-  same_left : (m : ℕ) → times m (concat (without_named p (a ∷ b ∷ []) routes)) ≡ times m (concat (without_named p (a ∷ b ∷ []) (map (map (counterpart r s)) routes)))
+  same_left : (m : ℕ)
+      → times m (concat (without_named p (a ∷ b ∷ []) routes))
+      ≡ times m (concat (without_named p (a ∷ b ∷ []) (map (map (counterpart r s)) routes)))
   same_left m = elim (cases_Bool (is_of_named p (a ∷ b ∷ []) m)) [
-    | inl t ↦ gone_all (λ n. not (is_of_named p (a ∷ b ∷ []) n)) m (rw t refl) routes ∙ sym (gone_all (λ n. not (is_of_named p (a ∷ b ∷ []) n)) m (rw t refl) (map (map (counterpart r s)) routes))
+    | inl t ↦ gone_all (λ n. not (is_of_named p (a ∷ b ∷ []) n)) m (rw t refl) routes
+        ∙ sym (gone_all (λ n. not (is_of_named p (a ∷ b ∷ []) n)) m (rw t refl) (map (map (counterpart r s)) routes))
     | inr f ↦
         kept_all (λ n. not (is_of_named p (a ∷ b ∷ []) n)) m (rw f refl) routes
-        ∙ (sym (times_exchanged found p valid a b apart r s is_r is_s m routes ∙ ap (λ (k : ℕ). times k (concat routes)) (counterpart_other r s m (none_of (a ∷ b ∷ []) a m r is_r has_first f) (none_of (a ∷ b ∷ []) b m s is_s has_second f)))
+        ∙ (sym (times_exchanged found p valid a b apart r s is_r is_s m routes
+        ∙ ap (λ (k : ℕ). times k (concat routes))
+        (counterpart_other r s m (none_of (a ∷ b ∷ []) a m r is_r has_first f) (none_of (a ∷ b ∷ []) b m s is_s has_second f)))
         ∙ sym (kept_all (λ n. not (is_of_named p (a ∷ b ∷ []) n)) m (rw f refl) (map (map (counterpart r s)) routes)))
   ]
 

@@ -1,3 +1,4 @@
+-- The lemma files, which upper crates may cite.
 pub mod Applying
 pub mod Asked
 pub mod BestLemmas

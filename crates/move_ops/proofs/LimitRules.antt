@@ -39,9 +39,14 @@ module _ (p : Instance) (route : List ℕ) where
       let behind_last : p.depot.latest < start p route (length route + 1) = subst (λ (j : ℕ). p.depot.latest < start p route j) behind above in
       omega arith
 
-  keeps_limits : IsInstance p → ((r i n : ℕ) → (IsOverloaded p (route ∷ []) r i n → ⊥) × (IsLate p (route ∷ []) r i n → ⊥) × (IsLateReturn p (route ∷ []) r i n → ⊥)) → KeepsLimits p route
+  keeps_limits : IsInstance p
+      → ((r i n : ℕ)
+      → (IsOverloaded p (route ∷ []) r i n → ⊥) × (IsLate p (route ∷ []) r i n → ⊥) × (IsLateReturn p (route ∷ []) r i n → ⊥))
+      → KeepsLimits p route
   keeps_limits valid rules = record {
-    load = λ i from to. by_lt_z {P = load p route i ≤ℤ pos p.capacity} (pos p.capacity) (load p route i) (λ above. absurd ((rules 1 i (stop_there route i from to).0).0 (route, refl, (stop_there route i from to).1, above))) (λ le. le);
+    load = λ i from to.
+        by_lt_z {P = load p route i ≤ℤ pos p.capacity} (pos p.capacity) (load p route i)
+        (λ above. absurd ((rules 1 i (stop_there route i from to).0).0 (route, refl, (stop_there route i from to).1, above))) (λ le. le);
     window = λ lilim i from to. elim (cases_lt (place p route i).latest (start p route i)) [
       | inl above ↦ absurd ((rules 1 i (stop_there route i from to).0).1 (lilim, (route, refl, (stop_there route i from to).1, above)))
       | inr within ↦ omega arith
@@ -56,4 +61,7 @@ module _ (p : Instance) (route : List ℕ) where
   }
 
 pub limits_are_rules : LimitsAreRules
-limits_are_rules p route valid = (λ limits r i n. (not_overloaded p route limits r i n, not_late p route limits r i n, not_back_late p route limits r i n), keeps_limits p route valid)
+limits_are_rules p route valid = (
+  λ limits r i n. (not_overloaded p route limits r i n, not_late p route limits r i n, not_back_late p route limits r i n),
+  keeps_limits p route valid,
+)

@@ -1,5 +1,6 @@
 -- The log of a draft, in which no vehicle stands twice.
-use Rattle.std.proofs.Common.{◌≡◌, ℕ, ℤ, zero, suc, ◌+◌, ◌-◌, ◌<◌, ◌≤◌, ◌||◌, true, false, eqb, List, [], ◌∷◌, ◌++◌, length, map, set, Option, None, Some, slice_get, refl, sym, ap, subst, ◌∙◌, inl, inr, arith}
+use Rattle.std.proofs.Common.{◌≡◌, ℕ, ℤ, zero, suc, ◌+◌, ◌-◌, ◌<◌, ◌≤◌, ◌||◌, true, false, eqb, List, [], ◌∷◌}
+use Rattle.std.proofs.Common.{◌++◌, length, map, set, Option, None, Some, slice_get, refl, sym, ap, subst, ◌∙◌, inl, inr, arith}
 use Rattle.std.specs.Prelude.{MatchOption, vec_capacity}
 use Rattle.std.specs.List.{list_any, remove, AllByRecursion, IsDistinct}
 use Rattle.std.specs.Option.{is_none, is_some}
@@ -27,7 +28,8 @@ set_over tours (e ∷ log) k c x = elim (eqb_tells (e.0 - 1) k) [
   | inl t ↦ (
       let same : set (undone (set tours k c) (e ∷ log)) k x ≡ set (undone (set tours k c) log) k x =
       ap (λ j. set (set (undone (set tours k c) log) j e.1) k x) (t.1) ∙ set-set (undone (set tours k c) log) k e.1 x in
-      let there : set (undone tours (e ∷ log)) k x ≡ set (undone tours log) k x = ap (λ j. set (set (undone tours log) j e.1) k x) (t.1) ∙ set-set (undone tours log) k e.1 x in
+      let there : set (undone tours (e ∷ log)) k x ≡ set (undone tours log) k x =
+      ap (λ j. set (set (undone tours log) j e.1) k x) (t.1) ∙ set-set (undone tours log) k e.1 x in
       same ∙ (set_over tours log k c x ∙ sym there))
   | inr t ↦
       set_comm (undone (set tours k c) log) (e.0 - 1) k e.1 x (t.1)
@@ -35,7 +37,8 @@ set_over tours (e ∷ log) k c x = elim (eqb_tells (e.0 - 1) k) [
 ]
 
 -- another tour of it changes nothing in the base
-pub undone_same : (tours : List Course) (log : List (ℕ × Course)) (v : ℕ) (c : Course) → is_logged log v ≡ true → undone (set tours (v - 1) c) log ≡ undone tours log
+pub undone_same : (tours : List Course) (log : List (ℕ × Course)) (v : ℕ) (c : Course) → is_logged log v ≡ true
+    → undone (set tours (v - 1) c) log ≡ undone tours log
 undone_same tours [] v c had = absurd (let h : false ≡ true = had in cc)
 undone_same tours (e ∷ log) v c had = elim (or_cases (eqb e.0 v) (is_logged log v) had) [
   | inl here ↦ (
@@ -45,7 +48,8 @@ undone_same tours (e ∷ log) v c had = elim (or_cases (eqb e.0 v) (is_logged lo
 ]
 
 -- a vehicle that it does not have is set below
-set_below : (tours : List Course) (log : List (ℕ × Course)) (n v : ℕ) (c : Course) → 1 ≤ v → AreWithin n log → is_logged log v ≡ false → undone (set tours (v - 1) c) log ≡ set (undone tours log) (v - 1) c
+set_below : (tours : List Course) (log : List (ℕ × Course)) (n v : ℕ) (c : Course) → 1 ≤ v → AreWithin n log → is_logged log v ≡ false
+    → undone (set tours (v - 1) c) log ≡ set (undone tours log) (v - 1) c
 set_below tours [] n v c from all none = refl
 set_below tours (e ∷ log) n v c from all none =
     let parts = or_parts (eqb e.0 v) (is_logged log v) none in
@@ -54,14 +58,17 @@ set_below tours (e ∷ log) n v c from all none =
     ∙ sym (set_comm (undone tours log) (e.0 - 1) (v - 1) e.1 c (λ same. apart (omega arith)))
 
 -- ---- one entry less
-pub undone_without : (tours : List Course) (log : List (ℕ × Course)) (n k : ℕ) (e : ℕ × Course) → slice_get log k ≡ Some e → AreWithin n log → AreOnce log → undone (set tours (e.0 - 1) e.1) (remove log k) ≡ undone tours log
+pub undone_without : (tours : List Course) (log : List (ℕ × Course)) (n k : ℕ) (e : ℕ × Course) → slice_get log k ≡ Some e
+    → AreWithin n log → AreOnce log → undone (set tours (e.0 - 1) e.1) (remove log k) ≡ undone tours log
 undone_without tours [] n k e at all once = absurd (none_some e at)
 undone_without tours (x ∷ log) n zero e at all once =
     let is : x ≡ e = some_same x e at in
-    subst (λ (y : ℕ × Course). undone (set tours (y.0 - 1) y.1) log ≡ set (undone tours log) (x.0 - 1) x.1) is (set_below tours log n x.0 x.1 all.0.0 all.1 once.0)
+    subst (λ (y : ℕ × Course). undone (set tours (y.0 - 1) y.1) log ≡ set (undone tours log) (x.0 - 1) x.1) is
+    (set_below tours log n x.0 x.1 all.0.0 all.1 once.0)
 undone_without tours (x ∷ log) n (suc k) e at all once = ap (λ l. set l (x.0 - 1) x.1) (undone_without tours log n k e at all.1 once.1)
 
-pub within_without : (n : ℕ) (log : List (ℕ × Course)) (k : ℕ) (e : ℕ × Course) → slice_get log k ≡ Some e → AreWithin n log → AreWithin n (remove log k) × ((1 ≤ e.0) × (e.0 ≤ n))
+pub within_without : (n : ℕ) (log : List (ℕ × Course)) (k : ℕ) (e : ℕ × Course) → slice_get log k ≡ Some e → AreWithin n log
+    → AreWithin n (remove log k) × ((1 ≤ e.0) × (e.0 ≤ n))
 within_without n [] k e at all = absurd (none_some e at)
 within_without n (x ∷ log) zero e at all = (all.1, subst (λ (y : ℕ × Course). (1 ≤ y.0) × (y.0 ≤ n)) (some_same x e at) all.0)
 within_without n (x ∷ log) (suc k) e at all = let rest = within_without n log k e at all.1 in ((all.0, rest.0), rest.1)
@@ -70,7 +77,9 @@ logged_without : (log : List (ℕ × Course)) (k v : ℕ) → is_logged log v �
 logged_without [] zero v none = none
 logged_without [] (suc k) v none = none
 logged_without (x ∷ log) zero v none = (or_parts (eqb x.0 v) (is_logged log v) none).1
-logged_without (x ∷ log) (suc k) v none = let parts = or_parts (eqb x.0 v) (is_logged log v) none in or_from (eqb x.0 v) (is_logged (remove log k) v) parts.0 (logged_without log k v parts.1)
+logged_without (x ∷ log) (suc k) v none =
+    let parts = or_parts (eqb x.0 v) (is_logged log v) none in
+    or_from (eqb x.0 v) (is_logged (remove log k) v) parts.0 (logged_without log k v parts.1)
 
 pub once_without : (log : List (ℕ × Course)) (k : ℕ) → AreOnce log → AreOnce (remove log k)
 once_without [] zero once = tt
@@ -81,7 +90,9 @@ once_without (x ∷ log) (suc k) once = (logged_without log k x.0 once.0, once_w
 -- ---- the newest entry
 logged_more : (log : List (ℕ × Course)) (v : ℕ) (c : Course) (u : ℕ) → is_logged log u ≡ false → (v ≡ u → ⊥) → is_logged (log ++ (v, c) ∷ []) u ≡ false
 logged_more [] v c u none apart = or_from (eqb v u) false (ne_eqb v u apart) refl
-logged_more (x ∷ log) v c u none apart = let parts = or_parts (eqb x.0 u) (is_logged log u) none in or_from (eqb x.0 u) (is_logged (log ++ (v, c) ∷ []) u) parts.0 (logged_more log v c u parts.1 apart)
+logged_more (x ∷ log) v c u none apart =
+    let parts = or_parts (eqb x.0 u) (is_logged log u) none in
+    or_from (eqb x.0 u) (is_logged (log ++ (v, c) ∷ []) u) parts.0 (logged_more log v c u parts.1 apart)
 
 pub once_more : (log : List (ℕ × Course)) (v : ℕ) (c : Course) → is_logged log v ≡ false → AreOnce log → AreOnce (log ++ (v, c) ∷ [])
 once_more [] v c none once = (refl, tt)
@@ -93,26 +104,33 @@ once_more (x ∷ log) v c none once =
 -- ---- what a vehicle had in the base
 has_at : (log : List (ℕ × Course)) (k : ℕ) (e : ℕ × Course) → slice_get log k ≡ Some e → is_logged log e.0 ≡ true
 has_at [] k e at = absurd (none_some e at)
-has_at (x ∷ log) zero e at = subst (λ (y : ℕ × Course). is_logged (x ∷ log) y.0 ≡ true) (some_same x e at) (or_left (eqb x.0 x.0) (is_logged log x.0) (eq-eqb x.0 x.0 refl))
+has_at (x ∷ log) zero e at =
+    subst (λ (y : ℕ × Course). is_logged (x ∷ log) y.0 ≡ true) (some_same x e at)
+    (or_left (eqb x.0 x.0) (is_logged log x.0) (eq-eqb x.0 x.0 refl))
 has_at (x ∷ log) (suc k) e at = or_right (eqb x.0 e.0) (is_logged log e.0) (has_at log k e at)
 
-pub base_at : (tours : List Course) (log : List (ℕ × Course)) (n k : ℕ) (e : ℕ × Course) → slice_get log k ≡ Some e → AreWithin n log → AreOnce log → e.0 ≤ length tours → slice_get (undone tours log) (e.0 - 1) ≡ Some e.1
+pub base_at : (tours : List Course) (log : List (ℕ × Course)) (n k : ℕ) (e : ℕ × Course) → slice_get log k ≡ Some e → AreWithin n log
+    → AreOnce log → e.0 ≤ length tours → slice_get (undone tours log) (e.0 - 1) ≡ Some e.1
 base_at tours [] n k e at all once within = absurd (none_some e at)
 base_at tours (x ∷ log) n zero e at all once within =
     let is : x ≡ e = some_same x e at in
     let low = (subst (λ (y : ℕ × Course). 1 ≤ y.0) is all.0.0) in
-    subst (λ (y : ℕ × Course). slice_get (undone tours (x ∷ log)) (e.0 - 1) ≡ Some y.1) is (base_first tours x log e.0 low within (ap (λ (y : ℕ × Course). y.0) is))
+    subst (λ (y : ℕ × Course). slice_get (undone tours (x ∷ log)) (e.0 - 1) ≡ Some y.1) is
+    (base_first tours x log e.0 low within (ap (λ (y : ℕ × Course). y.0) is))
 base_at tours (x ∷ log) n (suc k) e at all once within =
     let low = (within_without n log k e at all.1).1.0 in
-    let apart : x.0 ≡ e.0 → ⊥ = λ same. absurd (let h : false ≡ true = sym (once.0) ∙ subst (λ v. is_logged log v ≡ true) (sym same) (has_at log k e at) in cc) in
+    let apart : x.0 ≡ e.0 → ⊥ =
+    λ same. absurd (let h : false ≡ true = sym (once.0) ∙ subst (λ v. is_logged log v ≡ true) (sym same) (has_at log k e at) in cc) in
     base_later tours x log e.0 low all.0.0 apart ∙ base_at tours log n k e at all.1 once.1 within
 
 -- ---- whether an entry was found
-pub not_logged : (o : Option ℕ) (log : List (ℕ × Course)) (v : ℕ) → MatchOption o (is_logged log v ≡ false) (λ k. IsEntry log v k) → is_none o ≡ true → is_logged log v ≡ false
+pub not_logged : (o : Option ℕ) (log : List (ℕ × Course)) (v : ℕ) → MatchOption o (is_logged log v ≡ false) (λ k. IsEntry log v k)
+    → is_none o ≡ true → is_logged log v ≡ false
 not_logged None log v told none = told
 not_logged (Some k) log v told none = absurd (let h : false ≡ true = none in cc)
 
-pub logged : (o : Option ℕ) (log : List (ℕ × Course)) (v : ℕ) → MatchOption o (is_logged log v ≡ false) (λ k. IsEntry log v k) → is_some o ≡ true → is_logged log v ≡ true
+pub logged : (o : Option ℕ) (log : List (ℕ × Course)) (v : ℕ) → MatchOption o (is_logged log v ≡ false) (λ k. IsEntry log v k)
+    → is_some o ≡ true → is_logged log v ≡ true
 logged None log v told some = absurd (let h : false ≡ true = some in cc)
 logged (Some k) log v told some = has_at log k (v, told.0) told.1
 
@@ -157,20 +175,24 @@ room_left n log v low high all once none =
     omega arith
 
 -- ---- what a draft keeps where a vehicle gets another tour
-pub kept_with : (old new : Inside) (v : ℕ) (tour : Course) (seats : List ℕ) → IsKept old → new.tours.items ≡ set old.tours.items (v - 1) tour → new.seats.items ≡ seats
+pub kept_with : (old new : Inside) (v : ℕ) (tour : Course) (seats : List ℕ) → IsKept old
+    → new.tours.items ≡ set old.tours.items (v - 1) tour → new.seats.items ≡ seats
     → ((n : ℕ) → slice_get seats n ≡ Some 0 → has (route_of tour) n ≡ false) → ((n : ℕ) → slice_get seats n ≡ Some 0 → slice_get old.seats.items n ≡ Some 0)
     → 1 ≤ v → v ≤ length old.tours.items → old.front ≤ new.front → v ≤ new.front → ((k : ℕ) → old.front ≤ k → v ≤ k → new.front ≤ k)
-    → AreWithin (length old.tours.items) new.log.items → AreOnce new.log.items → vec_capacity new.log ≡ vec_capacity old.log → IsRoomSet v tour old.rooms.items new.rooms.items → IsKept new
+    → AreWithin (length old.tours.items) new.log.items → AreOnce new.log.items → vec_capacity new.log ≡ vec_capacity old.log
+    → IsRoomSet v tour old.rooms.items new.rooms.items → IsKept new
 kept_with old new v tour seats kept is_tours is_seats out others from within low high least logs once room set_room =
     let long = ap length is_tours ∙ length-set old.tours.items (v - 1) tour in
     record {
       seats = subst (λ (l : List ℕ). AreSeats l (plan_of new.tours.items)) (sym is_seats)
-          (subst (λ (l : List Course). AreSeats seats (plan_of l)) (sym is_tours) (seats_with old.seats.items seats old.tours.items (v - 1) tour kept.seats out others));
+          (subst (λ (l : List Course). AreSeats seats (plan_of l)) (sym is_tours)
+          (seats_with old.seats.items seats old.tours.items (v - 1) tour kept.seats out others));
       within = subst (λ (k : ℕ). AreWithin k new.log.items) (sym long) logs;
       once = once;
       room = (let had = kept.room in omega arith);
       front = (let most = least (length old.tours.items) kept.front within in omega arith);
       idle = front_with old.tours.items new.tours.items v tour old.front new.front is_tours from kept.idle low high;
       rooms = subst (λ (l : List ℤ). AreRooms new.tours.items l) (sym set_room.2)
-          (subst (λ (l : List Course). AreRooms l (set old.rooms.items (v - 1) set_room.0)) (sym is_tours) (set_rooms old.tours.items old.rooms.items (v - 1) tour set_room.0 kept.rooms set_room.1));
+          (subst (λ (l : List Course). AreRooms l (set old.rooms.items (v - 1) set_room.0)) (sym is_tours)
+          (set_rooms old.tours.items old.rooms.items (v - 1) tour set_room.0 kept.rooms set_room.1));
     }

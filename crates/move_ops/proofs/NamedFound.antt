@@ -80,7 +80,8 @@ module _ (law : NamedAreFound) (stand : RequestsStandByName) (p : Instance) (val
       by (Single t) at = none_some m (sym (named_at (Single t) at).0.partner ∙ is)
       by (Pair a b) at = none_some b (sym none ∙ second_at a b m at is)
 
-  pub pair_named : (s t : Stop) (m : ℕ) → name_at p n ≡ Some n → stop_at p n ≡ Some s → partner_at p n ≡ Some m → stop_at p m ≡ Some t → Some (Pair s t) ≡ lookup (nat_eq n) p.requests
+  pub pair_named : (s t : Stop) (m : ℕ) → name_at p n ≡ Some n → stop_at p n ≡ Some s → partner_at p n ≡ Some m → stop_at p m ≡ Some t
+      → Some (Pair s t) ≡ lookup (nat_eq n) p.requests
   pair_named s t m is stop partner second = let x = own is in by x.0 x.1
     where
       by : (r : Request) → lookup (nat_eq n) p.requests ≡ Some r → Some (Pair s t) ≡ lookup (nat_eq n) p.requests

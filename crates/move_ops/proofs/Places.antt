@@ -1,15 +1,18 @@
 -- The places of a request, as a list and as a test.
-use Rattle.std.proofs.Common.{◌≡◌, ◌↔◌, ℕ, zero, suc, ◌+◌, ◌-◌, ◌<◌, ◌≤◌, ◌⊎◌, ◌&&◌, Bool, true, false, not, cond, eqb, ltb, leb, rules, List, [], ◌∷◌, ◌++◌, map, filter, length, Option, Some, None, IsSome, refl, sym, ap, subst, ◌∙◌, inl, inr, arith}
+use Rattle.std.proofs.Common.{◌≡◌, ◌↔◌, ℕ, zero, suc, ◌+◌, ◌-◌, ◌<◌, ◌≤◌, ◌⊎◌, ◌&&◌, Bool, true, false, not, cond, eqb, ltb, leb}
+use Rattle.std.proofs.Common.{rules, List, [], ◌∷◌, ◌++◌, map, filter, length, Option, Some, None, IsSome, refl, sym, ap, subst, ◌∙◌, inl, inr, arith}
 use Rattle.std.specs.List.{Contains, flat_map, range_with_len}
 use Rattle.std.specs.Option.{option_and_then, option_map_or}
 use Rattle.std.proofs.lemmas.Bool.{and_from, and_parts, cases_Bool, cases_order, eq-eqb, eqb-true, ltb-true, lt-ltb, leb-true, le-leb}
-use Rattle.std.proofs.lemmas.List.Elements.{All-contains, All-contains_itself, All-filter, Contains-append_cases, Contains-append_left, Contains-append_right, filter_passes}
+use Rattle.std.proofs.lemmas.List.Elements.{All-contains, All-contains_itself, All-filter}
+use Rattle.std.proofs.lemmas.List.Elements.{Contains-append_cases, Contains-append_left, Contains-append_right, filter_passes}
 use Rattle.plan_types.specs.Instance.{Instance}
 use Rattle.plan_types.specs.declared.requests.Request.{Request}
 use Rattle.plan_types.specs.declared.requests.Request.TheVariants.{Single, Pair}
 use Rattle.route_sched.specs.Cost.{is_planned}
 use Rattle.plan_audit.specs.Passes.{passes}
-use Rattle.move_ops.specs.Insertion.{Insertion, request_named, of_vehicle, passing, places_in, are_places, with_request_at, places_of, is_place_of, insertions_of}
+use Rattle.move_ops.specs.Insertion.{Insertion, request_named, of_vehicle, passing, places_in}
+use Rattle.move_ops.specs.Insertion.{are_places, with_request_at, places_of, is_place_of, insertions_of}
 use Rattle.move_ops.specs.Laws.{InsertionsCanBePutIn}
 
 -- x is in the list, by cases on the list
@@ -80,8 +83,10 @@ in_filter test (y ∷ xs) x (inr there) good = elim (cases_Bool (test y)) [
 
 of_filter : {X : Type 0} (test : X → Bool) (xs : List X) (x : X) → In (filter test xs) x → In xs x × (test x ≡ true)
 of_filter test xs x i =
-    let c = contained (filter test xs) x i in
-    (within xs x (All-contains (Contains xs) (filter test xs) x (All-filter test (Contains xs) xs (All-contains_itself xs)) c), All-contains (λ y. test y ≡ true) (filter test xs) x (filter_passes test xs) c)
+    let c = contained (filter test xs) x i in (
+      within xs x (All-contains (Contains xs) (filter test xs) x (All-filter test (Contains xs) xs (All-contains_itself xs)) c),
+      All-contains (λ y. test y ≡ true) (filter test xs) x (filter_passes test xs) c,
+    )
 
 abbrev twice : ℕ → ℕ × ℕ
 twice m = (m, m)
@@ -143,7 +148,8 @@ module _ (pins routes : List (List ℕ)) (r : Request) where
       let low = leb-true 1 x.0 a.0 in
       let high = leb-true x.0 (length routes) b.0 in
       in_flat_map at_vehicle (range_with_len 1 (length routes)) x.0 x (in_range 1 (length routes) x.0 low (omega arith))
-      (in_map (placed x.0) (places_in r (length (of_vehicle pins x.0)) (length (of_vehicle routes x.0))) (paired x.1 x.2) (in_places r (length (of_vehicle pins x.0)) (length (of_vehicle routes x.0)) x.1 x.2 b.1))
+      (in_map (placed x.0) (places_in r (length (of_vehicle pins x.0)) (length (of_vehicle routes x.0))) (paired x.1 x.2)
+      (in_places r (length (of_vehicle pins x.0)) (length (of_vehicle routes x.0)) x.1 x.2 b.1))
 
   of_places_of : (x : Insertion) → In (places_of pins routes r) x → is_place_of pins routes r x ≡ true
   of_places_of x there =
@@ -152,8 +158,11 @@ module _ (pins routes : List (List ℕ)) (r : Request) where
       let low = range.0 in
       let u = of_map (placed t.0) (places_in r (length (of_vehicle pins t.0)) (length (of_vehicle routes t.0))) x t.2 in
       subst (λ (z : Insertion). is_place_of pins routes r z ≡ true) u.2
-      (and_from (leb 1 t.0) (leb t.0 (length routes) && are_places r (length (of_vehicle pins t.0)) (length (of_vehicle routes t.0)) u.0.0 u.0.1) (le-leb 1 t.0 low)
-      (and_from (leb t.0 (length routes)) (are_places r (length (of_vehicle pins t.0)) (length (of_vehicle routes t.0)) u.0.0 u.0.1) (le-leb t.0 (length routes) (omega arith))
+      (and_from (leb 1 t.0)
+      (leb t.0 (length routes) && are_places r (length (of_vehicle pins t.0)) (length (of_vehicle routes t.0)) u.0.0 u.0.1)
+      (le-leb 1 t.0 low)
+      (and_from (leb t.0 (length routes)) (are_places r (length (of_vehicle pins t.0)) (length (of_vehicle routes t.0)) u.0.0 u.0.1)
+      (le-leb t.0 (length routes) (omega arith))
       (of_places r (length (of_vehicle pins t.0)) (length (of_vehicle routes t.0)) u.0 u.1)))
 
 module _ (p : Instance) (pins routes : List (List ℕ)) where
@@ -161,7 +170,8 @@ module _ (p : Instance) (pins routes : List (List ℕ)) where
   passing_at r x = passes p pins (with_request_at routes r x)
 
   -- for a request that is there
-  pub listed : (r : Request) (x : Insertion) → In (insertions_of p pins routes r) x → (is_planned routes r ≡ false) × (is_place_of pins routes r x ≡ true) × (passing_at r x ≡ true)
+  pub listed : (r : Request) (x : Insertion) → In (insertions_of p pins routes r) x
+      → (is_planned routes r ≡ false) × (is_place_of pins routes r x ≡ true) × (passing_at r x ≡ true)
   listed r x there = elim (cases_Bool (is_planned routes r)) [
     | inl taken ↦ absurd (rw taken at there)
     | inr free ↦ (
@@ -169,7 +179,8 @@ module _ (p : Instance) (pins routes : List (List ℕ)) where
         (free, of_places_of pins routes r x t.0, t.1))
   ]
 
-  pub to_list : (r : Request) (x : Insertion) → is_planned routes r ≡ false → is_place_of pins routes r x ≡ true → passing_at r x ≡ true → In (insertions_of p pins routes r) x
+  pub to_list : (r : Request) (x : Insertion) → is_planned routes r ≡ false → is_place_of pins routes r x ≡ true → passing_at r x ≡ true
+      → In (insertions_of p pins routes r) x
   to_list r x free place good = rw free (in_filter (passing_at r) (places_of pins routes r) x (in_places_of pins routes r x place) good)
 
   abbrev put_of : Request → Insertion → Option (List (List ℕ))
@@ -181,7 +192,8 @@ module _ (p : Instance) (pins routes : List (List ℕ)) where
   abbrev no_plan : Option (List (List ℕ))
   no_plan = None
 
-  put_parts : (r : Request) (x : Insertion) → IsSome (put_of r x) → (is_planned routes r ≡ false) × (is_place_of pins routes r x ≡ true) × (passing_at r x ≡ true)
+  put_parts : (r : Request) (x : Insertion) → IsSome (put_of r x)
+      → (is_planned routes r ≡ false) × (is_place_of pins routes r x ≡ true) × (passing_at r x ≡ true)
   put_parts r x some = elim (cases_Bool (is_planned routes r)) [
     | inl taken ↦ absurd (none (rw taken at some))
     | inr free ↦ elim (cases_Bool (is_place_of pins routes r x)) [
@@ -196,7 +208,8 @@ module _ (p : Instance) (pins routes : List (List ℕ)) where
       none : IsSome no_plan → ⊥
       none h = let k : false ≡ true = h in cc
 
-  same_named : (name : ℕ) (x : Insertion) (o : Option Request) → request_named p name ≡ o → Contains (option_map_or (insertions_of p pins routes) o []) x ↔ IsSome (option_and_then (λ r. put_of r x) o)
+  same_named : (name : ℕ) (x : Insertion) (o : Option Request) → request_named p name ≡ o
+      → Contains (option_map_or (insertions_of p pins routes) o []) x ↔ IsSome (option_and_then (λ r. put_of r x) o)
   same_named name x None is = (λ c. absurd (within [] x c), λ some. absurd (let k : false ≡ true = some in cc))
   same_named name x (Some r) is = (
     λ c. (let t = listed r x (within (insertions_of p pins routes r) x c) in some_put r x t.0 t.1 t.2),

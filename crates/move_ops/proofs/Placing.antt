@@ -34,14 +34,16 @@ no_pin (Pair c d) kept n i j t =
     and_from (ltb 0 i) (ltb i j && leb j (n + 2)) (lt-ltb 0 i (omega arith)) a.1
 
 -- a place behind its pin is one behind no pin
-pub open_places : (pins routes : List (List ℕ)) (r : Request) (x : Insertion) → is_place_of pins routes r x ≡ true → are_places r 0 (length (of_vehicle routes x.0)) x.1 x.2 ≡ true
+pub open_places : (pins routes : List (List ℕ)) (r : Request) (x : Insertion) → is_place_of pins routes r x ≡ true
+    → are_places r 0 (length (of_vehicle routes x.0)) x.1 x.2 ≡ true
 open_places pins routes r x place =
     let a = and_parts (leb 1 x.0) (leb x.0 (length routes) && are_places r (length (of_vehicle pins x.0)) (length (of_vehicle routes x.0)) x.1 x.2) place in
     let b = and_parts (leb x.0 (length routes)) (are_places r (length (of_vehicle pins x.0)) (length (of_vehicle routes x.0)) x.1 x.2) a.1 in
     no_pin r (length (of_vehicle pins x.0)) (length (of_vehicle routes x.0)) x.1 x.2 b.1
 
 module _ (law : NamedAreFound) (stand : RequestsStandByName) (local : PassesAreLocal) (says : TestsSayFeasible) (below : StopsAreBelowNext)
-    (p : Instance) (pins routes : List (List ℕ)) (valid : IsInstance p) (good : passes p pins routes ≡ true) (r : Request) (named : lookup (nat_eq (request_name r)) p.requests ≡ Some r)
+    (p : Instance) (pins routes : List (List ℕ)) (valid : IsInstance p) (good : passes p pins routes ≡ true) (r : Request)
+    (named : lookup (nat_eq (request_name r)) p.requests ≡ Some r)
     (x : Insertion) (free : is_planned routes r ≡ false) (place : is_place_of pins routes r x ≡ true) where
   -- the route may be asked
   pub asked_once : AreLiveOnce p (inserted r x.1 x.2 (of_vehicle routes x.0))
@@ -49,14 +51,17 @@ module _ (law : NamedAreFound) (stand : RequestsStandByName) (local : PassesAreL
 
   module _ (passed : passes p pins (with_request_at routes r x) ≡ true) where
     fit : Fits law stand local says p pins routes valid good (request_name r) r named free x
-    fit = insertion_fits law stand local says p pins routes valid good (request_name r) r named free x (contained _ x (to_list p pins routes r x free place passed))
+    fit =
+        insertion_fits law stand local says p pins routes valid good (request_name r) r named free x
+        (contained _ x (to_list p pins routes r x free place passed))
 
     often : (n : ℕ) → times n (concat (with_request_at routes r x)) ≡ times n (concat routes) + times n (numbers_of r)
     often = often_with p routes r x fit.from fit.within
 
     one_less : unplanned_count p routes ≡ unplanned_count p (with_request_at routes r x) + 1
     one_less =
-        one_more_planned routes (with_request_at routes r x) r (λ n none. let e = often n in omega arith) free (planned_where (with_request_at routes r x) r (λ n. let e = often n in omega arith)) p valid (request_name r) named
+        one_more_planned routes (with_request_at routes r x) r (λ n none. let e = often n in omega arith) free
+        (planned_where (with_request_at routes r x) r (λ n. let e = often n in omega arith)) p valid (request_name r) named
 
     few : x.0 ≤ 40000
     few =
@@ -84,4 +89,6 @@ module _ (law : NamedAreFound) (stand : RequestsStandByName) (local : PassesAreL
   feasible_put b e t = is_put (passes_where_feasible law local says p pins routes valid good (request_name r) r named free x place b e ∙ t)
 
   pub not_put : (b : Bool) → b ≡ feasible_alone p (inserted r x.1 x.2 (of_vehicle routes x.0)) → b ≡ false → put_in p pins routes (request_name r) x ≡ None
-  not_put b e f = put_in_is law local says p pins routes valid good (request_name r) r named free x place b e ∙ ap (λ t. cond t (Some (with_request_at routes r x)) None) f
+  not_put b e f =
+      put_in_is law local says p pins routes valid good (request_name r) r named free x place b e
+      ∙ ap (λ t. cond t (Some (with_request_at routes r x)) None) f

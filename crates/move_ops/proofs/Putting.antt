@@ -33,7 +33,9 @@ pub best_put : NamedAreFound → RequestsStandByName → PassesAreLocal → Test
     → (o : Option Insertion) → best_insertion p pins routes (request_name r) ≡ o → IfSome o (IsPut p pins routes r)
 best_put law stand local says below least p pins routes valid good r named None best = tt
 best_put law stand local says below least p pins routes valid good r named (Some x) best =
-    let is : IsBest p pins routes r x = subst (λ (o : Option Insertion). MatchOption o (insertions p pins routes (request_name r) ≡ []) (IsBest p pins routes r)) best (least p pins routes (request_name r) r named) in
+    let is : IsBest p pins routes r x =
+    subst (λ (o : Option Insertion). MatchOption o (insertions p pins routes (request_name r) ≡ []) (IsBest p pins routes r)) best
+    (least p pins routes (request_name r) r named) in
     let told = listed p pins routes r x (within (insertions_of p pins routes r) x is.among) in
     is_put law stand local says below p pins routes valid good r named x told.0 told.1 told.2
 
@@ -42,9 +44,11 @@ pub within_put : NamedAreFound → RequestsStandByName → PassesAreLocal → Te
     → (p : Instance) (pins routes : List (List ℕ)) → IsInstance p → passes p pins routes ≡ true → (r : Request) → request_named p (request_name r) ≡ Some r
     → (l : Limit) (o : Option Insertion) → IsBestWithin p pins routes r l o → IfSome o (IsPut p pins routes r)
 within_put law stand local says below least p pins routes valid good r named l None best = tt
-within_put law stand local says below least p pins routes valid good r named l (Some x) best = best_put law stand local says below least p pins routes valid good r named (Some x) best.0
+within_put law stand local says below least p pins routes valid good r named l (Some x) best =
+    best_put law stand local says below least p pins routes valid good r named (Some x) best.0
 
-placed_is : (p : Instance) (pins routes : List (List ℕ)) (r : Request) (x : Insertion) → best_insertion p pins routes (request_name r) ≡ Some x → IsPut p pins routes r x
+placed_is : (p : Instance) (pins routes : List (List ℕ)) (r : Request) (x : Insertion)
+    → best_insertion p pins routes (request_name r) ≡ Some x → IsPut p pins routes r x
     → placed p pins routes (request_name r) ≡ with_request_at routes r x
 placed_is p pins routes r x best put = rw (best, put.there) refl
 
@@ -60,7 +64,8 @@ module _ (p : Instance) (valid : IsInstance p) (name : ℕ) (r : Request) (found
     pub put_named : (x : Insertion) (o : Option (List (List ℕ))) → put_in p pins routes (request_name r) x ≡ o → put_in p pins routes name x ≡ o
     put_named x o is = ap (λ n. put_in p pins routes n x) (sym named_so) ∙ is
 
-    pub placed_named : (x : Insertion) → best_insertion p pins routes (request_name r) ≡ Some x → IsPut p pins routes r x → with_request_at routes r x ≡ placed p pins routes name
+    pub placed_named : (x : Insertion) → best_insertion p pins routes (request_name r) ≡ Some x → IsPut p pins routes r x
+        → with_request_at routes r x ≡ placed p pins routes name
     placed_named x best put = sym (placed_is p pins routes r x best put) ∙ ap (placed p pins routes) named_so
 
     pub stays_named : None ≡ best_insertion p pins routes (request_name r) → routes ≡ placed p pins routes name
@@ -79,7 +84,8 @@ made_plan None made old new is = rw is.0 refl
 made_plan (Some routes) made old new is = rw is.0 (ap Some is.1)
 
 -- of what the code has: its tours, the old route, the new one, and the same lent
-module _ (p : Instance) (pins : List (List ℕ)) (d : Drafted) (is : IsDraftOf p pins d) (r : Request) (x : Insertion) (put : IsPut p pins (draft_of d) r x) (tours : List Course) (has_tours : tours ≡ d.tours)
+module _ (p : Instance) (pins : List (List ℕ)) (d : Drafted) (is : IsDraftOf p pins d) (r : Request) (x : Insertion)
+    (put : IsPut p pins (draft_of d) r x) (tours : List Course) (has_tours : tours ≡ d.tours)
     (old : List ℕ) (is_old : old ≡ of_vehicle (plan_of tours) x.0) where
   old_is : old ≡ of_vehicle (draft_of d) x.0
   old_is = is_old ∙ ap (λ (l : List Course). of_vehicle (plan_of l) x.0) has_tours

@@ -1,5 +1,6 @@
 -- A request that is taken out of a plan fits back into the places that it had, which gives the old plan.
-use Rattle.std.proofs.Common.{◌≡◌, ℕ, zero, suc, ◌-◌, ◌<◌, ◌≤◌, ◌&&◌, Bool, true, false, not, leb, List, [], ◌∷◌, map, filter, length, set, get_or, Option, Some, None, slice_get, refl, sym, ap, subst, ◌∙◌, inl, inr, arith}
+use Rattle.std.proofs.Common.{◌≡◌, ℕ, zero, suc, ◌-◌, ◌<◌, ◌≤◌, ◌&&◌, Bool, true, false, not, leb, List, [], ◌∷◌}
+use Rattle.std.proofs.Common.{map, filter, length, set, get_or, Option, Some, None, slice_get, refl, sym, ap, subst, ◌∙◌, inl, inr, arith}
 use Rattle.std.specs.Prelude.{unwrap_or, IsTrue, MatchOption}
 use Rattle.std.specs.List.{concat, insert, list_all, Contains}
 use Rattle.std.specs.Option.{option_and_then, option_map, option_map_or}
@@ -20,7 +21,8 @@ use Rattle.plan_audit.specs.Rules.{Stands}
 use Rattle.plan_audit.specs.Verdict.{planned}
 use Rattle.plan_audit.proofs.PrintLemmas.{is_there}
 use Rattle.move_ops.specs.Drafts.{placed}
-use Rattle.move_ops.specs.Insertion.{Insertion, request_named, inserted, of_vehicle, passing, are_places, with_request_at, is_place_of, insertions, insertions_of, put_in, is_no_later, cost_with, is_no_worse, best_insertion}
+use Rattle.move_ops.specs.Insertion.{Insertion, request_named, inserted, of_vehicle, passing, are_places, with_request_at}
+use Rattle.move_ops.specs.Insertion.{is_place_of, insertions, insertions_of, put_in, is_no_later, cost_with, is_no_worse, best_insertion}
 use Rattle.move_ops.specs.Laws.{BestInsertionsAreLeast, IsBest, IsRelocated, RelocationsNeverCostMore, RequestsKeepTheirPlaces}
 use Rattle.move_ops.specs.Moves.{is_movable, is_movable_name, is_of_named, without_named, removed}
 use Rattle.move_ops.proofs.Choosing.{from_places, insert_long}
@@ -70,7 +72,8 @@ module _ (keep : ℕ → Bool) where
       (λ j m there apart away. others (suc j) m there (λ e. apart (omega arith)) (λ e. away (omega arith)))))
 
 -- ---- a plan
-all_same : (f : List ℕ → List ℕ) (routes : List (List ℕ)) → ((j : ℕ) (route : List ℕ) → slice_get routes j ≡ Some route → f route ≡ route) → map f routes ≡ routes
+all_same : (f : List ℕ → List ℕ) (routes : List (List ℕ))
+    → ((j : ℕ) (route : List ℕ) → slice_get routes j ≡ Some route → f route ≡ route) → map f routes ≡ routes
 all_same f [] each = refl
 all_same f (x ∷ xs) each =
     ap (λ (y : List ℕ). y ∷ map f xs) (each zero x refl)
@@ -88,7 +91,8 @@ routes_back f (x ∷ xs) (suc w) route at stay =
     ∙ ap (λ (ys : List (List ℕ)). x ∷ ys) (routes_back f xs w route at (λ u other there apart. stay (suc u) other there (λ e. apart (omega arith))))
 
 -- a stop that is not pinned stands behind the pin
-behind_pin : (pins routes : List (List ℕ)) → KeepsPins routes pins → (w k n : ℕ) (route : List ℕ) → slice_get routes w ≡ Some route → slice_get route k ≡ Some n → times n (concat pins) ≡ 0
+behind_pin : (pins routes : List (List ℕ)) → KeepsPins routes pins → (w k n : ℕ) (route : List ℕ) → slice_get routes w ≡ Some route
+    → slice_get route k ≡ Some n → times n (concat pins) ≡ 0
     → length (of_vehicle pins (suc w)) ≤ k
 behind_pin pins routes kept w k n route at stop free = by (slice_get pins w) refl
   where
@@ -114,7 +118,8 @@ other_than_single : (s : Stop) (m : ℕ) → (m ≡ s.number → ⊥) → times 
 other_than_single s m apart = let e = none_here m s.number (ne_eqb m s.number apart) in omega arith
 
 other_than_pair : (a b : Stop) (m : ℕ) → (m ≡ a.number → ⊥) → (m ≡ b.number → ⊥) → times m (numbers_of (Pair a b)) ≡ 0
-other_than_pair a b m apart away = let e = none_here m a.number (ne_eqb m a.number apart) in let f = none_here m b.number (ne_eqb m b.number away) in omega arith
+other_than_pair a b m apart away =
+    let e = none_here m a.number (ne_eqb m a.number apart) in let f = none_here m b.number (ne_eqb m b.number away) in omega arith
 
 module _ (keep : ℕ → Bool) (pins routes : List (List ℕ)) (pinned : KeepsPins routes pins) where
   abbrev left : List (List ℕ)
@@ -128,10 +133,13 @@ module _ (keep : ℕ → Bool) (pins routes : List (List ℕ)) (pinned : KeepsPi
     left_at : of_vehicle left (suc w) ≡ filter keep route
     left_at = ap (λ (o : Option (List ℕ)). unwrap_or o []) (slice_get-map (filter keep) routes w ∙ ap (option_map (filter keep)) at)
 
-    old_place : (r : Request) (i j : ℕ) → are_places r (length (of_vehicle pins (suc w))) (length (filter keep route)) i j ≡ true → inserted r i j (filter keep route) ≡ route
+    old_place : (r : Request) (i j : ℕ) → are_places r (length (of_vehicle pins (suc w))) (length (filter keep route)) i j ≡ true
+        → inserted r i j (filter keep route) ≡ route
         → ((u m : ℕ) → (u ≡ suc w → ⊥) → (k : ℕ) → Stands routes u k m → keep m ≡ true) → IsOldPlace r (suc w, i, j)
     old_place r i j places same others = (
-      and_from (leb 1 (suc w)) (leb (suc w) (length left) && are_places r (length (of_vehicle pins (suc w))) (length (of_vehicle left (suc w))) i j) (le-leb 1 (suc w) (omega arith))
+      and_from (leb 1 (suc w))
+          (leb (suc w) (length left) && are_places r (length (of_vehicle pins (suc w))) (length (of_vehicle left (suc w))) i j)
+          (le-leb 1 (suc w) (omega arith))
           (and_from (leb (suc w) (length left)) (are_places r (length (of_vehicle pins (suc w))) (length (of_vehicle left (suc w))) i j)
           (le-leb (suc w) (length left) (let e = length-map routes (filter keep) in let f = slice_get_within routes w route at in omega arith))
           (subst (λ (n : ℕ). are_places r (length (of_vehicle pins (suc w))) n i j ≡ true) (sym (ap length left_at)) places)),
@@ -139,10 +147,13 @@ module _ (keep : ℕ → Bool) (pins routes : List (List ℕ)) (pinned : KeepsPi
           ap (λ (k : ℕ). set left k (inserted r i j (of_vehicle left (suc w)))) e
           ∙ (ap (λ (xs : List ℕ). set left w (inserted r i j xs)) left_at
           ∙ (ap (λ (xs : List ℕ). set left w xs) same
-          ∙ routes_back (filter keep) routes w route at (λ u other there apart. all_kept keep other (λ j m stop. others (suc u) m (λ e. apart (omega arith)) (suc j) (other, there, stop)))))),
+          ∙ routes_back (filter keep) routes w route at
+          (λ u other there apart. all_kept keep other
+          (λ j m stop. others (suc u) m (λ e. apart (omega arith)) (suc j) (other, there, stop)))))),
     )
 
-    module _ (s : Stop) (k : ℕ) (stop : slice_get route k ≡ Some s.number) (once : (q j : ℕ) → Stands routes q j s.number → (q ≡ suc w) × (j ≡ suc k)) (gone : keep s.number ≡ false)
+    module _ (s : Stop) (k : ℕ) (stop : slice_get route k ≡ Some s.number)
+        (once : (q j : ℕ) → Stands routes q j s.number → (q ≡ suc w) × (j ≡ suc k)) (gone : keep s.number ≡ false)
         (others : (m : ℕ) → (m ≡ s.number → ⊥) → keep m ≡ true) (free : times s.number (concat pins) ≡ 0) where
       single_same : inserted (Single s) (suc k) (suc k) (filter keep route) ≡ route
       single_same =
@@ -158,12 +169,16 @@ module _ (keep : ℕ → Bool) (pins routes : List (List ℕ)) (pinned : KeepsPi
           let long = insert_long (filter keep route) (suc k - 1) s.number in
           let old = ap length single_same in
           let within = slice_get_within route k s.number stop in
-          old_place (Single s) (suc k) (suc k) (from_places (Single s) (length (of_vehicle pins (suc w))) (length (filter keep route)) (suc k) (suc k) (omega arith, omega arith, refl) (omega arith)) single_same
+          old_place (Single s) (suc k) (suc k)
+          (from_places (Single s) (length (of_vehicle pins (suc w))) (length (filter keep route)) (suc k) (suc k)
+          (omega arith, omega arith, refl) (omega arith)) single_same
           (λ u m apart j stands. others m (λ e. apart (once u j (subst (λ (n : ℕ). Stands routes u j n) e stands)).0))
 
     module _ (a b : Stop) (k l : ℕ) (order : k < l) (first : slice_get route k ≡ Some a.number) (second : slice_get route l ≡ Some b.number)
-        (first_once : (q j : ℕ) → Stands routes q j a.number → (q ≡ suc w) × (j ≡ suc k)) (second_once : (q j : ℕ) → Stands routes q j b.number → (q ≡ suc w) × (j ≡ suc l))
-        (first_gone : keep a.number ≡ false) (gone : keep b.number ≡ false) (others : (m : ℕ) → (m ≡ a.number → ⊥) → (m ≡ b.number → ⊥) → keep m ≡ true) (free : times a.number (concat pins) ≡ 0) where
+        (first_once : (q j : ℕ) → Stands routes q j a.number → (q ≡ suc w) × (j ≡ suc k))
+        (second_once : (q j : ℕ) → Stands routes q j b.number → (q ≡ suc w) × (j ≡ suc l))
+        (first_gone : keep a.number ≡ false) (gone : keep b.number ≡ false)
+        (others : (m : ℕ) → (m ≡ a.number → ⊥) → (m ≡ b.number → ⊥) → keep m ≡ true) (free : times a.number (concat pins) ≡ 0) where
       pair_same : inserted (Pair a b) (suc k) (suc l) (filter keep route) ≡ route
       pair_same =
           let e : suc k - 1 ≡ k = omega arith in
@@ -181,12 +196,15 @@ module _ (keep : ℕ → Bool) (pins routes : List (List ℕ)) (pinned : KeepsPi
           let longer = insert_long (insert (filter keep route) (suc k - 1) a.number) (suc l - 1) b.number in
           let old = ap length pair_same in
           let within = slice_get_within route l b.number second in
-          old_place (Pair a b) (suc k) (suc l) (from_places (Pair a b) (length (of_vehicle pins (suc w))) (length (filter keep route)) (suc k) (suc l) (omega arith, omega arith, omega arith) (omega arith)) pair_same
+          old_place (Pair a b) (suc k) (suc l)
+          (from_places (Pair a b) (length (of_vehicle pins (suc w))) (length (filter keep route)) (suc k) (suc l)
+          (omega arith, omega arith, omega arith) (omega arith)) pair_same
           (λ u m apart j stands. others m
           (λ e. apart (first_once u j (subst (λ (n : ℕ). Stands routes u j n) e stands)).0)
           (λ e. apart (second_once u j (subst (λ (n : ℕ). Stands routes u j n) e stands)).0))
 
-  served_back : (r : Request) → IsServedOnce routes r → ((m : ℕ) → 1 ≤ times m (numbers_of r) → keep m ≡ false) → ((m : ℕ) → times m (numbers_of r) ≡ 0 → keep m ≡ true)
+  served_back : (r : Request) → IsServedOnce routes r → ((m : ℕ) → 1 ≤ times m (numbers_of r) → keep m ≡ false)
+      → ((m : ℕ) → times m (numbers_of r) ≡ 0 → keep m ≡ true)
       → ((m : ℕ) → 1 ≤ times m (numbers_of r) → times m (concat pins) ≡ 0) → (x : Insertion) × IsOldPlace r x
   served_back (Single s) (zero, i, ((route, at, stop), once)) own others free = absurd (none_some route at)
   served_back (Single s) (suc w, zero, ((route, at, stop), once)) own others free = absurd (none_some s.number stop)
@@ -203,11 +221,13 @@ module _ (keep : ℕ → Bool) (pins routes : List (List ℕ)) (pinned : KeepsPi
       let two : 1 ≤ times b.number (numbers_of (Pair a b)) = (let e = one_here b.number b.number refl in omega arith) in
       let here : slice_get route l ≡ Some b.number = subst (λ (xs : List ℕ). slice_get xs l ≡ Some b.number) (some_same same route (sym there ∙ at)) second in (
         (suc w, suc k, suc l),
-        pair_old w route at a b k l (omega arith) first here first_once second_once (own a.number one) (own b.number two) (λ m apart away. others m (other_than_pair a b m apart away)) (free a.number one),
+        pair_old w route at a b k l (omega arith) first here first_once second_once (own a.number one) (own b.number two)
+            (λ m apart away. others m (other_than_pair a b m apart away)) (free a.number one),
       )
 
 -- ---- the request that is removed
-module _ (found : NamedAreFound) (by_name : RequestsStandByName) (local : PassesAreLocal) (sound : PassesAreSound) (says : TestsSayPass) (p : Instance) (pins routes : List (List ℕ)) (name : ℕ)
+module _ (found : NamedAreFound) (by_name : RequestsStandByName) (local : PassesAreLocal) (sound : PassesAreSound) (says : TestsSayPass)
+    (p : Instance) (pins routes : List (List ℕ)) (name : ℕ)
     (valid : IsInstance p) (good : passes p pins routes ≡ true) where
   abbrev keep : ℕ → Bool
   keep m = not (is_of_named p (name ∷ []) m)
@@ -244,12 +264,16 @@ module _ (found : NamedAreFound) (by_name : RequestsStandByName) (local : Passes
     | inl t ↦ elim (cases_Bool (passes p pins rest)) [
       | inr f ↦ absurd (let h : None ≡ Some left = rw (t, f) at taken in none_some left h)
       | inl g ↦ (
-          let h : Some rest ≡ Some left = rw (t, g) at taken in
-          (some_same rest left h, by (request_named p name) refl (and_parts (is_movable_name p pins routes name) (list_all (is_movable_name p pins routes) []) t).0))
+          let h : Some rest ≡ Some left = rw (t, g) at taken in (
+            some_same rest left h,
+            by (request_named p name) refl
+                (and_parts (is_movable_name p pins routes name) (list_all (is_movable_name p pins routes) []) t).0,
+          ))
     ]
   ]
     where
-      by : (o : Option Request) → request_named p name ≡ o → option_map_or (is_movable pins routes) o false ≡ true → (r : Request) × ((x : Insertion) × FitsBack r x)
+      by : (o : Option Request) → request_named p name ≡ o → option_map_or (is_movable pins routes) o false ≡ true
+          → (r : Request) × ((x : Insertion) × FitsBack r x)
       by None e t = absurd (let h : false ≡ true = t in cc)
       by (Some r) e t = (r, fits_back r e t)
 
@@ -268,12 +292,14 @@ module _ (found : NamedAreFound) (by_name : RequestsStandByName) (local : Passes
       at_most : (y : Insertion) → is_no_worse p rest r y x ≡ true → IsTrue (cost_at_most (cost_with p rest r y) (cost_of p routes))
       at_most y no_worse =
           subst (λ (plan : List (List ℕ)). IsTrue (cost_at_most (cost_with p rest r y) (cost_of p plan))) (f.back)
-          (elim (or_cases (cost_below (cost_with p rest r y) (cost_with p rest r x)) (cost_at_most (cost_with p rest r y) (cost_with p rest r x) && is_no_later y x) no_worse) [
+          (elim (or_cases (cost_below (cost_with p rest r y) (cost_with p rest r x))
+          (cost_at_most (cost_with p rest r y) (cost_with p rest r x) && is_no_later y x) no_worse) [
             | inl less ↦ weaken (cost_with p rest r y) (cost_with p rest r x) less
             | inr both ↦ (and_parts (cost_at_most (cost_with p rest r y) (cost_with p rest r x)) (is_no_later y x) both).0
           ])
 
-      by : (o : Option Insertion) → best_insertion p pins rest name ≡ o → MatchOption o (insertions p pins rest name ≡ []) (IsBest p pins rest r) → IsRelocated p pins rest name routes
+      by : (o : Option Insertion) → best_insertion p pins rest name ≡ o
+          → MatchOption o (insertions p pins rest name ≡ []) (IsBest p pins rest r) → IsRelocated p pins rest name routes
       by None e none =
           let empty : insertions_of p pins rest r ≡ [] = rw (f.named) at none in
           absurd (within [] x (subst (λ (xs : List Insertion). Contains xs x) empty among))
@@ -281,7 +307,8 @@ module _ (found : NamedAreFound) (by_name : RequestsStandByName) (local : Passes
           let t = listed p pins rest r y (within (insertions_of p pins rest r) y (least.among)) in
           let put : put_in p pins rest name y ≡ Some (with_request_at rest r y) = rw (f.named, f.free, t.1, t.2) refl in
           let is : placed p pins rest name ≡ with_request_at rest r y =
-          ap (λ (o : Option Insertion). unwrap_or (option_and_then (put_in p pins rest name) o) rest) e ∙ ap (λ (o : Option (List (List ℕ))). unwrap_or o rest) put in
+          ap (λ (o : Option Insertion). unwrap_or (option_and_then (put_in p pins rest name) o) rest) e
+          ∙ ap (λ (o : Option (List (List ℕ))). unwrap_or o rest) put in
           record {
             best = y;
             found = e;
@@ -292,10 +319,15 @@ module _ (found : NamedAreFound) (by_name : RequestsStandByName) (local : Passes
 pub requests_keep_their_places : NamedAreFound → RequestsStandByName → PassesAreLocal → PassesAreSound → TestsSayPass → RequestsKeepTheirPlaces
 requests_keep_their_places found by_name local sound says p pins routes left name valid good taken =
     let fits = removal_fits found by_name local sound says p pins routes name valid good left taken in
-    let x = fits.1.1.0 in
-    (x, subst (λ (plan : List (List ℕ)). put_in p pins plan name x ≡ Some routes) fits.0 (put_back found by_name local sound says p pins routes name valid good fits.1.0 x fits.1.1.1))
+    let x = fits.1.1.0 in (
+      x,
+      subst (λ (plan : List (List ℕ)). put_in p pins plan name x ≡ Some routes) fits.0
+          (put_back found by_name local sound says p pins routes name valid good fits.1.0 x fits.1.1.1),
+    )
 
-pub relocations_never_cost_more : NamedAreFound → RequestsStandByName → PassesAreLocal → PassesAreSound → TestsSayPass → BestInsertionsAreLeast → BelowIsAtMost → RelocationsNeverCostMore
+pub relocations_never_cost_more : NamedAreFound → RequestsStandByName → PassesAreLocal → PassesAreSound → TestsSayPass
+    → BestInsertionsAreLeast → BelowIsAtMost → RelocationsNeverCostMore
 relocations_never_cost_more found by_name local sound says best weaken p pins routes left name valid good taken =
     let fits = removal_fits found by_name local sound says p pins routes name valid good left taken in
-    subst (λ (plan : List (List ℕ)). IsRelocated p pins plan name routes) fits.0 (best_back found by_name local sound says p pins routes name valid good best weaken fits.1.0 fits.1.1.0 fits.1.1.1)
+    subst (λ (plan : List (List ℕ)). IsRelocated p pins plan name routes) fits.0
+    (best_back found by_name local sound says p pins routes name valid good best weaken fits.1.0 fits.1.1.0 fits.1.1.1)

@@ -1,5 +1,6 @@
 -- Tables of which some were built anew.
-use Rattle.std.proofs.Common.{◌≡◌, ℕ, ◌+◌, ◌-◌, ◌<◌, ◌≤◌, ◌⊎◌, Bool, true, false, List, [], ◌∷◌, length, map, set, get_or, refl, sym, ap, subst, ◌∙◌, inl, inr, arith}
+use Rattle.std.proofs.Common.{◌≡◌, ℕ, ◌+◌, ◌-◌, ◌<◌, ◌≤◌, ◌⊎◌, Bool, true, false, List, []}
+use Rattle.std.proofs.Common.{◌∷◌, length, map, set, get_or, refl, sym, ap, subst, ◌∙◌, inl, inr, arith}
 use Rattle.std.specs.List.{AllByRecursion}
 use Rattle.std.proofs.Math.ListN.{get_or-map, length-map}
 use Rattle.std.proofs.lemmas.Bool.Decides.{eqb_tells}
@@ -26,22 +27,26 @@ module _ (p : Instance) (valid : IsInstance p) where
       ap (λ (l : List ℕ). l ∷ plan_of (tables_of p routes)) (numbers-are p r valid once.0) ∙ ap (λ (l : List (List ℕ)). r ∷ l) (routes_kept routes once.1)
 
   pub plan_kept : PassesAreLocal → PlansAreLocal → (pins routes : List (List ℕ)) → passes p pins routes ≡ true → plan_of (tables_of p routes) ≡ routes
-  plan_kept local plans pins routes good = routes_kept routes (recursion_from_All (AreLiveOnce p) routes ((plans p routes).0 ((parts local p pins routes good).plan)).0)
+  plan_kept local plans pins routes good =
+      routes_kept routes (recursion_from_All (AreLiveOnce p) routes ((plans p routes).0 ((parts local p pins routes good).plan)).0)
 
 -- ---- tables that take the place of others
 at_index : (routes : List (List ℕ)) (i : ℕ) → i < length routes → get_or routes i [] ≡ of_vehicle routes (i + 1)
 at_index routes i below =
     let at : i + 1 - 1 ≡ i = omega arith in
-    ap (λ (k : ℕ). get_or routes k []) (sym at) ∙ get_or_from_slice_get routes (i + 1 - 1) (of_vehicle routes (i + 1)) [] (at_vehicle routes (i + 1) (omega arith) (omega arith))
+    ap (λ (k : ℕ). get_or routes k []) (sym at)
+    ∙ get_or_from_slice_get routes (i + 1 - 1) (of_vehicle routes (i + 1)) [] (at_vehicle routes (i + 1) (omega arith) (omega arith))
 
 -- a vehicle's route, by its index
-pub vehicle_at : (routes : List (List ℕ)) (v : ℕ) (route : List ℕ) → 1 ≤ v → v ≤ length routes → route ≡ of_vehicle routes v → route ≡ get_or routes (v - 1) route
+pub vehicle_at : (routes : List (List ℕ)) (v : ℕ) (route : List ℕ) → 1 ≤ v → v ≤ length routes → route ≡ of_vehicle routes v
+    → route ≡ get_or routes (v - 1) route
 vehicle_at routes v route low high is = is ∙ sym (get_or_from_slice_get routes (v - 1) (of_vehicle routes v) route (at_vehicle routes v low high))
 
 pub fleet_of : PassesAreLocal → (p : Instance) (pins routes : List (List ℕ)) → passes p pins routes ≡ true → length routes ≡ p.fleet
 fleet_of local p pins routes good = (parts local p pins routes good).fleet
 
-pub vehicles_within : (p : Instance) (routes : List (List ℕ)) (n : ℕ) (vehicles : List ℕ) → n ≡ p.fleet → AllByRecursion (λ v. (1 ≤ v) × (v ≤ p.fleet)) vehicles → AreWithin n (map (fresh_of p routes) vehicles)
+pub vehicles_within : (p : Instance) (routes : List (List ℕ)) (n : ℕ) (vehicles : List ℕ) → n ≡ p.fleet
+    → AllByRecursion (λ v. (1 ≤ v) × (v ≤ p.fleet)) vehicles → AreWithin n (map (fresh_of p routes) vehicles)
 vehicles_within p routes n [] same each = tt
 vehicles_within p routes n (v ∷ vs) same each = ((each.0.0, (let h = each.0.1 in omega arith)), vehicles_within p routes n vs same each.1)
 
@@ -61,7 +66,8 @@ module _ (p : Instance) (routes : List (List ℕ)) where
     | inr done ↦ done
   ]
   replaced_at (v ∷ vs) tables long within due i d below =
-      replaced_at vs (set tables (v - 1) (course_of p (of_vehicle routes v))) (length-set tables (v - 1) (course_of p (of_vehicle routes v)) ∙ long) within.1 still i d below
+      replaced_at vs (set tables (v - 1) (course_of p (of_vehicle routes v)))
+      (length-set tables (v - 1) (course_of p (of_vehicle routes v)) ∙ long) within.1 still i d below
     where
       still : IsDue vs (set tables (v - 1) (course_of p (of_vehicle routes v)))
       still i d below = elim (eqb_tells (i + 1) v) [
@@ -69,7 +75,9 @@ module _ (p : Instance) (routes : List (List ℕ)) where
             let low = within.0.0 in
             let high = within.0.1 in
             let at : i ≡ v - 1 = omega arith in
-            let route : get_or routes i [] ≡ of_vehicle routes v = ap (λ (k : ℕ). get_or routes k []) at ∙ get_or_from_slice_get routes (v - 1) (of_vehicle routes v) [] (at_vehicle routes v low high) in
+            let route : get_or routes i [] ≡ of_vehicle routes v =
+            ap (λ (k : ℕ). get_or routes k []) at
+            ∙ get_or_from_slice_get routes (v - 1) (of_vehicle routes v) [] (at_vehicle routes v low high) in
             inr (get_or-set_at tables (v - 1) i (course_of p (of_vehicle routes v)) d at (omega arith) ∙ ap (course_of p) (sym route)))
         | inr t ↦ (
             elim (due i d below) [
@@ -79,7 +87,8 @@ module _ (p : Instance) (routes : List (List ℕ)) where
       ]
 
   -- the new tables are those of the plan
-  pub refreshed : (vehicles : List ℕ) (tables : List Course) → AreTablesIn p tables → length routes ≡ p.fleet → AreVehicles p vehicles → DifferOnlyAt vehicles (plan_of tables) routes
+  pub refreshed : (vehicles : List ℕ) (tables : List Course) → AreTablesIn p tables → length routes ≡ p.fleet → AreVehicles p vehicles
+      → DifferOnlyAt vehicles (plan_of tables) routes
       → replaced tables (map (fresh_of p routes) vehicles) ≡ tables_of p routes
   refreshed vehicles tables are fleet within differ = same_lists (replaced tables (map (fresh_of p routes) vehicles)) (tables_of p routes)
       (let e = replaced_long tables (map (fresh_of p routes) vehicles) in let f = length-map routes (course_of p) in let g = long in omega arith)
@@ -92,10 +101,14 @@ module _ (p : Instance) (routes : List (List ℕ)) where
       long = let e = differ.long in let f = length-map tables route_of in omega arith
 
       in_range : AllByRecursion (λ v. (1 ≤ v) × (v ≤ length routes)) vehicles
-      in_range = subst (λ (n : ℕ). AllByRecursion (λ v. (1 ≤ v) × (v ≤ n)) vehicles) (sym fleet) (recursion_from_All (λ v. (1 ≤ v) × (v ≤ p.fleet)) vehicles within)
+      in_range =
+          subst (λ (n : ℕ). AllByRecursion (λ v. (1 ≤ v) × (v ≤ n)) vehicles) (sym fleet)
+          (recursion_from_All (λ v. (1 ≤ v) × (v ≤ p.fleet)) vehicles within)
 
       there : (i : ℕ) (d : Course) → i < length routes → course_of p (get_or routes i []) ≡ get_or (tables_of p routes) i d
-      there i d below = sym (get_or-map (course_of p) routes i []) ∙ get_or_default (tables_of p routes) i (course_of p []) d (let f = length-map routes (course_of p) in omega arith)
+      there i d below =
+          sym (get_or-map (course_of p) routes i [])
+          ∙ get_or_default (tables_of p routes) i (course_of p []) d (let f = length-map routes (course_of p) in omega arith)
 
       due : IsDue vehicles tables
       due i d below = by (has vehicles (i + 1)) refl
@@ -104,9 +117,13 @@ module _ (p : Instance) (routes : List (List ℕ)) where
           same none =
               let old : of_vehicle (plan_of tables) (i + 1) ≡ of_vehicle routes (i + 1) = differ.others (i + 1) none in
               let route : get_or routes i [] ≡ of_vehicle routes (i + 1) = at_index routes i below in
-              let other : get_or (plan_of tables) i [] ≡ of_vehicle (plan_of tables) (i + 1) = at_index (plan_of tables) i (let e = differ.long in omega arith) in
-              let listed : get_or (tables_of p (plan_of tables)) i (course_of p []) ≡ course_of p (get_or (plan_of tables) i []) = get_or-map (course_of p) (plan_of tables) i [] in
-              get_or_default tables i d (course_of p []) (let g = long in omega arith) ∙ (ap (λ (l : List Course). get_or l i (course_of p [])) (sym are) ∙ (listed ∙ ap (course_of p) (other ∙ (old ∙ sym route))))
+              let other : get_or (plan_of tables) i [] ≡ of_vehicle (plan_of tables) (i + 1) =
+              at_index (plan_of tables) i (let e = differ.long in omega arith) in
+              let listed : get_or (tables_of p (plan_of tables)) i (course_of p []) ≡ course_of p (get_or (plan_of tables) i []) =
+              get_or-map (course_of p) (plan_of tables) i [] in
+              get_or_default tables i d (course_of p []) (let g = long in omega arith)
+              ∙ (ap (λ (l : List Course). get_or l i (course_of p [])) (sym are)
+              ∙ (listed ∙ ap (course_of p) (other ∙ (old ∙ sym route))))
 
           by : (b : Bool) → has vehicles (i + 1) ≡ b → (has vehicles (i + 1) ≡ true) ⊎ (get_or tables i d ≡ course_of p (get_or routes i []))
           by true had = inl had

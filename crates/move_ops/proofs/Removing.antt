@@ -1,5 +1,6 @@
 -- Requests taken out of a plan that passes.
-use Rattle.std.proofs.Common.{◌≡◌, ℕ, zero, suc, ◌≤◌, not, Bool, true, false, cond, eqb, List, [], ◌∷◌, All, map, filter, Option, Some, None, slice_get, refl, sym, ap, subst, ◌∙◌, inl, inr, arith}
+use Rattle.std.proofs.Common.{◌≡◌, ℕ, zero, suc, ◌≤◌, not, Bool, true, false, cond, eqb, List, [], ◌∷◌}
+use Rattle.std.proofs.Common.{All, map, filter, Option, Some, None, slice_get, refl, sym, ap, subst, ◌∙◌, inl, inr, arith}
 use Rattle.std.specs.List.{list_all, concat}
 use Rattle.std.specs.Option.{option_map, option_map_or, option_or}
 use Rattle.std.proofs.lemmas.Bool.{cases_Bool, and_parts, or_cases, eqb-true, not-true}
@@ -39,7 +40,8 @@ times_left n keep (route ∷ routes) =
     omega arith
 
 -- a front that is kept stays the front
-front_kept : (keep : ℕ → Bool) (pin route : List ℕ) → ((k n : ℕ) → slice_get pin k ≡ Some n → slice_get route k ≡ Some n) → ((k n : ℕ) → slice_get pin k ≡ Some n → keep n ≡ true)
+front_kept : (keep : ℕ → Bool) (pin route : List ℕ) → ((k n : ℕ) → slice_get pin k ≡ Some n → slice_get route k ≡ Some n)
+    → ((k n : ℕ) → slice_get pin k ≡ Some n → keep n ≡ true)
     → (k n : ℕ) → slice_get pin k ≡ Some n → slice_get (filter keep route) k ≡ Some n
 front_kept keep [] route same all k n at = absurd (none_some n at)
 front_kept keep (x ∷ pin) [] same all k n at = absurd (none_some x (same zero x refl))
@@ -64,15 +66,22 @@ test_of test (x ∷ xs) m all in_it =
 
 -- the request that is found at a number has a stop with it
 module _ (n : ℕ) (r : Request) where
-  found_in : (q : Request) (rest : Option Request) → (rest ≡ Some r → 1 ≤ times n (numbers_of r)) → option_or (option_map (λ _. q) (stop_in n q)) rest ≡ Some r → 1 ≤ times n (numbers_of r)
+  found_in : (q : Request) (rest : Option Request) → (rest ≡ Some r → 1 ≤ times n (numbers_of r))
+      → option_or (option_map (λ _. q) (stop_in n q)) rest ≡ Some r → 1 ≤ times n (numbers_of r)
   found_in (Single s) rest further h = elim (eqb_tells s.number n) [
-    | inl t ↦ (let same : Single s ≡ r = some_same (Single s) r (rw t.0 at h) in let e = one_here n s.number (sym t.1) in subst (λ x. 1 ≤ times n (numbers_of x)) same (omega arith))
+    | inl t ↦ (let same : Single s ≡ r = some_same (Single s) r (rw t.0 at h) in
+        let e = one_here n s.number (sym t.1) in
+        subst (λ x. 1 ≤ times n (numbers_of x)) same (omega arith))
     | inr t ↦ further (rw t.0 at h)
   ]
   found_in (Pair a b) rest further h = elim (eqb_tells a.number n) [
-    | inl t ↦ (let same : Pair a b ≡ r = some_same (Pair a b) r (rw t.0 at h) in let e = one_here n a.number (sym t.1) in subst (λ x. 1 ≤ times n (numbers_of x)) same (omega arith))
+    | inl t ↦ (let same : Pair a b ≡ r = some_same (Pair a b) r (rw t.0 at h) in
+        let e = one_here n a.number (sym t.1) in
+        subst (λ x. 1 ≤ times n (numbers_of x)) same (omega arith))
     | inr t ↦ elim (eqb_tells b.number n) [
-      | inl u ↦ (let same : Pair a b ≡ r = some_same (Pair a b) r (rw (t.0, u.0) at h) in let e = one_here n b.number (sym u.1) in subst (λ x. 1 ≤ times n (numbers_of x)) same (omega arith))
+      | inl u ↦ (let same : Pair a b ≡ r = some_same (Pair a b) r (rw (t.0, u.0) at h) in
+          let e = one_here n b.number (sym u.1) in
+          subst (λ x. 1 ≤ times n (numbers_of x)) same (omega arith))
       | inr u ↦ further (rw (t.0, u.0) at h)
     ]
   ]
@@ -91,7 +100,8 @@ unpinned pins routes r movable n pinned = elim (eqb_tells (times n (numbers_of r
       absurd (omega arith))
 ]
 
-module _ (by_name : RequestsStandByName) (p : Instance) (pins routes : List (List ℕ)) (valid : IsInstance p) (names : List ℕ) (movable : list_all (is_movable_name p pins routes) names ≡ true) where
+module _ (by_name : RequestsStandByName) (p : Instance) (pins routes : List (List ℕ)) (valid : IsInstance p) (names : List ℕ)
+    (movable : list_all (is_movable_name p pins routes) names ≡ true) where
   -- so a pinned stop is kept
   pinned_kept : (n : ℕ) → 1 ≤ times n (concat pins) → not (is_of_named p names n) ≡ true
   pinned_kept n pinned = by (request_with p n) refl
@@ -108,22 +118,32 @@ module _ (by_name : RequestsStandByName) (p : Instance) (pins routes : List (Lis
             omega arith)
       ]
 
-module _ (by_name : RequestsStandByName) (local : PassesAreLocal) (plans : PlansAreLocal) (says : TestsSayFeasible) (p : Instance) (pins routes : List (List ℕ)) (valid : IsInstance p)
+module _ (by_name : RequestsStandByName) (local : PassesAreLocal) (plans : PlansAreLocal) (says : TestsSayFeasible) (p : Instance)
+    (pins routes : List (List ℕ)) (valid : IsInstance p)
     (good : passes p pins routes ≡ true) (names : List ℕ) (movable : list_all (is_movable_name p pins routes) names ≡ true) where
   pub left_plan : IsPlan p (without_named p names routes)
   left_plan =
       once_from p (concat (without_named p names routes))
-      (λ n. let e = times_left n (λ m. not (is_of_named p names m)) routes in let f = once_few p (concat routes) ((parts local p pins routes good).plan) n in omega arith)
-      (λ n some. let e = times_left n (λ m. not (is_of_named p names m)) routes in once_live p (concat routes) ((parts local p pins routes good).plan) n (omega arith))
+      (λ n. let e = times_left n (λ m. not (is_of_named p names m)) routes in
+      let f = once_few p (concat routes) ((parts local p pins routes good).plan) n in
+      omega arith)
+      (λ n some. let e = times_left n (λ m. not (is_of_named p names m)) routes in
+      once_live p (concat routes) ((parts local p pins routes good).plan) n (omega arith))
 
   pub left_pinned : KeepsPins (without_named p names routes) pins
   left_pinned =
       pins_map (filter (λ m. not (is_of_named p names m))) routes pins ((parts local p pins routes good).pinned)
-      (λ pin route same stand. front_kept (λ m. not (is_of_named p names m)) pin route same (λ k n at. pinned_kept by_name p pins routes valid names movable n (stand k n at)))
+      (λ pin route same stand. front_kept (λ m. not (is_of_named p names m)) pin route same
+      (λ k n at. pinned_kept by_name p pins routes valid names movable n (stand k n at)))
 
   pub left_once : All (AreLiveOnce p) (without_named p names routes)
   left_once = each_once plans p (without_named p names routes) left_plan
 
-  pub removed_is : (b : Bool) → b ≡ list_all (feasible_alone p) (without_named p names routes) → removed p pins routes names ≡ cond b (Some (without_named p names routes)) None
+  pub removed_is : (b : Bool) → b ≡ list_all (feasible_alone p) (without_named p names routes)
+      → removed p pins routes names ≡ cond b (Some (without_named p names routes)) None
   removed_is b e =
-      rw (movable, passes_where_feasible local says p pins routes good (without_named p names routes) left_plan (length-map routes (filter (λ m. not (is_of_named p names m)))) left_pinned b e) refl
+      rw (
+        movable,
+        passes_where_feasible local says p pins routes good (without_named p names routes) left_plan
+            (length-map routes (filter (λ m. not (is_of_named p names m)))) left_pinned b e,
+      ) refl

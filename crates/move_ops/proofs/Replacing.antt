@@ -1,5 +1,6 @@
 -- A plan with another route for a vehicle.
-use Rattle.std.proofs.Common.{◌≡◌, ℕ, zero, suc, ◌+◌, ◌-◌, ◌<◌, ◌≤◌, true, List, [], ◌∷◌, All, length, set, Option, Some, slice_get, refl, sym, ap, subst, ◌∙◌, inl, inr, arith}
+use Rattle.std.proofs.Common.{◌≡◌, ℕ, zero, suc, ◌+◌, ◌-◌, ◌<◌, ◌≤◌, true, List, [], ◌∷◌, All}
+use Rattle.std.proofs.Common.{length, set, Option, Some, slice_get, refl, sym, ap, subst, ◌∙◌, inl, inr, arith}
 use Rattle.std.specs.Prelude.{unwrap_or}
 use Rattle.std.specs.List.{concat}
 use Rattle.std.proofs.lemmas.Bool.Decides.{eqb_tells}
@@ -54,7 +55,8 @@ pub other_vehicle : (routes : List (List ℕ)) (v r : ℕ) (new : List ℕ) → 
 other_vehicle routes v r new from apart = ap (λ (o : Option (List ℕ)). unwrap_or o []) (item_set_other routes v r new from apart)
 
 -- how often numbers stand then
-pub times_with : (n : ℕ) (routes : List (List ℕ)) (v : ℕ) (new : List ℕ) → 1 ≤ v → v ≤ length routes → times n (concat (with_route routes v new)) + times n (of_vehicle routes v) ≡ times n (concat routes) + times n new
+pub times_with : (n : ℕ) (routes : List (List ℕ)) (v : ℕ) (new : List ℕ) → 1 ≤ v → v ≤ length routes
+    → times n (concat (with_route routes v new)) + times n (of_vehicle routes v) ≡ times n (concat routes) + times n new
 times_with n routes v new from within = times_replaced n routes (v - 1) (of_vehicle routes v) new (at_vehicle routes v from within)
 
 times_at : (n : ℕ) (routes : List (List ℕ)) (k : ℕ) (route : List ℕ) → slice_get routes k ≡ Some route → times n route ≤ times n (concat routes)
@@ -67,13 +69,15 @@ times_in_vehicle n routes v from within = times_at n routes (v - 1) (of_vehicle 
 
 -- the pins are kept where the new route keeps its pin's stops
 pub pins_with : (routes pins : List (List ℕ)) (v : ℕ) (new : List ℕ) → 1 ≤ v → v ≤ length routes → KeepsPins routes pins
-    → ((i n : ℕ) → item_at (of_vehicle pins v) i ≡ Some n → item_at (of_vehicle routes v) i ≡ Some n → item_at new i ≡ Some n) → KeepsPins (with_route routes v new) pins
+    → ((i n : ℕ) → item_at (of_vehicle pins v) i ≡ Some n → item_at (of_vehicle routes v) i ≡ Some n → item_at new i ≡ Some n)
+    → KeepsPins (with_route routes v new) pins
 pins_with routes pins v new from within kept front r i n s = elim (eqb_tells r v) [
   | inl t ↦ (
       let k = kept r i n s in (
         new,
         subst (λ u. item_at (set routes (v - 1) new) u ≡ Some new) (sym t.1) (item_set routes v new from within),
-        front i n (subst (λ u. item_at (of_vehicle pins u) i ≡ Some n) t.1 (in_vehicle pins r i n s)) (subst (λ u. item_at (of_vehicle routes u) i ≡ Some n) t.1 (in_vehicle routes r i n k)),
+        front i n (subst (λ u. item_at (of_vehicle pins u) i ≡ Some n) t.1 (in_vehicle pins r i n s))
+            (subst (λ u. item_at (of_vehicle routes u) i ≡ Some n) t.1 (in_vehicle routes r i n k)),
       ))
   | inr t ↦ (let k = kept r i n s in (k.0, item_set_other routes v r new from t.1 ∙ k.1, k.2))
 ]
@@ -84,12 +88,15 @@ same_vehicle routes v new from within = ap (λ (o : Option (List ℕ)). unwrap_o
 
 -- what holds of all routes holds of a vehicle's
 pub all_at : (P : List ℕ → Type 0) (routes : List (List ℕ)) (v : ℕ) → 1 ≤ v → v ≤ length routes → All P routes → P (of_vehicle routes v)
-all_at P routes v from within all = subst P (get_or_from_slice_get routes (v - 1) (of_vehicle routes v) [] (at_vehicle routes v from within)) (All-get_or P routes (v - 1) [] (omega arith) all)
+all_at P routes v from within all =
+    subst P (get_or_from_slice_get routes (v - 1) (of_vehicle routes v) [] (at_vehicle routes v from within))
+    (All-get_or P routes (v - 1) [] (omega arith) all)
 
 module _ (local : PassesAreLocal) (p : Instance) (pins routes : List (List ℕ)) (good : passes p pins routes ≡ true) where
   pub parts : IsPassing p pins routes
   parts = (local p pins routes).0 good
 
   -- a plan of as many routes, each feasible alone, that keeps the pins
-  pub passes_too : (others : List (List ℕ)) → IsPlan p others → length others ≡ length routes → All (IsFeasibleAlone p) others → KeepsPins others pins → passes p pins others ≡ true
+  pub passes_too : (others : List (List ℕ)) → IsPlan p others → length others ≡ length routes → All (IsFeasibleAlone p) others
+      → KeepsPins others pins → passes p pins others ≡ true
   passes_too others plan same feasible kept = (local p pins others).1 (record { plan = plan; fleet = same ∙ parts.fleet; feasible = feasible; pinned = kept })

@@ -1,5 +1,6 @@
 -- How far routes drive in which a stop takes the place of another, or that exchange their ends.
-use Rattle.std.proofs.Common.{◌≡◌, ℕ, zero, suc, ◌+◌, ◌-◌, ◌<◌, ◌≤◌, ◌++◌, List, [], ◌∷◌, length, take, drop, map, get_or, Some, slice_get, refl, sym, ap, subst, ◌∙◌, arith, add-one}
+use Rattle.std.proofs.Common.{◌≡◌, ℕ, zero, suc, ◌+◌, ◌-◌, ◌<◌, ◌≤◌, ◌++◌, List, [], ◌∷◌, length}
+use Rattle.std.proofs.Common.{take, drop, map, get_or, Some, slice_get, refl, sym, ap, subst, ◌∙◌, arith, add-one}
 use Rattle.std.proofs.lemmas.List.{length-set, length-map, length-append, length-take-le, length-drop, get_or-drop}
 use Rattle.plan_types.specs.Instance.{Instance}
 use Rattle.plan_types.specs.declared.requests.Stop.{Stop}
@@ -28,11 +29,23 @@ module _ (a b : ℕ → Stop) (i : ℕ) (front : (k : ℕ) → k ≤ i → b k �
       let there : b (i + 1 + 1) ≡ a (i + 1 + 1) = subst (λ k. b k ≡ a k) none (behind 0) in
       let first : distance (b i) (b (i + 1)) ≡ distance (a i) (b (i + 1)) = rw here refl in
       let second : distance (b (i + 1)) (b (i + 1 + 1)) ≡ distance (b (i + 1)) (a (i + 1 + 1)) = rw there refl in
-      omega (arith, spliced-length a b (i + 1 + 1) (i + 1 + 1) behind l, length-next a i, length-next a (i + 1), length-next b i, length-next b (i + 1), same-length a b i front i (omega arith), first, second)
+      omega (
+        arith,
+        spliced-length a b (i + 1 + 1) (i + 1 + 1) behind l,
+        length-next a i,
+        length-next a (i + 1),
+        length-next b i,
+        length-next b (i + 1),
+        same-length a b i front i (omega arith),
+        first,
+        second,
+      )
 
 -- the front of one, and from place c + 1 on what another has behind place d
 module _ (x a b : ℕ → Stop) (c d : ℕ) (front : (k : ℕ) → k ≤ c → x k ≡ a k) (behind : (k : ℕ) → x (c + 1 + k) ≡ b (d + 1 + k)) where
-  two_parts : (l : ℕ) → length_along x (c + 1 + l) + (length_along b d + distance (b d) (b (d + 1))) ≡ length_along b (d + 1 + l) + (length_along a c + distance (a c) (b (d + 1)))
+  two_parts : (l : ℕ)
+      → length_along x (c + 1 + l) + (length_along b d + distance (b d) (b (d + 1)))
+      ≡ length_along b (d + 1 + l) + (length_along a c + distance (a c) (b (d + 1)))
   two_parts l =
       let here : x c ≡ a c = front c (omega arith) in
       let none_x : c + 1 + 0 ≡ c + 1 = omega arith in
@@ -69,13 +82,18 @@ once_at (x ∷ xs) zero (suc i) n at also few = let e = one_here n x (sym (some_
 once_at (x ∷ xs) (suc k) zero n at also few = let e = one_here n x (sym (some_same x n also)) in let h = stands_once_more n k xs at in absurd (omega arith)
 once_at (x ∷ xs) (suc k) (suc i) n at also few = ap suc (once_at xs k i n at also (omega arith))
 
-module _ (p : Instance) (f : ℕ → ℕ) (route : List ℕ) (i n : ℕ) (at : slice_get route i ≡ Some n) (few : times n route ≤ 1) (others : (m : ℕ) → (m ≡ n → ⊥) → 1 ≤ times m route → f m ≡ m)
+module _ (p : Instance) (f : ℕ → ℕ) (route : List ℕ) (i n : ℕ) (at : slice_get route i ≡ Some n) (few : times n route ≤ 1)
+    (others : (m : ℕ) → (m ≡ n → ⊥) → 1 ≤ times m route → f m ≡ m)
     (old new : Stop) (is_old : stop_numbered p n ≡ old) (is_new : stop_numbered p (f n) ≡ new) where
   place_other : (k : ℕ) → (k ≡ i + 1 → ⊥) → place p (map f route) k ≡ place p route k
   unfolding place
   place_other zero apart = refl
   place_other (suc k) apart =
-      ap (stop_numbered p) (mapped_at f route k (λ m there. others m (λ same. apart (let e = once_at route k i n (subst (λ l. slice_get route k ≡ Some l) same there) at few in omega arith)) (stands_once_more m k route there)))
+      ap (stop_numbered p)
+      (mapped_at f route k
+      (λ m there. others m
+      (λ same. apart (let e = once_at route k i n (subst (λ l. slice_get route k ≡ Some l) same there) at few in omega arith))
+      (stands_once_more m k route there)))
 
   place_new : place p (map f route) (i + 1) ≡ new
   unfolding place
@@ -91,13 +109,16 @@ module _ (p : Instance) (f : ℕ → ℕ) (route : List ℕ) (i n : ℕ) (at : s
       let l = length route - (i + 1) in
       let end : i + 1 + 1 + (length route - (i + 1)) ≡ length route + 1 = omega arith in
       let end_new : i + 1 + 1 + (length route - (i + 1)) ≡ length (map f route) + 1 = omega (arith, length-map route f) in
-      let far : length_along (place p route) (i + 1 + 1 + (length route - (i + 1))) ≡ route_length p route = ap (length_along (place p route)) end ∙ sym (length-is p route) in
-      let far_new : length_along (place p (map f route)) (i + 1 + 1 + (length route - (i + 1))) ≡ route_length p (map f route) = ap (length_along (place p (map f route))) end_new ∙ sym (length-is p (map f route)) in
+      let far : length_along (place p route) (i + 1 + 1 + (length route - (i + 1))) ≡ route_length p route =
+      ap (length_along (place p route)) end ∙ sym (length-is p route) in
+      let far_new : length_along (place p (map f route)) (i + 1 + 1 + (length route - (i + 1))) ≡ route_length p (map f route) =
+      ap (length_along (place p (map f route))) end_new ∙ sym (length-is p (map f route)) in
       let to_old = ap (distance (place p route i)) place_old in
       let from_old = ap (λ s. distance s (place p route (i + 1 + 1))) place_old in
       let to_new = ap (distance (place p route i)) place_new in
       let from_new = ap (λ s. distance s (place p route (i + 1 + 1))) place_new in
-      let one = one_other (place p route) (place p (map f route)) i (λ k h. place_other k (λ e. omega arith)) (λ k. place_other (i + 1 + 1 + k) (λ e. omega arith)) (length route - (i + 1)) in
+      let one = one_other (place p route) (place p (map f route)) i (λ k h. place_other k (λ e. omega arith))
+      (λ k. place_other (i + 1 + 1 + k) (λ e. omega arith)) (length route - (i + 1)) in
       omega arith
 
 -- ---- routes that exchange their ends
@@ -125,12 +146,15 @@ module _ (p : Instance) (from to : List ℕ) (c d : ℕ) (c_within : c ≤ lengt
       let f : d + 1 + k ≡ suc (d + k) = omega arith in
       rw (e, f) (ap (stop_numbered p) (joined_behind c from (drop d to) k c_within ∙ get_or-drop d to k 0))
 
-  pub length_joined : route_length p (joined from c to d) + (length_along (place p to) d + way_across p to d to (d + 1)) ≡ route_length p to + (length_along (place p from) c + way_across p from c to (d + 1))
+  pub length_joined : route_length p (joined from c to d) + (length_along (place p to) d + way_across p to d to (d + 1))
+      ≡ route_length p to + (length_along (place p from) c + way_across p from c to (d + 1))
   length_joined =
       let end : d + 1 + (length to - d) ≡ length to + 1 = omega arith in
-      let end_new : c + 1 + (length to - d) ≡ length (joined from c to d) + 1 = omega (arith, length-append (take c from) (drop d to), length-take-le c from c_within, length-drop d to) in
+      let end_new : c + 1 + (length to - d) ≡ length (joined from c to d) + 1 =
+      omega (arith, length-append (take c from) (drop d to), length-take-le c from c_within, length-drop d to) in
       let far : length_along (place p to) (d + 1 + (length to - d)) ≡ route_length p to = ap (length_along (place p to)) end ∙ sym (length-is p to) in
-      let far_new : length_along (place p (joined from c to d)) (c + 1 + (length to - d)) ≡ route_length p (joined from c to d) = ap (length_along (place p (joined from c to d))) end_new ∙ sym (length-is p (joined from c to d)) in
+      let far_new : length_along (place p (joined from c to d)) (c + 1 + (length to - d)) ≡ route_length p (joined from c to d) =
+      ap (length_along (place p (joined from c to d))) end_new ∙ sym (length-is p (joined from c to d)) in
       let two = two_parts (place p (joined from c to d)) (place p from) (place p to) c d place_front place_behind (length to - d) in
       omega arith
 
@@ -144,8 +168,11 @@ lengths_crossed p xs ys c d c_within d_within =
     omega arith
 
 -- ---- all routes, where two are others
-pub lengths_of_two : (p : Instance) (routes : List (List ℕ)) (v w : ℕ) (new other : List ℕ) → 1 ≤ v → v ≤ length routes → 1 ≤ w → w ≤ length routes → (w ≡ v → ⊥)
-    → total_length p (with_route (with_route routes v new) w other) + (route_length p (of_vehicle routes v) + route_length p (of_vehicle routes w)) ≡ total_length p routes + (route_length p new + route_length p other)
+pub lengths_of_two : (p : Instance) (routes : List (List ℕ)) (v w : ℕ) (new other : List ℕ) → 1 ≤ v → v ≤ length routes → 1 ≤ w
+    → w ≤ length routes → (w ≡ v → ⊥)
+    → total_length p (with_route (with_route routes v new) w other)
+    + (route_length p (of_vehicle routes v) + route_length p (of_vehicle routes w))
+    ≡ total_length p routes + (route_length p new + route_length p other)
 lengths_of_two p routes v w new other v_from v_within w_from w_within apart =
     let long = length-set routes (v - 1) new in
     let e = replaced (route_length p) routes v new v_from v_within in

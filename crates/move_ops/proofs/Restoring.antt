@@ -13,7 +13,8 @@ use Rattle.move_ops.proofs.Drafting.{base_course}
 use Rattle.move_ops.proofs.Logging.{base_at}
 use Rattle.move_ops.proofs.Times.{some_same}
 
-module _ (p : Instance) (d : Drafted) (old : Inside) (kept : IsKept old) (view : old.log.items ≡ d.log) (base : AreTablesIn p (undone d.tours d.log)) (v k : ℕ) (high : v ≤ length d.tours)
+module _ (p : Instance) (d : Drafted) (old : Inside) (kept : IsKept old) (view : old.log.items ≡ d.log)
+    (base : AreTablesIn p (undone d.tours d.log)) (v k : ℕ) (high : v ≤ length d.tours)
     (x : Course) (there : slice_get d.log k ≡ Some (v, x)) where
   below : k < length d.log
   below = slice_get_within d.log k (v, x) there
@@ -28,7 +29,9 @@ module _ (p : Instance) (d : Drafted) (old : Inside) (kept : IsKept old) (view :
       base_course p (undone d.tours d.log) (v - 1) x (base_at d.tours d.log (length old.tours.items) k (v, x) there within once high) base
 
   read : (e : ℕ × Course) → e ≡ get_or old.log.items k e → e ≡ (v, x)
-  read e at = some_same e (v, x) (sym (slice_get_read d.log (length d.log) k e refl below (subst (λ (l : List (ℕ × Course)). e ≡ get_or l k e) view at)) ∙ there)
+  read e at =
+      some_same e (v, x)
+      (sym (slice_get_read d.log (length d.log) k e refl below (subst (λ (l : List (ℕ × Course)). e ≡ get_or l k e) view at)) ∙ there)
 
   -- what is read there is its table of the base
   pub read_course : (e : ℕ × Course) → e ≡ get_or old.log.items k e → course_of p (route_of e.1) ≡ e.1

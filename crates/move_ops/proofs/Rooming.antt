@@ -13,10 +13,12 @@ tail_rooms : (a : Course) (b : ℤ) (courses : List Course) (rooms : List ℤ) �
 tail_rooms a b courses rooms are = record { each = λ k. are.each (suc k) }
 
 -- one vehicle more
-pub push_room : (courses : List Course) (rooms : List ℤ) (d : Course) (x : ℤ) → AreRooms courses rooms → slice_get courses (length rooms) ≡ Some d → IsRoom d x → AreRooms courses (rooms ++ x ∷ [])
+pub push_room : (courses : List Course) (rooms : List ℤ) (d : Course) (x : ℤ) → AreRooms courses rooms
+    → slice_get courses (length rooms) ≡ Some d → IsRoom d x → AreRooms courses (rooms ++ x ∷ [])
 push_room courses rooms d x are at is = record { each = each courses rooms are at }
   where
-    each : (courses : List Course) (rooms : List ℤ) → AreRooms courses rooms → slice_get courses (length rooms) ≡ Some d → (k : ℕ) (c : Course) (y : ℤ) → slice_get courses k ≡ Some c → slice_get (rooms ++ x ∷ []) k ≡ Some y → IsRoom c y
+    each : (courses : List Course) (rooms : List ℤ) → AreRooms courses rooms → slice_get courses (length rooms) ≡ Some d
+        → (k : ℕ) (c : Course) (y : ℤ) → slice_get courses k ≡ Some c → slice_get (rooms ++ x ∷ []) k ≡ Some y → IsRoom c y
     each [] rooms are at k c y here there = absurd (none_some c here)
     each (a ∷ courses) [] are at zero c y here there = same_room d c x y is (sym at ∙ here) there
     each (a ∷ courses) [] are at (suc k) c y here there = absurd (none_some y there)
@@ -24,10 +26,12 @@ push_room courses rooms d x are at is = record { each = each courses rooms are a
     each (a ∷ courses) (b ∷ rooms) are at (suc k) c y here there = each courses rooms (tail_rooms a b courses rooms are) at k c y here there
 
 -- another tour for a vehicle
-pub set_rooms : (courses : List Course) (rooms : List ℤ) (i : ℕ) (tour : Course) (x : ℤ) → AreRooms courses rooms → IsRoom tour x → AreRooms (set courses i tour) (set rooms i x)
+pub set_rooms : (courses : List Course) (rooms : List ℤ) (i : ℕ) (tour : Course) (x : ℤ) → AreRooms courses rooms → IsRoom tour x
+    → AreRooms (set courses i tour) (set rooms i x)
 set_rooms courses rooms i tour x are is = record { each = each courses rooms i are }
   where
-    each : (courses : List Course) (rooms : List ℤ) (i : ℕ) → AreRooms courses rooms → (k : ℕ) (c : Course) (y : ℤ) → slice_get (set courses i tour) k ≡ Some c → slice_get (set rooms i x) k ≡ Some y → IsRoom c y
+    each : (courses : List Course) (rooms : List ℤ) (i : ℕ) → AreRooms courses rooms → (k : ℕ) (c : Course) (y : ℤ)
+        → slice_get (set courses i tour) k ≡ Some c → slice_get (set rooms i x) k ≡ Some y → IsRoom c y
     each [] rooms i are k c y here there = absurd (none_some c here)
     each (a ∷ courses) [] i are k c y here there = absurd (none_some y there)
     each (a ∷ courses) (b ∷ rooms) zero are zero c y here there = same_room tour c x y is here there

@@ -1,5 +1,6 @@
 -- A request that is put in saves little: one request less is left out, no vehicle, and 1 of the distance at most for each of its stops.
-use Rattle.std.proofs.Common.{◌≡◌, ℕ, zero, suc, ◌+◌, ◌-◌, ◌≤◌, ◌&&◌, not, cond, eqb, Bool, true, false, List, [], ◌∷◌, length, Option, Some, None, unwrap_or, refl, sym, ap, subst, arith, add-one, nat_eq}
+use Rattle.std.proofs.Common.{◌≡◌, ℕ, zero, suc, ◌+◌, ◌-◌, ◌≤◌, ◌&&◌, not, cond, eqb, Bool, true, false}
+use Rattle.std.proofs.Common.{List, [], ◌∷◌, length, Option, Some, None, unwrap_or, refl, sym, ap, subst, arith, add-one, nat_eq}
 use Rattle.std.specs.List.{insert}
 use Rattle.std.specs.Map.{lookup}
 use Rattle.std.specs.Option.{option_and_then}
@@ -46,12 +47,14 @@ module _ (triangle : DetoursSaveAtMostOne) (p : Instance) where
       let same : route_length p (joined new m new (suc m)) ≡ route_length p route = ap (route_length p) (left_out route m n within) in
       let next = length-next (place p new) m in
       let less = triangle (place p new m) (place p new (suc m + 1)) (place p new (suc m)) in
-      let there : distance (place p new m) (place p new (m + 1)) ≡ distance (place p new m) (place p new (suc m)) = ap (λ k. distance (place p new m) (place p new k)) (add-one m) in
+      let there : distance (place p new m) (place p new (m + 1)) ≡ distance (place p new m) (place p new (suc m)) =
+      ap (λ k. distance (place p new m) (place p new k)) (add-one m) in
       let far : length_along (place p new) (m + 1) ≡ length_along (place p new) (suc m) = ap (length_along (place p new)) (add-one m) in
       omega arith
 
   -- and each of a request's
-  by_stops : (r : Request) (route : List ℕ) (i j : ℕ) → ArePlaces r (length route) i j → route_length p route ≤ route_length p (inserted r i j route) + most_saved_by r
+  by_stops : (r : Request) (route : List ℕ) (i j : ℕ) → ArePlaces r (length route) i j
+      → route_length p route ≤ route_length p (inserted r i j route) + most_saved_by r
   by_stops (Single s) route i j places = let high = places.1 in one_stop route (i - 1) s.number (omega arith)
   by_stops (Pair a b) route i j places =
       let low = places.0 in
@@ -76,7 +79,8 @@ one_or_none : (b : Bool) → cond b 1 0 ≤ 1
 one_or_none true = omega arith
 one_or_none false = omega arith
 
-no_fewer : (kind : Kind) (routes : List (List ℕ)) (v : ℕ) (new : List ℕ) → 1 ≤ v → v ≤ length routes → (length new ≡ 0 → ⊥) → vehicle_count kind routes ≤ vehicle_count kind (with_route routes v new)
+no_fewer : (kind : Kind) (routes : List (List ℕ)) (v : ℕ) (new : List ℕ) → 1 ≤ v → v ≤ length routes → (length new ≡ 0 → ⊥)
+    → vehicle_count kind routes ≤ vehicle_count kind (with_route routes v new)
 no_fewer Vrp routes v new from within some = omega arith
 no_fewer LiLim routes v new from within some =
     let e = replaced used routes v new from within in
@@ -93,42 +97,57 @@ module _ (triangle : DetoursSaveAtMostOne) (p : Instance) (pins routes : List (L
       let f = by_stops triangle p r (of_vehicle routes x.0) x.1 x.2 places in
       record {
         unplanned = omega (arith, put.unplanned);
-        vehicles = no_fewer p.kind routes x.0 (inserted r x.1 x.2 (of_vehicle routes x.0)) (put.from) (put.within) (some_stop r (of_vehicle routes x.0) x.1 x.2 places);
+        vehicles =
+            no_fewer p.kind routes x.0 (inserted r x.1 x.2 (of_vehicle routes x.0)) (put.from) (put.within)
+            (some_stop r (of_vehicle routes x.0) x.1 x.2 places);
         distance = omega arith;
       }
 
 same_plan : (c : ℕ) (d : ℕ) (p : Instance) (routes : List (List ℕ)) → SavesAtMost c d (cost_of p routes) (cost_of p routes)
 same_plan c d p routes = record { unplanned = omega arith; vehicles = omega arith; distance = omega arith }
 
-module _ (law : NamedAreFound) (stand : RequestsStandByName) (local : PassesAreLocal) (says : TestsSayFeasible) (below : StopsAreBelowNext) (triangle : DetoursSaveAtMostOne) where
+module _ (law : NamedAreFound) (stand : RequestsStandByName) (local : PassesAreLocal) (says : TestsSayFeasible)
+    (below : StopsAreBelowNext) (triangle : DetoursSaveAtMostOne) where
   -- the plan that has been made has the request at a place where it can be put
-  made_saves : (p : Instance) (pins routes : List (List ℕ)) (name : ℕ) (x : Insertion) (new : List (List ℕ)) → IsInstance p → passes p pins routes ≡ true → put_in p pins routes name x ≡ Some new
+  made_saves : (p : Instance) (pins routes : List (List ℕ)) (name : ℕ) (x : Insertion) (new : List (List ℕ)) → IsInstance p
+      → passes p pins routes ≡ true → put_in p pins routes name x ≡ Some new
       → SavesAtMost 1 (most_saved p name) (cost_of p routes) (cost_of p new)
   made_saves p pins routes name x new valid good is = by (request_named p name) refl is
     where
-      passed : (r : Request) → lookup (nat_eq name) p.requests ≡ Some r → (free here good_then : Bool) → not (is_planned routes r) ≡ free → is_place_of pins routes r x ≡ here → passes p pins (with_request_at routes r x) ≡ good_then
-          → cond (free && here) (cond good_then (Some (with_request_at routes r x)) None) None ≡ Some new → SavesAtMost 1 (most_saved_by r) (cost_of p routes) (cost_of p new)
+      passed : (r : Request) → lookup (nat_eq name) p.requests ≡ Some r → (free here good_then : Bool)
+          → not (is_planned routes r) ≡ free → is_place_of pins routes r x ≡ here → passes p pins (with_request_at routes r x) ≡ good_then
+          → cond (free && here) (cond good_then (Some (with_request_at routes r x)) None) None ≡ Some new
+          → SavesAtMost 1 (most_saved_by r) (cost_of p routes) (cost_of p new)
       passed r named true true true f g h e =
           let under = name_of p.requests name r (valid.named) named in
-          let put = is_put law stand local says below p pins routes valid good r (subst (λ k. lookup (nat_eq k) p.requests ≡ Some r) (sym under) named) x (not-true (is_planned routes r) f) g h in
-          subst (λ plan. SavesAtMost 1 (most_saved_by r) (cost_of p routes) (cost_of p plan)) (some_same (with_request_at routes r x) new e) (put_saves triangle p pins routes r x put)
+          let put = is_put law stand local says below p pins routes valid good r
+          (subst (λ k. lookup (nat_eq k) p.requests ≡ Some r) (sym under) named) x (not-true (is_planned routes r) f) g h in
+          subst (λ plan. SavesAtMost 1 (most_saved_by r) (cost_of p routes) (cost_of p plan))
+          (some_same (with_request_at routes r x) new e) (put_saves triangle p pins routes r x put)
       passed r named false here good_then f g h e = absurd (none_some new e)
       passed r named true false good_then f g h e = absurd (none_some new e)
       passed r named true true false f g h e = absurd (none_some new e)
 
       by : (o : Option Request) → request_named p name ≡ o
-          → option_and_then (λ r. cond (not (is_planned routes r) && is_place_of pins routes r x) (passing p pins (with_request_at routes r x)) None) o ≡ Some new
+          → option_and_then
+          (λ r. cond (not (is_planned routes r) && is_place_of pins routes r x) (passing p pins (with_request_at routes r x)) None) o
+          ≡ Some new
           → SavesAtMost 1 (most_saved p name) (cost_of p routes) (cost_of p new)
       by None named e = absurd (none_some new e)
-      by (Some r) named e = rw named (passed r named (not (is_planned routes r)) (is_place_of pins routes r x) (passes p pins (with_request_at routes r x)) refl refl refl e)
+      by (Some r) named e =
+          rw named (passed r named (not (is_planned routes r)) (is_place_of pins routes r x)
+          (passes p pins (with_request_at routes r x)) refl refl refl e)
 
   pub placements_save_little : PlacementsSaveLittle
   placements_save_little p pins routes name valid good = by (best_insertion p pins routes name) refl
     where
-      made : (x : Insertion) (o : Option (List (List ℕ))) → put_in p pins routes name x ≡ o → SavesAtMost 1 (most_saved p name) (cost_of p routes) (cost_of p (unwrap_or o routes))
+      made : (x : Insertion) (o : Option (List (List ℕ))) → put_in p pins routes name x ≡ o
+          → SavesAtMost 1 (most_saved p name) (cost_of p routes) (cost_of p (unwrap_or o routes))
       made x None e = same_plan 1 (most_saved p name) p routes
       made x (Some new) e = made_saves p pins routes name x new valid good e
 
-      by : (o : Option Insertion) → best_insertion p pins routes name ≡ o → SavesAtMost 1 (most_saved p name) (cost_of p routes) (cost_of p (unwrap_or (option_and_then (put_in p pins routes name) o) routes))
+      by : (o : Option Insertion) → best_insertion p pins routes name ≡ o
+          → SavesAtMost 1 (most_saved p name) (cost_of p routes)
+          (cost_of p (unwrap_or (option_and_then (put_in p pins routes name) o) routes))
       by None e = same_plan 1 (most_saved p name) p routes
       by (Some x) e = made x (put_in p pins routes name x) refl

@@ -44,10 +44,15 @@ module _ (p : Instance) (names : List ℕ) (routes : List (List ℕ)) (vs : List
   pub next_at : next ≡ get_or (removals p names routes vs) k next
   next_at = sym (get_or-map (change_at left_of routes) vs k 0 next test)
 
-  pub next_has : (P : List ℕ → Type 0) → All (λ c. P c.route) (removals p names routes vs) → (route : List ℕ) → route ≡ left_of (of_vehicle routes (get_or vs k 0)) → P route
-  next_has P all route is = subst P (sym is) (subst (λ (y : Change). P y.route) (sym next_at) (All-get_or (λ (y : Change). P y.route) (removals p names routes vs) k next next_below all))
+  pub next_has : (P : List ℕ → Type 0) → All (λ c. P c.route) (removals p names routes vs) → (route : List ℕ)
+      → route ≡ left_of (of_vehicle routes (get_or vs k 0)) → P route
+  next_has P all route is =
+      subst P (sym is)
+      (subst (λ (y : Change). P y.route) (sym next_at)
+      (All-get_or (λ (y : Change). P y.route) (removals p names routes vs) k next next_below all))
 
-module _ (found : NamedAreFound) (stand : RequestsStandByName) (local : PassesAreLocal) (plans : PlansAreLocal) (says : TestsSayFeasible) (p : Instance) (pins : List (List ℕ)) (d : Drafted) (is : IsDraftOf p pins d)
+module _ (found : NamedAreFound) (stand : RequestsStandByName) (local : PassesAreLocal) (plans : PlansAreLocal)
+    (says : TestsSayFeasible) (p : Instance) (pins : List (List ℕ)) (d : Drafted) (is : IsDraftOf p pins d)
     (names : List ℕ) (movable : list_all (is_movable_name p pins (draft_of d)) names ≡ true) (vehicles vs : List ℕ) (same : vs ≡ vehicles)
     (within : AreIn (draft_of d) vehicles) (all_found : AreVehiclesOf (draft_of d) (λ n. is_of_named p names n ≡ true) vehicles) where
   abbrev others : List (List ℕ)
@@ -86,7 +91,8 @@ module _ (found : NamedAreFound) (stand : RequestsStandByName) (local : PassesAr
         → option_map (λ ts. with_routes (draft_of d) (changes_of (items ts))) o ≡ removed p pins (draft_of d) names
     removal_routes =
         removed_routes items p (draft_of d) others cs (list_all (λ (c : Change). feasible_alone p c.route) cs) are.plan (removed p pins (draft_of d) names)
-        (λ b e. sym (removed_is stand local plans says p pins (draft_of d) is.valid is.draft names movable b (e ∙ judge local says p pins d is others plan once pinned long cs are)))
+        (λ b e. sym (removed_is stand local plans says p pins (draft_of d) is.valid is.draft names movable b
+        (e ∙ judge local says p pins d is others plan once pinned long cs are)))
 
     pub removal_tours : (o : Option V) → Told items p (draft_of d) others cs (list_all (λ (c : Change). feasible_alone p c.route) cs) are.plan o
         → IfSome o (λ ts. IsRemoval p pins (draft_of d) names d.cost.unplanned (items ts))

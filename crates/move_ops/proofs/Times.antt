@@ -1,5 +1,6 @@
 -- How often a number stands in a list, and what that says of live stops that stand once.
-use Rattle.std.proofs.Common.{◌≡◌, ℕ, zero, suc, ◌+◌, ◌<◌, ◌≤◌, ◌||◌, true, false, cond, List, [], ◌∷◌, ◌++◌, length, take, drop, set, get_or, Some, slice_get, refl, sym, ap, subst, ◌∙◌, inl, inr, arith, eqb, nat_eq}
+use Rattle.std.proofs.Common.{◌≡◌, ℕ, zero, suc, ◌+◌, ◌<◌, ◌≤◌, ◌||◌, true, false, cond, List, [], ◌∷◌, ◌++◌, length}
+use Rattle.std.proofs.Common.{take, drop, set, get_or, Some, slice_get, refl, sym, ap, subst, ◌∙◌, inl, inr, arith, eqb, nat_eq}
 use Rattle.std.specs.List.{AllByRecursion, IsDistinct, list_any, concat}
 use Rattle.std.proofs.lemmas.Bool.{eq-eqb}
 use Rattle.std.proofs.lemmas.Bool.Decides.{eqb_tells}
@@ -93,7 +94,8 @@ none_anywhere n (x ∷ xs) none = elim (eqb_tells n x) [
 ]
 
 -- all routes, where one is replaced
-pub times_replaced : (n : ℕ) (routes : List (List ℕ)) (k : ℕ) (old new : List ℕ) → slice_get routes k ≡ Some old → times n (concat (set routes k new)) + times n old ≡ times n (concat routes) + times n new
+pub times_replaced : (n : ℕ) (routes : List (List ℕ)) (k : ℕ) (old new : List ℕ) → slice_get routes k ≡ Some old
+    → times n (concat (set routes k new)) + times n old ≡ times n (concat routes) + times n new
 times_replaced n [] k old new at = absurd (none_some old at)
 times_replaced n (route ∷ routes) zero old new at =
     let same = ap (times n) (some_same route old at) in
@@ -107,6 +109,7 @@ times_replaced n (route ∷ routes) (suc k) old new at =
     omega arith
 
 -- the stop is in the next list, or in those behind it
-pub has_stop_more : (lists : List (List ℕ)) (k n : ℕ) → k < length lists → has_stop (drop k lists) n ≡ has (get_or lists k []) n || has_stop (drop (k + 1) lists) n
+pub has_stop_more : (lists : List (List ℕ)) (k n : ℕ) → k < length lists
+    → has_stop (drop k lists) n ≡ has (get_or lists k []) n || has_stop (drop (k + 1) lists) n
 has_stop_more lists k n within =
     ap (λ ls. has_stop ls n) (drop_more lists k [] within) ∙ list_any-append (nat_eq n) (get_or lists k []) (concat (drop (k + 1) lists))

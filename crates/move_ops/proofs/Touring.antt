@@ -1,5 +1,6 @@
 -- Tours for some vehicles, and the changes of routes that they make.
-use Rattle.std.proofs.Common.{◌≡◌, ℕ, ◌+◌, ◌-◌, ◌<◌, ◌≤◌, ◌++◌, ◌&&◌, Bool, true, false, cond, List, [], ◌∷◌, length, drop, set, get_or, Option, Some, None, refl, sym, ap, subst, ◌∙◌}
+use Rattle.std.proofs.Common.{◌≡◌, ℕ, ◌+◌, ◌-◌, ◌<◌, ◌≤◌, ◌++◌, ◌&&◌, Bool, true, false, cond, List}
+use Rattle.std.proofs.Common.{[], ◌∷◌, length, drop, set, get_or, Option, Some, None, refl, sym, ap, subst, ◌∙◌}
 use Rattle.std.specs.Prelude.{◌↔◌, IfSome, IsSome, MatchOption}
 use Rattle.std.specs.List.{AllByRecursion, list_all}
 use Rattle.std.specs.Option.{option_map}
@@ -16,7 +17,8 @@ use Rattle.move_ops.specs.declared.changes.Change.{Change}
 use Rattle.move_ops.proofs.Drafting.{plan_with}
 use Rattle.move_ops.proofs.Fitting.{paired}
 
-changes_more : (tours : List (ℕ × Course)) (v : ℕ) (t : Course) → changes_of (tours ++ (v, t) ∷ []) ≡ changes_of tours ++ record { vehicle = v; route = route_of t } ∷ []
+changes_more : (tours : List (ℕ × Course)) (v : ℕ) (t : Course)
+    → changes_of (tours ++ (v, t) ∷ []) ≡ changes_of tours ++ record { vehicle = v; route = route_of t } ∷ []
 changes_more [] v t = refl
 changes_more (e ∷ tours) v t = ap (λ (l : List Change). record { vehicle = e.0; route = route_of e.1 } ∷ l) (changes_more tours v t)
 
@@ -29,7 +31,8 @@ pub record AreToursTo (p : Instance) (cs : List Change) (k : ℕ) (tours : List 
   pub changes : changes_of tours ++ drop k cs ≡ cs
   pub courses : AreCourses p tours
 
-pub tours_more : (p : Instance) (cs : List Change) (k : ℕ) (x : Change) (tours more : List (ℕ × Course)) (t : Course) → x ≡ get_or cs k x → k < length cs → t ≡ course_of p x.route → route_of t ≡ x.route
+pub tours_more : (p : Instance) (cs : List Change) (k : ℕ) (x : Change) (tours more : List (ℕ × Course)) (t : Course)
+    → x ≡ get_or cs k x → k < length cs → t ≡ course_of p x.route → route_of t ≡ x.route
     → more ≡ tours ++ (x.vehicle, t) ∷ [] → AreToursTo p cs k tours → AreToursTo p cs (k + 1) more
 tours_more p cs k x tours more t at below course route is before = subst (AreToursTo p cs (k + 1)) (sym is) (record {
   changes =
@@ -41,16 +44,19 @@ tours_more p cs k x tours more t at below course route is before = subst (AreTou
 })
 
 -- a test of those left
-pub all_more : (test : Change → Bool) (cs : List Change) (k : ℕ) (x : Change) → x ≡ get_or cs k x → k < length cs → test x ≡ true → list_all test (drop (k + 1) cs) ≡ list_all test (drop k cs)
+pub all_more : (test : Change → Bool) (cs : List Change) (k : ℕ) (x : Change) → x ≡ get_or cs k x → k < length cs → test x ≡ true
+    → list_all test (drop (k + 1) cs) ≡ list_all test (drop k cs)
 all_more test cs k x at below t =
     sym (ap (list_all test) (drop_more cs k x below ∙ ap (λ (y : Change). y ∷ drop (k + 1) cs) (sym at)) ∙ ap (λ b. b && list_all test (drop (k + 1) cs)) t)
 
-pub all_broken : (test : Change → Bool) (cs : List Change) (k : ℕ) (x : Change) → x ≡ get_or cs k x → k < length cs → test x ≡ false → list_all test (drop k cs) ≡ false
+pub all_broken : (test : Change → Bool) (cs : List Change) (k : ℕ) (x : Change) → x ≡ get_or cs k x → k < length cs → test x ≡ false
+    → list_all test (drop k cs) ≡ false
 all_broken test cs k x at below f =
     ap (list_all test) (drop_more cs k x below ∙ ap (λ (y : Change). y ∷ drop (k + 1) cs) (sym at)) ∙ ap (λ b. b && list_all test (drop (k + 1) cs)) f
 
 -- one tour more in its place
-pub routes_with : (tours new : List Course) (v : ℕ) (t : Course) (rest : List (ℕ × Course)) → new ≡ set tours (v - 1) t → with_routes (plan_of new) (changes_of rest) ≡ with_routes (plan_of tours) (changes_of ((v, t) ∷ rest))
+pub routes_with : (tours new : List Course) (v : ℕ) (t : Course) (rest : List (ℕ × Course)) → new ≡ set tours (v - 1) t
+    → with_routes (plan_of new) (changes_of rest) ≡ with_routes (plan_of tours) (changes_of ((v, t) ∷ rest))
 routes_with tours new v t rest is = ap (λ (l : List (List ℕ)). with_routes l (changes_of rest)) (ap plan_of is ∙ plan_with tours (v - 1) t)
 
 pub within_from : (n : ℕ) (tours : List (ℕ × Course)) → AllByRecursion (λ c. (1 ≤ c.vehicle) × (c.vehicle ≤ n)) (changes_of tours) → AreWithin n tours
@@ -58,20 +64,27 @@ within_from n [] all = tt
 within_from n (t ∷ tours) all = (all.0, within_from n tours all.1)
 
 -- a tour is made just where its route is feasible
-pub tour_if_feasible : (p : Instance) → IsInstance p → (route : List ℕ) → are_paired p route ≡ true → (o : Option Course) → (IsSome o) ↔ KeepsLimits p route → IfSome o (λ t. t ≡ course_of p route) → IfSome o (λ t. route_of t ≡ route) → IsTourIfFeasible p route o
-tour_if_feasible p valid route pairs None kept course same = sym (paired p valid route false pairs (λ h. absurd (let k : false ≡ true = h in cc), λ keep. absurd (let k : false ≡ true = kept.1 keep in cc)))
+pub tour_if_feasible : (p : Instance) → IsInstance p → (route : List ℕ) → are_paired p route ≡ true → (o : Option Course)
+    → (IsSome o) ↔ KeepsLimits p route → IfSome o (λ t. t ≡ course_of p route) → IfSome o (λ t. route_of t ≡ route)
+    → IsTourIfFeasible p route o
+tour_if_feasible p valid route pairs None kept course same =
+    sym (paired p valid route false pairs
+    (λ h. absurd (let k : false ≡ true = h in cc), λ keep. absurd (let k : false ≡ true = kept.1 keep in cc)))
 tour_if_feasible p valid route pairs (Some t) kept course same = (sym (paired p valid route true pairs (λ h. kept.0 refl, λ keep. refl)), course, same)
 
 -- what a removal answers, where all that it changes is feasible alone or something isn't
-module _ {V : Type 0} (items : V → List (ℕ × Course)) (p : Instance) (routes others : List (List ℕ)) (cs : List Change) (all : Bool) (plan : with_routes routes cs ≡ others) where
+module _ {V : Type 0} (items : V → List (ℕ × Course)) (p : Instance) (routes others : List (List ℕ)) (cs : List Change) (all : Bool)
+    (plan : with_routes routes cs ≡ others) where
   abbrev pub Told : Option V → Type 0
   Told o = MatchOption o (all ≡ false) (λ ts. (all ≡ true) × AreToursOf p cs (items ts))
 
-  pub removed_routes : (answer : Option (List (List ℕ))) → ((b : Bool) → b ≡ all → cond b (Some others) None ≡ answer) → (o : Option V) → Told o → option_map (λ ts. with_routes routes (changes_of (items ts))) o ≡ answer
+  pub removed_routes : (answer : Option (List (List ℕ))) → ((b : Bool) → b ≡ all → cond b (Some others) None ≡ answer) → (o : Option V)
+      → Told o → option_map (λ ts. with_routes routes (changes_of (items ts))) o ≡ answer
   removed_routes answer by None told = by false (sym told)
   removed_routes answer by (Some ts) told = ap (λ l. Some (with_routes routes l)) (told.1.changes) ∙ (ap Some plan ∙ by true (sym told.0))
 
-  pub removal : (pins : List (List ℕ)) (names : List ℕ) (left : ℕ) → others ≡ without_named p names routes → (true ≡ all → IsChange p pins routes cs (left + distinct_count names)) → (o : Option V) → Told o
+  pub removal : (pins : List (List ℕ)) (names : List ℕ) (left : ℕ) → others ≡ without_named p names routes
+      → (true ≡ all → IsChange p pins routes cs (left + distinct_count names)) → (o : Option V) → Told o
       → IfSome o (λ ts. IsRemoval p pins routes names left (items ts))
   removal pins names left are made None told = tt
   removal pins names left are made (Some ts) told = record {

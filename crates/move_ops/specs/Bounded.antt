@@ -7,7 +7,8 @@ use Rattle.move_ops.specs.Drafts.{placed}
 -- the other plan leaves out as many requests, uses more vehicles, or drives at least so much more
 abbrev pub IsFar : Instance → List (List ℕ) → List (List ℕ) → ℤ → Type 0
 IsFar p routes other below =
-    ((cost_of p routes).unplanned ≤ (cost_of p other).unplanned) ⊎ ((cost_of p routes).vehicles < (cost_of p other).vehicles) ⊎ ((pos (cost_of p routes).distance +ℤ below) ≤ℤ pos (cost_of p other).distance)
+    ((cost_of p routes).unplanned ≤ (cost_of p other).unplanned) ⊎ ((cost_of p routes).vehicles < (cost_of p other).vehicles)
+    ⊎ ((pos (cost_of p routes).distance +ℤ below) ≤ℤ pos (cost_of p other).distance)
 
 -- the plan with the request at its best insertion exactly where that isn't far, else the plan as it was
 pub record IsPlacedBelow (p : Instance) (pins : List (List ℕ)) (name : ℕ) (below : ℤ) (made : Bool) (old new : List (List ℕ)) : Type 0 where

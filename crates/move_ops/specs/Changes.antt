@@ -57,7 +57,9 @@ pub record IsTried (p : Instance) (c : Course) (route : List ℕ) : Type 0 where
 
 -- the tour of a route, or none where the route is not feasible alone
 abbrev pub IsTourIfFeasible : Instance → List ℕ → Option Course → Type 0
-IsTourIfFeasible p route o = MatchOption o (feasible_alone p route ≡ false) (λ tour. (feasible_alone p route ≡ true) × (tour ≡ course_of p route) × (route_of tour ≡ route))
+IsTourIfFeasible p route o =
+    MatchOption o (feasible_alone p route ≡ false)
+    (λ tour. (feasible_alone p route ≡ true) × (tour ≡ course_of p route) × (route_of tour ≡ route))
 
 -- tours without these requests, for a plan that leaves so many out before
 pub record IsRemoval (p : Instance) (pins routes : List (List ℕ)) (names : List ℕ) (left : ℕ) (tours : List (ℕ × Course)) : Type 0 where

@@ -1,5 +1,6 @@
 -- The best insertion so far, on the way over the vehicles.
-use Rattle.std.specs.Prelude.{◌≡◌, ◌⊎◌, ℕ, ◌≤◌, ◌<◌, ℤ, pos, ◌+ℤ◌, ◌-ℤ◌, ◌≤ℤ◌, ◌<ℤ◌, nat_lt, ◌==◌, Bool, true, false, not, ◌&&◌, List, length, slice_get, Option, Some, None, nat_eq, IfSome, MatchOption, if◌then◌else◌}
+use Rattle.std.specs.Prelude.{◌≡◌, ◌⊎◌, ℕ, ◌≤◌, ◌<◌, ℤ, pos, ◌+ℤ◌, ◌-ℤ◌, ◌≤ℤ◌, ◌<ℤ◌, nat_lt, ◌==◌, Bool}
+use Rattle.std.specs.Prelude.{true, false, not, ◌&&◌, List, length, slice_get, Option, Some, None, nat_eq, IfSome, MatchOption, if◌then◌else◌}
 use Rattle.std.specs.List.{Contains}
 use Rattle.std.specs.Map.{lookup}
 use Rattle.std.specs.Option.{option_map, option_or}
@@ -88,7 +89,8 @@ abbrev pub IsReach : List (List ℕ) → ℕ → Type 0
 IsReach routes end = (v : ℕ) → end < v → v ≤ length routes → HasIdle routes end × (length (of_vehicle routes v) ≡ 0)
 
 -- and so are the vehicles that are asked, up to the last one and before the others those of these entries, with these rooms
-pub record IsAskedOver (p : Instance) (pins : List (List ℕ)) (courses : List Course) (most : List ℤ) (last : ℕ) (entries : List (ℕ × Course)) (r : Request) : Type 0 where
+pub record IsAskedOver (p : Instance) (pins : List (List ℕ)) (courses : List Course) (most : List ℤ) (last : ℕ)
+    (entries : List (ℕ × Course)) (r : Request) : Type 0 where
   pub asked : IsAsked p pins courses r
   pub within : last ≤ length courses
   pub rooms : AreRooms courses most
@@ -110,12 +112,16 @@ pub record IsBestAmong (p : Instance) (pins routes : List (List ℕ)) (r : Reque
   pub seen : These f.vehicle
   pub allowed : IsWithin l f.opens f.addition.distance
   pub opens : opens p.kind (of_vehicle routes f.vehicle) ≡ f.opens
-  pub added : IsAdded p (of_vehicle routes f.vehicle) (inserted r f.addition.pickup f.addition.delivery (of_vehicle routes f.vehicle)) (Some f.addition.distance)
-  pub least : (y : Insertion) → Contains (insertions_of p pins routes r) y → These y.0 → IsAllowed p routes r l y → is_no_worse p routes r (place_found f) y ≡ true
+  pub added : IsAdded p (of_vehicle routes f.vehicle) (inserted r f.addition.pickup f.addition.delivery (of_vehicle routes f.vehicle))
+      (Some f.addition.distance)
+  pub least : (y : Insertion) → Contains (insertions_of p pins routes r) y → These y.0 → IsAllowed p routes r l y
+      → is_no_worse p routes r (place_found f) y ≡ true
 
 -- or nothing is found, where these vehicles have no allowed insertion
 abbrev pub IsBestAmongThese : Instance → List (List ℕ) → List (List ℕ) → Request → Limit → (ℕ → Type 0) → Option Found → Type 0
-IsBestAmongThese p pins routes r l These answer = MatchOption answer ((y : Insertion) → Contains (insertions_of p pins routes r) y → These y.0 → IsAllowed p routes r l y → ⊥) (IsBestAmong p pins routes r l These)
+IsBestAmongThese p pins routes r l These answer =
+    MatchOption answer ((y : Insertion) → Contains (insertions_of p pins routes r) y → These y.0 → IsAllowed p routes r l y → ⊥)
+    (IsBestAmong p pins routes r l These)
 
 -- an entry of a list is the vehicle's
 abbrev pub IsEntryOf : List (ℕ × Course) → ℕ → Type 0

@@ -1,5 +1,6 @@
 -- Where an unplanned request can be put into a plan, and where best. Vehicles and places count from 1.
-use Rattle.std.specs.Prelude.{ℕ, ◌+◌, ◌-◌, nat_lt, nat_le, ◌==◌, ◌&&◌, ◌||◌, not, Bool, List, [], ◌∷◌, length, map, filter, slice_set, Option, Some, None, unwrap_or, if◌then◌else◌}
+use Rattle.std.specs.Prelude.{ℕ, ◌+◌, ◌-◌, nat_lt, nat_le, ◌==◌, ◌&&◌, ◌||◌, not, Bool, List}
+use Rattle.std.specs.Prelude.{[], ◌∷◌, length, map, filter, slice_set, Option, Some, None, unwrap_or, if◌then◌else◌}
 use Rattle.std.specs.List.{flat_map, insert, range_with_len}
 use Rattle.std.specs.Option.{option_map_or, option_and_then}
 use Rattle.plan_types.specs.Cost.{cost_below, cost_at_most}
@@ -49,7 +50,9 @@ with_request_at routes r x = with_route routes x.0 (inserted r x.1 x.2 (of_vehic
 module _ (pins routes : List (List ℕ)) where
   -- all places of a request behind the pins, by vehicle, pickup and delivery
   abbrev pub places_of : Request → List Insertion
-  places_of r = flat_map (λ v. map (λ x. (v, x.0, x.1)) (places_in r (length (of_vehicle pins v)) (length (of_vehicle routes v)))) (range_with_len 1 (length routes))
+  places_of r =
+      flat_map (λ v. map (λ x. (v, x.0, x.1)) (places_in r (length (of_vehicle pins v)) (length (of_vehicle routes v))))
+      (range_with_len 1 (length routes))
 
   -- whether this is one of them
   abbrev pub is_place_of : Request → Insertion → Bool
@@ -65,7 +68,10 @@ module _ (p : Instance) (pins routes : List (List ℕ)) where
 
   -- insert_at: the plan with the request put in there, where it is unplanned, the place is one behind the pin, and the result passes
   abbrev pub put_in : ℕ → Insertion → Option (List (List ℕ))
-  put_in name x = option_and_then (λ r. if not (is_planned routes r) && is_place_of pins routes r x then passing p pins (with_request_at routes r x) else None) (request_named p name)
+  put_in name x =
+      option_and_then
+      (λ r. if not (is_planned routes r) && is_place_of pins routes r x then passing p pins (with_request_at routes r x) else None)
+      (request_named p name)
 
 -- no later by vehicle, pickup and delivery
 abbrev pub is_no_later : Insertion → Insertion → Bool
@@ -77,7 +83,9 @@ cost_with p routes r x = cost_of p (with_request_at routes r x)
 
 -- the result costs less, or no more and the place is no later
 abbrev pub is_no_worse : Instance → List (List ℕ) → Request → Insertion → Insertion → Bool
-is_no_worse p routes r x y = cost_below (cost_with p routes r x) (cost_with p routes r y) || (cost_at_most (cost_with p routes r x) (cost_with p routes r y) && is_no_later x y)
+is_no_worse p routes r x y =
+    cost_below (cost_with p routes r x) (cost_with p routes r y) ||
+    (cost_at_most (cost_with p routes r x) (cost_with p routes r y) && is_no_later x y)
 
 -- the better one of an item and what was best so far
 abbrev pub better : {X : Type 0} → (X → X → Bool) → X → Option X → X

@@ -25,11 +25,15 @@ BestInsertionsAreLeast = (p : Instance) (pins routes : List (List ℕ)) (name : 
 
 -- law: and no two are the best
 abbrev pub BestInsertionsAreUnique : Type 0
-BestInsertionsAreUnique = (p : Instance) (pins routes : List (List ℕ)) (r : Request) (x y : Insertion) → IsBest p pins routes r x → IsBest p pins routes r y → x ≡ y
+BestInsertionsAreUnique =
+    (p : Instance) (pins routes : List (List ℕ)) (r : Request) (x y : Insertion) → IsBest p pins routes r x → IsBest p pins routes r y
+    → x ≡ y
 
 -- law: the list of the insertions holds those that can be put in, and no others
 abbrev pub InsertionsCanBePutIn : Type 0
-InsertionsCanBePutIn = (p : Instance) (pins routes : List (List ℕ)) (name : ℕ) (x : Insertion) → Contains (insertions p pins routes name) x ↔ IsSome (put_in p pins routes name x)
+InsertionsCanBePutIn =
+    (p : Instance) (pins routes : List (List ℕ)) (name : ℕ) (x : Insertion)
+    → Contains (insertions p pins routes name) x ↔ IsSome (put_in p pins routes name x)
 
 -- law: a request that is taken out of a plan that passes can be put in where it was, which gives the old plan
 abbrev pub RequestsKeepTheirPlaces : Type 0
@@ -55,4 +59,6 @@ PlansPassWithoutPins = (p : Instance) (pins routes : List (List ℕ)) → passes
 -- law: a route keeps the limits of load and time exactly where, as the only route, it breaks none of the auditor's rules on them
 abbrev pub LimitsAreRules : Type 0
 LimitsAreRules = (p : Instance) (route : List ℕ) → IsInstance p
-    → KeepsLimits p route ↔ ((r i n : ℕ) → (IsOverloaded p (route ∷ []) r i n → ⊥) × (IsLate p (route ∷ []) r i n → ⊥) × (IsLateReturn p (route ∷ []) r i n → ⊥))
+    → KeepsLimits p route
+    ↔ ((r i n : ℕ)
+    → (IsOverloaded p (route ∷ []) r i n → ⊥) × (IsLate p (route ∷ []) r i n → ⊥) × (IsLateReturn p (route ∷ []) r i n → ⊥))

@@ -74,4 +74,6 @@ with_ends_exchanged routes a ca b cb =
 
 -- `two_opt_star`: that plan, where the vehicles are two and each cut is one
 abbrev pub crossed : Instance → List (List ℕ) → List (List ℕ) → ℕ → ℕ → ℕ → ℕ → Option (List (List ℕ))
-crossed p pins routes a ca b cb = if not (a == b) && (is_cut pins routes a ca && is_cut pins routes b cb) then passing p pins (with_ends_exchanged routes a ca b cb) else None
+crossed p pins routes a ca b cb =
+    if not (a == b) && (is_cut pins routes a ca && is_cut pins routes b cb) then passing p pins (with_ends_exchanged routes a ca b cb)
+    else None

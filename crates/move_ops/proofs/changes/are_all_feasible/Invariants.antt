@@ -1,8 +1,10 @@
+-- The routes left are all feasible alone exactly where all are, so the first that isn't answers for all, and so does the end.
 use Rattle.std.proofs.Common.{◌≡◌, drop}
 use Rattle.std.specs.List.{list_all}
 use Rattle.plan_audit.specs.Passes.{feasible_alone}
 use Rattle.move_ops.proofs.changes.are_all_feasible.Given as goal
 
--- those left are feasible where all are
 abbrev pub invariant-loop-change : goal.invariant-loop-change
-invariant-loop-change l = list_all (λ c. feasible_alone l.problem c.route) (drop l.change-index l.changes) ≡ list_all (λ c. feasible_alone l.problem c.route) l.changes
+invariant-loop-change l =
+    list_all (λ c. feasible_alone l.problem c.route) (drop l.change-index l.changes)
+    ≡ list_all (λ c. feasible_alone l.problem c.route) l.changes

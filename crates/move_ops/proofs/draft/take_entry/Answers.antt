@@ -1,3 +1,4 @@
+-- A log of vehicles within a fleet has the taken entry's within it too, and stays so without it.
 use Rattle.std.proofs.Common.{length, refl}
 use Rattle.std.proofs.lemmas.Option.{slice_get_read}
 use Rattle.move_ops.proofs.Logging.{within_without}
@@ -5,4 +6,6 @@ use Rattle.move_ops.proofs.draft.take_entry.Goals as goal
 
 pub returns-clause-within : goal.returns-clause-within
 returns-clause-within c = λ n all.
-    within_without n c.args.log.now.items c.args.entry c.remove.result (slice_get_read c.args.log.now.items (length c.args.log.now.items) c.args.entry c.remove.result refl c.requires c.remove.ensures.value) all
+    within_without n c.args.log.now.items c.args.entry c.remove.result
+    (slice_get_read c.args.log.now.items
+    (length c.args.log.now.items) c.args.entry c.remove.result refl c.requires c.remove.ensures.value) all

@@ -1,3 +1,4 @@
+-- A plan is judged route by route, and without pins no more is asked of a route than with them, so it passes without them.
 use Rattle.move_ops.proofs.Asked.{without_pins}
 use Rattle.move_ops.proofs.laws.plans_pass_without_pins.Goals as goal
 

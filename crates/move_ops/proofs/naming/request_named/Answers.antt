@@ -1,3 +1,4 @@
+-- A number that is no stop, or another request's, names none; else its stop is a single, or with its partner a pair.
 use Rattle.std.proofs.Common.{◌≡◌, Some, sym, ap, subst, ◌∙◌}
 use Rattle.std.specs.Option.{option_copied}
 use Rattle.plan_types.specs.Instance.{name_at}
@@ -30,13 +31,15 @@ returns-in_default-partner_of c =
 pub returns-in_default-stop-2 : goal.returns-in_default-stop-2
 returns-in_default-stop-2 c =
     no_second c.requests_are_found_by_stop.ensures c.requests_stand_by_name.ensures c.args.problem.now c.name_of.ensures.valid c.args.name
-    c.in-Some-partner_of.partner (sym c.partner_of.ensures.found ∙ c.in-Some-partner_of.is) (sym c.stop-2.ensures.found ∙ ap (λ o. option_copied o) c.in_default-stop-2.is)
+    c.in-Some-partner_of.partner (sym c.partner_of.ensures.found ∙ c.in-Some-partner_of.is)
+    (sym c.stop-2.ensures.found ∙ ap (λ o. option_copied o) c.in_default-stop-2.is)
 
 pub returns : goal.returns
 returns c =
     let p = c.args.problem.now in
     let n = c.args.name in
     let own : name_at p n ≡ Some n = subst (λ m. name_at p n ≡ Some m) c.if-own-name.false (sym c.name_of.ensures.found ∙ c.in-Some.is) in
-    pair_named c.requests_are_found_by_stop.ensures c.requests_stand_by_name.ensures p c.name_of.ensures.valid n c.in-Some-stop.first.now c.in-Some-stop-2.second.now c.in-Some-partner_of.partner own
+    pair_named c.requests_are_found_by_stop.ensures c.requests_stand_by_name.ensures p c.name_of.ensures.valid n
+    c.in-Some-stop.first.now c.in-Some-stop-2.second.now c.in-Some-partner_of.partner own
     (sym c.stop.ensures.found ∙ ap (λ o. option_copied o) c.in-Some-stop.is) (sym c.partner_of.ensures.found ∙ c.in-Some-partner_of.is)
     (sym c.stop-2.ensures.found ∙ ap (λ o. option_copied o) c.in-Some-stop-2.is)

@@ -1,8 +1,8 @@
+-- Among the stops left each pickup comes first exactly where it does among all, so the first delivery ahead of its pickup answers, and so does the end.
 use Rattle.std.proofs.Common.{◌≡◌, length}
 use Rattle.plan_audit.specs.Passes.{picks_up_first}
 use Rattle.move_ops.proofs.pairing.picks_up_first.Given as goal
 
--- the stops left are picked up first where all are
 abbrev pub invariant-loop-left : goal.invariant-loop-left
 invariant-loop-left l = picks_up_first l.problem l.left ≡ picks_up_first l.problem l.route
 

@@ -1,3 +1,4 @@
+-- The draft is the plan, so its best insertion of the request is the plan's best of the request's name.
 use Rattle.std.proofs.Common.{rules, ◌∙◌, ℕ, List, ap}
 use Rattle.plan_types.specs.Request.{request_name}
 use Rattle.move_ops.specs.Insertion.{best_insertion}

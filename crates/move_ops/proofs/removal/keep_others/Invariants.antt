@@ -1,7 +1,9 @@
+-- The stops kept so far, and those to be kept of the ones left, are the stops of other requests of the whole route.
 use Rattle.std.proofs.Common.{◌≡◌, ◌++◌, not, filter, drop}
 use Rattle.move_ops.specs.Moves.{is_of_named}
 use Rattle.move_ops.proofs.removal.keep_others.Given as goal
 
--- the stops kept so far, and those to be kept of what is left
 abbrev pub invariant-loop-stop : goal.invariant-loop-stop
-invariant-loop-stop l = l.kept.items ++ filter (λ n. not (is_of_named l.problem l.names n)) (drop l.stop-index l.route) ≡ filter (λ n. not (is_of_named l.problem l.names n)) l.route
+invariant-loop-stop l =
+    l.kept.items ++ filter (λ n. not (is_of_named l.problem l.names n)) (drop l.stop-index l.route)
+    ≡ filter (λ n. not (is_of_named l.problem l.names n)) l.route

@@ -1,3 +1,4 @@
+-- The tour's room takes its vehicle's place in the list, which stays where it has no such place.
 use Rattle.std.proofs.Common.{rules, ◌≡◌, ◌-◌, ℤ, ap, arith, length, set, subst, sym, w64}
 use mir.Val.{SFits}
 use Rattle.std.specs.Vec.{vec_len}

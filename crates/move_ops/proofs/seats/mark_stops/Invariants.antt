@@ -1,8 +1,8 @@
+-- A number has a mark so far, or is among the stops left, exactly where it had one before or is among all; so at the end the marks tell which.
 use Rattle.std.proofs.Common.{◌≡◌, ℕ, ◌<◌, ◌||◌, false, length, drop, get_or}
 use Rattle.plan_audit.specs.Passes.{has}
 use Rattle.move_ops.proofs.seats.mark_stops.Given as goal
 
--- the marks so far, and those of the stops left
 abbrev pub invariant-loop-stop : goal.invariant-loop-stop
 invariant-loop-stop l = record {
   marked : (n : ℕ) → n < length l.marks → (get_or l.marks n false || has (drop l.stop-index l.stops) n) ≡ (get_or l.fn.marks n false || has l.stops n);

@@ -1,8 +1,8 @@
+-- A number has a mark so far, or is a stop of the routes left, exactly where it is one of all routes; so at the end the marks tell which.
 use Rattle.std.proofs.Common.{◌≡◌, ℕ, ◌<◌, ◌||◌, false, drop, get_or, length}
 use Rattle.route_sched.specs.Cost.{has_stop}
 use Rattle.move_ops.proofs.seats.marks.Given as goal
 
--- the marks so far, and those of the routes left
 abbrev pub invariant-loop-route : goal.invariant-loop-route
 invariant-loop-route l = record {
   len : length l.marks.items ≡ l.len;

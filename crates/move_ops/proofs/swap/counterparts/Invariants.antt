@@ -1,7 +1,7 @@
+-- The new stops so far, and the counterparts of the stops left, are the counterparts of the whole route.
 use Rattle.std.proofs.Common.{◌≡◌, ◌++◌, map, drop}
 use Rattle.move_ops.specs.Moves.{counterpart}
 use Rattle.move_ops.proofs.swap.counterparts.Given as goal
 
--- the stops so far, and those of what is left
 abbrev pub invariant-loop-stop : goal.invariant-loop-stop
 invariant-loop-stop l = l.new ++ map (counterpart l.first l.second) (drop l.stop-index l.route) ≡ map (counterpart l.first l.second) l.route

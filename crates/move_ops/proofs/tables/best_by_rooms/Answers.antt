@@ -1,3 +1,4 @@
+-- A full vehicle has nothing better, nor has a second one without stops; any other is looked at; and no vehicle behind the end has anything better.
 use mir.Val.{SFits}
 use Rattle.std.proofs.lemmas.Int.{to_z-of_z}
 use Rattle.std.proofs.Common.{inl, length, ◌≡◌, ◌+◌, rules, w64, true, false, refl, sym, ◌∙◌, arith, subst}
@@ -14,8 +15,13 @@ use Rattle.move_ops.proofs.tables.best_by_rooms.Goals.{then-stop_count-eq0+else-
 pub loop-k-init : goal.loop-k-init
 loop-k-init c =
     record {
-      best = from_named c.insertion_laws.ensures c.requires.asked c.args.first.now c.args.limit.now c.best_of_first-best.result c.best_of_first-best.ensures.best;
-      below = let fits : SFits w64 c.bound_from-below.result = search rules in subst (IsLoose 1 c.args.limit.now c.best_of_first-best.result) (sym (to_z-of_z w64 c.bound_from-below.result fits)) c.bound_from-below.ensures;
+      best =
+          from_named c.insertion_laws.ensures c.requires.asked c.args.first.now c.args.limit.now
+          c.best_of_first-best.result c.best_of_first-best.ensures.best;
+      below =
+          let fits : SFits w64 c.bound_from-below.result = search rules in
+          subst (IsLoose 1 c.args.limit.now c.best_of_first-best.result)
+          (sym (to_z-of_z w64 c.bound_from-below.result fits)) c.bound_from-below.ensures;
       short = c.best_of_first-best.ensures.short;
       idle = λ h. absurd (let k : false ≡ true = h in cc);
     }
@@ -27,9 +33,14 @@ loop-k-preserved-then-is_full c =
     let table = c.index-tables-k.result in
     let at = slice_get_read tables (length tables) c.loop-k.k table refl (omega arith) c.index-tables-k.is in
     let out = c.is_full.ensures c.if-is_full.true tables c.requires.rooms table at in
-    let stays = passed_by p c.args.request.now table (length (of_vehicle c.args.pins.now (c.loop-k.k + 1))) (c.loop-k.k + 1) c.args.limit.now c.loop-k.best c.requires.asked.valid (course_at tables c.loop-k.k table c.index-tables-k.is (omega arith) p c.requires.asked.tables) c.requires.asked.named out in
+    let stays = passed_by p c.args.request.now table (length (of_vehicle c.args.pins.now (c.loop-k.k + 1)))
+    (c.loop-k.k + 1) c.args.limit.now c.loop-k.best c.requires.asked.valid
+    (course_at tables c.loop-k.k table c.index-tables-k.is (omega arith) p c.requires.asked.tables) c.requires.asked.named out in
     record {
-      best = one_more c.insertion_laws.ensures c.requires.asked c.loop-k.k table c.index-tables-k.is (omega arith) c.args.first.now c.args.limit.now c.stops_are_few.ensures c.loop-k.best c.loop-k.best c.loop-k.invariant.best (inl stays);
+      best =
+          one_more c.insertion_laws.ensures c.requires.asked c.loop-k.k table c.index-tables-k.is
+          (omega arith) c.args.first.now c.args.limit.now c.stops_are_few.ensures c.loop-k.best c.loop-k.best c.loop-k.invariant.best
+          (inl stays);
       below = λ u from. c.loop-k.invariant.below u (omega arith);
       short = c.loop-k.invariant.short;
       idle = λ h. idle_more (plan_of tables) c.loop-k.k (c.loop-k.invariant.idle h);
@@ -38,7 +49,10 @@ loop-k-preserved-then-is_full c =
 pub loop-k-preserved-then-has_idle : goal.loop-k-preserved-then-has_idle
 loop-k-preserved-then-has_idle c =
     record {
-      best = one_skipped c.insertion_laws.ensures c.requires.asked c.loop-k.k c.index-tables-k.result c.index-tables-k.is (omega arith) c.args.first.now c.args.limit.now (omega arith) (c.loop-k.invariant.idle c.if-has_idle.true) c.loop-k.best c.loop-k.invariant.best;
+      best =
+          one_skipped c.insertion_laws.ensures c.requires.asked c.loop-k.k c.index-tables-k.result c.index-tables-k.is
+          (omega arith) c.args.first.now c.args.limit.now (omega arith)
+          (c.loop-k.invariant.idle c.if-has_idle.true) c.loop-k.best c.loop-k.invariant.best;
       below = λ u from. c.loop-k.invariant.below u (omega arith);
       short = c.loop-k.invariant.short;
       idle = λ h. idle_more (plan_of c.args.tables.now) c.loop-k.k (c.loop-k.invariant.idle h);
@@ -55,11 +69,20 @@ look_at-below-requires-clause-vehicle c =
 pub loop-k-preserved : goal.loop-k-preserved
 loop-k-preserved c =
     record {
-      best = one_more c.insertion_laws.ensures c.requires.asked c.loop-k.k c.index-tables-k.result c.index-tables-k.is (omega arith) c.args.first.now c.args.limit.now (omega arith) c.loop-k.best c.look_at-below.new.best c.loop-k.invariant.best c.look_at-below.ensures.looked;
-      below = λ u from. (let fits : SFits w64 c.look_at-below.result = search rules in subst (IsLoose (c.loop-k.k + 1) c.args.limit.now c.look_at-below.new.best) (sym (to_z-of_z w64 c.look_at-below.result fits)) c.look_at-below.ensures.below u (omega arith));
+      best =
+          one_more c.insertion_laws.ensures c.requires.asked c.loop-k.k c.index-tables-k.result c.index-tables-k.is
+          (omega arith) c.args.first.now c.args.limit.now
+          (omega arith) c.loop-k.best c.look_at-below.new.best c.loop-k.invariant.best c.look_at-below.ensures.looked;
+      below = λ u from.
+          (let fits : SFits w64 c.look_at-below.result = search rules in
+          subst (IsLoose (c.loop-k.k + 1) c.args.limit.now c.look_at-below.new.best)
+          (sym (to_z-of_z w64 c.look_at-below.result fits)) c.look_at-below.ensures.below u (omega arith));
       short = c.look_at-below.ensures.short;
       idle = λ h. elim c.if-stop_count-eq0.branch [
-        | then-stop_count-eq0+else-has_idle w ↦ (let none = w.if-stop_count-eq0 in idle_here c.insertion_laws.ensures c.requires.asked c.loop-k.k c.index-tables-k.result c.index-tables-k.is (omega arith) (omega arith))
+        | then-stop_count-eq0+else-has_idle w ↦
+            (let none = w.if-stop_count-eq0 in
+            idle_here c.insertion_laws.ensures c.requires.asked c.loop-k.k c.index-tables-k.result c.index-tables-k.is (omega arith)
+            (omega arith))
         | else-stop_count-eq0 w ↦ idle_more (plan_of c.args.tables.now) c.loop-k.k (c.loop-k.invariant.idle (sym w.has_idle-is ∙ h))
       ];
     }
@@ -69,4 +92,5 @@ returns c =
     let end : c.loop-k.k ≡ c.args.end = search rules in
     answered c.insertion_laws.ensures c.requires.asked c.args.first.now c.args.limit.now c.loop-k.best
     (beyond c.insertion_laws.ensures c.requires.asked c.args.first.now c.args.limit.now c.args.end c.requires.within c.requires.reach c.loop-k.best
-    (subst (λ k. IsBestAmongThese c.args.problem.now c.args.pins.now (plan_of c.args.tables.now) c.args.request.now c.args.limit.now (IsNamedOrUpTo (plan_of c.args.tables.now) c.args.first.now k) c.loop-k.best) end c.loop-k.invariant.best))
+    (subst (λ k. IsBestAmongThese c.args.problem.now c.args.pins.now (plan_of c.args.tables.now) c.args.request.now c.args.limit.now
+    (IsNamedOrUpTo (plan_of c.args.tables.now) c.args.first.now k) c.loop-k.best) end c.loop-k.invariant.best))

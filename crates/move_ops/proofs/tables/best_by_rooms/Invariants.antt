@@ -1,9 +1,9 @@
+-- The best of the vehicles asked first and of those so far is known, and no later used vehicle needs a greater bound; so at the end it is the best.
 use Rattle.std.proofs.Common.{◌≡◌, ◌+◌, true}
 use Rattle.move_ops.specs.Choosing.{HasIdle, IsBestAmongThese, IsLoose, IsNamedOrUpTo, IsShort}
 use Rattle.move_ops.specs.Tables.{plan_of}
 use Rattle.move_ops.proofs.tables.best_by_rooms.Given as goal
 
--- the best among the vehicles so far, what a used vehicle must add less than, and whether one so far has no stops
 abbrev pub invariant-loop-k : goal.invariant-loop-k
 invariant-loop-k l = record {
   best : IsBestAmongThese l.problem l.pins (plan_of l.tables) l.request l.limit (IsNamedOrUpTo (plan_of l.tables) l.first l.k) l.best;

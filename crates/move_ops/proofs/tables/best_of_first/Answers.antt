@@ -1,3 +1,4 @@
+-- The vehicle of one entry more is looked at, or has no stops and is none of those that are asked first.
 use Rattle.std.proofs.Common.{rules, ◌-◌, ◌+◌, [], length, get_or, sym, subst, arith}
 use Rattle.slack_tables.specs.Course.{route_of}
 use Rattle.move_ops.specs.Choosing.{IsBestAmongThese, IsLookable, IsLookedAt, IsNamed}
@@ -10,28 +11,46 @@ use Rattle.move_ops.proofs.tables.best_of_first.Goals.{then-stop_count-ne0, else
 pub look_at-requires-clause-vehicle : goal.look_at-requires-clause-vehicle
 look_at-requires-clause-vehicle c =
     let table = c.index-tables-index.result in
-    let e = entry_at (length c.args.tables.now) c.args.first.now c.loop-j.j c.index-first-j.result c.from-vehicle.result c.requires.first (search rules) c.from-vehicle.ensures in
+    let e =
+    entry_at (length c.args.tables.now) c.args.first.now c.loop-j.j c.index-first-j.result c.from-vehicle.result c.requires.first
+    (search rules) c.from-vehicle.ensures in
     subst (λ u. IsLookable c.args.problem.now c.args.pins.now c.args.request.now c.args.ways.now u table) (sym e.2)
     (lookable c.insertion_laws.ensures c.requires.asked (c.from-vehicle.result - 1) table c.index-tables-index.is e.3 c.args.ways.now c.requires.ways)
 
 pub loop-j-preserved : goal.loop-j-preserved
 loop-j-preserved c =
+    let p = c.args.problem.now in
+    let pins = c.args.pins.now in
+    let routes = plan_of c.args.tables.now in
+    let r = c.args.request.now in
+    let first = c.args.first.now in
+    let limit = c.args.limit.now in
     let v = c.from-vehicle.result in
-    let e = entry_at (length c.args.tables.now) c.args.first.now c.loop-j.j c.index-first-j.result v c.requires.first (search rules) c.from-vehicle.ensures in
+    let e = entry_at (length c.args.tables.now) first c.loop-j.j c.index-first-j.result v c.requires.first (search rules) c.from-vehicle.ensures in
     let table = c.index-tables-index.result in
     record {
       best = elim c.if-stop_count-ne0.branch [
         | then-stop_count-ne0 w ↦ (
-            subst (IsBestAmongThese c.args.problem.now c.args.pins.now (plan_of c.args.tables.now) c.args.request.now c.args.limit.now (IsNamed (plan_of c.args.tables.now) c.args.first.now (c.loop-j.j + 1))) (sym w.best-is)
-            (named_more c.insertion_laws.ensures c.requires.asked (v - 1) table c.index-tables-index.is e.3 c.args.first.now c.args.limit.now c.loop-j.j (get_or c.args.first.now c.loop-j.j c.index-first-j.result) e.0 e.1 (omega arith) (omega arith) c.loop-j.best w.look_at.new.best c.loop-j.invariant.best
-            (subst (λ u. IsLookedAt c.args.problem.now (route_of table) c.args.request.now (length (of_vehicle c.args.pins.now u)) [] u c.args.limit.now c.loop-j.best w.look_at.new.best) e.2 w.look_at.ensures.looked)))
+            subst (IsBestAmongThese p pins routes r limit (IsNamed routes first (c.loop-j.j + 1))) (sym w.best-is)
+            (named_more c.insertion_laws.ensures c.requires.asked (v - 1) table c.index-tables-index.is e.3 first limit c.loop-j.j
+            (get_or first c.loop-j.j c.index-first-j.result) e.0 e.1 (omega arith)
+            (omega arith) c.loop-j.best w.look_at.new.best c.loop-j.invariant.best
+            (subst (λ u. IsLookedAt p (route_of table) r
+            (length (of_vehicle pins u)) [] u limit c.loop-j.best w.look_at.new.best) e.2 w.look_at.ensures.looked)))
         | else-stop_count-ne0 w ↦ (
-            subst (IsBestAmongThese c.args.problem.now c.args.pins.now (plan_of c.args.tables.now) c.args.request.now c.args.limit.now (IsNamed (plan_of c.args.tables.now) c.args.first.now (c.loop-j.j + 1))) (sym w.best-is)
-            (named_idle c.insertion_laws.ensures c.requires.asked (v - 1) table c.index-tables-index.is e.3 c.args.first.now c.args.limit.now c.loop-j.j (get_or c.args.first.now c.loop-j.j c.index-first-j.result) e.0 e.1 (omega arith) c.loop-j.best c.loop-j.invariant.best))
+            subst (IsBestAmongThese p pins routes r limit (IsNamed routes first (c.loop-j.j + 1))) (sym w.best-is)
+            (named_idle c.insertion_laws.ensures c.requires.asked (v - 1) table c.index-tables-index.is e.3 first limit c.loop-j.j
+            (get_or first c.loop-j.j c.index-first-j.result) e.0 e.1 (omega arith) c.loop-j.best c.loop-j.invariant.best))
       ];
       short = search rules;
     }
 
 pub returns-clause-best : goal.returns-clause-best
 returns-clause-best c =
-    subst (λ n. IsBestAmongThese c.args.problem.now c.args.pins.now (plan_of c.args.tables.now) c.args.request.now c.args.limit.now (IsNamed (plan_of c.args.tables.now) c.args.first.now n) c.loop-j.best) (search rules) c.loop-j.invariant.best
+    let p = c.args.problem.now in
+    let pins = c.args.pins.now in
+    let routes = plan_of c.args.tables.now in
+    let r = c.args.request.now in
+    let first = c.args.first.now in
+    let limit = c.args.limit.now in
+    subst (λ n. IsBestAmongThese p pins routes r limit (IsNamed routes first n) c.loop-j.best) (search rules) c.loop-j.invariant.best

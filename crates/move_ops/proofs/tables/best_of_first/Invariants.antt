@@ -1,8 +1,8 @@
+-- The best among the vehicles of the entries so far is known, so at the end it is the best among those of all entries.
 use Rattle.move_ops.specs.Choosing.{IsBestAmongThese, IsNamed, IsShort}
 use Rattle.move_ops.specs.Tables.{plan_of}
 use Rattle.move_ops.proofs.tables.best_of_first.Given as goal
 
--- the best among the vehicles of the entries so far
 abbrev pub invariant-loop-j : goal.invariant-loop-j
 invariant-loop-j l = record {
   best : IsBestAmongThese l.problem l.pins (plan_of l.tables) l.request l.limit (IsNamed (plan_of l.tables) l.first l.j) l.best;

@@ -1,3 +1,4 @@
+-- A route of a plan that passes has live stops, each once, and keeps its limits, so a table can be built of it.
 use Rattle.std.proofs.Common.{rules, ◌≤◌, ◌-◌, ℕ, [], sym, subst, arith}
 use Rattle.std.proofs.lemmas.List.Elements.{All-get_or}
 use Rattle.plan_types.specs.Instance.{IsInstance}
@@ -9,10 +10,14 @@ pub build-requires-clause-route : goal.build-requires-clause-route
 build-requires-clause-route c =
     let p = c.args.problem.now in
     let v = c.from.result in
-    let within : (1 ≤ v) × (v ≤ p.fleet) = subst (λ (n : ℕ). (1 ≤ n) × (n ≤ p.fleet)) (sym (search rules)) (All-get_or (λ (n : ℕ). (1 ≤ n) × (n ≤ p.fleet)) c.args.vehicles.now c.loop-vehicle.vehicle-index 0 (omega arith) c.requires.vehicles) in
+    let within : (1 ≤ v) × (v ≤ p.fleet) =
+    subst (λ (n : ℕ). (1 ≤ n) × (n ≤ p.fleet)) (sym (search rules))
+    (All-get_or (λ (n : ℕ). (1 ≤ n) × (n ≤ p.fleet)) c.args.vehicles.now c.loop-vehicle.vehicle-index 0
+    (omega arith) c.requires.vehicles) in
     let low = within.0 in
     let fleet = fleet_of c.passes_are_local.ensures p [] c.args.routes.now c.requires.pass in
-    route_once c.passes_are_local.ensures c.plans_are_local.ensures c.tests_say_feasible.ensures p [] c.args.routes.now c.requires.pass (v - 1) c.of_vehicle-route.result.now
+    route_once c.passes_are_local.ensures c.plans_are_local.ensures c.tests_say_feasible.ensures p [] c.args.routes.now c.requires.pass
+    (v - 1) c.of_vehicle-route.result.now
     (vehicle_at c.args.routes.now v c.of_vehicle-route.result.now low (omega arith) c.of_vehicle-route.ensures) (omega arith)
 
 pub build-requires-clause-limits : goal.build-requires-clause-limits
@@ -20,8 +25,12 @@ build-requires-clause-limits c =
     let p = c.args.problem.now in
     let valid : IsInstance p = c.problem_keeps_limits.ensures in
     let v = c.from.result in
-    let within : (1 ≤ v) × (v ≤ p.fleet) = subst (λ (n : ℕ). (1 ≤ n) × (n ≤ p.fleet)) (sym (search rules)) (All-get_or (λ (n : ℕ). (1 ≤ n) × (n ≤ p.fleet)) c.args.vehicles.now c.loop-vehicle.vehicle-index 0 (omega arith) c.requires.vehicles) in
+    let within : (1 ≤ v) × (v ≤ p.fleet) =
+    subst (λ (n : ℕ). (1 ≤ n) × (n ≤ p.fleet)) (sym (search rules))
+    (All-get_or (λ (n : ℕ). (1 ≤ n) × (n ≤ p.fleet)) c.args.vehicles.now c.loop-vehicle.vehicle-index 0
+    (omega arith) c.requires.vehicles) in
     let low = within.0 in
     let fleet = fleet_of c.passes_are_local.ensures p [] c.args.routes.now c.requires.pass in
-    route_keeps c.passes_are_local.ensures c.plans_are_local.ensures c.tests_say_feasible.ensures p [] c.args.routes.now c.requires.pass (v - 1) c.of_vehicle-route.result.now
+    route_keeps c.passes_are_local.ensures c.plans_are_local.ensures c.tests_say_feasible.ensures p [] c.args.routes.now c.requires.pass
+    (v - 1) c.of_vehicle-route.result.now
     (vehicle_at c.args.routes.now v c.of_vehicle-route.result.now low (omega arith) c.of_vehicle-route.ensures) (omega arith) valid

@@ -1,3 +1,4 @@
+-- A request that a valid problem has under a name has this name.
 use Rattle.std.proofs.Common.{rules, ◌≡◌, Some, nat_eq, subst}
 use Rattle.std.specs.Map.{lookup}
 use Rattle.plan_types.specs.Instance.{IsInstance}

@@ -1,3 +1,4 @@
+-- A vehicle that is ruled out below a loose bound has no insertion that is better than the best so far, which stays.
 use Rattle.std.proofs.Common.{w64, length, sym, ap, subst, inl, arith}
 use mir.Val.{SFits}
 use Rattle.std.proofs.lemmas.Int.{to_z-of_z}
@@ -15,8 +16,11 @@ returns-then-rules_out_by-clause-looked c =
     let kept = length (of_vehicle c.args.pins.now c.args.vehicle) in
     let below : SFits w64 c.args.below = record { sfits = c.ranges.below.sfits } in
     let stays = to_z-of_z w64 c.args.below below in
-    let out : FitsNowhere c.args.table.now r c.args.below = subst (λ q. FitsNowhere q r c.args.below) c.table.ensures (subst (FitsNowhere c.table.result.now r) stays (c.rules_out_by.ensures c.if-rules_out_by.true)) in
-    inl (passed_over p r c.args.table.now kept c.args.vehicle c.args.limit.now c.args.best.now c.args.below c.requires.vehicle.problem c.requires.vehicle.course c.requires.vehicle.request (λ none. c.if-stop_count-ne0.true (let count = c.stop_count.ensures.count in omega arith)) out c.requires.below)
+    let out : FitsNowhere c.args.table.now r c.args.below = subst (λ q. FitsNowhere q r c.args.below) c.table.ensures
+    (subst (FitsNowhere c.table.result.now r) stays (c.rules_out_by.ensures c.if-rules_out_by.true)) in
+    inl (passed_over p r c.args.table.now kept c.args.vehicle c.args.limit.now c.args.best.now c.args.below c.requires.vehicle.problem
+    c.requires.vehicle.course c.requires.vehicle.request
+    (λ none. c.if-stop_count-ne0.true (let count = c.stop_count.ensures.count in omega arith)) out c.requires.below)
 
 pub rules_out_by-requires : goal.rules_out_by-requires
 rules_out_by-requires c =

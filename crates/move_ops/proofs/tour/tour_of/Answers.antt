@@ -1,3 +1,4 @@
+-- Where all tours are tables in a problem, so is each of them.
 use Rattle.std.proofs.Common.{◌-◌, arith}
 use Rattle.move_ops.proofs.Asked.{course_at}
 use Rattle.move_ops.proofs.tour.tour_of.Goals as goal

@@ -1,3 +1,4 @@
+-- Where the last vehicle of a front has no stops, one vehicle fewer is a front too.
 use Rattle.std.proofs.Common.{◌-◌, length, subst, ap, arith}
 use Rattle.move_ops.specs.Drafts.{AreIdleBehind}
 use Rattle.move_ops.specs.Tables.{plan_of}

@@ -1,9 +1,9 @@
+-- No vehicle behind the front so far has a stop, so wherever the loop ends it is a front.
 use Rattle.std.proofs.Common.{◌≤◌}
 use Rattle.move_ops.specs.Drafts.{AreIdleBehind}
 use Rattle.move_ops.specs.Tables.{plan_of}
 use Rattle.move_ops.proofs.tours.front_of.Given as goal
 
--- so far no vehicle behind the front has a stop
 abbrev pub invariant-loop-front : goal.invariant-loop-front
 invariant-loop-front l = record {
   within : l.front ≤ l.end;

@@ -1,3 +1,4 @@
+-- A route of a plan that passes has live stops, each once, and keeps its limits, so a table can be built of it.
 use Rattle.std.proofs.Common.{ℕ, List, [], sym, subst, arith}
 use Rattle.route_sched.specs.Route.{AreLiveOnce}
 use Rattle.slack_tables.specs.Insertion.{KeepsLimits}
@@ -8,10 +9,14 @@ pub build-requires-clause-route : goal.build-requires-clause-route
 build-requires-clause-route c =
     let p = c.args.problem.now in
     subst (λ (l : List ℕ). AreLiveOnce p l) (sym c.as_slice.ensures)
-    (route_once c.passes_are_local.ensures c.plans_are_local.ensures c.tests_say_feasible.ensures p [] c.args.routes.now c.requires c.loop-route.route-index c.route-item.result c.route-item.is (omega arith))
+    (route_once c.passes_are_local.ensures c.plans_are_local.ensures c.tests_say_feasible.ensures p [] c.args.routes.now c.requires
+    c.loop-route.route-index c.route-item.result c.route-item.is
+    (omega arith))
 
 pub build-requires-clause-limits : goal.build-requires-clause-limits
 build-requires-clause-limits c =
     let p = c.args.problem.now in
     subst (λ (l : List ℕ). KeepsLimits p l) (sym c.as_slice.ensures)
-    (route_keeps c.passes_are_local.ensures c.plans_are_local.ensures c.tests_say_feasible.ensures p [] c.args.routes.now c.requires c.loop-route.route-index c.route-item.result c.route-item.is (omega arith) c.problem_keeps_limits.ensures)
+    (route_keeps c.passes_are_local.ensures c.plans_are_local.ensures c.tests_say_feasible.ensures p [] c.args.routes.now c.requires
+    c.loop-route.route-index c.route-item.result c.route-item.is
+    (omega arith) c.problem_keeps_limits.ensures)

@@ -1,3 +1,4 @@
+-- The draft's tours are the tables of a plan that passes, with its rooms and reach; and the place that is best is one where the request can be put.
 use Rattle.std.proofs.Common.{rules, List, sym, subst}
 use Rattle.slack_tables.specs.Course.{Course}
 use Rattle.move_ops.specs.Choosing.{IsReach}
@@ -19,5 +20,8 @@ best_within-requires c =
 pub returns-clause-put : goal.returns-clause-put
 returns-clause-put c =
     let is = c.requires.is in
-    within_put c.requests_are_found_by_stop.ensures c.requests_stand_by_name.ensures c.passes_are_local.ensures c.tests_say_feasible.ensures c.numbers_are_below_the_next.ensures.stops c.best_insertions_are_least.ensures
-    c.args.problem.now c.args.pins.now.routes (draft_of c.args.self.now) is.valid is.draft c.args.request.now c.requires.request c.args.limit.now c.best_within.result (search rules)
+    within_put c.requests_are_found_by_stop.ensures c.requests_stand_by_name.ensures c.passes_are_local.ensures
+    c.tests_say_feasible.ensures c.numbers_are_below_the_next.ensures.stops c.best_insertions_are_least.ensures
+    c.args.problem.now c.args.pins.now.routes
+    (draft_of c.args.self.now) is.valid is.draft c.args.request.now c.requires.request c.args.limit.now c.best_within.result
+    (search rules)

@@ -1,3 +1,4 @@
+-- Each stop of the next request is one of the named requests, so the draft doesn't have it.
 use Rattle.std.proofs.Common.{rules, ◌∙◌, get_or, ap}
 use Rattle.plan_types.specs.Instance.{IsInstance}
 use Rattle.route_sched.specs.Cost.{has_stop}
@@ -12,4 +13,6 @@ clear_request-requires c =
     let k = c.loop-name.name-index in
     let valid : IsInstance c.args.problem.now = c.problem_keeps_limits.ensures in
     λ n some. ap (λ (d : Drafted). has_stop (draft_of d) n) c.loop-name.invariant
-    ∙ c.requires n (named_stop c.requests_are_found_by_stop.ensures p valid names (get_or names k 0) c.in-Some.request (has_item names k c.loop-name-test.true) (search rules) n some)
+    ∙ c.requires n
+    (named_stop c.requests_are_found_by_stop.ensures p valid names (get_or names k 0) c.in-Some.request
+    (has_item names k c.loop-name-test.true) (search rules) n some)

@@ -1,3 +1,4 @@
+-- A route's length is a part of the total, so with another route for one vehicle the total loses the old one's length and gains the new one's.
 use Rattle.std.proofs.Common.{rules, ◌≡◌, ◌+◌, ◌-◌, ap, sym, ◌∙◌, arith}
 use Rattle.plan_types.specs.declared.plans.Cost.{Cost}
 use Rattle.route_sched.specs.Cost.{cost_of, total_length}
@@ -24,7 +25,8 @@ overflow_add-result c =
     let cost : c.self.inside.cost ≡ cost_of p (draft_of c.args.self.now) = (search rules) ∙ c.requires.cost in
     let held = ap (λ (k : Cost). k.distance) cost in
     let old = c.distance_of-old.ensures in
-    let new : c.distance.result ≡ route_length p (route_of c.args.tour.now) = c.distance.ensures p (route_of c.args.tour.now) (c.requires.course ∙ sym c.table.ensures) in
+    let new : c.distance.result ≡ route_length p (route_of c.args.tour.now) =
+    c.distance.ensures p (route_of c.args.tour.now) (c.requires.course ∙ sym c.table.ensures) in
     let changed = part_changed (route_length p) c.args.self.now.tours c.args.vehicle c.requires.from_one c.requires.within (route_of c.args.tour.now) in
     let small = c.requires.small in
     omega arith
@@ -36,7 +38,8 @@ returns c =
     let cost : c.self.inside.cost ≡ cost_of p (draft_of c.args.self.now) = (search rules) ∙ c.requires.cost in
     let held = ap (λ (k : Cost). k.distance) cost in
     let old = c.distance_of-old.ensures in
-    let new : c.distance.result ≡ route_length p (route_of c.args.tour.now) = c.distance.ensures p (route_of c.args.tour.now) (c.requires.course ∙ sym c.table.ensures) in
+    let new : c.distance.result ≡ route_length p (route_of c.args.tour.now) =
+    c.distance.ensures p (route_of c.args.tour.now) (c.requires.course ∙ sym c.table.ensures) in
     let changed = part_changed (route_length p) c.args.self.now.tours c.args.vehicle c.requires.from_one c.requires.within (route_of c.args.tour.now) in
     let distance : c.self.inside.cost.distance - c.distance_of-old.result + c.distance.result ≡ total_length p after = omega arith in
     same_cost _ (cost_of p after) c.requires.unplanned c.vehicles_with.ensures distance

@@ -1,3 +1,4 @@
+-- Both routes with their ends exchanged have live stops, each once; where they are feasible alone they make the crossed plan, else there is none.
 use Rattle.std.proofs.Common.{rules, ◌≡◌, ◌∷◌, [], List, true, false, Some, refl, sym, ap, subst, ◌∙◌}
 use Rattle.route_sched.specs.Route.{AreLiveOnce}
 use Rattle.plan_audit.specs.Passes.{feasible_alone}
@@ -9,30 +10,93 @@ use Rattle.move_ops.proofs.draft.Draft.crossing.Goals as goal
 
 pub is_feasible-requires : goal.is_feasible-requires
 is_feasible-requires c =
-    record { course = search rules; once = subst (AreLiveOnce c.args.problem.now) (sym c.as_slice.ensures) (once_first c.passes_are_local.ensures c.tests_say_feasible.ensures c.args.problem.now c.args.pins.now.routes c.args.self.now c.requires c.args.cuts.first.vehicle c.args.cuts.first.stops c.args.cuts.second.vehicle c.args.cuts.second.stops (sym (search rules) ∙ c.are_crossable.ensures) c.in_ok-first_route.first_route c.in_ok-second_route.second_route (search rules) (search rules)) }
+    let p = c.args.problem.now in
+    let pins = c.args.pins.now.routes in
+    let d = c.args.self.now in
+    let first = c.args.cuts.first in
+    let second = c.args.cuts.second in
+    let front = c.in_ok-first_route.first_route in
+    let back = c.in_ok-second_route.second_route in
+    record {
+      course = search rules;
+      once = subst (AreLiveOnce p) (sym c.as_slice.ensures)
+          (once_first c.passes_are_local.ensures c.tests_say_feasible.ensures p pins d c.requires first.vehicle first.stops second.vehicle second.stops
+          (sym (search rules) ∙ c.are_crossable.ensures) front back (search rules) (search rules));
+    }
 
 pub returns-then-not-is_feasible-clause-routes : goal.returns-then-not-is_feasible-clause-routes
 returns-then-not-is_feasible-clause-routes c =
-    answer c.passes_are_local.ensures c.tests_say_feasible.ensures c.args.problem.now c.args.pins.now.routes c.args.self.now c.requires c.args.cuts.first.vehicle c.args.cuts.first.stops c.args.cuts.second.vehicle c.args.cuts.second.stops (sym (search rules) ∙ c.are_crossable.ensures) c.in_ok-first_route.first_route c.in_ok-second_route.second_route (search rules) (search rules) false (feasible_alone c.args.problem.now c.in_ok-second_route.second_route) (sym (search rules) ∙ (c.is_feasible.ensures ∙ ap (feasible_alone c.args.problem.now) c.as_slice.ensures)) refl
+    let p = c.args.problem.now in
+    let pins = c.args.pins.now.routes in
+    let d = c.args.self.now in
+    let first = c.args.cuts.first in
+    let second = c.args.cuts.second in
+    let front = c.in_ok-first_route.first_route in
+    let back = c.in_ok-second_route.second_route in
+    answer c.passes_are_local.ensures c.tests_say_feasible.ensures p pins d c.requires first.vehicle first.stops second.vehicle second.stops
+    (sym (search rules) ∙ c.are_crossable.ensures) front back (search rules) (search rules) false (feasible_alone p back)
+    (sym (search rules) ∙ (c.is_feasible.ensures ∙ ap (feasible_alone p) c.as_slice.ensures)) refl
 
 pub is_feasible-requires-2 : goal.is_feasible-requires-2
 is_feasible-requires-2 c =
-    record { course = search rules; once = subst (AreLiveOnce c.args.problem.now) (sym c.as_slice-2.ensures) (once_second c.passes_are_local.ensures c.tests_say_feasible.ensures c.args.problem.now c.args.pins.now.routes c.args.self.now c.requires c.args.cuts.first.vehicle c.args.cuts.first.stops c.args.cuts.second.vehicle c.args.cuts.second.stops (sym (search rules) ∙ c.are_crossable.ensures) c.in_ok-first_route.first_route c.in_ok-second_route.second_route (search rules) (search rules)) }
+    let p = c.args.problem.now in
+    let pins = c.args.pins.now.routes in
+    let d = c.args.self.now in
+    let first = c.args.cuts.first in
+    let second = c.args.cuts.second in
+    let front = c.in_ok-first_route.first_route in
+    let back = c.in_ok-second_route.second_route in
+    record {
+      course = search rules;
+      once = subst (AreLiveOnce p) (sym c.as_slice-2.ensures)
+          (once_second c.passes_are_local.ensures c.tests_say_feasible.ensures p pins d c.requires first.vehicle first.stops second.vehicle second.stops
+          (sym (search rules) ∙ c.are_crossable.ensures) front back (search rules) (search rules));
+    }
 
 pub returns-then-not-is_feasible-2-clause-routes : goal.returns-then-not-is_feasible-2-clause-routes
 returns-then-not-is_feasible-2-clause-routes c =
-    let one : true ≡ feasible_alone c.args.problem.now c.in_ok-first_route.first_route = sym (search rules) ∙ (c.is_feasible.ensures ∙ ap (feasible_alone c.args.problem.now) c.as_slice.ensures) in
-    answer c.passes_are_local.ensures c.tests_say_feasible.ensures c.args.problem.now c.args.pins.now.routes c.args.self.now c.requires c.args.cuts.first.vehicle c.args.cuts.first.stops c.args.cuts.second.vehicle c.args.cuts.second.stops (sym (search rules) ∙ c.are_crossable.ensures) c.in_ok-first_route.first_route c.in_ok-second_route.second_route (search rules) (search rules) true false one (sym (search rules) ∙ (c.is_feasible-2.ensures ∙ ap (feasible_alone c.args.problem.now) c.as_slice-2.ensures))
+    let p = c.args.problem.now in
+    let pins = c.args.pins.now.routes in
+    let d = c.args.self.now in
+    let first = c.args.cuts.first in
+    let second = c.args.cuts.second in
+    let front = c.in_ok-first_route.first_route in
+    let back = c.in_ok-second_route.second_route in
+    let one : true ≡ feasible_alone p front = sym (search rules) ∙ (c.is_feasible.ensures ∙ ap (feasible_alone p) c.as_slice.ensures) in
+    answer c.passes_are_local.ensures c.tests_say_feasible.ensures p pins d c.requires first.vehicle first.stops second.vehicle second.stops
+    (sym (search rules) ∙ c.are_crossable.ensures) front back (search rules) (search rules) true false one
+    (sym (search rules) ∙ (c.is_feasible-2.ensures ∙ ap (feasible_alone p) c.as_slice-2.ensures))
 
 pub returns-clause-routes : goal.returns-clause-routes
 returns-clause-routes c =
-    let one : true ≡ feasible_alone c.args.problem.now c.in_ok-first_route.first_route = sym (search rules) ∙ (c.is_feasible.ensures ∙ ap (feasible_alone c.args.problem.now) c.as_slice.ensures) in
-    let two : true ≡ feasible_alone c.args.problem.now c.in_ok-second_route.second_route = sym (search rules) ∙ (c.is_feasible-2.ensures ∙ ap (feasible_alone c.args.problem.now) c.as_slice-2.ensures) in
-    let changes : c.push-2.new.self.items ≡ record { vehicle = c.args.cuts.first.vehicle; route = c.in_ok-first_route.first_route } ∷ record { vehicle = c.args.cuts.second.vehicle; route = c.in_ok-second_route.second_route } ∷ [] = search rules in
-    ap (λ (l : List Change). Some (with_routes (draft_of c.args.self.now) l)) changes ∙ answer c.passes_are_local.ensures c.tests_say_feasible.ensures c.args.problem.now c.args.pins.now.routes c.args.self.now c.requires c.args.cuts.first.vehicle c.args.cuts.first.stops c.args.cuts.second.vehicle c.args.cuts.second.stops (sym (search rules) ∙ c.are_crossable.ensures) c.in_ok-first_route.first_route c.in_ok-second_route.second_route (search rules) (search rules) true true one two
+    let p = c.args.problem.now in
+    let pins = c.args.pins.now.routes in
+    let d = c.args.self.now in
+    let first = c.args.cuts.first in
+    let second = c.args.cuts.second in
+    let front = c.in_ok-first_route.first_route in
+    let back = c.in_ok-second_route.second_route in
+    let one : true ≡ feasible_alone p front = sym (search rules) ∙ (c.is_feasible.ensures ∙ ap (feasible_alone p) c.as_slice.ensures) in
+    let two : true ≡ feasible_alone p back = sym (search rules) ∙ (c.is_feasible-2.ensures ∙ ap (feasible_alone p) c.as_slice-2.ensures) in
+    let changes : c.push-2.new.self.items
+    ≡ record { vehicle = first.vehicle; route = front } ∷ record { vehicle = second.vehicle; route = back } ∷ [] =
+    search rules in
+    ap (λ (l : List Change). Some (with_routes (draft_of d) l)) changes
+    ∙ answer c.passes_are_local.ensures c.tests_say_feasible.ensures p pins d c.requires first.vehicle first.stops second.vehicle second.stops
+    (sym (search rules) ∙ c.are_crossable.ensures) front back (search rules) (search rules) true true one two
 
 pub returns-clause-change : goal.returns-clause-change
 returns-clause-change c =
-    let one : true ≡ feasible_alone c.args.problem.now c.in_ok-first_route.first_route = sym (search rules) ∙ (c.is_feasible.ensures ∙ ap (feasible_alone c.args.problem.now) c.as_slice.ensures) in
-    let two : true ≡ feasible_alone c.args.problem.now c.in_ok-second_route.second_route = sym (search rules) ∙ (c.is_feasible-2.ensures ∙ ap (feasible_alone c.args.problem.now) c.as_slice-2.ensures) in
-    crossed_change c.passes_are_local.ensures c.tests_say_feasible.ensures c.args.problem.now c.args.pins.now.routes c.args.self.now c.requires c.args.cuts.first.vehicle c.args.cuts.first.stops c.args.cuts.second.vehicle c.args.cuts.second.stops (sym (search rules) ∙ c.are_crossable.ensures) c.in_ok-first_route.first_route c.in_ok-second_route.second_route (search rules) (search rules) c.push-2.new.self.items (search rules) one two
+    let p = c.args.problem.now in
+    let pins = c.args.pins.now.routes in
+    let d = c.args.self.now in
+    let first = c.args.cuts.first in
+    let second = c.args.cuts.second in
+    let front = c.in_ok-first_route.first_route in
+    let back = c.in_ok-second_route.second_route in
+    let one : true ≡ feasible_alone p front = sym (search rules) ∙ (c.is_feasible.ensures ∙ ap (feasible_alone p) c.as_slice.ensures) in
+    let two : true ≡ feasible_alone p back = sym (search rules) ∙ (c.is_feasible-2.ensures ∙ ap (feasible_alone p) c.as_slice-2.ensures) in
+    crossed_change c.passes_are_local.ensures c.tests_say_feasible.ensures p pins d c.requires first.vehicle first.stops second.vehicle
+    second.stops
+    (sym (search rules) ∙ c.are_crossable.ensures) front back (search rules) (search rules) c.push-2.new.self.items
+    (search rules) one two

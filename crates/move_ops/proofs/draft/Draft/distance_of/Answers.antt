@@ -1,3 +1,4 @@
+-- The tour of a vehicle is the table of its route, so its distance is the route's length.
 use Rattle.std.proofs.Common.{rules, ◌≡◌, ◌≤◌, ◌-◌, List, length, ap, sym, subst, ◌∙◌, arith}
 use Rattle.route_sched.specs.Schedule.{route_length}
 use Rattle.slack_tables.specs.Course.{Course, route_of}
@@ -18,4 +19,5 @@ returns c =
     let low = c.requires.from_one in
     let tables : AreTablesIn p tours = subst (AreTablesIn p) viewed c.requires.tables in
     c.distance.ensures p (route_of old) (course_at tours (v - 1) old c.index.ensures (omega arith) p tables ∙ sym c.table.ensures)
-    ∙ (ap (route_length p) (vehicle_route tours v old (λ none. absurd (omega arith)) (omega arith) c.index.ensures) ∙ ap (λ (l : List Course). route_length p (of_vehicle (plan_of l) v)) (sym viewed))
+    ∙ (ap (route_length p) (vehicle_route tours v old (λ none. absurd (omega arith)) (omega arith) c.index.ensures)
+    ∙ ap (λ (l : List Course). route_length p (of_vehicle (plan_of l) v)) (sym viewed))

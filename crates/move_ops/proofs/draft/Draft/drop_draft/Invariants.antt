@@ -1,8 +1,8 @@
+-- The base stays while the log gets shorter, so once it is empty the draft is the base.
 use Rattle.std.proofs.Common.{◌≡◌, length}
 use Rattle.move_ops.specs.Drafts.{undone}
 use Rattle.move_ops.proofs.draft.Draft.drop_draft.Given as goal
 
--- the base stays, and the log gets shorter
 abbrev pub invariant-loop-self : goal.invariant-loop-self
 invariant-loop-self l = record {
   base : undone l.self.tours l.self.log ≡ undone l.fn.self.tours l.fn.self.log;

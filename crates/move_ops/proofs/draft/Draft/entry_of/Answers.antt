@@ -1,3 +1,4 @@
+-- An entry with the vehicle's number is an entry of the vehicle.
 use Rattle.std.proofs.Common.{rules, ◌≡◌, ◌∙◌, ℕ, List, Some, length, get_or, refl, ap, subst}
 use Rattle.std.proofs.lemmas.Option.{slice_get_read}
 use Rattle.slack_tables.specs.Course.{Course}
@@ -8,5 +9,6 @@ returns-then-index-vehicle c =
     let log = c.args.self.now.log in
     let k = c.loop-entry.entry in
     let x = c.index.result.now in
-    let at : x ≡ get_or log k x = subst (λ (l : List (ℕ × Course)). c.index.result.now ≡ get_or l c.loop-entry.entry c.index.result.now) (search rules) c.index.ensures in
+    let at : x ≡ get_or log k x = subst (λ (l : List (ℕ × Course)). c.index.result.now ≡ get_or l c.loop-entry.entry c.index.result.now)
+    (search rules) c.index.ensures in
     (x.1, slice_get_read log (length log) k x refl (search rules) at ∙ ap (λ (v : ℕ). Some (v, x.1)) c.if-index-vehicle.true)

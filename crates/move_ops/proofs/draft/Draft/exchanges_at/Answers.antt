@@ -1,3 +1,4 @@
+-- No vehicle but those with stops of either request gets another route, so their changes make the plan with the two exchanged.
 use Rattle.std.proofs.Common.{◌≡◌, List, map, sym, ap, subst, ◌∙◌}
 use Rattle.std.proofs.lemmas.List.{take_all}
 use Rattle.move_ops.specs.Changes.{AreChanges}
@@ -13,5 +14,7 @@ returns c =
     let s = c.args.second.now in
     let old = draft_of c.args.self.now in
     let whole = take_all c.loop-vehicle.vehicle-index c.args.vehicles.now c.loop-vehicle-test.false in
-    let are : c.loop-vehicle.changes.items ≡ map (change_at (map (counterpart r s)) old) c.args.vehicles.now = c.loop-vehicle.invariant ∙ ap (map (change_at (map (counterpart r s)) old)) whole in
-    subst (λ (l : List Change). AreChanges old (map (map (counterpart r s)) old) l) (sym are) (exchanged_changes r s old c.args.vehicles.now c.requires.within c.requires.found)
+    let are : c.loop-vehicle.changes.items ≡ map (change_at (map (counterpart r s)) old) c.args.vehicles.now =
+    c.loop-vehicle.invariant ∙ ap (map (change_at (map (counterpart r s)) old)) whole in
+    subst (λ (l : List Change). AreChanges old (map (map (counterpart r s)) old) l) (sym are)
+    (exchanged_changes r s old c.args.vehicles.now c.requires.within c.requires.found)

@@ -1,3 +1,4 @@
+-- A live request that can be put there makes the plan with it put in, and one that can't makes none.
 use Rattle.std.proofs.Common.{rules, None, Some}
 use Rattle.move_ops.specs.Drafts.{draft_of}
 use Rattle.move_ops.specs.Insertion.{put_in, with_request_at}
@@ -25,4 +26,5 @@ returns c =
     let r = c.in-Some.request in
     let new = with_request_at routes r c.args.place in
     was_made (put_in p pins routes c.args.name c.args.place) new c.args.self.now c.put.new.self
-    (put_named p c.requires.valid c.args.name r (search rules) pins routes c.args.place (Some new) (c.in_ok-can_be_put.ensures.put (search rules)).there) c.in_ok-put.ensures.draft
+    (put_named p c.requires.valid c.args.name r (search rules) pins routes c.args.place (Some new)
+    (c.in_ok-can_be_put.ensures.put (search rules)).there) c.in_ok-put.ensures.draft

@@ -1,3 +1,4 @@
+-- The plan with the changed routes passes, so its length is small, and with its cost the changed draft is one of the same problem and pins.
 use Rattle.std.proofs.Common.{rules, ◌≡◌, ◌≤◌, ℕ, List, length, true, sym, ap, subst, ◌∙◌}
 use Rattle.std.specs.List.{AllByRecursion}
 use Rattle.std.proofs.lemmas.List.{length-map}
@@ -18,7 +19,8 @@ use Rattle.move_ops.proofs.draft.Draft.install.Goals as goal
 
 pub set_tours-vehicles-requires-clause-small : goal.set_tours-vehicles-requires-clause-small
 set_tours-vehicles-requires-clause-small c =
-    plan_small c.numbers_are_below_the_next.ensures.stops c.passes_are_local.ensures c.args.problem.now c.requires.is.valid c.args.pins.now.routes (with_routes (draft_of c.args.self.now) (changes_of c.args.tours.items)) c.requires.change.passes
+    plan_small c.numbers_are_below_the_next.ensures.stops c.passes_are_local.ensures c.args.problem.now c.requires.is.valid c.args.pins.now.routes
+    (with_routes (draft_of c.args.self.now) (changes_of c.args.tours.items)) c.requires.change.passes
 
 pub set_tours-vehicles-requires-clause-within : goal.set_tours-vehicles-requires-clause-within
 set_tours-vehicles-requires-clause-within c =
@@ -34,7 +36,8 @@ returns-clause-is c =
     let plan : plan_of new.tours.items ≡ with_routes (draft_of c.args.self.now) (changes_of c.args.tours.items) = search rules in
     let cost : Cost = record { unplanned = c.args.unplanned; vehicles = c.set_tours-vehicles.result.0; distance = c.set_tours-vehicles.result.1 } in
     let left : c.args.unplanned ≡ unplanned_count p (plan_of new.tours.items) = c.requires.change.unplanned ∙ ap (unplanned_count p) (sym plan) in
-    changed p c.args.pins.now.routes c.args.self.now (record { tours = new.tours.items; log = new.log.items; pinned = new.pinned.items; cost = cost; base_cost = new.base_cost })
+    changed p c.args.pins.now.routes c.args.self.now
+    (record { tours = new.tours.items; log = new.log.items; pinned = new.pinned.items; cost = cost; base_cost = new.base_cost })
     c.requires.is (search rules) (search rules) (search rules)
     (subst (λ (l : List (List ℕ)). passes p c.args.pins.now.routes l ≡ true) (sym plan) c.requires.change.passes)
     (search rules)

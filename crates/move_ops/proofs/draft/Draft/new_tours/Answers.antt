@@ -1,3 +1,4 @@
+-- The tour of one change more is put behind those so far.
 use Rattle.std.proofs.Common.{◌∙◌, ap}
 use Rattle.slack_tables.specs.Course.{course_of}
 use Rattle.move_ops.proofs.Touring.{tours_more}
@@ -9,7 +10,9 @@ loop-change-preserved c =
     let is = c.loop-change.invariant in
     let made = c.in_ok-tour.ensures in
     record {
-      tours = tours_more p c.args.changes.now c.loop-change.change-index c.change-item.result c.loop-change.tours.items c.push.new.self.items c.in_ok-tour.tour c.change-item.is c.loop-change-test.true
+      tours =
+          tours_more p c.args.changes.now c.loop-change.change-index c.change-item.result c.loop-change.tours.items c.push.new.self.items
+          c.in_ok-tour.tour c.change-item.is c.loop-change-test.true
           (made.course ∙ ap (course_of p) c.as_slice.ensures) (made.route ∙ c.as_slice.ensures) c.in_ok-push.ensures.items is.tours;
       same = made.same ∙ is.same;
     }

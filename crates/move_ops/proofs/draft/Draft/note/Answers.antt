@@ -1,3 +1,4 @@
+-- A stop in no route adds no vehicle, nor does one whose vehicle is noted already; any other adds its vehicle.
 use Rattle.std.proofs.Common.{◌≡◌, ◌≤◌, true, arith}
 use Rattle.plan_audit.specs.Passes.{has}
 use Rattle.move_ops.specs.Drafts.{draft_of}
@@ -11,9 +12,11 @@ returns-then-vehicle-eq0 c =
 pub returns-then-is_among : goal.returns-then-is_among
 returns-then-is_among c =
     let among : has c.args.vehicles.now.items c.vehicle_of-vehicle.result ≡ true = cc in
-    noted_old (draft_of c.args.self.now) c.args.stop c.args.vehicles.now.items c.requires c.vehicle_of-vehicle.result (c.vehicle_of-vehicle.ensures.0 (omega arith)) among
+    noted_old (draft_of c.args.self.now) c.args.stop c.args.vehicles.now.items c.requires c.vehicle_of-vehicle.result
+    (c.vehicle_of-vehicle.ensures.0 (omega arith)) among
 
 pub returns : goal.returns
 returns c =
     let from : 1 ≤ c.vehicle_of-vehicle.result = omega arith in
-    noted_new (draft_of c.args.self.now) c.args.stop c.args.vehicles.now.items c.requires c.vehicle_of-vehicle.result (c.vehicle_of-vehicle.ensures.0 from) from c.push.new.self.items c.in_ok-push.ensures.items
+    noted_new (draft_of c.args.self.now) c.args.stop c.args.vehicles.now.items c.requires c.vehicle_of-vehicle.result
+    (c.vehicle_of-vehicle.ensures.0 from) from c.push.new.self.items c.in_ok-push.ensures.items

@@ -1,3 +1,4 @@
+-- A live request is put in where it is best, and without a best place the draft stays, as the plan does.
 use Rattle.std.proofs.Common.{rules, ◌≡◌, ℕ, List, OnOk, subst}
 use Rattle.move_ops.specs.Drafts.{draft_of}
 use Rattle.move_ops.proofs.Putting.{named_request, placed_named, stays_named}
@@ -12,7 +13,8 @@ returns-in-Some-best-clause-draft c =
     let p = c.args.problem.now in
     let r = c.in-Some.request in
     subst (λ (l : List (List ℕ)). OnOk c.put.result (draft_of c.put.new.self ≡ l))
-    (placed_named p c.requires.valid c.args.name r (search rules) c.args.pins.now.routes (draft_of c.args.self.now) c.in-Some-best.place (search rules) c.in-Some-best.ensures.put) c.put.ensures.draft
+    (placed_named p c.requires.valid c.args.name r (search rules) c.args.pins.now.routes (draft_of c.args.self.now) c.in-Some-best.place
+    (search rules) c.in-Some-best.ensures.put) c.put.ensures.draft
 
 pub returns-in-None-clause-draft : goal.returns-in-None-clause-draft
 returns-in-None-clause-draft c =

@@ -1,3 +1,4 @@
+-- The best insertion within the limit is the best of all, opens no vehicle and adds less than the bound; without one the plan with the request is far.
 use mir.Val.{SFits}
 use Rattle.std.proofs.Common.{rules, w64, true, false, refl, subst}
 use Rattle.std.proofs.lemmas.Int.{to_z-of_z}
@@ -23,7 +24,9 @@ returns-in_default-best_within-clause-placed c =
     let r = c.in-Some.request in
     let fits : SFits w64 c.args.below = record { sfits = c.ranges.below.sfits } in
     subst (λ b. IsPlacedBelow p pins c.args.name b false routes routes) (to_z-of_z w64 c.args.below fits)
-    (kept_below c.insertion_laws.ensures p pins c.args.self.now c.requires r (named_request p c.requires.valid c.args.name r (search rules)) c.args.name (search rules) _ refl c.in_default-best_within.ensures.best)
+    (kept_below c.insertion_laws.ensures p pins c.args.self.now c.requires r
+    (named_request p c.requires.valid c.args.name r (search rules)) c.args.name
+    (search rules) _ refl c.in_default-best_within.ensures.best)
 
 pub returns-clause-placed : goal.returns-clause-placed
 returns-clause-placed c =
@@ -33,4 +36,7 @@ returns-clause-placed c =
     let r = c.in-Some.request in
     let fits : SFits w64 c.args.below = record { sfits = c.ranges.below.sfits } in
     subst (λ b. IsPlacedBelow p pins c.args.name b true routes (draft_of c.put.new.self)) (to_z-of_z w64 c.args.below fits)
-    (put_below c.insertion_laws.ensures p pins c.args.self.now c.requires r (named_request p c.requires.valid c.args.name r (search rules)) c.args.name (search rules) _ refl c.in-Some-best_within.place c.in-Some-best_within.ensures.best c.in-Some-best_within.ensures.put (draft_of c.put.new.self) c.in_ok-put.ensures.draft)
+    (put_below c.insertion_laws.ensures p pins c.args.self.now c.requires r
+    (named_request p c.requires.valid c.args.name r (search rules)) c.args.name
+    (search rules) _ refl c.in-Some-best_within.place c.in-Some-best_within.ensures.best c.in-Some-best_within.ensures.put
+    (draft_of c.put.new.self) c.in_ok-put.ensures.draft)

@@ -1,3 +1,4 @@
+-- The route with the request put in keeps its limits, so with its tour the draft is one of the plan with the request, which leaves one fewer out.
 use Rattle.std.proofs.Common.{rules, ◌≡◌, ◌-◌, set, ap, ◌∙◌, arith}
 use Rattle.plan_types.specs.declared.plans.Cost.{Cost}
 use Rattle.route_sched.specs.Cost.{cost_of}
@@ -15,12 +16,15 @@ set_route-requires-clause-from_one c = c.requires.put.from
 
 pub set_route-requires-clause-within : goal.set_route-requires-clause-within
 set_route-requires-clause-within c =
-    within_tours c.args.problem.now c.args.pins.now.routes c.args.self.now c.requires.is c.args.request.now c.args.place c.requires.put c.self.inside.tours.items (search rules) c.route.result.now c.route.ensures
+    within_tours c.args.problem.now c.args.pins.now.routes c.args.self.now c.requires.is c.args.request.now c.args.place c.requires.put
+    c.self.inside.tours.items
+    (search rules) c.route.result.now c.route.ensures
 
 pub set_route-requires-clause-unplanned : goal.set_route-requires-clause-unplanned
 set_route-requires-clause-unplanned c =
     let tv : c.self.inside.tours.items ≡ c.args.self.now.tours = search rules in
-    let count = given_unplanned c.args.problem.now c.args.pins.now.routes c.args.self.now c.requires.is c.args.request.now c.args.place c.requires.put c.self.inside.tours.items tv c.route.result.now c.route.ensures
+    let count = given_unplanned c.args.problem.now c.args.pins.now.routes c.args.self.now c.requires.is c.args.request.now c.args.place
+    c.requires.put c.self.inside.tours.items tv c.route.result.now c.route.ensures
     c.put_into.new.new.items c.in_ok-put_into.ensures c.deref.result.now c.deref.ensures.value in
     let held : c.self.inside.cost ≡ c.args.self.now.cost = search rules in
     let left = ap (λ (k : Cost). k.unplanned) held in
@@ -32,19 +36,30 @@ returns-clause-is c =
     let tv : c.self.inside.tours.items ≡ c.args.self.now.tours = search rules in
     let new = c.self-2.inside in
     let is_set = c.in_ok-self-inside.ensures.set in
-    let tours : new.tours.items ≡ set c.self.inside.tours.items (c.args.place.0 - 1) (course_of p c.deref.result.now) = ap (λ (d : Drafted). d.tours) c.self-2.view_is ∙ is_set.tours in
-    changed p c.args.pins.now.routes c.args.self.now (record { tours = new.tours.items; log = new.log.items; pinned = new.pinned.items; cost = c.in_ok-self-inside.field-0; base_cost = new.base_cost })
+    let tours : new.tours.items ≡ set c.self.inside.tours.items (c.args.place.0 - 1) (course_of p c.deref.result.now) =
+    ap (λ (d : Drafted). d.tours) c.self-2.view_is ∙ is_set.tours in
+    changed p c.args.pins.now.routes c.args.self.now
+    (record {
+      tours = new.tours.items;
+      log = new.log.items;
+      pinned = new.pinned.items;
+      cost = c.in_ok-self-inside.field-0;
+      base_cost = new.base_cost;
+    })
     c.requires.is
     (ap (λ (d : Drafted). undone d.tours d.log) c.self-2.view_is ∙ (is_set.base ∙ ap (λ (d : Drafted). undone d.tours d.log) c.self.view_is))
     (ap (λ (d : Drafted). d.pinned) c.self-2.view_is ∙ (is_set.pinned ∙ ap (λ (d : Drafted). d.pinned) c.self.view_is))
     (ap (λ (d : Drafted). d.base_cost) c.self-2.view_is ∙ (is_set.base_cost ∙ ap (λ (d : Drafted). d.base_cost) c.self.view_is))
-    (passes_new p c.args.pins.now.routes c.args.self.now c.requires.is c.args.request.now c.args.place c.requires.put c.self.inside.tours.items tv c.route.result.now c.route.ensures
+    (passes_new p c.args.pins.now.routes c.args.self.now c.requires.is c.args.request.now c.args.place c.requires.put
+    c.self.inside.tours.items tv c.route.result.now c.route.ensures
     c.put_into.new.new.items c.in_ok-put_into.ensures c.deref.result.now c.deref.ensures.value is_set.stops new.tours.items tours)
-    (tables_new p c.args.pins.now.routes c.args.self.now c.requires.is c.args.request.now c.args.place c.requires.put c.self.inside.tours.items tv c.route.result.now c.route.ensures
+    (tables_new p c.args.pins.now.routes c.args.self.now c.requires.is c.args.request.now c.args.place c.requires.put
+    c.self.inside.tours.items tv c.route.result.now c.route.ensures
     c.put_into.new.new.items c.in_ok-put_into.ensures c.deref.result.now c.deref.ensures.value is_set.stops new.tours.items tours)
     (c.in_ok-self-inside.ensures.cost
     ∙ ap (cost_of p)
-    (plan_cost p c.args.pins.now.routes c.args.self.now c.requires.is c.args.request.now c.args.place c.requires.put c.self.inside.tours.items tv c.route.result.now c.route.ensures
+    (plan_cost p c.args.pins.now.routes c.args.self.now c.requires.is c.args.request.now c.args.place c.requires.put
+    c.self.inside.tours.items tv c.route.result.now c.route.ensures
     c.put_into.new.new.items c.in_ok-put_into.ensures c.deref.result.now c.deref.ensures.value is_set.stops new.tours.items tours))
 
 pub returns-clause-draft : goal.returns-clause-draft
@@ -52,6 +67,8 @@ returns-clause-draft c =
     let p = c.args.problem.now in
     let new = c.self-2.inside in
     let is_set = c.in_ok-self-inside.ensures.set in
-    let tours : new.tours.items ≡ set c.self.inside.tours.items (c.args.place.0 - 1) (course_of p c.deref.result.now) = ap (λ (d : Drafted). d.tours) c.self-2.view_is ∙ is_set.tours in
-    plan_new p c.args.pins.now.routes c.args.self.now c.requires.is c.args.request.now c.args.place c.requires.put c.self.inside.tours.items (search rules) c.route.result.now c.route.ensures
+    let tours : new.tours.items ≡ set c.self.inside.tours.items (c.args.place.0 - 1) (course_of p c.deref.result.now) =
+    ap (λ (d : Drafted). d.tours) c.self-2.view_is ∙ is_set.tours in
+    plan_new p c.args.pins.now.routes c.args.self.now c.requires.is c.args.request.now c.args.place c.requires.put c.self.inside.tours.items
+    (search rules) c.route.result.now c.route.ensures
     c.put_into.new.new.items c.in_ok-put_into.ensures c.deref.result.now c.deref.ensures.value is_set.stops new.tours.items tours

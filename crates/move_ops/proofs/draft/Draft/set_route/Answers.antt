@@ -1,3 +1,4 @@
+-- A vehicle's route of the base is that of its entry in the log, whose tour comes back; any other gets a new tour; the cost is the changed plan's.
 use Rattle.std.proofs.Common.{rules, ◌≡◌, ◌∙◌, ◌-◌, ◌<◌, ◌≤◌, ◌^◌, ℕ, List, length, set, sym, ap, subst}
 use Rattle.route_sched.specs.Cost.{cost_of, total_length, unplanned_count}
 use Rattle.slack_tables.specs.Course.{Course, route_of}
@@ -8,16 +9,22 @@ use Rattle.move_ops.proofs.draft.Draft.set_route.Goals as goal
 
 pub index-requires : goal.index-requires
 index-requires c =
-    subst (λ (n : ℕ). c.in-Some.entry < n) (search rules) (in_log c.args.problem.now c.args.self.now c.self.inside c.self.invariant (search rules) c.requires.base c.args.vehicle c.in-Some.entry c.requires.within c.in-Some.ensures.0 c.in-Some.ensures.1)
+    subst (λ (n : ℕ). c.in-Some.entry < n) (search rules)
+    (in_log c.args.problem.now c.args.self.now c.self.inside c.self.invariant
+    (search rules) c.requires.base c.args.vehicle c.in-Some.entry c.requires.within c.in-Some.ensures.0 c.in-Some.ensures.1)
 
 pub undo-requires : goal.undo-requires
 undo-requires c =
     let view : c.self.inside.log.items ≡ c.args.self.now.log = search rules in
-    subst (λ (l : List (ℕ × Course)). c.in-Some.entry < length l) view (in_log c.args.problem.now c.args.self.now c.self.inside c.self.invariant view c.requires.base c.args.vehicle c.in-Some.entry c.requires.within c.in-Some.ensures.0 c.in-Some.ensures.1)
+    subst (λ (l : List (ℕ × Course)). c.in-Some.entry < length l) view
+    (in_log c.args.problem.now c.args.self.now c.self.inside c.self.invariant view c.requires.base c.args.vehicle c.in-Some.entry
+    c.requires.within c.in-Some.ensures.0 c.in-Some.ensures.1)
 
 pub cost_with-cost-requires-clause-course : goal.cost_with-cost-requires-clause-course
 cost_with-cost-requires-clause-course c =
-    read_course c.args.problem.now c.args.self.now c.self.inside c.self.invariant (search rules) c.requires.base c.args.vehicle c.in-Some.entry c.requires.within c.in-Some.ensures.0 c.in-Some.ensures.1 c.index.result.now c.index.ensures
+    read_course c.args.problem.now c.args.self.now c.self.inside c.self.invariant
+    (search rules) c.requires.base c.args.vehicle c.in-Some.entry c.requires.within c.in-Some.ensures.0 c.in-Some.ensures.1
+    c.index.result.now c.index.ensures
 
 pub cost_with-cost-requires-clause-small : goal.cost_with-cost-requires-clause-small
 cost_with-cost-requires-clause-small c =
@@ -39,8 +46,12 @@ returns-then-eq-clause-set c =
     let p = c.args.problem.now in
     let view : c.self.inside.log.items ≡ c.args.self.now.log = search rules in
     let same : c.args.route.now ≡ route_of c.index.result.now.1 = sym (search rules) ∙ c.stops.ensures in
-    let base = base_is p c.args.self.now c.self.inside c.self.invariant view c.requires.base c.args.vehicle c.in-Some.entry c.requires.within c.in-Some.ensures.0 c.in-Some.ensures.1 c.index.result.now c.index.ensures c.args.route.now (sym same) in
-    let stops = base_stops p c.args.self.now c.self.inside c.self.invariant view c.requires.base c.args.vehicle c.in-Some.entry c.requires.within c.in-Some.ensures.0 c.in-Some.ensures.1 c.index.result.now c.index.ensures c.args.route.now (sym same) in
+    let base = base_is p c.args.self.now c.self.inside c.self.invariant view c.requires.base c.args.vehicle c.in-Some.entry
+    c.requires.within c.in-Some.ensures.0 c.in-Some.ensures.1 c.index.result.now c.index.ensures c.args.route.now
+    (sym same) in
+    let stops = base_stops p c.args.self.now c.self.inside c.self.invariant view c.requires.base c.args.vehicle c.in-Some.entry
+    c.requires.within c.in-Some.ensures.0 c.in-Some.ensures.1 c.index.result.now c.index.ensures c.args.route.now
+    (sym same) in
     let made = c.undo.ensures in
     record {
       tours = made.tours (c.args.vehicle, c.in-Some.ensures.0) c.in-Some.ensures.1 ∙ ap (λ (t : Course). set c.args.self.now.tours (c.args.vehicle - 1) t) base;

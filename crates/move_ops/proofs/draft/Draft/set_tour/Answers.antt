@@ -1,3 +1,4 @@
+-- The old tour goes into the log where the vehicle has none there, so the base stays, and seats, rooms, front and log are kept as a draft keeps them.
 use Rattle.std.proofs.Common.{rules, ◌≡◌, ◌≤◌, ◌-◌, ◌++◌, ◌∷◌, [], ℕ, List, true, false, length, set, slice_get, ◌∙◌, refl, sym, ap, subst, arith}
 use Rattle.std.specs.Vec.{with_items}
 use Rattle.std.proofs.lemmas.List.{with_items_is}
@@ -14,7 +15,9 @@ pub push_reserved-requires : goal.push_reserved-requires
 push_reserved-requires c =
     let old = c.self.inside in
     let within : c.args.vehicle ≤ length old.tours.items = search rules in
-    let none : is_logged old.log.items c.args.vehicle ≡ false = ap (λ (l : List (ℕ × Course)). is_logged l c.args.vehicle) (search rules) ∙ not_logged c.entry_of.result c.args.self.now.log c.args.vehicle c.entry_of.ensures (search rules) in
+    let none : is_logged old.log.items c.args.vehicle ≡ false =
+    ap (λ (l : List (ℕ × Course)). is_logged l c.args.vehicle) (search rules)
+    ∙ not_logged c.entry_of.result c.args.self.now.log c.args.vehicle c.entry_of.ensures (search rules) in
     let few = room_left (length old.tours.items) old.log.items c.args.vehicle c.requires.from_one within c.self.invariant.within c.self.invariant.once none in
     omega arith
 
@@ -23,35 +26,49 @@ invariant_of-self c =
     let old = c.self.inside in
     let seated : c.deref_mut.result.now ≡ old.seats.items = search rules in
     let new : c.swap-old.new.tours.items ≡ set old.tours.items (c.args.vehicle - 1) c.args.tour = search rules in
-    let held : (with_items old.seats c.seat.new.seats).items ≡ c.seat.new.seats = with_items_is old.seats c.seat.new.seats (c.seat.ensures.len ∙ (ap length seated ∙ (search rules))) in
+    let held : (with_items old.seats c.seat.new.seats).items ≡ c.seat.new.seats =
+    with_items_is old.seats c.seat.new.seats (c.seat.ensures.len ∙ (ap length seated ∙ (search rules))) in
     let within : c.args.vehicle ≤ length old.tours.items = search rules in
     let front = c.front_with-self-inside.ensures in
-    let none : is_logged old.log.items c.args.vehicle ≡ false = ap (λ (l : List (ℕ × Course)). is_logged l c.args.vehicle) (search rules) ∙ not_logged c.entry_of.result c.args.self.now.log c.args.vehicle c.entry_of.ensures (search rules) in
+    let none : is_logged old.log.items c.args.vehicle ≡ false =
+    ap (λ (l : List (ℕ × Course)). is_logged l c.args.vehicle) (search rules)
+    ∙ not_logged c.entry_of.result c.args.self.now.log c.args.vehicle c.entry_of.ensures (search rules) in
     let log : c.push_reserved.new.self.items ≡ old.log.items ++ (c.args.vehicle, c.swap-old.result) ∷ [] = search rules in
-    kept_with old _ c.args.vehicle c.args.tour c.seat.new.seats c.self.invariant new held (λ n at. ap (λ l. has l n) (sym c.stops.ensures) ∙ c.seat.ensures.stops n at)
+    kept_with old _ c.args.vehicle c.args.tour c.seat.new.seats c.self.invariant new held
+    (λ n at. ap (λ l. has l n) (sym c.stops.ensures) ∙ c.seat.ensures.stops n at)
     (λ n at. ap (λ l. slice_get l n) (sym seated) ∙ c.seat.ensures.others n at) c.requires.from_one within front.front front.vehicle front.least
-    (subst (λ (l : List (ℕ × Course)). AreWithin (length old.tours.items) l) (sym log) (within_more (length old.tours.items) old.log.items c.args.vehicle c.swap-old.result c.requires.from_one within c.self.invariant.within))
-    (subst AreOnce (sym log) (once_more old.log.items c.args.vehicle c.swap-old.result none c.self.invariant.once)) c.push_reserved.ensures.capacity c.set_room.ensures
+    (subst (λ (l : List (ℕ × Course)). AreWithin (length old.tours.items) l) (sym log)
+    (within_more
+    (length old.tours.items) old.log.items c.args.vehicle c.swap-old.result c.requires.from_one within c.self.invariant.within))
+    (subst AreOnce (sym log)
+    (once_more old.log.items c.args.vehicle c.swap-old.result none c.self.invariant.once)) c.push_reserved.ensures.capacity c.set_room.ensures
 
 pub invariant_of-self-else-is_first : goal.invariant_of-self-else-is_first
 invariant_of-self-else-is_first c =
     let old = c.self.inside in
     let seated : c.deref_mut.result.now ≡ old.seats.items = search rules in
     let new : c.swap-old.new.tours.items ≡ set old.tours.items (c.args.vehicle - 1) c.args.tour = search rules in
-    let held : (with_items old.seats c.seat.new.seats).items ≡ c.seat.new.seats = with_items_is old.seats c.seat.new.seats (c.seat.ensures.len ∙ (ap length seated ∙ (search rules))) in
+    let held : (with_items old.seats c.seat.new.seats).items ≡ c.seat.new.seats =
+    with_items_is old.seats c.seat.new.seats (c.seat.ensures.len ∙ (ap length seated ∙ (search rules))) in
     let within : c.args.vehicle ≤ length old.tours.items = search rules in
     let front = c.front_with-self-inside.ensures in
-    kept_with old _ c.args.vehicle c.args.tour c.seat.new.seats c.self.invariant new held (λ n at. ap (λ l. has l n) (sym c.stops.ensures) ∙ c.seat.ensures.stops n at)
+    kept_with old _ c.args.vehicle c.args.tour c.seat.new.seats c.self.invariant new held
+    (λ n at. ap (λ l. has l n) (sym c.stops.ensures) ∙ c.seat.ensures.stops n at)
     (λ n at. ap (λ l. slice_get l n) (sym seated) ∙ c.seat.ensures.others n at) c.requires.from_one within front.front front.vehicle front.least
     c.self.invariant.within c.self.invariant.once refl c.set_room.ensures
 
 pub returns-then-is_first-clause-base : goal.returns-then-is_first-clause-base
 returns-then-is_first-clause-base c =
-    undone_with c.self.inside.tours.items c.swap-old.new.tours.items c.self.inside.log.items c.push_reserved.new.self.items c.args.vehicle c.args.tour c.swap-old.result (search rules) (search rules) (search rules)
+    undone_with c.self.inside.tours.items c.swap-old.new.tours.items c.self.inside.log.items c.push_reserved.new.self.items
+    c.args.vehicle c.args.tour c.swap-old.result
+    (search rules) (search rules) (search rules)
     ∙ (search rules)
 
 pub returns-else-is_first-clause-base : goal.returns-else-is_first-clause-base
 returns-else-is_first-clause-base c =
     let old = c.self.inside in
-    let had : is_logged old.log.items c.args.vehicle ≡ true = ap (λ (l : List (ℕ × Course)). is_logged l c.args.vehicle) (search rules) ∙ logged c.entry_of.result c.args.self.now.log c.args.vehicle c.entry_of.ensures (search rules) in
-    ap (λ (l : List Course). undone l old.log.items) (search rules) ∙ (undone_same old.tours.items old.log.items c.args.vehicle c.args.tour had ∙ (search rules))
+    let had : is_logged old.log.items c.args.vehicle ≡ true =
+    ap (λ (l : List (ℕ × Course)). is_logged l c.args.vehicle) (search rules)
+    ∙ logged c.entry_of.result c.args.self.now.log c.args.vehicle c.entry_of.ensures (search rules) in
+    ap (λ (l : List Course). undone l old.log.items) (search rules)
+    ∙ (undone_same old.tours.items old.log.items c.args.vehicle c.args.tour had ∙ (search rules))

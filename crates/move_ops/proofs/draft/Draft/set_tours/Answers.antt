@@ -1,3 +1,4 @@
+-- With one more tour the vehicles that count and the total length change by its route alone, and the tours left lead on to the plan with all.
 use Rattle.std.proofs.Common.{rules, ◌≡◌, ◌-◌, ◌∷◌, [], length, sym, ap, subst, ◌∙◌, arith, length-append}
 use Rattle.std.specs.Vec.Iter.{into_iter_items}
 use Rattle.std.proofs.lemmas.List.{length-set}
@@ -19,7 +20,8 @@ overflow_sub-driven c =
     let old = c.loop-vehicle.self in
     let inv = c.loop-vehicle.invariant in
     let rest : into_iter_items c.loop-vehicle.vehicle-iterator ≡ (c.in-Some.vehicle, c.in-Some.tour) ∷ into_iter_items c.next.new.self = search rules in
-    let all : AreWithin (length old.tours) ((c.in-Some.vehicle, c.in-Some.tour) ∷ into_iter_items c.next.new.self) = subst (AreWithin (length old.tours)) rest inv.within in
+    let all : AreWithin (length old.tours) ((c.in-Some.vehicle, c.in-Some.tour) ∷ into_iter_items c.next.new.self) =
+    subst (AreWithin (length old.tours)) rest inv.within in
     let part = part (route_length p) old.tours c.in-Some.vehicle all.0.0 all.0.1 in
     omega arith
 
@@ -33,7 +35,8 @@ loop-vehicle-preserved c =
     let inv = c.loop-vehicle.invariant in
     let made = c.set_tour.ensures in
     let rest : into_iter_items c.loop-vehicle.vehicle-iterator ≡ (c.in-Some.vehicle, c.in-Some.tour) ∷ into_iter_items c.next.new.self = search rules in
-    let all : AreWithin (length old.tours) ((c.in-Some.vehicle, c.in-Some.tour) ∷ into_iter_items c.next.new.self) = subst (AreWithin (length old.tours)) rest inv.within in
+    let all : AreWithin (length old.tours) ((c.in-Some.vehicle, c.in-Some.tour) ∷ into_iter_items c.next.new.self) =
+    subst (AreWithin (length old.tours)) rest inv.within in
     let courses : AreCourses p ((c.in-Some.vehicle, c.in-Some.tour) ∷ into_iter_items c.next.new.self) = subst (AreCourses p) rest inv.courses in
     let long = ap length made.tours ∙ length-set old.tours (v - 1) tour in
     let moved = length_moved p old.tours c.set_tour.new.self.tours v tour made.tours all.0.0 all.0.1 in
@@ -48,7 +51,9 @@ loop-vehicle-preserved c =
       tables = subst (AreTablesIn p) (sym made.tours) (tables_with p old.tours (v - 1) tour inv.tables is_course);
       within = subst (λ n. AreWithin n left) (sym long) all.1;
       courses = courses.1;
-      plan = routes_with old.tours c.set_tour.new.self.tours v tour left made.tours ∙ (ap (λ l. with_routes (draft_of old) (changes_of l)) (sym rest) ∙ inv.plan);
+      plan =
+          routes_with old.tours c.set_tour.new.self.tours v tour left made.tours
+          ∙ (ap (λ l. with_routes (draft_of old) (changes_of l)) (sym rest) ∙ inv.plan);
       base = made.base ∙ inv.base;
       pinned = made.pinned ∙ inv.pinned;
       base_cost = made.base_cost ∙ inv.base_cost;

@@ -1,3 +1,4 @@
+-- The tours left lead from the plan so far to the plan with all, and vehicles and distance are those of the plan so far; so at the end they are its.
 use Rattle.std.proofs.Common.{◌≡◌, ◌≤◌, ◌+◌, ◌*◌, ◌^◌, length}
 use Rattle.std.specs.Vec.Iter.{into_iter_items}
 use Rattle.route_sched.specs.Cost.{total_length, vehicle_count}
@@ -7,7 +8,6 @@ use Rattle.move_ops.specs.Drafts.{undone, draft_of}
 use Rattle.move_ops.specs.Refreshing.{AreWithin}
 use Rattle.move_ops.proofs.draft.Draft.set_tours.Given as goal
 
--- the tours left give what all give
 abbrev pub invariant-loop-vehicle : goal.invariant-loop-vehicle
 invariant-loop-vehicle l = record {
   vehicles : l.vehicles ≡ vehicle_count l.problem.kind (draft_of l.self);

@@ -1,3 +1,4 @@
+-- A live single whose number stands at an index of a vehicle's route has its seat there.
 use Rattle.std.proofs.Common.{rules, ◌≡◌, Some, slice_get}
 use Rattle.plan_types.specs.declared.requests.Request.TheVariants.{Single}
 use Rattle.move_ops.specs.Drafts.{draft_of}

@@ -1,3 +1,4 @@
+-- The requests left out are few, so more can be counted; and once the tours are set the draft has no stop of the named requests.
 use Rattle.std.proofs.Common.{rules, ◌≡◌, ap, ◌∙◌, arith}
 use Rattle.plan_types.specs.declared.plans.Cost.{Cost}
 use Rattle.move_ops.specs.Changes.{changes_of, with_routes}

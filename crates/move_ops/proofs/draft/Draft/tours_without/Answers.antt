@@ -1,3 +1,4 @@
+-- The next route without the requests is live and paired; where it isn't feasible alone not all are, else its tour is put behind those so far.
 use Rattle.std.proofs.Common.{rules, ◌≡◌, ◌∙◌, true, ℕ, List, Option, None, Some, get_or, sym, ap, subst}
 use Rattle.route_sched.specs.Route.{AreLiveOnce}
 use Rattle.plan_audit.specs.Passes.{feasible_alone}
@@ -16,7 +17,8 @@ feasible_tour-requires-clause-once c =
     let old = draft_of c.args.self.now in
     let k = c.loop-vehicle.vehicle-index in
     let kept : List ℕ → List ℕ = left_of p c.args.names.now old c.args.vehicles.now k c.loop-vehicle-test.true in
-    let route : c.deref.result.now ≡ kept (of_vehicle old (get_or c.args.vehicles.now k 0)) = c.deref.ensures.value ∙ (c.in_ok-keep_others.ensures ∙ ap kept (search rules)) in
+    let route : c.deref.result.now ≡ kept (of_vehicle old (get_or c.args.vehicles.now k 0)) =
+    c.deref.ensures.value ∙ (c.in_ok-keep_others.ensures ∙ ap kept (search rules)) in
     next_has p c.args.names.now old c.args.vehicles.now k c.loop-vehicle-test.true (AreLiveOnce p) c.requires.once c.deref.result.now route
 
 pub feasible_tour-requires-clause-pairs : goal.feasible_tour-requires-clause-pairs
@@ -25,7 +27,8 @@ feasible_tour-requires-clause-pairs c =
     let old = draft_of c.args.self.now in
     let k = c.loop-vehicle.vehicle-index in
     let kept : List ℕ → List ℕ = left_of p c.args.names.now old c.args.vehicles.now k c.loop-vehicle-test.true in
-    let route : c.deref.result.now ≡ kept (of_vehicle old (get_or c.args.vehicles.now k 0)) = c.deref.ensures.value ∙ (c.in_ok-keep_others.ensures ∙ ap kept (search rules)) in
+    let route : c.deref.result.now ≡ kept (of_vehicle old (get_or c.args.vehicles.now k 0)) =
+    c.deref.ensures.value ∙ (c.in_ok-keep_others.ensures ∙ ap kept (search rules)) in
     next_has p c.args.names.now old c.args.vehicles.now k c.loop-vehicle-test.true (λ l. are_paired p l ≡ true) c.requires.pairs c.deref.result.now route
 
 pub returns-in_default-clause-tours : goal.returns-in_default-clause-tours
@@ -34,10 +37,15 @@ returns-in_default-clause-tours c =
     let old = draft_of c.args.self.now in
     let k = c.loop-vehicle.vehicle-index in
     let kept : List ℕ → List ℕ = left_of p c.args.names.now old c.args.vehicles.now k c.loop-vehicle-test.true in
-    let route : c.deref.result.now ≡ kept (of_vehicle old (get_or c.args.vehicles.now k 0)) = c.deref.ensures.value ∙ (c.in_ok-keep_others.ensures ∙ ap kept (search rules)) in
-    let broken : IsTourIfFeasible p c.deref.result.now None = subst (λ (o : Option Course). IsTourIfFeasible p c.deref.result.now o) c.in_default.is c.in_ok-tour.ensures.tour in
+    let route : c.deref.result.now ≡ kept (of_vehicle old (get_or c.args.vehicles.now k 0)) =
+    c.deref.ensures.value ∙ (c.in_ok-keep_others.ensures ∙ ap kept (search rules)) in
+    let broken : IsTourIfFeasible p c.deref.result.now None = subst
+    (λ (o : Option Course). IsTourIfFeasible p c.deref.result.now o) c.in_default.is c.in_ok-tour.ensures.tour in
     sym c.loop-vehicle.invariant.left
-    ∙ all_broken (λ y. feasible_alone p y.route) (removals p c.args.names.now old c.args.vehicles.now) k (next p c.args.names.now old c.args.vehicles.now k c.loop-vehicle-test.true) (next_at p c.args.names.now old c.args.vehicles.now k c.loop-vehicle-test.true) (next_below p c.args.names.now old c.args.vehicles.now k c.loop-vehicle-test.true)
+    ∙ all_broken (λ y. feasible_alone p y.route) (removals p c.args.names.now old c.args.vehicles.now) k
+    (next p c.args.names.now old c.args.vehicles.now k c.loop-vehicle-test.true)
+    (next_at p c.args.names.now old c.args.vehicles.now k c.loop-vehicle-test.true)
+    (next_below p c.args.names.now old c.args.vehicles.now k c.loop-vehicle-test.true)
     (ap (feasible_alone p) (sym route) ∙ broken)
 
 pub loop-vehicle-preserved : goal.loop-vehicle-preserved
@@ -46,9 +54,11 @@ loop-vehicle-preserved c =
     let old = draft_of c.args.self.now in
     let k = c.loop-vehicle.vehicle-index in
     let kept : List ℕ → List ℕ = left_of p c.args.names.now old c.args.vehicles.now k c.loop-vehicle-test.true in
-    let route : c.deref.result.now ≡ kept (of_vehicle old (get_or c.args.vehicles.now k 0)) = c.deref.ensures.value ∙ (c.in_ok-keep_others.ensures ∙ ap kept (search rules)) in
+    let route : c.deref.result.now ≡ kept (of_vehicle old (get_or c.args.vehicles.now k 0)) =
+    c.deref.ensures.value ∙ (c.in_ok-keep_others.ensures ∙ ap kept (search rules)) in
     let is = c.loop-vehicle.invariant in
-    let found : IsTourIfFeasible p c.deref.result.now (Some c.in-Some.tour) = subst (λ (o : Option Course). IsTourIfFeasible p c.deref.result.now o) c.in-Some.is c.in_ok-tour.ensures.tour in
+    let found : IsTourIfFeasible p c.deref.result.now (Some c.in-Some.tour) =
+    subst (λ (o : Option Course). IsTourIfFeasible p c.deref.result.now o) c.in-Some.is c.in_ok-tour.ensures.tour in
     let made = subst (λ (r : List ℕ). IsTourIfFeasible p r (Some c.in-Some.tour)) route found in
     let cs = removals p c.args.names.now old c.args.vehicles.now in
     let x = next p c.args.names.now old c.args.vehicles.now k c.loop-vehicle-test.true in

@@ -1,3 +1,4 @@
+-- The entry's tour takes its vehicle's place again, so without the entry the base stays, and seats, rooms, front and log are kept as a draft keeps them.
 use Rattle.std.proofs.Common.{rules, ◌≡◌, ◌-◌, ℕ, List, length, set, slice_get, ◌∙◌, sym, ap, subst, arith}
 use Rattle.std.specs.Vec.{with_items}
 use Rattle.std.proofs.lemmas.List.{with_items_is}
@@ -29,15 +30,21 @@ invariant_of-self c =
     let parts = taken.within (length old.tours.items) c.self.invariant.within in
     let seated : c.deref_mut.result.now ≡ old.seats.items = search rules in
     let new : c.swap-tried.new.tours.items ≡ set old.tours.items (c.take_entry-vehicle.result.0 - 1) c.take_entry-vehicle.result.1 = search rules in
-    let held : (with_items old.seats c.seat.new.seats).items ≡ c.seat.new.seats = with_items_is old.seats c.seat.new.seats (c.seat.ensures.len ∙ (ap length seated ∙ (search rules))) in
+    let held : (with_items old.seats c.seat.new.seats).items ≡ c.seat.new.seats =
+    with_items_is old.seats c.seat.new.seats (c.seat.ensures.len ∙ (ap length seated ∙ (search rules))) in
     let front = c.front_with-self-inside.ensures in
-    kept_with old _ c.take_entry-vehicle.result.0 c.take_entry-vehicle.result.1 c.seat.new.seats c.self.invariant new held (λ n at. ap (λ l. has l n) (sym c.stops.ensures) ∙ c.seat.ensures.stops n at)
+    kept_with old _ c.take_entry-vehicle.result.0 c.take_entry-vehicle.result.1 c.seat.new.seats c.self.invariant new held
+    (λ n at. ap (λ l. has l n) (sym c.stops.ensures) ∙ c.seat.ensures.stops n at)
     (λ n at. ap (λ l. slice_get l n) (sym seated) ∙ c.seat.ensures.others n at) parts.1.0 parts.1.1 front.front front.vehicle front.least
-    (subst (λ (l : List (ℕ × Course)). AreWithin (length old.tours.items) l) (sym taken.rest) parts.0) (subst AreOnce (sym taken.rest) (once_without old.log.items c.args.entry c.self.invariant.once)) taken.room c.set_room.ensures
+    (subst (λ (l : List (ℕ × Course)). AreWithin (length old.tours.items) l) (sym taken.rest) parts.0)
+    (subst AreOnce (sym taken.rest) (once_without old.log.items c.args.entry c.self.invariant.once)) taken.room c.set_room.ensures
 
 pub returns-clause-tours : goal.returns-clause-tours
 returns-clause-tours c = λ e there.
-    (search rules) ∙ ap (λ (y : ℕ × Course). set c.args.self.now.tours (y.0 - 1) y.1) (some_same c.take_entry-vehicle.result e (sym c.take_entry-vehicle.ensures.at ∙ (ap (λ (l : List (ℕ × Course)). slice_get l c.args.entry) (search rules) ∙ there)))
+    (search rules)
+    ∙ ap (λ (y : ℕ × Course). set c.args.self.now.tours (y.0 - 1) y.1)
+    (some_same c.take_entry-vehicle.result e
+    (sym c.take_entry-vehicle.ensures.at ∙ (ap (λ (l : List (ℕ × Course)). slice_get l c.args.entry) (search rules) ∙ there)))
 
 pub returns-clause-base : goal.returns-clause-base
 returns-clause-base c =
@@ -46,4 +53,6 @@ returns-clause-base c =
     let new : c.swap-tried.new.tours.items ≡ set old.tours.items (c.take_entry-vehicle.result.0 - 1) c.take_entry-vehicle.result.1 = search rules in
     ap (λ (l : List Course). undone l c.take_entry-vehicle.new.log.items) new
     ∙ (ap (undone (set old.tours.items (c.take_entry-vehicle.result.0 - 1) c.take_entry-vehicle.result.1)) taken.rest
-    ∙ (undone_without old.tours.items old.log.items (length old.tours.items) c.args.entry c.take_entry-vehicle.result taken.at c.self.invariant.within c.self.invariant.once ∙ (search rules)))
+    ∙ (undone_without old.tours.items old.log.items
+    (length old.tours.items) c.args.entry c.take_entry-vehicle.result taken.at c.self.invariant.within c.self.invariant.once
+    ∙ (search rules)))

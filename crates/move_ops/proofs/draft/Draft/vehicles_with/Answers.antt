@@ -1,3 +1,4 @@
+-- A vehicle counts by its own route alone, so with another route for it the count loses what the old one counts and gains what the new one does.
 use Rattle.std.proofs.Common.{rules, ◌≡◌, ◌≤◌, ◌∙◌, List, length, ap, subst, arith}
 use Rattle.plan_types.specs.declared.requests.Kind.{Kind}
 use Rattle.plan_types.specs.declared.requests.Kind.TheVariants.{LiLim}
@@ -19,7 +20,9 @@ overflow_sub-result c =
     let viewed : c.args.self.now.tours ≡ tours = search rules in
     let within : v ≤ length tours = subst (λ (l : List Course). v ≤ length l) viewed c.requires.within in
     let kind : p.kind ≡ LiLim = search rules in
-    let now : c.args.now ≡ used_count (plan_of tours) = c.requires.now ∙ (ap (λ (l : List Course). vehicle_count p.kind (plan_of l)) viewed ∙ ap (λ (k : Kind). vehicle_count k (plan_of tours)) kind) in
+    let now : c.args.now ≡ used_count (plan_of tours) =
+    c.requires.now
+    ∙ (ap (λ (l : List Course). vehicle_count p.kind (plan_of l)) viewed ∙ ap (λ (k : Kind). vehicle_count k (plan_of tours)) kind) in
     let old = ap used (vehicle_route tours v c.index-old.result.now (λ none. absurd (omega arith)) (omega arith) c.index-old.ensures) in
     let le = part used tours v low within in
     omega arith
@@ -34,7 +37,9 @@ returns-in-LiLim c =
     let viewed : c.args.self.now.tours ≡ tours = search rules in
     let within : v ≤ length tours = subst (λ (l : List Course). v ≤ length l) viewed c.requires.within in
     let kind : p.kind ≡ LiLim = search rules in
-    let now : c.args.now ≡ used_count (plan_of tours) = c.requires.now ∙ (ap (λ (l : List Course). vehicle_count p.kind (plan_of l)) viewed ∙ ap (λ (k : Kind). vehicle_count k (plan_of tours)) kind) in
+    let now : c.args.now ≡ used_count (plan_of tours) =
+    c.requires.now
+    ∙ (ap (λ (l : List Course). vehicle_count p.kind (plan_of l)) viewed ∙ ap (λ (k : Kind). vehicle_count k (plan_of tours)) kind) in
     let after : vehicle_count p.kind (with_route (plan_of c.args.self.now.tours) v new) ≡ used_count (with_route (plan_of tours) v new) = search rules in
     let old = ap used (vehicle_route tours v c.index-old.result.now (λ none. absurd (omega arith)) (omega arith) c.index-old.ensures) in
     let changed = part_changed used tours v low within new in

@@ -1,8 +1,8 @@
+-- The count so far and the distinct names among those left are the distinct names of all, so at the end the count is theirs.
 use Rattle.std.proofs.Common.{◌≡◌, ◌+◌, ◌≤◌, length}
 use Rattle.move_ops.specs.Changes.{distinct_count}
 use Rattle.move_ops.proofs.draft.removing.distinct_count.Given as goal
 
--- those so far and those left are all
 abbrev pub invariant-loop-left : goal.invariant-loop-left
 invariant-loop-left l = record {
   count : l.count + distinct_count l.left ≡ distinct_count l.names;

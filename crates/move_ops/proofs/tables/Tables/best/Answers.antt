@@ -1,3 +1,4 @@
+-- `NO_LIMIT` lets each insertion in, so the best within it is the best of all.
 use Rattle.std.proofs.Common.{rules, refl}
 use Rattle.move_ops.specs.Choosing.{IsAsked}
 use Rattle.move_ops.proofs.Choosing.{unlimited}

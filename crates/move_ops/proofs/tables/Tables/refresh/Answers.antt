@@ -1,3 +1,4 @@
+-- Where the plans differ at these vehicles alone, the old tables with theirs built anew are the tables of the new plan.
 use Rattle.std.proofs.Common.{rules, ◌≡◌, ◌≤◌, [], map, length, sym, subst, arith, ap, ◌∙◌}
 use Rattle.std.proofs.Math.ListN.{length-map}
 use Rattle.std.proofs.lemmas.List.Elements.{recursion_from_All}
@@ -13,7 +14,9 @@ replace-requires c =
     let p = c.args.problem.now in
     let fleet = fleet_of c.passes_are_local.ensures p [] c.args.plan.now.routes c.requires.pass in
     let f = length-map c.args.self.now route_of in
-    subst (AreWithin (length c.args.self.now)) (sym (search rules)) (vehicles_within p c.args.plan.now.routes (length c.args.self.now) c.args.vehicles.now (omega arith) (recursion_from_All (λ v. (1 ≤ v) × (v ≤ p.fleet)) c.args.vehicles.now c.requires.vehicles))
+    subst (AreWithin (length c.args.self.now)) (sym (search rules))
+    (vehicles_within p c.args.plan.now.routes (length c.args.self.now) c.args.vehicles.now (omega arith)
+    (recursion_from_All (λ v. (1 ≤ v) × (v ≤ p.fleet)) c.args.vehicles.now c.requires.vehicles))
 
 pub returns-clause-tables : goal.returns-clause-tables
 returns-clause-tables c =
@@ -22,7 +25,8 @@ returns-clause-tables c =
     let fleet = fleet_of c.passes_are_local.ensures p [] routes c.requires.pass in
     let made : c.in_ok-fresh.fresh.items ≡ map (fresh_of p routes) c.args.vehicles.now = search rules in
     let new : c.replace.new.self ≡ replaced c.args.self.now c.in_ok-fresh.fresh.items = search rules in
-    new ∙ (ap (replaced c.args.self.now) made ∙ refreshed p routes c.args.vehicles.now c.args.self.now c.requires.tables fleet c.requires.vehicles c.requires.others)
+    new ∙ (ap (replaced c.args.self.now) made
+    ∙ refreshed p routes c.args.vehicles.now c.args.self.now c.requires.tables fleet c.requires.vehicles c.requires.others)
 
 pub returns-clause-plan : goal.returns-clause-plan
 returns-clause-plan c =
@@ -32,5 +36,6 @@ returns-clause-plan c =
     let fleet = fleet_of c.passes_are_local.ensures p [] routes c.requires.pass in
     let made : c.in_ok-fresh.fresh.items ≡ map (fresh_of p routes) c.args.vehicles.now = search rules in
     let new : c.replace.new.self ≡ replaced c.args.self.now c.in_ok-fresh.fresh.items = search rules in
-    ap plan_of (new ∙ (ap (replaced c.args.self.now) made ∙ refreshed p routes c.args.vehicles.now c.args.self.now c.requires.tables fleet c.requires.vehicles c.requires.others))
+    ap plan_of (new ∙ (ap (replaced c.args.self.now) made
+    ∙ refreshed p routes c.args.vehicles.now c.args.self.now c.requires.tables fleet c.requires.vehicles c.requires.others))
     ∙ plan_kept p valid c.passes_are_local.ensures c.plans_are_local.ensures [] routes c.requires.pass

@@ -1,9 +1,9 @@
+-- The tables left lead from those so far to what all of them give, so at the end that stands.
 use Rattle.std.proofs.Common.{◌≡◌, length}
 use Rattle.std.specs.Vec.Iter.{into_iter_items}
 use Rattle.move_ops.specs.Refreshing.{replaced, AreWithin}
 use Rattle.move_ops.proofs.tables.Tables.replace.Given as goal
 
--- those left give what all give
 abbrev pub invariant-loop-vehicle : goal.invariant-loop-vehicle
 invariant-loop-vehicle l = record {
   all : replaced l.self-inside.tables.items (into_iter_items l.vehicle-iterator) ≡ replaced l.fn.self l.fn.fresh.items;

@@ -1,3 +1,4 @@
+-- A route whose pairs are whole is feasible alone exactly where a table is remade of it, which is the route's.
 use Rattle.std.proofs.Common.{rules, ◌≡◌, Option, Some, None, subst}
 use Rattle.slack_tables.specs.Course.{Course}
 use Rattle.move_ops.specs.Changes.{IsTourIfFeasible}
@@ -9,11 +10,13 @@ returns-in_default c =
     let p = c.args.problem.now in
     let told = c.in_ok-table.ensures in
     let none : c.in_ok-table.field-0 ≡ None = search rules in
-    subst (λ (o : Option Course). IsTourIfFeasible p c.args.route.now o) none (tour_if_feasible p c.problem_keeps_limits.ensures c.args.route.now c.requires.pairs c.in_ok-table.field-0 told.kept told.course told.route)
+    subst (λ (o : Option Course). IsTourIfFeasible p c.args.route.now o) none
+    (tour_if_feasible p c.problem_keeps_limits.ensures c.args.route.now c.requires.pairs c.in_ok-table.field-0 told.kept told.course told.route)
 
 pub returns : goal.returns
 returns c =
     let p = c.args.problem.now in
     let told = c.in_ok-table.ensures in
     let some : c.in_ok-table.field-0 ≡ Some c.in-Some.table = search rules in
-    subst (λ (o : Option Course). IsTourIfFeasible p c.args.route.now o) some (tour_if_feasible p c.problem_keeps_limits.ensures c.args.route.now c.requires.pairs c.in_ok-table.field-0 told.kept told.course told.route)
+    subst (λ (o : Option Course). IsTourIfFeasible p c.args.route.now o) some
+    (tour_if_feasible p c.problem_keeps_limits.ensures c.args.route.now c.requires.pairs c.in_ok-table.field-0 told.kept told.course told.route)
