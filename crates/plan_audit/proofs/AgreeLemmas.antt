@@ -16,18 +16,23 @@ use Rattle.plan_audit.specs.Passes.{has, has_whole_pairs, picks_up_first, places
 use Rattle.plan_audit.specs.Locality.{AgreeOnRequests, FeasibilityIsLocal}
 
 -- the stop with a number is that of the request which has it
-stop_of_request : (n : ℕ) (es : List (ℕ × Request)) → first_some (stop_in n) es ≡ option_and_then (stop_in n) (first_some (λ r. option_map (λ _. r) (stop_in n r)) es)
+stop_of_request : (n : ℕ) (es : List (ℕ × Request))
+    → first_some (stop_in n) es ≡ option_and_then (stop_in n) (first_some (λ r. option_map (λ _. r) (stop_in n r)) es)
 stop_of_request n [] = refl
 stop_of_request n (e ∷ es) = by (stop_in n e.1) refl (stop_of_request n es)
   where
-    by : (o : Option Stop) → stop_in n e.1 ≡ o → first_some (stop_in n) es ≡ option_and_then (stop_in n) (first_some (λ r. option_map (λ _. r) (stop_in n r)) es)
-        → option_or (stop_in n e.1) (first_some (stop_in n) es) ≡ option_and_then (stop_in n) (option_or (option_map (λ _. e.1) (stop_in n e.1)) (first_some (λ r. option_map (λ _. r) (stop_in n r)) es))
+    by : (o : Option Stop) → stop_in n e.1 ≡ o
+        → first_some (stop_in n) es ≡ option_and_then (stop_in n) (first_some (λ r. option_map (λ _. r) (stop_in n r)) es)
+        → option_or (stop_in n e.1) (first_some (stop_in n) es)
+        ≡ option_and_then (stop_in n) (option_or (option_map (λ _. e.1) (stop_in n e.1)) (first_some (λ r. option_map (λ _. r) (stop_in n r)) es))
     by None at rest =
         ap (λ (o : Option Stop). option_or o (first_some (stop_in n) es)) at ∙ rest
-        ∙ ap (λ (o : Option Stop). option_and_then (stop_in n) (option_or (option_map (λ _. e.1) o) (first_some (λ r. option_map (λ _. r) (stop_in n r)) es))) (sym at)
+        ∙ ap (λ (o : Option Stop). option_and_then (stop_in n) (option_or (option_map (λ _. e.1) o) (first_some (λ r. option_map (λ _. r) (stop_in n r)) es)))
+        (sym at)
     by (Some s) at rest =
         ap (λ (o : Option Stop). option_or o (first_some (stop_in n) es)) at ∙ sym at
-        ∙ ap (λ (o : Option Stop). option_and_then (stop_in n) (option_or (option_map (λ _. e.1) o) (first_some (λ r. option_map (λ _. r) (stop_in n r)) es))) (sym at)
+        ∙ ap (λ (o : Option Stop). option_and_then (stop_in n) (option_or (option_map (λ _. e.1) o) (first_some (λ r. option_map (λ _. r) (stop_in n r)) es)))
+        (sym at)
 
 all_same : {X : Type 0} (f g : X → Bool) (xs : List X) → AllByRecursion (λ x. f x ≡ g x) xs → list_all f xs ≡ list_all g xs
 all_same f g [] same = refl

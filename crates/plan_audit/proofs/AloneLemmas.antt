@@ -56,7 +56,8 @@ one_none : (test : ℕ → List ℕ → Option Told) (route : List ℕ) (o : Opt
 one_none test route None is none = rw (sym is) refl
 one_none test route (Some t) is none = absurd (let h : true ≡ false = none in cc)
 
-one_some : (test : ℕ → List ℕ → Option Told) (route : List ℕ) (o : Option Told) → o ≡ test 0 route → is_some o ≡ true → (f : Fault) × (first_route test 0 (route ∷ []) ≡ Some f)
+one_some : (test : ℕ → List ℕ → Option Told) (route : List ℕ) (o : Option Told) → o ≡ test 0 route → is_some o ≡ true
+    → (f : Fault) × (first_route test 0 (route ∷ []) ≡ Some f)
 one_some test route None is some = absurd (let h : false ≡ true = some in cc)
 one_some test route (Some t) is some = (record { route = 0; place = t.place; stop = t.stop }, rw (sym is) refl)
 
@@ -67,13 +68,16 @@ module _ (p : Instance) (route : List ℕ) (live : AreLiveOnce p route) where
       let there = b.1.3 in
       let a = only_route route here.0 r here.1 in
       let c = only_route route there.0 b.1.0 there.1 in
-      twice here.0 there.0 i b.1.1 a.1 c.1 here.2 there.2 (elim b.1.2 [ inl lt ↦ (let e = a.0 in let f = c.0 in absurd (omega arith)) | inr e ↦ (let ne = e.1 in λ same. omega arith) ])
+      twice here.0 there.0 i b.1.1 a.1 c.1 here.2 there.2
+      (elim b.1.2 [ inl lt ↦ (let e = a.0 in let f = c.0 in absurd (omega arith)) | inr e ↦ (let ne = e.1 in λ same. omega arith) ])
     where
       twice : (one other : List ℕ) (i j : ℕ) → route ≡ one → route ≡ other → item_at one i ≡ Some n → item_at other j ≡ Some n → (i ≡ j → ⊥) → ⊥
       twice one other zero j is are at on ne = none_some n at
       twice one other (suc i) zero is are at on ne = none_some n on
       twice one other (suc i) (suc j) is are at on ne =
-          let e = distinct_places route i j n live.distinct (subst (λ (l : List ℕ). slice_get l i ≡ Some n) (sym is) at) (subst (λ (l : List ℕ). slice_get l j ≡ Some n) (sym are) on) in
+          let e =
+          distinct_places route i j n live.distinct (subst (λ (l : List ℕ). slice_get l i ≡ Some n) (sym is) at)
+          (subst (λ (l : List ℕ). slice_get l j ≡ Some n) (sym are) on) in
           ne (omega arith)
 
   whole : (r i n : ℕ) → IsSplit p (route ∷ []) r i n → ⊥
@@ -95,43 +99,50 @@ module _ (p : Instance) (route : List ℕ) (live : AreLiveOnce p route) where
   Alone-returned o = o ≡ return_told p route
 
   -- the least rule is broken where something is told
-  least_alone : (k : Rule) (f : Fault) → 3 ≤ rule_number k → rule_number k ≤ 8 → KeepsBelow 3 (rule_number k) p (alone route) → IsLeastOf (Breaks p (alone route) k) (suc f.route) (suc f.place) f.stop → IsLeastAlone p route k
+  least_alone : (k : Rule) (f : Fault) → 3 ≤ rule_number k → rule_number k ≤ 8 → KeepsBelow 3 (rule_number k) p (alone route)
+      → IsLeastOf (Breaks p (alone route) k) (suc f.route) (suc f.place) f.stop → IsLeastAlone p route k
   least_alone k f from to kept one = (suc f.route, suc f.place, f.stop, least_broken p (alone route) 3 8 k (suc f.route) (suc f.place) f.stop from to kept one)
 
   after_missing : (o : Option Told) → Alone-missing o → is_some o ≡ false → KeepsBelow 3 5 p (alone route)
   after_missing o is none =
       keeps_more p (alone route) 3 SplitPair
       (keeps_more p (alone route) 3 Missing (keeps_none p (alone route) 3)
-      (rule_nothing (IsMissing p (route ∷ [])) _ (route ∷ []) (missing_rule p (route ∷ [])) (one_none (told_by (λ _ _ _ n. missing_at p (route ∷ []) n)) route o is none)))
+      (rule_nothing (IsMissing p (route ∷ [])) _ (route ∷ []) (missing_rule p (route ∷ []))
+      (one_none (told_by (λ _ _ _ n. missing_at p (route ∷ []) n)) route o is none)))
       whole
 
   pub missing_fault : (o : Option Told) → Alone-missing o → is_some o ≡ true → IsLeastAlone p route Missing
   missing_fault o is some =
       let f = one_some (told_by (λ _ _ _ n. missing_at p (route ∷ []) n)) route o is some in
-      least_alone Missing f.0 (omega arith) (omega arith) (keeps_none p (alone route) 3) (rule_found (IsMissing p (route ∷ [])) _ (route ∷ []) (missing_rule p (route ∷ [])) f.0 f.1)
+      least_alone Missing f.0 (omega arith) (omega arith) (keeps_none p (alone route) 3)
+      (rule_found (IsMissing p (route ∷ [])) _ (route ∷ []) (missing_rule p (route ∷ [])) f.0 f.1)
 
   module _ (m : Option Told) (m_is : Alone-missing m) (m_no : is_some m ≡ false) where
     pub delivered_fault : (o : Option Told) → Alone-delivered o → is_some o ≡ true → IsLeastAlone p route DeliveryFirst
     delivered_fault o is some =
         let f = one_some (told_by (λ _ _ i n. delivered_at p (route ∷ []) i n)) route o is some in
-        least_alone DeliveryFirst f.0 (omega arith) (omega arith) (after_missing m m_is m_no) (rule_found (IsDeliveredFirst p (route ∷ [])) _ (route ∷ []) (delivered_rule p (route ∷ []) once whole) f.0 f.1)
+        least_alone DeliveryFirst f.0 (omega arith) (omega arith) (after_missing m m_is m_no)
+        (rule_found (IsDeliveredFirst p (route ∷ [])) _ (route ∷ []) (delivered_rule p (route ∷ []) once whole) f.0 f.1)
 
     module _ (d : Option Told) (d_is : Alone-delivered d) (d_no : is_some d ≡ false) where
       after_delivered : KeepsBelow 3 6 p (alone route)
       after_delivered =
           keeps_more p (alone route) 3 DeliveryFirst (after_missing m m_is m_no)
-          (rule_nothing (IsDeliveredFirst p (route ∷ [])) _ (route ∷ []) (delivered_rule p (route ∷ []) once whole) (one_none (told_by (λ _ _ i n. delivered_at p (route ∷ []) i n)) route d d_is d_no))
+          (rule_nothing (IsDeliveredFirst p (route ∷ [])) _ (route ∷ []) (delivered_rule p (route ∷ []) once whole)
+          (one_none (told_by (λ _ _ i n. delivered_at p (route ∷ []) i n)) route d d_is d_no))
 
       pub load_fault : (o : Option Told) → Alone-loaded o → is_some o ≡ true → IsLeastAlone p route Load
       load_fault o is some =
           let f = one_some (told_by (λ _ route i n. visit_told p (is_overloaded p) route i n)) route o is some in
-          least_alone Load f.0 (omega arith) (omega arith) after_delivered (rule_found (IsOverloaded p (route ∷ [])) _ (route ∷ []) (load_rule p (route ∷ [])) f.0 f.1)
+          least_alone Load f.0 (omega arith) (omega arith) after_delivered
+          (rule_found (IsOverloaded p (route ∷ [])) _ (route ∷ []) (load_rule p (route ∷ [])) f.0 f.1)
 
       module _ (l : Option Told) (l_is : Alone-loaded l) (l_no : is_some l ≡ false) where
         after_load : KeepsBelow 3 7 p (alone route)
         after_load =
             keeps_more p (alone route) 3 Load after_delivered
-            (rule_nothing (IsOverloaded p (route ∷ [])) _ (route ∷ []) (load_rule p (route ∷ [])) (one_none (told_by (λ _ route i n. visit_told p (is_overloaded p) route i n)) route l l_is l_no))
+            (rule_nothing (IsOverloaded p (route ∷ [])) _ (route ∷ []) (load_rule p (route ∷ []))
+            (one_none (told_by (λ _ route i n. visit_told p (is_overloaded p) route i n)) route l l_is l_no))
 
         -- nobody is late where windows are not asked
         pub untimed_alone : p.kind ≡ Vrp → KeepsRules 3 8 p (alone route)
@@ -147,13 +158,15 @@ module _ (p : Instance) (route : List ℕ) (live : AreLiveOnce p route) where
           pub late_fault : (o : Option Told) → Alone-late o → is_some o ≡ true → IsLeastAlone p route Late
           late_fault o is some =
               let f = one_some (told_by (λ _ route i n. visit_told p is_late route i n)) route o is some in
-              least_alone Late f.0 (omega arith) (omega arith) after_load (rule_found (IsLate p (route ∷ [])) _ (route ∷ []) (late_rule p (route ∷ []) kind) f.0 f.1)
+              least_alone Late f.0 (omega arith) (omega arith) after_load
+              (rule_found (IsLate p (route ∷ [])) _ (route ∷ []) (late_rule p (route ∷ []) kind) f.0 f.1)
 
           module _ (t : Option Told) (t_is : Alone-late t) (t_no : is_some t ≡ false) where
             after_late : KeepsBelow 3 8 p (alone route)
             after_late =
                 keeps_more p (alone route) 3 Late after_load
-                (rule_nothing (IsLate p (route ∷ [])) _ (route ∷ []) (late_rule p (route ∷ []) kind) (one_none (told_by (λ _ route i n. visit_told p is_late route i n)) route t t_is t_no))
+                (rule_nothing (IsLate p (route ∷ [])) _ (route ∷ []) (late_rule p (route ∷ []) kind)
+                (one_none (told_by (λ _ route i n. visit_told p is_late route i n)) route t t_is t_no))
 
             pub return_fault : (o : Option Told) → Alone-returned o → is_some o ≡ true → IsLeastAlone p route LateReturn
             return_fault o is some =
@@ -163,4 +176,5 @@ module _ (p : Instance) (route : List ℕ) (live : AreLiveOnce p route) where
             pub timed_alone : (o : Option Told) → Alone-returned o → is_some o ≡ false → KeepsRules 3 8 p (alone route)
             timed_alone o is none =
                 keeps_rules p (alone route) 3 8
-                (keeps_more p (alone route) 3 LateReturn after_late (late_return_nothing p (route ∷ []) (one_none (λ _ route. return_told p route) route o is none)))
+                (keeps_more p (alone route) 3 LateReturn after_late
+                (late_return_nothing p (route ∷ []) (one_none (λ _ route. return_told p route) route o is none)))

@@ -42,7 +42,8 @@ legs_of_route p route =
     ∙ sym (sum-map (leg p route) (range_with_len 0 (length route + 1)))
 
 -- what all of them keep
-pub kept_visits : (p : Instance) (route : List ℕ) (visits : List Visit) → visits ≡ visits_from p route 0 → AllByRecursion (λ v. breaks_limits p v ≡ false) visits → KeepsLimits p route
+pub kept_visits : (p : Instance) (route : List ℕ) (visits : List Visit) → visits ≡ visits_from p route 0
+    → AllByRecursion (λ v. breaks_limits p v ≡ false) visits → KeepsLimits p route
 unfolding KeepsLimits
 kept_visits p route visits all kept some = subst (AllByRecursion (λ v. breaks_limits p v ≡ false)) all kept
 
@@ -57,15 +58,19 @@ module _ (p : Instance) (route : List ℕ) (kept : KeepsLimits p route) (some : 
   unfolding KeepsLimits
   limits_at =
       let at : slice_get (visits_from p route 0) k ≡ Some (visit_after p route k) =
-      nth-range (visit_after p route) 0 (length route + 1 - 0) k (omega arith) ∙ ap (λ i. Some (visit_after p route i)) (let e : 0 + k ≡ k = omega arith in e) in
-      all_items (λ v. breaks_limits p v ≡ false) (visits_from p route 0) (All-from_recursion (λ v. breaks_limits p v ≡ false) (visits_from p route 0) (kept some)) (suc k) (visit_after p route k) at
+      nth-range (visit_after p route) 0 (length route + 1 - 0) k (omega arith)
+      ∙ ap (λ i. Some (visit_after p route i)) (let e : 0 + k ≡ k = omega arith in e) in
+      all_items (λ v. breaks_limits p v ≡ false) (visits_from p route 0)
+      (All-from_recursion (λ v. breaks_limits p v ≡ false) (visits_from p route 0) (kept some)) (suc k) (visit_after p route k) at
 
   light : int_lt (pos p.capacity) (load p route (k + 1)) ≡ true → ⊥
   light heavy = false≢true (sym (or_parts (is_overloaded p (visit_after p route k)) _ limits_at).0 ∙ heavy)
 
   in_time : p.kind ≡ LiLim → (place p route (k + 1)).latest < start p route (k + 1) → ⊥
   in_time kind late =
-      let is = subst (λ (kind : Kind). breaks_window kind (visit_after p route k) ≡ false) kind (or_parts (is_overloaded p (visit_after p route k)) (breaks_window p.kind (visit_after p route k)) limits_at).1 in
+      let is =
+      subst (λ (kind : Kind). breaks_window kind (visit_after p route k) ≡ false) kind
+      (or_parts (is_overloaded p (visit_after p route k)) (breaks_window p.kind (visit_after p route k)) limits_at).1 in
       false≢true (sym is ∙ lt-ltb (place p route (k + 1)).latest (start p route (k + 1)) late)
 
 -- routes that keep the limits keep the rules on loads and times

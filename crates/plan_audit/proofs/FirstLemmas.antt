@@ -2,6 +2,7 @@
 use Rattle.std.proofs.Common.{◌≡◌, ℕ, zero, suc, ◌+◌, ◌≤◌, List, [], ◌∷◌, Option, Some, None, slice_get, refl, sym, ap, subst, ◌∙◌, arith}
 use Rattle.std.specs.Option.{option_map, option_or}
 use Rattle.std.proofs.lemmas.Option.{same_Some}
+use Rattle.plan_types.proofs.LookupLemmas.{option_or-map}
 use Rattle.plan_audit.specs.Finding.{first_place, first_route}
 use Rattle.plan_audit.specs.declared.faults.Told.{Told}
 use Rattle.plan_audit.specs.declared.faults.Fault.{Fault}
@@ -44,7 +45,8 @@ module _ {X Y : Type 0} (test : ℕ → X → Option Y) where
   there-none : (k j : ℕ) (x : X) → test (k + 1 + j) x ≡ None → test (k + suc j) x ≡ None
   there-none k j x told = let at : k + 1 + j ≡ k + suc j = omega arith in subst (λ a. test a x ≡ None) at told
 
-  later-least : (k : ℕ) (x : X) (xs : List X) (a : ℕ × Y) (later : IsFirst test (k + 1) xs a) → test k x ≡ None → (j : ℕ) (z : X) (y : Y) → slice_get (x ∷ xs) j ≡ Some z → test (k + j) z ≡ Some y → suc (later.index) ≤ j
+  later-least : (k : ℕ) (x : X) (xs : List X) (a : ℕ × Y) (later : IsFirst test (k + 1) xs a) → test k x ≡ None → (j : ℕ) (z : X) (y : Y)
+      → slice_get (x ∷ xs) j ≡ Some z → test (k + j) z ≡ Some y → suc (later.index) ≤ j
   later-least k x xs a later none zero z y at told = absurd (none_some y (sym none ∙ here k x z (Some y) at told))
   later-least k x xs a later none (suc j) z y at told = let le = later.least j z y at (there k j z (Some y) told) in omega arith
 
@@ -65,7 +67,8 @@ module _ {X Y : Type 0} (test : ℕ → X → Option Y) where
             least = later-least k x xs a later o;
           }
       by (Some y) o rest =
-          let same : ◌≡◌ {A = ℕ × Y} (k, y) a = same_Some _ _ (let h : option_or (option_map (λ y. (k, y)) (test k x)) (first_answer test (k + 1) xs) ≡ Some a = is in rw o at h) in
+          let same : ◌≡◌ {A = ℕ × Y} (k, y) a =
+          same_Some _ _ (let h : option_or (option_map (λ y. (k, y)) (test k x)) (first_answer test (k + 1) xs) ≡ Some a = is in rw o at h) in
           record {
             index = 0;
             item = x;
@@ -80,14 +83,13 @@ module _ {X Y : Type 0} (test : ℕ → X → Option Y) where
   first_nothing k [] is j x at = absurd (none_some x at)
   first_nothing k (x ∷ xs) is j z at = by (test k x) refl (λ h. first_nothing (k + 1) xs h) j at
     where
-      by : (o : Option Y) → test k x ≡ o → (first_answer test (k + 1) xs ≡ None → (j : ℕ) (z : X) → slice_get xs j ≡ Some z → test (k + 1 + j) z ≡ None) → (j : ℕ) → slice_get (x ∷ xs) j ≡ Some z → test (k + j) z ≡ None
+      by : (o : Option Y) → test k x ≡ o → (first_answer test (k + 1) xs ≡ None → (j : ℕ) (z : X) → slice_get xs j ≡ Some z → test (k + 1 + j) z ≡ None)
+          → (j : ℕ) → slice_get (x ∷ xs) j ≡ Some z → test (k + j) z ≡ None
       by None o rest zero at = here-none k x z at o
-      by None o rest (suc j) at = there-none k j z (rest (let h : option_or (option_map (λ y. (k, y)) (test k x)) (first_answer test (k + 1) xs) ≡ None = is in rw o at h) j z at)
-      by (Some y) o rest j at = absurd (none_some _ (sym (let h : option_or (option_map (λ y. (k, y)) (test k x)) (first_answer test (k + 1) xs) ≡ None = is in rw o at h)))
-
-pub option_or-map : {X Y : Type 0} (g : X → Y) (o p : Option X) → option_or (option_map g o) (option_map g p) ≡ option_map g (option_or o p)
-option_or-map g None p = refl
-option_or-map g (Some x) p = refl
+      by None o rest (suc j) at =
+          there-none k j z (rest (let h : option_or (option_map (λ y. (k, y)) (test k x)) (first_answer test (k + 1) xs) ≡ None = is in rw o at h) j z at)
+      by (Some y) o rest j at =
+          absurd (none_some _ (sym (let h : option_or (option_map (λ y. (k, y)) (test k x)) (first_answer test (k + 1) xs) ≡ None = is in rw o at h)))
 
 pub map-map : {X Y Z : Type 0} (f : X → Y) (g : Y → Z) (o : Option X) → option_map g (option_map f o) ≡ option_map (λ x. g (f x)) o
 map-map f g None = refl
@@ -116,7 +118,8 @@ route_is test k (r ∷ rs) =
     ∙ option_or-map fault_of (option_map (λ t. (k, t)) (test k r)) (first_answer test (k + 1) rs)
 
 -- where the first answer about a route is
-pub fault_found : (test : ℕ → List ℕ → Option Told) (rs : List (List ℕ)) (f : Fault) → first_route test 0 rs ≡ Some f → IsFirst test 0 rs (f.route, record { place = f.place; stop = f.stop })
+pub fault_found : (test : ℕ → List ℕ → Option Told) (rs : List (List ℕ)) (f : Fault) → first_route test 0 rs ≡ Some f
+    → IsFirst test 0 rs (f.route, record { place = f.place; stop = f.stop })
 unfolding fault_of
 fault_found test rs f is = by (first_answer test 0 rs) refl
   where
@@ -143,7 +146,8 @@ map-none g (Some x) h = absurd (none_some _ (sym h))
 zero-plus : (j : ℕ) → j ≡ 0 + j
 zero-plus j = omega arith
 
-pub fault_nothing : (test : ℕ → List ℕ → Option Told) (rs : List (List ℕ)) → first_route test 0 rs ≡ None → (j : ℕ) (r : List ℕ) → slice_get rs j ≡ Some r → test j r ≡ None
+pub fault_nothing : (test : ℕ → List ℕ → Option Told) (rs : List (List ℕ)) → first_route test 0 rs ≡ None → (j : ℕ) (r : List ℕ) → slice_get rs j ≡ Some r
+    → test j r ≡ None
 unfolding AnswersNothing
 fault_nothing test rs is j r at =
     subst (λ i. test i r ≡ None) (sym (zero-plus j)) (first_nothing test 0 rs (map-none fault_of _ (sym (route_is test 0 rs) ∙ is)) j r at)
@@ -153,5 +157,6 @@ unfolding AnswersNothing
 told_nothing test ns is j n at =
     subst (λ i. test i n ≡ None) (sym (zero-plus j)) (first_nothing test 0 ns (map-none told_of _ (sym (place_is test 0 ns) ∙ is)) j n at)
 
-pub least_at : {X Y : Type 0} (test : ℕ → X → Option Y) (xs : List X) (a : ℕ × Y) (first : IsFirst test 0 xs a) (j : ℕ) (x : X) (y : Y) → slice_get xs j ≡ Some x → test j x ≡ Some y → first.index ≤ j
+pub least_at : {X Y : Type 0} (test : ℕ → X → Option Y) (xs : List X) (a : ℕ × Y) (first : IsFirst test 0 xs a) (j : ℕ) (x : X) (y : Y)
+    → slice_get xs j ≡ Some x → test j x ≡ Some y → first.index ≤ j
 least_at test xs a first j x y at told = first.least j x y at (subst (λ i. test i x ≡ Some y) (zero-plus j) told)

@@ -1,5 +1,39 @@
 -- The first route beyond the fleet.
-use Rattle.std.proofs.Common.{◌≡◌, ◌≢◌, ℕ, zero, suc, ◌+◌, ◌-◌, ◌<◌, ◌≤◌, ◌⊎◌, Bool, true, false, cond, not, List, [], ◌∷◌, length, take, Option, Some, None, slice_get, refl, sym, ap, subst, ◌∙◌, inl, inr, arith, eqb}
+use Rattle.std.proofs.Common.{
+  ◌≡◌,
+  ◌≢◌,
+  ℕ,
+  zero,
+  suc,
+  ◌+◌,
+  ◌-◌,
+  ◌<◌,
+  ◌≤◌,
+  ◌⊎◌,
+  Bool,
+  true,
+  false,
+  cond,
+  not,
+  List,
+  [],
+  ◌∷◌,
+  length,
+  take,
+  Option,
+  Some,
+  None,
+  slice_get,
+  refl,
+  sym,
+  ap,
+  subst,
+  ◌∙◌,
+  inl,
+  inr,
+  arith,
+  eqb,
+}
 use Rattle.std.proofs.lemmas.Bool.Decides.{eqb_tells}
 use Rattle.std.proofs.lemmas.List.Sums.{sum_by-cons}
 use Rattle.std.proofs.lemmas.Option.{same_Some}
@@ -62,8 +96,14 @@ used-some (x ∷ xs) (suc y) r at some =
     let step = used-cons x (take (suc y) xs) in
     omega arith
 
+-- what the first of the routes answers
+abbrev beyond_step : ℕ → ℕ → List ℕ → List (List ℕ) → Option ℕ
+beyond_step left k r rs =
+    cond (eqb (length r) 0) (first_beyond left (k + 1) rs) (cond (eqb left 0) (Some k) (first_beyond (left - 1) (k + 1) rs))
+
 -- the used route with which one more than the vehicles is used is found
-beyond_at : (left k y : ℕ) (rs : List (List ℕ)) (r : List ℕ) → slice_get rs y ≡ Some r → 0 < length r → used_count (take (suc y) rs) ≡ left + 1 → first_beyond left k rs ≡ Some (k + y)
+beyond_at : (left k y : ℕ) (rs : List (List ℕ)) (r : List ℕ) → slice_get rs y ≡ Some r → 0 < length r → used_count (take (suc y) rs) ≡ left + 1
+    → first_beyond left k rs ≡ Some (k + y)
 beyond_at left k y [] r at some is = absurd (none_some r at)
 beyond_at left k zero (x ∷ xs) r at some is =
     let same : x ≡ r = same_Some x r at in
@@ -77,7 +117,8 @@ beyond_at left k (suc y) (x ∷ xs) r at some is = by (eqb (length x) 0) refl (�
     place : Some (k + 1 + y) ≡ Some (k + suc y)
     place = let e : k + 1 + y ≡ k + suc y = omega arith in ap Some e
 
-    by : (b : Bool) → eqb (length x) 0 ≡ b → ((l : ℕ) → used_count (take (suc y) xs) ≡ l + 1 → first_beyond l (k + 1) xs ≡ Some (k + 1 + y)) → cond b (first_beyond left (k + 1) xs) (cond (eqb left 0) (Some k) (first_beyond (left - 1) (k + 1) xs)) ≡ Some (k + suc y)
+    by : (b : Bool) → eqb (length x) 0 ≡ b → ((l : ℕ) → used_count (take (suc y) xs) ≡ l + 1 → first_beyond l (k + 1) xs ≡ Some (k + 1 + y))
+        → cond b (first_beyond left (k + 1) xs) (cond (eqb left 0) (Some k) (first_beyond (left - 1) (k + 1) xs)) ≡ Some (k + suc y)
     by true e further = let step = used-empty x (take (suc y) xs) e in further left (omega arith) ∙ place
     by false e further =
         let step = used-more x (take (suc y) xs) e in
@@ -96,11 +137,14 @@ record IsBeyond (left k : ℕ) (rs : List (List ℕ)) (m : ℕ) : Type 0 where
 
 beyond_found : (left k : ℕ) (rs : List (List ℕ)) (m : ℕ) → first_beyond left k rs ≡ Some m → IsBeyond left k rs m
 beyond_found left k [] m is = absurd (none_some m is)
-beyond_found left k (x ∷ xs) m is = by (eqb (length x) 0) refl (eqb_tells left 0) (λ h. beyond_found left (k + 1) xs m h) (λ h. beyond_found (left - 1) (k + 1) xs m h)
+beyond_found left k (x ∷ xs) m is =
+    by (eqb (length x) 0) refl (eqb_tells left 0) (λ h. beyond_found left (k + 1) xs m h) (λ h. beyond_found (left - 1) (k + 1) xs m h)
   where
-    by : (b : Bool) → eqb (length x) 0 ≡ b → ((eqb left 0 ≡ true) × (left ≡ 0)) ⊎ ((eqb left 0 ≡ false) × (left ≢ 0)) → (first_beyond left (k + 1) xs ≡ Some m → IsBeyond left (k + 1) xs m) → (first_beyond (left - 1) (k + 1) xs ≡ Some m → IsBeyond (left - 1) (k + 1) xs m) → IsBeyond left k (x ∷ xs) m
+    by : (b : Bool) → eqb (length x) 0 ≡ b → ((eqb left 0 ≡ true) × (left ≡ 0)) ⊎ ((eqb left 0 ≡ false) × (left ≢ 0))
+        → (first_beyond left (k + 1) xs ≡ Some m → IsBeyond left (k + 1) xs m)
+        → (first_beyond (left - 1) (k + 1) xs ≡ Some m → IsBeyond (left - 1) (k + 1) xs m) → IsBeyond left k (x ∷ xs) m
     by true e t empty used =
-        let later = empty (let h : cond (eqb (length x) 0) (first_beyond left (k + 1) xs) (cond (eqb left 0) (Some k) (first_beyond (left - 1) (k + 1) xs)) ≡ Some m = is in rw e at h) in
+        let later = empty (let h : beyond_step left k x xs ≡ Some m = is in rw e at h) in
         record {
           index = suc (later.index);
           route = later.route;
@@ -110,7 +154,7 @@ beyond_found left k (x ∷ xs) m is = by (eqb (length x) 0) refl (eqb_tells left
           count = used-empty x (take (suc (later.index)) xs) e ∙ later.count;
         }
     by false e (inl t) empty used =
-        let same : k ≡ m = same_Some k m (let h : cond (eqb (length x) 0) (first_beyond left (k + 1) xs) (cond (eqb left 0) (Some k) (first_beyond (left - 1) (k + 1) xs)) ≡ Some m = is in rw (e, t.0) at h) in
+        let same : k ≡ m = same_Some k m (let h : beyond_step left k x xs ≡ Some m = is in rw (e, t.0) at h) in
         let step = used-more x [] e in
         let none = t.1 in
         record {
@@ -122,7 +166,7 @@ beyond_found left k (x ∷ xs) m is = by (eqb (length x) 0) refl (eqb_tells left
           count = omega arith;
         }
     by false e (inr t) empty used =
-        let later = used (let h : cond (eqb (length x) 0) (first_beyond left (k + 1) xs) (cond (eqb left 0) (Some k) (first_beyond (left - 1) (k + 1) xs)) ≡ Some m = is in rw (e, t.0) at h) in
+        let later = used (let h : beyond_step left k x xs ≡ Some m = is in rw (e, t.0) at h) in
         let step = used-more x (take (suc (later.index)) xs) e in
         let count = later.count in
         let some = t.1 in
@@ -140,14 +184,17 @@ pub used-within : (left k : ℕ) (rs : List (List ℕ)) → first_beyond left k 
 used-within left k [] is = omega arith
 used-within left k (r ∷ rs) is = by (eqb (length r) 0) refl (eqb_tells left 0) (λ h. used-within left (k + 1) rs h) (λ h. used-within (left - 1) (k + 1) rs h)
   where
-    by : (b : Bool) → eqb (length r) 0 ≡ b → ((eqb left 0 ≡ true) × (left ≡ 0)) ⊎ ((eqb left 0 ≡ false) × (left ≢ 0)) → (first_beyond left (k + 1) rs ≡ None → used_count rs ≤ left) → (first_beyond (left - 1) (k + 1) rs ≡ None → used_count rs ≤ left - 1) → used_count (r ∷ rs) ≤ left
+    by : (b : Bool) → eqb (length r) 0 ≡ b → ((eqb left 0 ≡ true) × (left ≡ 0)) ⊎ ((eqb left 0 ≡ false) × (left ≢ 0))
+        → (first_beyond left (k + 1) rs ≡ None → used_count rs ≤ left) → (first_beyond (left - 1) (k + 1) rs ≡ None → used_count rs ≤ left - 1)
+        → used_count (r ∷ rs) ≤ left
     by true e t empty used =
-        let rest = empty (let h : cond (eqb (length r) 0) (first_beyond left (k + 1) rs) (cond (eqb left 0) (Some k) (first_beyond (left - 1) (k + 1) rs)) ≡ None = is in rw e at h) in
+        let rest = empty (let h : beyond_step left k r rs ≡ None = is in rw e at h) in
         let step = used-empty r rs e in
         omega arith
-    by false e (inl t) empty used = absurd (none_some k (sym (let h : cond (eqb (length r) 0) (first_beyond left (k + 1) rs) (cond (eqb left 0) (Some k) (first_beyond (left - 1) (k + 1) rs)) ≡ None = is in rw (e, t.0) at h)))
+    by false e (inl t) empty used =
+        absurd (none_some k (sym (let h : beyond_step left k r rs ≡ None = is in rw (e, t.0) at h)))
     by false e (inr t) empty used =
-        let rest = used (let h : cond (eqb (length r) 0) (first_beyond left (k + 1) rs) (cond (eqb left 0) (Some k) (first_beyond (left - 1) (k + 1) rs)) ≡ None = is in rw (e, t.0) at h) in
+        let rest = used (let h : beyond_step left k r rs ≡ None = is in rw (e, t.0) at h) in
         let step = used-more r rs e in
         let some = t.1 in
         omega arith
@@ -164,10 +211,16 @@ module _ (p : Instance) (routes : List (List ℕ)) where
       let place = found.place in
       let here : found.index ≡ m = omega arith in
       record {
-        broken = (refl, refl, subst (λ x. used_count (take (suc x) routes) ≡ p.fleet + 1) here (found.count), (found.route, subst (λ x. slice_get routes x ≡ Some (found.route)) here (found.stands), found.used));
+        broken = (
+          refl,
+          refl,
+          subst (λ x. used_count (take (suc x) routes) ≡ p.fleet + 1) here (found.count),
+          (found.route, subst (λ x. slice_get routes x ≡ Some (found.route)) here (found.stands), found.used),
+        );
         least = λ q j t b. (
             let at = route_in routes b.3.0 q b.3.1 in
-            let same : 0 + at.0 ≡ m = same_Some _ _ (sym (beyond_at p.fleet 0 at.0 routes b.3.0 at.2 b.3.2 (subst (λ r. used_count (take r routes) ≡ p.fleet + 1) at.1 b.2)) ∙ is) in
+            let same : 0 + at.0 ≡ m =
+            same_Some _ _ (sym (beyond_at p.fleet 0 at.0 routes b.3.0 at.2 b.3.2 (subst (λ r. used_count (take r routes) ≡ p.fleet + 1) at.1 b.2)) ∙ is) in
             let e = at.1 in let a = b.0 in let c = b.1 in
             inr (omega arith, inr (sym a, omega arith)));
       }

@@ -16,7 +16,19 @@ use Rattle.plan_audit.specs.Rules.{item_at, Stands, StandsSomewhere}
 use Rattle.plan_audit.specs.Finding.{first_beyond, first_off_pin}
 use Rattle.plan_audit.specs.Verdict.{Subject, planned, printed, routes_of, KeepsRules, IsUnserved, IsVerdict}
 use Rattle.plan_audit.specs.Alone.{alone}
-use Rattle.plan_audit.specs.Laws.{IsPlanned, IsNamed, IsSoundPlan, KeepsPins, AreAllPlanned, PassesAreSound, PassesArePlans, UnsoundIsBroken, PlansPassWhereSound, SolutionsPassWhereSound, RoutesAreFeasible}
+use Rattle.plan_audit.specs.Laws.{
+  IsPlanned,
+  IsNamed,
+  IsSoundPlan,
+  KeepsPins,
+  AreAllPlanned,
+  PassesAreSound,
+  PassesArePlans,
+  UnsoundIsBroken,
+  PlansPassWhereSound,
+  SolutionsPassWhereSound,
+  RoutesAreFeasible,
+}
 use Rattle.plan_audit.specs.declared.faults.Fault.{Fault}
 use Rattle.plan_audit.specs.declared.rules.Rule.TheVariants.{Missing, SplitPair, DeliveryFirst, Load, Late, LateReturn, Fleet, Pin, PrintedCost}
 use Rattle.plan_audit.specs.declared.rules.Verdict.{Verdict}
@@ -71,10 +83,13 @@ plans_pass_where_sound by_name found p routes pins v valid is = (
       )),
   λ good. (
       passes p (planned routes pins) v
-      (planned_step p routes pins (keeps_from by_name p valid (planned routes pins) good.0 (keeps_partners by_name p valid (planned routes pins) good.0)) good.1 (no_pin_off routes pins good.2)) is),
+      (planned_step p routes pins (keeps_from by_name p valid (planned routes pins) good.0 (keeps_partners by_name p valid (planned routes pins) good.0)) good.1
+      (no_pin_off routes pins good.2)) is),
 )
   where
-    in_number : KeepsRules 1 11 p (planned routes pins) → ((eqb (length routes) p.fleet ≡ true) × (length routes ≡ p.fleet)) ⊎ ((eqb (length routes) p.fleet ≡ false) × (length routes ≡ p.fleet → ⊥)) → length routes ≡ p.fleet
+    in_number : KeepsRules 1 11 p (planned routes pins)
+        → ((eqb (length routes) p.fleet ≡ true) × (length routes ≡ p.fleet)) ⊎ ((eqb (length routes) p.fleet ≡ false) × (length routes ≡ p.fleet → ⊥))
+        → length routes ≡ p.fleet
     in_number kept (inl t) = t.1
     in_number kept (inr t) = absurd (kept Fleet 0 0 0 (omega arith) (omega arith) (inr ((refl, refl), refl, t.1)))
 
@@ -89,7 +104,8 @@ planned_or_not routes (Pair a b) = elim (somewhere_or_not routes a.number) [
   ]
 ]
 
-not_planned : (p : Instance) (routes : List (List ℕ)) (name : ℕ) (request : Request) → IsNamed p name request → (IsPlanned routes request → ⊥) → IsUnserved p routes name
+not_planned : (p : Instance) (routes : List (List ℕ)) (name : ℕ) (request : Request) → IsNamed p name request → (IsPlanned routes request → ⊥)
+    → IsUnserved p routes name
 not_planned p routes name (Single s) at free = (Single s, at, (free, tt))
 not_planned p routes name (Pair a b) at free = (Pair a b, at, (λ t. free (inl t), (λ t. free (inr t), tt)))
 
@@ -138,7 +154,8 @@ solutions_pass_where_sound by_name found p routes cost v valid is = (
       )),
   λ good. (
       passes p (printed routes cost) v
-      (pass_step p routes cost (keeps_from by_name p valid (printed routes cost) good.0 (serves_all p routes cost valid by_name good.0 good.1)) (none_beyond p routes good.2) good.3) is),
+      (pass_step p routes cost (keeps_from by_name p valid (printed routes cost) good.0 (serves_all p routes cost valid by_name good.0 good.1))
+      (none_beyond p routes good.2) good.3) is),
 )
 
 -- what stands in the only route stands in the plan
@@ -150,20 +167,39 @@ module _ (p : Instance) (s : Subject) (kept : KeepsRules 3 8 p s) (r : ℕ) (rou
   feasible Missing q i n from to b = elim (somewhere_or_not (routes_of s) n) [
     | inr nowhere ↦ kept Missing r i n (omega arith) (omega arith) (missing_in p s r i n (b.0, stands_there q i b.0 b.1, b.2, nowhere))
     | inl u ↦ elim (eqb_tells u.0 r) [
-      | inl t ↦ b.3 (1, u.1, (route, refl, subst (λ (l : List ℕ). item_at l u.1 ≡ Some n) (same_Some _ _ (sym u.2.1 ∙ ap (item_at (routes_of s)) t.1 ∙ at)) u.2.2))
+      | inl t ↦ b.3
+          (1, u.1, (route, refl, subst (λ (l : List ℕ). item_at l u.1 ≡ Some n) (same_Some _ _ (sym u.2.1 ∙ ap (item_at (routes_of s)) t.1 ∙ at)) u.2.2))
       | inr t ↦ kept SplitPair r i b.0 (omega arith) (omega arith) (stands_there q i b.0 b.1, (n, b.2, (u.0, u.1, t.1, u.2)))
     ]
   ]
   feasible SplitPair q i n from to b = not_split p route q i n b
-  feasible DeliveryFirst q i n from to b = kept DeliveryFirst r i n (omega arith) (omega arith) (stands_there q i n b.0, (b.1.0, b.1.1, (b.1.2.0, b.1.2.1, stands_there q b.1.2.0 b.1.0 b.1.2.2)))
+  feasible DeliveryFirst q i n from to b =
+      kept DeliveryFirst r i n (omega arith) (omega arith) (stands_there q i n b.0, (b.1.0, b.1.1, (b.1.2.0, b.1.2.1, stands_there q b.1.2.0 b.1.0 b.1.2.2)))
   feasible Load q i n from to b =
-      kept Load r i n (omega arith) (omega arith) (route, at, in_route route (λ l. item_at l i ≡ Some n) q b.0 b.1 b.2, in_route route (λ l. pos p.capacity <ℤ load p l i) q b.0 b.1 b.3)
+      kept Load r i n (omega arith) (omega arith)
+      (route, at, in_route route (λ l. item_at l i ≡ Some n) q b.0 b.1 b.2, in_route route (λ l. pos p.capacity <ℤ load p l i) q b.0 b.1 b.3)
   feasible Late q i n from to b =
-      kept Late r i n (omega arith) (omega arith)
-      (b.0, (route, at, in_route route (λ l. item_at l i ≡ Some n) q b.1.0 b.1.1 b.1.2, in_route route (λ l. (place p l i).latest < start p l i) q b.1.0 b.1.1 b.1.3))
+      kept Late r i n (omega arith) (omega arith) (
+        b.0,
+        (
+          route,
+          at,
+          in_route route (λ l. item_at l i ≡ Some n) q b.1.0 b.1.1 b.1.2,
+          in_route route (λ l. (place p l i).latest < start p l i) q b.1.0 b.1.1 b.1.3,
+        ),
+      )
   feasible LateReturn q i n from to b =
-      kept LateReturn r i n (omega arith) (omega arith)
-      (b.0, (route, at, in_route route (λ l. 0 < length l) q b.1.0 b.1.1 b.1.2, in_route route (λ l. i ≡ length l + 1) q b.1.0 b.1.1 b.1.3, b.1.4, in_route route (λ l. p.depot.latest < start p l i) q b.1.0 b.1.1 b.1.5))
+      kept LateReturn r i n (omega arith) (omega arith) (
+        b.0,
+        (
+          route,
+          at,
+          in_route route (λ l. 0 < length l) q b.1.0 b.1.1 b.1.2,
+          in_route route (λ l. i ≡ length l + 1) q b.1.0 b.1.1 b.1.3,
+          b.1.4,
+          in_route route (λ l. p.depot.latest < start p l i) q b.1.0 b.1.1 b.1.5,
+        ),
+      )
   feasible _ q i n from to b = omega arith
 
 pub routes_are_feasible : RoutesAreFeasible

@@ -1,3 +1,4 @@
+-- The lemma files, which upper crates may cite.
 pub mod AgreeLemmas
 pub mod AloneLemmas
 pub mod DriveLemmas

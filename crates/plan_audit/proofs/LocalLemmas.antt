@@ -1,5 +1,37 @@
 -- What passes is judged route by route.
-use Rattle.std.proofs.Common.{◌≡◌, ℕ, zero, suc, ◌<◌, ◌≤◌, ◌⊎◌, Bool, true, false, not, ◌&&◌, List, [], ◌∷◌, ◌++◌, All, length, Some, is_some, slice_get, refl, sym, ap, subst, ◌∙◌, inl, inr, arith, eqb, nat_eq}
+use Rattle.std.proofs.Common.{
+  ◌≡◌,
+  ℕ,
+  zero,
+  suc,
+  ◌<◌,
+  ◌≤◌,
+  ◌⊎◌,
+  Bool,
+  true,
+  false,
+  not,
+  ◌&&◌,
+  List,
+  [],
+  ◌∷◌,
+  ◌++◌,
+  All,
+  length,
+  Some,
+  is_some,
+  slice_get,
+  refl,
+  sym,
+  ap,
+  subst,
+  ◌∙◌,
+  inl,
+  inr,
+  arith,
+  eqb,
+  nat_eq,
+}
 use Rattle.std.specs.List.{AllByRecursion, IsDistinct, list_all, concat, starts_with}
 use Rattle.std.proofs.lemmas.Bool.{and_parts, and_from, not-true, not_from_false, eqb-true, eq-eqb, eqb-false}
 use Rattle.std.proofs.lemmas.List.Elements.{All-from_recursion, recursion_from_All, All-weaker}
@@ -38,7 +70,8 @@ all_seats P (route ∷ rest) all zero i n sits =
 all_seats P (route ∷ rest) all (suc r) i n sits = all_seats P rest (all_parts P route (concat rest) all).1 r i n sits
 
 -- the numbers of a front and those behind it
-distinct_parts : (xs ys : List ℕ) → IsDistinct nat_eq (xs ++ ys) → IsDistinct nat_eq xs × IsDistinct nat_eq ys × AllByRecursion (λ x. AllByRecursion (λ y. nat_eq x y ≡ false) ys) xs
+distinct_parts : (xs ys : List ℕ) → IsDistinct nat_eq (xs ++ ys)
+    → IsDistinct nat_eq xs × IsDistinct nat_eq ys × AllByRecursion (λ x. AllByRecursion (λ y. nat_eq x y ≡ false) ys) xs
 unfolding IsDistinct
 distinct_parts [] ys once = (tt, once, tt)
 distinct_parts (x ∷ xs) ys once =
@@ -47,9 +80,11 @@ distinct_parts (x ∷ xs) ys once =
     ((here.0, rest.0), rest.1, (here.1, rest.2))
 
 -- a number of the first route is in no later one
-not_in_both : (route : List ℕ) (rest : List (List ℕ)) → AllByRecursion (λ x. AllByRecursion (λ y. nat_eq x y ≡ false) (concat rest)) route → (j r i n : ℕ) → slice_get route j ≡ Some n → Sits rest r i n → ⊥
+not_in_both : (route : List ℕ) (rest : List (List ℕ)) → AllByRecursion (λ x. AllByRecursion (λ y. nat_eq x y ≡ false) (concat rest)) route → (j r i n : ℕ)
+    → slice_get route j ≡ Some n → Sits rest r i n → ⊥
 not_in_both route rest apart j r i n at sits =
-    eqb-false n n (all_seats (λ y. nat_eq n y ≡ false) rest (item_holds (λ x. AllByRecursion (λ y. nat_eq x y ≡ false) (concat rest)) route j n apart at) r i n sits) refl
+    eqb-false n n
+    (all_seats (λ y. nat_eq n y ≡ false) rest (item_holds (λ x. AllByRecursion (λ y. nat_eq x y ≡ false) (concat rest)) route j n apart at) r i n sits) refl
 
 in_first : (route : List ℕ) (rest : List (List ℕ)) (i n : ℕ) → Sits (route ∷ rest) zero i n → slice_get route i ≡ Some n
 in_first route rest i n sits = subst (λ (l : List ℕ). slice_get l i ≡ Some n) (sym (same_Some route sits.0 sits.1)) sits.2
@@ -60,8 +95,10 @@ unfolding StandOnce
 stand_once_from [] once q j r i n a b = absurd (none_some a.0 a.1)
 stand_once_from (route ∷ rest) once zero j zero i n a b =
     (refl, distinct_places route j i n (distinct_parts route (concat rest) once).0 (in_first route rest j n a) (in_first route rest i n b))
-stand_once_from (route ∷ rest) once zero j (suc r) i n a b = absurd (not_in_both route rest (distinct_parts route (concat rest) once).2 j r i n (in_first route rest j n a) b)
-stand_once_from (route ∷ rest) once (suc q) j zero i n a b = absurd (not_in_both route rest (distinct_parts route (concat rest) once).2 i q j n (in_first route rest i n b) a)
+stand_once_from (route ∷ rest) once zero j (suc r) i n a b =
+    absurd (not_in_both route rest (distinct_parts route (concat rest) once).2 j r i n (in_first route rest j n a) b)
+stand_once_from (route ∷ rest) once (suc q) j zero i n a b =
+    absurd (not_in_both route rest (distinct_parts route (concat rest) once).2 i q j n (in_first route rest i n b) a)
 stand_once_from (route ∷ rest) once (suc q) j (suc r) i n a b =
     let e = stand_once_from rest (distinct_parts route (concat rest) once).1 q j r i n a b in (ap suc e.0, e.1)
 
@@ -99,7 +136,8 @@ module _ (p : Instance) where
 
   tested_live : (ns : List ℕ) → AreLiveOnce p ns → are_live_once p ns ≡ true
   tested_live ns once =
-      and_from (list_all (λ n. is_some (stop_at p n)) ns) (are_distinct ns) (list_all-from_AllPass (λ n. is_some (stop_at p n)) ns (once.live)) (tested_distinct ns (once.distinct))
+      and_from (list_all (λ n. is_some (stop_at p n)) ns) (are_distinct ns) (list_all-from_AllPass (λ n. is_some (stop_at p n)) ns (once.live))
+      (tested_distinct ns (once.distinct))
 
 -- the test of a pin, by places
 starts_at : (ns pin : List ℕ) → starts_with nat_eq ns pin ≡ true → (i n : ℕ) → slice_get pin i ≡ Some n → slice_get ns i ≡ Some n
@@ -123,14 +161,18 @@ pins_tested [] (pin ∷ pins) test zero i n sits =
     empty : (pin : List ℕ) → eqb (length pin) 0 ≡ true → slice_get pin i ≡ Some n → ⊥
     empty [] none at = none_some n at
     empty (m ∷ ms) none at = let none' = eqb-true (length (m ∷ ms)) 0 none in omega arith
-pins_tested [] (pin ∷ pins) test (suc r) i n sits = absurd (none_some _ (pins_tested [] pins (and_parts (eqb (length pin) 0) (begin_with_pins [] pins) test).1 r i n sits).1)
+pins_tested [] (pin ∷ pins) test (suc r) i n sits =
+    absurd (none_some _ (pins_tested [] pins (and_parts (eqb (length pin) 0) (begin_with_pins [] pins) test).1 r i n sits).1)
 pins_tested (route ∷ routes) (pin ∷ pins) test zero i n sits =
     (route, refl, starts_at route pin (and_parts (starts_with nat_eq route pin) (begin_with_pins routes pins) test).0 i n (in_first pin pins i n sits))
-pins_tested (route ∷ routes) (pin ∷ pins) test (suc r) i n sits = pins_tested routes pins (and_parts (starts_with nat_eq route pin) (begin_with_pins routes pins) test).1 r i n sits
+pins_tested (route ∷ routes) (pin ∷ pins) test (suc r) i n sits =
+    pins_tested routes pins (and_parts (starts_with nat_eq route pin) (begin_with_pins routes pins) test).1 r i n sits
 
 tested_pins : (routes pins : List (List ℕ)) → ((r i n : ℕ) → Sits pins r i n → Sits routes r i n) → begin_with_pins routes pins ≡ true
 tested_pins routes [] kept = refl
-tested_pins [] (pin ∷ pins) kept = and_from (eqb (length pin) 0) (begin_with_pins [] pins) (by pin kept) (tested_pins [] pins (λ r i n sits. (let t = kept (suc r) i n sits in absurd (none_some t.0 t.1))))
+tested_pins [] (pin ∷ pins) kept =
+    and_from (eqb (length pin) 0) (begin_with_pins [] pins) (by pin kept)
+    (tested_pins [] pins (λ r i n sits. (let t = kept (suc r) i n sits in absurd (none_some t.0 t.1))))
   where
     by : (pin : List ℕ) → ((r i n : ℕ) → Sits (pin ∷ pins) r i n → Sits [] r i n) → eqb (length pin) 0 ≡ true
     by [] kept = refl
@@ -189,7 +231,8 @@ module _ (p : Instance) (routes : List (List ℕ)) where
       (s.2 ∙ ap suc e.0 ∙ sym t.2, s.3 ∙ ap suc e.1 ∙ sym t.3)
 
   -- what is said of a route of the plan is said of it alone
-  module _ (pins : List (List ℕ)) (once : StandOnce routes) (live : (r i n : ℕ) → Sits routes r i n → IsLive p n) (feasible : (r : ℕ) (route : List ℕ) → item_at routes r ≡ Some route → IsFeasibleAlone p route) where
+  module _ (pins : List (List ℕ)) (once : StandOnce routes) (live : (r i n : ℕ) → Sits routes r i n → IsLive p n)
+      (feasible : (r : ℕ) (route : List ℕ) → item_at routes r ≡ Some route → IsFeasibleAlone p route) where
     anywhere : (route : List ℕ) (r : ℕ) → item_at routes r ≡ Some route → (q j n : ℕ) → Stands (route ∷ []) q j n → Stands routes r j n
     anywhere route r at zero j n t = absurd (none_some t.0 t.1)
     anywhere route r at (suc zero) j n t = (route, at, subst (λ (l : List ℕ). item_at l j ≡ Some n) (sym (same_Some route t.0 t.1)) t.2)
@@ -214,8 +257,14 @@ module _ (p : Instance) (routes : List (List ℕ)) where
         ]
     kept_rules DeliveryFirst r i n from to b =
         let later = b.1.2 in
-        feasible r b.0.0 b.0.1 DeliveryFirst 1 i n (omega arith) (omega arith)
-        ((b.0.0, refl, b.0.2), (b.1.0, b.1.1, (later.0, later.1, (b.0.0, refl, subst (λ (l : List ℕ). item_at l later.0 ≡ Some b.1.0) (here r b.0.0 later.2.0 b.0.1 later.2.1) later.2.2))))
+        feasible r b.0.0 b.0.1 DeliveryFirst 1 i n (omega arith) (omega arith) (
+          (b.0.0, refl, b.0.2),
+          (
+            b.1.0,
+            b.1.1,
+            (later.0, later.1, (b.0.0, refl, subst (λ (l : List ℕ). item_at l later.0 ≡ Some b.1.0) (here r b.0.0 later.2.0 b.0.1 later.2.1) later.2.2)),
+          ),
+        )
     kept_rules Load r i n from to b = feasible r b.0 b.1 Load 1 i n (omega arith) (omega arith) (b.0, refl, b.2, b.3)
     kept_rules Late r i n from to b = feasible r b.1.0 b.1.1 Late 1 i n (omega arith) (omega arith) (b.0, (b.1.0, refl, b.1.2, b.1.3))
     kept_rules LateReturn r i n from to b = feasible r b.1.0 b.1.1 LateReturn 1 i n (omega arith) (omega arith) (b.0, (b.1.0, refl, b.1.2, b.1.3, b.1.4, b.1.5))
@@ -239,7 +288,8 @@ module _ (p : Instance) (pins routes : List (List ℕ)) where
   rules_from : IsPassing p pins routes → KeepsRules 1 11 p (planned routes pins)
   rules_from passing =
       planned_step p routes pins
-      (kept_rules p routes pins (once_seat p routes (passing.plan)) (live_seat p routes (passing.plan)) (λ r route at. all_items (IsFeasibleAlone p) routes (passing.feasible) r route at))
+      (kept_rules p routes pins (once_seat p routes (passing.plan)) (live_seat p routes (passing.plan))
+      (λ r route at. all_items (IsFeasibleAlone p) routes (passing.feasible) r route at))
       (passing.fleet) (no_pin_off routes pins (passing.pinned))
 
   fewer : KeepsRules 1 11 p (planned routes pins) → (low high : ℕ) → 1 ≤ low → high ≤ 11 → KeepsRules low high p (planned routes pins)
@@ -249,25 +299,31 @@ module _ (p : Instance) (pins routes : List (List ℕ)) where
   passing_from kept = record {
     plan = plan_from p (planned routes pins) (fewer kept 1 8 (omega arith) (omega arith));
     fleet = in_number (eqb (length routes) p.fleet) refl;
-    feasible = items_all (IsFeasibleAlone p) routes (λ r route at. routes_are_feasible p (planned routes pins) (fewer kept 3 8 (omega arith) (omega arith)) r route at);
+    feasible = items_all (IsFeasibleAlone p) routes
+        (λ r route at. routes_are_feasible p (planned routes pins) (fewer kept 3 8 (omega arith) (omega arith)) r route at);
     pinned = pins_kept routes pins (λ r i n b. kept Pin r i n (omega arith) (omega arith) b);
   }
     where
       in_number : (b : Bool) → eqb (length routes) p.fleet ≡ b → length routes ≡ p.fleet
       in_number true e = eqb-true (length routes) p.fleet e
-      in_number false e = absurd (kept Fleet 0 0 0 (omega arith) (omega arith) (inr ((refl, refl), refl, λ same. (let h : true ≡ false = sym (eq-eqb (length routes) p.fleet same) ∙ e in cc))))
+      in_number false e =
+          absurd (kept Fleet 0 0 0 (omega arith) (omega arith)
+          (inr ((refl, refl), refl, λ same. (let h : true ≡ false = sym (eq-eqb (length routes) p.fleet same) ∙ e in cc))))
 
   -- the test, part by part
   tested_passing : passes p pins routes ≡ true → IsPassing p pins routes
   unfolding passes
   tested_passing test =
-      let one = and_parts (are_live_once p (concat routes)) (eqb (length routes) p.fleet && (list_all (feasible_alone p) routes && begin_with_pins routes pins)) test in
+      let one =
+      and_parts (are_live_once p (concat routes))
+      (eqb (length routes) p.fleet && (list_all (feasible_alone p) routes && begin_with_pins routes pins)) test in
       let two = and_parts (eqb (length routes) p.fleet) (list_all (feasible_alone p) routes && begin_with_pins routes pins) one.1 in
       let three = and_parts (list_all (feasible_alone p) routes) (begin_with_pins routes pins) two.1 in
       record {
         plan = live_tested p (concat routes) one.0;
         fleet = eqb-true (length routes) p.fleet two.0;
-        feasible = All-weaker (λ route. feasible_alone p route ≡ true) (IsFeasibleAlone p) (λ route t. (tests_say_feasible p route).0 t) routes (AllPass-from_list_all (feasible_alone p) routes three.0);
+        feasible = All-weaker (λ route. feasible_alone p route ≡ true) (IsFeasibleAlone p) (λ route t. (tests_say_feasible p route).0 t) routes
+            (AllPass-from_list_all (feasible_alone p) routes three.0);
         pinned = seats_keep routes pins (pins_tested routes pins three.1);
       }
 
@@ -276,9 +332,11 @@ module _ (p : Instance) (pins routes : List (List ℕ)) where
   passing_tested passing =
       and_from (are_live_once p (concat routes)) (eqb (length routes) p.fleet && (list_all (feasible_alone p) routes && begin_with_pins routes pins))
       (tested_live p (concat routes) (passing.plan))
-      (and_from (eqb (length routes) p.fleet) (list_all (feasible_alone p) routes && begin_with_pins routes pins) (eq-eqb (length routes) p.fleet (passing.fleet))
+      (and_from (eqb (length routes) p.fleet) (list_all (feasible_alone p) routes && begin_with_pins routes pins)
+      (eq-eqb (length routes) p.fleet (passing.fleet))
       (and_from (list_all (feasible_alone p) routes) (begin_with_pins routes pins)
-      (list_all-from_AllPass (feasible_alone p) routes (All-weaker (IsFeasibleAlone p) (λ route. feasible_alone p route ≡ true) (λ route t. (tests_say_feasible p route).1 t) routes (passing.feasible)))
+      (list_all-from_AllPass (feasible_alone p) routes
+      (All-weaker (IsFeasibleAlone p) (λ route. feasible_alone p route ≡ true) (λ route t. (tests_say_feasible p route).1 t) routes (passing.feasible)))
       (tested_pins routes pins (keeps_seats routes pins (passing.pinned)))))
 
 pub passes_are_local : PassesAreLocal
@@ -292,7 +350,8 @@ tests_say_pass p pins routes = (
 
 pub plans_are_local : PlansAreLocal
 unfolding StandOnce
-plans_are_local p routes = (λ plan. (each plan, λ q j r i n a b. (stands_once p routes (once_seat p routes plan) q j r i n a b).0), λ both. joined both.0 both.1)
+plans_are_local p routes =
+    (λ plan. (each plan, λ q j r i n a b. (stands_once p routes (once_seat p routes plan) q j r i n a b).0), λ both. joined both.0 both.1)
   where
     each : IsPlan p routes → All (AreLiveOnce p) routes
     each plan = live_routes p routes (none_unknown p routes (live_seat p routes plan)) (none_repeated p routes (once_seat p routes plan))
@@ -334,7 +393,8 @@ pins_are_live_once p pins routes test =
         let e = (stands_once p routes (once_seat p routes (passing.plan)) r (suc j) r (suc i) n (sits r pin at j n a) (sits r pin at i n b)).1 in omega arith
 
 -- lists of one length have the same indices
-item_of_same : {X Y : Type 0} (xs : List X) (ys : List Y) → length xs ≡ length ys → (k : ℕ) (x : X) → slice_get xs k ≡ Some x → (y : Y) × (slice_get ys k ≡ Some y)
+item_of_same : {X Y : Type 0} (xs : List X) (ys : List Y) → length xs ≡ length ys → (k : ℕ) (x : X) → slice_get xs k ≡ Some x
+    → (y : Y) × (slice_get ys k ≡ Some y)
 item_of_same [] ys same k x at = absurd (none_some x at)
 item_of_same (z ∷ xs) [] same k x at = absurd (omega arith)
 item_of_same (z ∷ xs) (y ∷ ys) same zero x at = (y, refl)
@@ -402,7 +462,8 @@ verdicts_are_unique p s (Broken rule r i n) (Broken other q j m) a b =
       ]
     ]
   where
-    both : (r i n q j m : ℕ) → (r < q) ⊎ ((r ≡ q) × ((i < j) ⊎ ((i ≡ j) × (n ≤ m)))) → (q < r) ⊎ ((q ≡ r) × ((j < i) ⊎ ((j ≡ i) × (m ≤ n)))) → (r ≡ q) × (i ≡ j) × (n ≡ m)
+    both : (r i n q j m : ℕ) → (r < q) ⊎ ((r ≡ q) × ((i < j) ⊎ ((i ≡ j) × (n ≤ m)))) → (q < r) ⊎ ((q ≡ r) × ((j < i) ⊎ ((j ≡ i) × (m ≤ n))))
+        → (r ≡ q) × (i ≡ j) × (n ≡ m)
     both r i n q j m (inl a) (inl b) = absurd (omega arith)
     both r i n q j m (inl a) (inr b) = (let e = b.0 in absurd (omega arith))
     both r i n q j m (inr a) (inl b) = (let e = a.0 in absurd (omega arith))

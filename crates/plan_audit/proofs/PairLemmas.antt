@@ -1,5 +1,37 @@
 -- Requests that are left out, one after another.
-use Rattle.std.proofs.Common.{◌≡◌, ℕ, zero, suc, ◌+◌, ◌<◌, Bool, true, false, not, cond, List, [], ◌∷◌, length, take, drop, count_by, slice_get, Option, Some, None, is_some, refl, sym, ap, ◌∙◌, inl, inr, add-one, arith}
+use Rattle.std.proofs.Common.{
+  ◌≡◌,
+  ℕ,
+  zero,
+  suc,
+  ◌+◌,
+  ◌<◌,
+  Bool,
+  true,
+  false,
+  not,
+  cond,
+  List,
+  [],
+  ◌∷◌,
+  length,
+  take,
+  drop,
+  count_by,
+  slice_get,
+  Option,
+  Some,
+  None,
+  is_some,
+  refl,
+  sym,
+  ap,
+  ◌∙◌,
+  inl,
+  inr,
+  add-one,
+  arith,
+}
 use Rattle.std.specs.Option.{option_and_then, option_or}
 use Rattle.std.proofs.lemmas.List.Sums.{sum_by_more}
 use Rattle.std.proofs.lemmas.Option.{slice_get_cases}
@@ -11,21 +43,25 @@ use Rattle.plan_types.specs.Laws.{IsBelowNext, RequestsAreBelowNext}
 use Rattle.plan_types.specs.declared.requests.Request.{Request}
 
 -- what is answered of the request at an index
-pub unserved_is : RequestsAreBelowNext → (p : Instance) (routes : List (List ℕ)) (k n : ℕ) (r : Request) (b : Bool) → IsInstance p → slice_get p.requests k ≡ Some (n, r) → (IsBelowNext p r → b ≡ is_planned routes r)
+pub unserved_is : RequestsAreBelowNext → (p : Instance) (routes : List (List ℕ)) (k n : ℕ) (r : Request) (b : Bool) → IsInstance p
+    → slice_get p.requests k ≡ Some (n, r) → (IsBelowNext p r → b ≡ is_planned routes r)
     → cond b None (Some n) ≡ option_and_then (unserved_in routes) (slice_get p.requests k)
 unserved_is below p routes k n r b valid at served =
     ap (λ c. cond c None (Some n)) (served (below p k n r valid at)) ∙ sym (ap (option_and_then (unserved_in routes)) at)
 
 -- the requests from index k on
-pub unserved_here : (routes : List (List ℕ)) (es : List (ℕ × Request)) (k n : ℕ) → option_and_then (unserved_in routes) (slice_get es k) ≡ Some n → first_unserved routes (drop k es) ≡ Some n
+pub unserved_here : (routes : List (List ℕ)) (es : List (ℕ × Request)) (k n : ℕ) → option_and_then (unserved_in routes) (slice_get es k) ≡ Some n
+    → first_unserved routes (drop k es) ≡ Some n
 unserved_here routes [] k n is = absurd (none_some n is)
 unserved_here routes (e ∷ es) zero n is = ap (λ (o : Option ℕ). option_or o (first_unserved routes es)) is
 unserved_here routes (e ∷ es) (suc k) n is = unserved_here routes es k n is
 
-pub unserved_later : (routes : List (List ℕ)) (es : List (ℕ × Request)) (k : ℕ) → option_and_then (unserved_in routes) (slice_get es k) ≡ None → first_unserved routes (drop k es) ≡ first_unserved routes (drop (k + 1) es)
+pub unserved_later : (routes : List (List ℕ)) (es : List (ℕ × Request)) (k : ℕ) → option_and_then (unserved_in routes) (slice_get es k) ≡ None
+    → first_unserved routes (drop k es) ≡ first_unserved routes (drop (k + 1) es)
 unserved_later routes es k is = by es k is ∙ ap (λ n. first_unserved routes (drop n es)) (sym (add-one k))
   where
-    by : (es : List (ℕ × Request)) (k : ℕ) → option_and_then (unserved_in routes) (slice_get es k) ≡ None → first_unserved routes (drop k es) ≡ first_unserved routes (drop (suc k) es)
+    by : (es : List (ℕ × Request)) (k : ℕ) → option_and_then (unserved_in routes) (slice_get es k) ≡ None
+        → first_unserved routes (drop k es) ≡ first_unserved routes (drop (suc k) es)
     by [] zero is = refl
     by [] (suc k) is = refl
     by (e ∷ es) zero is = ap (λ (o : Option ℕ). option_or o (first_unserved routes es)) is
@@ -35,7 +71,8 @@ unserved_later routes es k is = by es k is ∙ ap (λ n. first_unserved routes (
 abbrev is_left_out : List (List ℕ) → ℕ × Request → Bool
 is_left_out routes e = not (is_planned routes e.1)
 
-pub left_out_more : (routes : List (List ℕ)) (es : List (ℕ × Request)) (k : ℕ) (b : Bool) → k < length es → is_some (option_and_then (unserved_in routes) (slice_get es k)) ≡ b
+pub left_out_more : (routes : List (List ℕ)) (es : List (ℕ × Request)) (k : ℕ) (b : Bool) → k < length es
+    → is_some (option_and_then (unserved_in routes) (slice_get es k)) ≡ b
     → count_by (is_left_out routes) (take (k + 1) es) ≡ count_by (is_left_out routes) (take k es) + cond b 1 0
 left_out_more routes es k b lt is = elim (slice_get_cases es k).1 [
   | inl t ↦ (

@@ -46,17 +46,34 @@ module _ (routes pins : List (List ℕ)) where
   unfolding IsOff
   off_rule = record { to = λ r i s t. to r i s t (holds t.1 (slice_get (unwrap_or (slice_get routes r) []) i)); from = from }
     where
-      to : (r i s : ℕ) (t : Spot (λ r _ i n. off_pin_at (unwrap_or (slice_get routes r) []) i n) pins r i s) → IsHolding t.1 (slice_get (unwrap_or (slice_get routes r) []) i) → IsOff (suc r) (suc i) s
-      to r i s t (inl h) = absurd (none_some s (let g : cond (is_found t.1 (slice_get (unwrap_or (slice_get routes r) []) i)) None (Some t.1) ≡ Some s = t.4 in rw (h.0) at g))
+      to : (r i s : ℕ) (t : Spot (λ r _ i n. off_pin_at (unwrap_or (slice_get routes r) []) i n) pins r i s)
+          → IsHolding t.1 (slice_get (unwrap_or (slice_get routes r) []) i) → IsOff (suc r) (suc i) s
+      to r i s t (inl h) =
+          absurd (none_some s (let g : cond (is_found t.1 (slice_get (unwrap_or (slice_get routes r) []) i)) None (Some t.1) ≡ Some s = t.4 in rw (h.0) at g))
       to r i s t (inr h) =
-          let same : t.1 ≡ s = same_Some _ _ (let g : cond (is_found t.1 (slice_get (unwrap_or (slice_get routes r) []) i)) None (Some t.1) ≡ Some s = t.4 in rw (h.0) at g) in
+          let same : t.1 ≡ s =
+          same_Some _ _ (let g : cond (is_found t.1 (slice_get (unwrap_or (slice_get routes r) []) i)) None (Some t.1) ≡ Some s = t.4 in rw (h.0) at g) in
           (t.0, t.2, subst (λ n. slice_get t.0 i ≡ Some n) same t.3, subst (λ n. slice_get (unwrap_or (slice_get routes r) []) i ≢ Some n) same h.1)
 
-      from : (r i s : ℕ) → IsOff r i s → (q : ℕ) × (j : ℕ) × (r ≡ suc q) × (i ≡ suc j) × Spot (λ r _ i n. off_pin_at (unwrap_or (slice_get routes r) []) i n) pins q j s
+      from : (r i s : ℕ) → IsOff r i s
+          → (q : ℕ) × (j : ℕ) × (r ≡ suc q) × (i ≡ suc j) × Spot (λ r _ i n. off_pin_at (unwrap_or (slice_get routes r) []) i n) pins q j s
       from r i s b =
           let t = standing_in pins b.0 r i s b.1 b.2 in
-          let off : slice_get (unwrap_or (slice_get routes t.0) []) t.1 ≢ Some s = subst (λ i'. item_at (unwrap_or (slice_get routes t.0) []) i' ≢ Some s) t.3 (subst (λ r'. item_at (unwrap_or (item_at routes r') []) i ≢ Some s) t.2 b.3) in
-          (t.0, t.1, t.2, t.3, (b.0, s, t.4, t.5, elim (holds s (slice_get (unwrap_or (slice_get routes t.0) []) t.1)) [ inl h ↦ absurd (off h.1) | inr h ↦ ap (λ c. cond c None (Some s)) h.0 ]))
+          let off : slice_get (unwrap_or (slice_get routes t.0) []) t.1 ≢ Some s =
+          subst (λ i'. item_at (unwrap_or (slice_get routes t.0) []) i' ≢ Some s) t.3
+          (subst (λ r'. item_at (unwrap_or (item_at routes r') []) i ≢ Some s) t.2 b.3) in (
+            t.0,
+            t.1,
+            t.2,
+            t.3,
+            (
+              b.0,
+              s,
+              t.4,
+              t.5,
+              elim (holds s (slice_get (unwrap_or (slice_get routes t.0) []) t.1)) [ inl h ↦ absurd (off h.1) | inr h ↦ ap (λ c. cond c None (Some s)) h.0 ],
+            ),
+          )
 
   pub pin_nothing : first_off_pin routes pins ≡ None → (r i n : ℕ) → IsOffPin routes pins r i n → ⊥
   unfolding IsOff
@@ -73,7 +90,8 @@ module _ (routes pins : List (List ℕ)) where
       }
     where
       -- a place before the first that differs
-      alike : IsLeastOf IsOff (suc f.route) (suc f.place) f.stop → (pin : List ℕ) → slice_get pins f.route ≡ Some pin → slice_get pin f.place ≡ Some f.stop → (j : ℕ) → 1 ≤ j → j < suc f.place → item_at (unwrap_or (slice_get routes f.route) []) j ≡ item_at pin j
+      alike : IsLeastOf IsOff (suc f.route) (suc f.place) f.stop → (pin : List ℕ) → slice_get pins f.route ≡ Some pin → slice_get pin f.place ≡ Some f.stop
+          → (j : ℕ) → 1 ≤ j → j < suc f.place → item_at (unwrap_or (slice_get routes f.route) []) j ≡ item_at pin j
       alike one pin on there zero from below = absurd (omega arith)
       alike one pin on there (suc j) from below =
           let m = place_before pin f.place f.stop j there (omega arith) in

@@ -23,7 +23,8 @@ all-concat : (P : ℕ → Type 0) (xss : List (List ℕ)) → AllByRecursion (Al
 all-concat P [] all = tt
 all-concat P (xs ∷ xss) all = all-append P xs (concat xss) all.0 (all-concat P xss all.1)
 
-distinct-append : (xs ys : List ℕ) → IsDistinct nat_eq xs → IsDistinct nat_eq ys → AllByRecursion (λ x. AllByRecursion (λ y. nat_eq x y ≡ false) ys) xs → IsDistinct nat_eq (xs ++ ys)
+distinct-append : (xs ys : List ℕ) → IsDistinct nat_eq xs → IsDistinct nat_eq ys → AllByRecursion (λ x. AllByRecursion (λ y. nat_eq x y ≡ false) ys) xs
+    → IsDistinct nat_eq (xs ++ ys)
 unfolding IsDistinct
 distinct-append [] ys a b apart = b
 distinct-append (x ∷ xs) ys a b apart = (all-append (λ y. nat_eq x y ≡ false) xs ys a.0 apart.0, distinct-append xs ys a.1 b apart.1)
@@ -36,7 +37,8 @@ pub distinct_route : (ns : List ℕ) → ((j i n : ℕ) → slice_get ns j ≡ S
 unfolding IsDistinct
 distinct_route [] once = tt
 distinct_route (n ∷ ns) once = (
-  all_by_get (λ m. nat_eq n m ≡ false) ns (λ k m at. apart_from n m (λ e. (let same : zero ≡ suc k = once zero (suc k) n refl (at ∙ ap Some (sym e)) in absurd (omega arith)))),
+  all_by_get (λ m. nat_eq n m ≡ false) ns
+      (λ k m at. apart_from n m (λ e. (let same : zero ≡ suc k = once zero (suc k) n refl (at ∙ ap Some (sym e)) in absurd (omega arith)))),
   distinct_route ns (λ j i m a b. let e : suc j ≡ suc i = once (suc j) (suc i) m a b in omega arith),
 )
 
@@ -69,7 +71,8 @@ module _ (p : Instance) (routes : List (List ℕ)) (known : (r i n : ℕ) → Is
   pub known_below : StopsAreBelowNext → IsInstance p → All (λ route. All (λ n. n < p.next_number) route) routes
   known_below stops_below valid =
       All-from_recursion (λ route. All (λ n. n < p.next_number) route) routes (all_by_get (λ route. All (λ n. n < p.next_number) route) routes (λ r route at.
-      All-from_recursion (λ n. n < p.next_number) route (all_by_get (λ n. n < p.next_number) route (λ i n on. stops_below p n valid (live-at r i n (route, at, on))))))
+      All-from_recursion (λ n. n < p.next_number) route
+      (all_by_get (λ n. n < p.next_number) route (λ i n on. stops_below p n valid (live-at r i n (route, at, on))))))
 
   live_in : AllByRecursion (AllByRecursion (IsLive p)) routes
   live_in = all_by_get (AllByRecursion (IsLive p)) routes (λ r route at. all_by_get (IsLive p) route (λ i n on. live-at r i n (route, at, on)))
@@ -78,7 +81,9 @@ module _ (p : Instance) (routes : List (List ℕ)) (known : (r i n : ℕ) → Is
     stand_once : StandOnce routes
     unfolding StandOnce
     stand_once q j r i n a b =
-        let same = neither_before (suc q) (suc j) (suc r) (suc i) (λ earlier. once (suc r) (suc i) n (b, (suc q, suc j, earlier, a))) (λ earlier. once (suc q) (suc j) n (a, (suc r, suc i, earlier, b))) in
+        let same =
+        neither_before (suc q) (suc j) (suc r) (suc i) (λ earlier. once (suc r) (suc i) n (b, (suc q, suc j, earlier, a)))
+        (λ earlier. once (suc q) (suc j) n (a, (suc r, suc i, earlier, b))) in
         (omega (arith, same.0), omega (arith, same.1))
 
     pub is_plan : IsPlan p routes

@@ -93,11 +93,13 @@ is_there routes (Pair a b) e = elim (or_cases (has_stop routes a.number) (has_st
 abbrev left : List (List ℕ) → ℕ × Request → ℕ
 left routes e = cond (not (is_planned routes e.1)) 1 0
 
-none_left : (routes : List (List ℕ)) (es : List (ℕ × Request)) → count_by (λ e. not (is_planned routes e.1)) es ≡ 0 → (name : ℕ) (request : Request) → lookup (nat_eq name) es ≡ Some request → is_planned routes request ≡ true
+none_left : (routes : List (List ℕ)) (es : List (ℕ × Request)) → count_by (λ e. not (is_planned routes e.1)) es ≡ 0 → (name : ℕ) (request : Request)
+    → lookup (nat_eq name) es ≡ Some request → is_planned routes request ≡ true
 none_left routes [] none name request at = absurd (none_some request at)
 none_left routes (e ∷ es) none name request at =
     elim (eqb_tells name e.0) [
-      | inl t ↦ subst (λ r. is_planned routes r ≡ true) (same_Some e.1 request (let h : lookup (nat_eq name) (e ∷ es) ≡ Some request = at in rw t.0 at h)) (here (is_planned routes e.1) refl)
+      | inl t ↦ subst (λ r. is_planned routes r ≡ true) (same_Some e.1 request (let h : lookup (nat_eq name) (e ∷ es) ≡ Some request = at in rw t.0 at h))
+          (here (is_planned routes e.1) refl)
       | inr t ↦ none_left routes es (omega (arith, step, none)) name request (let h : lookup (nat_eq name) (e ∷ es) ≡ Some request = at in rw t.0 at h)
     ]
   where
@@ -134,17 +136,22 @@ module _ (p : Instance) (routes : List (List ℕ)) (plan : IsPlan p routes) (fea
   printed_kept cost all rule r i n from to b = used_kept rule r i n from to b
 
 pub used_routes_are_sound : RequestsStandByName → NamedAreFound → UsedRoutesAreSound
-used_routes_are_sound by_name found p routes valid sound = sound_from found p (planned (used_routes routes) []) valid (used_kept p routes (plan_from p (planned routes []) kept) feasible)
+used_routes_are_sound by_name found p routes valid sound =
+    sound_from found p (planned (used_routes routes) []) valid (used_kept p routes (plan_from p (planned routes []) kept) feasible)
   where
     kept : KeepsRules 1 8 p (planned routes [])
     kept = keeps_from by_name p valid (planned routes []) sound (keeps_partners by_name p valid (planned routes []) sound)
 
     feasible : All (IsFeasibleAlone p) routes
-    feasible = items_all (IsFeasibleAlone p) routes (λ r route at. laws.routes_are_feasible p (planned routes []) (λ k q i n from to b. kept k q i n (omega arith) to b) r route at)
+    feasible =
+        items_all (IsFeasibleAlone p) routes
+        (λ r route at. laws.routes_are_feasible p (planned routes []) (λ k q i n from to b. kept k q i n (omega arith) to b) r route at)
 
 pub whole_plans_pass_printed : WholePlansPassPrinted
-whole_plans_pass_printed p pins routes test none =
-    (pass_step p (used_routes routes) (total_length p routes) kept (none_beyond p (used_routes routes) few) (sym (total-used p routes)), sym (cost-used p routes))
+whole_plans_pass_printed p pins routes test none = (
+  pass_step p (used_routes routes) (total_length p routes) kept (none_beyond p (used_routes routes) few) (sym (total-used p routes)),
+  sym (cost-used p routes),
+)
   where
     passing : IsPassing p pins routes
     passing = (passes_are_local p pins routes).0 test

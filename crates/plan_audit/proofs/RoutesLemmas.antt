@@ -26,7 +26,8 @@ module _ (p : Instance) (routes : List (List ℕ)) where
   fewer_kept : (c d : ℕ) → KeepsRules 1 11 p (printed routes c) → KeepsRules 1 10 p (printed routes d)
   fewer_kept c d kept m r i n from to b = kept m r i n from (omega arith) (other_cost d c m r i n to b)
 
-  fewer_least : (d : ℕ) (k : Rule) (r i n : ℕ) → IsLeastBroken 1 11 p (printed routes (total_length p routes)) k r i n → IsLeastBroken 1 10 p (printed routes d) k r i n
+  fewer_least : (d : ℕ) (k : Rule) (r i n : ℕ) → IsLeastBroken 1 11 p (printed routes (total_length p routes)) k r i n
+      → IsLeastBroken 1 10 p (printed routes d) k r i n
   fewer_least d k r i n one =
       let c = total_length p routes in
       let to = before_last k r i n (one.broken) in

@@ -1,5 +1,35 @@
 -- Each rule on where stops stand is the test that the auditor makes.
-use Rattle.std.proofs.Common.{◌≡◌, ◌≢◌, ℕ, zero, suc, ◌<◌, ◌≤◌, ◌⊎◌, Bool, true, false, cond, ◌&&◌, nat_lt, List, Option, Some, None, slice_get, is_some, refl, sym, ap, subst, ◌∙◌, inl, inr, arith, eqb}
+use Rattle.std.proofs.Common.{
+  ◌≡◌,
+  ◌≢◌,
+  ℕ,
+  zero,
+  suc,
+  ◌<◌,
+  ◌≤◌,
+  ◌⊎◌,
+  Bool,
+  true,
+  false,
+  cond,
+  ◌&&◌,
+  nat_lt,
+  List,
+  Option,
+  Some,
+  None,
+  slice_get,
+  is_some,
+  refl,
+  sym,
+  ap,
+  subst,
+  ◌∙◌,
+  inl,
+  inr,
+  arith,
+  eqb,
+}
 use Rattle.std.specs.Option.{option_and_then}
 use Rattle.std.proofs.lemmas.Bool.{lt-ltb, ltb-true}
 use Rattle.std.proofs.lemmas.Bool.Decides.{eqb_tells}
@@ -39,12 +69,14 @@ abbrev delivered_seat : ℕ → ℕ → Option Seat → Option ℕ
 delivered_seat i n o = option_and_then (λ s. cond (nat_lt i s.place) (Some n) None) o
 
 -- what a test of its seat tells of another stop
-seat_told : (routes : List (List ℕ)) (test : Seat → Option ℕ) (other : Option ℕ) (s : ℕ) → option_and_then (λ m. option_and_then test (seat_of routes m)) other ≡ Some s
+seat_told : (routes : List (List ℕ)) (test : Seat → Option ℕ) (other : Option ℕ) (s : ℕ)
+    → option_and_then (λ m. option_and_then test (seat_of routes m)) other ≡ Some s
     → (m : ℕ) × (u : Seat) × (other ≡ Some m) × Sits routes u.route u.place m × (test u ≡ Some s)
 seat_told routes test None s told = absurd (none_some s told)
 seat_told routes test (Some m) s told = by (seat_of routes m) refl told
   where
-    by : (o : Option Seat) → seat_of routes m ≡ o → option_and_then test o ≡ Some s → (k : ℕ) × (u : Seat) × (Some m ≡ Some k) × Sits routes u.route u.place k × (test u ≡ Some s)
+    by : (o : Option Seat) → seat_of routes m ≡ o → option_and_then test o ≡ Some s
+        → (k : ℕ) × (u : Seat) × (Some m ≡ Some k) × Sits routes u.route u.place k × (test u ≡ Some s)
     by None e told = absurd (none_some s told)
     by (Some u) e told = (m, u, refl, (seat_of-found routes m u e).sits, told)
 
@@ -57,7 +89,8 @@ partner_from_pickup p n m is = by (request_with p n) is
     by (Some (Single s)) h = absurd (none_some m h)
     by (Some (Pair a b)) h = first (eqb a.number n) h
       where
-        first : (c : Bool) → cond c None (cond (eqb b.number n) (Some a.number) None) ≡ Some m → cond c (Some b.number) (cond (eqb b.number n) (Some a.number) None) ≡ Some m
+        first : (c : Bool) → cond c None (cond (eqb b.number n) (Some a.number) None) ≡ Some m
+            → cond c (Some b.number) (cond (eqb b.number n) (Some a.number) None) ≡ Some m
         first true h = absurd (none_some m h)
         first false h = h
 
@@ -77,7 +110,8 @@ module _ (p : Instance) (routes : List (List ℕ)) where
   pub repeated_rule : IsTestOf (IsRepeated p routes) (λ r _ i n. repeated_at p routes r i n) routes
   repeated_rule = record { to = λ r i s t. to r i s t (seat_of routes t.1) refl; from = from }
     where
-      to : (r i s : ℕ) (t : Spot (λ r _ i n. repeated_at p routes r i n) routes r i s) (o : Option Seat) → seat_of routes (t.1) ≡ o → IsRepeated p routes (suc r) (suc i) s
+      to : (r i s : ℕ) (t : Spot (λ r _ i n. repeated_at p routes r i n) routes r i s) (o : Option Seat) → seat_of routes (t.1) ≡ o
+          → IsRepeated p routes (suc r) (suc i) s
       to r i s t None e = absurd (none_some s (let h : seat_test r i t.1 (seat_of routes t.1) ≡ Some s = t.4 in rw e at h))
       to r i s t (Some u) e =
           let told : seat_test r i t.1 (Some u) ≡ Some s = (let h : seat_test r i t.1 (seat_of routes t.1) ≡ Some s = t.4 in rw e at h) in
@@ -85,36 +119,49 @@ module _ (p : Instance) (routes : List (List ℕ)) where
           let first = seat.least r i (t.0, t.2, t.3) in
           elsewhere (eqb_tells u.route r) (eqb_tells u.place i) told first seat.sits
         where
-          elsewhere : ((eqb u.route r ≡ true) × (u.route ≡ r)) ⊎ ((eqb u.route r ≡ false) × (u.route ≢ r)) → ((eqb u.place i ≡ true) × (u.place ≡ i)) ⊎ ((eqb u.place i ≡ false) × (u.place ≢ i))
-              → cond (eqb u.route r && eqb u.place i) None (Some (t.1)) ≡ Some s → (u.route < r) ⊎ ((u.route ≡ r) × (u.place ≤ i)) → Sits routes u.route u.place (t.1) → IsRepeated p routes (suc r) (suc i) s
+          elsewhere : ((eqb u.route r ≡ true) × (u.route ≡ r)) ⊎ ((eqb u.route r ≡ false) × (u.route ≢ r))
+              → ((eqb u.place i ≡ true) × (u.place ≡ i)) ⊎ ((eqb u.place i ≡ false) × (u.place ≢ i))
+              → cond (eqb u.route r && eqb u.place i) None (Some (t.1)) ≡ Some s → (u.route < r) ⊎ ((u.route ≡ r) × (u.place ≤ i))
+              → Sits routes u.route u.place (t.1) → IsRepeated p routes (suc r) (suc i) s
           elsewhere (inl a) (inl b) told first sits = absurd (none_some s (rw (a.0, b.0) at told))
           elsewhere (inl a) (inr b) told first sits =
               let same : t.1 ≡ s = same_Some _ _ (rw (a.0, b.0) at told) in
-              let before : u.place < i = elim first [ inl lt ↦ (let e = a.1 in omega arith) | inr le ↦ (let ne = b.1 in let le' = le.1 in omega arith) ] in
-              ((t.0, t.2, subst (λ n. slice_get t.0 i ≡ Some n) same t.3), (suc u.route, suc u.place, inr (ap suc a.1, omega arith), subst (λ n. Sits routes u.route u.place n) same sits))
+              let before : u.place < i = elim first [ inl lt ↦ (let e = a.1 in omega arith) | inr le ↦ (let ne = b.1 in let le' = le.1 in omega arith) ] in (
+                (t.0, t.2, subst (λ n. slice_get t.0 i ≡ Some n) same t.3),
+                (suc u.route, suc u.place, inr (ap suc a.1, omega arith), subst (λ n. Sits routes u.route u.place n) same sits),
+              )
           elsewhere (inr a) b told first sits =
               let same : t.1 ≡ s = same_Some _ _ (rw (a.0) at told) in
-              let before : u.route < r = elim first [ inl lt ↦ lt | inr le ↦ absurd (a.1 le.0) ] in
-              ((t.0, t.2, subst (λ n. slice_get t.0 i ≡ Some n) same t.3), (suc u.route, suc u.place, inl (omega arith), subst (λ n. Sits routes u.route u.place n) same sits))
+              let before : u.route < r = elim first [ inl lt ↦ lt | inr le ↦ absurd (a.1 le.0) ] in (
+                (t.0, t.2, subst (λ n. slice_get t.0 i ≡ Some n) same t.3),
+                (suc u.route, suc u.place, inl (omega arith), subst (λ n. Sits routes u.route u.place n) same sits),
+              )
 
       from : (r i s : ℕ) → IsRepeated p routes r i s → (q : ℕ) × (j : ℕ) × (r ≡ suc q) × (i ≡ suc j) × Spot (λ r _ i n. repeated_at p routes r i n) routes q j s
       from r i s b =
           let t = standing routes r i s b.0 in
-          let u = standing routes b.1.0 b.1.1 s b.1.3 in
-          (t.0, t.1, t.2, t.3, (t.4.0, s, t.4.1, t.4.2, told (seat_of routes s) refl t.0 t.1 u.0 u.1 u.4 (earlier r i b.1.0 b.1.1 t.0 t.1 u.0 u.1 t.2 t.3 u.2 u.3 b.1.2)))
+          let u = standing routes b.1.0 b.1.1 s b.1.3 in (
+            t.0,
+            t.1,
+            t.2,
+            t.3,
+            (t.4.0, s, t.4.1, t.4.2, told (seat_of routes s) refl t.0 t.1 u.0 u.1 u.4 (earlier r i b.1.0 b.1.1 t.0 t.1 u.0 u.1 t.2 t.3 u.2 u.3 b.1.2)),
+          )
         where
           earlier : (r i q j r' i' q' j' : ℕ) → r ≡ suc r' → i ≡ suc i' → q ≡ suc q' → j ≡ suc j' → IsEarlier q j r i → IsEarlier q' j' r' i'
           earlier r i q j r' i' q' j' er ei eq ej (inl lt) = inl (omega arith)
           earlier r i q j r' i' q' j' er ei eq ej (inr e) = let a = e.0 in let b = e.1 in inr (omega arith, omega arith)
 
-          told : (o : Option Seat) → seat_of routes s ≡ o → (r i q j : ℕ) → Sits routes q j s → IsEarlier q j r i → option_and_then (λ t. cond (eqb t.route r && eqb t.place i) None (Some s)) (seat_of routes s) ≡ Some s
+          told : (o : Option Seat) → seat_of routes s ≡ o → (r i q j : ℕ) → Sits routes q j s → IsEarlier q j r i
+              → option_and_then (λ t. cond (eqb t.route r && eqb t.place i) None (Some s)) (seat_of routes s) ≡ Some s
           told None e r i q j sits before = absurd (seat_of-none routes s e q j sits)
           told (Some u) e r i q j sits before =
               let first = (seat_of-found routes s u e).least q j sits in
               let away : (eqb u.route r && eqb u.place i) ≡ false = apart (eqb_tells u.route r) (eqb_tells u.place i) first before in
               ap (λ (o : Option Seat). option_and_then (λ t. cond (eqb t.route r && eqb t.place i) None (Some s)) o) e ∙ ap (λ b. cond b None (Some s)) away
             where
-              apart : ((eqb u.route r ≡ true) × (u.route ≡ r)) ⊎ ((eqb u.route r ≡ false) × (u.route ≢ r)) → ((eqb u.place i ≡ true) × (u.place ≡ i)) ⊎ ((eqb u.place i ≡ false) × (u.place ≢ i))
+              apart : ((eqb u.route r ≡ true) × (u.route ≡ r)) ⊎ ((eqb u.route r ≡ false) × (u.route ≢ r))
+                  → ((eqb u.place i ≡ true) × (u.place ≡ i)) ⊎ ((eqb u.place i ≡ false) × (u.place ≢ i))
                   → (u.route < q) ⊎ ((u.route ≡ q) × (u.place ≤ j)) → IsEarlier q j r i → (eqb u.route r && eqb u.place i) ≡ false
               apart (inr a) b first before = rw (a.0) refl
               apart (inl a) (inr b) first before = rw (a.0, b.0) refl
@@ -131,9 +178,15 @@ module _ (p : Instance) (routes : List (List ℕ)) where
       to r i s t (Some m) e = by (seat_of routes m) refl
         where
           by : (o : Option Seat) → seat_of routes m ≡ o → IsMissing p routes (suc r) (suc i) s
-          by (Some u) f = absurd (none_some s (let h : partner_test routes (partner_at p t.1) ≡ Some s = t.4 in let g : cond (is_some (seat_of routes m)) None (Some m) ≡ Some s = (rw e at h) in rw f at g))
+          by (Some u) f =
+              absurd (none_some s
+              (let h : partner_test routes (partner_at p t.1) ≡ Some s = t.4 in let g : cond (is_some (seat_of routes m)) None (Some m)
+              ≡ Some s = (rw e at h) in rw f at g))
           by None f =
-              let same : m ≡ s = same_Some _ _ (let h : partner_test routes (partner_at p t.1) ≡ Some s = t.4 in let g : cond (is_some (seat_of routes m)) None (Some m) ≡ Some s = (rw e at h) in rw f at g) in
+              let same : m ≡ s =
+              same_Some _ _
+              (let h : partner_test routes (partner_at p t.1) ≡ Some s = t.4 in let g : cond (is_some (seat_of routes m)) None (Some m)
+              ≡ Some s = (rw e at h) in rw f at g) in
               (t.1, (t.0, t.2, t.3), e ∙ ap Some same, λ somewhere. nowhere-seat routes m f (subst (λ n. StandsSomewhere routes n) (sym same) somewhere))
 
       from : (r i s : ℕ) → IsMissing p routes r i s → (q : ℕ) × (j : ℕ) × (r ≡ suc q) × (i ≡ suc j) × Spot (λ _ _ _ n. missing_at p routes n) routes q j s
@@ -146,10 +199,13 @@ module _ (p : Instance) (routes : List (List ℕ)) where
           empty (Some u) e = absurd (b.3 (suc u.route, suc u.place, (seat_of-found routes s u e).sits))
 
   -- where no stop stands twice, a seat is the only one
-  only-seat : ((r i n : ℕ) → IsRepeated p routes r i n → ⊥) → (n : ℕ) (u : Seat) → seat_of routes n ≡ Some u → (r i : ℕ) → Sits routes r i n → (u.route ≡ r) × (u.place ≡ i)
+  only-seat : ((r i n : ℕ) → IsRepeated p routes r i n → ⊥) → (n : ℕ) (u : Seat) → seat_of routes n ≡ Some u → (r i : ℕ) → Sits routes r i n
+      → (u.route ≡ r) × (u.place ≡ i)
   only-seat once n u e r i sits =
       let seat = seat_of-found routes n u e in
-      let same = neither_before (suc u.route) (suc u.place) (suc r) (suc i) (λ earlier. once (suc r) (suc i) n (sits, (suc u.route, suc u.place, earlier, seat.sits))) (λ earlier. once (suc u.route) (suc u.place) n (seat.sits, (suc r, suc i, earlier, sits))) in
+      let same =
+      neither_before (suc u.route) (suc u.place) (suc r) (suc i) (λ earlier. once (suc r) (suc i) n (sits, (suc u.route, suc u.place, earlier, seat.sits)))
+      (λ earlier. once (suc u.route) (suc u.place) n (seat.sits, (suc r, suc i, earlier, sits))) in
       (omega (arith, same.0), omega (arith, same.1))
 
   pub split_rule : ((r i n : ℕ) → IsRepeated p routes r i n → ⊥) → IsTestOf (IsSplit p routes) (λ r _ _ n. split_at p routes r n) routes
@@ -160,11 +216,15 @@ module _ (p : Instance) (routes : List (List ℕ)) where
           let found = seat_told routes (λ u. cond (eqb u.route r) None (Some t.1)) (partner_at p t.1) s t.4 in
           away found.0 found.1 found.2 found.3 (eqb_tells found.1.route r) found.4
         where
-          away : (m : ℕ) (u : Seat) → partner_at p (t.1) ≡ Some m → Sits routes u.route u.place m → ((eqb u.route r ≡ true) × (u.route ≡ r)) ⊎ ((eqb u.route r ≡ false) × (u.route ≢ r)) → cond (eqb u.route r) None (Some (t.1)) ≡ Some s → IsSplit p routes (suc r) (suc i) s
+          away : (m : ℕ) (u : Seat) → partner_at p (t.1) ≡ Some m → Sits routes u.route u.place m
+              → ((eqb u.route r ≡ true) × (u.route ≡ r)) ⊎ ((eqb u.route r ≡ false) × (u.route ≢ r)) → cond (eqb u.route r) None (Some (t.1)) ≡ Some s
+              → IsSplit p routes (suc r) (suc i) s
           away m u e sits (inl a) told = absurd (none_some s (rw (a.0) at told))
           away m u e sits (inr a) told =
-              let same : t.1 ≡ s = same_Some _ _ (rw (a.0) at told) in
-              ((t.0, t.2, subst (λ n. slice_get t.0 i ≡ Some n) same t.3), (m, subst (λ n. partner_at p n ≡ Some m) same e, (suc u.route, suc u.place, (λ h. a.1 (omega arith)), sits)))
+              let same : t.1 ≡ s = same_Some _ _ (rw (a.0) at told) in (
+                (t.0, t.2, subst (λ n. slice_get t.0 i ≡ Some n) same t.3),
+                (m, subst (λ n. partner_at p n ≡ Some m) same e, (suc u.route, suc u.place, (λ h. a.1 (omega arith)), sits)),
+              )
 
       from : (r i s : ℕ) → IsSplit p routes r i s → (q : ℕ) × (j : ℕ) × (r ≡ suc q) × (i ≡ suc j) × Spot (λ r _ _ n. split_at p routes r n) routes q j s
       from r i s b =
@@ -172,18 +232,21 @@ module _ (p : Instance) (routes : List (List ℕ)) where
           let u = standing routes b.1.2.0 b.1.2.1 b.1.0 b.1.2.3 in
           (t.0, t.1, t.2, t.3, (t.4.0, s, t.4.1, t.4.2, rw (b.1.1) (told (seat_of routes b.1.0) refl t.0 t.2 u.0 u.1 u.2 u.4)))
         where
-          told : (o : Option Seat) → seat_of routes (b.1.0) ≡ o → (r' : ℕ) → r ≡ suc r' → (q' j' : ℕ) → b.1.2.0 ≡ suc q' → Sits routes q' j' (b.1.0) → split_seat r' s (seat_of routes (b.1.0)) ≡ Some s
+          told : (o : Option Seat) → seat_of routes (b.1.0) ≡ o → (r' : ℕ) → r ≡ suc r' → (q' j' : ℕ) → b.1.2.0 ≡ suc q' → Sits routes q' j' (b.1.0)
+              → split_seat r' s (seat_of routes (b.1.0)) ≡ Some s
           told None f r' er q' j' eq sits = absurd (seat_of-none routes (b.1.0) f q' j' sits)
           told (Some x) f r' er q' j' eq sits =
               let only = only-seat once (b.1.0) x f q' j' sits in
               let ne = b.1.2.2 in
               ap (split_seat r' s) f ∙ away (eqb_tells x.route r') (λ h. ne (eq ∙ ap suc (sym (only.0) ∙ h) ∙ sym er))
             where
-              away : ((eqb x.route r' ≡ true) × (x.route ≡ r')) ⊎ ((eqb x.route r' ≡ false) × (x.route ≢ r')) → (x.route ≡ r' → ⊥) → cond (eqb x.route r') None (Some s) ≡ Some s
+              away : ((eqb x.route r' ≡ true) × (x.route ≡ r')) ⊎ ((eqb x.route r' ≡ false) × (x.route ≢ r')) → (x.route ≡ r' → ⊥)
+                  → cond (eqb x.route r') None (Some s) ≡ Some s
               away (inl a) ne = absurd (ne a.1)
               away (inr a) ne = rw (a.0) refl
 
-  pub delivered_rule : ((r i n : ℕ) → IsRepeated p routes r i n → ⊥) → ((r i n : ℕ) → IsSplit p routes r i n → ⊥) → IsTestOf (IsDeliveredFirst p routes) (λ _ _ i n. delivered_at p routes i n) routes
+  pub delivered_rule : ((r i n : ℕ) → IsRepeated p routes r i n → ⊥) → ((r i n : ℕ) → IsSplit p routes r i n → ⊥)
+      → IsTestOf (IsDeliveredFirst p routes) (λ _ _ i n. delivered_at p routes i n) routes
   delivered_rule once whole = record { to = to; from = from }
     where
       to : (r i s : ℕ) (t : Spot (λ _ _ i n. delivered_at p routes i n) routes r i s) → IsDeliveredFirst p routes (suc r) (suc i) s
@@ -191,22 +254,29 @@ module _ (p : Instance) (routes : List (List ℕ)) where
           let found = seat_told routes (λ u. cond (nat_lt i u.place) (Some t.1) None) (pickup_at p t.1) s t.4 in
           later found.0 found.1 found.2 found.3 (nat_lt i found.1.place) refl found.4 (eqb_tells found.1.route r)
         where
-          later : (m : ℕ) (u : Seat) → pickup_at p (t.1) ≡ Some m → Sits routes u.route u.place m → (b : Bool) → nat_lt i u.place ≡ b → cond (nat_lt i u.place) (Some (t.1)) None ≡ Some s → ((eqb u.route r ≡ true) × (u.route ≡ r)) ⊎ ((eqb u.route r ≡ false) × (u.route ≢ r)) → IsDeliveredFirst p routes (suc r) (suc i) s
+          later : (m : ℕ) (u : Seat) → pickup_at p (t.1) ≡ Some m → Sits routes u.route u.place m → (b : Bool) → nat_lt i u.place ≡ b
+              → cond (nat_lt i u.place) (Some (t.1)) None ≡ Some s → ((eqb u.route r ≡ true) × (u.route ≡ r)) ⊎ ((eqb u.route r ≡ false) × (u.route ≢ r))
+              → IsDeliveredFirst p routes (suc r) (suc i) s
           later m u e sits false lt told where_to = absurd (none_some s (rw lt at told))
           later m u e sits true lt told (inr a) =
-              absurd (whole (suc r) (suc i) t.1 ((t.0, t.2, t.3), (m, partner_from_pickup p t.1 m e, (suc u.route, suc u.place, (λ h. a.1 (omega arith)), sits))))
+              absurd (whole (suc r) (suc i) t.1
+              ((t.0, t.2, t.3), (m, partner_from_pickup p t.1 m e, (suc u.route, suc u.place, (λ h. a.1 (omega arith)), sits))))
           later m u e sits true lt told (inl a) =
               let same : t.1 ≡ s = same_Some _ _ (rw lt at told) in
-              let after : i < u.place = ltb-true i u.place lt in
-              ((t.0, t.2, subst (λ n. slice_get t.0 i ≡ Some n) same t.3), (m, subst (λ n. pickup_at p n ≡ Some m) same e, (suc u.place, omega arith, subst (λ q. Sits routes q u.place m) (a.1) sits)))
+              let after : i < u.place = ltb-true i u.place lt in (
+                (t.0, t.2, subst (λ n. slice_get t.0 i ≡ Some n) same t.3),
+                (m, subst (λ n. pickup_at p n ≡ Some m) same e, (suc u.place, omega arith, subst (λ q. Sits routes q u.place m) (a.1) sits)),
+              )
 
-      from : (r i s : ℕ) → IsDeliveredFirst p routes r i s → (q : ℕ) × (j : ℕ) × (r ≡ suc q) × (i ≡ suc j) × Spot (λ _ _ i n. delivered_at p routes i n) routes q j s
+      from : (r i s : ℕ) → IsDeliveredFirst p routes r i s
+          → (q : ℕ) × (j : ℕ) × (r ≡ suc q) × (i ≡ suc j) × Spot (λ _ _ i n. delivered_at p routes i n) routes q j s
       from r i s b =
           let t = standing routes r i s b.0 in
           let u = standing routes r b.1.2.0 b.1.0 b.1.2.2 in
           (t.0, t.1, t.2, t.3, (t.4.0, s, t.4.1, t.4.2, rw (b.1.1) (told (seat_of routes b.1.0) refl t.1 t.3 u.0 u.1 u.3 u.4)))
         where
-          told : (o : Option Seat) → seat_of routes (b.1.0) ≡ o → (i' : ℕ) → i ≡ suc i' → (q' j' : ℕ) → b.1.2.0 ≡ suc j' → Sits routes q' j' (b.1.0) → delivered_seat i' s (seat_of routes (b.1.0)) ≡ Some s
+          told : (o : Option Seat) → seat_of routes (b.1.0) ≡ o → (i' : ℕ) → i ≡ suc i' → (q' j' : ℕ) → b.1.2.0 ≡ suc j' → Sits routes q' j' (b.1.0)
+              → delivered_seat i' s (seat_of routes (b.1.0)) ≡ Some s
           told None f i' ei q' j' ej sits = absurd (seat_of-none routes (b.1.0) f q' j' sits)
           told (Some x) f i' ei q' j' ej sits =
               let only = only-seat once (b.1.0) x f q' j' sits in

@@ -3,10 +3,11 @@ use Rattle.std.proofs.Common.{◌≡◌, ℕ, ◌+◌, ◌<◌, ◌≤◌, ◌�
 use Rattle.std.specs.Option.{option_map, option_or}
 use Rattle.std.proofs.lemmas.Bool.{eqb-true, eq-eqb, cases_lt}
 use Rattle.std.proofs.lemmas.Option.{same_Some}
+use Rattle.plan_types.proofs.LookupLemmas.{option_or-map}
 use Rattle.plan_audit.specs.Rules.{IsEarlier}
 use Rattle.plan_audit.specs.Finding.{place_of, seat_in, seat_from, seat_of}
 use Rattle.plan_audit.specs.declared.seats.Seat.{Seat}
-use Rattle.plan_audit.proofs.FirstLemmas.{none_some, first_answer, IsFirst, AnswersNothing, first_found, first_nothing, option_or-map, map-map, map-none}
+use Rattle.plan_audit.proofs.FirstLemmas.{none_some, first_answer, IsFirst, AnswersNothing, first_found, first_nothing, map-map, map-none}
 
 -- whether a place is one of stop n
 place_test : ℕ → ℕ → ℕ → Option ℕ
@@ -21,7 +22,8 @@ place_of-is n k [] = refl
 place_of-is n k (m ∷ ms) = by (eqb m n) (place_of-is n (k + 1) ms)
   where
     by : (b : Bool) → place_of n (k + 1) ms ≡ option_map (λ a. a.1) (first_answer (place_test n) (k + 1) ms)
-        → cond b (Some k) (place_of n (k + 1) ms) ≡ option_map (λ a. a.1) (option_or (option_map (λ y. (k, y)) (cond b (Some k) None)) (first_answer (place_test n) (k + 1) ms))
+        → cond b (Some k) (place_of n (k + 1) ms)
+        ≡ option_map (λ a. a.1) (option_or (option_map (λ y. (k, y)) (cond b (Some k) None)) (first_answer (place_test n) (k + 1) ms))
     by true rest = refl
     by false rest = rest
 
@@ -30,7 +32,8 @@ unfolding first_answer seat_at
 seat_from-is n k [] = refl
 seat_from-is n k (r ∷ rs) =
     ap (option_or (seat_in n k r)) (seat_from-is n (k + 1) rs)
-    ∙ ap (λ (o : Option Seat). option_or o (option_map seat_at (first_answer (λ _ r. place_of n 0 r) (k + 1) rs))) (sym (map-map (λ i. (k, i)) seat_at (place_of n 0 r)))
+    ∙ ap (λ (o : Option Seat). option_or o (option_map seat_at (first_answer (λ _ r. place_of n 0 r) (k + 1) rs)))
+    (sym (map-map (λ i. (k, i)) seat_at (place_of n 0 r)))
     ∙ option_or-map seat_at (option_map (λ i. (k, i)) (place_of n 0 r)) (first_answer (λ _ r. place_of n 0 r) (k + 1) rs)
 
 -- stop n stands at place i of route r; both count from 0
@@ -111,7 +114,8 @@ seat_of-found routes n s is = by (first_answer (λ _ r. place_of n 0 r) 0 routes
           least = λ r i t. least a first index r i t (place_of n 0 t.0) refl;
         })
       where
-        least : (a : ℕ × ℕ) (first : IsFirst (λ _ r. place_of n 0 r) 0 routes a) → first.index ≡ a.0 → (r i : ℕ) (t : Sits routes r i n) (o : Option ℕ) → place_of n 0 t.0 ≡ o → (a.0 < r) ⊎ ((a.0 ≡ r) × (a.1 ≤ i))
+        least : (a : ℕ × ℕ) (first : IsFirst (λ _ r. place_of n 0 r) 0 routes a) → first.index ≡ a.0 → (r i : ℕ) (t : Sits routes r i n) (o : Option ℕ)
+            → place_of n 0 t.0 ≡ o → (a.0 < r) ⊎ ((a.0 ≡ r) × (a.1 ≤ i))
         least a first index r i t None e = absurd (place_of-none n t.0 e i t.2)
         least a first index r i t (Some j) e =
             let le = first.least r t.0 j t.1 e in

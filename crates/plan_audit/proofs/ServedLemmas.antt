@@ -58,7 +58,7 @@ seat_from-has n k (route ∷ routes) =
 pub seat-has : (routes : List (List ℕ)) (n : ℕ) → is_some (seat_of routes n) ≡ has_stop routes n
 seat-has routes n = seat_from-has n 0 routes
 
-no_seat : (routes : List (List ℕ)) (n : ℕ) → has_stop routes n ≡ false → StandsSomewhere routes n → ⊥
+pub no_seat : (routes : List (List ℕ)) (n : ℕ) → has_stop routes n ≡ false → StandsSomewhere routes n → ⊥
 no_seat routes n none = by (seat_of routes n) refl
   where
     by : (o : Option Seat) → seat_of routes n ≡ o → StandsSomewhere routes n → ⊥
@@ -72,7 +72,7 @@ a_seat routes n some = by (seat_of routes n) refl
     by None e = absurd (let h : is_some (seat_of routes n) ≡ true = seat-has routes n ∙ some in let g : false ≡ true = (rw e at h) in cc)
     by (Some u) e = (suc u.route, suc u.place, (seat_of-found routes n u e).sits)
 
-not_served : (routes : List (List ℕ)) (r : Request) → is_planned routes r ≡ false → IsNowhere routes r
+pub not_served : (routes : List (List ℕ)) (r : Request) → is_planned routes r ≡ false → IsNowhere routes r
 not_served routes (Single s) e = (no_seat routes s.number (or_parts (has_stop routes s.number) false e).0, tt)
 not_served routes (Pair a b) e =
     let both = or_parts (has_stop routes a.number) (has_stop routes b.number || false) e in
@@ -99,7 +99,7 @@ found-key P (e ∷ es) m r all is = elim (eqb_tells m e.0) [
   | inr t ↦ found-key P es m r all.1 (let h : lookup (nat_eq m) (e ∷ es) ≡ Some r = is in rw t.0 at h)
 ]
 
-below_less : (a b : ℕ) → nat_cmp a b ≡ Less → a < b
+pub below_less : (a b : ℕ) → nat_cmp a b ≡ Less → a < b
 below_less a b h = elim (cases_lt a b) [
   | inl lt ↦ lt
   | inr ge ↦ (
@@ -118,21 +118,25 @@ pub record IsFirstUnserved (routes : List (List ℕ)) (es : List (ℕ × Request
   pub nowhere : IsNowhere routes request
   pub least : (m : ℕ) (r : Request) → lookup (nat_eq m) es ≡ Some r → IsNowhere routes r → n ≤ m
 
-pub unserved_found : (routes : List (List ℕ)) (es : List (ℕ × Request)) (n : ℕ) → IsStrictlySortedBy nat_cmp (keys_of es) → first_unserved routes es ≡ Some n → IsFirstUnserved routes es n
+pub unserved_found : (routes : List (List ℕ)) (es : List (ℕ × Request)) (n : ℕ) → IsStrictlySortedBy nat_cmp (keys_of es) → first_unserved routes es ≡ Some n
+    → IsFirstUnserved routes es n
 unfolding IsStrictlySortedBy
 unserved_found routes [] n up is = absurd (none_some n is)
 unserved_found routes (e ∷ es) n up is = by (is_planned routes e.1) refl (λ h. unserved_found routes es n up.1 h)
   where
     by : (b : Bool) → is_planned routes e.1 ≡ b → (first_unserved routes es ≡ Some n → IsFirstUnserved routes es n) → IsFirstUnserved routes (e ∷ es) n
     by false b rest =
-        let same : e.0 ≡ n = same_Some _ _ (let h : option_or (cond (is_planned routes e.1) None (Some e.0)) (first_unserved routes es) ≡ Some n = is in rw b at h) in
+        let same : e.0 ≡ n =
+        same_Some _ _ (let h : option_or (cond (is_planned routes e.1) None (Some e.0)) (first_unserved routes es) ≡ Some n = is in rw b at h) in
         record {
           request = e.1;
           found = rw (eq-eqb n e.0 (sym same)) refl;
           nowhere = not_served routes e.1 b;
           least = λ m r at nowhere. elim (eqb_tells m e.0) [
             | inl t ↦ (let a = t.1 in omega arith)
-            | inr t ↦ (let lt = below_less e.0 m (found-key (λ y. nat_cmp e.0 y ≡ Less) es m r up.0 (let h : lookup (nat_eq m) (e ∷ es) ≡ Some r = at in rw t.0 at h)) in omega arith)
+            | inr t ↦
+                (let lt = below_less e.0 m
+                (found-key (λ y. nat_cmp e.0 y ≡ Less) es m r up.0 (let h : lookup (nat_eq m) (e ∷ es) ≡ Some r = at in rw t.0 at h)) in omega arith)
           ];
         }
     by true b rest =
@@ -144,18 +148,23 @@ unserved_found routes (e ∷ es) n up is = by (is_planned routes e.1) refl (λ h
           found = rw apart (later.found);
           nowhere = later.nowhere;
           least = λ m r at nowhere. elim (eqb_tells m e.0) [
-            | inl t ↦ absurd (served_somewhere routes e.1 b (subst (IsNowhere routes) (same_Some r e.1 (sym (let h : lookup (nat_eq m) (e ∷ es) ≡ Some r = at in rw t.0 at h))) nowhere))
+            | inl t ↦ absurd
+                (served_somewhere routes e.1 b
+                (subst (IsNowhere routes) (same_Some r e.1 (sym (let h : lookup (nat_eq m) (e ∷ es) ≡ Some r = at in rw t.0 at h))) nowhere))
             | inr t ↦ later.least m r (let h : lookup (nat_eq m) (e ∷ es) ≡ Some r = at in rw t.0 at h) nowhere
           ];
         }
 
-pub unserved_nothing : (routes : List (List ℕ)) (es : List (ℕ × Request)) → first_unserved routes es ≡ None → (m : ℕ) (r : Request) → lookup (nat_eq m) es ≡ Some r → IsNowhere routes r → ⊥
+pub unserved_nothing : (routes : List (List ℕ)) (es : List (ℕ × Request)) → first_unserved routes es ≡ None → (m : ℕ) (r : Request)
+    → lookup (nat_eq m) es ≡ Some r → IsNowhere routes r → ⊥
 unserved_nothing routes [] is m r at nowhere = none_some r at
 unserved_nothing routes (e ∷ es) is m r at nowhere = by (is_planned routes e.1) refl (λ h g. unserved_nothing routes es h m r g nowhere)
   where
     by : (b : Bool) → is_planned routes e.1 ≡ b → (first_unserved routes es ≡ None → lookup (nat_eq m) es ≡ Some r → ⊥) → ⊥
     by false b rest = none_some e.0 (sym (let h : option_or (cond (is_planned routes e.1) None (Some e.0)) (first_unserved routes es) ≡ None = is in rw b at h))
     by true b rest = elim (eqb_tells m e.0) [
-      | inl t ↦ served_somewhere routes e.1 b (subst (IsNowhere routes) (same_Some r e.1 (sym (let h : lookup (nat_eq m) (e ∷ es) ≡ Some r = at in rw t.0 at h))) nowhere)
-      | inr t ↦ rest (let h : option_or (cond (is_planned routes e.1) None (Some e.0)) (first_unserved routes es) ≡ None = is in rw b at h) (let h : lookup (nat_eq m) (e ∷ es) ≡ Some r = at in rw t.0 at h)
+      | inl t ↦ served_somewhere routes e.1 b
+          (subst (IsNowhere routes) (same_Some r e.1 (sym (let h : lookup (nat_eq m) (e ∷ es) ≡ Some r = at in rw t.0 at h))) nowhere)
+      | inr t ↦ rest (let h : option_or (cond (is_planned routes e.1) None (Some e.0)) (first_unserved routes es) ≡ None = is in rw b at h)
+          (let h : lookup (nat_eq m) (e ∷ es) ≡ Some r = at in rw t.0 at h)
     ]

@@ -43,7 +43,8 @@ has_found n (Pair a b) s is = elim (eqb_tells a.number n) [
 ]
 
 -- what holds of each request holds of one that is found
-request_holds : (P : Request → Type 0) (es : List (ℕ × Request)) (name : ℕ) (r : Request) → AllByRecursion (λ e. P e.1) es → lookup (nat_eq name) es ≡ Some r → P r
+request_holds : (P : Request → Type 0) (es : List (ℕ × Request)) (name : ℕ) (r : Request) → AllByRecursion (λ e. P e.1) es → lookup (nat_eq name) es ≡ Some r
+    → P r
 request_holds P [] name r all at = absurd (none_some r at)
 request_holds P (e ∷ es) name r all at = by (eqb_tells name e.0) (λ h. request_holds P es name r all.1 h)
   where

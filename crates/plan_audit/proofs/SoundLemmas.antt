@@ -1,5 +1,41 @@
 -- What is kept by a sound plan, and the other way round.
-use Rattle.std.proofs.Common.{◌≡◌, get_or, ℕ, zero, suc, ◌+◌, ◌<◌, ◌≤◌, ◌⊎◌, true, false, cond, max, ℤ, pos, ◌<ℤ◌, ◌≤ℤ◌, List, [], ◌∷◌, length, map, Option, Some, None, IsSome, refl, sym, ap, subst, ◌∙◌, inl, inr, arith, eqb}
+use Rattle.std.proofs.Common.{
+  ◌≡◌,
+  get_or,
+  ℕ,
+  zero,
+  suc,
+  ◌+◌,
+  ◌<◌,
+  ◌≤◌,
+  ◌⊎◌,
+  true,
+  false,
+  cond,
+  max,
+  ℤ,
+  pos,
+  ◌<ℤ◌,
+  ◌≤ℤ◌,
+  List,
+  [],
+  ◌∷◌,
+  length,
+  map,
+  Option,
+  Some,
+  None,
+  IsSome,
+  refl,
+  sym,
+  ap,
+  subst,
+  ◌∙◌,
+  inl,
+  inr,
+  arith,
+  eqb,
+}
 use Rattle.std.specs.List.{range_with_len}
 use Rattle.std.specs.Option.{option_map, option_and_then, option_or}
 use Rattle.std.proofs.lemmas.Bool.{cases_lt}
@@ -56,7 +92,8 @@ start_from : (p : Instance) (route : List ℕ) (i : ℕ) → (place p route i).e
 unfolding start
 start_from p route i =
     let times : ℕ → ℕ = λ j. (place p route j).earliest + time_between p route j i in
-    let last : greatest (map times (range_with_len 0 (i + 1))) ≡ max (greatest (map times (range_with_len 0 i))) (times i) = ap greatest (map-range_with_len_more times 0 i i (omega arith)) ∙ fold_push max 0 (map times (range_with_len 0 i)) (times i) in
+    let last : greatest (map times (range_with_len 0 (i + 1))) ≡ max (greatest (map times (range_with_len 0 i))) (times i) =
+    ap greatest (map-range_with_len_more times 0 i i (omega arith)) ∙ fold_push max 0 (map times (range_with_len 0 i)) (times i) in
     omega arith
 
 -- a plan that keeps the rules is sound
@@ -84,14 +121,16 @@ module _ (found : NamedAreFound) (p : Instance) (s : Subject) (valid : IsInstanc
     | inr nowhere ↦ absurd (kept Missing r i m (omega arith) (omega arith) (missing_in p s r i m (n, t, is, nowhere)))
   ]
 
-  both_served : (name : ℕ) (a b : Stop) → IsNamed p name (Pair a b) → (r i q j : ℕ) → Stands (routes_of s) r i a.number → Stands (routes_of s) q j b.number → IsServedOnce (routes_of s) (Pair a b)
+  both_served : (name : ℕ) (a b : Stop) → IsNamed p name (Pair a b) → (r i q j : ℕ) → Stands (routes_of s) r i a.number → Stands (routes_of s) q j b.number
+      → IsServedOnce (routes_of s) (Pair a b)
   both_served name a b at r i q j t u = elim (eqb_tells q r) [
     | inr ne ↦ absurd (kept SplitPair r i a.number (omega arith) (omega arith) (t, (b.number, partner_of_pickup found p valid name a b at, (q, j, ne.1, u))))
     | inl same ↦ (
         let u' : Stands (routes_of s) r j b.number = subst (λ q. Stands (routes_of s) q j b.number) (same.1) u in
         elim (cases_lt i j) [
           | inl lt ↦ (r, i, j, lt, stands_once r i a.number t, stands_once r j b.number u')
-          | inr ge ↦ absurd (kept DeliveryFirst r j b.number (omega arith) (omega arith) (u', (a.number, pickup_of_delivery found p valid name a b at, (i, behind ge u', t))))
+          | inr ge ↦ absurd
+              (kept DeliveryFirst r j b.number (omega arith) (omega arith) (u', (a.number, pickup_of_delivery found p valid name a b at, (i, behind ge u', t))))
         ])
   ]
     where
@@ -120,7 +159,8 @@ module _ (found : NamedAreFound) (p : Instance) (s : Subject) (valid : IsInstanc
       let stop = stop_there route i at.1 at.2 in
       by_lt_z (pos p.capacity) (load p route i) (λ lt. absurd (kept Load r i stop.0 (omega arith) (omega arith) (route, at.0, stop.1, lt))) (λ le. le)
 
-  windows : p.kind ≡ LiLim → (r i : ℕ) (route : List ℕ) → IsPlaceOf (routes_of s) r route i → ((place p route i).earliest ≤ start p route i) × (start p route i ≤ (place p route i).latest)
+  windows : p.kind ≡ LiLim → (r i : ℕ) (route : List ℕ) → IsPlaceOf (routes_of s) r route i
+      → ((place p route i).earliest ≤ start p route i) × (start p route i ≤ (place p route i).latest)
   windows kind r i route at =
       let stop = stop_there route i at.1 at.2 in (
         start_from p route i,
@@ -130,7 +170,8 @@ module _ (found : NamedAreFound) (p : Instance) (s : Subject) (valid : IsInstanc
         ],
       )
 
-  returns : p.kind ≡ LiLim → (r : ℕ) (route : List ℕ) → item_at (routes_of s) r ≡ Some route → 0 < length route → start p route (length route + 1) ≤ p.depot.latest
+  returns : p.kind ≡ LiLim → (r : ℕ) (route : List ℕ) → item_at (routes_of s) r ≡ Some route → 0 < length route
+      → start p route (length route + 1) ≤ p.depot.latest
   returns kind r route at some = elim (cases_lt p.depot.latest (start p route (length route + 1))) [
     | inl lt ↦ absurd (kept LateReturn r (length route + 1) 0 (omega arith) (omega arith) (kind, (route, at, some, refl, refl, lt)))
     | inr ge ↦ ge
@@ -143,13 +184,16 @@ module _ (found : NamedAreFound) (p : Instance) (s : Subject) (valid : IsInstanc
 IsPairOf : Instance → ℕ → ℕ → Stop → Stop → Type 0
 IsPairOf p n m a b = IsNamed p a.number (Pair a b) × (((a.number ≡ n) × (b.number ≡ m)) ⊎ ((b.number ≡ n) × (a.number ≡ m)))
 
-first_request : (n : ℕ) (es : List (ℕ × Request)) (s : Stop) → first_some (stop_in n) es ≡ Some s → (r : Request) × (first_some (λ r. option_map (λ _. r) (stop_in n r)) es ≡ Some r) × HasStop n r
+first_request : (n : ℕ) (es : List (ℕ × Request)) (s : Stop) → first_some (stop_in n) es ≡ Some s
+    → (r : Request) × (first_some (λ r. option_map (λ _. r) (stop_in n r)) es ≡ Some r) × HasStop n r
 first_request n [] s is = absurd (none_some s is)
 first_request n (e ∷ es) s is = by (stop_in n e.1) refl (λ h. first_request n es s h)
   where
-    by : (o : Option Stop) → stop_in n e.1 ≡ o → (first_some (stop_in n) es ≡ Some s → (r : Request) × (first_some (λ r. option_map (λ _. r) (stop_in n r)) es ≡ Some r) × HasStop n r)
+    by : (o : Option Stop) → stop_in n e.1 ≡ o
+        → (first_some (stop_in n) es ≡ Some s → (r : Request) × (first_some (λ r. option_map (λ _. r) (stop_in n r)) es ≡ Some r) × HasStop n r)
         → (r : Request) × (option_or (option_map (λ _. e.1) (stop_in n e.1)) (first_some (λ r. option_map (λ _. r) (stop_in n r)) es) ≡ Some r) × HasStop n r
-    by (Some t) at rest = (e.1, ap (λ (o : Option Stop). option_or (option_map (λ _. e.1) o) (first_some (λ r. option_map (λ _. r) (stop_in n r)) es)) at, has_found n e.1 t at)
+    by (Some t) at rest =
+        (e.1, ap (λ (o : Option Stop). option_or (option_map (λ _. e.1) o) (first_some (λ r. option_map (λ _. r) (stop_in n r)) es)) at, has_found n e.1 t at)
     by None at rest =
         let later = rest (sym (ap (λ (o : Option Stop). option_or o (first_some (stop_in n) es)) at) ∙ is) in
         (later.0, ap (λ (o : Option Stop). option_or (option_map (λ _. e.1) o) (first_some (λ r. option_map (λ _. r) (stop_in n r)) es)) at ∙ later.1, later.2)
@@ -163,23 +207,52 @@ module _ (by_name : RequestsStandByName) (p : Instance) (valid : IsInstance p) w
       by None e told = absurd (none_some m told)
       by (Some (Single s)) e told = absurd (none_some m told)
       by (Some (Pair a b)) e told = elim (eqb_tells a.number n) [
-        | inl t ↦ (a, b, (by_name p n (Pair a b) valid e, inl (t.1, same_Some _ _ (let h : cond (eqb a.number n) (Some b.number) (cond (eqb b.number n) (Some a.number) None) ≡ Some m = told in rw (t.0) at h))))
+        | inl t ↦ (
+          a,
+          b,
+          (
+            by_name p n (Pair a b) valid e,
+            inl (
+              t.1,
+              same_Some _ _ (let h : cond (eqb a.number n) (Some b.number) (cond (eqb b.number n) (Some a.number) None) ≡ Some m = told in rw (t.0) at h),
+            ),
+          ),
+        )
         | inr t ↦ elim (eqb_tells b.number n) [
-          | inl u ↦ (a, b, (by_name p n (Pair a b) valid e, inr (u.1, same_Some _ _ (let h : cond (eqb a.number n) (Some b.number) (cond (eqb b.number n) (Some a.number) None) ≡ Some m = told in rw (t.0, u.0) at h))))
-          | inr u ↦ absurd (none_some m (let h : cond (eqb a.number n) (Some b.number) (cond (eqb b.number n) (Some a.number) None) ≡ Some m = told in rw (t.0, u.0) at h))
+          | inl u ↦ (
+            a,
+            b,
+            (
+              by_name p n (Pair a b) valid e,
+              inr (
+                u.1,
+                same_Some _ _
+                    (let h : cond (eqb a.number n) (Some b.number) (cond (eqb b.number n) (Some a.number) None) ≡ Some m = told in rw (t.0, u.0) at h),
+              ),
+            ),
+          )
+          | inr u ↦ absurd
+              (none_some m (let h : cond (eqb a.number n) (Some b.number) (cond (eqb b.number n) (Some a.number) None) ≡ Some m = told in rw (t.0, u.0) at h))
         ]
       ]
 
   pickup_pair : (n m : ℕ) → pickup_at p n ≡ Some m → (a : Stop) × (b : Stop) × IsNamed p a.number (Pair a b) × (b.number ≡ n) × (a.number ≡ m)
   pickup_pair n m is = by (request_with p n) refl is
     where
-      by : (o : Option Request) → request_with p n ≡ o → option_and_then (pickup_in n) o ≡ Some m → (a : Stop) × (b : Stop) × IsNamed p a.number (Pair a b) × (b.number ≡ n) × (a.number ≡ m)
+      by : (o : Option Request) → request_with p n ≡ o → option_and_then (pickup_in n) o ≡ Some m
+          → (a : Stop) × (b : Stop) × IsNamed p a.number (Pair a b) × (b.number ≡ n) × (a.number ≡ m)
       by None e told = absurd (none_some m told)
       by (Some (Single s)) e told = absurd (none_some m told)
       by (Some (Pair a b)) e told = elim (eqb_tells a.number n) [
         | inl t ↦ absurd (none_some m (let h : cond (eqb a.number n) None (cond (eqb b.number n) (Some a.number) None) ≡ Some m = told in rw (t.0) at h))
         | inr t ↦ elim (eqb_tells b.number n) [
-          | inl u ↦ (a, b, by_name p n (Pair a b) valid e, u.1, same_Some _ _ (let h : cond (eqb a.number n) None (cond (eqb b.number n) (Some a.number) None) ≡ Some m = told in rw (t.0, u.0) at h))
+          | inl u ↦ (
+            a,
+            b,
+            by_name p n (Pair a b) valid e,
+            u.1,
+            same_Some _ _ (let h : cond (eqb a.number n) None (cond (eqb b.number n) (Some a.number) None) ≡ Some m = told in rw (t.0, u.0) at h),
+          )
           | inr u ↦ absurd (none_some m (let h : cond (eqb a.number n) None (cond (eqb b.number n) (Some a.number) None) ≡ Some m = told in rw (t.0, u.0) at h))
         ]
       ]

@@ -22,7 +22,8 @@ module _ (test : ℕ → List ℕ → ℕ → ℕ → Option ℕ) (routes : List
   told_somewhere : (r i s : ℕ) (t : Spot test routes r i s) → first_place (test r (t.0)) 0 (t.0) ≡ None → ⊥
   told_somewhere r i s t none = none_some s (sym (told_nothing (test r t.0) t.0 none i t.1 t.3) ∙ t.4)
 
-  pub spot_found : (f : Fault) → first_route (told_by test) 0 routes ≡ Some f → Spot test routes f.route f.place f.stop × ((r i s : ℕ) → Spot test routes r i s → IsNotAfter f.route f.place f.stop r i s)
+  pub spot_found : (f : Fault) → first_route (told_by test) 0 routes ≡ Some f
+      → Spot test routes f.route f.place f.stop × ((r i s : ℕ) → Spot test routes r i s → IsNotAfter f.route f.place f.stop r i s)
   spot_found f is =
       let first = fault_found (told_by test) routes f is in
       let at = first.place in
@@ -31,11 +32,16 @@ module _ (test : ℕ → List ℕ → ℕ → ℕ → Option ℕ) (routes : List
       let at' = told.place in
       let index' : told.index ≡ f.place = omega arith in
       let stands : slice_get routes f.route ≡ Some (first.item) = subst (λ r. slice_get routes r ≡ Some (first.item)) index (first.stands) in
-      let stands' : slice_get (first.item) f.place ≡ Some (told.item) = subst (λ i. slice_get (first.item) i ≡ Some (told.item)) index' (told.stands) in
-      ((first.item, told.item, stands, stands', told.told), λ r i s t. least first told index index' stands stands' r i s t (first_place (test r t.0) 0 t.0) refl)
+      let stands' : slice_get (first.item) f.place ≡ Some (told.item) = subst (λ i. slice_get (first.item) i ≡ Some (told.item)) index' (told.stands) in (
+        (first.item, told.item, stands, stands', told.told),
+        λ r i s t. least first told index index' stands stands' r i s t (first_place (test r t.0) 0 t.0) refl,
+      )
     where
-      least : (first : IsFirst (told_by test) 0 routes (f.route, record { place = f.place; stop = f.stop })) (told : IsFirst (test f.route (first.item)) 0 (first.item) (f.place, f.stop)) → first.index ≡ f.route → told.index ≡ f.place
-          → slice_get routes f.route ≡ Some (first.item) → slice_get (first.item) f.place ≡ Some (told.item) → (r i s : ℕ) (t : Spot test routes r i s) (o : Option Told) → first_place (test r t.0) 0 t.0 ≡ o → IsNotAfter f.route f.place f.stop r i s
+      least : (first : IsFirst (told_by test) 0 routes (f.route, record { place = f.place; stop = f.stop }))
+          (told : IsFirst (test f.route (first.item)) 0 (first.item) (f.place, f.stop))
+          → first.index ≡ f.route → told.index ≡ f.place
+          → slice_get routes f.route ≡ Some (first.item) → slice_get (first.item) f.place ≡ Some (told.item)
+          → (r i s : ℕ) (t : Spot test routes r i s) (o : Option Told) → first_place (test r t.0) 0 t.0 ≡ o → IsNotAfter f.route f.place f.stop r i s
       least first told index index' stands stands' r i s t None e = absurd (told_somewhere r i s t e)
       least first told index index' stands stands' r i s t (Some u) e =
           let le = least_at (told_by test) routes (f.route, record { place = f.place; stop = f.stop }) first r t.0 u t.2 e in
@@ -45,14 +51,17 @@ module _ (test : ℕ → List ℕ → ℕ → ℕ → Option ℕ) (routes : List
                 let here : f.route ≡ r = omega arith in
                 let same : first.item ≡ t.0 = same_Some _ _ (sym (subst (λ q. slice_get routes q ≡ Some (first.item)) here stands) ∙ t.2) in
                 let on : slice_get (first.item) i ≡ Some t.1 = subst (λ (q : List ℕ). slice_get q i ≡ Some t.1) (sym same) t.3 in
-                let says : test f.route (first.item) i t.1 ≡ Some s = subst (λ q. test q (first.item) i t.1 ≡ Some s) (sym here) (subst (λ (q : List ℕ). test r q i t.1 ≡ Some s) (sym same) t.4) in
+                let says : test f.route (first.item) i t.1 ≡ Some s =
+                subst (λ q. test q (first.item) i t.1 ≡ Some s) (sym here) (subst (λ (q : List ℕ). test r q i t.1 ≡ Some s) (sym same) t.4) in
                 let le' = least_at (test f.route (first.item)) (first.item) (f.place, f.stop) told i t.1 s on says in
                 elim (cases_lt f.place i) as (λ _. IsNotAfter f.route f.place f.stop r i s) [
                   | inl lt ↦ inr (here, inl lt)
                   | inr ge' ↦ (
                       let here' : f.place ≡ i = omega arith in
                       let same' : told.item ≡ t.1 = same_Some _ _ (sym (subst (λ q. slice_get (first.item) q ≡ Some (told.item)) here' stands') ∙ on) in
-                      let says' : test f.route (first.item) f.place (told.item) ≡ Some s = subst (λ q. test f.route (first.item) q (told.item) ≡ Some s) (sym here') (subst (λ q. test f.route (first.item) i q ≡ Some s) (sym same') says) in
+                      let says' : test f.route (first.item) f.place (told.item) ≡ Some s =
+                      subst (λ q. test f.route (first.item) q (told.item) ≡ Some s) (sym here')
+                      (subst (λ q. test f.route (first.item) i q ≡ Some s) (sym same') says) in
                       let stop : f.stop ≡ s = same_Some _ _ (sym (told.told) ∙ says') in
                       let le : f.stop ≤ s = omega arith in
                       inr (here, inr (here', le)))
@@ -69,10 +78,12 @@ pub record IsTestOf (B : ℕ → ℕ → ℕ → Type 0) (test : ℕ → List �
   pub to : (r i s : ℕ) → Spot test routes r i s → B (suc r) (suc i) s
   pub from : (r i s : ℕ) → B r i s → (q : ℕ) × (j : ℕ) × (r ≡ suc q) × (i ≡ suc j) × Spot test routes q j s
 
-pub rule_nothing : (B : ℕ → ℕ → ℕ → Type 0) (test : ℕ → List ℕ → ℕ → ℕ → Option ℕ) (routes : List (List ℕ)) → IsTestOf B test routes → first_route (told_by test) 0 routes ≡ None → (r i s : ℕ) → B r i s → ⊥
+pub rule_nothing : (B : ℕ → ℕ → ℕ → Type 0) (test : ℕ → List ℕ → ℕ → ℕ → Option ℕ) (routes : List (List ℕ)) → IsTestOf B test routes
+    → first_route (told_by test) 0 routes ≡ None → (r i s : ℕ) → B r i s → ⊥
 rule_nothing B test routes rule is r i s b = let t = rule.from r i s b in spot_nothing test routes is t.0 t.1 s t.4
 
-pub rule_found : (B : ℕ → ℕ → ℕ → Type 0) (test : ℕ → List ℕ → ℕ → ℕ → Option ℕ) (routes : List (List ℕ)) → IsTestOf B test routes → (f : Fault) → first_route (told_by test) 0 routes ≡ Some f → IsLeastOf B (suc f.route) (suc f.place) f.stop
+pub rule_found : (B : ℕ → ℕ → ℕ → Type 0) (test : ℕ → List ℕ → ℕ → ℕ → Option ℕ) (routes : List (List ℕ)) → IsTestOf B test routes → (f : Fault)
+    → first_route (told_by test) 0 routes ≡ Some f → IsLeastOf B (suc f.route) (suc f.place) f.stop
 rule_found B test routes rule f is =
     let found = spot_found test routes f is in
     record {

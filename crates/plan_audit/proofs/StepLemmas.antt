@@ -5,7 +5,22 @@ use Rattle.plan_types.specs.Laws.{StopsAreBelowNext}
 use Rattle.plan_types.specs.declared.requests.Kind.TheVariants.{LiLim, Vrp}
 use Rattle.route_sched.specs.Route.{AreLiveOnce, IsPlan}
 use Rattle.plan_audit.specs.Rules.{IsNotAfter, IsUnknown, IsRepeated, IsMissing, IsSplit, IsDeliveredFirst, IsOverloaded, IsLate, IsLateReturn}
-use Rattle.plan_audit.specs.Finding.{first_route, told_by, unknown_at, repeated_at, missing_at, split_at, delivered_at, visit_told, is_overloaded, is_late, return_told, first_beyond, unserved_of, first_off_pin}
+use Rattle.plan_audit.specs.Finding.{
+  first_route,
+  told_by,
+  unknown_at,
+  repeated_at,
+  missing_at,
+  split_at,
+  delivered_at,
+  visit_told,
+  is_overloaded,
+  is_late,
+  return_told,
+  first_beyond,
+  unserved_of,
+  first_off_pin,
+}
 use Rattle.plan_types.specs.declared.plans.Cost.{Cost}
 use Rattle.route_sched.specs.Cost.{total_length}
 use Rattle.plan_audit.proofs.FleetLemmas.{fleet_nothing, fleet_found, used-most, length-take-most}
@@ -26,9 +41,12 @@ use Rattle.plan_audit.proofs.VerdictLemmas.{broken_verdict, KeepsBelow, Keeps, k
 abbrev pub fault_verdict : Rule → Fault → Verdict
 fault_verdict k f = Broken (rule_number k) (f.route + 1) (f.place + 1) f.stop
 
-pub broken_step : (low high : ℕ) (p : Instance) (s : Subject) (k : Rule) (f : Fault) (v : Verdict) → v ≡ fault_verdict k f → low ≤ rule_number k → rule_number k ≤ high → KeepsBelow low (rule_number k) p s
+pub broken_step : (low high : ℕ) (p : Instance) (s : Subject) (k : Rule) (f : Fault) (v : Verdict) → v ≡ fault_verdict k f → low ≤ rule_number k
+    → rule_number k ≤ high → KeepsBelow low (rule_number k) p s
     → IsLeastOf (Breaks p s k) (suc f.route) (suc f.place) f.stop → IsBrokenOver low high p s v
-broken_step low high p s k f v is from to kept one = subst (IsBrokenOver low high p s) (sym is) (told_at low high p s k f.route f.place f.stop (least_broken p s low high k (suc f.route) (suc f.place) f.stop from to kept one))
+broken_step low high p s k f v is from to kept one =
+    subst (IsBrokenOver low high p s) (sym is)
+    (told_at low high p s k f.route f.place f.stop (least_broken p s low high k (suc f.route) (suc f.place) f.stop from to kept one))
 
 -- the rules on where stops stand
 module _ (p : Instance) (routes : List (List ℕ)) where
@@ -63,14 +81,17 @@ module _ (p : Instance) (routes : List (List ℕ)) where
   plan_where a b = is_plan p routes (known a) (once b)
 
 -- a rule on the routes is one on the subject
-least_of : (s : Subject) (routes : List (List ℕ)) → routes_of s ≡ routes → (B : List (List ℕ) → ℕ → ℕ → ℕ → Type 0) (r i n : ℕ) → IsLeastOf (B routes) r i n → IsLeastOf (B (routes_of s)) r i n
+least_of : (s : Subject) (routes : List (List ℕ)) → routes_of s ≡ routes → (B : List (List ℕ) → ℕ → ℕ → ℕ → Type 0) (r i n : ℕ) → IsLeastOf (B routes) r i n
+    → IsLeastOf (B (routes_of s)) r i n
 least_of s routes is B r i n one = subst (λ (l : List (List ℕ)). IsLeastOf (B l) r i n) (sym is) one
 
-pub none_of : (s : Subject) (routes : List (List ℕ)) → routes_of s ≡ routes → (B : List (List ℕ) → ℕ → ℕ → ℕ → Type 0) → ((r i n : ℕ) → B routes r i n → ⊥) → (r i n : ℕ) → B (routes_of s) r i n → ⊥
+pub none_of : (s : Subject) (routes : List (List ℕ)) → routes_of s ≡ routes → (B : List (List ℕ) → ℕ → ℕ → ℕ → Type 0) → ((r i n : ℕ) → B routes r i n → ⊥)
+    → (r i n : ℕ) → B (routes_of s) r i n → ⊥
 none_of s routes is B none r i n b = none r i n (subst (λ (l : List (List ℕ)). B l r i n) is b)
 
 -- what they tell of a subject with these routes, of which u is the first request that must be served and is not
-module _ (p : Instance) (routes : List (List ℕ)) (valid : IsInstance p) (s : Subject) (is : routes_of s ≡ routes) (u : Option ℕ) (asked : u ≡ unserved_of p s) where
+module _ (p : Instance) (routes : List (List ℕ)) (valid : IsInstance p) (s : Subject) (is : routes_of s ≡ routes) (u : Option ℕ)
+    (asked : u ≡ unserved_of p s) where
   after_unknown : NoneUnknown p routes → KeepsBelow 1 2 p s
   after_unknown a = keeps_more p s 1 UnknownStop (keeps_none p s 1) (none_of s routes is (IsUnknown p) (known p routes a))
 
@@ -85,47 +106,57 @@ module _ (p : Instance) (routes : List (List ℕ)) (valid : IsInstance p) (s : S
   after_split : NoneUnknown p routes → NoneRepeated p routes → u ≡ None → NoneMissing p routes → NoneSplit p routes → KeepsBelow 1 5 p s
   after_split a b none c d = keeps_more p s 1 SplitPair (after_missing a b none c) (none_of s routes is (IsSplit p) (whole p routes b d))
 
-  pub unknown_step : (f : Fault) (v : Verdict) → v ≡ fault_verdict UnknownStop f → first_route (told_by (λ _ _ _ n. unknown_at p routes n)) 0 routes ≡ Some f → IsBrokenOver 1 5 p s v
+  pub unknown_step : (f : Fault) (v : Verdict) → v ≡ fault_verdict UnknownStop f → first_route (told_by (λ _ _ _ n. unknown_at p routes n)) 0 routes ≡ Some f
+      → IsBrokenOver 1 5 p s v
   unknown_step f v eq at =
       broken_step 1 5 p s UnknownStop f v eq (omega arith) (omega arith) (keeps_none p s 1)
       (least_of s routes is (IsUnknown p) (suc f.route) (suc f.place) f.stop (rule_found (IsUnknown p routes) _ routes (unknown_rule p routes) f at))
 
-  pub repeated_step : NoneUnknown p routes → (f : Fault) (v : Verdict) → v ≡ fault_verdict Twice f → first_route (told_by (λ r _ i n. repeated_at p routes r i n)) 0 routes ≡ Some f → IsBrokenOver 1 5 p s v
+  pub repeated_step : NoneUnknown p routes → (f : Fault) (v : Verdict) → v ≡ fault_verdict Twice f
+      → first_route (told_by (λ r _ i n. repeated_at p routes r i n)) 0 routes ≡ Some f → IsBrokenOver 1 5 p s v
   repeated_step a f v eq at =
       broken_step 1 5 p s Twice f v eq (omega arith) (omega arith) (after_unknown a)
       (least_of s routes is (IsRepeated p) (suc f.route) (suc f.place) f.stop (rule_found (IsRepeated p routes) _ routes (repeated_rule p routes) f at))
 
-  pub unserved_step : NoneUnknown p routes → NoneRepeated p routes → (n : ℕ) (v : Verdict) → v ≡ Broken (rule_number Missing) 0 0 n → u ≡ Some n → IsBrokenOver 1 5 p s v
+  pub unserved_step : NoneUnknown p routes → NoneRepeated p routes → (n : ℕ) (v : Verdict) → v ≡ Broken (rule_number Missing) 0 0 n → u ≡ Some n
+      → IsBrokenOver 1 5 p s v
   unserved_step a b n v eq at =
       subst (IsBrokenOver 1 5 p s) (sym eq)
       (Missing, refl, least_broken p s 1 5 Missing 0 0 n (omega arith) (omega arith) (after_repeated a b) (unserved_least p valid s u asked n at))
 
-  pub missing_step : NoneUnknown p routes → NoneRepeated p routes → u ≡ None → (f : Fault) (v : Verdict) → v ≡ fault_verdict Missing f → first_route (told_by (λ _ _ _ n. missing_at p routes n)) 0 routes ≡ Some f → IsBrokenOver 1 5 p s v
+  pub missing_step : NoneUnknown p routes → NoneRepeated p routes → u ≡ None → (f : Fault) (v : Verdict) → v ≡ fault_verdict Missing f
+      → first_route (told_by (λ _ _ _ n. missing_at p routes n)) 0 routes ≡ Some f → IsBrokenOver 1 5 p s v
   missing_step a b none f v eq at =
       broken_step 1 5 p s Missing f v eq (omega arith) (omega arith) (after_repeated a b)
       (missing_least p s u asked none (suc f.route) (suc f.place) f.stop
       (least_of s routes is (IsMissing p) (suc f.route) (suc f.place) f.stop (rule_found (IsMissing p routes) _ routes (missing_rule p routes) f at)))
 
-  pub split_step : NoneUnknown p routes → NoneRepeated p routes → u ≡ None → NoneMissing p routes → (f : Fault) (v : Verdict) → v ≡ fault_verdict SplitPair f → first_route (told_by (λ r _ _ n. split_at p routes r n)) 0 routes ≡ Some f → IsBrokenOver 1 5 p s v
+  pub split_step : NoneUnknown p routes → NoneRepeated p routes → u ≡ None → NoneMissing p routes → (f : Fault) (v : Verdict) → v ≡ fault_verdict SplitPair f
+      → first_route (told_by (λ r _ _ n. split_at p routes r n)) 0 routes ≡ Some f → IsBrokenOver 1 5 p s v
   split_step a b none c f v eq at =
       broken_step 1 5 p s SplitPair f v eq (omega arith) (omega arith) (after_missing a b none c)
-      (least_of s routes is (IsSplit p) (suc f.route) (suc f.place) f.stop (rule_found (IsSplit p routes) _ routes (split_rule p routes (once p routes b)) f at))
+      (least_of s routes is (IsSplit p) (suc f.route) (suc f.place) f.stop
+      (rule_found (IsSplit p routes) _ routes (split_rule p routes (once p routes b)) f at))
 
-  pub delivered_step : NoneUnknown p routes → NoneRepeated p routes → u ≡ None → NoneMissing p routes → NoneSplit p routes → (f : Fault) (v : Verdict) → v ≡ fault_verdict DeliveryFirst f → first_route (told_by (λ _ _ i n. delivered_at p routes i n)) 0 routes ≡ Some f → IsBrokenOver 1 5 p s v
+  pub delivered_step : NoneUnknown p routes → NoneRepeated p routes → u ≡ None → NoneMissing p routes → NoneSplit p routes → (f : Fault) (v : Verdict)
+      → v ≡ fault_verdict DeliveryFirst f → first_route (told_by (λ _ _ i n. delivered_at p routes i n)) 0 routes ≡ Some f → IsBrokenOver 1 5 p s v
   delivered_step a b none c d f v eq at =
       broken_step 1 5 p s DeliveryFirst f v eq (omega arith) (omega arith) (after_split a b none c d)
       (least_of s routes is (IsDeliveredFirst p) (suc f.route) (suc f.place) f.stop
       (rule_found (IsDeliveredFirst p routes) _ routes (delivered_rule p routes (once p routes b) (whole p routes b d)) f at))
 
-  pub placed_step : NoneUnknown p routes → NoneRepeated p routes → u ≡ None → NoneMissing p routes → NoneSplit p routes → NoneDelivered p routes → KeepsRules 1 5 p s
+  pub placed_step : NoneUnknown p routes → NoneRepeated p routes → u ≡ None → NoneMissing p routes → NoneSplit p routes → NoneDelivered p routes
+      → KeepsRules 1 5 p s
   placed_step a b none c d e =
       keeps_rules p s 1 5
       (keeps_more p s 1 DeliveryFirst (after_split a b none c d)
-      (none_of s routes is (IsDeliveredFirst p) (rule_nothing (IsDeliveredFirst p routes) _ routes (delivered_rule p routes (once p routes b) (whole p routes b d)) e)))
+      (none_of s routes is (IsDeliveredFirst p)
+      (rule_nothing (IsDeliveredFirst p routes) _ routes (delivered_rule p routes (once p routes b) (whole p routes b d)) e)))
 
 -- where the verdict is above the second rule the stops are live and stand once
 pub live_passing : (p : Instance) (s : Subject) (cost : Cost) → IsVerdict p s (Pass cost) → All (AreLiveOnce p) (routes_of s)
-live_passing p s cost is = live_routes p (routes_of s) (λ r i n b. is.0 UnknownStop r i n (omega arith) (omega arith) b) (λ r i n b. is.0 Twice r i n (omega arith) (omega arith) b)
+live_passing p s cost is =
+    live_routes p (routes_of s) (λ r i n b. is.0 UnknownStop r i n (omega arith) (omega arith) b) (λ r i n b. is.0 Twice r i n (omega arith) (omega arith) b)
 
 pub live_above : (p : Instance) (s : Subject) (rule r i n : ℕ) → IsVerdict p s (Broken rule r i n) → 2 < rule → All (AreLiveOnce p) (routes_of s)
 live_above p s rule r i n is above =
@@ -137,7 +168,8 @@ live_above p s rule r i n is above =
 
 -- where those are kept the routes are a plan
 pub plan_from : (p : Instance) (s : Subject) → KeepsRules 1 8 p s → IsPlan p (routes_of s)
-plan_from p s kept = is_plan p (routes_of s) (λ r i n b. kept UnknownStop r i n (omega arith) (omega arith) b) (λ r i n b. kept Twice r i n (omega arith) (omega arith) b)
+plan_from p s kept =
+    is_plan p (routes_of s) (λ r i n b. kept UnknownStop r i n (omega arith) (omega arith) b) (λ r i n b. kept Twice r i n (omega arith) (omega arith) b)
 
 -- the rules on loads and times
 module _ (p : Instance) (routes : List (List ℕ)) (s : Subject) (is : routes_of s ≡ routes) where
@@ -151,22 +183,27 @@ module _ (p : Instance) (routes : List (List ℕ)) (s : Subject) (is : routes_of
   NoneLateReturn = first_route (λ _ route. return_told p route) 0 routes ≡ None
 
   after_load : NoneOverloaded → KeepsBelow 6 7 p s
-  after_load a = keeps_more p s 6 Load (keeps_none p s 6) (none_of s routes is (IsOverloaded p) (rule_nothing (IsOverloaded p routes) _ routes (load_rule p routes) a))
+  after_load a =
+      keeps_more p s 6 Load (keeps_none p s 6) (none_of s routes is (IsOverloaded p) (rule_nothing (IsOverloaded p routes) _ routes (load_rule p routes) a))
 
   after_late : p.kind ≡ LiLim → NoneOverloaded → NoneLate → KeepsBelow 6 8 p s
-  after_late kind a b = keeps_more p s 6 Late (after_load a) (none_of s routes is (IsLate p) (rule_nothing (IsLate p routes) _ routes (late_rule p routes kind) b))
+  after_late kind a b =
+      keeps_more p s 6 Late (after_load a) (none_of s routes is (IsLate p) (rule_nothing (IsLate p routes) _ routes (late_rule p routes kind) b))
 
-  pub load_step : (f : Fault) (v : Verdict) → v ≡ fault_verdict Load f → first_route (told_by (λ _ route i n. visit_told p (is_overloaded p) route i n)) 0 routes ≡ Some f → IsBrokenOver 6 8 p s v
+  pub load_step : (f : Fault) (v : Verdict) → v ≡ fault_verdict Load f
+      → first_route (told_by (λ _ route i n. visit_told p (is_overloaded p) route i n)) 0 routes ≡ Some f → IsBrokenOver 6 8 p s v
   load_step f v eq at =
       broken_step 6 8 p s Load f v eq (omega arith) (omega arith) (keeps_none p s 6)
       (least_of s routes is (IsOverloaded p) (suc f.route) (suc f.place) f.stop (rule_found (IsOverloaded p routes) _ routes (load_rule p routes) f at))
 
-  pub late_step : p.kind ≡ LiLim → NoneOverloaded → (f : Fault) (v : Verdict) → v ≡ fault_verdict Late f → first_route (told_by (λ _ route i n. visit_told p is_late route i n)) 0 routes ≡ Some f → IsBrokenOver 6 8 p s v
+  pub late_step : p.kind ≡ LiLim → NoneOverloaded → (f : Fault) (v : Verdict) → v ≡ fault_verdict Late f
+      → first_route (told_by (λ _ route i n. visit_told p is_late route i n)) 0 routes ≡ Some f → IsBrokenOver 6 8 p s v
   late_step kind a f v eq at =
       broken_step 6 8 p s Late f v eq (omega arith) (omega arith) (after_load a)
       (least_of s routes is (IsLate p) (suc f.route) (suc f.place) f.stop (rule_found (IsLate p routes) _ routes (late_rule p routes kind) f at))
 
-  pub return_step : p.kind ≡ LiLim → NoneOverloaded → NoneLate → (f : Fault) (v : Verdict) → v ≡ fault_verdict LateReturn f → first_route (λ _ route. return_told p route) 0 routes ≡ Some f → IsBrokenOver 6 8 p s v
+  pub return_step : p.kind ≡ LiLim → NoneOverloaded → NoneLate → (f : Fault) (v : Verdict) → v ≡ fault_verdict LateReturn f
+      → first_route (λ _ route. return_told p route) 0 routes ≡ Some f → IsBrokenOver 6 8 p s v
   return_step kind a b f v eq at =
       broken_step 6 8 p s LateReturn f v eq (omega arith) (omega arith) (after_late kind a b)
       (least_of s routes is (IsLateReturn p) (suc f.route) (suc f.place) f.stop (late_return_found p routes kind f at))
@@ -195,10 +232,14 @@ module _ (p : Instance) (routes : List (List ℕ)) (cost : ℕ) (kept : KeepsRul
   after_fleet : first_beyond p.fleet 0 routes ≡ None → KeepsBelow 1 10 p (printed routes cost)
   after_fleet a = keeps_more p (printed routes cost) 1 Fleet (within 8 p (printed routes cost) kept) (fleet_nothing p routes a)
 
-  pub fleet_step : (m : ℕ) (v : Verdict) → v ≡ Broken (rule_number Fleet) (m + 1) 0 0 → first_beyond p.fleet 0 routes ≡ Some m → IsVerdictOver 1 10 p (printed routes cost) v
+  pub fleet_step : (m : ℕ) (v : Verdict) → v ≡ Broken (rule_number Fleet) (m + 1) 0 0 → first_beyond p.fleet 0 routes ≡ Some m
+      → IsVerdictOver 1 10 p (printed routes cost) v
   fleet_step m v is at =
-      let least = least_broken p (printed routes cost) 1 10 Fleet (suc m) 0 0 (omega arith) (omega arith) (within 8 p (printed routes cost) kept) (fleet_found p routes m at) in
-      subst (IsVerdictOver 1 10 p (printed routes cost)) (sym is) (Fleet, refl, subst (λ r. IsLeastBroken 1 10 p (printed routes cost) Fleet r 0 0) (sym (add-one m)) least)
+      let least =
+      least_broken p (printed routes cost) 1 10 Fleet (suc m) 0 0 (omega arith) (omega arith) (within 8 p (printed routes cost) kept)
+      (fleet_found p routes m at) in
+      subst (IsVerdictOver 1 10 p (printed routes cost)) (sym is)
+      (Fleet, refl, subst (λ r. IsLeastBroken 1 10 p (printed routes cost) Fleet r 0 0) (sym (add-one m)) least)
 
   -- a printed solution has no pins
   pub fleet_kept : first_beyond p.fleet 0 routes ≡ None → KeepsRules 1 10 p (printed routes cost)
@@ -220,7 +261,8 @@ module _ (p : Instance) (routes : List (List ℕ)) (cost : ℕ) (kept : KeepsRul
       keeps_rules p (printed routes cost) 1 11
       (keeps_more p (printed routes cost) 1 PrintedCost (within 10 p (printed routes cost) kept) (λ r i n b. b.2 same))
 
-pub pass_step : (p : Instance) (routes : List (List ℕ)) (cost : ℕ) → KeepsRules 1 8 p (printed routes cost) → first_beyond p.fleet 0 routes ≡ None → cost ≡ total_length p routes → KeepsRules 1 11 p (printed routes cost)
+pub pass_step : (p : Instance) (routes : List (List ℕ)) (cost : ℕ) → KeepsRules 1 8 p (printed routes cost) → first_beyond p.fleet 0 routes ≡ None
+    → cost ≡ total_length p routes → KeepsRules 1 11 p (printed routes cost)
 pass_step p routes cost kept a = true_cost_step p routes cost (fleet_kept p routes cost kept a)
 
 -- those of a plan with its pins
@@ -246,7 +288,8 @@ module _ (p : Instance) (routes pins : List (List ℕ)) (kept : KeepsRules 1 8 p
   after_length : length routes ≡ p.fleet → KeepsBelow 1 10 p (planned routes pins)
   after_length same = keeps_more p (planned routes pins) 1 Fleet (within 8 p (planned routes pins) kept) (within_fleet same)
 
-  pub pin_step : length routes ≡ p.fleet → (f : Fault) (v : Verdict) → v ≡ fault_verdict Pin f → first_off_pin routes pins ≡ Some f → IsVerdict p (planned routes pins) v
+  pub pin_step : length routes ≡ p.fleet → (f : Fault) (v : Verdict) → v ≡ fault_verdict Pin f → first_off_pin routes pins ≡ Some f
+      → IsVerdict p (planned routes pins) v
   pin_step same f v is at =
       broken_verdict p (planned routes pins) 1 11 v
       (broken_step 1 11 p (planned routes pins) Pin f v is (omega arith) (omega arith) (after_length same) (pin_found routes pins f at))
@@ -254,4 +297,5 @@ module _ (p : Instance) (routes pins : List (List ℕ)) (kept : KeepsRules 1 8 p
   pub planned_step : length routes ≡ p.fleet → first_off_pin routes pins ≡ None → KeepsRules 1 11 p (planned routes pins)
   planned_step same none =
       keeps_rules p (planned routes pins) 1 11
-      (keeps_more p (planned routes pins) 1 PrintedCost (keeps_more p (planned routes pins) 1 Pin (after_length same) (pin_nothing routes pins none)) (λ r i n b. b))
+      (keeps_more p (planned routes pins) 1 PrintedCost (keeps_more p (planned routes pins) 1 Pin (after_length same) (pin_nothing routes pins none))
+      (λ r i n b. b))

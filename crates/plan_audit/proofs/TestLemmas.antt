@@ -1,5 +1,42 @@
 -- The test of a route says that it is feasible alone.
-use Rattle.std.proofs.Common.{◌≡◌, ℕ, zero, suc, ◌+◌, ◌<◌, ◌≤◌, Bool, true, false, not, ◌&&◌, ◌||◌, nat_le, int_lt, pos, ◌<ℤ◌, List, [], ◌∷◌, length, Option, Some, None, slice_get, refl, sym, ap, subst, ◌∙◌, inl, inr, arith, eqb, nat_eq, T}
+use Rattle.std.proofs.Common.{
+  ◌≡◌,
+  ℕ,
+  zero,
+  suc,
+  ◌+◌,
+  ◌<◌,
+  ◌≤◌,
+  Bool,
+  true,
+  false,
+  not,
+  ◌&&◌,
+  ◌||◌,
+  nat_le,
+  int_lt,
+  pos,
+  ◌<ℤ◌,
+  List,
+  [],
+  ◌∷◌,
+  length,
+  Option,
+  Some,
+  None,
+  slice_get,
+  refl,
+  sym,
+  ap,
+  subst,
+  ◌∙◌,
+  inl,
+  inr,
+  arith,
+  eqb,
+  nat_eq,
+  T,
+}
 use Rattle.std.specs.List.{list_all, range_with_len}
 use Rattle.std.specs.Option.{option_map_or}
 use Rattle.std.proofs.lemmas.Bool.{cases_lt, and_parts, and_from, not-true, both_ways, eq-eqb, eqb-true, leb-true, le-leb, or_cases}
@@ -64,7 +101,8 @@ in_only route r (suc j) n t = (j, refl, subst (λ (l : List ℕ). slice_get l j 
 
 module _ (p : Instance) where
   -- a pickup behind its delivery, by places
-  none_behind : (ns : List ℕ) → picks_up_first p ns ≡ true → (i j n m : ℕ) → i < j → slice_get ns i ≡ Some n → slice_get ns j ≡ Some m → pickup_at p n ≡ Some m → ⊥
+  none_behind : (ns : List ℕ) → picks_up_first p ns ≡ true → (i j n m : ℕ) → i < j → slice_get ns i ≡ Some n → slice_get ns j ≡ Some m → pickup_at p n ≡ Some m
+      → ⊥
   none_behind [] first i j n m lt at on is = none_some n at
   none_behind (x ∷ ns) first i zero n m lt at on is = omega arith
   none_behind (x ∷ ns) first zero (suc j) n m lt at on is =
@@ -75,7 +113,8 @@ module _ (p : Instance) where
   none_behind (x ∷ ns) first (suc i) (suc j) n m lt at on is =
       none_behind ns (and_parts (not (option_map_or (has ns) (pickup_at p x) false)) (picks_up_first p ns) first).1 i j n m (omega arith) at on is
 
-  picked_first : (ns : List ℕ) → ((i j n m : ℕ) → i < j → slice_get ns i ≡ Some n → slice_get ns j ≡ Some m → pickup_at p n ≡ Some m → ⊥) → picks_up_first p ns ≡ true
+  picked_first : (ns : List ℕ) → ((i j n m : ℕ) → i < j → slice_get ns i ≡ Some n → slice_get ns j ≡ Some m → pickup_at p n ≡ Some m → ⊥)
+      → picks_up_first p ns ≡ true
   picked_first [] none = refl
   picked_first (x ∷ ns) none =
       and_from (not (option_map_or (has ns) (pickup_at p x) false)) (picks_up_first p ns)
@@ -94,9 +133,12 @@ module _ (p : Instance) where
     -- the other stop of a pair is there, by places
     partner_there : has_whole_pairs p route ≡ true → (j m n : ℕ) → slice_get route j ≡ Some m → partner_at p m ≡ Some n → (k : ℕ) × (slice_get route k ≡ Some n)
     partner_there whole j m n at is =
-        place_of_had route n (ap (λ (o : Option ℕ). option_map_or (has route) o true) (sym is) ∙ all_true (λ n. option_map_or (has route) (partner_at p n) true) route whole j m at)
+        place_of_had route n
+        (ap (λ (o : Option ℕ). option_map_or (has route) o true) (sym is)
+        ∙ all_true (λ n. option_map_or (has route) (partner_at p n) true) route whole j m at)
 
-    whole_pairs : ((j m n : ℕ) → slice_get route j ≡ Some m → partner_at p m ≡ Some n → (StandsSomewhere (route ∷ []) n → ⊥) → ⊥) → has_whole_pairs p route ≡ true
+    whole_pairs : ((j m n : ℕ) → slice_get route j ≡ Some m → partner_at p m ≡ Some n → (StandsSomewhere (route ∷ []) n → ⊥) → ⊥)
+        → has_whole_pairs p route ≡ true
     whole_pairs none = true_all (λ n. option_map_or (has route) (partner_at p n) true) route (λ j m at. by m j at (partner_at p m) refl)
       where
         had : (m j n : ℕ) → slice_get route j ≡ Some m → partner_at p m ≡ Some n → (b : Bool) → has route n ≡ b → b ≡ true
@@ -112,13 +154,16 @@ module _ (p : Instance) where
     not_above kept i n at above =
         let within = stop_within route i n at in
         both_ways (int_lt (pos p.capacity) (load p route i))
-        (not-true (int_lt (pos p.capacity) (load p route i)) (range_true (λ i. not (int_lt (pos p.capacity) (load p route i))) 1 (length route) kept i within.0 (omega arith)))
+        (not-true (int_lt (pos p.capacity) (load p route i))
+        (range_true (λ i. not (int_lt (pos p.capacity) (load p route i))) 1 (length route) kept i within.0 (omega arith)))
         (true_from (int_lt (pos p.capacity) (load p route i)) (above.lt))
 
     not_late : keeps_windows p route ≡ true → (i n : ℕ) → item_at route i ≡ Some n → (place p route i).latest < start p route i → ⊥
     not_late kept i n at late =
         let within = stop_within route i n at in
-        let le = leb-true (start p route i) (place p route i).latest (range_true (λ i. nat_le (start p route i) (place p route i).latest) 1 (length route) kept i within.0 (omega arith)) in
+        let le =
+        leb-true (start p route i) (place p route i).latest
+        (range_true (λ i. nat_le (start p route i) (place p route i).latest) 1 (length route) kept i within.0 (omega arith)) in
         omega arith
 
     not_back_late : is_back_in_time p route ≡ true → (i : ℕ) → 0 < length route → i ≡ length route + 1 → p.depot.latest < start p route i → ⊥
@@ -130,7 +175,8 @@ module _ (p : Instance) where
           omega arith)
     ]
 
-    timely : (kind : Kind) → p.kind ≡ kind → keeps_times p.kind p route ≡ true → kind ≡ LiLim → (keeps_windows p route ≡ true) × (is_back_in_time p route ≡ true)
+    timely : (kind : Kind) → p.kind ≡ kind → keeps_times p.kind p route ≡ true → kind ≡ LiLim
+        → (keeps_windows p route ≡ true) × (is_back_in_time p route ≡ true)
     timely Vrp is kept timed = absurd (let h : Vrp ≡ LiLim = timed in cc)
     timely LiLim is kept timed = and_parts (keeps_windows p route) (is_back_in_time p route) (subst (λ k. keeps_times k p route ≡ true) is kept)
 
@@ -163,9 +209,11 @@ module _ (p : Instance) where
         by Load r i n from to b =
             not_above rest.0 i n (in_route route (λ l. item_at l i ≡ Some n) r b.0 b.1 b.2) (in_route route (λ l. pos p.capacity <ℤ load p l i) r b.0 b.1 b.3)
         by Late r i n from to b =
-            not_late (timely LiLim b.0 rest.1 refl).0 i n (in_route route (λ l. item_at l i ≡ Some n) r b.1.0 b.1.1 b.1.2) (in_route route (λ l. (place p l i).latest < start p l i) r b.1.0 b.1.1 b.1.3)
+            not_late (timely LiLim b.0 rest.1 refl).0 i n (in_route route (λ l. item_at l i ≡ Some n) r b.1.0 b.1.1 b.1.2)
+            (in_route route (λ l. (place p l i).latest < start p l i) r b.1.0 b.1.1 b.1.3)
         by LateReturn r i n from to b =
-            not_back_late (timely LiLim b.0 rest.1 refl).1 i (in_route route (λ l. 0 < length l) r b.1.0 b.1.1 b.1.2) (in_route route (λ l. i ≡ length l + 1) r b.1.0 b.1.1 b.1.3) (in_route route (λ l. p.depot.latest < start p l i) r b.1.0 b.1.1 b.1.5)
+            not_back_late (timely LiLim b.0 rest.1 refl).1 i (in_route route (λ l. 0 < length l) r b.1.0 b.1.1 b.1.2)
+            (in_route route (λ l. i ≡ length l + 1) r b.1.0 b.1.1 b.1.3) (in_route route (λ l. p.depot.latest < start p l i) r b.1.0 b.1.1 b.1.5)
         by _ r i n from to b = omega arith
 
     module _ (kept : IsFeasibleAlone p route) where
@@ -173,17 +221,26 @@ module _ (p : Instance) where
       pairs_kept = whole_pairs (λ j m n at is nowhere. kept Missing 1 (suc j) n (omega arith) (omega arith) (m, (route, refl, at), is, nowhere))
 
       first_kept : picks_up_first p route ≡ true
-      first_kept = picked_first route (λ i j n m lt at on is. kept DeliveryFirst 1 (suc i) n (omega arith) (omega arith) ((route, refl, at), (m, is, (suc j, omega arith, (route, refl, on)))))
+      first_kept =
+          picked_first route
+          (λ i j n m lt at on is. kept DeliveryFirst 1 (suc i) n (omega arith) (omega arith)
+          ((route, refl, at), (m, is, (suc j, omega arith, (route, refl, on)))))
 
       capacity_kept : keeps_capacity p route ≡ true
-      capacity_kept = true_range (λ i. not (int_lt (pos p.capacity) (load p route i))) 1 (length route) (λ i from to. by i from (omega arith) (int_lt (pos p.capacity) (load p route i)) refl)
+      capacity_kept =
+          true_range (λ i. not (int_lt (pos p.capacity) (load p route i))) 1 (length route)
+          (λ i from to. by i from (omega arith) (int_lt (pos p.capacity) (load p route i)) refl)
         where
           by : (i : ℕ) → 1 ≤ i → i ≤ length route → (b : Bool) → int_lt (pos p.capacity) (load p route i) ≡ b → not b ≡ true
           by i from to false e = refl
-          by i from to true e = (let stop = stop_there route i from to in absurd (kept Load 1 i stop.0 (omega arith) (omega arith) (route, refl, stop.1, record { lt = subst T (sym e) tt })))
+          by i from to true e =
+              (let stop = stop_there route i from to in absurd
+              (kept Load 1 i stop.0 (omega arith) (omega arith) (route, refl, stop.1, record { lt = subst T (sym e) tt })))
 
       windows_kept : p.kind ≡ LiLim → keeps_windows p route ≡ true
-      windows_kept kind = true_range (λ i. nat_le (start p route i) (place p route i).latest) 1 (length route) (λ i from to. le-leb (start p route i) (place p route i).latest (by i from (omega arith)))
+      windows_kept kind =
+          true_range (λ i. nat_le (start p route i) (place p route i).latest) 1 (length route)
+          (λ i from to. le-leb (start p route i) (place p route i).latest (by i from (omega arith)))
         where
           by : (i : ℕ) → 1 ≤ i → i ≤ length route → start p route i ≤ (place p route i).latest
           by i from to = elim (cases_lt (place p route i).latest (start p route i)) [

@@ -1,5 +1,38 @@
 -- Each rule on loads and times is the test that the auditor makes.
-use Rattle.std.proofs.Common.{◌≡◌, ℕ, zero, suc, ◌+◌, ◌<◌, Bool, true, false, cond, not, ◌||◌, nat_lt, int_lt, pos, ◌<ℤ◌, List, length, Some, None, slice_get, refl, sym, ap, subst, ◌∙◌, inl, inr, arith, eqb, add-one, T}
+use Rattle.std.proofs.Common.{
+  ◌≡◌,
+  ℕ,
+  zero,
+  suc,
+  ◌+◌,
+  ◌<◌,
+  Bool,
+  true,
+  false,
+  cond,
+  not,
+  ◌||◌,
+  nat_lt,
+  int_lt,
+  pos,
+  ◌<ℤ◌,
+  List,
+  length,
+  Some,
+  None,
+  slice_get,
+  refl,
+  sym,
+  ap,
+  subst,
+  ◌∙◌,
+  inl,
+  inr,
+  arith,
+  eqb,
+  add-one,
+  T,
+}
 use Rattle.std.proofs.lemmas.Bool.{cases_lt, lt-ltb, ltb-true}
 use Rattle.std.proofs.lemmas.Bool.Decides.{eqb_tells}
 use Rattle.std.proofs.lemmas.Option.{same_Some}
@@ -17,13 +50,16 @@ use Rattle.plan_audit.proofs.FirstLemmas.{none_some, fault_found, fault_nothing,
 use Rattle.plan_audit.proofs.SpotLemmas.{Spot, IsTestOf, IsLeastOf}
 
 -- a place of a route, counted from 1, is one counted from 0
-pub standing_in : (routes : List (List ℕ)) (route : List ℕ) (r i n : ℕ) → item_at routes r ≡ Some route → item_at route i ≡ Some n → (q : ℕ) × (j : ℕ) × (r ≡ suc q) × (i ≡ suc j) × (slice_get routes q ≡ Some route) × (slice_get route j ≡ Some n)
+pub standing_in : (routes : List (List ℕ)) (route : List ℕ) (r i n : ℕ) → item_at routes r ≡ Some route → item_at route i ≡ Some n
+    → (q : ℕ) × (j : ℕ) × (r ≡ suc q) × (i ≡ suc j) × (slice_get routes q ≡ Some route) × (slice_get route j ≡ Some n)
 standing_in routes route zero i n at on = absurd (none_some route at)
 standing_in routes route (suc r) zero n at on = absurd (none_some n on)
 standing_in routes route (suc r) (suc i) n at on = (r, i, refl, refl, at, on)
 
 -- a rule on visits, by a fact and the test of it
-module _ (p : Instance) (fails : Visit → Bool) (Fails : List ℕ → ℕ → Type 0) (says : (route : List ℕ) (k : ℕ) → fails (visit_after p route k) ≡ true → Fails route (suc k)) (said : (route : List ℕ) (k : ℕ) → Fails route (suc k) → fails (visit_after p route k) ≡ true) (routes : List (List ℕ)) where
+module _ (p : Instance) (fails : Visit → Bool) (Fails : List ℕ → ℕ → Type 0)
+    (says : (route : List ℕ) (k : ℕ) → fails (visit_after p route k) ≡ true → Fails route (suc k))
+    (said : (route : List ℕ) (k : ℕ) → Fails route (suc k) → fails (visit_after p route k) ≡ true) (routes : List (List ℕ)) where
   visit_broken : ℕ → ℕ → ℕ → Type 0
   visit_broken r i n = (route : List ℕ) × (item_at routes r ≡ Some route) × (item_at route i ≡ Some n) × Fails route i
 
@@ -31,7 +67,8 @@ module _ (p : Instance) (fails : Visit → Bool) (Fails : List ℕ → ℕ → T
   unfolding visit_broken
   visit_rule = record { to = λ r i s t. to r i s t (fails (visit_after p t.0 i)) refl; from = from }
     where
-      to : (r i s : ℕ) (t : Spot (λ _ route i n. visit_told p fails route i n) routes r i s) (b : Bool) → fails (visit_after p (t.0) i) ≡ b → visit_broken (suc r) (suc i) s
+      to : (r i s : ℕ) (t : Spot (λ _ route i n. visit_told p fails route i n) routes r i s) (b : Bool) → fails (visit_after p (t.0) i) ≡ b
+          → visit_broken (suc r) (suc i) s
       to r i s t false e = absurd (none_some s (let h : cond (fails (visit_after p t.0 i)) (Some t.1) None ≡ Some s = t.4 in rw e at h))
       to r i s t true e =
           let same : t.1 ≡ s = same_Some _ _ (let h : cond (fails (visit_after p t.0 i)) (Some t.1) None ≡ Some s = t.4 in rw e at h) in
@@ -51,7 +88,8 @@ unfolding visit_broken
 load_rule p routes =
     visit_rule p (is_overloaded p) (λ route i. pos p.capacity <ℤ load p route i)
     (λ route k h. subst (λ i. pos p.capacity <ℤ load p route i) (add-one k) (record { lt = subst T (sym h) tt }))
-    (λ route k h. subst (λ i. int_lt (pos p.capacity) (load p route i) ≡ true) (sym (add-one k)) (true_from (int_lt (pos p.capacity) (load p route (suc k))) (h.lt))) routes
+    (λ route k h. subst (λ i. int_lt (pos p.capacity) (load p route i) ≡ true) (sym (add-one k))
+    (true_from (int_lt (pos p.capacity) (load p route (suc k))) (h.lt))) routes
 
 pub late_rule : (p : Instance) (routes : List (List ℕ)) → p.kind ≡ LiLim → IsTestOf (IsLate p routes) (λ _ route i n. visit_told p is_late route i n) routes
 unfolding visit_broken
@@ -74,17 +112,24 @@ nonzero n h = elim (eqb_tells n 0) [
 ]
 
 -- the first late return
-return_facts : (p : Instance) (route : List ℕ) (t : Told) → return_told p route ≡ Some t → (0 < length route) × (t.place ≡ length route) × (t.stop ≡ 0) × (p.depot.latest < start p route (length route + 1))
+return_facts : (p : Instance) (route : List ℕ) (t : Told) → return_told p route ≡ Some t
+    → (0 < length route) × (t.place ≡ length route) × (t.stop ≡ 0) × (p.depot.latest < start p route (length route + 1))
 return_facts p route t is = by (eqb (length route) 0) refl (nat_lt p.depot.latest (start p route (length route + 1))) refl
   where
-    by : (a : Bool) → eqb (length route) 0 ≡ a → (b : Bool) → nat_lt p.depot.latest (start p route (length route + 1)) ≡ b → (0 < length route) × (t.place ≡ length route) × (t.stop ≡ 0) × (p.depot.latest < start p route (length route + 1))
-    by true ea b eb = absurd (none_some t (let h : cond (eqb (length route) 0 || not (nat_lt p.depot.latest (start p route (length route + 1)))) None (Some (record { place = length route; stop = 0 })) ≡ Some t = is in rw ea at h))
-    by false ea false eb = absurd (none_some t (let h : cond (eqb (length route) 0 || not (nat_lt p.depot.latest (start p route (length route + 1)))) None (Some (record { place = length route; stop = 0 })) ≡ Some t = is in rw (ea, eb) at h))
+    tested : cond (eqb (length route) 0 || not (nat_lt p.depot.latest (start p route (length route + 1)))) None (Some (record { place = length route; stop = 0 }))
+        ≡ Some t
+    tested = is
+
+    by : (a : Bool) → eqb (length route) 0 ≡ a → (b : Bool) → nat_lt p.depot.latest (start p route (length route + 1)) ≡ b
+        → (0 < length route) × (t.place ≡ length route) × (t.stop ≡ 0) × (p.depot.latest < start p route (length route + 1))
+    by true ea b eb = absurd (none_some t (rw ea at tested))
+    by false ea false eb = absurd (none_some t (rw (ea, eb) at tested))
     by false ea true eb =
-        let told : ◌≡◌ {A = Told} (record { place = length route; stop = 0 }) t = same_Some _ _ (let h : cond (eqb (length route) 0 || not (nat_lt p.depot.latest (start p route (length route + 1)))) None (Some (record { place = length route; stop = 0 })) ≡ Some t = is in rw (ea, eb) at h) in
+        let told : ◌≡◌ {A = Told} (record { place = length route; stop = 0 }) t = same_Some _ _ (rw (ea, eb) at tested) in
         (positive (length route) ea, sym (ap (λ (t : Told). t.place) told), sym (ap (λ (t : Told). t.stop) told), ltb-true _ _ eb)
 
-return_tells : (p : Instance) (route : List ℕ) → 0 < length route → p.depot.latest < start p route (length route + 1) → return_told p route ≡ Some (record { place = length route; stop = 0 })
+return_tells : (p : Instance) (route : List ℕ) → 0 < length route → p.depot.latest < start p route (length route + 1)
+    → return_told p route ≡ Some (record { place = length route; stop = 0 })
 return_tells p route some late = rw (nonzero (length route) some, lt-ltb _ _ late) refl
 
 -- where a route counted from 1 is
@@ -92,14 +137,16 @@ pub route_in : (routes : List (List ℕ)) (route : List ℕ) (r : ℕ) → item_
 route_in routes route zero at = absurd (none_some route at)
 route_in routes route (suc r) at = (r, refl, at)
 
-pub late_return_nothing : (p : Instance) (routes : List (List ℕ)) → first_route (λ _ route. return_told p route) 0 routes ≡ None → (r i n : ℕ) → IsLateReturn p routes r i n → ⊥
+pub late_return_nothing : (p : Instance) (routes : List (List ℕ)) → first_route (λ _ route. return_told p route) 0 routes ≡ None → (r i n : ℕ)
+    → IsLateReturn p routes r i n → ⊥
 late_return_nothing p routes is r i n b =
     let route = b.1.0 in
     let at = route_in routes route r b.1.1 in
     let late : p.depot.latest < start p route (length route + 1) = subst (λ i. p.depot.latest < start p route i) b.1.3 b.1.5 in
     none_some _ (sym (fault_nothing (λ _ route. return_told p route) routes is at.0 route at.2) ∙ return_tells p route b.1.2 late)
 
-pub late_return_found : (p : Instance) (routes : List (List ℕ)) → p.kind ≡ LiLim → (f : Fault) → first_route (λ _ route. return_told p route) 0 routes ≡ Some f → IsLeastOf (IsLateReturn p routes) (suc f.route) (suc f.place) f.stop
+pub late_return_found : (p : Instance) (routes : List (List ℕ)) → p.kind ≡ LiLim → (f : Fault) → first_route (λ _ route. return_told p route) 0 routes ≡ Some f
+    → IsLeastOf (IsLateReturn p routes) (suc f.route) (suc f.place) f.stop
 late_return_found p routes kind f is =
     let first = fault_found (λ _ route. return_told p route) routes f is in
     let place = first.place in
@@ -113,7 +160,9 @@ late_return_found p routes kind f is =
           let route = b.1.0 in
           let at = route_in routes route q b.1.1 in
           let late : p.depot.latest < start p route (length route + 1) = subst (λ i. p.depot.latest < start p route i) b.1.3 b.1.5 in
-          let le = least_at (λ _ route. return_told p route) routes (f.route, record { place = f.place; stop = f.stop }) first at.0 route (record { place = length route; stop = 0 }) at.2 (return_tells p route b.1.2 late) in
+          let le =
+          least_at (λ _ route. return_told p route) routes (f.route, record { place = f.place; stop = f.stop }) first at.0 route
+          (record { place = length route; stop = 0 }) at.2 (return_tells p route b.1.2 late) in
           elim (cases_lt f.route at.0) as (λ _. IsNotAfter (suc f.route) (suc f.place) f.stop q j m) [
             | inl lt ↦ (let e = at.1 in inl (omega arith))
             | inr ge ↦ (

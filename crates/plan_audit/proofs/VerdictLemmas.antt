@@ -18,14 +18,20 @@ use Rattle.plan_audit.proofs.ServedLemmas.{unserved_found, unserved_nothing}
 
 -- the rule with a number
 numbered : ℕ → Rule
-numbered n = cond (eqb n 1) UnknownStop (cond (eqb n 2) Twice (cond (eqb n 3) Missing (cond (eqb n 4) SplitPair (cond (eqb n 5) DeliveryFirst (cond (eqb n 6) Load (cond (eqb n 7) Late (cond (eqb n 8) LateReturn (cond (eqb n 9) Fleet (cond (eqb n 10) Pin PrintedCost)))))))))
+numbered n =
+    cond (eqb n 1) UnknownStop
+    (cond (eqb n 2) Twice
+    (cond (eqb n 3) Missing
+    (cond (eqb n 4) SplitPair
+    (cond (eqb n 5) DeliveryFirst
+    (cond (eqb n 6) Load (cond (eqb n 7) Late (cond (eqb n 8) LateReturn (cond (eqb n 9) Fleet (cond (eqb n 10) Pin PrintedCost)))))))))
 
 numbered-is : (k : Rule) → numbered (rule_number k) ≡ k
 unfolding numbered
 numbered-is UnknownStop = refl
 numbered-is _ = refl
 
-same_rule : (k m : Rule) → rule_number k ≡ rule_number m → k ≡ m
+pub same_rule : (k m : Rule) → rule_number k ≡ rule_number m → k ≡ m
 same_rule k m e = sym (numbered-is k) ∙ ap numbered e ∙ numbered-is m
 
 -- no rule from low on and below b is broken
@@ -58,7 +64,8 @@ module _ (p : Instance) (s : Subject) where
     | inr ge ↦ a m r i n from ge x
   ]
 
-  pub least_broken : (low high : ℕ) (k : Rule) (r i n : ℕ) → low ≤ rule_number k → rule_number k ≤ high → KeepsBelow low (rule_number k) p s → IsLeastOf (Breaks p s k) r i n → IsLeastBroken low high p s k r i n
+  pub least_broken : (low high : ℕ) (k : Rule) (r i n : ℕ) → low ≤ rule_number k → rule_number k ≤ high → KeepsBelow low (rule_number k) p s
+      → IsLeastOf (Breaks p s k) r i n → IsLeastBroken low high p s k r i n
   unfolding KeepsBelow
   least_broken low high k r i n from to kept one = record {
     from = from;
@@ -117,14 +124,20 @@ module _ (p : Instance) (s : Subject) where
   broken_verdict low high (Broken rule r i n) b = b
 
   -- what the other rules tell, where the first are kept
-  pub judged_after : (low mid high : ℕ) (o : Result Cost Verdict) → low ≤ mid + 1 → KeepsRules low mid p s → MatchResult o (λ cost. IsVerdictOver (mid + 1) high p s (Pass cost)) (IsBrokenOver (mid + 1) high p s)
+  pub judged_after : (low mid high : ℕ) (o : Result Cost Verdict) → low ≤ mid + 1 → KeepsRules low mid p s
+      → MatchResult o (λ cost. IsVerdictOver (mid + 1) high p s (Pass cost)) (IsBrokenOver (mid + 1) high p s)
       → MatchResult o (λ cost. IsVerdictOver low high p s (Pass cost)) (IsBrokenOver low high p s)
   judged_after low mid high (Ok cost) le kept h = (keeps_both low mid high kept h.0, h.1)
   judged_after low mid high (Err v) le kept h = broken_after low mid high v le kept h
 
 -- what a place counted from 0 tells
-pub told_at : (low high : ℕ) (p : Instance) (s : Subject) (k : Rule) (r i n : ℕ) → IsLeastBroken low high p s k (suc r) (suc i) n → IsBrokenOver low high p s (Broken (rule_number k) (r + 1) (i + 1) n)
-told_at low high p s k r i n b = (k, refl, subst (λ r'. IsLeastBroken low high p s k r' (i + 1) n) (sym (add-one r)) (subst (λ i'. IsLeastBroken low high p s k (suc r) i' n) (sym (add-one i)) b))
+pub told_at : (low high : ℕ) (p : Instance) (s : Subject) (k : Rule) (r i n : ℕ) → IsLeastBroken low high p s k (suc r) (suc i) n
+    → IsBrokenOver low high p s (Broken (rule_number k) (r + 1) (i + 1) n)
+told_at low high p s k r i n b = (
+  k,
+  refl,
+  subst (λ r'. IsLeastBroken low high p s k r' (i + 1) n) (sym (add-one r)) (subst (λ i'. IsLeastBroken low high p s k (suc r) i' n) (sym (add-one i)) b),
+)
 
 -- the third rule, of a subject of which u is the first request that must be served and is not
 module _ (p : Instance) where
@@ -140,7 +153,8 @@ module _ (p : Instance) where
         ];
       }
 
-  pub missing_least : (s : Subject) (u : Option ℕ) → u ≡ unserved_of p s → u ≡ None → (r i n : ℕ) → IsLeastOf (IsMissing p (routes_of s)) r i n → IsLeastOf (Breaks p s Missing) r i n
+  pub missing_least : (s : Subject) (u : Option ℕ) → u ≡ unserved_of p s → u ≡ None → (r i n : ℕ) → IsLeastOf (IsMissing p (routes_of s)) r i n
+      → IsLeastOf (Breaks p s Missing) r i n
   missing_least (planned routes pins) u asked none r i n one = record { broken = one.broken; least = one.least }
   missing_least (printed routes cost) u asked none r i n one = record {
     broken = inl (one.broken);

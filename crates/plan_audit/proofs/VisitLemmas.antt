@@ -20,23 +20,31 @@ tails : {X : Type 0} (x y : X) (xs ys : List X) → x ∷ xs ≡ y ∷ ys → xs
 tails x y xs ys h = cc
 
 -- what the next visit is, and which are left
-pub visit_is : (p : Instance) (route : List ℕ) (k : ℕ) (v : Visit) (before after : List Visit) → k ≤ length route → before ≡ visits_from p route k → before ≡ v ∷ after → v ≡ visit_after p route k
+pub visit_is : (p : Instance) (route : List ℕ) (k : ℕ) (v : Visit) (before after : List Visit) → k ≤ length route → before ≡ visits_from p route k
+    → before ≡ v ∷ after → v ≡ visit_after p route k
 visit_is p route k v before after le is step = sym (heads _ _ _ _ (sym (visits_from-step p route k le) ∙ sym is ∙ step))
 
-pub visits_left : (p : Instance) (route : List ℕ) (k : ℕ) (v : Visit) (before after : List Visit) → k ≤ length route → before ≡ visits_from p route k → before ≡ v ∷ after → after ≡ visits_from p route (k + 1)
+pub visits_left : (p : Instance) (route : List ℕ) (k : ℕ) (v : Visit) (before after : List Visit) → k ≤ length route → before ≡ visits_from p route k
+    → before ≡ v ∷ after → after ≡ visits_from p route (k + 1)
 visits_left p route k v before after le is step = sym (tails _ _ _ _ (sym (visits_from-step p route k le) ∙ sym is ∙ step))
 
 -- the answer at place k, or those behind it
-pub told_here : (test : ℕ → ℕ → Option ℕ) (k : ℕ) (ns : List ℕ) (s : ℕ) → k < length ns → test k (get_or ns k 0) ≡ Some s → first_place test k (drop k ns) ≡ Some (record { place = k; stop = s })
-told_here test k ns s lt told = ap (first_place test k) (drop-cons ns k 0 lt) ∙ ap (λ (o : Option ℕ). option_or (option_map (λ s. record { place = k; stop = s }) o) (first_place test (k + 1) (drop (suc k) ns))) told
+pub told_here : (test : ℕ → ℕ → Option ℕ) (k : ℕ) (ns : List ℕ) (s : ℕ) → k < length ns → test k (get_or ns k 0) ≡ Some s
+    → first_place test k (drop k ns) ≡ Some (record { place = k; stop = s })
+told_here test k ns s lt told =
+    ap (first_place test k) (drop-cons ns k 0 lt)
+    ∙ ap (λ (o : Option ℕ). option_or (option_map (λ s. record { place = k; stop = s }) o) (first_place test (k + 1) (drop (suc k) ns))) told
 
-pub told_later : (test : ℕ → ℕ → Option ℕ) (k : ℕ) (ns : List ℕ) → k < length ns → test k (get_or ns k 0) ≡ None → first_place test k (drop k ns) ≡ first_place test (k + 1) (drop (k + 1) ns)
+pub told_later : (test : ℕ → ℕ → Option ℕ) (k : ℕ) (ns : List ℕ) → k < length ns → test k (get_or ns k 0) ≡ None
+    → first_place test k (drop k ns) ≡ first_place test (k + 1) (drop (k + 1) ns)
 told_later test k ns lt told =
-    ap (first_place test k) (drop-cons ns k 0 lt) ∙ ap (λ (o : Option ℕ). option_or (option_map (λ s. record { place = k; stop = s }) o) (first_place test (k + 1) (drop (suc k) ns))) told
+    ap (first_place test k) (drop-cons ns k 0 lt)
+    ∙ ap (λ (o : Option ℕ). option_or (option_map (λ s. record { place = k; stop = s }) o) (first_place test (k + 1) (drop (suc k) ns))) told
     ∙ ap (λ n. first_place test (k + 1) (drop n ns)) (sym (add-one k))
 
 -- what the visit at place k tells
-pub visit_fails : (p : Instance) (test : Visit → Bool) (route : List ℕ) (k : ℕ) (v : Visit) (b : Bool) → v ≡ visit_after p route k → b ≡ test v → visit_told p test route k (get_or route k 0) ≡ cond b (Some (get_or route k 0)) None
+pub visit_fails : (p : Instance) (test : Visit → Bool) (route : List ℕ) (k : ℕ) (v : Visit) (b : Bool) → v ≡ visit_after p route k → b ≡ test v
+    → visit_told p test route k (get_or route k 0) ≡ cond b (Some (get_or route k 0)) None
 visit_fails p test route k v b is answer = ap (λ c. cond c (Some (get_or route k 0)) None) (sym (answer ∙ ap test is))
 
 pub nth-range : {X : Type 0} (f : ℕ → X) (a n k : ℕ) → k < n → slice_get (map f (range_with_len a n)) k ≡ Some (f (a + k))
@@ -47,13 +55,15 @@ nth-range f a (suc n) (suc k) lt = nth-range f (a + 1) n k (omega arith) ∙ ap 
 -- the last visit is the return
 pub visits_from-return : (p : Instance) (route : List ℕ) → slice_get (visits_from p route 0) (length route) ≡ Some (visit_after p route (length route))
 visits_from-return p route =
-    nth-range (visit_after p route) 0 (length route + 1 - 0) (length route) (omega arith) ∙ ap (λ i. Some (visit_after p route i)) (let e : 0 + length route ≡ length route = omega arith in e)
+    nth-range (visit_after p route) 0 (length route + 1 - 0) (length route) (omega arith)
+    ∙ ap (λ i. Some (visit_after p route i)) (let e : 0 + length route ≡ length route = omega arith in e)
 
 same_visit : {X : Type 0} (x y : X) (o : Option X) → o ≡ Some x → option_map (λ z. z) o ≡ Some y → x ≡ y
 same_visit x y None e h = absurd (none_some x e)
 same_visit x y (Some z) e h = (cc)
 
-pub return_is : (p : Instance) (route : List ℕ) (o : Option Visit) (v : Visit) → o ≡ Some v → option_map (λ z. z) o ≡ slice_get (visits_from p route 0) (length route) → v ≡ visit_after p route (length route)
+pub return_is : (p : Instance) (route : List ℕ) (o : Option Visit) (v : Visit) → o ≡ Some v
+    → option_map (λ z. z) o ≡ slice_get (visits_from p route 0) (length route) → v ≡ visit_after p route (length route)
 return_is p route o v e h = same_visit v _ o e (h ∙ visits_from-return p route)
 
 pub return_there : (p : Instance) (route : List ℕ) (o : Option Visit) → o ≡ None → option_map (λ z. z) o ≡ slice_get (visits_from p route 0) (length route) → ⊥

@@ -1,5 +1,33 @@
 -- How the auditor looks for the first place that breaks a rule. Here routes and places count from 0, as in the code.
-use Rattle.std.specs.Prelude.{◌≡◌, ℕ, ◌+◌, ◌-◌, ◌^◌, ◌<◌, nat_lt, IfSome, ◌==◌, ◌&&◌, ◌||◌, not, List, [], ◌∷◌, Option, Some, None, is_some, if◌then◌else◌, Bool, int_lt, pos, length, false, slice_get, unwrap_or}
+use Rattle.std.specs.Prelude.{
+  ◌≡◌,
+  ℕ,
+  ◌+◌,
+  ◌-◌,
+  ◌^◌,
+  ◌<◌,
+  nat_lt,
+  IfSome,
+  ◌==◌,
+  ◌&&◌,
+  ◌||◌,
+  not,
+  List,
+  [],
+  ◌∷◌,
+  Option,
+  Some,
+  None,
+  is_some,
+  if◌then◌else◌,
+  Bool,
+  int_lt,
+  pos,
+  length,
+  false,
+  slice_get,
+  unwrap_or,
+}
 use Rattle.route_sched.specs.Schedule.{start}
 use Rattle.route_sched.specs.Visiting.{visit_after, visits_from}
 use Rattle.route_sched.specs.declared.visits.Visit.{Visit}

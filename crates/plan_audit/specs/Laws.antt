@@ -44,7 +44,8 @@ pub record IsSoundPlan (p : Instance) (routes : List (List ℕ)) : Type 0 where
   pub live : (r i n : ℕ) → Stands routes r i n → IsLive p n
   pub served : (name : ℕ) (request : Request) → IsNamed p name request → IsPlanned routes request → IsServedOnce routes request
   pub loads : (r i : ℕ) (route : List ℕ) → IsPlaceOf routes r route i → load p route i ≤ℤ pos p.capacity
-  pub windows : p.kind ≡ LiLim → (r i : ℕ) (route : List ℕ) → IsPlaceOf routes r route i → ((place p route i).earliest ≤ start p route i) × (start p route i ≤ (place p route i).latest)
+  pub windows : p.kind ≡ LiLim → (r i : ℕ) (route : List ℕ) → IsPlaceOf routes r route i
+      → ((place p route i).earliest ≤ start p route i) × (start p route i ≤ (place p route i).latest)
   pub returns : p.kind ≡ LiLim → (r : ℕ) (route : List ℕ) → item_at routes r ≡ Some route → 0 < length route → start p route (length route + 1) ≤ p.depot.latest
 
 -- each route begins with its pin
@@ -61,7 +62,9 @@ PassesArePlans = (p : Instance) (s : Subject) (cost : Cost) → IsVerdict p s (P
 
 -- what is not sound in any of this does not pass: some rule is told
 abbrev pub UnsoundIsBroken : Type 0
-UnsoundIsBroken = (p : Instance) (s : Subject) (v : Verdict) → IsInstance p → (IsSoundPlan p (routes_of s) → ⊥) → IsVerdict p s v → (rule : ℕ) × (r : ℕ) × (i : ℕ) × (n : ℕ) × (v ≡ Broken rule r i n)
+UnsoundIsBroken =
+    (p : Instance) (s : Subject) (v : Verdict) → IsInstance p → (IsSoundPlan p (routes_of s) → ⊥) → IsVerdict p s v
+    → (rule : ℕ) × (r : ℕ) × (i : ℕ) × (n : ℕ) × (v ≡ Broken rule r i n)
 
 -- each request is planned
 abbrev pub AreAllPlanned : Instance → List (List ℕ) → Type 0
@@ -80,8 +83,10 @@ SolutionsPassWhereSound = (p : Instance) (routes : List (List ℕ)) (cost : ℕ)
 
 -- where the rules 3 to 8 are kept, each route is feasible alone
 abbrev pub RoutesAreFeasible : Type 0
-RoutesAreFeasible = (p : Instance) (s : Subject) → KeepsRules 3 8 p s → (r : ℕ) (route : List ℕ) → item_at (routes_of s) r ≡ Some route → IsFeasibleAlone p route
+RoutesAreFeasible =
+    (p : Instance) (s : Subject) → KeepsRules 3 8 p s → (r : ℕ) (route : List ℕ) → item_at (routes_of s) r ≡ Some route → IsFeasibleAlone p route
 
 -- the verdict of routes is the one of their text with its true cost, the distance that they drive
 abbrev pub RoutesAreJudgedByTrueCost : Type 0
-RoutesAreJudgedByTrueCost = (p : Instance) (routes : List (List ℕ)) (v : Verdict) → IsRoutesVerdict p routes v ↔ IsVerdict p (printed routes (total_length p routes)) v
+RoutesAreJudgedByTrueCost =
+    (p : Instance) (routes : List (List ℕ)) (v : Verdict) → IsRoutesVerdict p routes v ↔ IsVerdict p (printed routes (total_length p routes)) v

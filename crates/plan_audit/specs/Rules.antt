@@ -53,9 +53,12 @@ module _ (p : Instance) (routes : List (List ℕ)) where
 
   -- 7, late: with time windows, service starts after the stop's latest time
   abbrev pub IsLate : ℕ → ℕ → ℕ → Type 0
-  IsLate r i n = (p.kind ≡ LiLim) × ((route : List ℕ) × (item_at routes r ≡ Some route) × (item_at route i ≡ Some n) × ((place p route i).latest < start p route i))
+  IsLate r i n =
+      (p.kind ≡ LiLim) × ((route : List ℕ) × (item_at routes r ≡ Some route) × (item_at route i ≡ Some n) × ((place p route i).latest < start p route i))
 
   -- 8, late return: with time windows, a vehicle that leaves is back after the depot's latest time; told of the place behind
   -- the last stop, as stop 0
   abbrev pub IsLateReturn : ℕ → ℕ → ℕ → Type 0
-  IsLateReturn r i n = (p.kind ≡ LiLim) × ((route : List ℕ) × (item_at routes r ≡ Some route) × (0 < length route) × (i ≡ length route + 1) × (n ≡ 0) × (p.depot.latest < start p route i))
+  IsLateReturn r i n =
+      (p.kind ≡ LiLim)
+      × ((route : List ℕ) × (item_at routes r ≡ Some route) × (0 < length route) × (i ≡ length route + 1) × (n ≡ 0) × (p.depot.latest < start p route i))

@@ -59,7 +59,8 @@ rule_name PrintedCost = codes "wrong cost"
 
 -- request n has no stop in any route
 abbrev pub IsUnserved : Instance → List (List ℕ) → ℕ → Type 0
-IsUnserved p routes n = (request : Request) × (lookup (nat_eq n) p.requests ≡ Some request) × AllByRecursion (λ s. StandsSomewhere routes s.number → ⊥) (stops_of request)
+IsUnserved p routes n =
+    (request : Request) × (lookup (nat_eq n) p.requests ≡ Some request) × AllByRecursion (λ s. StandsSomewhere routes s.number → ⊥) (stops_of request)
 
 -- told of no route and no place
 abbrev pub IsOfNoRoute : ℕ → ℕ → Type 0
@@ -72,7 +73,8 @@ IsMissingIn p (printed routes cost) r i n = IsMissing p routes r i n ⊎ (IsOfNo
 
 -- route r is the first beyond the fleet: it is not empty, and with it one more is used than there are vehicles
 abbrev pub IsBeyondFleet : Instance → List (List ℕ) → ℕ → ℕ → ℕ → Type 0
-IsBeyondFleet p routes r i n = (i ≡ 0) × (n ≡ 0) × (used_count (take r routes) ≡ p.fleet + 1) × ((route : List ℕ) × (item_at routes r ≡ Some route) × (0 < length route))
+IsBeyondFleet p routes r i n =
+    (i ≡ 0) × (n ≡ 0) × (used_count (take r routes) ≡ p.fleet + 1) × ((route : List ℕ) × (item_at routes r ≡ Some route) × (0 < length route))
 
 -- 9: a plan has one route for each vehicle; no more routes are used than there are vehicles
 abbrev pub IsFleetBroken : Instance → Subject → ℕ → ℕ → ℕ → Type 0
@@ -83,7 +85,8 @@ IsFleetBroken p (printed routes cost) r i n = IsBeyondFleet p routes r i n
 abbrev pub IsOffPin : List (List ℕ) → List (List ℕ) → ℕ → ℕ → ℕ → Type 0
 IsOffPin routes pins r i n =
     let route = unwrap_or (item_at routes r) [] in
-    (pin : List ℕ) × (item_at pins r ≡ Some pin) × (item_at pin i ≡ Some n) × (item_at route i ≢ Some n) × ((j : ℕ) → 1 ≤ j → j < i → item_at route j ≡ item_at pin j)
+    (pin : List ℕ) × (item_at pins r ≡ Some pin) × (item_at pin i ≡ Some n) × (item_at route i ≢ Some n)
+    × ((j : ℕ) → 1 ≤ j → j < i → item_at route j ≡ item_at pin j)
 
 abbrev pub IsPinBroken : Instance → Subject → ℕ → ℕ → ℕ → Type 0
 IsPinBroken p (planned routes pins) r i n = IsOffPin routes pins r i n
@@ -117,7 +120,8 @@ pub record IsLeastBroken (low high : ℕ) (p : Instance) (s : Subject) (k : Rule
   pub from : low ≤ rule_number k
   pub to : rule_number k ≤ high
   pub broken : Breaks p s k r i n
-  pub least : (m : Rule) (q j t : ℕ) → low ≤ rule_number m → rule_number m ≤ high → Breaks p s m q j t → (rule_number k < rule_number m) ⊎ ((rule_number k ≡ rule_number m) × IsNotAfter r i n q j t)
+  pub least : (m : Rule) (q j t : ℕ) → low ≤ rule_number m → rule_number m ≤ high → Breaks p s m q j t
+      → (rule_number k < rule_number m) ⊎ ((rule_number k ≡ rule_number m) × IsNotAfter r i n q j t)
 
 -- an answer that tells the least broken rule
 abbrev pub IsBrokenOver : ℕ → ℕ → Instance → Subject → Verdict → Type 0

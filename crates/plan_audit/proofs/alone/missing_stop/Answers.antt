@@ -1,3 +1,4 @@
+-- In the only route a stop's partner is told just where it does not stand there.
 use Rattle.std.proofs.Common.{[], ◌∷◌, rules}
 use Rattle.plan_audit.proofs.alone.missing_stop.Goals as goal
 

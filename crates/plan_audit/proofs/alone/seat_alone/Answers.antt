@@ -1,3 +1,4 @@
+-- The first place of a number in the only route is its first seat.
 use Rattle.std.proofs.Common.{◌≡◌, ℕ, ◌+◌, ◌<◌, ◌≤◌, cond, eqb, List, [], ◌∷◌, length, Option, Some, None, MatchOption, refl, sym, ap, subst, ◌∙◌, arith, inl, inr, rules, tests}
 use Rattle.std.specs.Prelude.{nat_lt}
 use Rattle.std.specs.List.{position_or_len}
@@ -35,7 +36,8 @@ told place len r e =
 abbrev seat : Option ℕ → Option Seat
 seat place = option_or (option_map (λ i. record { route = 0; place = i }) place) None
 
-module _ (n : ℕ) (route : List ℕ) (r : Option ℕ) (e : r ≡ cond (nat_lt (position_or_len (λ m. eqb m n) route) (length route)) (Some (position_or_len (λ m. eqb m n) route)) None) where
+module _ (n : ℕ) (route : List ℕ) (r : Option ℕ)
+    (e : r ≡ cond (nat_lt (position_or_len (λ m. eqb m n) route) (length route)) (Some (position_or_len (λ m. eqb m n) route)) None) where
   abbrev first : ℕ
   first = position_or_len (λ m. eqb m n) route
 
@@ -51,11 +53,15 @@ module _ (n : ℕ) (route : List ℕ) (r : Option ℕ) (e : r ≡ cond (nat_lt (
 pub returns-in_err-place : goal.returns-in_err-place
 returns-in_err-place c =
     let route = c.args.route.now in
-    let e = position_from_yields_List (λ m. eqb m c.args.stop) _ _ c.position.result c.position.ensures.ran (YieldsList-from_slice route cc) (λ x b q k. search (rules, tests)) in
+    let e =
+    position_from_yields_List (λ m. eqb m c.args.stop) _ _ c.position.result c.position.ensures.ran (YieldsList-from_slice route cc)
+    (λ x b q k. search (rules, tests)) in
     c.from_residual.ensures ∙ ap seat (sym (none_found c.args.stop route c.position.result e c.in_err-place.was))
 
 pub returns : goal.returns
 returns c =
     let route = c.args.route.now in
-    let e = position_from_yields_List (λ m. eqb m c.args.stop) _ _ c.position.result c.position.ensures.ran (YieldsList-from_slice route cc) (λ x b q k. search (rules, tests)) in
+    let e =
+    position_from_yields_List (λ m. eqb m c.args.stop) _ _ c.position.result c.position.ensures.ran (YieldsList-from_slice route cc)
+    (λ x b q k. search (rules, tests)) in
     ap seat (sym (one_found c.args.stop route c.position.result e c.in_ok-place.place c.in_ok-place.was))

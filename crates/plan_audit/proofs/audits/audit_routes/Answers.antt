@@ -1,3 +1,4 @@
+-- The verdict on routes is that of their stops and drives, then that of the vehicles that they use; where all are kept they pass, whatever cost is printed.
 use Rattle.std.proofs.Common.{◌≡◌, ℕ, List, Option, sym, ap, subst, ◌∙◌, arith}
 use Rattle.plan_types.specs.Instance.{Instance}
 use Rattle.plan_audit.specs.Finding.{first_beyond, first_unserved}
@@ -29,12 +30,14 @@ returns-in-Err c = λ printed_cost.
     (c.in-Err.ensures.judged s (sym c.in_ok-scan.ensures.made.1) (asked (goal.at.returns-in-Err c).After-first_unserved))))
 
 -- what is found beyond the fleet, of the problem as it is given
-beyond : (fleet : ℕ) (p : Instance) (routes : List (List ℕ)) (o : Option ℕ) → fleet ≡ p.fleet → o ≡ first_beyond fleet 0 routes → first_beyond p.fleet 0 routes ≡ o
+beyond : (fleet : ℕ) (p : Instance) (routes : List (List ℕ)) (o : Option ℕ) → fleet ≡ p.fleet → o ≡ first_beyond fleet 0 routes
+    → first_beyond p.fleet 0 routes ≡ o
 beyond fleet p routes o same told = ap (λ f. first_beyond f 0 routes) (sym same) ∙ sym told
 
 pub returns-in-Some : goal.returns-in-Some
 returns-in-Some c = λ printed_cost.
-    fleet_step c.args.problem.now c.args.routes.now printed_cost (judged (goal.at.returns-in-Some c).In-Ok printed_cost).0 c.in-Some.route c.broken_from.result c.broken_from.ensures
+    fleet_step c.args.problem.now c.args.routes.now printed_cost
+    (judged (goal.at.returns-in-Some c).In-Ok printed_cost).0 c.in-Some.route c.broken_from.result c.broken_from.ensures
     (beyond c.problem.inside.fleet c.args.problem.now c.args.routes.now _ (ap (λ (p : Instance). p.fleet) c.problem.view_is) c.in-Some.ensures.told)
 
 pub returns : goal.returns

@@ -1,3 +1,4 @@
+-- A solution has the verdict of its routes; where they pass, its printed cost is wrong, or it is the distance driven and the solution passes.
 use Rattle.std.proofs.Common.{sym, ap, subst, ◌∙◌}
 use Rattle.plan_types.specs.declared.plans.Cost.{Cost}
 use Rattle.plan_audit.specs.Verdict.{printed, IsVerdictOver}

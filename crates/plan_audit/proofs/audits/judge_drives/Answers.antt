@@ -1,3 +1,4 @@
+-- Each route of a plan has live stops, each once, as the rules on loads and times ask.
 use Rattle.route_sched.proofs.Concats.{routes_of_plan}
 use Rattle.plan_audit.proofs.audits.judge_drives.Goals as goal
 

@@ -1,3 +1,4 @@
+-- The least broken one of the rules 1 to 5 is the least of 1 to 8; where these five are kept, loads and times tell it.
 use Rattle.std.proofs.Common.{arith}
 use Rattle.plan_audit.proofs.VerdictLemmas.{broken_wider, judged_after}
 use Rattle.plan_audit.proofs.audits.judge_stops.Goals as goal
@@ -12,5 +13,6 @@ judge_drives-requires c = c.in_default.ensures.plan
 
 pub returns : goal.returns
 returns c = record {
-  judged = λ s is asked. judged_after c.args.scan.now.problem.now s 1 5 8 c.judge_drives.result (omega arith) (c.in_default.ensures.least s is asked) (c.judge_drives.ensures.judged s is);
+  judged = λ s is asked. judged_after c.args.scan.now.problem.now s 1 5 8 c.judge_drives.result (omega arith) (c.in_default.ensures.least s is asked)
+      (c.judge_drives.ensures.judged s is);
 }

@@ -1,3 +1,4 @@
+-- The rules on loads and times are asked in order, so the first broken one is the least; without time windows loads alone are asked.
 use Rattle.std.proofs.Common.{◌≡◌, sym, rules}
 use Rattle.plan_types.specs.declared.requests.Kind.TheVariants.{LiLim, Vrp}
 use Rattle.plan_audit.proofs.StepLemmas.{load_step, late_step, return_step, timed_step, untimed_step}
@@ -16,14 +17,24 @@ returns-in-Vrp c =
 pub returns-in-Some-first_late : goal.returns-in-Some-first_late
 returns-in-Some-first_late c =
     let kind : c.args.problem.now.kind ≡ LiLim = search rules in
-    record { least = λ s is. late_step c.args.problem.now c.args.routes.now s is kind (sym c.in_default.ensures.told) c.in-Some-first_late.fault _ c.broken_at-in-Some-first_late.ensures (sym c.in-Some-first_late.ensures.told) }
+    record {
+      least = λ s is. late_step c.args.problem.now c.args.routes.now s is kind
+          (sym c.in_default.ensures.told) c.in-Some-first_late.fault _ c.broken_at-in-Some-first_late.ensures (sym c.in-Some-first_late.ensures.told);
+    }
 
 pub returns-in_err-fault : goal.returns-in_err-fault
 returns-in_err-fault c =
     let kind : c.args.problem.now.kind ≡ LiLim = search rules in
-    record { least = λ s is. rw c.from_residual.ensures (timed_step c.args.problem.now c.args.routes.now s is kind (sym c.in_default.ensures.told) (sym c.in_default-first_late.ensures.told) (sym c.in_err-fault.ensures.told)) }
+    record {
+      least = λ s is. rw c.from_residual.ensures
+          (timed_step c.args.problem.now c.args.routes.now s is kind (sym c.in_default.ensures.told) (sym c.in_default-first_late.ensures.told)
+          (sym c.in_err-fault.ensures.told));
+    }
 
 pub returns : goal.returns
 returns c =
     let kind : c.args.problem.now.kind ≡ LiLim = search rules in
-    record { least = λ s is. return_step c.args.problem.now c.args.routes.now s is kind (sym c.in_default.ensures.told) (sym c.in_default-first_late.ensures.told) c.in_ok-fault.fault _ c.broken_at-2.ensures (sym c.in_ok-fault.ensures.told) }
+    record {
+      least = λ s is. return_step c.args.problem.now c.args.routes.now s is kind (sym c.in_default.ensures.told)
+          (sym c.in_default-first_late.ensures.told) c.in_ok-fault.fault _ c.broken_at-2.ensures (sym c.in_ok-fault.ensures.told);
+    }

@@ -1,9 +1,9 @@
+-- What the test answers first of the routes from this one on is what it answers first of all.
 use Rattle.std.proofs.Common.{◌≡◌, ℕ, List, Option, drop, Contains, Bor}
 use Rattle.plan_audit.specs.Finding.{first_route}
 use Rattle.plan_audit.specs.declared.faults.Told.{Told}
 use Rattle.plan_audit.proofs.faults.first_fault.Given as goal
 
--- what the routes from this one on answer first is what all answer first
 abbrev pub invariant-loop-number : goal.invariant-loop-number
 invariant-loop-number g l = (tells : ℕ → List ℕ → Option Told)
     → ((k : ℕ) (route : Bor (List ℕ)) (o : Option Told) → Contains l.routes route.now → goal.F-post g l.test k route o → o ≡ tells k route.now)

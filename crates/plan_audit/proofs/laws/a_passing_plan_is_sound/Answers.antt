@@ -1,3 +1,4 @@
+-- What passes is sound: each planned request is served once, by one vehicle and in order, and loads and times are kept.
 use Rattle.plan_audit.proofs.LawProofs.{passes_are_sound}
 use Rattle.plan_audit.proofs.laws.a_passing_plan_is_sound.Goals as goal
 

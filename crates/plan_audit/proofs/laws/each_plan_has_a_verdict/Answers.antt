@@ -1,3 +1,4 @@
+-- A plan passes or breaks a least rule, and a list of live, distinct stops is feasible alone or breaks a least rule alone.
 use Rattle.plan_audit.proofs.TotalLemmas.{plans_have_verdicts, routes_have_answers}
 use Rattle.plan_audit.proofs.laws.each_plan_has_a_verdict.Goals as goal
 

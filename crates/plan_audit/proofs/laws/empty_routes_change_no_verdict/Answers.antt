@@ -1,3 +1,4 @@
+-- A sound plan is sound without its empty routes; so one that passes and leaves no request out passes as it is printed, too.
 use Rattle.plan_audit.proofs.PrintLemmas.{used_routes_are_sound, whole_plans_pass_printed}
 use Rattle.plan_audit.proofs.laws.empty_routes_change_no_verdict.Goals as goal
 

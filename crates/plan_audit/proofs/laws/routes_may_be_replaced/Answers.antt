@@ -1,3 +1,4 @@
+-- Routes of a passing plan may be replaced by feasible ones that begin with their pins, where no stop stands in two routes then.
 use Rattle.plan_audit.proofs.LocalLemmas.{routes_may_be_replaced}
 use Rattle.plan_audit.proofs.laws.routes_may_be_replaced.Goals as goal
 

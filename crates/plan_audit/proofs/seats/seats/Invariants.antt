@@ -1,9 +1,9 @@
+-- The seats so far, with those of the routes that are left, are the first seats in all routes.
 use Rattle.std.proofs.Common.{◌≡◌, ℕ, ◌<◌, None, drop, get_or, vec_len}
 use Rattle.std.specs.Option.{option_or}
 use Rattle.plan_audit.specs.Finding.{seat_from, seat_of}
 use Rattle.plan_audit.proofs.seats.seats.Given as goal
 
--- the seats so far, and those of the routes that are left, are those of all routes
 abbrev pub invariant-loop-number : goal.invariant-loop-number
 invariant-loop-number l = record {
   len : vec_len l.seats ≡ l.len;

@@ -1,3 +1,4 @@
+-- The first visit from here on that fails the test is this one, or the first behind it where this one passes.
 use Rattle.std.proofs.Common.{◌<◌, cond, Some, None, length, arith, sym, ap, ◌∙◌, get_or}
 use Rattle.plan_audit.specs.Finding.{visit_told}
 use Rattle.plan_audit.proofs.VisitLemmas.{visit_is, visits_left, told_here, told_later, visit_fails}

@@ -1,3 +1,4 @@
+-- Routes that keep the limits, each of them, keep the rules on loads and times.
 use Rattle.std.proofs.Common.{arith}
 use Rattle.plan_audit.proofs.DriveLemmas.{driven}
 use Rattle.plan_audit.proofs.timing.kept_cost.Goals as goal

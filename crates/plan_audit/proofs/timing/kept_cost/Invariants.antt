@@ -1,10 +1,10 @@
+-- The routes so far keep the limits, and the distance is how far they go.
 use Rattle.std.proofs.Common.{◌≡◌, ℕ, ◌<◌, [], get_or, take}
 use Rattle.std.specs.List.{sum_by}
 use Rattle.route_sched.specs.Schedule.{route_length}
 use Rattle.plan_audit.specs.Finding.{KeepsLimits}
 use Rattle.plan_audit.proofs.timing.kept_cost.Given as goal
 
--- the routes so far keep the limits, and this is how far they go
 abbrev pub invariant-loop-route : goal.invariant-loop-route
 invariant-loop-route l = record {
   kept : (k : ℕ) → k < l.route-index → KeepsLimits l.problem (get_or l.routes k []);

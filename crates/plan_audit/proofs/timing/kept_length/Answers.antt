@@ -1,3 +1,4 @@
+-- An idle vehicle keeps the limits and drives nowhere; of any other, all visits are to be judged and all legs to be driven.
 use Rattle.std.proofs.Common.{rules, ◌≡◌, length, sym, ap, ◌∙◌, arith}
 use Rattle.route_sched.proofs.Steps.{route_length-empty}
 use Rattle.route_sched.proofs.Visited.{all_visits}

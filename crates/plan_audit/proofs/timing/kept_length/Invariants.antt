@@ -1,3 +1,4 @@
+-- The way so far, and that of the visits that are left, are the whole way; where these visits keep the limits, the route does.
 use Rattle.std.proofs.Common.{◌≡◌, ◌+◌, false}
 use Rattle.std.specs.List.{AllByRecursion}
 use Rattle.route_sched.specs.Schedule.{route_length}
@@ -6,7 +7,6 @@ use Rattle.plan_audit.specs.Finding.{breaks_limits, KeepsLimits}
 use Rattle.plan_audit.proofs.DriveLemmas.{legs}
 use Rattle.plan_audit.proofs.timing.kept_length.Given as goal
 
--- the way so far and that of the visits that are left are the whole way; where those keep the limits, all do
 abbrev pub invariant-loop-visit : goal.invariant-loop-visit
 invariant-loop-visit l =
     let left = visits_from l.visit-iterator.problem l.visit-iterator.route l.visit-iterator.place in

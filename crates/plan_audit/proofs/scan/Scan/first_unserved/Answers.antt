@@ -1,3 +1,4 @@
+-- The first request from here on that is not planned is this one, or the first behind it where this one is planned.
 use Rattle.std.proofs.Common.{sym, ◌∙◌}
 use Rattle.plan_audit.proofs.PairLemmas.{unserved_here, unserved_later}
 use Rattle.plan_audit.proofs.scan.Scan.first_unserved.Goals as goal

@@ -1,8 +1,8 @@
+-- The first request from this one on that is not planned is the first of all.
 use Rattle.std.proofs.Common.{◌≡◌, drop}
 use Rattle.plan_audit.specs.Finding.{first_unserved}
 use Rattle.plan_audit.proofs.scan.Scan.first_unserved.Given as goal
 
--- the first that is not served from this request on is the first of all
 abbrev pub invariant-loop-index : goal.invariant-loop-index
 invariant-loop-index l =
     first_unserved l.self.routes.now (drop l.index l.self.problem.now.requests) ≡ first_unserved l.self.routes.now l.self.problem.now.requests

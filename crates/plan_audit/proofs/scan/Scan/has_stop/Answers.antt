@@ -1,3 +1,4 @@
+-- A stop has a first seat just where a route has it.
 use Rattle.std.proofs.Common.{is_some, ap, ◌∙◌}
 use Rattle.plan_audit.proofs.ServedLemmas.{seat-has}
 use Rattle.plan_audit.proofs.scan.Scan.has_stop.Goals as goal

@@ -1,3 +1,4 @@
+-- A stop's partner is told just where it has no first seat.
 use Rattle.std.proofs.Common.{rules}
 use Rattle.plan_audit.proofs.scan.Scan.missing_stop.Goals as goal
 
