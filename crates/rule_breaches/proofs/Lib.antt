@@ -1,3 +1,4 @@
+-- The lemma files, which upper crates may cite.
 pub mod LawProofs
 pub mod ListLemmas
 pub mod MissingLemmas

@@ -62,11 +62,14 @@ rising_option (Some b) = (tt, tt)
 
 module _ {X : Type 0} (tell : ℕ → X → List Breach) where
   -- what is told is told of an item
-  pub told_to : (k : ℕ) (xs : List X) (b : Breach) → Contains (told_from tell k xs) b → (j : ℕ) × (x : X) × (slice_get xs j ≡ Some x) × Contains (tell (k + j) x) b
+  pub told_to : (k : ℕ) (xs : List X) (b : Breach) → Contains (told_from tell k xs) b
+      → (j : ℕ) × (x : X) × (slice_get xs j ≡ Some x) × Contains (tell (k + j) x) b
   told_to k [] b c = absurd (in_nothing b c)
   told_to k (x ∷ xs) b c = elim (Contains-append_cases (tell k x) (told_from tell (k + 1) xs) b c) [
     | inl left ↦ (0, x, refl, subst (λ i. Contains (tell i x) b) (let e : k ≡ k + 0 = omega arith in e) left)
-    | inr right ↦ (let t = told_to (k + 1) xs b right in (suc t.0, t.1, t.2, subst (λ i. Contains (tell i t.1) b) (let e : k + 1 + t.0 ≡ k + suc t.0 = omega arith in e) t.3))
+    | inr right ↦
+        (let t = told_to (k + 1) xs b right in
+        (suc t.0, t.1, t.2, subst (λ i. Contains (tell i t.1) b) (let e : k + 1 + t.0 ≡ k + suc t.0 = omega arith in e) t.3))
   ]
 
   -- and all that is told of one
@@ -74,12 +77,16 @@ module _ {X : Type 0} (tell : ℕ → X → List Breach) where
   told_of k [] b j x at c = absurd (let h : None ≡ Some x = at in cc)
   told_of k (y ∷ xs) b zero x at c =
       let same : x ≡ y = (let h : Some y ≡ Some x = at in cc) in
-      Contains-append_left (tell k y) (told_from tell (k + 1) xs) b (subst (λ z. Contains (tell k z) b) same (subst (λ i. Contains (tell i x) b) (let e : k + 0 ≡ k = omega arith in e) c))
+      Contains-append_left (tell k y) (told_from tell (k + 1) xs) b
+      (subst (λ z. Contains (tell k z) b) same (subst (λ i. Contains (tell i x) b) (let e : k + 0 ≡ k = omega arith in e) c))
   told_of k (y ∷ xs) b (suc j) x at c =
-      Contains-append_right (tell k y) (told_from tell (k + 1) xs) b (told_of (k + 1) xs b j x at (subst (λ i. Contains (tell i x) b) (let e : k + suc j ≡ k + 1 + j = omega arith in e) c))
+      Contains-append_right (tell k y) (told_from tell (k + 1) xs) b
+      (told_of (k + 1) xs b j x at (subst (λ i. Contains (tell i x) b) (let e : k + suc j ≡ k + 1 + j = omega arith in e) c))
 
   -- in rising order, where each item's are, and come before those of the items behind it
-  pub told_rising : ((k : ℕ) (x : X) → AreRising (tell k x)) → ((i j : ℕ) (x y : X) (b c : Breach) → i < j → Contains (tell i x) b → Contains (tell j y) c → IsBefore b c) → (k : ℕ) (xs : List X) → AreRising (told_from tell k xs)
+  pub told_rising : ((k : ℕ) (x : X) → AreRising (tell k x))
+      → ((i j : ℕ) (x y : X) (b c : Breach) → i < j → Contains (tell i x) b → Contains (tell j y) c → IsBefore b c) → (k : ℕ) (xs : List X)
+      → AreRising (told_from tell k xs)
   told_rising each before k [] = tt
   told_rising each before k (x ∷ xs) =
       rising_append (tell k x) (told_from tell (k + 1) xs) (each k x) (told_rising each before (k + 1) xs)

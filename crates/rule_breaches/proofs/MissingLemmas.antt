@@ -1,12 +1,12 @@
 -- Of rule 3 the list holds all breaches: requests in no route, and places whose partner is in none.
-use Rattle.std.proofs.Common.{◌≡◌, ℕ, zero, suc, ◌+◌, ◌<◌, Bool, true, false, not, cond, ◌||◌, List, [], ◌∷◌, Option, Some, None, slice_get, refl, sym, ap, subst, ◌∙◌, inl, inr, arith, nat_eq, eqb}
+use Rattle.std.proofs.Common.{◌≡◌, ℕ, zero, suc, ◌+◌, ◌<◌, Bool, true, false, not, cond, List, [], ◌∷◌, Option, Some, None, slice_get, refl, sym, ap, subst, ◌∙◌, inl, inr, arith, nat_eq}
 use Rattle.std.specs.List.{AllByRecursion, Contains}
 use Rattle.std.specs.List.Sorted.{IsStrictlySortedBy}
 use Rattle.std.specs.Map.{lookup, keys_of}
 use Rattle.std.specs.Option.{option_to_list}
 use Rattle.std.specs.Ordering.{nat_cmp}
-use Rattle.std.specs.declared.cmp.Ordering.TheVariants.{Less, Equal, Greater}
-use Rattle.std.proofs.lemmas.Bool.{cases_lt, eq-eqb, le-ltb, not-true, not_from_false, or_parts}
+use Rattle.std.specs.declared.cmp.Ordering.TheVariants.{Less}
+use Rattle.std.proofs.lemmas.Bool.{eq-eqb, not-true, not_from_false}
 use Rattle.std.proofs.lemmas.Bool.Decides.{eqb_tells}
 use Rattle.std.proofs.lemmas.List.Elements.{Contains-append_left, Contains-append_right, Contains-append_cases}
 use Rattle.std.proofs.lemmas.Option.{same_Some}
@@ -19,36 +19,18 @@ use Rattle.plan_audit.specs.Verdict.{IsUnserved}
 use Rattle.plan_audit.specs.declared.rules.Rule.TheVariants.{Missing}
 use Rattle.plan_audit.proofs.FirstLemmas.{none_some}
 use Rattle.plan_audit.proofs.RuleLemmas.{standing}
-use Rattle.plan_audit.proofs.ServedLemmas.{IsNowhere}
+use Rattle.plan_audit.proofs.ServedLemmas.{IsNowhere, below_less, no_seat, not_served}
 use Rattle.rule_breaches.specs.Breaches.{breaches_of, missing_breach, seat_at, stop_breaches, stop_test, told_from, unserved_breach, unserved_breaches}
 use Rattle.rule_breaches.specs.Laws.{AreAll, AreRising, IsBefore, IsBreach}
 use Rattle.rule_breaches.specs.declared.breaches.Breach.{Breach}
 use Rattle.rule_breaches.proofs.ListLemmas.{in_option, option_in, rising_append, rising_option, told_of, told_to}
 use Rattle.rule_breaches.proofs.PlaceLemmas.{at_seat, breach_at, if_some, places_of, places_rising, places_to}
-use Rattle.rule_breaches.proofs.SeatLemmas.{has_none, in_no_route}
+use Rattle.rule_breaches.proofs.SeatLemmas.{has_none}
 
--- no stop of what is not planned stands anywhere, and the other way round
-pub not_served : (routes : List (List ℕ)) (r : Request) → is_planned routes r ≡ false → IsNowhere routes r
-not_served routes (Single s) e = (in_no_route routes s.number (or_parts (has_stop routes s.number) false e).0, tt)
-not_served routes (Pair a b) e =
-    let two = or_parts (has_stop routes a.number) (has_stop routes b.number || false) e in
-    (in_no_route routes a.number two.0, (in_no_route routes b.number (or_parts (has_stop routes b.number) false two.1).0, tt))
-
+-- what stands nowhere is not planned
 pub not_planned : (routes : List (List ℕ)) (r : Request) → IsNowhere routes r → is_planned routes r ≡ false
 not_planned routes (Single s) nowhere = rw (has_none routes s.number nowhere.0) refl
 not_planned routes (Pair a b) nowhere = rw (has_none routes a.number nowhere.0, has_none routes b.number nowhere.1.0) refl
-
-below_less : (a b : ℕ) → nat_cmp a b ≡ Less → a < b
-below_less a b h = elim (cases_lt a b) [
-  | inl lt ↦ lt
-  | inr ge ↦ (
-      let g : nat_cmp a b ≡ Less = h in
-      let z : cond (eqb a b) Equal Greater ≡ Less = (rw (le-ltb a b ge) at g) in
-      elim (eqb_tells a b) [
-        | inl t ↦ absurd (let y : Equal ≡ Less = (rw (t.0) at z) in cc)
-        | inr t ↦ absurd (let y : Greater ≡ Less = (rw (t.0) at z) in cc)
-      ])
-]
 
 key_at : (P : ℕ → Type 0) (es : List (ℕ × Request)) (j : ℕ) (e : ℕ × Request) → AllByRecursion P (keys_of es) → slice_get es j ≡ Some e → P e.0
 key_at P [] j e all at = absurd (none_some e at)
@@ -56,7 +38,8 @@ key_at P (x ∷ es) zero e all at = subst (λ (y : ℕ × Request). P y.0) (same
 key_at P (x ∷ es) (suc j) e all at = key_at P es j e all.1 at
 
 -- who stands in the list is looked up, and the other way round
-looked_up : (es : List (ℕ × Request)) (j : ℕ) (e : ℕ × Request) → IsStrictlySortedBy nat_cmp (keys_of es) → slice_get es j ≡ Some e → lookup (nat_eq e.0) es ≡ Some e.1
+looked_up : (es : List (ℕ × Request)) (j : ℕ) (e : ℕ × Request) → IsStrictlySortedBy nat_cmp (keys_of es) → slice_get es j ≡ Some e
+    → lookup (nat_eq e.0) es ≡ Some e.1
 unfolding IsStrictlySortedBy
 looked_up [] j e up at = absurd (none_some e at)
 looked_up (x ∷ es) zero e up at =
@@ -88,18 +71,21 @@ module _ (p : Instance) (routes : List (List ℕ)) where
   unfolding unserved_told
   unserved_is e b is = by (is_planned routes e.1) is
     where
-      by : (h : Bool) → cond h None (Some (record { route = 0; place = 0; stop = e.0; by = 0 })) ≡ Some b → (h ≡ false) × ◌≡◌ {A = Breach} (record { route = 0; place = 0; stop = e.0; by = 0 }) b
+      by : (h : Bool) → cond h None (Some (record { route = 0; place = 0; stop = e.0; by = 0 })) ≡ Some b
+          → (h ≡ false) × ◌≡◌ {A = Breach} (record { route = 0; place = 0; stop = e.0; by = 0 }) b
       by true is = absurd (none_some b is)
       by false is = (refl, same_Some _ _ is)
 
   tell : ℕ → ℕ × Request → List Breach
   tell k e = option_to_list (unserved_breach routes e)
 
-  unserved_rising : (k : ℕ) (es : List (ℕ × Request)) → IsStrictlySortedBy nat_cmp (keys_of es) → AreRising (told_from (λ _ e. option_to_list (unserved_breach routes e)) k es)
+  unserved_rising : (k : ℕ) (es : List (ℕ × Request)) → IsStrictlySortedBy nat_cmp (keys_of es)
+      → AreRising (told_from (λ _ e. option_to_list (unserved_breach routes e)) k es)
   unfolding IsStrictlySortedBy unserved_told
   unserved_rising k [] up = tt
   unserved_rising k (e ∷ es) up =
-      rising_append (option_to_list (unserved_breach routes e)) (told_from (λ _ e. option_to_list (unserved_breach routes e)) (k + 1) es) (rising_option (unserved_breach routes e)) (unserved_rising (k + 1) es up.1)
+      rising_append (option_to_list (unserved_breach routes e)) (told_from (λ _ e. option_to_list (unserved_breach routes e)) (k + 1) es)
+      (rising_option (unserved_breach routes e)) (unserved_rising (k + 1) es up.1)
       (λ b c first later. (
       let t = told_to (λ _ e. option_to_list (unserved_breach routes e)) (k + 1) es c later in
       let here = (unserved_is e b (in_option _ b first)).1 in
@@ -107,7 +93,8 @@ module _ (p : Instance) (routes : List (List ℕ)) where
       let lt = below_less e.0 (t.1.0) (key_at (λ y. nat_cmp e.0 y ≡ Less) es t.0 t.1 up.0 t.2) in
       before e.0 (t.1.0) b c here there lt))
     where
-      before : (m n : ℕ) (b c : Breach) → ◌≡◌ {A = Breach} (record { route = 0; place = 0; stop = m; by = 0 }) b → ◌≡◌ {A = Breach} (record { route = 0; place = 0; stop = n; by = 0 }) c → m < n → IsBefore b c
+      before : (m n : ℕ) (b c : Breach) → ◌≡◌ {A = Breach} (record { route = 0; place = 0; stop = m; by = 0 }) b
+          → ◌≡◌ {A = Breach} (record { route = 0; place = 0; stop = n; by = 0 }) c → m < n → IsBefore b c
       before m n b c here there lt =
           let r = ap (λ (b : Breach). b.route) here in let r' = ap (λ (b : Breach). b.route) there in
           let i = ap (λ (b : Breach). b.place) here in let i' = ap (λ (b : Breach). b.place) there in
@@ -132,14 +119,16 @@ module _ (p : Instance) (routes : List (List ℕ)) where
           ap (λ x. record { route = x; place = 0; stop = b.stop; by = 0 }) (sym is.0)
           ∙ ap (λ x. record { route = b.route; place = x; stop = b.stop; by = 0 }) (sym is.1)
           ∙ ap (λ x. record { route = b.route; place = b.place; stop = b.stop; by = x }) (sym is.3) in
-          let here : unserved_breach routes (b.stop, request) ≡ Some b = ap (λ h. cond h None (Some (record { route = 0; place = 0; stop = b.stop; by = 0 }))) (not_planned routes request is.2.2) ∙ ap Some told in
+          let here : unserved_breach routes (b.stop, request) ≡ Some b =
+          ap (λ h. cond h None (Some (record { route = 0; place = 0; stop = b.stop; by = 0 }))) (not_planned routes request is.2.2) ∙ ap Some told in
           told_of (λ _ e. option_to_list (unserved_breach routes e)) 0 p.requests b at.0 (b.stop, request) at.1 (option_in _ b here)
 
   -- a place whose partner is in no route
   abbrev pub IsMissingBreach : Breach → Type 0
   IsMissingBreach b = IsMissing p routes b.route b.place b.stop × (b.by ≡ 0)
 
-  partner_told : (r i : ℕ) (other : Option ℕ) (b : Breach) → missing_breach routes (seat_at r i) other ≡ Some b → (m : ℕ) × (other ≡ Some m) × (has_stop routes m ≡ false) × (breach_at r i m 0 ≡ b)
+  partner_told : (r i : ℕ) (other : Option ℕ) (b : Breach) → missing_breach routes (seat_at r i) other ≡ Some b
+      → (m : ℕ) × (other ≡ Some m) × (has_stop routes m ≡ false) × (breach_at r i m 0 ≡ b)
   partner_told r i None b is = absurd (none_some b is)
   partner_told r i (Some m) b is =
       let e = if_some (not (has_stop routes m)) (seat_at r i) m 0 b is in
@@ -157,7 +146,7 @@ module _ (p : Instance) (routes : List (List ℕ)) where
       to b c =
           let t = places_to (stop_test p routes Missing) routes b c in
           let e = partner_told t.0 t.1 (partner_at p t.2.0) b t.2.2 in
-          subst IsMissingBreach e.3 ((t.2.0, t.2.1, e.1, in_no_route routes e.0 e.2), refl)
+          subst IsMissingBreach e.3 ((t.2.0, t.2.1, e.1, no_seat routes e.0 e.2), refl)
 
       from : (b : Breach) → IsMissingBreach b → Contains (stop_breaches p routes Missing) b
       from b is =

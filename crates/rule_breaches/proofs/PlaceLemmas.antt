@@ -17,7 +17,8 @@ use Rattle.rule_breaches.specs.declared.seats.Seat.{Seat}
 use Rattle.rule_breaches.proofs.ListLemmas.{in_option, option_in, rising_option, told_of, told_rising, told_to}
 
 -- a breach is told where its test holds
-pub if_some : (holds : Bool) (seat : Seat) (n by : ℕ) (b : Breach) → breach_if holds seat n by ≡ Some b → (holds ≡ true) × ◌≡◌ {A = Breach} (record { route = seat.route; place = seat.place; stop = n; by = by }) b
+pub if_some : (holds : Bool) (seat : Seat) (n by : ℕ) (b : Breach) → breach_if holds seat n by ≡ Some b
+    → (holds ≡ true) × ◌≡◌ {A = Breach} (record { route = seat.route; place = seat.place; stop = n; by = by }) b
 if_some false seat n by b is = absurd (none_some b is)
 if_some true seat n by b is = (refl, same_Some _ _ is)
 
@@ -26,7 +27,8 @@ abbrev pub breach_at : ℕ → ℕ → ℕ → ℕ → Breach
 breach_at r i n by = record { route = suc r; place = suc i; stop = n; by = by }
 
 pub at_seat : (r i n by : ℕ) → ◌≡◌ {A = Breach} (record { route = r + 1; place = i + 1; stop = n; by = by }) (breach_at r i n by)
-at_seat r i n by = ap (λ x. record { route = x; place = i + 1; stop = n; by = by }) (add-one r) ∙ ap (λ y. record { route = suc r; place = y; stop = n; by = by }) (add-one i)
+at_seat r i n by =
+    ap (λ x. record { route = x; place = i + 1; stop = n; by = by }) (add-one r) ∙ ap (λ y. record { route = suc r; place = y; stop = n; by = by }) (add-one i)
 
 pub zero-plus : (j : ℕ) → 0 + j ≡ j
 zero-plus j = omega arith
@@ -40,19 +42,30 @@ module _ (test : ℕ → List ℕ → ℕ → ℕ → Option Breach) (routes : L
   places_to b c =
       let a = told_to (told_of_places test) 0 routes b c in
       let e = told_to (λ i n. option_to_list (test (0 + a.0) a.1 i n)) 0 a.1 b a.3 in
-      let told : test (0 + a.0) a.1 (0 + e.0) e.1 ≡ Some b = in_option _ b e.3 in
-      (a.0, e.0, (e.1, (a.1, a.2, e.2), subst (λ r. test r a.1 e.0 e.1 ≡ Some b) (zero-plus a.0) (subst (λ i. test (0 + a.0) a.1 i e.1 ≡ Some b) (zero-plus e.0) told)))
+      let told : test (0 + a.0) a.1 (0 + e.0) e.1 ≡ Some b = in_option _ b e.3 in (
+        a.0,
+        e.0,
+        (
+          e.1,
+          (a.1, a.2, e.2),
+          subst (λ r. test r a.1 e.0 e.1 ≡ Some b) (zero-plus a.0) (subst (λ i. test (0 + a.0) a.1 i e.1 ≡ Some b) (zero-plus e.0) told),
+        ),
+      )
 
   pub places_of : (b : Breach) (r i : ℕ) → IsTold r i b → Contains (told_of_routes test routes) b
   places_of b r i t =
       let route = t.1.0 in
-      let told : test (0 + r) route (0 + i) t.0 ≡ Some b = subst (λ r. test r route (0 + i) t.0 ≡ Some b) (sym (zero-plus r)) (subst (λ i. test r route i t.0 ≡ Some b) (sym (zero-plus i)) t.2) in
-      told_of (told_of_places test) 0 routes b r route t.1.1 (told_of (λ i n. option_to_list (test (0 + r) route i n)) 0 route b i t.0 t.1.2 (option_in _ b told))
+      let told : test (0 + r) route (0 + i) t.0 ≡ Some b =
+      subst (λ r. test r route (0 + i) t.0 ≡ Some b) (sym (zero-plus r)) (subst (λ i. test r route i t.0 ≡ Some b) (sym (zero-plus i)) t.2) in
+      told_of (told_of_places test) 0 routes b r route t.1.1
+      (told_of (λ i n. option_to_list (test (0 + r) route i n)) 0 route b i t.0 t.1.2 (option_in _ b told))
 
-  pub places_rising : ((r : ℕ) (route : List ℕ) (i n : ℕ) (b : Breach) → test r route i n ≡ Some b → (b.route ≡ suc r) × (b.place ≡ suc i)) → AreRising (told_of_routes test routes)
+  pub places_rising : ((r : ℕ) (route : List ℕ) (i n : ℕ) (b : Breach) → test r route i n ≡ Some b → (b.route ≡ suc r) × (b.place ≡ suc i))
+      → AreRising (told_of_routes test routes)
   places_rising at =
       told_rising (told_of_places test)
-      (λ r route. told_rising (λ i n. option_to_list (test r route i n)) (λ i n. rising_option (test r route i n)) (λ i j n m b c lt first later. behind r route i j n m b c lt first later) 0 route)
+      (λ r route. told_rising (λ i n. option_to_list (test r route i n)) (λ i n. rising_option (test r route i n))
+      (λ i j n m b c lt first later. behind r route i j n m b c lt first later) 0 route)
       (λ r q route other b c lt first later. (
       let s = told_to (λ i n. option_to_list (test r route i n)) 0 route b first in
       let t = told_to (λ i n. option_to_list (test q other i n)) 0 other c later in
@@ -61,7 +74,8 @@ module _ (test : ℕ → List ℕ → ℕ → ℕ → Option Breach) (routes : L
       inl (omega arith)))
       0 routes
     where
-      behind : (r : ℕ) (route : List ℕ) (i j n m : ℕ) (b c : Breach) → i < j → Contains (option_to_list (test r route i n)) b → Contains (option_to_list (test r route j m)) c → IsBefore b c
+      behind : (r : ℕ) (route : List ℕ) (i j n m : ℕ) (b c : Breach) → i < j → Contains (option_to_list (test r route i n)) b
+          → Contains (option_to_list (test r route j m)) c → IsBefore b c
       behind r route i j n m b c lt first later =
           let here = at r route i n b (in_option _ b first) in
           let there = at r route j m c (in_option _ c later) in
@@ -102,9 +116,15 @@ module _ (p : Instance) (routes : List (List ℕ)) (k : Rule) (holds : ℕ → L
           let st = standing routes b.route b.place b.stop (stands b.route b.place b.stop is.0) in
           let r = st.0 in let i = st.1 in let sits = st.4 in
           let here : Broken_at (suc r) (suc i) b.stop = subst (λ y. Broken_at (suc r) y b.stop) st.3 (subst (λ x. Broken_at x b.place b.stop) st.2 is.0) in
-          let by : over r sits.0 i b.stop ≡ b.by = measured r i b.stop sits ∙ sym (ap (λ x. excess p routes k x (suc i)) st.2) ∙ sym (ap (λ y. excess p routes k b.route y) st.3) ∙ sym is.1 in
+          let by : over r sits.0 i b.stop ≡ b.by =
+          measured r i b.stop sits ∙ sym (ap (λ x. excess p routes k x (suc i)) st.2) ∙ sym (ap (λ y. excess p routes k b.route y) st.3) ∙ sym is.1 in
           let told : ◌≡◌ {A = Breach} (breach_at r i b.stop (over r sits.0 i b.stop)) b =
           ap (λ x. record { route = x; place = suc i; stop = b.stop; by = over r sits.0 i b.stop }) (sym st.2)
           ∙ ap (λ y. record { route = b.route; place = y; stop = b.stop; by = over r sits.0 i b.stop }) (sym st.3)
           ∙ ap (λ z. record { route = b.route; place = b.place; stop = b.stop; by = z }) by in
-          places_of rule_test routes b r i (b.stop, sits, ap (λ h. breach_if h (seat_at r i) b.stop (over r sits.0 i b.stop)) (complete r i b.stop sits here) ∙ ap Some (at_seat r i b.stop (over r sits.0 i b.stop) ∙ told))
+          places_of rule_test routes b r i (
+            b.stop,
+            sits,
+            ap (λ h. breach_if h (seat_at r i) b.stop (over r sits.0 i b.stop)) (complete r i b.stop sits here)
+                ∙ ap Some (at_seat r i b.stop (over r sits.0 i b.stop) ∙ told),
+          )

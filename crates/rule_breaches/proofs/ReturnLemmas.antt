@@ -67,11 +67,13 @@ module _ (p : Instance) (routes : List (List ℕ)) where
           both (not (eqb (length route) 0)) (is_late p (start p route (length route + 1)) p.depot.latest) (not_from_false _ (nonzero (length route) late.1.2))
           (late_holds p routes p.kind _ p.depot.latest late.0 (subst (λ i. p.depot.latest < start p route i) late.1.3 late.1.5)) in
           let by : start p route (length route + 1) - p.depot.latest ≡ b.by =
-          ap (λ i. start p route i - p.depot.latest) (sym late.1.3) ∙ ap (λ l. start p l b.place - p.depot.latest) (sym (ap (λ o. unwrap_or o []) late.1.1)) ∙ sym is.1 in
+          ap (λ i. start p route i - p.depot.latest) (sym late.1.3) ∙ ap (λ l. start p l b.place - p.depot.latest) (sym (ap (λ o. unwrap_or o []) late.1.1))
+          ∙ sym is.1 in
           let told : ◌≡◌ {A = Breach} (record { route = r + 1; place = length route + 1; stop = 0; by = start p route (length route + 1) - p.depot.latest }) b =
           ap (λ x. record { route = x; place = length route + 1; stop = 0; by = start p route (length route + 1) - p.depot.latest }) (add-one r ∙ sym at.1)
           ∙ ap (λ y. record { route = b.route; place = y; stop = 0; by = start p route (length route + 1) - p.depot.latest }) (sym late.1.3)
           ∙ ap (λ z. record { route = b.route; place = b.place; stop = z; by = start p route (length route + 1) - p.depot.latest }) (sym late.1.4)
           ∙ ap (λ z. record { route = b.route; place = b.place; stop = b.stop; by = z }) by in
-          let here : return_breach p r route ≡ Some b = ap (λ h. breach_if h (seat_at r (length route)) 0 (start p route (length route + 1) - p.depot.latest)) holds ∙ ap Some told in
+          let here : return_breach p r route ≡ Some b =
+          ap (λ h. breach_if h (seat_at r (length route)) 0 (start p route (length route + 1) - p.depot.latest)) holds ∙ ap Some told in
           told_of (return_told p) 0 routes b r route at.2 (option_in _ b (subst (λ q. return_breach p q route ≡ Some b) (sym (zero-plus r)) here))

@@ -1,5 +1,45 @@
 -- Of each rule on the stops of places the list holds all breaches: 1, 2, 4 to 7.
-use Rattle.std.proofs.Common.{◌≡◌, ◌≢◌, ℕ, suc, ◌+◌, ◌-◌, ◌-ℤ◌, ◌<◌, ◌≤◌, ◌⊎◌, Bool, true, false, not, ◌&&◌, ◌||◌, nat_lt, int_lt, pos, ◌<ℤ◌, List, [], Option, Some, None, unwrap_or, unsigned_abs, slice_get, refl, sym, ap, subst, ◌∙◌, inl, inr, arith, eqb, add-one, T}
+use Rattle.std.proofs.Common.{
+  ◌≡◌,
+  ◌≢◌,
+  ℕ,
+  suc,
+  ◌+◌,
+  ◌-◌,
+  ◌-ℤ◌,
+  ◌<◌,
+  ◌≤◌,
+  ◌⊎◌,
+  Bool,
+  true,
+  false,
+  not,
+  ◌&&◌,
+  ◌||◌,
+  nat_lt,
+  int_lt,
+  pos,
+  ◌<ℤ◌,
+  List,
+  [],
+  Option,
+  Some,
+  None,
+  unwrap_or,
+  unsigned_abs,
+  slice_get,
+  refl,
+  sym,
+  ap,
+  subst,
+  ◌∙◌,
+  inl,
+  inr,
+  arith,
+  eqb,
+  add-one,
+  T,
+}
 use Rattle.std.specs.Option.{is_none, option_map_or}
 use Rattle.std.proofs.lemmas.Bool.{and_parts, lt-ltb, ltb-true, or_cases}
 use Rattle.std.proofs.lemmas.Bool.Decides.{eqb_tells}
@@ -74,16 +114,26 @@ module _ (p : Instance) (routes : List (List ℕ)) where
   pub twice_all : AreAll (IsBreach p routes Twice) (stop_breaches p routes Twice)
   twice_all =
       rule_places p routes Twice (λ r route i n. is_repeated (seat_at r i) (first_seat routes n)) (λ r route i n. 0)
-      (λ r i n t h cost. to r i n t (first_seat routes n) refl h) (λ r i n t b. from r i n (first_seat routes n) refl (b 0)) (λ r i n b. (b 0).0) (λ r i n t. refl)
+      (λ r i n t h cost. to r i n t (first_seat routes n) refl h) (λ r i n t b. from r i n (first_seat routes n) refl (b 0)) (λ r i n b. (b 0).0)
+      (λ r i n t. refl)
     where
-      to : (r i n : ℕ) → Sits routes r i n → (o : Option Seat) → first_seat routes n ≡ o → is_repeated (seat_at r i) o ≡ true → IsRepeated p routes (suc r) (suc i) n
+      to : (r i n : ℕ) → Sits routes r i n → (o : Option Seat) → first_seat routes n ≡ o → is_repeated (seat_at r i) o ≡ true
+          → IsRepeated p routes (suc r) (suc i) n
       to r i n t None e h = not_so h
       to r i n t (Some s) e h =
           let f = first_found routes n s e in
-          let d = f.at_route in let j = f.at_place in
-          (t, (suc d, suc j, earlier d j (f.route_is) (f.place_is) (f.least r i t) (or_cases (not (eqb s.route (r + 1))) (not (eqb s.place (i + 1))) h), f.sits))
+          let d = f.at_route in let j = f.at_place in (
+            t,
+            (
+              suc d,
+              suc j,
+              earlier d j (f.route_is) (f.place_is) (f.least r i t) (or_cases (not (eqb s.route (r + 1))) (not (eqb s.place (i + 1))) h),
+              f.sits,
+            ),
+          )
         where
-          earlier : (d j : ℕ) → s.route ≡ 1 + d → s.place ≡ 1 + j → (d < r) ⊎ ((d ≡ r) × (j ≤ i)) → (not (eqb s.route (r + 1)) ≡ true) ⊎ (not (eqb s.place (i + 1)) ≡ true) → IsEarlier (suc d) (suc j) (suc r) (suc i)
+          earlier : (d j : ℕ) → s.route ≡ 1 + d → s.place ≡ 1 + j → (d < r) ⊎ ((d ≡ r) × (j ≤ i))
+              → (not (eqb s.route (r + 1)) ≡ true) ⊎ (not (eqb s.place (i + 1)) ≡ true) → IsEarlier (suc d) (suc j) (suc r) (suc i)
           earlier d j x y (inl lt) other = inl (omega arith)
           earlier d j x y (inr le) (inl other) = let same = le.0 in absurd (are_apart s.route (r + 1) other (omega arith))
           earlier d j x y (inr le) (inr other) =
@@ -102,9 +152,11 @@ module _ (p : Instance) (routes : List (List ℕ)) where
       from r i n (Some s) e b =
           let st = standing routes b.1.0 b.1.1 n b.1.3 in
           let f = first_found routes n s e in
-          either (not (eqb s.route (r + 1))) (not (eqb s.place (i + 1))) (elsewhere (f.at_route) (f.at_place) (f.route_is) (f.place_is) st.0 st.1 b.1.0 b.1.1 st.2 st.3 (f.least st.0 st.1 st.4) b.1.2)
+          either (not (eqb s.route (r + 1))) (not (eqb s.place (i + 1)))
+          (elsewhere (f.at_route) (f.at_place) (f.route_is) (f.place_is) st.0 st.1 b.1.0 b.1.1 st.2 st.3 (f.least st.0 st.1 st.4) b.1.2)
         where
-          elsewhere : (d j : ℕ) → s.route ≡ 1 + d → s.place ≡ 1 + j → (q' i' q k : ℕ) → q ≡ suc q' → k ≡ suc i' → (d < q') ⊎ ((d ≡ q') × (j ≤ i')) → IsEarlier q k (suc r) (suc i) → (not (eqb s.route (r + 1)) ≡ true) ⊎ (not (eqb s.place (i + 1)) ≡ true)
+          elsewhere : (d j : ℕ) → s.route ≡ 1 + d → s.place ≡ 1 + j → (q' i' q k : ℕ) → q ≡ suc q' → k ≡ suc i' → (d < q') ⊎ ((d ≡ q') × (j ≤ i'))
+              → IsEarlier q k (suc r) (suc i) → (not (eqb s.route (r + 1)) ≡ true) ⊎ (not (eqb s.place (i + 1)) ≡ true)
           elsewhere d j x y q' i' q k eq ek (inl lt) (inl before) = inl (apart s.route (r + 1) (λ e. omega arith))
           elsewhere d j x y q' i' q k eq ek (inl lt) (inr before) = let same = before.0 in inl (apart s.route (r + 1) (λ e. omega arith))
           elsewhere d j x y q' i' q k eq ek (inr le) (inl before) = let same = le.0 in inl (apart s.route (r + 1) (λ e. omega arith))
@@ -127,11 +179,13 @@ module _ (p : Instance) (routes : List (List ℕ)) where
       rule_places p routes SplitPair (λ r route i n. is_split routes (seat_at r i) (partner_at p n)) (λ r route i n. 0)
       (λ r i n t h cost. (t, to r i (partner_at p n) h)) (λ r i n t b. from r i (partner_at p n) (b 0).1) (λ r i n b. (b 0).0) (λ r i n t. refl)
     where
-      to : (r i : ℕ) (other : Option ℕ) → is_split routes (seat_at r i) other ≡ true → (m : ℕ) × (other ≡ Some m) × ((q : ℕ) × (j : ℕ) × (q ≢ suc r) × Stands routes q j m)
+      to : (r i : ℕ) (other : Option ℕ) → is_split routes (seat_at r i) other ≡ true
+          → (m : ℕ) × (other ≡ Some m) × ((q : ℕ) × (j : ℕ) × (q ≢ suc r) × Stands routes q j m)
       to r i None h = not_so h
       to r i (Some m) h = by (first_seat routes m) refl h
         where
-          by : (o : Option Seat) → first_seat routes m ≡ o → option_map_or (λ s. not (eqb s.route (r + 1))) o false ≡ true → (k : ℕ) × (Some m ≡ Some k) × ((q : ℕ) × (j : ℕ) × (q ≢ suc r) × Stands routes q j k)
+          by : (o : Option Seat) → first_seat routes m ≡ o → option_map_or (λ s. not (eqb s.route (r + 1))) o false ≡ true
+              → (k : ℕ) × (Some m ≡ Some k) × ((q : ℕ) × (j : ℕ) × (q ≢ suc r) × Stands routes q j k)
           by None e h = not_so h
           by (Some s) e h =
               let f = first_found routes m s e in
@@ -139,13 +193,15 @@ module _ (p : Instance) (routes : List (List ℕ)) where
               let ne = are_apart s.route (r + 1) h in
               (m, refl, (suc (f.at_route), suc (f.at_place), (λ same. ne (omega arith)), f.sits))
 
-      from : (r i : ℕ) (other : Option ℕ) → (m : ℕ) × (other ≡ Some m) × ((q : ℕ) × (j : ℕ) × (q ≢ suc r) × Stands routes q j m) → is_split routes (seat_at r i) other ≡ true
+      from : (r i : ℕ) (other : Option ℕ) → (m : ℕ) × (other ≡ Some m) × ((q : ℕ) × (j : ℕ) × (q ≢ suc r) × Stands routes q j m)
+          → is_split routes (seat_at r i) other ≡ true
       from r i other b =
           let m = b.0 in
           let st = standing routes b.2.0 b.2.1 m b.2.3 in
           ap (λ (o : Option ℕ). is_split routes (seat_at r i) o) b.1 ∙ by m st.0 st.1 st.4 (λ same. b.2.2 (st.2 ∙ ap suc same)) (first_seat routes m) refl
         where
-          by : (m q j : ℕ) → Sits routes q j m → q ≢ r → (o : Option Seat) → first_seat routes m ≡ o → option_map_or (λ s. not (eqb s.route (r + 1))) o false ≡ true
+          by : (m q j : ℕ) → Sits routes q j m → q ≢ r → (o : Option Seat) → first_seat routes m ≡ o
+              → option_map_or (λ s. not (eqb s.route (r + 1))) o false ≡ true
           by m q j t ne None e = absurd (first_none routes m e q j t)
           by m q j t ne (Some s) e =
               let f = first_found routes m s e in
@@ -157,11 +213,13 @@ module _ (p : Instance) (routes : List (List ℕ)) where
       rule_places p routes DeliveryFirst (λ r route i n. is_early routes (seat_at r i) (pickup_at p n)) (λ r route i n. 0)
       (λ r i n t h cost. (t, to r i (pickup_at p n) h)) (λ r i n t b. from r i (pickup_at p n) (b 0).1) (λ r i n b. (b 0).0) (λ r i n t. refl)
     where
-      to : (r i : ℕ) (pickup : Option ℕ) → is_early routes (seat_at r i) pickup ≡ true → (m : ℕ) × (pickup ≡ Some m) × ((j : ℕ) × (suc i < j) × Stands routes (suc r) j m)
+      to : (r i : ℕ) (pickup : Option ℕ) → is_early routes (seat_at r i) pickup ≡ true
+          → (m : ℕ) × (pickup ≡ Some m) × ((j : ℕ) × (suc i < j) × Stands routes (suc r) j m)
       to r i None h = not_so h
       to r i (Some m) h = by (first_seat routes m) refl h
         where
-          by : (o : Option Seat) → first_seat routes m ≡ o → option_map_or (λ s. eqb s.route (r + 1) && nat_lt (i + 1) s.place) o false ≡ true → (k : ℕ) × (Some m ≡ Some k) × ((j : ℕ) × (suc i < j) × Stands routes (suc r) j k)
+          by : (o : Option Seat) → first_seat routes m ≡ o → option_map_or (λ s. eqb s.route (r + 1) && nat_lt (i + 1) s.place) o false ≡ true
+              → (k : ℕ) × (Some m ≡ Some k) × ((j : ℕ) × (suc i < j) × Stands routes (suc r) j k)
           by None e h = not_so h
           by (Some s) e h =
               let f = first_found routes m s e in
@@ -172,14 +230,16 @@ module _ (p : Instance) (routes : List (List ℕ)) where
               let same : f.at_route ≡ r = omega arith in
               (m, refl, (suc (f.at_place), omega arith, subst (λ q. Sits routes q (f.at_place) m) same (f.sits)))
 
-      from : (r i : ℕ) (pickup : Option ℕ) → (m : ℕ) × (pickup ≡ Some m) × ((j : ℕ) × (suc i < j) × Stands routes (suc r) j m) → is_early routes (seat_at r i) pickup ≡ true
+      from : (r i : ℕ) (pickup : Option ℕ) → (m : ℕ) × (pickup ≡ Some m) × ((j : ℕ) × (suc i < j) × Stands routes (suc r) j m)
+          → is_early routes (seat_at r i) pickup ≡ true
       from r i pickup b =
           let m = b.0 in
           let st = standing routes (suc r) b.2.0 m b.2.2 in
           let lt = b.2.1 in let eq = st.2 in let at = st.3 in
           ap (λ (o : Option ℕ). is_early routes (seat_at r i) o) b.1 ∙ by m st.0 st.1 st.4 (omega arith) (omega arith) (first_seat routes m) refl
         where
-          by : (m q j : ℕ) → Sits routes q j m → q ≡ r → i < j → (o : Option Seat) → first_seat routes m ≡ o → option_map_or (λ s. eqb s.route (r + 1) && nat_lt (i + 1) s.place) o false ≡ true
+          by : (m q j : ℕ) → Sits routes q j m → q ≡ r → i < j → (o : Option Seat) → first_seat routes m ≡ o
+              → option_map_or (λ s. eqb s.route (r + 1) && nat_lt (i + 1) s.place) o false ≡ true
           by m q j t here lt None e = absurd (first_none routes m e q j t)
           by m q j t here lt (Some s) e =
               let f = first_found routes m s e in
@@ -200,7 +260,8 @@ module _ (p : Instance) (routes : List (List ℕ)) where
       let over : pos p.capacity <ℤ load p t.0 (suc i) = subst (λ (l : List ℕ). pos p.capacity <ℤ load p l (suc i)) same (b 0).3 in
       subst (λ k. int_lt (pos p.capacity) (load p t.0 k) ≡ true) (sym (add-one i)) (true_from (int_lt (pos p.capacity) (load p t.0 (suc i))) (over.lt))))
       (λ r i n b. ((b 0).0, (b 0).1, (b 0).2))
-      (λ r i n t. ap (λ k. unsigned_abs (load p t.0 k -ℤ pos p.capacity)) (add-one i) ∙ ap (λ l. unsigned_abs (load p l (suc i) -ℤ pos p.capacity)) (sym (on_route r i n t)))
+      (λ r i n t. ap (λ k. unsigned_abs (load p t.0 k -ℤ pos p.capacity)) (add-one i)
+      ∙ ap (λ l. unsigned_abs (load p l (suc i) -ℤ pos p.capacity)) (sym (on_route r i n t)))
 
   pub late_true : (kind : Kind) (time latest : ℕ) → late_in kind time latest ≡ true → (kind ≡ LiLim) × (latest < time)
   late_true LiLim time latest h = (refl, ltb-true latest time h)
@@ -211,11 +272,13 @@ module _ (p : Instance) (routes : List (List ℕ)) where
 
   pub late_all : AreAll (IsBreach p routes Late) (visit_breaches p routes Late)
   late_all =
-      rule_places p routes Late (λ r route i n. is_late p (start p route (i + 1)) (place p route (i + 1)).latest) (λ r route i n. start p route (i + 1) - (place p route (i + 1)).latest)
+      rule_places p routes Late (λ r route i n. is_late p (start p route (i + 1)) (place p route (i + 1)).latest)
+      (λ r route i n. start p route (i + 1) - (place p route (i + 1)).latest)
       (λ r i n t h cost. (let late = late_true p.kind (start p t.0 (i + 1)) (place p t.0 (i + 1)).latest h in
       (late.0, (t.0, t.1, t.2, subst (λ k. (place p t.0 k).latest < start p t.0 k) (add-one i) late.1))))
       (λ r i n t b. (let same : (b 0).1.0 ≡ t.0 = same_Some _ _ (sym (b 0).1.1 ∙ t.1) in
       let late : (place p t.0 (suc i)).latest < start p t.0 (suc i) = subst (λ (l : List ℕ). (place p l (suc i)).latest < start p l (suc i)) same (b 0).1.3 in
       late_holds p.kind _ _ (b 0).0 (subst (λ k. (place p t.0 k).latest < start p t.0 k) (sym (add-one i)) late)))
       (λ r i n b. ((b 0).1.0, (b 0).1.1, (b 0).1.2))
-      (λ r i n t. ap (λ k. start p t.0 k - (place p t.0 k).latest) (add-one i) ∙ ap (λ l. start p l (suc i) - (place p l (suc i)).latest) (sym (on_route r i n t)))
+      (λ r i n t. ap (λ k. start p t.0 k - (place p t.0 k).latest) (add-one i)
+      ∙ ap (λ l. start p l (suc i) - (place p l (suc i)).latest) (sym (on_route r i n t)))

@@ -1,15 +1,14 @@
 -- Where a stop stands first, and that it stands in some route.
-use Rattle.std.proofs.Common.{◌≡◌, ℕ, zero, suc, ◌+◌, ◌<◌, ◌≤◌, ◌⊎◌, Bool, true, false, cond, List, [], ◌∷◌, Option, Some, None, is_some, slice_get, refl, sym, ap, subst, ◌∙◌, inl, inr, arith, eqb}
+use Rattle.std.proofs.Common.{◌≡◌, ℕ, zero, suc, ◌+◌, ◌<◌, ◌≤◌, ◌⊎◌, Bool, true, false, cond, List, [], ◌∷◌, Option, Some, None, slice_get, refl, sym, ap, subst, inl, inr, arith, eqb}
 use Rattle.std.specs.Option.{option_map, option_or}
 use Rattle.std.proofs.lemmas.Bool.Decides.{eqb_tells}
 use Rattle.std.proofs.lemmas.Option.{same_Some}
 use Rattle.route_sched.specs.Cost.{has_stop}
 use Rattle.plan_audit.specs.Rules.{StandsSomewhere}
-use Rattle.plan_audit.specs.Finding.{place_of, seat_of}
+use Rattle.plan_audit.specs.Finding.{place_of}
 use Rattle.plan_audit.proofs.FirstLemmas.{none_some}
-use Rattle.plan_audit.proofs.RuleLemmas.{nowhere-seat}
 use Rattle.plan_audit.proofs.SeatLemmas.{Sits}
-use Rattle.plan_audit.proofs.ServedLemmas.{a_seat, seat-has}
+use Rattle.plan_audit.proofs.ServedLemmas.{a_seat}
 use Rattle.rule_breaches.specs.Seats.{first_seat, seat_from}
 use Rattle.rule_breaches.specs.declared.seats.Seat.{Seat}
 
@@ -36,7 +35,8 @@ place_found n k i (m ∷ ms) is = elim (eqb_tells m n) [
       })
 ]
   where
-    later_least : (m n : ℕ) (ms : List ℕ) (index : ℕ) → (m ≡ n → ⊥) → ((j : ℕ) → slice_get ms j ≡ Some n → index ≤ j) → (j : ℕ) → slice_get (m ∷ ms) j ≡ Some n → suc index ≤ j
+    later_least : (m n : ℕ) (ms : List ℕ) (index : ℕ) → (m ≡ n → ⊥) → ((j : ℕ) → slice_get ms j ≡ Some n → index ≤ j) → (j : ℕ) → slice_get (m ∷ ms) j ≡ Some n
+        → suc index ≤ j
     later_least m n ms index ne least zero at = absurd (ne (same_Some m n at))
     later_least m n ms index ne least (suc j) at = let le = least j at in omega arith
 
@@ -70,7 +70,8 @@ seat_found n k (route ∷ routes) s is = by (place_of n 1 route) refl (λ h. sea
   where
     by : (o : Option ℕ) → place_of n 1 route ≡ o → (seat_from n (k + 1) routes ≡ Some s → IsFirstSeat n (k + 1) routes s) → IsFirstSeat n k (route ∷ routes) s
     by (Some i) e rest =
-        let told : option_or (route_seat k (Some i)) (seat_from n (k + 1) routes) ≡ Some s = (let h : option_or (route_seat k (place_of n 1 route)) (seat_from n (k + 1) routes) ≡ Some s = is in rw e at h) in
+        let told : option_or (route_seat k (Some i)) (seat_from n (k + 1) routes) ≡ Some s =
+        (let h : option_or (route_seat k (place_of n 1 route)) (seat_from n (k + 1) routes) ≡ Some s = is in rw e at h) in
         let same : ◌≡◌ {A = Seat} (record { route = k; place = i }) s = same_Some _ _ told in
         let here = place_found n 1 i route e in
         record {
@@ -96,7 +97,8 @@ seat_found n k (route ∷ routes) s is = by (place_of n 1 route) refl (λ h. sea
           least = λ r j t. behind (later.at_route) (later.at_place) (later.least) r j t;
         }
       where
-        behind : (d index : ℕ) → ((r j : ℕ) → Sits routes r j n → (d < r) ⊎ ((d ≡ r) × (index ≤ j))) → (r j : ℕ) → Sits (route ∷ routes) r j n → (suc d < r) ⊎ ((suc d ≡ r) × (index ≤ j))
+        behind : (d index : ℕ) → ((r j : ℕ) → Sits routes r j n → (d < r) ⊎ ((d ≡ r) × (index ≤ j))) → (r j : ℕ) → Sits (route ∷ routes) r j n
+            → (suc d < r) ⊎ ((suc d ≡ r) × (index ≤ j))
         behind d index least zero j t = absurd (no_place n 1 route e j (subst (λ (l : List ℕ). slice_get l j ≡ Some n) (sym (same_Some route t.0 t.1)) t.2))
         behind d index least (suc r) j t = elim (least r j t) [
           | inl lt ↦ inl (omega arith)
@@ -108,7 +110,8 @@ unfolding route_seat
 no_seat n k [] is r i t = absurd (none_some (t.0) (t.1))
 no_seat n k (route ∷ routes) is r i t = by (place_of n 1 route) refl (λ h r i t. no_seat n (k + 1) routes h r i t) r i t
   where
-    by : (o : Option ℕ) → place_of n 1 route ≡ o → (seat_from n (k + 1) routes ≡ None → (r i : ℕ) → Sits routes r i n → ⊥) → (r i : ℕ) → Sits (route ∷ routes) r i n → ⊥
+    by : (o : Option ℕ) → place_of n 1 route ≡ o → (seat_from n (k + 1) routes ≡ None → (r i : ℕ) → Sits routes r i n → ⊥) → (r i : ℕ)
+        → Sits (route ∷ routes) r i n → ⊥
     by (Some j) e rest r i t =
         none_some _ (sym (let h : option_or (route_seat k (place_of n 1 route)) (seat_from n (k + 1) routes) ≡ None = is in rw e at h))
     by None e rest zero i t = no_place n 1 route e i (subst (λ (l : List ℕ). slice_get l i ≡ Some n) (sym (same_Some route t.0 t.1)) t.2)
@@ -120,14 +123,7 @@ first_found routes n s is = seat_found n 1 routes s is
 pub first_none : (routes : List (List ℕ)) (n : ℕ) → first_seat routes n ≡ None → (r i : ℕ) → Sits routes r i n → ⊥
 first_none routes n is r i t = no_seat n 1 routes is r i t
 
--- who is in no route has no seat, and the other way round
-no_some : {X : Type 0} (o : Option X) → is_some o ≡ false → o ≡ None
-no_some None e = refl
-no_some (Some x) e = absurd (let h : true ≡ false = e in cc)
-
-pub in_no_route : (routes : List (List ℕ)) (n : ℕ) → has_stop routes n ≡ false → StandsSomewhere routes n → ⊥
-in_no_route routes n none = nowhere-seat routes n (no_some (seat_of routes n) (seat-has routes n ∙ none))
-
+-- who stands nowhere is in no route
 pub has_none : (routes : List (List ℕ)) (n : ℕ) → (StandsSomewhere routes n → ⊥) → has_stop routes n ≡ false
 has_none routes n nowhere = by (has_stop routes n) refl
   where

@@ -21,12 +21,14 @@ together [] ys zs = refl
 together (x ∷ xs) ys zs = ap (λ l. x ∷ l) (together xs ys zs)
 
 -- one more item
-next_item : {X : Type 0} (tell : ℕ → X → List Breach) (i : ℕ) (xs : List X) (k : ℕ) (x : X) → slice_get xs k ≡ Some x → told_from tell i (drop k xs) ≡ tell i x ++ told_from tell (i + 1) (drop (suc k) xs)
+next_item : {X : Type 0} (tell : ℕ → X → List Breach) (i : ℕ) (xs : List X) (k : ℕ) (x : X) → slice_get xs k ≡ Some x
+    → told_from tell i (drop k xs) ≡ tell i x ++ told_from tell (i + 1) (drop (suc k) xs)
 next_item tell i [] k x at = absurd (none_some x at)
 next_item tell i (y ∷ xs) zero x at = ap (λ z. tell i z ++ told_from tell (i + 1) xs) (same_Some y x at)
 next_item tell i (y ∷ xs) (suc k) x at = next_item tell i xs k x at
 
-pub kept_on : {X : Type 0} (tell : ℕ → X → List Breach) (xs : List X) (k : ℕ) (x : X) (before after all : List Breach) → slice_get xs k ≡ Some x → after ≡ before ++ tell k x → before ++ told_from tell k (drop k xs) ≡ all → after ++ told_from tell (k + 1) (drop (k + 1) xs) ≡ all
+pub kept_on : {X : Type 0} (tell : ℕ → X → List Breach) (xs : List X) (k : ℕ) (x : X) (before after all : List Breach) → slice_get xs k ≡ Some x
+    → after ≡ before ++ tell k x → before ++ told_from tell k (drop k xs) ≡ all → after ++ told_from tell (k + 1) (drop (k + 1) xs) ≡ all
 kept_on tell xs k x before after all at added is =
     ap (λ l. l ++ told_from tell (k + 1) (drop (k + 1) xs)) added
     ∙ together before _ _
@@ -35,13 +37,16 @@ kept_on tell xs k x before after all at added is =
     ∙ is
 
 -- one more visit
-pub visit_kept : (p : Instance) (rule : Rule) (r : ℕ) (route : List ℕ) (k : ℕ) (v : Visit) (seat : Seat) (before after all : List Breach) (o : Option Breach) → k < length route → v ≡ visit_after p route k → seat ≡ seat_at r k
+pub visit_kept : (p : Instance) (rule : Rule) (r : ℕ) (route : List ℕ) (k : ℕ) (v : Visit) (seat : Seat) (before after all : List Breach) (o : Option Breach)
+    → k < length route → v ≡ visit_after p route k → seat ≡ seat_at r k
     → o ≡ visit_breach p rule seat (get_or route k 0) v → after ≡ before ++ option_to_list o
     → before ++ told_from (λ i n. option_to_list (visit_test p rule r route i n)) k (drop k route) ≡ all
     → after ++ told_from (λ i n. option_to_list (visit_test p rule r route i n)) (k + 1) (drop (k + 1) route) ≡ all
 visit_kept p rule r route k v seat before after all o lt is at told added so_far =
-    let here : o ≡ visit_test p rule r route k (get_or route k 0) = told ∙ ap (λ s. visit_breach p rule s (get_or route k 0) v) at ∙ ap (λ w. visit_breach p rule (seat_at r k) (get_or route k 0) w) is in
-    kept_on (λ i n. option_to_list (visit_test p rule r route i n)) route k (get_or route k 0) before after all (stands route k lt) (added ∙ ap (λ q. before ++ option_to_list q) here) so_far
+    let here : o ≡ visit_test p rule r route k (get_or route k 0) =
+    told ∙ ap (λ s. visit_breach p rule s (get_or route k 0) v) at ∙ ap (λ w. visit_breach p rule (seat_at r k) (get_or route k 0) w) is in
+    kept_on (λ i n. option_to_list (visit_test p rule r route i n)) route k (get_or route k 0) before after all (stands route k lt)
+    (added ∙ ap (λ q. before ++ option_to_list q) here) so_far
   where
     stands : (ns : List ℕ) (k : ℕ) → k < length ns → slice_get ns k ≡ Some (get_or ns k 0)
     stands [] k lt = absurd (omega arith)
@@ -55,18 +60,23 @@ none_left [] (suc k) none = (refl, refl)
 none_left (e ∷ es) zero none = absurd (none_some e (sym none))
 none_left (e ∷ es) (suc k) none = none_left es k none
 
-pub unserved_kept : (routes : List (List ℕ)) (es : List (ℕ × Request)) (k : ℕ) (before after all : List Breach) (o : Option Breach) → after ≡ before ++ option_to_list o → o ≡ option_and_then (unserved_breach routes) (slice_get es k)
-    → before ++ told_from (λ _ e. option_to_list (unserved_breach routes e)) k (drop k es) ≡ all → after ++ told_from (λ _ e. option_to_list (unserved_breach routes e)) (k + 1) (drop (k + 1) es) ≡ all
+pub unserved_kept : (routes : List (List ℕ)) (es : List (ℕ × Request)) (k : ℕ) (before after all : List Breach) (o : Option Breach)
+    → after ≡ before ++ option_to_list o → o ≡ option_and_then (unserved_breach routes) (slice_get es k)
+    → before ++ told_from (λ _ e. option_to_list (unserved_breach routes e)) k (drop k es) ≡ all
+    → after ++ told_from (λ _ e. option_to_list (unserved_breach routes e)) (k + 1) (drop (k + 1) es) ≡ all
 unserved_kept routes es k before after all o added is so_far = by (slice_get es k) refl
   where
-    by : (item : Option (ℕ × Request)) → slice_get es k ≡ item → after ++ told_from (λ _ e. option_to_list (unserved_breach routes e)) (k + 1) (drop (k + 1) es) ≡ all
+    by : (item : Option (ℕ × Request)) → slice_get es k ≡ item
+        → after ++ told_from (λ _ e. option_to_list (unserved_breach routes e)) (k + 1) (drop (k + 1) es) ≡ all
     by None at =
         ap (λ l. after ++ told_from (λ _ e. option_to_list (unserved_breach routes e)) (k + 1) l) (ap (λ n. drop n es) (add-one k) ∙ (none_left es k at).1)
         ∙ ap (λ l. l ++ []) (added ∙ ap (λ q. before ++ option_to_list q) (is ∙ ap (option_and_then (unserved_breach routes)) at))
         ∙ append-nil (before ++ [])
         ∙ ap (λ l. before ++ told_from (λ _ e. option_to_list (unserved_breach routes e)) k l) (sym (none_left es k at).0)
         ∙ so_far
-    by (Some e) at = kept_on (λ _ e. option_to_list (unserved_breach routes e)) es k e before after all at (added ∙ ap (λ q. before ++ option_to_list q) (is ∙ ap (option_and_then (unserved_breach routes)) at)) so_far
+    by (Some e) at =
+        kept_on (λ _ e. option_to_list (unserved_breach routes e)) es k e before after all at
+        (added ∙ ap (λ q. before ++ option_to_list q) (is ∙ ap (option_and_then (unserved_breach routes)) at)) so_far
 
 ids : (xs : List ℕ) → map (λ x. x) xs ≡ xs
 ids [] = refl
@@ -81,7 +91,8 @@ next_number f n = flat_map_more f [] (range_with_len 0 n) n ∙ sym (ap (flat_ma
 
 module _ (p : Instance) (route : List ℕ) (k : ℕ) (o : Option Visit) where
   here : k ≤ length route → slice_get (visits_from p route 0) k ≡ Some (visit_after p route k)
-  here within = nth-range (visit_after p route) 0 (length route + 1 - 0) k (omega arith) ∙ ap (λ i. Some (visit_after p route i)) (let e : 0 + k ≡ k = omega arith in e)
+  here within =
+      nth-range (visit_after p route) 0 (length route + 1 - 0) k (omega arith) ∙ ap (λ i. Some (visit_after p route i)) (let e : 0 + k ≡ k = omega arith in e)
 
   same : (o : Option Visit) (v w : Visit) → o ≡ Some v → option_map (λ z. z) o ≡ Some w → v ≡ w
   same None v w e h = absurd (none_some v e)

@@ -15,12 +15,12 @@ use Rattle.plan_types.specs.declared.requests.Request.TheVariants.{Single, Pair}
 use Rattle.route_sched.specs.Cost.{has_stop}
 use Rattle.plan_audit.specs.Rules.{StandsSomewhere}
 use Rattle.plan_audit.proofs.FirstLemmas.{none_some}
-use Rattle.plan_audit.proofs.ServedLemmas.{IsNowhere, a_seat}
+use Rattle.plan_audit.proofs.ServedLemmas.{IsNowhere, a_seat, no_seat}
 use Rattle.rule_breaches.specs.Breaches.{is_missing, missing_from, missing_stops}
 use Rattle.rule_breaches.specs.Laws.{IsMissingStop}
 use Rattle.rule_breaches.proofs.ListLemmas.{in_cases, in_head, in_nothing, in_tail}
 use Rattle.rule_breaches.proofs.RuleLemmas.{both, not_so}
-use Rattle.rule_breaches.proofs.SeatLemmas.{has_none, in_no_route}
+use Rattle.rule_breaches.proofs.SeatLemmas.{has_none}
 
 -- the test of two numbers tells whether they are one
 abbrev Tells : ℕ → ℕ → Type 0
@@ -48,12 +48,17 @@ in_range a (suc k) n le lt = elim (eqb_tells a n) [
 ]
 
 -- the request of a stop that is there
-stop_of : (n : ℕ) (es : List (ℕ × Request)) → is_some (first_some (stop_in n) es) ≡ true → (r : Request) × (first_some (λ r. option_map (λ _. r) (stop_in n r)) es ≡ Some r) × IsSome (stop_in n r)
+stop_of : (n : ℕ) (es : List (ℕ × Request)) → is_some (first_some (stop_in n) es) ≡ true
+    → (r : Request) × (first_some (λ r. option_map (λ _. r) (stop_in n r)) es ≡ Some r) × IsSome (stop_in n r)
 stop_of n [] some = not_so some
 stop_of n (e ∷ es) some = by (stop_in n e.1) refl (λ h. stop_of n es h) some
   where
-    by : (o : Option Stop) → stop_in n e.1 ≡ o → (is_some (first_some (stop_in n) es) ≡ true → (r : Request) × (first_some (λ r. option_map (λ _. r) (stop_in n r)) es ≡ Some r) × IsSome (stop_in n r)) → is_some (option_or (stop_in n e.1) (first_some (stop_in n) es)) ≡ true
-        → (r : Request) × (option_or (option_map (λ _. e.1) (stop_in n e.1)) (first_some (λ r. option_map (λ _. r) (stop_in n r)) es) ≡ Some r) × IsSome (stop_in n r)
+    by : (o : Option Stop) → stop_in n e.1 ≡ o
+        → (is_some (first_some (stop_in n) es) ≡ true
+        → (r : Request) × (first_some (λ r. option_map (λ _. r) (stop_in n r)) es ≡ Some r) × IsSome (stop_in n r))
+        → is_some (option_or (stop_in n e.1) (first_some (stop_in n) es)) ≡ true
+        → (r : Request) × (option_or (option_map (λ _. e.1) (stop_in n e.1)) (first_some (λ r. option_map (λ _. r) (stop_in n r)) es) ≡ Some r)
+        × IsSome (stop_in n r)
     by None at rest some =
         let later = rest (ap (λ o. is_some (option_or o (first_some (stop_in n) es))) (sym at) ∙ some) in
         (later.0, ap (λ o. option_or (option_map (λ _. e.1) o) (first_some (λ r. option_map (λ _. r) (stop_in n r)) es)) at ∙ later.1, later.2)
@@ -67,7 +72,8 @@ found_in n (e ∷ es) r is = by (stop_in n e.1) refl (λ h. found_in n es r h)
     by : (o : Option Stop) → stop_in n e.1 ≡ o → (first_some (λ r. option_map (λ _. r) (stop_in n r)) es ≡ Some r → IsSome (stop_in n r)) → IsSome (stop_in n r)
     by None at rest = rest (ap (λ o. option_or (option_map (λ _. e.1) o) (first_some (λ r. option_map (λ _. r) (stop_in n r)) es)) (sym at) ∙ is)
     by (Some s) at rest =
-        let same : e.1 ≡ r = same_Some _ _ (ap (λ o. option_or (option_map (λ _. e.1) o) (first_some (λ r. option_map (λ _. r) (stop_in n r)) es)) (sym at) ∙ is) in
+        let same : e.1 ≡ r =
+        same_Some _ _ (ap (λ o. option_or (option_map (λ _. e.1) o) (first_some (λ r. option_map (λ _. r) (stop_in n r)) es)) (sym at) ∙ is) in
         subst (λ (r : Request). IsSome (stop_in n r)) same (ap is_some at)
 
 -- the stop of a single request, and those of a pair
@@ -108,12 +114,14 @@ pair_partner n a b some = elim (eqb_tells a.number n) [
   where
     delivery_there : Tells a.number b.number → Tells b.number b.number → IsSome (stop_in b.number (Pair a b))
     delivery_there (inl t) u = ap (λ h. is_some (cond h (Some a) (cond (eqb b.number b.number) (Some b) None))) t.0
-    delivery_there (inr t) (inl u) = ap (λ h. is_some (cond h (Some a) (cond (eqb b.number b.number) (Some b) None))) t.0 ∙ ap (λ h. is_some (cond h (Some b) None)) u.0
+    delivery_there (inr t) (inl u) =
+        ap (λ h. is_some (cond h (Some a) (cond (eqb b.number b.number) (Some b) None))) t.0 ∙ ap (λ h. is_some (cond h (Some b) None)) u.0
     delivery_there (inr t) (inr u) = absurd (u.1 refl)
 
     delivery_partner : Tells a.number b.number → Tells b.number b.number → partner_in b.number (Pair a b) ≡ Some a.number
     delivery_partner (inl t) u = ap (λ h. cond h (Some b.number) (cond (eqb b.number b.number) (Some a.number) None)) t.0 ∙ ap Some (sym t.1)
-    delivery_partner (inr t) (inl u) = ap (λ h. cond h (Some b.number) (cond (eqb b.number b.number) (Some a.number) None)) t.0 ∙ ap (λ h. cond h (Some a.number) None) u.0
+    delivery_partner (inr t) (inl u) =
+        ap (λ h. cond h (Some b.number) (cond (eqb b.number b.number) (Some a.number) None)) t.0 ∙ ap (λ h. cond h (Some a.number) None) u.0
     delivery_partner (inr t) (inr u) = absurd (u.1 refl)
 
     pickup_there : Tells a.number a.number → IsSome (stop_in a.number (Pair a b))
@@ -128,10 +136,16 @@ pair_partner n a b some = elim (eqb_tells a.number n) [
 partner_there : (m n : ℕ) (r : Request) → partner_in m r ≡ Some n → IsSome (stop_in n r)
 partner_there m n (Single s) is = absurd (none_some n is)
 partner_there m n (Pair a b) is = elim (eqb_tells a.number m) [
-  | inl t ↦ delivery (same_Some _ _ (ap (λ h. cond h (Some b.number) (cond (eqb b.number m) (Some a.number) None)) (sym t.0) ∙ is)) (eqb_tells a.number n) (eqb_tells b.number n)
+  | inl t ↦ delivery (same_Some _ _ (ap (λ h. cond h (Some b.number) (cond (eqb b.number m) (Some a.number) None)) (sym t.0) ∙ is)) (eqb_tells a.number n)
+      (eqb_tells b.number n)
   | inr t ↦ elim (eqb_tells b.number m) [
-    | inl u ↦ pickup (same_Some _ _ (ap (λ h. cond h (Some a.number) None) (sym u.0) ∙ ap (λ h. cond h (Some b.number) (cond (eqb b.number m) (Some a.number) None)) (sym t.0) ∙ is)) (eqb_tells a.number n)
-    | inr u ↦ absurd (none_some n (ap (λ h. cond h (Some a.number) None) (sym u.0) ∙ ap (λ h. cond h (Some b.number) (cond (eqb b.number m) (Some a.number) None)) (sym t.0) ∙ is))
+    | inl u ↦ pickup
+        (same_Some _ _
+        (ap (λ h. cond h (Some a.number) None) (sym u.0) ∙ ap (λ h. cond h (Some b.number) (cond (eqb b.number m) (Some a.number) None)) (sym t.0) ∙ is))
+        (eqb_tells a.number n)
+    | inr u ↦ absurd
+        (none_some n
+        (ap (λ h. cond h (Some a.number) None) (sym u.0) ∙ ap (λ h. cond h (Some b.number) (cond (eqb b.number m) (Some a.number) None)) (sym t.0) ∙ is))
   ]
 ]
   where
@@ -155,7 +169,8 @@ nowhere_of routes (Pair a b) n nowhere some = elim (eqb_tells a.number n) [
   ]
 ]
 
-module _ (found : NamedAreFound) (by_name : RequestsStandByName) (below : StopsAreBelowNext) (p : Instance) (routes : List (List ℕ)) (valid : IsInstance p) where
+module _ (found : NamedAreFound) (by_name : RequestsStandByName) (below : StopsAreBelowNext) (p : Instance) (routes : List (List ℕ))
+    (valid : IsInstance p) where
   from_test : (x n : ℕ) → Contains (missing_from p routes x) n → is_missing p routes n ≡ true
   from_test x n c = by (is_missing p routes x) refl c
     where
@@ -175,16 +190,17 @@ module _ (found : NamedAreFound) (by_name : RequestsStandByName) (below : StopsA
   told n h =
       let parts = and_parts (is_some (stop_at p n)) (not (has_stop routes n)) h in
       let t = stop_of n p.requests parts.0 in
-      by t.0 t.1 t.2 (in_no_route routes n (not-true _ parts.1))
+      by t.0 t.1 t.2 (no_seat routes n (not-true _ parts.1))
     where
       by : (r : Request) → request_with p n ≡ Some r → IsSome (stop_in n r) → (StandsSomewhere routes n → ⊥) → IsMissingStop p routes n
-      by (Single s) is some nowhere = told_by_request n (Single s) is some (subst (λ m. StandsSomewhere routes m → ⊥) (sym (single_number n s some)) nowhere, tt)
+      by (Single s) is some nowhere =
+          told_by_request n (Single s) is some (subst (λ m. StandsSomewhere routes m → ⊥) (sym (single_number n s some)) nowhere, tt)
       by (Pair a b) is some nowhere = (let pair = pair_partner n a b some in other pair.0 pair.1 (has_stop routes pair.0) refl)
         where
           other : (m : ℕ) → IsOfPair n m a b → (h : Bool) → has_stop routes m ≡ h → IsMissingStop p routes n
           other m pair false e = told_by_request n (Pair a b) is some (elim (pair.ends) [
-            | inl t ↦ (nowhere_at t.0 nowhere, (nowhere_at t.1 (in_no_route routes m e), tt))
-            | inr t ↦ (nowhere_at t.1 (in_no_route routes m e), (nowhere_at t.0 nowhere, tt))
+            | inl t ↦ (nowhere_at t.0 nowhere, (nowhere_at t.1 (no_seat routes m e), tt))
+            | inr t ↦ (nowhere_at t.1 (no_seat routes m e), (nowhere_at t.0 nowhere, tt))
           ])
             where
               nowhere_at : {x y : ℕ} → x ≡ y → (StandsSomewhere routes y → ⊥) → StandsSomewhere routes x → ⊥
@@ -198,14 +214,16 @@ module _ (found : NamedAreFound) (by_name : RequestsStandByName) (below : StopsA
   missing_now n some nowhere =
       let h : is_missing p routes n ≡ true = both (is_some (stop_at p n)) (not (has_stop routes n)) some (not_from_false _ (has_none routes n nowhere)) in
       let lt = below p n valid some in
-      flat_of (missing_from p routes) (range_with_len 0 p.next_number) n n (in_range 0 p.next_number n (omega arith) (omega arith)) (subst (λ b. Contains (cond b (n ∷ []) []) n) (sym h) (in_head n []))
+      flat_of (missing_from p routes) (range_with_len 0 p.next_number) n n (in_range 0 p.next_number n (omega arith) (omega arith))
+      (subst (λ b. Contains (cond b (n ∷ []) []) n) (sym h) (in_head n []))
 
   counted : (n : ℕ) → IsMissingStop p routes n → Contains (missing_stops p routes) n
   counted n (inl t) =
       let m = t.2.0 in
       by (request_with p m) refl t.2.2
     where
-      by : (o : Option Request) → request_with p (t.2.0) ≡ o → option_and_then (partner_in (t.2.0)) (request_with p (t.2.0)) ≡ Some n → Contains (missing_stops p routes) n
+      by : (o : Option Request) → request_with p (t.2.0) ≡ o → option_and_then (partner_in (t.2.0)) (request_with p (t.2.0)) ≡ Some n
+          → Contains (missing_stops p routes) n
       by None e is = absurd (none_some n (ap (option_and_then (partner_in (t.2.0))) (sym e) ∙ is))
       by (Some r) e is =
           let some = partner_there (t.2.0) n r (ap (option_and_then (partner_in (t.2.0))) (sym e) ∙ is) in
@@ -218,5 +236,6 @@ module _ (found : NamedAreFound) (by_name : RequestsStandByName) (below : StopsA
       let same : known.0.0 ≡ r = same_Some _ _ (sym known.0.1 ∙ known.1.1) in
       missing_now n (ap is_some (at.stop) ∙ known.1.2) (nowhere_of routes r n (subst (IsNowhere routes) same known.0.2) known.1.2)
 
-  pub missing_told : (n : ℕ) → (Contains (missing_stops p routes) n → IsMissingStop p routes n) × (IsMissingStop p routes n → Contains (missing_stops p routes) n)
+  pub missing_told : (n : ℕ)
+      → (Contains (missing_stops p routes) n → IsMissingStop p routes n) × (IsMissingStop p routes n → Contains (missing_stops p routes) n)
   missing_told n = (λ c. (let t = flat_to (missing_from p routes) (range_with_len 0 p.next_number) n c in told n (from_test t.0 n t.1)), λ is. counted n is)

@@ -1,18 +1,18 @@
 -- What a verdict tells is the first breach of its rule.
-use Rattle.std.proofs.Common.{◌≡◌, ℕ, ◌<◌, ◌≤◌, List, [], ◌∷◌, Some, refl, sym, ap, subst, ◌∙◌, inl, inr, arith}
+use Rattle.std.proofs.Common.{◌≡◌, ℕ, ◌<◌, ◌≤◌, List, [], ◌∷◌, Some, refl, sym, ap, subst, inl, inr, arith}
 use Rattle.std.proofs.lemmas.Bool.{cases_lt}
-use Rattle.std.proofs.lemmas.Option.{same_Some}
 use Rattle.plan_types.specs.Instance.{Instance, IsInstance}
 use Rattle.plan_audit.specs.Rules.{IsNotAfter}
 use Rattle.plan_audit.specs.Verdict.{printed, Breaks, IsLeastBroken, KeepsRules, rule_number, rule_of}
 use Rattle.plan_audit.specs.declared.rules.Rule.{Rule}
 use Rattle.plan_audit.specs.declared.rules.Rule.TheVariants.{UnknownStop, Twice, Missing, SplitPair, DeliveryFirst, Load, Late, LateReturn, Fleet, Pin, PrintedCost}
+use Rattle.plan_audit.proofs.VerdictLemmas.{same_rule}
 use Rattle.rule_breaches.specs.Breaches.{breaches_of}
 use Rattle.rule_breaches.specs.Laws.{AreAll, BeginsWith, IsBefore, IsBreach, ListsHoldAllBreaches, StandOnce, VerdictsTellFirstBreaches, WhatPassesHasNone, excess}
 use Rattle.rule_breaches.specs.declared.breaches.Breach.{Breach}
 use Rattle.rule_breaches.proofs.ListLemmas.{all_at, in_cases, in_head}
 
--- the rules have different numbers
+-- a rule's number tells the rule
 pub number_told : (k : Rule) → rule_of (rule_number k) ≡ Some k
 number_told UnknownStop = refl
 number_told Twice = refl
@@ -25,9 +25,6 @@ number_told LateReturn = refl
 number_told Fleet = refl
 number_told Pin = refl
 number_told PrintedCost = refl
-
-same_rule : (k m : Rule) → rule_number k ≡ rule_number m → k ≡ m
-same_rule k m e = same_Some k m (sym (number_told k) ∙ ap rule_of e ∙ number_told m)
 
 from_one : (k : Rule) → 1 ≤ rule_number k
 from_one UnknownStop = omega arith
@@ -56,7 +53,8 @@ to_last Pin = omega arith
 to_last PrintedCost = omega arith
 
 -- on places a rule asks of printed routes the same, whatever cost they are printed with
-any_cost : (p : Instance) (routes : List (List ℕ)) (k : Rule) (cost other r i n : ℕ) → rule_number k ≤ 8 → Breaks p (printed routes cost) k r i n → Breaks p (printed routes other) k r i n
+any_cost : (p : Instance) (routes : List (List ℕ)) (k : Rule) (cost other r i n : ℕ) → rule_number k ≤ 8 → Breaks p (printed routes cost) k r i n
+    → Breaks p (printed routes other) k r i n
 any_cost p routes UnknownStop cost other r i n le b = b
 any_cost p routes Twice cost other r i n le b = b
 any_cost p routes Missing cost other r i n le b = b
@@ -88,7 +86,8 @@ none_in B [] all none = refl
 none_in B (b ∷ more) all none = absurd (none b (((all.each) b).0 (in_head b more)))
 
 -- the first of the list is the least breach
-first_is : (B : Breach → Type 0) (found : List Breach) (a : Breach) → AreAll B found → B a → ((b : Breach) → B b → IsNotAfter a.route a.place a.stop b.route b.place b.stop) → BeginsWith found a.route a.place a.stop
+first_is : (B : Breach → Type 0) (found : List Breach) (a : Breach) → AreAll B found → B a
+    → ((b : Breach) → B b → IsNotAfter a.route a.place a.stop b.route b.place b.stop) → BeginsWith found a.route a.place a.stop
 first_is B [] a all is least = absurd (let c = ((all.each) a).1 is in let lt = c.1 in omega arith)
 first_is B (b ∷ more) a all is least = elim (in_cases b more a (((all.each) a).1 is)) [
   | inl same ↦ (b, more, refl, ap (λ (b : Breach). b.route) same, ap (λ (b : Breach). b.place) same, ap (λ (b : Breach). b.stop) same)
@@ -112,7 +111,8 @@ first_is B (b ∷ more) a all is least = elim (in_cases b more a (((all.each) a)
 
 module _ (lists : ListsHoldAllBreaches) (p : Instance) (routes : List (List ℕ)) (cost : ℕ) (valid : IsInstance p) where
   -- where no rule up to this one is broken, or this one is the least broken one
-  once_from : (k : Rule) → 3 < rule_number k → ((m : Rule) (r i n : ℕ) → rule_number m < rule_number k → Breaks p (printed routes cost) m r i n → ⊥) → StandOnce p routes
+  once_from : (k : Rule) → 3 < rule_number k → ((m : Rule) (r i n : ℕ) → rule_number m < rule_number k → Breaks p (printed routes cost) m r i n → ⊥)
+      → StandOnce p routes
   once_from k lt kept r i n b = kept Twice r i n (omega arith) b
 
   kept_list : (m : Rule) → ((k : Rule) (r i n : ℕ) → rule_number k ≤ rule_number m → Breaks p (printed routes cost) k r i n → ⊥) → breaches_of p routes m ≡ []
@@ -127,13 +127,15 @@ module _ (lists : ListsHoldAllBreaches) (p : Instance) (routes : List (List ℕ)
   passing_list kept m = kept_list m (λ k r i n le b. kept k r i n (from_one k) (to_last k) b)
 
   -- no rule before the least broken one is broken
-  none_before : (k : Rule) (r i n : ℕ) → IsLeastBroken 1 11 p (printed routes cost) k r i n → (m : Rule) (q j t : ℕ) → rule_number m < rule_number k → Breaks p (printed routes cost) m q j t → ⊥
+  none_before : (k : Rule) (r i n : ℕ) → IsLeastBroken 1 11 p (printed routes cost) k r i n → (m : Rule) (q j t : ℕ) → rule_number m < rule_number k
+      → Breaks p (printed routes cost) m q j t → ⊥
   none_before k r i n least m q j t lt b = elim (least.least m q j t (from_one m) (to_last m) b) as (λ _. ⊥) [
     | inl above ↦ omega arith
     | inr same ↦ (let e = same.0 in omega arith)
   ]
 
-  not_after : (k : Rule) (r i n : ℕ) → IsLeastBroken 1 11 p (printed routes cost) k r i n → (q j t : ℕ) → Breaks p (printed routes cost) k q j t → IsNotAfter r i n q j t
+  not_after : (k : Rule) (r i n : ℕ) → IsLeastBroken 1 11 p (printed routes cost) k r i n → (q j t : ℕ) → Breaks p (printed routes cost) k q j t
+      → IsNotAfter r i n q j t
   not_after k r i n least q j t b = elim (least.least k q j t (from_one k) (to_last k) b) [
     | inl above ↦ absurd (let e = above in omega arith)
     | inr same ↦ same.1

@@ -23,5 +23,6 @@ above_two Fleet h = omega arith
 above_two Pin h = omega arith
 above_two PrintedCost h = omega arith
 
-pub live_known : (p : Instance) (s : Subject) (k : Rule) (r i n : ℕ) → IsVerdict p s (Broken (rule_number k) r i n) → knows_ways k ≡ true → All (AreLiveOnce p) (routes_of s)
+pub live_known : (p : Instance) (s : Subject) (k : Rule) (r i n : ℕ) → IsVerdict p s (Broken (rule_number k) r i n) → knows_ways k ≡ true
+    → All (AreLiveOnce p) (routes_of s)
 live_known p s k r i n is h = live_above p s (rule_number k) r i n is (above_two k h)

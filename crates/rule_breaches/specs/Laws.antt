@@ -50,7 +50,9 @@ StandOnce p routes = (r i n : ℕ) → IsRepeated p routes r i n → ⊥
 -- Of each of the rules 1 to 8 the list holds all its breaches. The rules on pairs, 4 and 5, are asked where no stop stands twice, as the
 -- auditor asks them.
 abbrev pub ListsHoldAllBreaches : Type 0
-ListsHoldAllBreaches = (p : Instance) (routes : List (List ℕ)) (k : Rule) → IsInstance p → rule_number k ≤ 8 → (3 < rule_number k → rule_number k < 6 → StandOnce p routes) → AreAll (IsBreach p routes k) (breaches_of p routes k)
+ListsHoldAllBreaches =
+    (p : Instance) (routes : List (List ℕ)) (k : Rule) → IsInstance p → rule_number k ≤ 8 → (3 < rule_number k → rule_number k < 6 → StandOnce p routes)
+    → AreAll (IsBreach p routes k) (breaches_of p routes k)
 
 -- the first breach is of place i of route r, and tells stop n
 abbrev pub BeginsWith : List Breach → ℕ → ℕ → ℕ → Type 0
@@ -58,12 +60,16 @@ BeginsWith found r i n = (b : Breach) × (more : List Breach) × (found ≡ b �
 
 -- what the verdict tells is the first of the list of its rule, and the lists of the rules before that are empty
 abbrev pub VerdictsTellFirstBreaches : Type 0
-VerdictsTellFirstBreaches = (p : Instance) (routes : List (List ℕ)) (cost : ℕ) (k : Rule) (r i n : ℕ) → IsInstance p → rule_number k ≤ 8 → IsVerdict p (printed routes cost) (Broken (rule_number k) r i n)
+VerdictsTellFirstBreaches =
+    (p : Instance) (routes : List (List ℕ)) (cost : ℕ) (k : Rule) (r i n : ℕ) → IsInstance p → rule_number k ≤ 8
+    → IsVerdict p (printed routes cost) (Broken (rule_number k) r i n)
     → BeginsWith (breaches_of p routes k) r i n × ((m : Rule) → rule_number m < rule_number k → breaches_of p routes m ≡ [])
 
 -- of what passes all lists are empty
 abbrev pub WhatPassesHasNone : Type 0
-WhatPassesHasNone = (p : Instance) (routes : List (List ℕ)) (cost : ℕ) (passed : Cost) (m : Rule) → IsInstance p → IsVerdict p (printed routes cost) (Pass passed) → breaches_of p routes m ≡ []
+WhatPassesHasNone =
+    (p : Instance) (routes : List (List ℕ)) (cost : ℕ) (passed : Cost) (m : Rule) → IsInstance p → IsVerdict p (printed routes cost) (Pass passed)
+    → breaches_of p routes m ≡ []
 
 -- request `name` has stop n, and no stop in any route
 abbrev pub IsOfUnserved : Instance → List (List ℕ) → ℕ → ℕ → Type 0

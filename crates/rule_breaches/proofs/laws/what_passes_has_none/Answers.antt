@@ -1,3 +1,4 @@
+-- Of what passes all lists of breaches are empty.
 use Rattle.rule_breaches.proofs.VerdictLemmas.{passing_has_none}
 use Rattle.rule_breaches.proofs.laws.what_passes_has_none.Goals as goal
 

@@ -1,3 +1,4 @@
+-- The stop of this number, where it is in no route, goes behind those of the numbers before it.
 use Rattle.std.proofs.Common.{◌∙◌, ◌++◌, ap}
 use Rattle.rule_breaches.specs.Breaches.{missing_from}
 use Rattle.rule_breaches.proofs.StepLemmas.{next_number}
