@@ -1,1 +1,2 @@
+-- The lemma file, for this crate alone.
 mod StageLemmas

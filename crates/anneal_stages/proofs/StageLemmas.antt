@@ -34,7 +34,8 @@ holds from to n k (suc left) le below all begun = elim (cases_Bool (nat_lt n (bo
 pub stages_hold : StagesHoldTheirSteps
 stages_hold from to n begun below = elim (cases_Bool (nat_lt n from)) [
   | inl t ↦ (let less = ltb-true n from t in absurd (omega (arith, begun, less)))
-  | inr f ↦ (let found = holds from to n 0 20 (omega (arith, begun, below)) below refl (omega (arith, begun)) in (found.0, rw f found.1, found.2, found.3, found.4))
+  | inr f ↦
+      (let found = holds from to n 0 20 (omega (arith, begun, below)) below refl (omega (arith, begun)) in (found.0, rw f found.1, found.2, found.3, found.4))
 ]
 
 -- ---- the loop over the stages

@@ -1,1 +1,2 @@
+-- what public contracts say
 pub mod Stages

@@ -1,3 +1,4 @@
+-- With each request its stops are counted, and as many fewer are left.
 use Rattle.std.proofs.Common.{◌≡◌, ◌+◌, length, drop, sym, subst, arith}
 use Rattle.plan_types.specs.Instance.{numbers_among}
 use Rattle.anneal_stages.proofs.StageLemmas.{stops_more}
