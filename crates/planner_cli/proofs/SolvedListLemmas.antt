@@ -22,7 +22,8 @@ pub all_grown : (was next now : FilesDone) → AreGrown was next → AreGrown ne
 all_grown was next now a b = (grown_twice was.reads next.reads now.reads a.0 b.0, grown_twice was.writes next.writes now.writes a.1 b.1)
 
 -- What is told of a plan is told of its text, by whether it leaves requests out.
-pub placed_plan : (k : Kind) (x text names : List ℕ) (audited : Option AuditAnswer) (before after : Option (List ℕ)) (status : ℕ) → IsAuditOf k x text names audited → TellsPlaced audited names before after status
+pub placed_plan : (k : Kind) (x text names : List ℕ) (audited : Option AuditAnswer) (before after : Option (List ℕ)) (status : ℕ)
+    → IsAuditOf k x text names audited → TellsPlaced audited names before after status
     → (told : List ℕ) × IsToldPlan k x text names told status × Appends before after told
 placed_plan k x text [] (Some answer) before after status is told = (line answer.line, (answer, is, refl, told.0), told.1)
 placed_plan k x text [] None before after status is told = absurd is
@@ -30,7 +31,8 @@ placed_plan k x text (name ∷ names) (Some answer) before after status is told 
 placed_plan k x text (name ∷ names) None before after status is told = (unplanned_line (name ∷ names), (refl, told.0), told.1)
 
 -- no file can be made under the path
-pub unwritten : (path : List ℕ) (error kind : ErrorKind) (made left : List FileWrite) (before after : Option (List ℕ)) (status : ℕ) → kind ≡ error → left ≡ (path, Err error) ∷ made → TellsUnwritten path kind before after status
+pub unwritten : (path : List ℕ) (error kind : ErrorKind) (made left : List FileWrite) (before after : Option (List ℕ)) (status : ℕ) → kind ≡ error
+    → left ≡ (path, Err error) ∷ made → TellsUnwritten path kind before after status
     → IsUnwritten path made left (unwritten_line path error) status × Appends before after (unwritten_line path error)
 unwritten path error kind made left before after status is noted told =
     let so = subst (λ k. TellsUnwritten path k before after status) is told in

@@ -16,7 +16,8 @@ use Rattle.command_serving.proofs.ActLemmas.{honest_before}
 use Rattle.command_serving.proofs.StoppedLemmas.{recovered_of, weaker}
 use Rattle.command_text.specs.Cutting.{pieces_of}
 use Rattle.command_text.specs.Readings.{IsReading, Reading}
-use Rattle.planner_cli.specs.Recovering.{EachInputIsSome, GivesFirstPart, HoldsWhatWasTold, KeepsAnswersSince, Run, RunHeadline, RunKeepsAnswers, RunsAreLinked, RunsOver, ServedRunHeadline, ServedRunKeepsAnswers, acts_in}
+use Rattle.planner_cli.specs.Recovering.{EachInputIsSome, GivesFirstPart, HoldsWhatWasTold, KeepsAnswersSince, Run}
+use Rattle.planner_cli.specs.Recovering.{RunHeadline, RunKeepsAnswers, RunsAreLinked, RunsOver, ServedRunHeadline, ServedRunKeepsAnswers, acts_in}
 use Rattle.planner_cli.specs.Running.{IsOpened}
 use Rattle.recover.specs.Applying.{IsAnswer, IsBetween, Makes, calls_of, denial, is_snapshot_due}
 use Rattle.recover.specs.Headline.{GivesWhatStands, Headline, IsRecovered, LeavesFirstPart}
@@ -92,7 +93,8 @@ module _ {D : Type 0} (on : sectors.Ghosts D) where
   }
 
   -- The session as it is opened, over the device as it was before that. At each moment since then a stop leaves what the run promises.
-  pub from_before : (device : D) (session new : SessionValue D) (replayed : ℕ) (commands : List Command) (replies : List Reply) → IsOpened on device session replayed → IsRunOn on session commands replies new
+  pub from_before : (device : D) (session new : SessionValue D) (replayed : ℕ) (commands : List Command) (replies : List Reply)
+      → IsOpened on device session replayed → IsRunOn on session commands replies new
       → (on.honest new.device → Throughout on.clock on.possible_since session.device new.device (RunLeaves session.state commands replies))
       → ((image : List ℕ) → on.possible device image → StandsFor Two image session.state) → LeavesFirstPart on (record session { device = device }) commands replies new
   from_before device session new replayed commands replies opened run moments stood whole honest m image stop =
@@ -107,7 +109,8 @@ module _ {D : Type 0} (on : sectors.Ghosts D) where
           (none_yet commands replies session new run m (omega (arith, left.0.1, opened.finished))) (stood image left.1)
       at opening (inr some) = some
 
-pub run_headline : {D E : Type 0} (on : sectors.Ghosts D) (again : sectors.Ghosts E) (reading : Reading) (reads : IsReading reading) → Headline on again → ServingsAreRuns on → RunHeadline on again reading reads
+pub run_headline : {D E : Type 0} (on : sectors.Ghosts D) (again : sectors.Ghosts E) (reading : Reading) (reads : IsReading reading) → Headline on again
+    → ServingsAreRuns on → RunHeadline on again reading reads
 run_headline on again reading reads law runs run device m image other left outcome is honest stood stop given settled opens =
     let acts : List Act = acts_in on reading reads run device is in
     let session = is.session in
@@ -115,18 +118,21 @@ run_headline on again reading reads law runs run device m image other left outco
     let done : IsRunOfInput on reading session run.input acts new =
     runs reading session new run.input is.runs.opened is.runs.answered is.runs.served ((is.runs.ends.serves run.input is.is_input).serves reading reads) in
     let asked = asked_by reading session (pieces_of run.input) acts in
-    let leaves = from_before on device session new is.replayed (commands_of acts) (replies_of acts) is.opened done.run (is.runs.ends.moments (commands_of acts) (replies_of acts) done.run is.opened.whole) stood in
+    let leaves = from_before on device session new is.replayed (commands_of acts) (replies_of acts) is.opened done.run
+    (is.runs.ends.moments (commands_of acts) (replies_of acts) done.run is.opened.whole) stood in
     weaker (IsRecovered session.state (kept_of acts) (acked m (replies_of acts))) (IsRecovered session.state asked (acked m (replies_of acts)))
     (λ given found. recovered_of session.state (kept_of acts) asked (acked m (replies_of acts)) given done.asks found) outcome
     (law (record session { device = device }) new (commands_of acts) (replies_of acts) m image other left outcome is.opened.whole honest leaves stop given settled opens)
 
-pub served_run_headline : {D E : Type 0} (on : sectors.Ghosts D) (again : sectors.Ghosts E) (reading : Reading) (reads : IsReading reading) → ServedHeadline on again → ServedRunHeadline on again reading reads
+pub served_run_headline : {D E : Type 0} (on : sectors.Ghosts D) (again : sectors.Ghosts E) (reading : Reading) (reads : IsReading reading)
+    → ServedHeadline on again → ServedRunHeadline on again reading reads
 served_run_headline on again reading reads law run device m image other left outcome is honest stop given settled opens =
     law reading is.session is.new run.input is.runs.opened is.runs.answered is.runs.served m image other left outcome ((is.runs.ends.serves run.input is.is_input).serves reading reads)
     is.opened.whole honest is.runs.ends.moments stop given settled opens
 
 -- the next opening gives what such a stop leaves
-pub runs_are_linked : {D E : Type 0} (on : sectors.Ghosts D) (again : sectors.Ghosts E) (reading : Reading) (reads : IsReading reading) → ServedRunHeadline on again reading reads → RunsAreLinked on again reading reads
+pub runs_are_linked : {D E : Type 0} (on : sectors.Ghosts D) (again : sectors.Ghosts E) (reading : Reading) (reads : IsReading reading)
+    → ServedRunHeadline on again reading reads → RunsAreLinked on again reading reads
 runs_are_linked on again reading reads law run device m image next session replayed is honest stop given opened settled =
     (law run device m image next session.device (Ok session.state) is honest stop given settled opened.opens, refl)
 
@@ -137,7 +143,8 @@ input_read given =
     (left_behind given.before text, inr (text, record { rest = []; whole = sym (append-nil text); end = λ ended. refl }, refl))
 
 -- what a stop at a moment since this one gives
-abbrev GivesFirstPartSince : {D E : Type 0} (on : sectors.Ghosts D) (again : sectors.Ghosts E) (reading : Reading) (reads : IsReading reading) → ℕ → (run : Run) (device : D) → RunsOver on run device → Type 0
+abbrev GivesFirstPartSince : {D E : Type 0} (on : sectors.Ghosts D) (again : sectors.Ghosts E) (reading : Reading) (reads : IsReading reading) → ℕ
+    → (run : Run) (device : D) → RunsOver on run device → Type 0
 GivesFirstPartSince {D} {E} on again reading reads since run device is = (m : ℕ) (image : List ℕ) (other left : E) (outcome : Result State StoreFault)
     → on.possible_since is.new.device since m image → again.seen other ≡ image → again.honest left → GivesWhatStands again other outcome left
     → GivesFirstPart on again reading reads run device is m outcome
@@ -156,12 +163,14 @@ keeps_answers on again reading reads told_law since run device is law m image ot
     (λ given found. record { told = told; recovered = found; holds = omega (arith, told.acknowledged, found.all_acknowledged) }) outcome
     (law m image other left outcome stop given settled opens)
 
-pub run_keeps_answers : {D E : Type 0} (on : sectors.Ghosts D) (again : sectors.Ghosts E) (reading : Reading) (reads : IsReading reading) → AnswersComeAfter on → RunHeadline on again reading reads → RunKeepsAnswers on again reading reads
+pub run_keeps_answers : {D E : Type 0} (on : sectors.Ghosts D) (again : sectors.Ghosts E) (reading : Reading) (reads : IsReading reading)
+    → AnswersComeAfter on → RunHeadline on again reading reads → RunKeepsAnswers on again reading reads
 run_keeps_answers on again reading reads told_law law run device is honest stood =
     keeps_answers on again reading reads told_law (on.clock device) run device is
     (λ m image other left outcome stop given settled opens. law run device m image other left outcome is honest stood stop given settled opens)
 
-pub served_run_keeps_answers : {D E : Type 0} (on : sectors.Ghosts D) (again : sectors.Ghosts E) (reading : Reading) (reads : IsReading reading) → AnswersComeAfter on → ServedRunHeadline on again reading reads → ServedRunKeepsAnswers on again reading reads
+pub served_run_keeps_answers : {D E : Type 0} (on : sectors.Ghosts D) (again : sectors.Ghosts E) (reading : Reading) (reads : IsReading reading)
+    → AnswersComeAfter on → ServedRunHeadline on again reading reads → ServedRunKeepsAnswers on again reading reads
 served_run_keeps_answers on again reading reads told_law law run device is honest =
     keeps_answers on again reading reads told_law (on.clock is.session.device) run device is
     (λ m image other left outcome stop given settled opens. law run device m image other left outcome is honest stop given settled opens)

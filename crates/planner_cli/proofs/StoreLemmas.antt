@@ -25,7 +25,8 @@ module _ {D : Type 0} (on : sectors.Ghosts D) where
   opening_of IsReady IsBare IsNone device ready (Err (Unformatted fault left)) is = absurd is
 
   -- there is a device, so something may have been told beforehand
-  pub foretold_of : (device : D) (opening : Result (Opened D) (Unopened D)) (before after : Option (List ℕ)) → IsOpening on device opening → IfErr opening (λ unopened. IsForetoldBefore unopened before after)
+  pub foretold_of : (device : D) (opening : Result (Opened D) (Unopened D)) (before after : Option (List ℕ)) → IsOpening on device opening
+      → IfErr opening (λ unopened. IsForetoldBefore unopened before after)
   foretold_of device (Ok opened) before after is = tt
   foretold_of device (Err (Store fault left)) before after is = tt
   foretold_of device (Err (File refusal)) before after is = absurd is
@@ -35,7 +36,8 @@ module _ {D : Type 0} (on : sectors.Ghosts D) where
   found_bare IsNew device bare fault made is refuses = record { device = device; made = made; refuses = subst (IsRefused on device bare) is refuses }
 
   -- what held no store was formatted, and then opened
-  pub opening_of_formatted : (IsNew : D → Type 0) (IsNone : FileRefusal → Type 0) (bare ready : D) (made : Result Place FormatFault) (place : Place) → IsFoundBare on IsNew bare → made ≡ Ok place → IsFormatted on bare ready made
+  pub opening_of_formatted : (IsNew : D → Type 0) (IsNone : FileRefusal → Type 0) (bare ready : D) (made : Result Place FormatFault) (place : Place)
+      → IsFoundBare on IsNew bare → made ≡ Ok place → IsFormatted on bare ready made
       → (opening : Result (Opened D) (Unopened D)) → IsOpening on ready opening → IsOpeningOf on (IsMadeReady on IsNew) (IsFoundBare on IsNew) IsNone opening
   opening_of_formatted IsNew IsNone bare ready made place found is formatted opening opens =
       opening_of (IsMadeReady on IsNew) (IsFoundBare on IsNew) IsNone ready (inr (bare, place, found, subst (IsFormatted on bare ready) is formatted)) opening opens

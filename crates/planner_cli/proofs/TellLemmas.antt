@@ -110,7 +110,8 @@ told_behind x y status before mid after (Ok given) first told = ((told.0.0, Appe
 told_behind x y status before mid after (Err error) first told = (tt, part_behind x y before mid after first told.1)
 
 -- a writer that was taken out of what watches it, written to, and put back
-pub told_apart : {W : Type 0} (contents : W → Option (List ℕ)) (Tells : Option (List ℕ) → Option (List ℕ) → Type 0) (a b c d : W) → b ≡ a → d ≡ c → Tells (contents b) (contents c) → Tells (contents a) (contents d)
+pub told_apart : {W : Type 0} (contents : W → Option (List ℕ)) (Tells : Option (List ℕ) → Option (List ℕ) → Type 0) (a b c d : W) → b ≡ a → d ≡ c
+    → Tells (contents b) (contents c) → Tells (contents a) (contents d)
 told_apart contents Tells a b c d first last told =
     subst (λ x. Tells x (contents d)) (ap contents first) (subst (λ x. Tells (contents b) x) (sym (ap contents last)) told)
 
@@ -120,6 +121,7 @@ three_can (upgrade old new) = inl (omega arith)
 three_can _ = omega arith
 
 -- so the status of what was told is one of the word's
-pub status_can : {X : Type 0} (asked : Asked) (told : Result ℕ X) (status : ℕ) → IfOk told (CanEndWith asked) → MatchResult told (λ printed. status ≡ printed) (λ error. status ≡ 3) → CanEndWith asked status
+pub status_can : {X : Type 0} (asked : Asked) (told : Result ℕ X) (status : ℕ) → IfOk told (CanEndWith asked)
+    → MatchResult told (λ printed. status ≡ printed) (λ error. status ≡ 3) → CanEndWith asked status
 status_can asked (Ok printed) status can ends = subst (CanEndWith asked) (sym ends) can
 status_can asked (Err error) status can ends = subst (CanEndWith asked) (sym ends) (three_can asked)

@@ -3,7 +3,8 @@
 use Rattle.std.specs.Prelude.{◌≡◌, ◌⊎◌, ℕ, Bool, false, List, ◌∷◌, Option, Result, IfOk, MatchResult}
 use Rattle.std.specs.declared.io.Error.{Error}
 use Rattle.clap.specs.Words.{Text}
-use Rattle.command_line.specs.Asked.{Asked, IsUsageStatus, adopt, asks_help, audit, audits, built_in, check, draw, draw_store, explain, format, load, run, solve, solves, store_instance, store_timetable, timetable, upgrade}
+use Rattle.command_line.specs.Asked.{Asked, IsUsageStatus, adopt, asks_help, audit, audits, built_in, check}
+use Rattle.command_line.specs.Asked.{draw, draw_store, explain, format, load, run, solve, solves, store_instance, store_timetable, timetable, upgrade}
 use Rattle.plan_types.specs.declared.requests.Kind.TheVariants.{LiLim}
 use Rattle.command_serving.specs.Held.{held, reads_of, still_known}
 use Rattle.command_serving.specs.Streams.{Given, Stream}
@@ -45,7 +46,8 @@ pub record World : Type 0 where
   pub output_failed : Bool
 
 -- what `F`, `N`, `X`, `I`, `W` and `E` tell of it
-abbrev pub seen : {F N X I W E : Type 0} → (F → List FileRead) → (N → List FileWrite) → (X → List DiskEntry) → (I → Option (List ℕ)) → (W → Option (List ℕ)) → (E → Option (List ℕ)) → F → N → X → Streams I W E → World
+abbrev pub seen : {F N X I W E : Type 0} → (F → List FileRead) → (N → List FileWrite) → (X → List DiskEntry) → (I → Option (List ℕ)) → (W → Option (List ℕ))
+    → (E → Option (List ℕ)) → F → N → X → Streams I W E → World
 seen reads writes asked remaining written told files new_files disks streams = record {
   files = reads files;
   new_files = writes new_files;

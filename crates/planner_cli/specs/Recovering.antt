@@ -106,7 +106,8 @@ module _ {D E : Type 0} (on : sectors.Ghosts D) (again : sectors.Ghosts E) (read
   -- after so many commands at least.
   pub record HoldsWhatWasTold (run : Run) (device : D) (is : RunsOver on run device) (m : ℕ) (text : List ℕ) (given : State) : Type 0 where
     pub told : TellsAcknowledged reading is.session run.input (acts_in on reading reads run device is) m text
-    pub recovered : IsRecovered is.session.state (asked_by reading is.session (pieces_of run.input) (acts_in on reading reads run device is)) (acked m (replies_of (acts_in on reading reads run device is))) given
+    pub recovered : IsRecovered is.session.state (asked_by reading is.session (pieces_of run.input) (acts_in on reading reads run device is))
+        (acked m (replies_of (acts_in on reading reads run device is))) given
     pub holds : length (carried_of told.first) ≤ recovered.count
 
   -- So it is of what was put to the output, and may have been handed on, by the time of a stop at a moment since this one, when m calls had finished.

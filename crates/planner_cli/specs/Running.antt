@@ -29,7 +29,8 @@ use Rattle.sector_disk.specs.declared.sectors.Sectors as sectors
 use Rattle.state_codec.specs.declared.version.Version.TheVariants.{Two}
 
 -- An input was served, less than 10^12 bytes of it, or the serving cut short, and for this cause, as `serve_source` says it.
-pub record Serves {D : Type 0} (on : sectors.Ghosts D) (served : Result ⊤ ServeFault) (old : SessionValue D) (input : List ℕ) (before after : Stream) (reader_failed writer_failed : Bool) (new : SessionValue D) : Type 0 where
+pub record Serves {D : Type 0} (on : sectors.Ghosts D) (served : Result ⊤ ServeFault) (old : SessionValue D) (input : List ℕ) (before after : Stream)
+    (reader_failed writer_failed : Bool) (new : SessionValue D) : Type 0 where
   pub serves : (reading : Reading) → IsReading reading → EndsOrIsCut on served reading old input before after new
   pub cause : IfErr served (λ fault. HasCause fault reader_failed writer_failed (length input))
   pub most : OnOk served (IsTaken (10 ^ 12) input)
@@ -63,7 +64,8 @@ stop_unless false told = told
 
 -- An input was served, by `strict` up to an answer that lets none follow, which is `stopped`. `given` is what is known of the input. At each moment
 -- of it a stop leaves what a run promises.
-pub record IsEnded {D : Type 0} (on : sectors.Ghosts D) (old : SessionValue D) (is_strict : Bool) (given : Given) (opened : Stream) (served : Result ⊤ ServeFault) (stopped : Option Stopped) (answered : Stream) (reader_failed writer_failed : Bool) (new : SessionValue D) : Type 0 where
+pub record IsEnded {D : Type 0} (on : sectors.Ghosts D) (old : SessionValue D) (is_strict : Bool) (given : Given) (opened : Stream)
+    (served : Result ⊤ ServeFault) (stopped : Option Stopped) (answered : Stream) (reader_failed writer_failed : Bool) (new : SessionValue D) : Type 0 where
   pub serves : (input : List ℕ) → IsInput given input → Serves on served old input opened answered reader_failed (writer_failed || is_stopped stopped) new
   pub plain : is_strict ≡ false → stopped ≡ None
   pub moments : RunsLeave on old new
@@ -78,7 +80,8 @@ TellsEnded served (Some stop.DeviceFault) before after status = (status ≡ 3) �
 
 -- An input was served over a session that was opened, as far as it was: first it was told how many steps were repeated, then stand the answers.
 -- Nothing else is done to the output as a sink.
-pub record ServesSession {D : Type 0} (on : sectors.Ghosts D) (old : SessionValue D) (replayed : ℕ) (is_strict : Bool) (given : Given) (before after : Stream) (reader_failed writer_failed : Bool) (new : SessionValue D) : Type 0 where
+pub record ServesSession {D : Type 0} (on : sectors.Ghosts D) (old : SessionValue D) (replayed : ℕ) (is_strict : Bool) (given : Given) (before after : Stream)
+    (reader_failed writer_failed : Bool) (new : SessionValue D) : Type 0 where
   pub opened : Stream
   pub tells_opened : Extends before opened [] (opened_line replayed)
   pub served : Result ⊤ ServeFault
@@ -88,7 +91,8 @@ pub record ServesSession {D : Type 0} (on : sectors.Ghosts D) (old : SessionValu
   pub noted : after.events ≡ answered.events
 
 -- .. and behind the answers it is told that the input can't be read, if so it was.
-pub record RunsSession {D : Type 0} (on : sectors.Ghosts D) (old : SessionValue D) (replayed : ℕ) (is_strict : Bool) (given : Given) (before after : Stream) (reader_failed writer_failed : Bool) (status : ℕ) : Type 0 where
+pub record RunsSession {D : Type 0} (on : sectors.Ghosts D) (old : SessionValue D) (replayed : ℕ) (is_strict : Bool) (given : Given) (before after : Stream)
+    (reader_failed writer_failed : Bool) (status : ℕ) : Type 0 where
   pub new : SessionValue D
   pub serves : ServesSession on old replayed is_strict given before after reader_failed writer_failed new
   pub tells : TellsEnded serves.served serves.stopped serves.answered.contents after.contents status
@@ -134,7 +138,8 @@ module _ {D : Type 0} (on : sectors.Ghosts D) where
   -- The store on the device is opened and the input served over it, or it is told why it can't be opened.
   abbrev pub RunsDevice : D → Bool → Given → Stream → Stream → Bool → Bool → ℕ → Type 0
   RunsDevice device is_strict given before after reader_failed writer_failed status =
-      OpensDevice device (λ session replayed. RunsSession on session replayed is_strict given before after reader_failed writer_failed status) (λ later fault. TellsFault fault before.contents after.contents status)
+      OpensDevice device (λ session replayed. RunsSession on session replayed is_strict given before after reader_failed writer_failed status)
+      (λ later fault. TellsFault fault before.contents after.contents status)
 
   -- The same for the device over the file at a path, or it is told why there is none. `IsOld` is what is known of the device.
   abbrev pub RunsStore : (List ℕ → D → Type 0) → List ℕ → Bool → Given → Stream → Stream → Bool → Bool → ℕ → Type 0

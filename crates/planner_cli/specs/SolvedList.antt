@@ -122,7 +122,8 @@ abbrev pub AreGrown : FilesDone → FilesDone → Type 0
 AreGrown was now = IsGrown was.reads now.reads × IsGrown was.writes now.writes
 
 -- What a function does: it keeps what was done before, which is what was read and made or what was made alone, and tells this.
-pub record Ends {S E : Type 0} (AreKept : S → S → Type 0) (Tells : S → S → Option (List ℕ) → Option (List ℕ) → ℕ → Type 0) (was now : S) (before after : Option (List ℕ)) (result : Result ℕ E) : Type 0 where
+pub record Ends {S E : Type 0} (AreKept : S → S → Type 0) (Tells : S → S → Option (List ℕ) → Option (List ℕ) → ℕ → Type 0)
+    (was now : S) (before after : Option (List ℕ)) (result : Result ℕ E) : Type 0 where
   pub kept : AreKept was now
   pub told : IfOk result (Tells was now before after)
 

@@ -13,4 +13,9 @@ returns-in-Err-clause-adopts g c =
     let path = c.args.solution.now in
     let before = g.W.Write.contents c.args.output.now.inner in
     let after = g.W.Write.contents c.tell_unread.new.output.inner in
-    inr (error_kind c.in-Err.error, c.in-Err.ensures, refl {a = g.X.Disks.asked c.args.disks.now}, subst (λ kind. IfOk c.tell_unread.result (TellsUnread path kind before after)) c.kind.ensures c.tell_unread.ensures)
+    inr (
+      error_kind c.in-Err.error,
+      c.in-Err.ensures,
+      refl {a = g.X.Disks.asked c.args.disks.now},
+      subst (λ kind. IfOk c.tell_unread.result (TellsUnread path kind before after)) c.kind.ensures c.tell_unread.ensures,
+    )

@@ -26,7 +26,9 @@ served g c =
       served = ended.served;
       stopped = ended.stopped;
       answered = answered;
-      ends = subst (λ f. IsEnded g.D.Sectors c.args.session.now c.args.is_strict (given_by g.I.Read.remaining c.args.input.now c.serve_input-ended.new.input) opened ended.served ended.stopped answered c.serve_input-ended.new.input.has_failed f c.serve_input-ended.new.session)
+      ends = subst (λ f. IsEnded g.D.Sectors c.args.session.now c.args.is_strict
+          (given_by g.I.Read.remaining c.args.input.now c.serve_input-ended.new.input) opened ended.served ended.stopped
+          answered c.serve_input-ended.new.input.has_failed f c.serve_input-ended.new.session)
           (sym failed) c.serve_input-ended.ensures;
       noted = c.again.ensures.log ∙ c.apart-writer-in-Ok.ensures.log;
     }

@@ -13,7 +13,8 @@ returns g c =
         serves = λ reading is. served_between g.D.Sectors served reading c.args.session.now c.serve_source-served.new.session input _ _ _ _
             (ap (λ s. held g.W.Write.contents s.writer) c.new-answers.ensures) (sym (ap (held g.W.Write.contents) c.into_inner.ensures))
             (c.serve_source-served.ensures.serves reading input is known);
-        cause = stopped_out served c.serve_source-served.new.reader.has_failed c.serve_source-served.new.writer.writer.has_failed _ c.serve_source-served.new.writer.told c.stop_of-stopped.result (length input)
+        cause = stopped_out served c.serve_source-served.new.reader.has_failed c.serve_source-served.new.writer.writer.has_failed _
+            c.serve_source-served.new.writer.told c.stop_of-stopped.result (length input)
             (ap (λ w. w.has_failed) c.into_inner.ensures) c.stop_of-stopped.ensures.stop (c.serve_source-served.ensures.cause input known);
         most = c.serve_source-served.ensures.most input known;
       };

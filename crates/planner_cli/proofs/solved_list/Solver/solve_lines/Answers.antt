@@ -42,7 +42,8 @@ pub returns-in_err-status-clause-does : goal.returns-in_err-status-clause-does
 returns-in_err-status-clause-does g c =
     let at = files_done g.F.ReadFiles.reads g.N.WriteFiles.writes g.E.Write.contents in
     record {
-      kept = all_grown (at c.args.files.now c.args.new_files.now c.args.errors.now) (at c.loop-line.files c.loop-line.new_files c.loop-line.errors) (at c.solve_line.new.files c.solve_line.new.new_files c.solve_line.new.errors) c.loop-line.invariant.2 c.solve_line.ensures.does.kept;
+      kept = all_grown (at c.args.files.now c.args.new_files.now c.args.errors.now) (at c.loop-line.files c.loop-line.new_files c.loop-line.errors)
+          (at c.solve_line.new.files c.solve_line.new.new_files c.solve_line.new.errors) c.loop-line.invariant.2 c.solve_line.ensures.does.kept;
       told = search rules;
     }
 
