@@ -1,5 +1,4 @@
 -- what public contracts say
-pub mod Columns
 pub mod Explained
 pub mod Phrases
 pub mod FieldNames

@@ -5,7 +5,7 @@ use Rattle.plan_types.specs.Instance.{Instance}
 use Rattle.route_sched.specs.Schedule.{leg, route_length, start}
 use Rattle.route_sched.specs.Cost.{total_length}
 use Rattle.text_lines.specs.Lines.{ended}
-use Rattle.plan_explain.specs.Columns.{cell, right, right_signed}
+use Rattle.told_text.specs.Columns.{cell, right, right_signed}
 use Rattle.plan_explain.specs.Phrases.{phrase}
 use Rattle.plan_explain.specs.Tables.{rows_of}
 use Rattle.plan_explain.specs.declared.phrases.Phrase.TheVariants.{RoutesHeading, Sum}

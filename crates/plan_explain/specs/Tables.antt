@@ -7,7 +7,7 @@ use Rattle.plan_types.specs.declared.requests.Kind.TheVariants.{LiLim, Vrp}
 use Rattle.route_sched.specs.Route.{place}
 use Rattle.route_sched.specs.Schedule.{leg, load, start}
 use Rattle.text_lines.specs.Lines.{ended}
-use Rattle.plan_explain.specs.Columns.{cell, left, right, right_signed}
+use Rattle.told_text.specs.Columns.{cell, left, right, right_signed}
 use Rattle.plan_explain.specs.Phrases.{phrase, text_if}
 use Rattle.rule_breaches.specs.Limits.{is_late, is_overload}
 use Rattle.plan_explain.specs.declared.halts.Halt.{Halt}

@@ -6,7 +6,7 @@ ghost use Rattle.text_lines.specs.Lines.{ended};
 ghost use Rattle.plan_explain.specs.Cited.{shown_byte, shown_bytes};
 
 use crate::firsts::first_of;
-use crate::told::Told;
+use told_text::Told;
 
 /// How many bytes of a line or of a word are shown.
 const SHOWN: usize = 200;

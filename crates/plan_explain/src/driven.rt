@@ -5,12 +5,12 @@ ghost use Rattle.plan_explain.specs.Explained.{driven_text, verdict_knows_ways};
 
 use crate::phrases::Phrase;
 use crate::sentences::put_named;
-use crate::told::Told;
 use plan_audit::{Rule, Verdict};
 use plan_types::{OutOfMemory, Problem, Route};
 use route_sched::total_distance;
 use rule_breaches::knows_ways;
 use std::alloc::Global;
+use told_text::Told;
 
 /// How far routes drive, as a line, in the problem's unit; none where a stop is unknown or stands twice, since nobody knows it
 /// then. The verdict is that on these routes, whatever cost they are printed with.

@@ -8,11 +8,11 @@ ghost use Rattle.plan_explain.specs.Further.{further_text, missing_stop_text, mi
 use crate::firsts::first_of;
 use crate::phrases::Phrase;
 use crate::sentences::put_named;
-use crate::told::Told;
 use plan_audit::Rule;
 use plan_types::{OutOfMemory, Problem, Route};
 use rule_breaches::{Breach, breaches_of, missing_stops};
 use std::alloc::Global;
+use told_text::Told;
 
 /// How many further places are told.
 const TOLD: usize = 20;

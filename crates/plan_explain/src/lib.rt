@@ -16,7 +16,6 @@
 //!
 //! Modules, in reading order:
 //! - `phrases`, `names`: the words between the figures, the names of fields and keys
-//! - `told`: a text that is told piece by piece
 //! - `rows`: what happens at the places of a route
 //! - `halts`: the same with the ways between them and the services
 //! - `tables`: a route as a table
@@ -70,7 +69,6 @@ mod shifts;
 mod sol_faults;
 mod summaries;
 mod tables;
-mod told;
 mod told_lines;
 mod unasked;
 mod verdicts;

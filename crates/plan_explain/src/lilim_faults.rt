@@ -7,10 +7,10 @@ use crate::layouts::Layout;
 use crate::pair_faults::put_pair_fault;
 use crate::phrases::Phrase;
 use crate::sentences::put_phrase;
-use crate::told::Told;
 use crate::told_lines::{is_first_row, row_before, told_line, word_at, word_count};
 use crate::words_told::{put_bad, put_beyond, put_cited, put_counts};
 use instance_read::{ReadFault, ReadFaultKind};
+use told_text::Told;
 
 /// Appends what the line that the fault names has of it.
 pub(crate) fn put_lilim_detail(text: &mut Told, instance: &[u8], fault: ReadFault)

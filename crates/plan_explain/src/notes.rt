@@ -7,12 +7,12 @@ ghost use Rattle.plan_explain.specs.Notes.{has_nine_numbers, is_vrp_line, kind_n
 use crate::names::Name;
 use crate::phrases::Phrase;
 use crate::sentences::{put_mark, put_phrase};
-use crate::told::Told;
 use crate::told_lines::word_count;
 use crate::vrp_keys::is_key;
 use crate::words_told::no_number_place;
 use plan_types::Kind;
 use text_lines::Lines;
+use told_text::Told;
 
 /// Appends that a text begins with a byte order mark, if it does.
 pub(crate) fn put_mark_note(text: &mut Told, refused: &[u8])

@@ -8,12 +8,12 @@ ghost use Rattle.plan_explain.specs.Others.{count_of, count_text, is_counted, ot
 
 use crate::phrases::Phrase;
 use crate::sentences::put_named;
-use crate::told::Told;
 use plan_audit::Rule;
 use plan_types::{OutOfMemory, Problem, Route};
 use route_sched::used_count;
 use rule_breaches::{breaches_of, knows_ways, missing_stops};
 use std::alloc::Global;
+use told_text::Told;
 
 /// The rules that may be broken behind another one, but that on the printed cost.
 static RULES: [Rule; 8] = [

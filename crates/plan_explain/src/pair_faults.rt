@@ -8,11 +8,11 @@ ghost use Rattle.plan_explain.specs.PairFaults.{back_phrase, demands_text, found
 use crate::numbers::{is_beyond, small_of};
 use crate::phrases::Phrase;
 use crate::sentences::{put_named, put_phrase};
-use crate::told::Told;
 use crate::told_lines::{told_line, word_at, word_count};
 use crate::words_told::put_cited;
 use plan_types::limits::MAX_DEMAND;
 use text_lines::Lines;
+use told_text::Told;
 
 /// What a task that names another one takes that for.
 #[derive(Clone, Copy, PartialEq, Eq)]

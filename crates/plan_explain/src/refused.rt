@@ -9,13 +9,13 @@ use crate::notes::{put_kind_note, put_mark_note};
 use crate::phrases::Phrase;
 use crate::sentences::{put_named, put_phrase};
 use crate::sol_faults::put_sol_detail;
-use crate::told::Told;
 use crate::told_lines::line_at;
 use crate::vrp_faults::put_vrp_detail;
 use instance_read::{ReadFault, ReadFaultKind};
 use plan_types::{Kind, OutOfMemory};
 use sol_text::{SolFault, SolFaultKind};
 use std::alloc::Global;
+use told_text::Told;
 
 /// The sentence on a fault of the text of an instance that was read as this kind, and under it the line that the fault names, if the
 /// text has it: its first 200 bytes, with `?` for each that is neither a printable character of ASCII nor a tab. Then, where it is so,

@@ -10,12 +10,12 @@ ghost use Rattle.plan_explain.specs.Sentences.{beside_text, cost_sentence, deman
 use crate::phrases::Phrase;
 use crate::rows::Row;
 use crate::shifts::put_shift;
-use crate::told::Told;
 use itoa::Integer;
 use plan_types::{Problem, Route, Stop};
 use route_sched::{total_distance, used_count};
 use rule_breaches::{Seat, first_seat, visit_behind};
 use sol_text::Solution;
+use told_text::Told;
 
 /// Appends words, and the number behind them.
 pub(crate) fn put_named<N: Integer>(text: &mut Told, words: Phrase, n: N)

@@ -5,8 +5,8 @@ ghost use Rattle.plan_explain.specs.Sentences.{is_off_above, is_off_below, is_so
 
 use crate::phrases::Phrase;
 use crate::sentences::put_phrase;
-use crate::told::Told;
 use plan_types::{Problem, Route};
+use told_text::Told;
 
 /// Appends that all numbers seem to be one too high, or one too low, if they do.
 pub(crate) fn put_shift(text: &mut Told, problem: &Problem, routes: &[Route])

@@ -8,12 +8,12 @@ ghost use Rattle.plan_explain.specs.SolFaults.{bad_cost_text, bad_customer_text,
 use crate::numbers::is_no_customer;
 use crate::phrases::Phrase;
 use crate::sentences::{put_mark, put_named, put_phrase};
-use crate::told::Told;
 use crate::told_lines::{told_line, word_at, word_count};
 use crate::vrp_keys::{key_of, value_of};
 use crate::words_told::{put_cited, put_fraction};
 use sol_text::{SolFault, SolFaultKind, cost_tail};
 use text_lines::Words;
+use told_text::Told;
 
 /// Appends what the line that the fault names has of it.
 pub(crate) fn put_sol_detail(text: &mut Told, solution: &[u8], fault: SolFault)

@@ -9,11 +9,11 @@ ghost use Rattle.plan_explain.specs.Tables.{rows_of};
 use crate::phrases::Phrase;
 use crate::rows::{Row, rows_of};
 use crate::sentences::put_phrase;
-use crate::told::Told;
 use plan_types::{OutOfMemory, Problem, Route};
 use route_sched::{route_distance, total_distance};
 use rule_breaches::visit_behind;
 use std::alloc::Global;
+use told_text::Told;
 
 /// What a route comes to.
 #[derive(Clone, Copy, Debug, PartialEq, Eq)]

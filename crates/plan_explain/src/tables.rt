@@ -3,7 +3,7 @@ ghost use Rattle.std.specs.Prelude.{◌≡◌, ◌++◌, OnOk};
 ghost use Rattle.std.specs.List.{flat_map};
 ghost use Rattle.route_sched.specs.Route.{AreLiveOnce};
 ghost use Rattle.text_lines.specs.Lines.{ended};
-ghost use Rattle.plan_explain.specs.Columns.{cell, right};
+ghost use Rattle.told_text.specs.Columns.{cell, right};
 ghost use Rattle.plan_explain.specs.Phrases.{phrase};
 ghost use Rattle.plan_explain.specs.Tables.{arrival_text, figures_text, heading, load_text, row_text, stop_rows, stops_table, table_text, times_text, window_text};
 
@@ -11,10 +11,10 @@ use crate::halts::{Halt, halts_of};
 use crate::phrases::Phrase;
 use crate::rows::Row;
 use crate::sentences::{put_mark, put_phrase};
-use crate::told::Told;
 use plan_types::{Kind, OutOfMemory, Problem};
 use rule_breaches::{is_late, is_overload};
 use std::alloc::Global;
+use told_text::Told;
 
 /// Appends the table of a route: each place with the way to it, its times, window, service and load, the return last.
 pub(crate) fn put_table(

@@ -15,12 +15,12 @@ use crate::rows::{Row, rows_of};
 use crate::sentences as say;
 use crate::summaries::put_summary;
 use crate::tables::{put_stops, put_table};
-use crate::told::Told;
 use plan_audit::{Rule, Verdict};
 use plan_types::{OutOfMemory, Problem, Route};
 use rule_breaches::knows_ways;
 use sol_text::Solution;
 use std::alloc::Global;
+use told_text::Told;
 
 /// What a verdict says to who has to mend the solution, in whole lines. For a broken rule: a sentence with its figures, and the route
 /// that is told, place by place. For a solution that passes: a line for each route, and the sums. The verdict may be that on its routes

@@ -7,12 +7,12 @@ use crate::layouts::Layout;
 use crate::names::Name;
 use crate::phrases::Phrase;
 use crate::sentences::{put_named, put_phrase};
-use crate::told::Told;
 use crate::told_lines::told_line;
 use crate::vrp_keys::{is_key, key_of, stands_in, value_of};
 use crate::vrp_walk::{Section, Walk, walk_before};
 use crate::words_told::{put_bad, put_beyond, put_cited, put_counts, put_field, put_name};
 use instance_read::{ReadFault, ReadFaultKind};
+use told_text::Told;
 
 /// The keys and sections that each text has.
 const REQUIRED: [Name; 6] = [

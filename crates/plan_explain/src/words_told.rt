@@ -15,10 +15,10 @@ use crate::names::Name;
 use crate::numbers::{is_beyond, is_fraction, is_no_number};
 use crate::phrases::Phrase;
 use crate::sentences::{put_named, put_phrase};
-use crate::told::Told;
 use crate::told_lines::{word_at, word_count};
 use instance_read::field_limits::Limits;
 use text_lines::Words;
+use told_text::Told;
 
 /// Appends a name.
 pub(crate) fn put_name(text: &mut Told, field: Name)

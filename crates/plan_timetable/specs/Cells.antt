@@ -1,7 +1,7 @@
 -- Numbers in their columns, or behind tabs.
 use Rattle.std.specs.Prelude.{ℕ, ℤ, List, ◌++◌, Option, Some, None, codes, decimal}
 use Rattle.std.specs.Fmt.{signed_decimal}
-use Rattle.plan_explain.specs.Columns.{right, right_signed}
+use Rattle.told_text.specs.Columns.{right, right_signed}
 use Rattle.plan_timetable.specs.Words.{word}
 use Rattle.plan_timetable.specs.declared.forms.Form.{Form}
 use Rattle.plan_timetable.specs.declared.forms.Form.TheVariants.{Columns, Tabs}

@@ -1,7 +1,7 @@
 -- This number more.
 use Rattle.std.proofs.Common.{◌++◌}
-use Rattle.plan_explain.specs.Columns.{right_signed}
-use Rattle.plan_explain.proofs.told.Told.push_right_signed.Given as goal
+use Rattle.told_text.specs.Columns.{right_signed}
+use Rattle.told_text.proofs.Told.push_right_signed.Given as goal
 
 abbrev pub ghost-after : goal.ghost-after
 ghost-after a = a.self.now.value ++ right_signed a._more.0 a._more.1

@@ -1,6 +1,19 @@
-//! A text that is told piece by piece. It keeps whether memory has run out, so that no piece has to be looked at for that.
+//! A text for people, put together piece by piece: words, and numbers in decimal or in columns.
+//!
+//! Each report about a plan is a long row of small pieces, and any of them may want memory. A `Told` keeps whether memory has run out, so
+//! that who puts a piece has no error to hand on, and whoever takes the whole text is told once.
+//!
+//! Entry functions: `Told::new`, what puts a piece, and `Told::into_string` or `Told::into_vec`; called by `plan_explain`, `plan_why`,
+//! `plan_timetable` and `plan_picture`.
+//!
+//! How it works: a `Told` has a model, the list of all bytes that were put, whether there was memory for them or not. Each piece is said by
+//! one equation of these lists; that the text is this list, or memory has run out, is the invariant.
+//!
+//! Said by `specs/Columns.antt`. Proved: a text that is given back is all that was put, in order.
+#![tactic(auto)]
+
 ghost use Rattle.std.specs.Prelude.{◌≡◌, ◌<◌, ◌∷◌, ◌++◌, [], IfOk, string_bytes};
-ghost use Rattle.plan_explain.specs.Columns.{cell, left, right, right_signed};
+ghost use Rattle.told_text.specs.Columns.{cell, left, right, right_signed};
 
 use ghost_values::{Ghost, ListOf};
 use itoa::{Buffer, Integer};
@@ -8,9 +21,9 @@ use plan_types::OutOfMemory;
 use std::alloc::{AllocError, Global};
 use std::marker::Model;
 
-/// The text so far. Once memory has run out nothing more is kept, and `into_string` tells that.
+/// The text so far. Once memory has run out nothing more is kept, and `into_string` and `into_vec` tell that.
 #[derive(Drop)]
-pub(crate) struct Told {
+pub struct Told {
     text: String,
     has_room: bool,
     // All that was put so far, whether there was memory for it or not.
@@ -29,7 +42,7 @@ impl Model for Told {
 
 impl Told {
     /// No text.
-    pub(crate) fn new(alloc: Global) -> Told
+    pub fn new(alloc: Global) -> Told
         ensures { result ≡ [] }
     {
         Told {
@@ -40,15 +53,23 @@ impl Told {
     }
 
     /// Gives the text back, without taking memory, unless it had run out before.
-    pub(crate) fn into_string(self) -> Result<String, OutOfMemory>
+    pub fn into_string(self) -> Result<String, OutOfMemory>
         ensures { IfOk result (λ text. string_bytes text ≡ self) }
     {
         let Told { text, has_room, .. } = self;
         if has_room { Ok(text) } else { Err(AllocError) }
     }
 
+    /// The same as bytes.
+    pub fn into_vec(self) -> Result<Vec<u8>, OutOfMemory>
+        ensures { IfOk result (λ bytes. bytes.items ≡ self) }
+    {
+        let text = self.into_string()?;
+        Ok(text.into_bytes())
+    }
+
     /// Appends a text.
-    pub(crate) fn push_str(&mut self, text: &str)
+    pub fn push_str(&mut self, text: &str)
         ensures { self.new ≡ self.old ++ text.now }
     {
         self.meant = self.meant.after(text.as_bytes());
@@ -56,7 +77,7 @@ impl Told {
     }
 
     /// Appends a character of ASCII.
-    pub(crate) fn push_ascii(&mut self, byte: u8)
+    pub fn push_ascii(&mut self, byte: u8)
         requires { byte < 128 }
         ensures { self.new ≡ self.old ++ byte ∷ [] }
     {
@@ -65,7 +86,7 @@ impl Told {
     }
 
     /// Appends a number in decimal.
-    pub(crate) fn push_number<N: Integer>(&mut self, n: N)
+    pub fn push_number<N: Integer>(&mut self, n: N)
         ensures { self.new ≡ self.old ++ N.text n }
     {
         let mut buffer = Buffer::new();
@@ -73,7 +94,7 @@ impl Told {
     }
 
     /// A number at the right of so many columns.
-    pub(crate) fn push_right(&mut self, width: usize, n: u128)
+    pub fn push_right(&mut self, width: usize, n: u128)
         ensures { self.new ≡ self.old ++ right width n }
     {
         self.meant = self.meant.after((width, n));
@@ -81,7 +102,7 @@ impl Told {
     }
 
     /// The same at the left of them.
-    pub(crate) fn push_left(&mut self, width: usize, n: u128)
+    pub fn push_left(&mut self, width: usize, n: u128)
         ensures { self.new ≡ self.old ++ left width n }
     {
         self.meant = self.meant.after((width, n));
@@ -89,7 +110,7 @@ impl Told {
     }
 
     /// A number with a sign, at the right of so many columns.
-    pub(crate) fn push_right_signed(&mut self, width: usize, n: i64)
+    pub fn push_right_signed(&mut self, width: usize, n: i64)
         ensures { self.new ≡ self.old ++ right_signed width n }
     {
         self.meant = self.meant.after((width, n));
@@ -97,7 +118,7 @@ impl Told {
     }
 
     /// A number at the right of so many columns, and a blank.
-    pub(crate) fn push_cell(&mut self, width: usize, n: u128)
+    pub fn push_cell(&mut self, width: usize, n: u128)
         ensures { self.new ≡ self.old ++ cell width n }
     {
         self.push_right(width, n);

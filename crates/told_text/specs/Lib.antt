@@ -1,0 +1,2 @@
+-- what public contracts say
+pub mod Columns
