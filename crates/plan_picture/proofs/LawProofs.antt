@@ -33,9 +33,9 @@ use Rattle.plan_picture.specs.Map.{
 use Rattle.plan_picture.specs.Picture.{broken_route, broken_stop, drawn_text, sized_head, whole_text}
 use Rattle.plan_picture.specs.Svg.{each}
 use Rattle.plan_picture.specs.Table.{grid_of, rows_text}
-use Rattle.plan_picture.specs.Texts.{fixed}
+use Rattle.plan_picture.specs.Tags.{fixed}
 use Rattle.plan_picture.specs.declared.frame.Frame.{Frame}
-use Rattle.plan_picture.specs.declared.texts.Text.TheVariants as text
+use Rattle.plan_picture.specs.declared.tags.Tag.TheVariants as tags
 use Rattle.plan_picture.proofs.PartLemmas.{in_left, in_right, route_in_all, stop_in_all}
 
 -- the map of all routes
@@ -43,14 +43,14 @@ map_of : Instance → List (List ℕ) → Verdict → List ℕ
 map_of p kept verdict = map_in (frame_of p) p (known_stops p) 1 kept (broken_route verdict) (broken_stop verdict)
 
 -- what is in the map is in the picture
-in_picture : (a : List ℕ) (p : Instance) (kept : List (List ℕ)) (verdict : Verdict) → IsIn a (map_of p kept verdict) → IsIn a (whole_text p kept verdict ++ fixed text.End)
+in_picture : (a : List ℕ) (p : Instance) (kept : List (List ℕ)) (verdict : Verdict) → IsIn a (map_of p kept verdict) → IsIn a (whole_text p kept verdict ++ fixed tags.End)
 unfolding whole_text drawn_text map_of
 in_picture a p kept verdict within =
     let head = sized_head p (length kept) ++ title_text p kept verdict 0 ++ unserved_text (length (unserved kept (known_stops p))) in
     let map = map_of p kept verdict in
     let rows = rows_text p (grid_of p.kind (length kept)) (broken_route verdict) 1 kept in
     let days = days_text p.kind p kept in
-    in_left a (head ++ (map ++ rows ++ days)) (fixed text.End)
+    in_left a (head ++ (map ++ rows ++ days)) (fixed tags.End)
     (in_right a head (map ++ rows ++ days) (in_left a (map ++ rows) days (in_left a map rows within)))
 
 -- a stop's mark is that of one of the two layers
@@ -60,9 +60,9 @@ mark_in_layers p f s t over under = by (is_delivery p s) refl
   where
     by : (b : Bool) → is_delivery p s ≡ b → IsIn (stop_mark p f s) t
     by true e =
-        subst (λ x. IsIn x t) (ap (λ b. if b then mark_text text.DeliveryMark f s else []) e ∙ sym (ap (λ b. mark_text (if b then text.DeliveryMark else under_shape p s) f s) e)) (over e)
+        subst (λ x. IsIn x t) (ap (λ b. if b then mark_text tags.DeliveryMark f s else []) e ∙ sym (ap (λ b. mark_text (if b then tags.DeliveryMark else under_shape p s) f s) e)) (over e)
     by false e =
-        subst (λ x. IsIn x t) (ap (λ b. if b then [] else mark_text (under_shape p s) f s) e ∙ sym (ap (λ b. mark_text (if b then text.DeliveryMark else under_shape p s) f s) e)) (under e)
+        subst (λ x. IsIn x t) (ap (λ b. if b then [] else mark_text (under_shape p s) f s) e ∙ sym (ap (λ b. mark_text (if b then tags.DeliveryMark else under_shape p s) f s) e)) (under e)
 
 module _ (below : StopsAreBelowNext) where
   pub stops_are_marked : StopsAreMarked
@@ -74,7 +74,7 @@ module _ (below : StopsAreBelowNext) where
       let stop = broken_stop verdict in
       let mark = stop_mark p f s in
       let less = below p n valid (ap is_some at) in
-      let depot = mark_text text.DepotMark f p.depot in
+      let depot = mark_text tags.DepotMark f p.depot in
       let under = flat_map (under_mark p f) stops in
       let over = flat_map (over_mark p f) stops in
       let marks : IsIn mark (marks_text p f stops) =
@@ -99,8 +99,8 @@ routes_are_drawn p routes verdict r route at =
     let number : 1 + r ≡ r + 1 = omega arith in
     let all = each (line_text p f broken) 1 kept in
     let lines : IsIn line (lines_text p f broken 1 kept) =
-    in_left line (fixed text.Legs ++ all) (fixed text.GroupEnd)
-    (in_right line (fixed text.Legs) all (subst (λ j. IsIn (line_text p f broken j (kept_of p route)) all) number (route_in_all (line_text p f broken) 1 kept r (kept_of p route) there)))
+    in_left line (fixed tags.Legs ++ all) (fixed tags.GroupEnd)
+    (in_right line (fixed tags.Legs) all (subst (λ j. IsIn (line_text p f broken j (kept_of p route)) all) number (route_in_all (line_text p f broken) 1 kept r (kept_of p route) there)))
     in
     in_picture line p kept verdict
     (in_left line (under_text p f stops 1 kept broken) (over_text p f stops 1 kept (broken_stop verdict))

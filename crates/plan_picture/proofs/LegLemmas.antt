@@ -11,9 +11,9 @@ use Rattle.route_sched.specs.Visiting.{visit_after}
 use Rattle.plan_picture.specs.Known.{is_new, kept_after, visits_of}
 use Rattle.plan_picture.specs.Laws.{IsIn, LegsAreDrawn, RoutesAreKept}
 use Rattle.plan_picture.specs.Map.{leg_text, legs_text, line_head, line_text}
-use Rattle.plan_picture.specs.Texts.{fixed}
+use Rattle.plan_picture.specs.Tags.{fixed}
 use Rattle.plan_picture.specs.declared.frame.Frame.{Frame}
-use Rattle.plan_picture.specs.declared.texts.Text.TheVariants as text
+use Rattle.plan_picture.specs.declared.tags.Tag.TheVariants as tags
 use Rattle.plan_picture.proofs.KeptLemmas.{kept_new}
 use Rattle.plan_picture.proofs.PartLemmas.{in_left, in_right, in_whole}
 
@@ -62,4 +62,4 @@ legs_are_drawn p f broken number route k within =
     let leg = leg_text f (place p route k) (place p route (k + 1)) in
     let legs = legs_text f p.depot (visits_of p route) in
     let found : IsIn leg legs = subst (λ j. IsIn (leg_text f (place p route j) (place p route (j + 1))) legs) same (legs_in p f route 0 (length route + 1 - 0) k fewer) in
-    in_left leg (line_head broken number ++ legs) (fixed text.GroupEnd) (in_right leg (line_head broken number) legs found)
+    in_left leg (line_head broken number ++ legs) (fixed tags.GroupEnd) (in_right leg (line_head broken number) legs found)

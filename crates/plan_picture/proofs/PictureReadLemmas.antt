@@ -1,8 +1,8 @@
 -- Each picture is well-formed.
-use Rattle.std.proofs.Common.{ℕ, ◌+◌, ◌*◌, Bool, true, false, List, [], ◌∷◌, ◌++◌, length, map, Option, Some, None, refl, codes}
-use Rattle.std.specs.Prelude.{◌==◌, ◌||◌, IfSome, if◌then◌else◌}
+use Rattle.std.proofs.Common.{ℕ, ◌+◌, ◌*◌, List, [], ◌∷◌, ◌++◌, length, map, Option, Some, None, refl, codes}
+use Rattle.std.specs.Prelude.{◌==◌, IfSome}
 use Rattle.std.specs.Fmt.{signed_decimal}
-use Rattle.std.specs.Option.{option_map, option_map_or}
+use Rattle.std.specs.Option.{option_map}
 use Rattle.plan_types.specs.Instance.{Instance, partner_at}
 use Rattle.plan_types.specs.declared.plans.Cost.{Cost}
 use Rattle.plan_types.specs.declared.requests.Kind.{Kind}
@@ -11,49 +11,63 @@ use Rattle.plan_types.specs.declared.requests.Stop.{Stop}
 use Rattle.route_sched.specs.Cost.{total_length, used_count}
 use Rattle.route_sched.specs.declared.visits.Visit.{Visit}
 use Rattle.plan_audit.specs.Rules.{item_at}
+use Rattle.plan_audit.specs.Verdict.{rule_name, rule_number, rule_of}
+use Rattle.plan_audit.specs.declared.rules.Rule.{Rule}
+use Rattle.plan_audit.specs.declared.rules.Rule.TheVariants.{UnknownStop, Twice, Missing, SplitPair, DeliveryFirst, Load, Late, LateReturn, Fleet, Pin, PrintedCost}
 use Rattle.plan_audit.specs.declared.rules.Verdict.{Verdict}
 use Rattle.plan_audit.specs.declared.rules.Verdict.TheVariants.{Broken, Pass}
 use Rattle.plan_picture.specs.Days.{days_text}
 use Rattle.plan_picture.specs.Frame.{bounds_of, framed}
 use Rattle.plan_picture.specs.Heads.{
+  bar_key,
+  bar_words,
+  broken_by,
   broken_place,
   broken_text,
   cost_text,
-  figures_of,
   fleet_figures,
   head_text,
   key_text,
   load_figures,
+  mark_words,
   one_route,
   pair_key,
+  pair_words,
   partial_text,
   partner_figures,
-  rule_name,
+  rule_figures,
+  rule_text,
   scope_text,
   shapes_text,
+  sheet_text,
+  size_text,
   start_figures,
-  style_text,
-  title_head,
+  stop_key,
+  stop_words,
+  title_start,
   title_text,
   unserved_text,
   vehicles_text,
   verdict_text,
-  visit_figures,
   visit_told,
 }
 use Rattle.plan_picture.specs.Known.{kept_of, known_stops, stops_along, unserved}
 use Rattle.plan_picture.specs.Laws.{PicturesAreWellFormed, RoutePicturesAreWellFormed}
 use Rattle.plan_picture.specs.Map.{map_text}
 use Rattle.plan_picture.specs.Picture.{broken_route, broken_stop, drawn_text, route_text, sized_head, whole_text}
-use Rattle.plan_picture.specs.Svg.{attribute, named, some_named}
+use Rattle.plan_picture.specs.Svg.{attribute, figure, some_figure, tagged}
 use Rattle.plan_picture.specs.Table.{grid_of, rows_text}
-use Rattle.plan_picture.specs.Texts.{fixed}
+use Rattle.plan_picture.specs.Styles.{style}
+use Rattle.plan_picture.specs.Tags.{fixed}
 use Rattle.plan_picture.specs.WellFormed.{inside, IsWellFormed, outside, unquoted}
+use Rattle.plan_picture.specs.Words.{word}
 use Rattle.plan_picture.specs.declared.heads.Breach.{Breach}
-use Rattle.plan_picture.specs.declared.texts.Text.{Text}
-use Rattle.plan_picture.specs.declared.texts.Text.TheVariants as text
+use Rattle.plan_picture.specs.declared.styles.Style.TheVariants as styles
+use Rattle.plan_picture.specs.declared.tags.Tag.TheVariants as tags
+use Rattle.plan_picture.specs.declared.words.Word.{Word}
+use Rattle.plan_picture.specs.declared.words.Word.TheVariants as words
 use Rattle.plan_picture.proofs.MapReadLemmas.{map_stays, stays_maybe}
-use Rattle.plan_picture.proofs.PieceLemmas.{attribute_goes, named_goes, named_stays, some_named_stays, text_ends}
+use Rattle.plan_picture.proofs.PieceLemmas.{attribute_goes, figure_stays, some_figure_stays, text_ends}
 use Rattle.plan_picture.proofs.ReadLemmas.{Goes, goes_on, inside_keeps, plain_signed, Stays, stays_if, stays_with}
 use Rattle.plan_picture.proofs.TableReadLemmas.{days_stay, rows_stay}
 
@@ -61,130 +75,156 @@ use Rattle.plan_picture.proofs.TableReadLemmas.{days_stay, rows_stay}
 abbrev picture_names : List (List ℕ)
 picture_names = codes "svg" ∷ []
 
-key_stays : (kind : Kind) → Stays (key_text kind)
-unfolding pair_key fixed
-key_stays LiLim =
-    stays_with (fixed text.PairKey ++ fixed text.PairWords) (fixed text.BarKey) (stays_with (fixed text.PairKey) (fixed text.PairWords) (λ n os. refl) (λ n os. refl)) (λ n os. refl)
-key_stays Vrp = λ n os. refl
+pair_words_stay : Stays pair_words
+unfolding pair_words mark_words tagged fixed word
+pair_words_stay n os = refl
 
-style_goes : Goes (unquoted (codes "svg") []) style_text (inside picture_names)
-unfolding style_text fixed
-style_goes =
+bar_key_stays : Stays bar_key
+unfolding bar_key bar_words tagged fixed word
+bar_key_stays n os = refl
+
+stop_words_stay : Stays stop_words
+unfolding stop_words tagged fixed word
+stop_words_stay n os = refl
+
+key_stays : (kind : Kind) → Stays (key_text kind)
+unfolding pair_key stop_key fixed
+key_stays LiLim =
+    stays_with (fixed tags.PairKey ++ pair_words) bar_key (stays_with (fixed tags.PairKey) pair_words (λ n os. refl) pair_words_stay) bar_key_stays
+key_stays Vrp = stays_with (fixed tags.StopKey) stop_words (λ n os. refl) stop_words_stay
+
+sheet_goes : Goes (unquoted (codes "svg") []) sheet_text (inside picture_names)
+unfolding sheet_text style
+sheet_goes =
     let a = unquoted (codes "svg") [] in
-    goes_on a (fixed text.LineStyle ++ fixed text.TextStyle) (fixed text.BarStyle) (goes_on a (fixed text.LineStyle) (fixed text.TextStyle) refl refl) refl
+    goes_on a (style styles.LineStyle ++ style styles.TextStyle) (style styles.BarStyle) (goes_on a (style styles.LineStyle) (style styles.TextStyle) refl refl) refl
 
 shapes_go : Goes (inside picture_names) shapes_text (inside picture_names)
-unfolding shapes_text fixed
+unfolding shapes_text style
 shapes_go =
     let a = inside picture_names in
     let defs = inside (codes "defs" ∷ picture_names) in
-    goes_on a (fixed text.ArrowShape ++ fixed text.DepotShape ++ fixed text.PairShapes) (fixed text.RingShapes ++ fixed text.Paper)
-    (goes_on a (fixed text.ArrowShape ++ fixed text.DepotShape) (fixed text.PairShapes)
-    (goes_on a (fixed text.ArrowShape) (fixed text.DepotShape) refl refl) refl) (goes_on defs (fixed text.RingShapes) (fixed text.Paper) refl refl)
+    goes_on a (style styles.ArrowShape ++ style styles.DepotShape ++ style styles.PairShapes) (style styles.RingShapes ++ style styles.Paper)
+    (goes_on a (style styles.ArrowShape ++ style styles.DepotShape) (style styles.PairShapes)
+    (goes_on a (style styles.ArrowShape) (style styles.DepotShape) refl refl) refl) (goes_on defs (style styles.RingShapes) (style styles.Paper) refl refl)
+
+size_opens : (height : ℕ) → Goes outside (size_text height) (unquoted (codes "svg") [])
+unfolding size_text fixed style
+size_opens height =
+    let a = unquoted (codes "svg") [] in
+    goes_on outside (fixed tags.Head ++ style styles.Letters) (attribute tags.Size height)
+    (goes_on outside (fixed tags.Head) (style styles.Letters) refl refl) (attribute_goes a (codes "svg") [] tags.Size height refl)
 
 head_opens : (kind : Kind) (height : ℕ) → Goes outside (head_text kind height) (inside picture_names)
-unfolding head_text fixed
+unfolding head_text
 head_opens kind height =
-    let size = attribute text.Head height in
-    goes_on outside (size ++ style_text ++ shapes_text) (key_text kind)
-    (goes_on outside (size ++ style_text) shapes_text
-    (goes_on outside size style_text (attribute_goes outside (codes "svg") [] text.Head height refl) style_goes) shapes_go)
+    let size = size_text height in
+    goes_on outside (size ++ sheet_text ++ shapes_text) (key_text kind)
+    (goes_on outside (size ++ sheet_text) shapes_text (goes_on outside size sheet_text (size_opens height) sheet_goes) shapes_go)
     (key_stays kind (codes "svg") [])
 
 cost_stays : (kind : Kind) (cost : Cost) → Stays (cost_text kind cost)
-unfolding cost_text fixed
+unfolding cost_text word
 cost_stays kind cost =
     let mark = partial_text cost.unplanned in
-    let count = named text.Unplanned cost.unplanned in
-    let marked : Stays mark = stays_if (cost.unplanned == 0) [] (fixed text.Partial) (λ n os. refl) (λ n os. refl) in
-    let first : Stays (mark ++ count) = stays_with mark count marked (named_stays text.Unplanned cost.unplanned (λ n os. refl)) in
-    stays_with (mark ++ count ++ vehicles_text kind cost.vehicles) (named text.Distance cost.distance)
-    (stays_with (mark ++ count) (vehicles_text kind cost.vehicles) first (by kind)) (named_stays text.Distance cost.distance (λ n os. refl))
+    let count = figure words.Unplanned cost.unplanned in
+    let marked : Stays mark = stays_if (cost.unplanned == 0) [] (word words.Partial) (λ n os. refl) (λ n os. refl) in
+    let first : Stays (mark ++ count) = stays_with mark count marked (figure_stays words.Unplanned cost.unplanned (λ n os. refl)) in
+    stays_with (mark ++ count ++ vehicles_text kind cost.vehicles) (figure words.Distance cost.distance)
+    (stays_with (mark ++ count) (vehicles_text kind cost.vehicles) first (by kind)) (figure_stays words.Distance cost.distance (λ n os. refl))
   where
     by : (k : Kind) → Stays (vehicles_text k cost.vehicles)
-    by LiLim = named_stays text.Vehicles cost.vehicles (λ n os. refl)
+    by LiLim = figure_stays words.Vehicles cost.vehicles (λ n os. refl)
     by Vrp = λ n os. refl
 
-fixed_if : (c : Bool) (t u : Text) → Stays (fixed t) → Stays (fixed u) → Stays (fixed (if c then t else u))
-fixed_if true t u first next = first
-fixed_if false t u first next = next
+name_stays : (rule : Rule) → Stays (rule_name rule)
+unfolding rule_name
+name_stays UnknownStop = λ n os. refl
+name_stays Twice = λ n os. refl
+name_stays Missing = λ n os. refl
+name_stays SplitPair = λ n os. refl
+name_stays DeliveryFirst = λ n os. refl
+name_stays Load = λ n os. refl
+name_stays Late = λ n os. refl
+name_stays LateReturn = λ n os. refl
+name_stays Fleet = λ n os. refl
+name_stays Pin = λ n os. refl
+name_stays PrintedCost = λ n os. refl
 
-name_stays : (rule : ℕ) → Stays (fixed (rule_name rule))
-unfolding fixed
-name_stays rule =
-    fixed_if (rule == 1) text.UnknownStop _ (λ n os. refl)
-    (fixed_if (rule == 2) text.VisitedTwice _ (λ n os. refl)
-    (fixed_if (rule == 3) text.MissingStop _ (λ n os. refl)
-    (fixed_if (rule == 4) text.SplitPair _ (λ n os. refl)
-    (fixed_if (rule == 5) text.EarlyDelivery _ (λ n os. refl)
-    (fixed_if (rule == 6) text.Overload _ (λ n os. refl)
-    (fixed_if (rule == 7) text.LateService _ (λ n os. refl)
-    (fixed_if (rule == 8) text.LateReturn _ (λ n os. refl)
-    (fixed_if (rule == 9) text.TooManyVehicles _ (λ n os. refl)
-    (fixed_if (rule == 10) text.OffPin text.WrongCost (λ n os. refl) (λ n os. refl))))))))))
-
-start_stays : (t : Text) (v : Visit) → Stays (fixed t) → Stays (start_figures t v)
-unfolding start_figures fixed
-start_stays t v first = stays_with (named t v.start) (named text.Latest v.stop.latest) (named_stays t v.start first) (named_stays text.Latest v.stop.latest (λ n os. refl))
+start_stays : (w : Word) (v : Visit) → Stays (word w) → Stays (start_figures w v)
+unfolding start_figures word
+start_stays w v first = stays_with (figure w v.start) (figure words.Latest v.stop.latest) (figure_stays w v.start first) (figure_stays words.Latest v.stop.latest (λ n os. refl))
 
 load_stays : (p : Instance) (v : Visit) → Stays (load_figures p v)
-unfolding load_figures fixed
+unfolding load_figures word
 load_stays p v =
-    stays_with (fixed text.Load ++ signed_decimal v.load) (named text.Capacity p.capacity)
-    (stays_with (fixed text.Load) (signed_decimal v.load) (λ n os. refl) (λ n os. inside_keeps (n ∷ os) (signed_decimal v.load) (plain_signed v.load)))
-    (named_stays text.Capacity p.capacity (λ n os. refl))
-
-visit_stays : (p : Instance) (rule : ℕ) (v : Visit) → Stays (visit_figures p rule v)
-unfolding fixed
-visit_stays p rule v =
-    stays_if (rule == 6) (load_figures p v) (if rule == 7 then start_figures text.Start v else start_figures text.Back v) (load_stays p v)
-    (stays_if (rule == 7) (start_figures text.Start v) (start_figures text.Back v) (start_stays text.Start v (λ n os. refl)) (start_stays text.Back v (λ n os. refl)))
+    stays_with (word words.Load ++ signed_decimal v.load) (figure words.Capacity p.capacity)
+    (stays_with (word words.Load) (signed_decimal v.load) (λ n os. refl) (λ n os. inside_keeps (n ∷ os) (signed_decimal v.load) (plain_signed v.load)))
+    (figure_stays words.Capacity p.capacity (λ n os. refl))
 
 fleet_stays : (p : Instance) (routes : List (List ℕ)) → Stays (fleet_figures p routes)
-unfolding fleet_figures fixed
+unfolding fleet_figures word
 fleet_stays p routes =
-    stays_with (named text.Used (used_count routes)) (named text.Fleet p.fleet) (named_stays text.Used (used_count routes) (λ n os. refl)) (named_stays text.Fleet p.fleet (λ n os. refl))
+    stays_with (figure words.Used (used_count routes)) (figure words.Fleet p.fleet) (figure_stays words.Used (used_count routes) (λ n os. refl)) (figure_stays words.Fleet p.fleet (λ n os. refl))
 
-figures_stay : (p : Instance) (routes : List (List ℕ)) (b : Breach) → Stays (figures_of p routes b)
-unfolding fixed
-figures_stay p routes b =
-    stays_if ((b.rule == 3) || (b.rule == 4) || (b.rule == 5)) (partner_figures p b.stop) _ (stays_maybe (named text.Partner) (partner_at p b.stop) (λ m. named_stays text.Partner m (λ n os. refl)))
-    (stays_if ((b.rule == 6) || (b.rule == 7) || (b.rule == 8)) (option_map_or (visit_figures p b.rule) (visit_told p routes b.route b.place) []) _
-    (stays_maybe (visit_figures p b.rule) (visit_told p routes b.route b.place) (visit_stays p b.rule))
-    (stays_if (b.rule == 9) (fleet_figures p routes) _ (fleet_stays p routes)
-    (stays_if (b.rule == 11) (named text.Driven (total_length p routes)) [] (named_stays text.Driven (total_length p routes) (λ n os. refl)) (λ n os. refl))))
+partner_stays : (p : Instance) (n : ℕ) → Stays (partner_figures p n)
+unfolding word
+partner_stays p n = stays_maybe (figure words.Partner) (partner_at p n) (λ m. figure_stays words.Partner m (λ k os. refl))
+
+figures_stay : (rule : Rule) (p : Instance) (routes : List (List ℕ)) (b : Breach) → Stays (rule_figures rule p routes b)
+unfolding word
+figures_stay UnknownStop p routes b = λ n os. refl
+figures_stay Twice p routes b = λ n os. refl
+figures_stay Missing p routes b = partner_stays p b.stop
+figures_stay SplitPair p routes b = partner_stays p b.stop
+figures_stay DeliveryFirst p routes b = partner_stays p b.stop
+figures_stay Load p routes b = stays_maybe (load_figures p) (visit_told p routes b.route b.place) (load_stays p)
+figures_stay Late p routes b = stays_maybe (start_figures words.Start) (visit_told p routes b.route b.place) (λ v. start_stays words.Start v (λ n os. refl))
+figures_stay LateReturn p routes b = stays_maybe (start_figures words.Back) (visit_told p routes b.route b.place) (λ v. start_stays words.Back v (λ n os. refl))
+figures_stay Fleet p routes b = fleet_stays p routes
+figures_stay Pin p routes b = λ n os. refl
+figures_stay PrintedCost p routes b = figure_stays words.Driven (total_length p routes) (λ n os. refl)
 
 place_stays : (b : Breach) → Stays (broken_place b)
-unfolding broken_place fixed
+unfolding broken_place word
 place_stays b =
-    let route = some_named text.BrokenRoute b.route in
-    let place = some_named text.BrokenPlace b.place in
-    stays_with (route ++ place) (some_named text.BrokenStop b.stop)
-    (stays_with route place (some_named_stays text.BrokenRoute b.route (λ n os. refl)) (some_named_stays text.BrokenPlace b.place (λ n os. refl)))
-    (some_named_stays text.BrokenStop b.stop (λ n os. refl))
+    let route = some_figure words.BrokenRoute b.route in
+    let place = some_figure words.BrokenPlace b.place in
+    stays_with (route ++ place) (some_figure words.BrokenStop b.stop)
+    (stays_with route place (some_figure_stays words.BrokenRoute b.route (λ n os. refl)) (some_figure_stays words.BrokenPlace b.place (λ n os. refl)))
+    (some_figure_stays words.BrokenStop b.stop (λ n os. refl))
+
+rule_stays : (rule : Rule) → Stays (rule_text rule)
+unfolding rule_text word
+rule_stays rule =
+    let first = figure words.BrokenRule (rule_number rule) in
+    stays_with (first ++ word words.BeforeName) (rule_name rule)
+    (stays_with first (word words.BeforeName) (figure_stays words.BrokenRule (rule_number rule) (λ n os. refl)) (λ n os. refl)) (name_stays rule)
 
 broken_stays : (p : Instance) (routes : List (List ℕ)) (b : Breach) → Stays (broken_text p routes b)
-unfolding broken_text fixed
+unfolding broken_text
 broken_stays p routes b =
-    let first = named text.BrokenRule b.rule in
-    let name = fixed (rule_name b.rule) in
-    stays_with (first ++ name ++ broken_place b) (figures_of p routes b)
-    (stays_with (first ++ name) (broken_place b) (stays_with first name (named_stays text.BrokenRule b.rule (λ n os. refl)) (name_stays b.rule)) (place_stays b)) (figures_stay p routes b)
+    stays_with (rule_text b.rule ++ broken_place b) (rule_figures b.rule p routes b)
+    (stays_with (rule_text b.rule) (broken_place b) (rule_stays b.rule) (place_stays b)) (figures_stay b.rule p routes b)
+
+broken_by_stays : (p : Instance) (routes : List (List ℕ)) (rule : Option Rule) (r i s : ℕ) → Stays (broken_by p routes rule r i s)
+broken_by_stays p routes None r i s = λ n os. refl
+broken_by_stays p routes (Some rule) r i s = broken_stays p routes (record { rule = rule; route = r; place = i; stop = s })
 
 verdict_stays : (p : Instance) (routes : List (List ℕ)) (verdict : Verdict) → Stays (verdict_text p routes verdict)
 verdict_stays p routes (Pass cost) = cost_stays p.kind cost
-verdict_stays p routes (Broken rule r i s) = broken_stays p routes (record { rule = rule; route = r; place = i; stop = s })
+verdict_stays p routes (Broken rule r i s) = broken_by_stays p routes (rule_of rule) r i s
 
 scope_stays : (number all : ℕ) → Stays (scope_text number all)
-unfolding one_route fixed
+unfolding one_route word
 scope_stays number all =
-    let first = named text.OneRoute number in
-    let of_all = named text.OfRoutes all in
-    stays_if (number == 0) [] (first ++ of_all ++ fixed text.OfPlan) (λ n os. refl)
-    (stays_with (first ++ of_all) (fixed text.OfPlan) (stays_with first of_all (named_stays text.OneRoute number (λ n os. refl)) (named_stays text.OfRoutes all (λ n os. refl))) (λ n os. refl))
+    let first = figure words.OneRoute number in
+    let of_all = figure words.OfRoutes all in
+    stays_if (number == 0) [] (first ++ of_all ++ word words.OfPlan) (λ n os. refl)
+    (stays_with (first ++ of_all) (word words.OfPlan) (stays_with first of_all (figure_stays words.OneRoute number (λ n os. refl)) (figure_stays words.OfRoutes all (λ n os. refl))) (λ n os. refl))
 
-title_begins : (verdict : Verdict) (n : List ℕ) (os : List (List ℕ)) → Goes (inside (n ∷ os)) (fixed (title_head verdict)) (inside (codes "text" ∷ n ∷ os))
-unfolding fixed
+title_begins : (verdict : Verdict) (n : List ℕ) (os : List (List ℕ)) → Goes (inside (n ∷ os)) (title_start verdict) (inside (codes "text" ∷ n ∷ os))
+unfolding title_start fixed style
 title_begins (Pass cost) n os = refl
 title_begins (Broken rule r i s) n os = refl
 
@@ -193,19 +233,20 @@ unfolding title_text
 title_stays p routes verdict number n os =
     let a = inside (n ∷ os) in
     let name = codes "text" in
-    let head = fixed (title_head verdict) in
+    let head = title_start verdict in
     let scope = scope_text number (length routes) in
     let words = verdict_text p routes verdict in
-    goes_on a (head ++ scope ++ words) (fixed text.TextEnd)
+    goes_on a (head ++ scope ++ words) (fixed tags.TextEnd)
     (goes_on a (head ++ scope) words (goes_on a head scope (title_begins verdict n os) (scope_stays number (length routes) name (n ∷ os)))
     (verdict_stays p routes verdict name (n ∷ os))) (text_ends n os)
 
 unserved_stays : (count : ℕ) → Stays (unserved_text count)
-unfolding unserved_text fixed
+unfolding unserved_text fixed word
 unserved_stays count =
-    stays_if (count == 0) [] (named text.Unserved count ++ fixed text.TextEnd) (λ n os. refl)
-    (λ n os. goes_on (inside (n ∷ os)) (named text.Unserved count) (fixed text.TextEnd)
-    (named_goes (inside (n ∷ os)) (inside (codes "text" ∷ n ∷ os)) text.Unserved count (inside_keeps (codes "text" ∷ n ∷ os)) refl) (text_ends n os))
+    stays_if (count == 0) [] (fixed tags.UnservedCount ++ figure words.Unserved count ++ fixed tags.TextEnd) (λ n os. refl)
+    (λ n os. goes_on (inside (n ∷ os)) (fixed tags.UnservedCount ++ figure words.Unserved count) (fixed tags.TextEnd)
+    (goes_on (inside (n ∷ os)) (fixed tags.UnservedCount) (figure words.Unserved count) refl
+    (figure_stays words.Unserved count (λ m ms. refl) (codes "text") (n ∷ os))) (text_ends n os))
 
 drawn_stays : (p : Instance) (stops : List Stop) (first : ℕ) (routes : List (List ℕ)) (verdict : Verdict) → Stays (drawn_text p stops first routes verdict)
 unfolding drawn_text
@@ -220,9 +261,9 @@ sized_opens : (p : Instance) (rows : ℕ) → Goes outside (sized_head p rows) (
 sized_opens p rows = head_opens p.kind (1130 + (grid_of p.kind rows).pitch * (grid_of p.kind rows).rows)
 
 -- a text that ends within the picture's own element, and its end
-ended_text : (t : List ℕ) → Goes outside t (inside picture_names) → IsWellFormed (t ++ fixed text.End)
+ended_text : (t : List ℕ) → Goes outside t (inside picture_names) → IsWellFormed (t ++ fixed tags.End)
 unfolding fixed
-ended_text t within = goes_on outside t (fixed text.End) within refl
+ended_text t within = goes_on outside t (fixed tags.End) within refl
 
 pub pictures_are_well_formed : PicturesAreWellFormed
 unfolding whole_text
@@ -239,7 +280,7 @@ pictures_are_well_formed p routes verdict =
     (goes_on outside head title (sized_opens p (length kept)) (title_stays p kept verdict 0 name []))
     (unserved_stays (length (unserved kept stops)) name [])) (drawn_stays p stops 1 kept verdict name []))
 
-one_well_formed : (p : Instance) (kept : List (List ℕ)) (verdict : Verdict) (number : ℕ) (route : List ℕ) → IsWellFormed (route_text p kept verdict number route ++ fixed text.End)
+one_well_formed : (p : Instance) (kept : List (List ℕ)) (verdict : Verdict) (number : ℕ) (route : List ℕ) → IsWellFormed (route_text p kept verdict number route ++ fixed tags.End)
 unfolding route_text
 one_well_formed p kept verdict number route =
     let head = sized_head p 1 in
@@ -253,6 +294,6 @@ one_well_formed p kept verdict number route =
 pub route_pictures_are_well_formed : RoutePicturesAreWellFormed
 route_pictures_are_well_formed p routes verdict number = by (item_at (map (kept_of p) routes) number)
   where
-    by : (o : Option (List ℕ)) → IfSome (option_map (λ route. route_text p (map (kept_of p) routes) verdict number route ++ fixed text.End) o) IsWellFormed
+    by : (o : Option (List ℕ)) → IfSome (option_map (λ route. route_text p (map (kept_of p) routes) verdict number route ++ fixed tags.End) o) IsWellFormed
     by None = tt
     by (Some route) = one_well_formed p (map (kept_of p) routes) verdict number route

@@ -35,13 +35,16 @@ use Rattle.plan_picture.specs.Days.{
   work_text,
 }
 use Rattle.plan_picture.specs.Known.{visits_of}
-use Rattle.plan_picture.specs.Svg.{attribute, bar, broken_class, colour, each, named, placed_text}
-use Rattle.plan_picture.specs.Table.{figures_text, heading_text, load_text, row_end, row_head, row_place, row_text, rows_text, top_load}
-use Rattle.plan_picture.specs.Texts.{fixed}
+use Rattle.plan_picture.specs.Svg.{attribute, bar, broken_class, colour, each, numbered, placed_text, tagged}
+use Rattle.plan_picture.specs.Table.{columns_text, figures_text, heading_text, load_text, row_end, row_head, row_place, row_text, rows_text, top_load}
+use Rattle.plan_picture.specs.Styles.{style}
+use Rattle.plan_picture.specs.Tags.{fixed}
 use Rattle.plan_picture.specs.WellFormed.{inside, quoted, unquoted}
+use Rattle.plan_picture.specs.Words.{word}
+use Rattle.plan_picture.specs.declared.styles.Style.TheVariants as styles
 use Rattle.plan_picture.specs.declared.table.Grid.{Grid}
-use Rattle.plan_picture.specs.declared.texts.Text.TheVariants as text
-use Rattle.plan_picture.proofs.PieceLemmas.{attribute_goes, bar_stays, colour_goes, group_ends, group_stays, height_goes, named_goes, placed_text_stays, tag_closes, x_goes}
+use Rattle.plan_picture.specs.declared.tags.Tag.TheVariants as tags
+use Rattle.plan_picture.proofs.PieceLemmas.{attribute_goes, bar_stays, colour_goes, group_ends, group_stays, height_goes, numbered_goes, placed_text_stays, tag_closes, x_goes}
 use Rattle.plan_picture.proofs.ReadLemmas.{Goes, goes_on, inside_keeps, plain_signed, quoted_keeps, Stays, stays_all, stays_each, stays_if, stays_with}
 
 place_opens : (g : Grid) (index : ℕ) (n : List ℕ) (os : List (List ℕ)) → Goes (inside (n ∷ os)) (row_place g index) (quoted (codes "g") (n ∷ os))
@@ -52,17 +55,17 @@ place_opens g index n os =
     let keeps = quoted_keeps (codes "g") (n ∷ os) in
     let x = 390 * (index / g.rows) in
     let y = 1116 + g.pitch * (index % g.rows) in
-    goes_on a (named text.Row x) (named text.Blank y) (named_goes a b text.Row x keeps refl) (named_goes b b text.Blank y keeps refl)
+    goes_on a (numbered tags.Row x) (numbered tags.Blank y) (numbered_goes a b tags.Row x keeps refl) (numbered_goes b b tags.Blank y keeps refl)
 
 head_begins : (broken number : ℕ) (n : List ℕ) (os : List (List ℕ)) → Goes (quoted (codes "g") (n ∷ os)) (row_head broken number) (unquoted (codes "text") (codes "g" ∷ n ∷ os))
 unfolding row_head broken_class fixed
 head_begins broken number n os =
     let a = quoted (codes "g") (n ∷ os) in
     let inner = codes "g" ∷ n ∷ os in
-    goes_on a (colour text.RowColour number ++ fixed text.RowText) (broken_class broken number)
-    (goes_on a (colour text.RowColour number) (fixed text.RowText) (colour_goes a (codes "rect") inner text.RowColour number refl) refl) (by (number == broken))
+    goes_on a (colour tags.RowColour number ++ fixed tags.RowText) (broken_class broken number)
+    (goes_on a (colour tags.RowColour number) (fixed tags.RowText) (colour_goes a (codes "rect") inner tags.RowColour number refl) refl) (by (number == broken))
   where
-    by : (c : Bool) → Goes (unquoted (codes "text") (codes "g" ∷ n ∷ os)) (if c then fixed text.BrokenClass else []) (unquoted (codes "text") (codes "g" ∷ n ∷ os))
+    by : (c : Bool) → Goes (unquoted (codes "text") (codes "g" ∷ n ∷ os)) (if c then fixed tags.BrokenClass else []) (unquoted (codes "text") (codes "g" ∷ n ∷ os))
     by true = refl
     by false = refl
 
@@ -75,20 +78,24 @@ figures_go p number route n os =
     let b = inside names in
     let keeps = inside_keeps names in
     let load = top_load (visits_of p route) in
-    let first = named text.RouteCell number in
-    let second = named text.StopsCell (length route) in
-    goes_on a (first ++ second ++ load_text load) (named text.DistanceCell (route_length p route))
-    (goes_on a (first ++ second) (load_text load) (goes_on a first second (named_goes a b text.RouteCell number keeps refl)
-    (named_goes b b text.StopsCell (length route) keeps refl))
-    (goes_on b (fixed text.LoadCell) (signed_decimal load) refl (keeps (signed_decimal load) (plain_signed load))))
-    (named_goes b b text.DistanceCell (route_length p route) keeps refl)
+    let first = numbered tags.RouteCell number in
+    let second = numbered tags.StopsCell (length route) in
+    goes_on a (first ++ second ++ load_text load) (numbered tags.DistanceCell (route_length p route))
+    (goes_on a (first ++ second) (load_text load) (goes_on a first second (numbered_goes a b tags.RouteCell number keeps refl)
+    (numbered_goes b b tags.StopsCell (length route) keeps refl))
+    (goes_on b (fixed tags.LoadCell) (signed_decimal load) refl (keeps (signed_decimal load) (plain_signed load))))
+    (numbered_goes b b tags.DistanceCell (route_length p route) keeps refl)
+
+columns_stay : Stays (columns_text ++ fixed tags.HeadingEnd)
+unfolding columns_text tagged fixed word
+columns_stay n os = refl
 
 row_ends : (g : Grid) (index : ℕ) (n : List ℕ) (os : List (List ℕ)) → Goes (inside (codes "tspan" ∷ codes "text" ∷ codes "g" ∷ n ∷ os)) (row_end g index) (inside (n ∷ os))
 unfolding row_end fixed
 row_ends g index n os =
     let a = inside (codes "tspan" ∷ codes "text" ∷ codes "g" ∷ n ∷ os) in
-    goes_on a (fixed text.CellsEnd ++ heading_text g index) (fixed text.GroupEnd)
-    (goes_on a (fixed text.CellsEnd) (heading_text g index) refl (stays_if (index % g.rows == 0) (fixed text.Heading) [] (λ m ms. refl) (λ m ms. refl) (codes "g") (n ∷ os))) (group_ends n os)
+    goes_on a (fixed tags.CellsEnd ++ heading_text g index) (fixed tags.GroupEnd)
+    (goes_on a (fixed tags.CellsEnd) (heading_text g index) refl (stays_if (index % g.rows == 0) (columns_text ++ fixed tags.HeadingEnd) [] columns_stay (λ m ms. refl) (codes "g") (n ∷ os))) (group_ends n os)
 
 row_stays : (p : Instance) (g : Grid) (broken first index : ℕ) (route : List ℕ) → Stays (row_text p g broken first index route)
 unfolding row_text
@@ -104,25 +111,25 @@ row_stays p g broken first index route n os =
 pub rows_stay : (p : Instance) (g : Grid) (broken first : ℕ) (routes : List (List ℕ)) → Stays (rows_text p g broken first routes)
 unfolding rows_text fixed
 rows_stay p g broken first routes =
-    group_stays text.Table (each (row_text p g broken first) 0 routes) (λ n os. refl) (stays_each (row_text p g broken first) 0 routes (row_stays p g broken first))
+    group_stays (fixed tags.Table) (each (row_text p g broken first) 0 routes) (λ n os. refl) (stays_each (row_text p g broken first) 0 routes (row_stays p g broken first))
 
 work_stays : (leave : ℕ) (v : Visit) → Stays (work_text leave v)
 unfolding work_text fixed
 work_stays leave v =
-    let drive = bar text.Drive leave v.leg in
-    let wait = bar text.Wait (leave + v.leg) (v.start - (leave + v.leg)) in
-    stays_with (drive ++ wait) (bar text.Serve v.start v.stop.service)
-    (stays_with drive wait (bar_stays text.Drive leave v.leg (λ n os. refl)) (bar_stays text.Wait (leave + v.leg) (v.start - (leave + v.leg)) (λ n os. refl)))
-    (bar_stays text.Serve v.start v.stop.service (λ n os. refl))
+    let drive = bar tags.Drive leave v.leg in
+    let wait = bar tags.Wait (leave + v.leg) (v.start - (leave + v.leg)) in
+    stays_with (drive ++ wait) (bar tags.Serve v.start v.stop.service)
+    (stays_with drive wait (bar_stays tags.Drive leave v.leg (λ n os. refl)) (bar_stays tags.Wait (leave + v.leg) (v.start - (leave + v.leg)) (λ n os. refl)))
+    (bar_stays tags.Serve v.start v.stop.service (λ n os. refl))
 
 window_stays : (s : Stop) → Stays (window_text s)
 unfolding window_text fixed
 window_stays s =
-    stays_if (s.number == 0) [] (bar text.Window s.earliest (s.latest - s.earliest)) (λ n os. refl) (bar_stays text.Window s.earliest (s.latest - s.earliest) (λ n os. refl))
+    stays_if (s.number == 0) [] (bar tags.Window s.earliest (s.latest - s.earliest)) (λ n os. refl) (bar_stays tags.Window s.earliest (s.latest - s.earliest) (λ n os. refl))
 
 late_stays : (v : Visit) → Stays (late_text v)
 unfolding late_text fixed
-late_stays v = bar_stays text.Late v.stop.latest (v.start - v.stop.latest) (λ n os. refl)
+late_stays v = bar_stays tags.Late v.stop.latest (v.start - v.stop.latest) (λ n os. refl)
 
 visit_stays : (leave : ℕ) (v : Visit) → Stays (visit_text leave v)
 unfolding visit_text
@@ -135,15 +142,15 @@ visits_stay start service (v ∷ visits) =
     stays_with (visit_text (start + service) v) (visits_text v.start v.stop.service visits) (visit_stays (start + service) v) (visits_stay v.start v.stop.service visits)
 
 -- a row that is moved down
-moved_stays : (y : ℕ) (t : List ℕ) → Stays t → Stays (named text.Day y ++ fixed text.DayOpen ++ t ++ fixed text.GroupEnd)
+moved_stays : (y : ℕ) (t : List ℕ) → Stays t → Stays (numbered tags.Day y ++ fixed tags.DayOpen ++ t ++ fixed tags.GroupEnd)
 unfolding fixed
 moved_stays y t within n os =
     let a = inside (n ∷ os) in
     let name = codes "g" in
-    let head = named text.Day y in
-    goes_on a (head ++ fixed text.DayOpen ++ t) (fixed text.GroupEnd)
-    (goes_on a (head ++ fixed text.DayOpen) t (goes_on a head (fixed text.DayOpen)
-    (named_goes a (quoted name (n ∷ os)) text.Day y (quoted_keeps name (n ∷ os)) refl) refl) (within name (n ∷ os))) (group_ends n os)
+    let head = numbered tags.Day y in
+    goes_on a (head ++ fixed tags.DayOpen ++ t) (fixed tags.GroupEnd)
+    (goes_on a (head ++ fixed tags.DayOpen) t (goes_on a head (fixed tags.DayOpen)
+    (numbered_goes a (quoted name (n ∷ os)) tags.Day y (quoted_keeps name (n ∷ os)) refl) refl) (within name (n ∷ os))) (group_ends n os)
 
 day_stays : (p : Instance) (index : ℕ) (route : List ℕ) → Stays (day_text p index route)
 unfolding day_text
@@ -152,8 +159,8 @@ day_stays p index route = moved_stays (30 * index) (visits_text p.depot.earliest
 time_stays : (x : ℕ) (v : Visit) → Stays (time_text x v)
 unfolding time_text fixed
 time_stays x v =
-    stays_with (placed_text text.TimeStop x v.stop.number) (placed_text text.TimeStart x v.start)
-    (placed_text_stays text.TimeStop x v.stop.number (λ n os. refl)) (placed_text_stays text.TimeStart x v.start (λ n os. refl))
+    stays_with (placed_text tags.TimeStop x v.stop.number) (placed_text tags.TimeStart x v.start)
+    (placed_text_stays tags.TimeStop x v.stop.number (λ n os. refl)) (placed_text_stays tags.TimeStart x v.start (λ n os. refl))
 
 times_stay : (first last free : ℕ) (visits : List Visit) → Stays (times_text first last free visits)
 times_stay first last free [] = λ n os. refl
@@ -168,31 +175,31 @@ unfolding times_row
 times_row_stays p last index route = moved_stays (1116 + 30 * index) (times_text p.depot.earliest last 0 (visits_of p route)) (times_stay p.depot.earliest last 0 (visits_of p route))
 
 times_rows_stay : (p : Instance) (last : ℕ) (routes : List (List ℕ)) → Stays (times_rows p last routes)
-unfolding times_rows fixed
+unfolding times_rows style
 times_rows_stay p last routes =
-    group_stays text.Times (each (times_row p last) 0 routes) (λ n os. refl) (stays_each (times_row p last) 0 routes (times_row_stays p last))
+    group_stays (style styles.Times) (each (times_row p last) 0 routes) (λ n os. refl) (stays_each (times_row p last) 0 routes (times_row_stays p last))
 
 line_stays : (x height : ℕ) → Stays (tick_line x height)
-unfolding tick_line fixed
+unfolding tick_line style
 line_stays x height n os =
     let a = inside (n ∷ os) in
     let name = codes "rect" in
-    goes_on a (fixed text.TickLine ++ attribute text.X x ++ attribute text.Height height) (fixed text.Close)
-    (goes_on a (fixed text.TickLine ++ attribute text.X x) (attribute text.Height height)
-    (goes_on a (fixed text.TickLine) (attribute text.X x) refl (x_goes name (n ∷ os) x)) (height_goes name (n ∷ os) height)) (tag_closes name n os)
+    goes_on a (style styles.TickLine ++ attribute tags.X x ++ attribute tags.Height height) (fixed tags.Close)
+    (goes_on a (style styles.TickLine ++ attribute tags.X x) (attribute tags.Height height)
+    (goes_on a (style styles.TickLine) (attribute tags.X x) refl (x_goes name (n ∷ os) x)) (height_goes name (n ∷ os) height)) (tag_closes name n os)
 
 tick_stays : (first last height time : ℕ) → Stays (tick_text first last height time)
 unfolding tick_text fixed
 tick_stays first last height time =
     let x = across first last time in
-    stays_if (nat_le time last) (tick_line x height ++ placed_text text.TickTime x time) []
-    (stays_with (tick_line x height) (placed_text text.TickTime x time) (line_stays x height) (placed_text_stays text.TickTime x time (λ n os. refl))) (λ n os. refl)
+    stays_if (nat_le time last) (tick_line x height ++ placed_text tags.TickTime x time) []
+    (stays_with (tick_line x height) (placed_text tags.TickTime x time) (line_stays x height) (placed_text_stays tags.TickTime x time (λ n os. refl))) (λ n os. refl)
 
 ticks_stay : (first last height : ℕ) → Stays (ticks_text first last height)
 unfolding ticks_text fixed
 ticks_stay first last height =
     let step = tick_step 20 (last - first) in
-    group_stays text.Ticks (flat_map (nth_tick first last height step) (range_with_len 0 14)) (λ n os. refl)
+    group_stays (fixed tags.Ticks) (flat_map (nth_tick first last height step) (range_with_len 0 14)) (λ n os. refl)
     (stays_all (nth_tick first last height step) (range_with_len 0 14) (λ k. tick_stays first last height (step * (div_ceil first step + k))))
 
 chart_opens : (first last height : ℕ) (n : List ℕ) (os : List (List ℕ)) → Goes (inside (n ∷ os)) (chart_head first last height) (inside (codes "svg" ∷ n ∷ os))
@@ -203,13 +210,13 @@ chart_opens first last height n os =
     let b = quoted name (n ∷ os) in
     let c = unquoted name (n ∷ os) in
     let keeps = quoted_keeps name (n ∷ os) in
-    let top = attribute text.Chart height in
-    let box = named text.ChartBox first in
-    let width = named text.ChartWidth (last - first) in
-    goes_on a (top ++ box ++ width) (attribute text.Blank height ++ fixed text.Open)
-    (goes_on a (top ++ box) width (goes_on a top box (attribute_goes a name (n ∷ os) text.Chart height refl) (named_goes c b text.ChartBox first keeps refl))
-    (named_goes b b text.ChartWidth (last - first) keeps refl))
-    (goes_on b (attribute text.Blank height) (fixed text.Open) (attribute_goes b name (n ∷ os) text.Blank height refl) refl)
+    let top = attribute tags.Chart height in
+    let box = numbered tags.ChartBox first in
+    let width = numbered tags.ChartWidth (last - first) in
+    goes_on a (top ++ box ++ width) (attribute tags.Blank height ++ fixed tags.Open)
+    (goes_on a (top ++ box) width (goes_on a top box (attribute_goes a name (n ∷ os) tags.Chart height refl) (numbered_goes c b tags.ChartBox first keeps refl))
+    (numbered_goes b b tags.ChartWidth (last - first) keeps refl))
+    (goes_on b (attribute tags.Blank height) (fixed tags.Open) (attribute_goes b name (n ∷ os) tags.Blank height refl) refl)
 
 bars_stay : (p : Instance) (last : ℕ) (routes : List (List ℕ)) → Stays (bars_text p last routes)
 unfolding bars_text fixed
@@ -217,7 +224,7 @@ bars_stay p last routes n os =
     let a = inside (n ∷ os) in
     let head = chart_head p.depot.earliest last (30 * length routes) in
     let days = each (day_text p) 0 routes in
-    goes_on a (head ++ days) (fixed text.End)
+    goes_on a (head ++ days) (fixed tags.End)
     (goes_on a head days (chart_opens p.depot.earliest last (30 * length routes) n os) (stays_each (day_text p) 0 routes (day_stays p) (codes "svg") (n ∷ os))) refl
 
 chart_stays : (p : Instance) (last : ℕ) (routes : List (List ℕ)) → Stays (chart_text p last routes)

@@ -9,23 +9,25 @@ use Rattle.plan_types.specs.declared.requests.Kind.TheVariants.{LiLim, Vrp}
 use Rattle.plan_types.specs.declared.requests.Stop.{Stop}
 use Rattle.route_sched.specs.declared.visits.Visit.{Visit}
 use Rattle.plan_picture.specs.Known.{visits_of}
-use Rattle.plan_picture.specs.Svg.{attribute, bar, digit_count, each, named, placed_text}
-use Rattle.plan_picture.specs.Texts.{fixed}
-use Rattle.plan_picture.specs.declared.texts.Text.TheVariants as text
+use Rattle.plan_picture.specs.Svg.{attribute, bar, digit_count, each, numbered, placed_text}
+use Rattle.plan_picture.specs.Styles.{style}
+use Rattle.plan_picture.specs.Tags.{fixed}
+use Rattle.plan_picture.specs.declared.styles.Style.TheVariants as styles
+use Rattle.plan_picture.specs.declared.tags.Tag.TheVariants as tags
 
 -- the window of a stop; the depot's is the chart's whole width
 unfoldable pub window_text : Stop → List ℕ
 window_text s =
-    if s.number == 0 then [] else bar text.Window s.earliest (s.latest - s.earliest)
+    if s.number == 0 then [] else bar tags.Window s.earliest (s.latest - s.earliest)
 
 -- how much too late the service starts
 unfoldable pub late_text : Visit → List ℕ
-late_text v = bar text.Late v.stop.latest (v.start - v.stop.latest)
+late_text v = bar tags.Late v.stop.latest (v.start - v.stop.latest)
 
 -- driving from when the vehicle leaves the place before, then waiting, then service
 unfoldable pub work_text : ℕ → Visit → List ℕ
 work_text leave v =
-    bar text.Drive leave v.leg ++ bar text.Wait (leave + v.leg) (v.start - (leave + v.leg)) ++ bar text.Serve v.start v.stop.service
+    bar tags.Drive leave v.leg ++ bar tags.Wait (leave + v.leg) (v.start - (leave + v.leg)) ++ bar tags.Serve v.start v.stop.service
 
 unfoldable pub visit_text : ℕ → Visit → List ℕ
 visit_text leave v = work_text leave v ++ window_text v.stop ++ late_text v
@@ -38,7 +40,7 @@ visits_text start service (v ∷ visits) = visit_text (start + service) v ++ vis
 -- the day of the vehicle whose row is at this index
 unfoldable pub day_text : Instance → ℕ → List ℕ → List ℕ
 day_text p index route =
-    named text.Day (30 * index) ++ fixed text.DayOpen ++ visits_text p.depot.earliest 0 (visits_of p route) ++ fixed text.GroupEnd
+    numbered tags.Day (30 * index) ++ fixed tags.DayOpen ++ visits_text p.depot.earliest 0 (visits_of p route) ++ fixed tags.GroupEnd
 
 -- the latest of a time and these starts of service
 abbrev pub last_start : ℕ → List Visit → ℕ
@@ -65,11 +67,11 @@ across first last time = 320 + 840 * (time - first) / max (last - first) 1
 -- a tick is a line down all rows, with its time above
 unfoldable pub tick_line : ℕ → ℕ → List ℕ
 tick_line x height =
-    fixed text.TickLine ++ attribute text.X x ++ attribute text.Height height ++ fixed text.Close
+    style styles.TickLine ++ attribute tags.X x ++ attribute tags.Height height ++ fixed tags.Close
 
 unfoldable pub tick_text : ℕ → ℕ → ℕ → ℕ → List ℕ
 tick_text first last height time =
-    if nat_le time last then tick_line (across first last time) height ++ placed_text text.TickTime (across first last time) time else []
+    if nat_le time last then tick_line (across first last time) height ++ placed_text tags.TickTime (across first last time) time else []
 
 -- the tick with this number, from the first multiple of the step in the day on
 abbrev pub nth_tick : ℕ → ℕ → ℕ → ℕ → ℕ → List ℕ
@@ -77,11 +79,11 @@ nth_tick first last height step n = tick_text first last height (step * (div_cei
 
 unfoldable pub ticks_text : ℕ → ℕ → ℕ → List ℕ
 ticks_text first last height =
-    fixed text.Ticks ++ flat_map (nth_tick first last height (tick_step 20 (last - first))) (range_with_len 0 14) ++ fixed text.GroupEnd
+    fixed tags.Ticks ++ flat_map (nth_tick first last height (tick_step 20 (last - first))) (range_with_len 0 14) ++ fixed tags.GroupEnd
 
 -- a stop, and when service starts there
 unfoldable pub time_text : ℕ → Visit → List ℕ
-time_text x v = placed_text text.TimeStop x v.stop.number ++ placed_text text.TimeStart x v.start
+time_text x v = placed_text tags.TimeStop x v.stop.number ++ placed_text tags.TimeStart x v.start
 
 -- how much room a stop and its time need
 abbrev pub time_room : Visit → ℕ
@@ -97,18 +99,18 @@ times_text first last free (v ∷ visits) =
 -- the times in the row at this index
 unfoldable pub times_row : Instance → ℕ → ℕ → List ℕ → List ℕ
 times_row p last index route =
-    named text.Day (1116 + 30 * index) ++ fixed text.DayOpen ++ times_text p.depot.earliest last 0 (visits_of p route) ++ fixed text.GroupEnd
+    numbered tags.Day (1116 + 30 * index) ++ fixed tags.DayOpen ++ times_text p.depot.earliest last 0 (visits_of p route) ++ fixed tags.GroupEnd
 
 unfoldable pub times_rows : Instance → ℕ → List (List ℕ) → List ℕ
-times_rows p last routes = fixed text.Times ++ each (times_row p last) 0 routes ++ fixed text.GroupEnd
+times_rows p last routes = style styles.Times ++ each (times_row p last) 0 routes ++ fixed tags.GroupEnd
 
 unfoldable pub chart_head : ℕ → ℕ → ℕ → List ℕ
 chart_head first last height =
-    attribute text.Chart height ++ named text.ChartBox first ++ named text.ChartWidth (last - first) ++ (attribute text.Blank height ++ fixed text.Open)
+    attribute tags.Chart height ++ numbered tags.ChartBox first ++ numbered tags.ChartWidth (last - first) ++ (attribute tags.Blank height ++ fixed tags.Open)
 
 unfoldable pub bars_text : Instance → ℕ → List (List ℕ) → List ℕ
 bars_text p last routes =
-    chart_head p.depot.earliest last (30 * length routes) ++ each (day_text p) 0 routes ++ fixed text.End
+    chart_head p.depot.earliest last (30 * length routes) ++ each (day_text p) 0 routes ++ fixed tags.End
 
 unfoldable pub chart_text : Instance → ℕ → List (List ℕ) → List ℕ
 chart_text p last routes =

@@ -10,7 +10,7 @@ use Rattle.plan_picture.specs.Map.{is_delivery, leg_text, line_text, mark_text, 
 use Rattle.plan_picture.specs.Picture.{broken_route, picture, route_picture}
 use Rattle.plan_picture.specs.WellFormed.{IsWellFormed}
 use Rattle.plan_picture.specs.declared.frame.Frame.{Frame}
-use Rattle.plan_picture.specs.declared.texts.Text.TheVariants as text
+use Rattle.plan_picture.specs.declared.tags.Tag.TheVariants as tags
 
 -- these bytes stand in the text, one after another
 abbrev pub IsIn : List ℕ → List ℕ → Type 0
@@ -22,7 +22,7 @@ frame_of p = framed (bounds_of p.depot (known_stops p))
 
 -- the mark of a stop: pickups, deliveries and single stops are told apart
 abbrev pub stop_mark : Instance → Frame → Stop → List ℕ
-stop_mark p f s = mark_text (if is_delivery p s then text.DeliveryMark else under_shape p s) f s
+stop_mark p f s = mark_text (if is_delivery p s then tags.DeliveryMark else under_shape p s) f s
 
 -- each stop of the problem has its mark
 abbrev pub StopsAreMarked : Type 0

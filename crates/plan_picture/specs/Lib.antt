@@ -7,7 +7,9 @@ pub mod Labels
 pub mod Laws
 pub mod Map
 pub mod Picture
+pub mod Styles
 pub mod Svg
 pub mod Table
-pub mod Texts
+pub mod Tags
 pub mod WellFormed
+pub mod Words

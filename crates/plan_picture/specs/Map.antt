@@ -8,20 +8,20 @@ use Rattle.route_sched.specs.declared.visits.Visit.{Visit}
 use Rattle.plan_picture.specs.Frame.{apart, bounds_of, framed, on_the_way, point_of}
 use Rattle.plan_picture.specs.Known.{stop_among, unserved, visits_of}
 use Rattle.plan_picture.specs.Labels.{labels_of, quarters}
-use Rattle.plan_picture.specs.Svg.{at_text, attribute, broken_class, colour, each, named, placed_tag}
-use Rattle.plan_picture.specs.Texts.{fixed}
+use Rattle.plan_picture.specs.Svg.{at_text, attribute, broken_class, colour, each, numbered, placed_tag}
+use Rattle.plan_picture.specs.Tags.{fixed}
 use Rattle.plan_picture.specs.declared.frame.Frame.{Frame}
 use Rattle.plan_picture.specs.declared.frame.Point.{Point}
 use Rattle.plan_picture.specs.declared.labels.Area.{Area}
 use Rattle.plan_picture.specs.declared.labels.Label.{Label}
 use Rattle.plan_picture.specs.declared.labels.LabelKind.{LabelKind}
 use Rattle.plan_picture.specs.declared.labels.LabelKind.TheVariants.{Mark, Badge, Number}
-use Rattle.plan_picture.specs.declared.texts.Text.{Text}
-use Rattle.plan_picture.specs.declared.texts.Text.TheVariants as text
+use Rattle.plan_picture.specs.declared.tags.Tag.{Tag}
+use Rattle.plan_picture.specs.declared.tags.Tag.TheVariants as tags
 
 -- a line from one stop to another
 unfoldable pub join_text : Frame → Stop → Stop → List ℕ
-join_text f a b = fixed text.Leg ++ at_text (point_of f a) ++ at_text (point_of f b) ++ fixed text.LineEnd
+join_text f a b = fixed tags.Leg ++ at_text (point_of f a) ++ at_text (point_of f b) ++ fixed tags.LineEnd
 
 -- a delivery is joined with its pickup, where both are drawn
 abbrev pub pair_text : Instance → Frame → List Stop → Stop → List ℕ
@@ -29,7 +29,7 @@ pair_text p f stops s =
     option_map_or (λ a. join_text f a s) (option_and_then (λ n. stop_among n stops) (pickup_at p s.number)) []
 
 unfoldable pub pairs_text : Instance → Frame → List Stop → List ℕ
-pairs_text p f stops = fixed text.Pairs ++ flat_map (pair_text p f stops) stops ++ fixed text.GroupEnd
+pairs_text p f stops = fixed tags.Pairs ++ flat_map (pair_text p f stops) stops ++ fixed tags.GroupEnd
 
 -- legs of 14 units and more, across or down, have an arrow
 unfoldable pub has_arrow : Frame → Point → Point → Bool
@@ -40,13 +40,13 @@ abbrev pub arrow_text : Frame → Point → Point → List ℕ
 arrow_text f a b = if has_arrow f a b then at_text (on_the_way a b) else []
 
 -- a leg to or from the depot is pale
-abbrev pub leg_head : Stop → Stop → Text
-leg_head a b = if (a.number == 0) || (b.number == 0) then text.DepotLeg else text.Leg
+abbrev pub leg_head : Stop → Stop → Tag
+leg_head a b = if (a.number == 0) || (b.number == 0) then tags.DepotLeg else tags.Leg
 
 -- a leg from one stop to the next: the arrow stands at the place between its ends
 unfoldable pub leg_text : Frame → Stop → Stop → List ℕ
 leg_text f a b =
-    fixed (leg_head a b) ++ at_text (point_of f a) ++ arrow_text f (point_of f a) (point_of f b) ++ (at_text (point_of f b) ++ fixed text.LineEnd)
+    fixed (leg_head a b) ++ at_text (point_of f a) ++ arrow_text f (point_of f a) (point_of f b) ++ (at_text (point_of f b) ++ fixed tags.LineEnd)
 
 -- the legs to these visits, one after the other
 abbrev pub legs_text : Frame → Stop → List Visit → List ℕ
@@ -55,77 +55,77 @@ legs_text f last (v ∷ visits) = leg_text f last v.stop ++ legs_text f v.stop v
 
 -- the beginning of a route's group: whether it is the broken one, and its colour
 unfoldable pub line_head : ℕ → ℕ → List ℕ
-line_head broken number = fixed text.Route ++ broken_class broken number ++ colour text.Stroke number ++ fixed text.Open
+line_head broken number = fixed tags.Route ++ broken_class broken number ++ colour tags.Stroke number ++ fixed tags.Open
 
 -- the legs of a route
 unfoldable pub line_text : Instance → Frame → ℕ → ℕ → List ℕ → List ℕ
-line_text p f broken number route = line_head broken number ++ legs_text f p.depot (visits_of p route) ++ fixed text.GroupEnd
+line_text p f broken number route = line_head broken number ++ legs_text f p.depot (visits_of p route) ++ fixed tags.GroupEnd
 
 unfoldable pub lines_text : Instance → Frame → ℕ → ℕ → List (List ℕ) → List ℕ
 lines_text p f broken first routes =
-    fixed text.Legs ++ each (line_text p f broken) first routes ++ fixed text.GroupEnd
+    fixed tags.Legs ++ each (line_text p f broken) first routes ++ fixed tags.GroupEnd
 
 -- a shape where the stop stands, with the stop's number as its title
-unfoldable pub mark_text : Text → Frame → Stop → List ℕ
-mark_text shape f s = placed_tag shape (point_of f s) ++ named text.MarkTitle s.number ++ fixed text.MarkEnd
+unfoldable pub mark_text : Tag → Frame → Stop → List ℕ
+mark_text shape f s = placed_tag shape (point_of f s) ++ numbered tags.MarkTitle s.number ++ fixed tags.MarkEnd
 
 abbrev pub is_delivery : Instance → Stop → Bool
 is_delivery p s = is_some (pickup_at p s.number)
 
 -- pickups and single stops lie below, deliveries above, so that two at one place are both seen
-abbrev pub under_shape : Instance → Stop → Text
-under_shape p s = if is_some (partner_at p s.number) then text.PickupMark else text.StopMark
+abbrev pub under_shape : Instance → Stop → Tag
+under_shape p s = if is_some (partner_at p s.number) then tags.PickupMark else tags.StopMark
 
 abbrev pub under_mark : Instance → Frame → Stop → List ℕ
 under_mark p f s = if is_delivery p s then [] else mark_text (under_shape p s) f s
 
 abbrev pub over_mark : Instance → Frame → Stop → List ℕ
-over_mark p f s = if is_delivery p s then mark_text text.DeliveryMark f s else []
+over_mark p f s = if is_delivery p s then mark_text tags.DeliveryMark f s else []
 
 -- the ring round the broken stop, where it is drawn
 abbrev pub ring_text : Frame → List Stop → ℕ → List ℕ
-ring_text f stops n = option_map_or (mark_text text.BrokenMark f) (stop_among n stops) []
+ring_text f stops n = option_map_or (mark_text tags.BrokenMark f) (stop_among n stops) []
 
 unfoldable pub rings_text : Frame → List Stop → List Stop → ℕ → List ℕ
-rings_text f stops left broken = flat_map (mark_text text.UnservedMark f) left ++ ring_text f stops broken
+rings_text f stops left broken = flat_map (mark_text tags.UnservedMark f) left ++ ring_text f stops broken
 
 unfoldable pub marks_text : Instance → Frame → List Stop → List ℕ
 marks_text p f stops =
-    mark_text text.DepotMark f p.depot ++ flat_map (under_mark p f) stops ++ flat_map (over_mark p f) stops
+    mark_text tags.DepotMark f p.depot ++ flat_map (under_mark p f) stops ++ flat_map (over_mark p f) stops
 
 -- the box of a route's number
 unfoldable pub box_size : Area → List ℕ
-box_size a = attribute text.Width (a.right - a.left) ++ attribute text.Height (a.bottom - a.top)
+box_size a = attribute tags.Width (a.right - a.left) ++ attribute tags.Height (a.bottom - a.top)
 
 unfoldable pub box_text : ℕ → Area → List ℕ
 box_text n a =
-    placed_tag text.BadgeBox (record { x = a.left; y = a.top }) ++ box_size a ++ colour text.Fill n ++ fixed text.Close
+    placed_tag tags.BadgeBox (record { x = a.left; y = a.top }) ++ box_size a ++ colour tags.Fill n ++ fixed tags.Close
 
 -- where the letters of a number stand: in the middle of its area, and so many quarters of the unit above its lower edge
 abbrev pub foot_of : Frame → ℕ → Area → Point
 foot_of f k a = record { x = a.right - (a.right - a.left) / 2; y = a.bottom - quarters f k }
 
-unfoldable pub number_text : Frame → Text → ℕ → ℕ → Area → List ℕ
-number_text f t k n a = placed_tag t (foot_of f k a) ++ named text.Tag n ++ fixed text.TextEnd
+unfoldable pub number_text : Frame → Tag → ℕ → ℕ → Area → List ℕ
+number_text f t k n a = placed_tag t (foot_of f k a) ++ numbered tags.TagEnd n ++ fixed tags.TextEnd
 
 unfoldable pub badge_text : Frame → ℕ → Area → List ℕ
-badge_text f n a = box_text n a ++ number_text f text.Badge 5 n a
+badge_text f n a = box_text n a ++ number_text f tags.Badge 5 n a
 
 abbrev pub label_kind_text : Frame → LabelKind → ℕ → Area → List ℕ
 label_kind_text f Mark n a = []
 label_kind_text f Badge n a = badge_text f n a
-label_kind_text f Number n a = number_text f text.Number 2 n a
+label_kind_text f Number n a = number_text f tags.Number 2 n a
 
 abbrev pub label_text : Frame → Label → List ℕ
 label_text f l = label_kind_text f l.kind l.number l.area
 
 unfoldable pub labels_text : Frame → List Label → List ℕ
-labels_text f labels = fixed text.Labels ++ flat_map (label_text f) labels ++ fixed text.MapEnd
+labels_text f labels = fixed tags.Labels ++ flat_map (label_text f) labels ++ fixed tags.MapEnd
 
 -- the frame's size, and the unit as the size of letters
 unfoldable pub opening_text : Frame → List ℕ
 opening_text f =
-    named text.Map f.width ++ named text.Blank f.height ++ attribute text.Letters f.unit ++ fixed text.Open
+    numbered tags.Map f.width ++ numbered tags.Blank f.height ++ attribute tags.Letters f.unit ++ fixed tags.Open
 
 -- the lines of the map in this frame
 unfoldable pub under_text : Instance → Frame → List Stop → ℕ → List (List ℕ) → ℕ → List ℕ

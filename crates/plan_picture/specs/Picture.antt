@@ -11,8 +11,8 @@ use Rattle.plan_picture.specs.Heads.{head_text, title_text, unserved_text}
 use Rattle.plan_picture.specs.Known.{kept_of, known_stops, stops_along, unserved}
 use Rattle.plan_picture.specs.Map.{map_text}
 use Rattle.plan_picture.specs.Table.{grid_of, rows_text}
-use Rattle.plan_picture.specs.Texts.{fixed}
-use Rattle.plan_picture.specs.declared.texts.Text.TheVariants as text
+use Rattle.plan_picture.specs.Tags.{fixed}
+use Rattle.plan_picture.specs.declared.tags.Tag.TheVariants as tags
 
 -- the number of the broken route, 0 where there is none
 abbrev pub broken_route : Verdict → ℕ
@@ -45,9 +45,9 @@ route_text p routes verdict number route =
 
 -- the picture of any routes
 abbrev pub picture : Instance → List (List ℕ) → Verdict → List ℕ
-picture p routes verdict = whole_text p (map (kept_of p) routes) verdict ++ fixed text.End
+picture p routes verdict = whole_text p (map (kept_of p) routes) verdict ++ fixed tags.End
 
 -- the picture of the route with this number, counted from 1, if there is one
 abbrev pub route_picture : Instance → List (List ℕ) → Verdict → ℕ → Option (List ℕ)
 route_picture p routes verdict number =
-    option_map (λ route. route_text p (map (kept_of p) routes) verdict number route ++ fixed text.End) (item_at (map (kept_of p) routes) number)
+    option_map (λ route. route_text p (map (kept_of p) routes) verdict number route ++ fixed tags.End) (item_at (map (kept_of p) routes) number)

@@ -9,10 +9,11 @@ use Rattle.plan_types.specs.declared.requests.Kind.TheVariants.{LiLim, Vrp}
 use Rattle.route_sched.specs.Schedule.{route_length}
 use Rattle.route_sched.specs.declared.visits.Visit.{Visit}
 use Rattle.plan_picture.specs.Known.{visits_of}
-use Rattle.plan_picture.specs.Svg.{broken_class, colour, each, named}
-use Rattle.plan_picture.specs.Texts.{fixed}
+use Rattle.plan_picture.specs.Svg.{broken_class, colour, each, numbered, tagged}
+use Rattle.plan_picture.specs.Tags.{fixed}
 use Rattle.plan_picture.specs.declared.table.Grid.{Grid}
-use Rattle.plan_picture.specs.declared.texts.Text.TheVariants as text
+use Rattle.plan_picture.specs.declared.tags.Tag.TheVariants as tags
+use Rattle.plan_picture.specs.declared.words.Word.TheVariants as words
 
 -- how many rows stand in a block, and how far they are apart
 unfoldable pub grid_of : Kind → ℕ → Grid
@@ -26,25 +27,29 @@ top_load visits = fold int_max (pos 0) (map (λ v. v.load) visits)
 -- where the row at this index stands
 unfoldable pub row_place : Grid → ℕ → List ℕ
 row_place g index =
-    named text.Row (390 * (index / g.rows)) ++ named text.Blank (1116 + g.pitch * (index % g.rows))
+    numbered tags.Row (390 * (index / g.rows)) ++ numbered tags.Blank (1116 + g.pitch * (index % g.rows))
 
 unfoldable pub row_head : ℕ → ℕ → List ℕ
 row_head broken number =
-    colour text.RowColour number ++ fixed text.RowText ++ broken_class broken number
+    colour tags.RowColour number ++ fixed tags.RowText ++ broken_class broken number
 
 unfoldable pub load_text : ℤ → List ℕ
-load_text load = fixed text.LoadCell ++ signed_decimal load
+load_text load = fixed tags.LoadCell ++ signed_decimal load
 
 unfoldable pub figures_text : Instance → ℕ → List ℕ → List ℕ
 figures_text p number route =
-    named text.RouteCell number ++ named text.StopsCell (length route) ++ load_text (top_load (visits_of p route)) ++ named text.DistanceCell (route_length p route)
+    numbered tags.RouteCell number ++ numbered tags.StopsCell (length route) ++ load_text (top_load (visits_of p route)) ++ numbered tags.DistanceCell (route_length p route)
 
 -- what the columns are, over the first row of each block
+unfoldable pub columns_text : List ℕ
+columns_text =
+    tagged tags.HeadingRoute words.RouteColumn ++ tagged tags.HeadingStops words.StopsColumn ++ tagged tags.HeadingLoad words.LoadColumn ++ tagged tags.HeadingDistance words.DistanceColumn
+
 abbrev pub heading_text : Grid → ℕ → List ℕ
-heading_text g index = if index % g.rows == 0 then fixed text.Heading else []
+heading_text g index = if index % g.rows == 0 then columns_text ++ fixed tags.HeadingEnd else []
 
 unfoldable pub row_end : Grid → ℕ → List ℕ
-row_end g index = fixed text.CellsEnd ++ heading_text g index ++ fixed text.GroupEnd
+row_end g index = fixed tags.CellsEnd ++ heading_text g index ++ fixed tags.GroupEnd
 
 unfoldable pub row_text : Instance → Grid → ℕ → ℕ → ℕ → List ℕ → List ℕ
 row_text p g broken first index route =
@@ -53,4 +58,4 @@ row_text p g broken first index route =
 -- the first row is that of the route with this number
 unfoldable pub rows_text : Instance → Grid → ℕ → ℕ → List (List ℕ) → List ℕ
 rows_text p g broken first routes =
-    fixed text.Table ++ each (row_text p g broken first) 0 routes ++ fixed text.GroupEnd
+    fixed tags.Table ++ each (row_text p g broken first) 0 routes ++ fixed tags.GroupEnd

@@ -6,8 +6,9 @@ ghost use Rattle.plan_picture.specs.Days.{across, bars_text, chart_head, chart_t
 ghost use Rattle.plan_picture.specs.Known.{visits_of};
 ghost use Rattle.plan_picture.specs.Svg.{each};
 
+use crate::styles::Style;
 use crate::svg::{Svg, digits};
-use crate::texts::Text;
+use crate::tags::Tag;
 use plan_types::{Kind, Problem, Route, Stop};
 use route_sched::{Visit, Visits};
 
@@ -43,9 +44,9 @@ impl Svg {
         ensures { self.new ≡ self.old ++ ticks_text first last height }
     {
         let step = tick_step(20, last.saturating_sub(u64::from(first)));
-        self.put(Text::Ticks);
+        self.put(Tag::Ticks);
         self.put_each_tick(first, last, height, step);
-        self.put(Text::GroupEnd);
+        self.put(Tag::GroupEnd);
     }
 
     fn put_each_tick(&mut self, first: u32, last: u64, height: u128, step: u64)
@@ -69,17 +70,17 @@ impl Svg {
         }
         let x = across(first, last, time as u64);
         self.put_tick_line(x, height);
-        self.put_text(Text::TickTime, x, time);
+        self.put_text(Tag::TickTime, x, time);
     }
 
     #[tactic(auto, unfolding(crate::specs::Days::tick_line))]
     fn put_tick_line(&mut self, x: u128, height: u128)
         ensures { self.new ≡ self.old ++ tick_line x height }
     {
-        self.put(Text::TickLine);
-        self.put_attribute(Text::X, x);
-        self.put_attribute(Text::Height, height);
-        self.put(Text::Close);
+        self.put_style(Style::TickLine);
+        self.put_attribute(Tag::X, x);
+        self.put_attribute(Tag::Height, height);
+        self.put(Tag::Close);
     }
 
     #[tactic(auto, unfolding(crate::specs::Days::bars_text))]
@@ -90,21 +91,21 @@ impl Svg {
         let height = 30 * routes.len() as u128;
         self.put_chart_head(problem.depot.earliest, last, height);
         self.put_each_day(problem, routes);
-        self.put(Text::End);
+        self.put(Tag::End);
     }
 
     #[tactic(auto, unfolding(crate::specs::Days::chart_head))]
     fn put_chart_head(&mut self, first: u32, last: u64, height: u128)
         ensures { self.new ≡ self.old ++ chart_head first last height }
     {
-        self.put_attribute(Text::Chart, height);
-        self.put_named(Text::ChartBox, first as u128);
-        self.put_named(
-            Text::ChartWidth,
+        self.put_attribute(Tag::Chart, height);
+        self.put_numbered(Tag::ChartBox, first as u128);
+        self.put_numbered(
+            Tag::ChartWidth,
             last.saturating_sub(u64::from(first)) as u128,
         );
-        self.put_attribute(Text::Blank, height);
-        self.put(Text::Open);
+        self.put_attribute(Tag::Blank, height);
+        self.put(Tag::Open);
     }
 
     #[tactic(auto, unfolding(crate::specs::Days::times_rows))]
@@ -112,9 +113,9 @@ impl Svg {
         requires { All (AreLiveOnce problem.now) routes.now }
         ensures { self.new ≡ self.old ++ times_rows problem.now last routes.now }
     {
-        self.put(Text::Times);
+        self.put_style(Style::Times);
         self.put_each_times_row(problem, last, routes);
-        self.put(Text::GroupEnd);
+        self.put(Tag::GroupEnd);
     }
 
     fn put_each_times_row(&mut self, problem: &Problem, last: u64, routes: &[Route])
@@ -131,10 +132,10 @@ impl Svg {
         requires { AreLiveOnce problem.now route.now }
         ensures { self.new ≡ self.old ++ times_row problem.now last index route.now }
     {
-        self.put_named(Text::Day, 1116 + 30 * index as u128);
-        self.put(Text::DayOpen);
+        self.put_numbered(Tag::Day, 1116 + 30 * index as u128);
+        self.put(Tag::DayOpen);
         self.put_times(problem, last, route);
-        self.put(Text::GroupEnd);
+        self.put(Tag::GroupEnd);
     }
 
     // The times of the visits, each where it covers none before.
@@ -159,8 +160,8 @@ impl Svg {
     fn put_time(&mut self, x: u128, visit: &Visit)
         ensures { self.new ≡ self.old ++ time_text x visit.now }
     {
-        self.put_text(Text::TimeStop, x, visit.stop.number as u128);
-        self.put_text(Text::TimeStart, x, visit.start as u128);
+        self.put_text(Tag::TimeStop, x, visit.stop.number as u128);
+        self.put_text(Tag::TimeStart, x, visit.start as u128);
     }
 
     fn put_each_day(&mut self, problem: &Problem, routes: &[Route])
@@ -178,10 +179,10 @@ impl Svg {
         requires { AreLiveOnce problem.now route.now }
         ensures { self.new ≡ self.old ++ day_text problem.now index route.now }
     {
-        self.put_named(Text::Day, 30 * index as u128);
-        self.put(Text::DayOpen);
+        self.put_numbered(Tag::Day, 30 * index as u128);
+        self.put(Tag::DayOpen);
         self.put_visits(problem.depot.earliest, problem, route);
-        self.put(Text::GroupEnd);
+        self.put(Tag::GroupEnd);
     }
 
     fn put_visits(&mut self, first: u32, problem: &Problem, route: &[u32])
@@ -217,9 +218,9 @@ impl Svg {
         let arrival = leave + leg;
         let wait = start.saturating_sub(arrival);
         let service = visit.stop.service as u128;
-        self.put_bar(Text::Drive, leave, leg);
-        self.put_bar(Text::Wait, arrival, wait);
-        self.put_bar(Text::Serve, start, service);
+        self.put_bar(Tag::Drive, leave, leg);
+        self.put_bar(Tag::Wait, arrival, wait);
+        self.put_bar(Tag::Serve, start, service);
     }
 
     // The window of a stop; the depot's is the chart's whole width.
@@ -231,7 +232,7 @@ impl Svg {
             return;
         }
         let width = stop.latest.saturating_sub(stop.earliest);
-        self.put_bar(Text::Window, stop.earliest as u128, width as u128);
+        self.put_bar(Tag::Window, stop.earliest as u128, width as u128);
     }
 
     // How much too late the service starts.
@@ -241,7 +242,7 @@ impl Svg {
     {
         let latest = u64::from(visit.stop.latest);
         self.put_bar(
-            Text::Late,
+            Tag::Late,
             latest as u128,
             visit.start.saturating_sub(latest) as u128,
         );

@@ -8,7 +8,7 @@ use crate::known::{kept_routes, known_stops, stops_along, unserved};
 use crate::scene::{Broken, Scene};
 use crate::svg::Svg;
 use crate::table::grid_of;
-use crate::texts::Text;
+use crate::tags::Tag;
 use plan_audit::Verdict;
 use plan_types::{OutOfMemory, Problem, Route, Stop};
 use std::alloc::Global;
@@ -30,7 +30,7 @@ pub fn draw(
     let kept = kept_routes(alloc, problem, routes)?;
     let mut svg = Svg::new(alloc);
     svg.put_whole(alloc, problem, &kept, verdict)?;
-    svg.put(Text::End);
+    svg.put(Tag::End);
     svg.into_vec()
 }
 
@@ -54,7 +54,7 @@ pub fn draw_route(
     };
     let mut svg = Svg::new(alloc);
     svg.put_route(alloc, problem, &kept, verdict, number, route)?;
-    svg.put(Text::End);
+    svg.put(Tag::End);
     Ok(Some(svg.into_vec()?))
 }
 

@@ -4,19 +4,21 @@ ghost use Rattle.std.specs.Option.{option_map_or};
 ghost use Rattle.route_sched.specs.Cost.{used_count};
 ghost use Rattle.route_sched.specs.Route.{AreLiveOnce};
 ghost use Rattle.plan_audit.specs.Rules.{item_at};
-ghost use Rattle.plan_picture.specs.Heads.{broken_place, broken_text, cost_text, figures_of, fleet_figures, head_text, key_text, load_figures, one_route, pair_key, partial_text, partner_figures, rule_name, scope_text, shapes_text, start_figures, style_text, title_head, title_text, unserved_text, vehicles_text, verdict_text, visit_figures, visit_told};
+ghost use Rattle.plan_picture.specs.Heads.{bar_key, bar_words, broken_place, broken_text, cost_text, fleet_figures, head_text, key_text, load_figures, mark_words, one_route, pair_key, pair_words, partial_text, partner_figures, rule_figures, rule_text, scope_text, shapes_text, sheet_text, size_text, start_figures, stop_key, stop_words, title_head, title_start, title_text, unserved_text, vehicles_text, verdict_text, visit_told};
 ghost use Rattle.plan_picture.specs.Known.{visits_of};
 
+use crate::styles::Style;
 use crate::svg::Svg;
-use crate::texts::Text;
-use plan_audit::Verdict;
+use crate::tags::Tag;
+use crate::words::Word;
+use plan_audit::{Rule, Verdict};
 use plan_types::{Cost, Kind, Problem, Route};
 use route_sched::{Visit, Visits, total_distance, used_count};
 
-/// A broken rule by its number, and where it is broken; routes and places count from 1, and 0 is none.
+/// A broken rule, and where it is broken; routes and places count from 1, and 0 is none.
 #[derive(Clone, Copy)]
 pub(crate) struct Breach {
-    pub rule: u32,
+    pub rule: Rule,
     pub route: u64,
     pub place: u64,
     pub stop: u32,
@@ -28,30 +30,39 @@ impl Svg {
     pub(crate) fn put_head(&mut self, kind: Kind, height: u128)
         ensures { self.new ≡ self.old ++ head_text kind height }
     {
-        self.put_attribute(Text::Head, height);
-        self.put_style();
+        self.put_size(height);
+        self.put_sheet();
         self.put_shapes();
         self.put_key(kind);
     }
 
-    #[tactic(auto, unfolding(crate::specs::Heads::style_text))]
-    fn put_style(&mut self)
-        ensures { self.new ≡ self.old ++ style_text }
+    #[tactic(auto, unfolding(crate::specs::Heads::size_text))]
+    fn put_size(&mut self, height: u128)
+        ensures { self.new ≡ self.old ++ size_text height }
     {
-        self.put(Text::LineStyle);
-        self.put(Text::TextStyle);
-        self.put(Text::BarStyle);
+        self.put(Tag::Head);
+        self.put_style(Style::Letters);
+        self.put_attribute(Tag::Size, height);
+    }
+
+    #[tactic(auto, unfolding(crate::specs::Heads::sheet_text))]
+    fn put_sheet(&mut self)
+        ensures { self.new ≡ self.old ++ sheet_text }
+    {
+        self.put_style(Style::LineStyle);
+        self.put_style(Style::TextStyle);
+        self.put_style(Style::BarStyle);
     }
 
     #[tactic(auto, unfolding(crate::specs::Heads::shapes_text))]
     fn put_shapes(&mut self)
         ensures { self.new ≡ self.old ++ shapes_text }
     {
-        self.put(Text::ArrowShape);
-        self.put(Text::DepotShape);
-        self.put(Text::PairShapes);
-        self.put(Text::RingShapes);
-        self.put(Text::Paper);
+        self.put_style(Style::ArrowShape);
+        self.put_style(Style::DepotShape);
+        self.put_style(Style::PairShapes);
+        self.put_style(Style::RingShapes);
+        self.put_style(Style::Paper);
     }
 
     // What the marks and the bars mean.
@@ -60,7 +71,7 @@ impl Svg {
     {
         match kind {
             Kind::LiLim => self.put_pair_key(),
-            Kind::Vrp => self.put(Text::StopKey),
+            Kind::Vrp => self.put_stop_key(),
         }
     }
 
@@ -68,9 +79,65 @@ impl Svg {
     fn put_pair_key(&mut self)
         ensures { self.new ≡ self.old ++ pair_key }
     {
-        self.put(Text::PairKey);
-        self.put(Text::PairWords);
-        self.put(Text::BarKey);
+        self.put(Tag::PairKey);
+        self.put_pair_words();
+        self.put_bar_key();
+    }
+
+    #[tactic(auto, unfolding(crate::specs::Heads::pair_words))]
+    fn put_pair_words(&mut self)
+        ensures { self.new ≡ self.old ++ pair_words }
+    {
+        self.put_mark_words();
+        self.put_tagged(Tag::PairLines, Word::PairLines);
+        self.put(Tag::TextEnd);
+    }
+
+    #[tactic(auto, unfolding(crate::specs::Heads::mark_words))]
+    fn put_mark_words(&mut self)
+        ensures { self.new ≡ self.old ++ mark_words }
+    {
+        self.put_tagged(Tag::PairDepot, Word::Depot);
+        self.put_tagged(Tag::PairPickup, Word::Pickup);
+        self.put_tagged(Tag::PairDelivery, Word::Delivery);
+        self.put_tagged(Tag::PairStop, Word::Stop);
+    }
+
+    #[tactic(auto, unfolding(crate::specs::Heads::bar_key))]
+    fn put_bar_key(&mut self)
+        ensures { self.new ≡ self.old ++ bar_key }
+    {
+        self.put_bar_words();
+        self.put_tagged(Tag::BarLate, Word::Late);
+        self.put(Tag::BarEnd);
+    }
+
+    #[tactic(auto, unfolding(crate::specs::Heads::bar_words))]
+    fn put_bar_words(&mut self)
+        ensures { self.new ≡ self.old ++ bar_words }
+    {
+        self.put_tagged(Tag::BarDriving, Word::Driving);
+        self.put_tagged(Tag::BarWaiting, Word::Waiting);
+        self.put_tagged(Tag::BarService, Word::Service);
+        self.put_tagged(Tag::BarWindow, Word::Window);
+    }
+
+    #[tactic(auto, unfolding(crate::specs::Heads::stop_key))]
+    fn put_stop_key(&mut self)
+        ensures { self.new ≡ self.old ++ stop_key }
+    {
+        self.put(Tag::StopKey);
+        self.put_stop_words();
+    }
+
+    #[tactic(auto, unfolding(crate::specs::Heads::stop_words))]
+    fn put_stop_words(&mut self)
+        ensures { self.new ≡ self.old ++ stop_words }
+    {
+        self.put_tagged(Tag::StopDepot, Word::Depot);
+        self.put_tagged(Tag::StopStop, Word::Stop);
+        self.put_tagged(Tag::StopLines, Word::StopLines);
+        self.put(Tag::TextEnd);
     }
 
     /// Appends the verdict, and which route is drawn, 0 for all.
@@ -85,10 +152,18 @@ impl Svg {
         requires { All (AreLiveOnce problem.now) routes.now }
         ensures { self.new ≡ self.old ++ title_text problem.now routes.now verdict number }
     {
-        self.put(title_head(verdict));
+        self.put_title_start(verdict);
         self.put_scope(number, routes.len());
         self.put_verdict(problem, routes, verdict);
-        self.put(Text::TextEnd);
+        self.put(Tag::TextEnd);
+    }
+
+    #[tactic(auto, unfolding(crate::specs::Heads::title_start))]
+    fn put_title_start(&mut self, verdict: Verdict)
+        ensures { self.new ≡ self.old ++ title_start verdict }
+    {
+        self.put(title_head(verdict));
+        self.put_style(Style::TitleLetters);
     }
 
     fn put_scope(&mut self, number: u64, all: usize)
@@ -104,9 +179,9 @@ impl Svg {
     fn put_one_route(&mut self, number: u64, all: usize)
         ensures { self.new ≡ self.old ++ one_route number all }
     {
-        self.put_named(Text::OneRoute, number as u128);
-        self.put_named(Text::OfRoutes, all as u128);
-        self.put(Text::OfPlan);
+        self.put_figure(Word::OneRoute, number as u128);
+        self.put_figure(Word::OfRoutes, all as u128);
+        self.put_word(Word::OfPlan);
     }
 
     fn put_verdict(&mut self, problem: &Problem, routes: &[Route], verdict: Verdict)
@@ -121,6 +196,9 @@ impl Svg {
                 place,
                 stop,
             } => {
+                let Some(rule) = Rule::of_number(rule) else {
+                    return;
+                };
                 let breach = Breach {
                     rule,
                     route,
@@ -137,9 +215,9 @@ impl Svg {
         ensures { self.new ≡ self.old ++ cost_text kind cost }
     {
         self.put_partial(cost.unplanned);
-        self.put_named(Text::Unplanned, cost.unplanned as u128);
+        self.put_figure(Word::Unplanned, cost.unplanned as u128);
         self.put_vehicles(kind, cost.vehicles);
-        self.put_named(Text::Distance, cost.distance as u128);
+        self.put_figure(Word::Distance, cost.distance as u128);
     }
 
     // A plan that leaves requests out is told as one.
@@ -149,14 +227,14 @@ impl Svg {
         if unplanned == 0 {
             return;
         }
-        self.put(Text::Partial);
+        self.put_word(Word::Partial);
     }
 
     fn put_vehicles(&mut self, kind: Kind, vehicles: u64)
         ensures { self.new ≡ self.old ++ vehicles_text kind vehicles }
     {
         match kind {
-            Kind::LiLim => self.put_named(Text::Vehicles, vehicles as u128),
+            Kind::LiLim => self.put_figure(Word::Vehicles, vehicles as u128),
             Kind::Vrp => {}
         }
     }
@@ -166,35 +244,52 @@ impl Svg {
         requires { All (AreLiveOnce problem.now) routes.now }
         ensures { self.new ≡ self.old ++ broken_text problem.now routes.now breach }
     {
-        self.put_named(Text::BrokenRule, breach.rule as u128);
-        self.put(rule_name(breach.rule));
+        self.put_rule(breach.rule);
         self.put_broken_place(breach);
-        self.put_figures_of(problem, routes, breach);
+        self.put_rule_figures(problem, routes, breach);
+    }
+
+    #[tactic(auto, unfolding(crate::specs::Heads::rule_text))]
+    fn put_rule(&mut self, rule: Rule)
+        ensures { self.new ≡ self.old ++ rule_text rule }
+    {
+        self.put_figure(Word::BrokenRule, rule.number() as u128);
+        self.put_word(Word::BeforeName);
+        self.put_rule_name(rule);
     }
 
     #[tactic(auto, unfolding(crate::specs::Heads::broken_place))]
     fn put_broken_place(&mut self, breach: Breach)
         ensures { self.new ≡ self.old ++ broken_place breach }
     {
-        self.put_some(Text::BrokenRoute, breach.route as u128);
-        self.put_some(Text::BrokenPlace, breach.place as u128);
-        self.put_some(Text::BrokenStop, breach.stop as u128);
+        self.put_some_figure(Word::BrokenRoute, breach.route as u128);
+        self.put_some_figure(Word::BrokenPlace, breach.place as u128);
+        self.put_some_figure(Word::BrokenStop, breach.stop as u128);
     }
 
-    fn put_figures_of(&mut self, problem: &Problem, routes: &[Route], breach: Breach)
+    fn put_rule_figures(&mut self, problem: &Problem, routes: &[Route], breach: Breach)
         requires { All (AreLiveOnce problem.now) routes.now }
-        ensures { self.new ≡ self.old ++ figures_of problem.now routes.now breach }
+        ensures { self.new ≡ self.old ++ rule_figures breach.rule problem.now routes.now breach }
     {
-        let rule = breach.rule;
-        if rule == 3 || rule == 4 || rule == 5 {
-            self.put_partner(problem, breach.stop);
-        } else if rule == 6 || rule == 7 || rule == 8 {
-            let visit = visit_told(problem, routes, breach.route, breach.place);
-            self.put_visit_told(problem, rule, visit);
-        } else if rule == 9 {
-            self.put_fleet(problem, routes);
-        } else if rule == 11 {
-            self.put_named(Text::Driven, total_distance(problem, routes));
+        match breach.rule {
+            Rule::Missing | Rule::SplitPair | Rule::DeliveryFirst => {
+                self.put_partner(problem, breach.stop)
+            }
+            Rule::Load => {
+                let visit = visit_told(problem, routes, breach.route, breach.place);
+                self.put_load_told(problem, visit)
+            }
+            Rule::Late => {
+                let visit = visit_told(problem, routes, breach.route, breach.place);
+                self.put_start_told(Word::Start, visit)
+            }
+            Rule::LateReturn => {
+                let visit = visit_told(problem, routes, breach.route, breach.place);
+                self.put_start_told(Word::Back, visit)
+            }
+            Rule::Fleet => self.put_fleet(problem, routes),
+            Rule::PrintedCost => self.put_figure(Word::Driven, total_distance(problem, routes)),
+            Rule::UnknownStop | Rule::Twice | Rule::Pin => {}
         }
     }
 
@@ -203,27 +298,26 @@ impl Svg {
         ensures { self.new ≡ self.old ++ partner_figures problem.now stop }
     {
         match problem.partner_of(stop) {
-            Some(partner) => self.put_named(Text::Partner, partner as u128),
+            Some(partner) => self.put_figure(Word::Partner, partner as u128),
             None => {}
         }
     }
 
-    fn put_visit_told(&mut self, problem: &Problem, rule: u32, visit: Option<Visit>)
-        ensures { self.new ≡ self.old ++ option_map_or (visit_figures problem.now rule) visit [] }
+    fn put_load_told(&mut self, problem: &Problem, visit: Option<Visit>)
+        ensures { self.new ≡ self.old ++ option_map_or (load_figures problem.now) visit [] }
     {
         match visit {
-            Some(visit) => self.put_visit_figures(problem, rule, &visit),
+            Some(visit) => self.put_load_figures(problem, &visit),
             None => {}
         }
     }
 
-    fn put_visit_figures(&mut self, problem: &Problem, rule: u32, visit: &Visit)
-        ensures { self.new ≡ self.old ++ visit_figures problem.now rule visit.now }
+    fn put_start_told(&mut self, word: Word, visit: Option<Visit>)
+        ensures { self.new ≡ self.old ++ option_map_or (start_figures word) visit [] }
     {
-        match rule {
-            6 => self.put_load_figures(problem, visit),
-            7 => self.put_start_figures(Text::Start, visit),
-            _ => self.put_start_figures(Text::Back, visit),
+        match visit {
+            Some(visit) => self.put_start_figures(word, &visit),
+            None => {}
         }
     }
 
@@ -231,25 +325,25 @@ impl Svg {
     fn put_load_figures(&mut self, problem: &Problem, visit: &Visit)
         ensures { self.new ≡ self.old ++ load_figures problem.now visit.now }
     {
-        self.put(Text::Load);
+        self.put_word(Word::Load);
         self.put_number(visit.load);
-        self.put_named(Text::Capacity, problem.capacity as u128);
+        self.put_figure(Word::Capacity, problem.capacity as u128);
     }
 
     #[tactic(auto, unfolding(crate::specs::Heads::start_figures))]
-    fn put_start_figures(&mut self, text: Text, visit: &Visit)
-        ensures { self.new ≡ self.old ++ start_figures text visit.now }
+    fn put_start_figures(&mut self, word: Word, visit: &Visit)
+        ensures { self.new ≡ self.old ++ start_figures word visit.now }
     {
-        self.put_named(text, visit.start as u128);
-        self.put_named(Text::Latest, visit.stop.latest as u128);
+        self.put_figure(word, visit.start as u128);
+        self.put_figure(Word::Latest, visit.stop.latest as u128);
     }
 
     #[tactic(auto, unfolding(crate::specs::Heads::fleet_figures))]
     fn put_fleet(&mut self, problem: &Problem, routes: &[Route])
         ensures { self.new ≡ self.old ++ fleet_figures problem.now routes.now }
     {
-        self.put_named(Text::Used, used_count(routes) as u128);
-        self.put_named(Text::Fleet, problem.fleet as u128);
+        self.put_figure(Word::Used, used_count(routes) as u128);
+        self.put_figure(Word::Fleet, problem.fleet as u128);
     }
 
     /// Appends how many stops are in no route, if any.
@@ -260,36 +354,18 @@ impl Svg {
         if count == 0 {
             return;
         }
-        self.put_named(Text::Unserved, count as u128);
-        self.put(Text::TextEnd);
+        self.put(Tag::UnservedCount);
+        self.put_figure(Word::Unserved, count as u128);
+        self.put(Tag::TextEnd);
     }
 }
 
-fn title_head(verdict: Verdict) -> Text
+fn title_head(verdict: Verdict) -> Tag
     ensures { result ≡ title_head verdict }
 {
     match verdict {
-        Verdict::Pass(_) => Text::Title,
-        Verdict::Broken { .. } => Text::BrokenTitle,
-    }
-}
-
-// The name of a rule.
-fn rule_name(rule: u32) -> Text
-    ensures { result ≡ rule_name rule }
-{
-    match rule {
-        1 => Text::UnknownStop,
-        2 => Text::VisitedTwice,
-        3 => Text::MissingStop,
-        4 => Text::SplitPair,
-        5 => Text::EarlyDelivery,
-        6 => Text::Overload,
-        7 => Text::LateService,
-        8 => Text::LateReturn,
-        9 => Text::TooManyVehicles,
-        10 => Text::OffPin,
-        _ => Text::WrongCost,
+        Verdict::Pass(_) => Tag::Title,
+        Verdict::Broken { .. } => Tag::BrokenTitle,
     }
 }
 

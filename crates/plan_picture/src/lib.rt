@@ -12,7 +12,7 @@
 //! mark where it covers no mark and no number before it, and is left out where there is none.
 //!
 //! Modules, in reading order:
-//! - `texts`: the fixed texts
+//! - `styles`, `tags`, `words`: how it looks, its elements, and what people read
 //! - `svg`: the text of a picture, piece by piece
 //! - `frame`: where the stops stand
 //! - `known`: the stops that are drawn, and what is drawn of a route
@@ -44,9 +44,11 @@ mod labels;
 mod laws;
 mod map;
 mod scene;
+mod styles;
 mod svg;
 mod table;
-mod texts;
+mod tags;
+mod words;
 
 pub use drawing::{draw, draw_route};
 pub use laws::{legs_are_drawn, pictures_are_well_formed, stops_are_marked};

@@ -11,7 +11,7 @@ use crate::known::{stop_among, unserved};
 use crate::labels::{Area, Label, LabelKind, labels};
 use crate::scene::Scene;
 use crate::svg::Svg;
-use crate::texts::Text;
+use crate::tags::Tag;
 use plan_types::{OutOfMemory, Problem, Stop};
 use route_sched::Visits;
 use std::alloc::Global;
@@ -68,19 +68,19 @@ impl Svg {
     fn put_opening(&mut self, frame: &Frame)
         ensures { self.new ≡ self.old ++ opening_text frame.now }
     {
-        self.put_named(Text::Map, frame.width);
-        self.put_named(Text::Blank, frame.height);
-        self.put_attribute(Text::Letters, frame.unit as u128);
-        self.put(Text::Open);
+        self.put_numbered(Tag::Map, frame.width);
+        self.put_numbered(Tag::Blank, frame.height);
+        self.put_attribute(Tag::Letters, frame.unit as u128);
+        self.put(Tag::Open);
     }
 
     #[tactic(auto, unfolding(crate::specs::Map::pairs_text))]
     fn put_pairs(&mut self, problem: &Problem, frame: &Frame, stops: &[Stop])
         ensures { self.new ≡ self.old ++ pairs_text problem.now frame.now stops.now }
     {
-        self.put(Text::Pairs);
+        self.put(Tag::Pairs);
         self.put_each_pair(problem, frame, stops);
-        self.put(Text::GroupEnd);
+        self.put(Tag::GroupEnd);
     }
 
     fn put_each_pair(&mut self, problem: &Problem, frame: &Frame, stops: &[Stop])
@@ -109,10 +109,10 @@ impl Svg {
     fn put_join(&mut self, frame: &Frame, start: &Stop, end: &Stop)
         ensures { self.new ≡ self.old ++ join_text frame.now start.now end.now }
     {
-        self.put(Text::Leg);
+        self.put(Tag::Leg);
         self.put_at(frame.point(start));
         self.put_at(frame.point(end));
-        self.put(Text::LineEnd);
+        self.put(Tag::LineEnd);
     }
 
     #[tactic(auto, unfolding(crate::specs::Map::lines_text))]
@@ -120,9 +120,9 @@ impl Svg {
         ensures { let s = scene.now in self.new ≡ self.old
             ++ lines_text s.problem.now frame.now s.broken.route s.first s.routes.now }
     {
-        self.put(Text::Legs);
+        self.put(Tag::Legs);
         self.put_each_line(frame, scene);
-        self.put(Text::GroupEnd);
+        self.put(Tag::GroupEnd);
     }
 
     fn put_each_line(&mut self, frame: &Frame, scene: &Scene)
@@ -144,17 +144,17 @@ impl Svg {
         let problem = scene.problem;
         self.put_line_head(scene.broken.route, number);
         self.put_legs(frame, &problem.depot, problem, route);
-        self.put(Text::GroupEnd);
+        self.put(Tag::GroupEnd);
     }
 
     #[tactic(auto, unfolding(crate::specs::Map::line_head))]
     fn put_line_head(&mut self, broken: u64, number: u64)
         ensures { self.new ≡ self.old ++ line_head broken number }
     {
-        self.put(Text::Route);
+        self.put(Tag::Route);
         self.put_broken(broken, number);
-        self.put_colour(Text::Stroke, number);
-        self.put(Text::Open);
+        self.put_colour(Tag::Stroke, number);
+        self.put(Tag::Open);
     }
 
     fn put_legs(&mut self, frame: &Frame, depot: &Stop, problem: &Problem, route: &[u32])
@@ -179,7 +179,7 @@ impl Svg {
         self.put_at(from);
         self.put_arrow(frame, &from, &to);
         self.put_at(to);
-        self.put(Text::LineEnd);
+        self.put(Tag::LineEnd);
     }
 
     // The place of a leg's arrow, where the leg is long enough.
@@ -199,7 +199,7 @@ impl Svg {
     fn put_marks(&mut self, problem: &Problem, frame: &Frame, stops: &[Stop])
         ensures { self.new ≡ self.old ++ marks_text problem.now frame.now stops.now }
     {
-        self.put_mark(Text::DepotMark, frame, &problem.depot);
+        self.put_mark(Tag::DepotMark, frame, &problem.depot);
         self.put_under_marks(problem, frame, stops);
         self.put_over_marks(problem, frame, stops);
     }
@@ -233,18 +233,18 @@ impl Svg {
         ensures { self.new ≡ self.old ++ over_mark problem.now frame.now stop.now }
     {
         if is_delivery(problem, stop) {
-            self.put_mark(Text::DeliveryMark, frame, stop);
+            self.put_mark(Tag::DeliveryMark, frame, stop);
         }
     }
 
     // A shape where the stop stands, with the stop's number as its title.
     #[tactic(auto, unfolding(crate::specs::Map::mark_text))]
-    fn put_mark(&mut self, shape: Text, frame: &Frame, stop: &Stop)
+    fn put_mark(&mut self, shape: Tag, frame: &Frame, stop: &Stop)
         ensures { self.new ≡ self.old ++ mark_text shape frame.now stop.now }
     {
         self.put_placed(shape, frame.point(stop));
-        self.put_named(Text::MarkTitle, stop.number as u128);
-        self.put(Text::MarkEnd);
+        self.put_numbered(Tag::MarkTitle, stop.number as u128);
+        self.put(Tag::MarkEnd);
     }
 
     #[tactic(auto, unfolding(crate::specs::Map::rings_text))]
@@ -256,10 +256,10 @@ impl Svg {
     }
 
     fn put_unserved(&mut self, frame: &Frame, left: &[Stop])
-        ensures { self.new ≡ self.old ++ flat_map (mark_text Text.UnservedMark frame.now) left.now }
+        ensures { self.new ≡ self.old ++ flat_map (mark_text Tag.UnservedMark frame.now) left.now }
     {
         for stop in left {
-            self.put_mark(Text::UnservedMark, frame, stop);
+            self.put_mark(Tag::UnservedMark, frame, stop);
         }
     }
 
@@ -267,7 +267,7 @@ impl Svg {
         ensures { self.new ≡ self.old ++ ring_text frame.now stops.now number }
     {
         match stop_among(number, stops) {
-            Some(stop) => self.put_mark(Text::BrokenMark, frame, stop),
+            Some(stop) => self.put_mark(Tag::BrokenMark, frame, stop),
             None => {}
         }
     }
@@ -276,9 +276,9 @@ impl Svg {
     fn put_labels(&mut self, frame: &Frame, labels: &[Label])
         ensures { self.new ≡ self.old ++ labels_text frame.now labels.now }
     {
-        self.put(Text::Labels);
+        self.put(Tag::Labels);
         self.put_each_label(frame, labels);
-        self.put(Text::MapEnd);
+        self.put(Tag::MapEnd);
     }
 
     fn put_each_label(&mut self, frame: &Frame, labels: &[Label])
@@ -296,7 +296,7 @@ impl Svg {
             LabelKind::Mark => {}
             LabelKind::Badge => self.put_badge(frame, label.number, &label.area),
             LabelKind::Number => {
-                self.put_number_at(frame, Text::Number, 2, label.number, &label.area)
+                self.put_number_at(frame, Tag::Number, 2, label.number, &label.area)
             }
         }
     }
@@ -306,7 +306,7 @@ impl Svg {
         ensures { self.new ≡ self.old ++ badge_text frame.now number area.now }
     {
         self.put_box(number, area);
-        self.put_number_at(frame, Text::Badge, 5, number, area);
+        self.put_number_at(frame, Tag::Badge, 5, number, area);
     }
 
     #[tactic(auto, unfolding(crate::specs::Map::box_text))]
@@ -317,40 +317,40 @@ impl Svg {
             x: area.left,
             y: area.top,
         };
-        self.put_placed(Text::BadgeBox, corner);
+        self.put_placed(Tag::BadgeBox, corner);
         self.put_box_size(area);
-        self.put_colour(Text::Fill, number);
-        self.put(Text::Close);
+        self.put_colour(Tag::Fill, number);
+        self.put(Tag::Close);
     }
 
     #[tactic(auto, unfolding(crate::specs::Map::box_size))]
     fn put_box_size(&mut self, area: &Area)
         ensures { self.new ≡ self.old ++ box_size area.now }
     {
-        self.put_attribute(Text::Width, area.right.saturating_sub(area.left));
-        self.put_attribute(Text::Height, area.bottom.saturating_sub(area.top));
+        self.put_attribute(Tag::Width, area.right.saturating_sub(area.left));
+        self.put_attribute(Tag::Height, area.bottom.saturating_sub(area.top));
     }
 
     // A number in its area.
     #[tactic(auto, unfolding(crate::specs::Map::number_text))]
-    fn put_number_at(&mut self, frame: &Frame, text: Text, k: u32, number: u64, area: &Area)
+    fn put_number_at(&mut self, frame: &Frame, text: Tag, k: u32, number: u64, area: &Area)
         ensures { self.new ≡ self.old ++ number_text frame.now text k number area.now }
     {
         let foot = foot_of(frame, k, area);
         self.put_placed(text, foot);
-        self.put_named(Text::Tag, number as u128);
-        self.put(Text::TextEnd);
+        self.put_numbered(Tag::TagEnd, number as u128);
+        self.put(Tag::TextEnd);
     }
 }
 
 // A leg to or from the depot is pale.
-fn leg_head(start: &Stop, end: &Stop) -> Text
+fn leg_head(start: &Stop, end: &Stop) -> Tag
     ensures { result ≡ leg_head start.now end.now }
 {
     if start.number == 0 || end.number == 0 {
-        Text::DepotLeg
+        Tag::DepotLeg
     } else {
-        Text::Leg
+        Tag::Leg
     }
 }
 
@@ -369,13 +369,13 @@ fn is_delivery(problem: &Problem, stop: &Stop) -> bool
 }
 
 // The shape of a stop that is no delivery.
-fn under_shape(problem: &Problem, stop: &Stop) -> Text
+fn under_shape(problem: &Problem, stop: &Stop) -> Tag
     ensures { result ≡ under_shape problem.now stop.now }
 {
     if problem.partner_of(stop.number).is_some() {
-        Text::PickupMark
+        Tag::PickupMark
     } else {
-        Text::StopMark
+        Tag::StopMark
     }
 }
 

@@ -2,34 +2,35 @@
 //!
 //! Route n has the colour `hsl(137 n mod 360, 75%, 30 + 4 (n mod 7)%)`, which is another one for 2,520 routes.
 ghost use Rattle.std.specs.Prelude.{◌≡◌, ◌++◌, ◌≤◌, [], IfOk};
-ghost use Rattle.plan_picture.specs.Svg.{at_text, attribute, bar, broken_class, colour, digit_count, named, placed_tag, placed_text, some_named};
-ghost use Rattle.plan_picture.specs.Texts.{fixed};
+ghost use Rattle.plan_audit.specs.Verdict.{rule_name};
+ghost use Rattle.plan_picture.specs.Svg.{at_text, attribute, bar, broken_class, colour, digit_count, figure, numbered, placed_tag, placed_text, some_figure, tagged};
+ghost use Rattle.plan_picture.specs.Styles.{style};
+ghost use Rattle.plan_picture.specs.Tags.{fixed};
+ghost use Rattle.plan_picture.specs.Words.{word};
 
 use crate::frame::Point;
-use crate::texts::Text;
-use ghost_values::{Ghost, ListOf};
+use crate::styles::Style;
+use crate::tags::Tag;
+use crate::words::Word;
 use itoa::{Buffer, Integer};
+use plan_audit::Rule;
 use plan_types::OutOfMemory;
-use std::alloc::{AllocError, Global};
+use std::alloc::Global;
 use std::marker::Model;
+use told_text::Told;
 
 /// The text so far. Once memory has run out nothing more is kept, and `into_vec` tells that.
 #[derive(Drop)]
 pub(crate) struct Svg {
-    bytes: Vec<u8>,
-    has_room: bool,
-    // All that was put so far, whether there was memory for it or not.
-    meant: Ghost<ListOf<u8>>,
+    text: Told,
 }
 
 impl Model for Svg {
-    ghost use Rattle.std.specs.Prelude.{List, ℕ, true, ◌≡◌};
+    ghost use Rattle.std.specs.Prelude.{List, ℕ};
 
     ghost Value = { List ℕ };
 
-    ghost view = { λ s. s.meant.value };
-
-    ghost invariant = { λ s. s.has_room ≡ true → s.bytes.items ≡ s.meant.value };
+    ghost view = { λ s. s.text };
 }
 
 impl Svg {
@@ -38,9 +39,7 @@ impl Svg {
         ensures { result ≡ [] }
     {
         Svg {
-            bytes: Vec::new(alloc),
-            has_room: true,
-            meant: Ghost::of(),
+            text: Told::new(alloc),
         }
     }
 
@@ -48,74 +47,100 @@ impl Svg {
     pub(crate) fn into_vec(self) -> Result<Vec<u8>, OutOfMemory>
         ensures { IfOk result (λ bytes. bytes.items ≡ self) }
     {
-        let Svg {
-            bytes,
-            has_room,
-            ..
-        } = self;
-        if has_room { Ok(bytes) } else { Err(AllocError) }
-    }
-
-    fn put_str(&mut self, text: &str)
-        ensures { self.new ≡ self.old ++ text.now }
-    {
-        let bytes = text.as_bytes();
-        self.meant = self.meant.after(bytes);
-        self.has_room = self.has_room && self.bytes.extend_from_slice(bytes).is_ok();
+        let Svg { text } = self;
+        text.into_vec()
     }
 
     /// Appends a number in decimal.
     pub(crate) fn put_number<N: Integer>(&mut self, n: N)
         ensures { self.new ≡ self.old ++ N.text n }
     {
-        let mut buffer = Buffer::new();
-        self.put_str(buffer.format(n));
+        self.text.push_number(n);
     }
 
-    /// Appends a fixed text.
-    pub(crate) fn put(&mut self, text: Text)
-        ensures { self.new ≡ self.old ++ fixed text }
+    /// Appends the name of a rule.
+    pub(crate) fn put_rule_name(&mut self, rule: Rule)
+        ensures { self.new ≡ self.old ++ rule_name rule }
     {
-        self.put_str(text.as_str());
+        self.text.push_str(rule.name());
     }
 
-    /// A text and the number behind it.
-    #[tactic(auto, unfolding(crate::specs::Svg::named))]
-    pub(crate) fn put_named(&mut self, text: Text, n: u128)
-        ensures { self.new ≡ self.old ++ named text n }
+    /// Appends how something looks.
+    pub(crate) fn put_style(&mut self, what: Style)
+        ensures { self.new ≡ self.old ++ style what }
     {
-        self.put(text);
+        self.text.push_str(what.as_str());
+    }
+
+    /// Appends words.
+    pub(crate) fn put_word(&mut self, what: Word)
+        ensures { self.new ≡ self.old ++ word what }
+    {
+        self.text.push_str(what.as_str());
+    }
+
+    /// Appends a tag.
+    pub(crate) fn put(&mut self, tag: Tag)
+        ensures { self.new ≡ self.old ++ fixed tag }
+    {
+        self.text.push_str(tag.as_str());
+    }
+
+    /// A tag and the number behind it.
+    #[tactic(auto, unfolding(crate::specs::Svg::numbered))]
+    pub(crate) fn put_numbered(&mut self, tag: Tag, n: u128)
+        ensures { self.new ≡ self.old ++ numbered tag n }
+    {
+        self.put(tag);
         self.put_number(n);
     }
 
     /// The same with the quote that ends an attribute.
     #[tactic(auto, unfolding(crate::specs::Svg::attribute))]
-    pub(crate) fn put_attribute(&mut self, text: Text, n: u128)
-        ensures { self.new ≡ self.old ++ attribute text n }
+    pub(crate) fn put_attribute(&mut self, tag: Tag, n: u128)
+        ensures { self.new ≡ self.old ++ attribute tag n }
     {
-        self.put(text);
+        self.put(tag);
         self.put_number(n);
-        self.put(Text::Quote);
+        self.put(Tag::Quote);
     }
 
     /// A tag with the place where it stands, not closed yet.
     #[tactic(auto, unfolding(crate::specs::Svg::placed_tag))]
-    pub(crate) fn put_placed(&mut self, text: Text, point: Point)
-        ensures { self.new ≡ self.old ++ placed_tag text point }
+    pub(crate) fn put_placed(&mut self, tag: Tag, point: Point)
+        ensures { self.new ≡ self.old ++ placed_tag tag point }
     {
-        self.put(text);
-        self.put_attribute(Text::X, point.x);
-        self.put_attribute(Text::Y, point.y);
+        self.put(tag);
+        self.put_attribute(Tag::X, point.x);
+        self.put_attribute(Tag::Y, point.y);
     }
 
-    /// The same, and nothing where the number is 0.
-    pub(crate) fn put_some(&mut self, text: Text, n: u128)
-        ensures { self.new ≡ self.old ++ some_named text n }
+    /// A tag and the words behind it.
+    #[tactic(auto, unfolding(crate::specs::Svg::tagged))]
+    pub(crate) fn put_tagged(&mut self, tag: Tag, word: Word)
+        ensures { self.new ≡ self.old ++ tagged tag word }
+    {
+        self.put(tag);
+        self.put_word(word);
+    }
+
+    /// Words and the figure behind them.
+    #[tactic(auto, unfolding(crate::specs::Svg::figure))]
+    pub(crate) fn put_figure(&mut self, word: Word, n: u128)
+        ensures { self.new ≡ self.old ++ figure word n }
+    {
+        self.put_word(word);
+        self.put_number(n);
+    }
+
+    /// The same, and nothing where the figure is 0.
+    pub(crate) fn put_some_figure(&mut self, word: Word, n: u128)
+        ensures { self.new ≡ self.old ++ some_figure word n }
     {
         if n == 0 {
             return;
         }
-        self.put_named(text, n);
+        self.put_figure(word, n);
     }
 
     /// A place of a line, as ` X,Y`.
@@ -123,31 +148,32 @@ impl Svg {
     pub(crate) fn put_at(&mut self, point: Point)
         ensures { self.new ≡ self.old ++ at_text point }
     {
-        self.put_named(Text::Blank, point.x);
-        self.put_named(Text::Comma, point.y);
+        self.put_numbered(Tag::Blank, point.x);
+        self.put_numbered(Tag::Comma, point.y);
     }
 
     /// A number as an element `text`, whose tag is begun by this text.
     #[tactic(auto, unfolding(crate::specs::Svg::placed_text))]
-    pub(crate) fn put_text(&mut self, text: Text, x: u128, n: u128)
-        ensures { self.new ≡ self.old ++ placed_text text x n }
+    pub(crate) fn put_text(&mut self, tag: Tag, x: u128, n: u128)
+        ensures { self.new ≡ self.old ++ placed_text tag x n }
     {
-        self.put(text);
-        self.put_attribute(Text::X, x);
-        self.put_named(Text::Tag, n);
-        self.put(Text::TextEnd);
+        self.put(tag);
+        self.put_attribute(Tag::X, x);
+        self.put_numbered(Tag::TagEnd, n);
+        self.put(Tag::TextEnd);
     }
 
     /// An attribute with the colour of the route with this number.
     #[tactic(auto, unfolding(crate::specs::Svg::colour))]
-    pub(crate) fn put_colour(&mut self, text: Text, number: u64)
-        ensures { self.new ≡ self.old ++ colour text number }
+    pub(crate) fn put_colour(&mut self, tag: Tag, number: u64)
+        ensures { self.new ≡ self.old ++ colour tag number }
     {
         let hue = 137 * number as u128 % 360;
         let light = 30 + number % 7 * 4;
-        self.put_named(text, hue);
-        self.put_named(Text::Saturation, light as u128);
-        self.put(Text::ColourEnd);
+        self.put_numbered(tag, hue);
+        self.put_style(Style::Saturation);
+        self.put_number(light as u128);
+        self.put(Tag::ColourEnd);
     }
 
     /// A class where the route with this number is the broken one.
@@ -156,22 +182,22 @@ impl Svg {
         ensures { self.new ≡ self.old ++ broken_class broken number }
     {
         if number == broken {
-            self.put(Text::BrokenClass);
+            self.put(Tag::BrokenClass);
         }
     }
 
     /// A bar of a tag from a time on, where it is not empty.
     #[tactic(auto, unfolding(crate::specs::Svg::bar))]
-    pub(crate) fn put_bar(&mut self, text: Text, first: u128, width: u128)
-        ensures { self.new ≡ self.old ++ bar text first width }
+    pub(crate) fn put_bar(&mut self, tag: Tag, first: u128, width: u128)
+        ensures { self.new ≡ self.old ++ bar tag first width }
     {
         if width == 0 {
             return;
         }
-        self.put(text);
-        self.put_attribute(Text::X, first);
-        self.put_attribute(Text::Width, width);
-        self.put(Text::Close);
+        self.put(tag);
+        self.put_attribute(Tag::X, first);
+        self.put_attribute(Tag::Width, width);
+        self.put(Tag::Close);
     }
 }
 

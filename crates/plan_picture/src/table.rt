@@ -5,11 +5,12 @@ ghost use Rattle.std.specs.Int.{int_max};
 ghost use Rattle.route_sched.specs.Route.{AreLiveOnce};
 ghost use Rattle.plan_picture.specs.Known.{visits_of};
 ghost use Rattle.plan_picture.specs.Svg.{each};
-ghost use Rattle.plan_picture.specs.Table.{figures_text, grid_of, heading_text, load_text, row_end, row_head, row_place, row_text, rows_text, top_load};
+ghost use Rattle.plan_picture.specs.Table.{columns_text, figures_text, grid_of, heading_text, load_text, row_end, row_head, row_place, row_text, rows_text, top_load};
 
 use crate::scene::Scene;
 use crate::svg::Svg;
-use crate::texts::Text;
+use crate::tags::Tag;
+use crate::words::Word;
 use plan_types::{Kind, Problem};
 use route_sched::{Visit, Visits, route_distance};
 
@@ -46,9 +47,9 @@ impl Svg {
         ensures { let s = scene.now in self.new ≡ self.old
             ++ rows_text s.problem.now grid s.broken.route s.first s.routes.now }
     {
-        self.put(Text::Table);
+        self.put(Tag::Table);
         self.put_each_row(grid, scene);
-        self.put(Text::GroupEnd);
+        self.put(Tag::GroupEnd);
     }
 
     fn put_each_row(&mut self, grid: Grid, scene: &Scene)
@@ -83,16 +84,16 @@ impl Svg {
     {
         let block = index / grid.rows;
         let row = index % grid.rows;
-        self.put_named(Text::Row, 390 * block as u128);
-        self.put_named(Text::Blank, 1116 + u128::from(grid.pitch) * row as u128);
+        self.put_numbered(Tag::Row, 390 * block as u128);
+        self.put_numbered(Tag::Blank, 1116 + u128::from(grid.pitch) * row as u128);
     }
 
     #[tactic(auto, unfolding(crate::specs::Table::row_head))]
     fn put_row_head(&mut self, broken: u64, number: u64)
         ensures { self.new ≡ self.old ++ row_head broken number }
     {
-        self.put_colour(Text::RowColour, number);
-        self.put(Text::RowText);
+        self.put_colour(Tag::RowColour, number);
+        self.put(Tag::RowText);
         self.put_broken(broken, number);
     }
 
@@ -101,17 +102,17 @@ impl Svg {
         requires { AreLiveOnce problem.now route.now }
         ensures { self.new ≡ self.old ++ figures_text problem.now number route.now }
     {
-        self.put_named(Text::RouteCell, number as u128);
-        self.put_named(Text::StopsCell, route.len() as u128);
+        self.put_numbered(Tag::RouteCell, number as u128);
+        self.put_numbered(Tag::StopsCell, route.len() as u128);
         self.put_load(top_load(problem, route));
-        self.put_named(Text::DistanceCell, route_distance(problem, route) as u128);
+        self.put_numbered(Tag::DistanceCell, route_distance(problem, route) as u128);
     }
 
     #[tactic(auto, unfolding(crate::specs::Table::load_text))]
     fn put_load(&mut self, load: i64)
         ensures { self.new ≡ self.old ++ load_text load }
     {
-        self.put(Text::LoadCell);
+        self.put(Tag::LoadCell);
         self.put_number(load);
     }
 
@@ -120,9 +121,9 @@ impl Svg {
         requires { 0 < grid.rows }
         ensures { self.new ≡ self.old ++ row_end grid index }
     {
-        self.put(Text::CellsEnd);
+        self.put(Tag::CellsEnd);
         self.put_heading(grid, index);
-        self.put(Text::GroupEnd);
+        self.put(Tag::GroupEnd);
     }
 
     // What the columns are, over the first row of each block.
@@ -131,8 +132,19 @@ impl Svg {
         ensures { self.new ≡ self.old ++ heading_text grid index }
     {
         if index % grid.rows == 0 {
-            self.put(Text::Heading);
+            self.put_columns();
+            self.put(Tag::HeadingEnd);
         }
+    }
+
+    #[tactic(auto, unfolding(crate::specs::Table::columns_text))]
+    fn put_columns(&mut self)
+        ensures { self.new ≡ self.old ++ columns_text }
+    {
+        self.put_tagged(Tag::HeadingRoute, Word::RouteColumn);
+        self.put_tagged(Tag::HeadingStops, Word::StopsColumn);
+        self.put_tagged(Tag::HeadingLoad, Word::LoadColumn);
+        self.put_tagged(Tag::HeadingDistance, Word::DistanceColumn);
     }
 }
 
