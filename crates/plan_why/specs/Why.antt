@@ -15,7 +15,7 @@ use Rattle.plan_explain.specs.declared.rows.Row.{Row}
 use Rattle.plan_why.specs.Leads.{lead_text}
 use Rattle.plan_why.specs.Missed.{excess, miss_of}
 use Rattle.plan_why.specs.Trials.{best_trial}
-use Rattle.plan_why.specs.Words.{named, word}
+use Rattle.plan_why.specs.Words.{word_and_number, word}
 use Rattle.plan_why.specs.declared.leads.Lead.{Lead}
 use Rattle.plan_why.specs.declared.missed.Limit.{Limit}
 use Rattle.plan_why.specs.declared.missed.Limit.TheVariants.{Capacity, Start, Return}
@@ -29,9 +29,9 @@ alone_route r = map (λ s. s.number) (stops_of r)
 
 -- the first limit that it exceeds, in figures
 abbrev pub alone_by : Limit → Miss → List ℕ
-alone_by Capacity m = named AloneStop m.stop ++ named Needs m.figure ++ named VehicleTakes m.most
-alone_by Start m = named AloneStop m.stop ++ named WouldStartAt m.figure ++ named Latest m.most
-alone_by Return m = named AloneBack m.figure ++ named Latest m.most
+alone_by Capacity m = word_and_number AloneStop m.stop ++ word_and_number Needs m.figure ++ word_and_number VehicleTakes m.most
+alone_by Start m = word_and_number AloneStop m.stop ++ word_and_number WouldStartAt m.figure ++ word_and_number Latest m.most
+alone_by Return m = word_and_number AloneBack m.figure ++ word_and_number Latest m.most
 
 -- each line stands behind a lead
 abbrev pub alone_text : List ℕ → Miss → List ℕ
@@ -39,13 +39,13 @@ alone_text lead m = lead ++ ended (alone_by m.limit m)
 
 -- by how much the first limit would be exceeded
 abbrev pub miss_by : Limit → Miss → List ℕ
-miss_by Capacity m = named Behind m.stop ++ named WouldCarry (excess m) ++ word TooMuch
-miss_by Start m = named Stop m.stop ++ named WouldStart (excess m) ++ word Late
-miss_by Return m = named Back (excess m) ++ word Late
+miss_by Capacity m = word_and_number Behind m.stop ++ word_and_number WouldCarry (excess m) ++ word TooMuch
+miss_by Start m = word_and_number Stop m.stop ++ word_and_number WouldStart (excess m) ++ word Late
+miss_by Return m = word_and_number Back (excess m) ++ word Late
 
 -- the places where a request fits: one for a single
 abbrev pub places_text : ℕ → ℕ → List ℕ
-places_text i j = if i == j then named FitsAtPlace i else named FitsAtPlaces i ++ named And j
+places_text i j = if i == j then word_and_number FitsAtPlace i else word_and_number FitsAtPlaces i ++ word_and_number And j
 
 abbrev pub outcome_text : Option Miss → Trial → List ℕ
 outcome_text None t = places_text t.pickup t.delivery
@@ -54,7 +54,7 @@ outcome_text (Some m) t = miss_by m.limit m
 -- what comes of the best trial with a vehicle; there is none where all places are pinned
 abbrev pub trial_text : List ℕ → ℕ → Option Trial → List ℕ
 trial_text lead v None = []
-trial_text lead v (Some t) = lead ++ named Vehicle v ++ ended (outcome_text t.miss t)
+trial_text lead v (Some t) = lead ++ word_and_number Vehicle v ++ ended (outcome_text t.miss t)
 
 -- what comes of it with a vehicle that is used; its pin has so many stops
 abbrev pub used_trial : Instance → Request → ℕ → List ℕ → Option Trial
@@ -67,7 +67,7 @@ vehicles_from lead p pins r v (route ∷ routes) = trial_text lead v (used_trial
 
 -- how many vehicles are used, of all
 abbrev pub fleet_text : List ℕ → Instance → List (List ℕ) → List ℕ
-fleet_text lead p routes = lead ++ named Fleet (used_count routes) ++ named Of p.fleet ++ ended (word VehiclesUsed)
+fleet_text lead p routes = lead ++ word_and_number Fleet (used_count routes) ++ word_and_number Of p.fleet ++ ended (word VehiclesUsed)
 
 -- of a request that a vehicle of its own could serve: what comes of it with each vehicle that is used, and how many of all are
 abbrev pub tried_text : List ℕ → Instance → List (List ℕ) → List (List ℕ) → Request → List ℕ
@@ -95,11 +95,11 @@ is_stop_of r row = is_some (stop_in row.stop r)
 
 -- where a vehicle serves it, and when; a problem of kind `Vrp` asks for no times
 abbrev pub start_text : Kind → Row → List ℕ
-start_text LiLim row = named StartsAt row.start
+start_text LiLim row = word_and_number StartsAt row.start
 start_text Vrp row = []
 
 abbrev pub service_text : Kind → ℕ → Row → List ℕ
-service_text kind v row = named Vehicle v ++ named Stop row.stop ++ named AtPlace row.place ++ ended (start_text kind row)
+service_text kind v row = word_and_number Vehicle v ++ word_and_number Stop row.stop ++ word_and_number AtPlace row.place ++ ended (start_text kind row)
 
 -- each service of the request among these rows of a vehicle's route
 abbrev pub services_in : Kind → Request → ℕ → List Row → List ℕ

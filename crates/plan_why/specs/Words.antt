@@ -33,5 +33,5 @@ word the.WhyTab = codes "why\t"
 word the.Tab = codes "\t"
 
 -- words, and a number behind them
-abbrev pub named : Word → ℕ → List ℕ
-named w n = word w ++ decimal n
+abbrev pub word_and_number : Word → ℕ → List ℕ
+word_and_number w n = word w ++ decimal n

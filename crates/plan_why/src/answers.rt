@@ -9,7 +9,7 @@ ghost use Rattle.move_ops.specs.Insertion.{request_named};
 ghost use Rattle.plan_why.specs.Missed.{miss_of};
 ghost use Rattle.plan_why.specs.Tried.{MayBeTried};
 ghost use Rattle.plan_why.specs.Trials.{MayTake};
-ghost use Rattle.plan_why.specs.Why.{alone_route, alone_text, is_stop_of, reason_text, services_from, services_in, services_text, tried_text, unplanned_text, used_trial, vehicles_from, why_at};
+ghost use Rattle.plan_why.specs.Why.{alone_route, is_stop_of, reason_text, services_from, services_in, services_text, tried_text, unplanned_text, used_trial, vehicles_from, why_at, why_text};
 
 use crate::leads::Lead;
 use crate::missed::{Miss, miss_of};
@@ -22,6 +22,7 @@ use plan_explain::{Row, rows_of};
 use plan_types::{OutOfMemory, Pins, Plan, Problem, Request, Route, requests_are_found_by_stop};
 use route_sched::is_planned;
 use std::alloc::Global;
+use told_text::Told;
 
 /// Why the request that has this stop is where it is, or in no route, in whole lines; none where no request has it. Of a planned
 /// one: where its vehicle serves it, and when. Of an unplanned one: the first limit that a vehicle of its own exceeds; where there is
@@ -44,11 +45,16 @@ pub fn why(
         return Ok(None);
     };
     let routes = passing_routes(problem, pins, plan);
-    if is_planned(routes, request) {
-        return Ok(Some(planned_text(alloc, problem, request, routes)?));
-    }
-    let pins = pins.routes.as_slice();
-    Ok(Some(unplanned_text(alloc, "", problem, pins, routes, request)?))
+    let mut text = Told::new(alloc);
+    put_why(
+        alloc,
+        &mut text,
+        problem,
+        pins.routes.as_slice(),
+        routes,
+        request,
+    )?;
+    Ok(Some(text.into_string()?))
 }
 
 /// Why the request of this name is in none of these routes, as `why` tells it, each line behind its lead; no line where a route has a
@@ -67,14 +73,33 @@ pub fn reason(
     ensures { IfOk result (λ text. string_bytes text
         ≡ reason_text lead problem.now pins.now routes.now name) }
 {
+    let mut text = Told::new(alloc);
+    put_reason(alloc, &mut text, lead, problem, pins, routes, name)?;
+    text.into_string()
+}
+
+/// Appends the same to a text.
+pub fn put_reason(
+    alloc: Global,
+    text: &mut Told,
+    lead: Lead,
+    problem: &Problem,
+    pins: &[Route],
+    routes: &[Route],
+    name: u32,
+) -> Result<(), OutOfMemory>
+    requires { All (AreLiveOnce problem.now) routes.now }
+    ensures { OnOk result (text.new ≡ text.old
+        ++ reason_text lead problem.now pins.now routes.now name) }
+{
     let Some(request) = live_request(problem, name) else {
-        return Ok(String::new(alloc));
+        return Ok(());
     };
     if is_planned(routes, request) {
-        return Ok(String::new(alloc));
+        return Ok(());
     }
     let lead = lead.text(alloc, name)?;
-    unplanned_text(alloc, lead.as_str(), problem, pins, routes, request)
+    put_unplanned(alloc, text, lead.as_str(), problem, pins, routes, request)
 }
 
 // The routes of a plan that passes. Their stops are live, and stand once in each.
@@ -108,55 +133,62 @@ fn request_at(problem: &Problem, stop: u32) -> Option<&Request>
     }
 }
 
-// Where a planned request is served, and when.
-fn planned_text(
+// Of a planned request where it is served, and when; of an unplanned one why it is so.
+fn put_why(
     alloc: Global,
+    text: &mut Told,
     problem: &Problem,
-    request: &Request,
+    pins: &[Route],
     routes: &[Route],
-) -> Result<String, OutOfMemory>
-    requires { All (AreLiveOnce problem.now) routes.now }
-    ensures { IfOk result (λ text. string_bytes text
-        ≡ services_from problem.now request.now 1 routes.now) }
+    request: &Request,
+) -> Result<(), OutOfMemory>
+    requires request { MayBeTried problem.now request.now }
+    requires routes { All (AreLiveOnce problem.now) routes.now }
+    ensures { OnOk result (text.new ≡ text.old
+        ++ why_text problem.now pins.now routes.now request.now) }
 {
-    let mut text = String::new(alloc);
-    put_services(alloc, &mut text, problem, request, routes)?;
-    Ok(text)
+    if is_planned(routes, request) {
+        return put_services(alloc, text, problem, request, routes);
+    }
+    put_unplanned(alloc, text, "", problem, pins, routes, request)
 }
 
 // Why a request is in no route, each line behind this lead.
-fn unplanned_text(
+fn put_unplanned(
     alloc: Global,
+    text: &mut Told,
     lead: &str,
     problem: &Problem,
     pins: &[Route],
     routes: &[Route],
     request: &Request,
-) -> Result<String, OutOfMemory>
+) -> Result<(), OutOfMemory>
     requires request { MayBeTried problem.now request.now }
     requires routes { All (AreLiveOnce problem.now) routes.now }
     requires free { is_planned routes.now request.now ≡ false }
-    ensures { IfOk result (λ text. string_bytes text
-        ≡ unplanned_text lead.now problem.now pins.now routes.now request.now) }
+    ensures { OnOk result (text.new ≡ text.old
+        ++ unplanned_text lead.now problem.now pins.now routes.now request.now) }
 {
-    let miss = miss_alone(alloc, problem, request)?;
-    match miss {
-        Some(miss) => alone_text(alloc, lead, &miss),
-        None => tried_text(alloc, lead, problem, pins, routes, request),
+    match miss_alone(alloc, problem, request)? {
+        Some(miss) => {
+            put_alone(text, lead, &miss);
+            Ok(())
+        }
+        None => put_tried(alloc, text, lead, problem, pins, routes, request),
     }
 }
 
 // Appends each service of the request.
 fn put_services(
     alloc: Global,
-    text: &mut String,
+    text: &mut Told,
     problem: &Problem,
     request: &Request,
     routes: &[Route],
 ) -> Result<(), OutOfMemory>
     requires { All (AreLiveOnce problem.now) routes.now }
-    ensures { OnOk result (string_bytes text.new
-        ≡ string_bytes text.old ++ services_from problem.now request.now 1 routes.now) }
+    ensures { OnOk result (text.new ≡ text.old
+        ++ services_from problem.now request.now 1 routes.now) }
 {
     for (place, route) in routes.iter().enumerate() {
         put_route(
@@ -174,36 +206,30 @@ fn put_services(
 // Appends those by one vehicle.
 fn put_route(
     alloc: Global,
-    text: &mut String,
+    text: &mut Told,
     problem: &Problem,
     request: &Request,
     vehicle: u64,
     route: &[u32],
 ) -> Result<(), OutOfMemory>
     requires { AreLiveOnce problem.now route.now }
-    ensures { OnOk result (string_bytes text.new
-        ≡ string_bytes text.old ++ services_text problem.now request.now vehicle route.now) }
+    ensures { OnOk result (text.new ≡ text.old
+        ++ services_text problem.now request.now vehicle route.now) }
 {
     let rows = rows_of(alloc, problem, route)?;
-    put_rows(text, problem, request, vehicle, rows.as_slice())
+    put_rows(text, problem, request, vehicle, rows.as_slice());
+    Ok(())
 }
 
-fn put_rows(
-    text: &mut String,
-    problem: &Problem,
-    request: &Request,
-    vehicle: u64,
-    rows: &[Row],
-) -> Result<(), OutOfMemory>
-    ensures { OnOk result (string_bytes text.new ≡ string_bytes text.old
-        ++ services_in problem.now.kind request.now vehicle rows.now) }
+fn put_rows(text: &mut Told, problem: &Problem, request: &Request, vehicle: u64, rows: &[Row])
+    ensures { text.new ≡ text.old
+        ++ services_in problem.now.kind request.now vehicle rows.now }
 {
     for row in rows {
         if is_stop_of(request, row) {
-            put_service(text, problem.kind, vehicle, row)?;
+            put_service(text, problem.kind, vehicle, row);
         }
     }
-    Ok(())
 }
 
 fn is_stop_of(request: &Request, row: &Row) -> bool
@@ -234,40 +260,10 @@ fn miss_alone(
     }
 }
 
-// That a vehicle which serves nothing else exceeds this limit.
-fn alone_text(alloc: Global, lead: &str, miss: &Miss) -> Result<String, OutOfMemory>
-    ensures { IfOk result (λ text. string_bytes text ≡ alone_text lead.now miss.now) }
-{
-    let mut text = String::new(alloc);
-    put_alone(&mut text, lead, miss)?;
-    Ok(text)
-}
-
 // What comes of a request that a vehicle could serve alone.
-fn tried_text(
+fn put_tried(
     alloc: Global,
-    lead: &str,
-    problem: &Problem,
-    pins: &[Route],
-    routes: &[Route],
-    request: &Request,
-) -> Result<String, OutOfMemory>
-    requires { All (MayTake problem.now request.now) routes.now }
-    ensures { IfOk result (λ text. string_bytes text
-        ≡ tried_text lead.now problem.now pins.now routes.now request.now) }
-{
-    let mut text = String::new(alloc);
-    text.push_str(lead)?;
-    put_word(&mut text, Word::AloneFits)?;
-    put_vehicles(alloc, &mut text, lead, problem, pins, routes, request)?;
-    put_fleet(&mut text, lead, problem, routes)?;
-    Ok(text)
-}
-
-// Appends what comes of the request with each vehicle that is used.
-fn put_vehicles(
-    alloc: Global,
-    text: &mut String,
+    text: &mut Told,
     lead: &str,
     problem: &Problem,
     pins: &[Route],
@@ -275,14 +271,35 @@ fn put_vehicles(
     request: &Request,
 ) -> Result<(), OutOfMemory>
     requires { All (MayTake problem.now request.now) routes.now }
-    ensures { OnOk result (string_bytes text.new ≡ string_bytes text.old
+    ensures { OnOk result (text.new ≡ text.old
+        ++ tried_text lead.now problem.now pins.now routes.now request.now) }
+{
+    text.push_str(lead);
+    put_word(text, Word::AloneFits);
+    put_vehicles(alloc, text, lead, problem, pins, routes, request)?;
+    put_fleet(text, lead, problem, routes);
+    Ok(())
+}
+
+// Appends what comes of the request with each vehicle that is used.
+fn put_vehicles(
+    alloc: Global,
+    text: &mut Told,
+    lead: &str,
+    problem: &Problem,
+    pins: &[Route],
+    routes: &[Route],
+    request: &Request,
+) -> Result<(), OutOfMemory>
+    requires { All (MayTake problem.now request.now) routes.now }
+    ensures { OnOk result (text.new ≡ text.old
         ++ vehicles_from lead.now problem.now pins.now request.now 1 routes.now) }
 {
     for (place, route) in routes.iter().enumerate() {
         let vehicle = place as u64 + 1;
         let kept = of_vehicle(pins, vehicle).len();
         let best = used_trial(alloc, problem, request, kept, route.as_slice())?;
-        put_trial(text, lead, vehicle, &best)?;
+        put_trial(text, lead, vehicle, &best);
     }
     Ok(())
 }

@@ -1,7 +1,7 @@
 //! Why a request is where it is in a plan, or in no route: what a dispatcher asks of an order that was left out.
 //!
-//! Entry functions: `why`, called by `command_text` for the line `why R`; `reason`, of one of several requests that are in no route, called
-//! by `plan_timetable` and by `planner_cli` behind what `solve` leaves out.
+//! Entry functions: `why`, called by `command_text` for the line `why R`; `put_reason`, of one of several requests that are in no route,
+//! called by `plan_timetable`, and `reason`, by `planner_cli` behind what `solve` leaves out.
 //!
 //! Source: this project's own. The limits are the auditor's rules 6 to 8 with `route_sched`'s loads and starts, the places those of
 //! `move_ops`' insertions.
@@ -30,7 +30,7 @@
 //!
 //! Said by `specs/Why.antt`, `Trials.antt`, `Missed.antt`, `Leads.antt`, `Words.antt` and `Laws.antt`. Proved:
 //! - `why`: the bytes are those of `why_at`, or want of memory
-//! - `reason`: the same of an unplanned request in any routes whose stops are live and stand once in each (`reason_text`)
+//! - `reason`, `put_reason`: the same of an unplanned request in any routes whose stops are live and stand once in each (`reason_text`)
 //! - `no_trial_is_better`: the trial that is told of a vehicle misses least
 //! - `what_is_alone_is_judged_by_the_rules`: no limit is told of a request alone exactly where its route is feasible by the auditor
 //! - `what_is_alone_is_told_as_its_fault`: a limit that is told is that of the auditor's least broken rule, at its stop
@@ -46,7 +46,7 @@ mod sentences;
 mod trials;
 mod words;
 
-pub use answers::{reason, why};
+pub use answers::{put_reason, reason, why};
 pub use laws::{
     no_trial_is_better, what_is_alone_is_judged_by_the_rules, what_is_alone_is_told_as_its_fault,
 };

@@ -124,13 +124,15 @@ fn first_lateness(rows: &[Row]) -> Option<Miss>
     None
 }
 
-fn is_late(row: &Row) -> bool
+/// Whether service starts, or the vehicle is back, too late.
+pub(crate) fn is_late(row: &Row) -> bool
     ensures { result ≡ is_late row.now }
 {
     row.start > u64::from(row.latest)
 }
 
-fn lateness_at(row: &Row) -> Miss
+/// That time in figures.
+pub(crate) fn lateness_at(row: &Row) -> Miss
     ensures { result ≡ lateness_at row.now }
 {
     Miss {
@@ -141,8 +143,8 @@ fn lateness_at(row: &Row) -> Miss
     }
 }
 
-/// What is exceeded where a stop starts too late; 0 is the depot.
-pub(crate) fn time_limit(stop: u32) -> Limit
+// What is exceeded where a stop starts too late; 0 is the depot.
+fn time_limit(stop: u32) -> Limit
     ensures { result ≡ time_limit stop }
 {
     if stop == 0 {

@@ -10,7 +10,7 @@ ghost use Rattle.plan_why.specs.Missed.{excess_of, lateness_in, miss_of, overloa
 ghost use Rattle.plan_why.specs.Moved.{moved_from, moved_row};
 ghost use Rattle.plan_why.specs.Puts.{IsDetour, IsLight, IsNumberOf, IsTour, arrival_with, found_in, found_then, laden, miss_behind, put_row, route_with};
 
-use crate::missed::{Limit, Miss, is_heavy, lateness_in, overload_at, overload_in, time_limit};
+use crate::missed::{Miss, is_heavy, is_late, lateness_at, lateness_in, overload_at, overload_in};
 use nint_dist::dist;
 use plan_explain::Row;
 use plan_types::{Kind, OutOfMemory, Problem, Stop};
@@ -101,13 +101,13 @@ fn late_behind(rows: &[Row], now: u64, before: u64) -> Option<Option<Miss>>
     for row in rows {
         let arrival = left.checked_add(row.arrival.saturating_sub(had_left))?;
         left = arrival.max(u64::from(row.earliest));
-        if left > u64::from(row.latest) {
-            return Some(Some(Miss {
-                limit: time_limit(row.stop),
-                stop: row.stop,
-                figure: left,
-                most: u64::from(row.latest),
-            }));
+        let moved = Row {
+            arrival,
+            start: left,
+            ..*row
+        };
+        if is_late(&moved) {
+            return Some(Some(lateness_at(&moved)));
         }
         had_left = row.start;
     }

@@ -1,8 +1,8 @@
 //! The words between the figures.
-ghost use Rattle.std.specs.Prelude.{◌≡◌, ◌++◌, OnOk, string_bytes};
-ghost use Rattle.plan_why.specs.Words.{named, word};
+ghost use Rattle.std.specs.Prelude.{◌≡◌, ◌++◌};
+ghost use Rattle.plan_why.specs.Words.{word, word_and_number};
 
-use plan_types::OutOfMemory;
+use told_text::Told;
 
 /// What stands before or behind a number.
 #[derive(Clone, Copy, Debug, PartialEq, Eq)]
@@ -74,16 +74,16 @@ impl Word {
 }
 
 /// Appends words.
-pub(crate) fn put_word(text: &mut String, what: Word) -> Result<(), OutOfMemory>
-    ensures { OnOk result (string_bytes text.new ≡ string_bytes text.old ++ word what) }
+pub(crate) fn put_word(text: &mut Told, what: Word)
+    ensures { text.new ≡ text.old ++ word what }
 {
-    text.push_str(what.text())
+    text.push_str(what.text());
 }
 
 /// Appends words and the number behind them.
-pub(crate) fn put_named(text: &mut String, what: Word, n: u64) -> Result<(), OutOfMemory>
-    ensures { OnOk result (string_bytes text.new ≡ string_bytes text.old ++ named what n) }
+pub(crate) fn put_word_and_number(text: &mut Told, what: Word, n: u64)
+    ensures { text.new ≡ text.old ++ word_and_number what n }
 {
-    put_word(text, what)?;
-    write!(text, "{n}")
+    put_word(text, what);
+    text.push_number(n);
 }
