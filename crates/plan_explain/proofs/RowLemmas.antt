@@ -12,8 +12,8 @@ use Rattle.route_sched.specs.declared.visits.Visit.{Visit}
 use Rattle.plan_audit.proofs.FirstLemmas.{none_some}
 use Rattle.plan_audit.proofs.VisitLemmas.{visits_from-step}
 use Rattle.route_sched.proofs.Steps.{start-next}
-use Rattle.plan_explain.specs.Rows.{halt_with, row_after}
-use Rattle.plan_explain.specs.Tables.{arrival, halt_behind, row_behind, rows_of}
+use Rattle.plan_explain.specs.Rows.{stop_visit_with, row_after}
+use Rattle.plan_explain.specs.Tables.{arrival, stop_visit_behind, row_behind, rows_of}
 use Rattle.plan_explain.specs.declared.rows.Row.{Row}
 
 -- nobody is served before the arrival
@@ -51,12 +51,12 @@ rows_counted p route rows are = ap length are ∙ length-map-range_with_len (row
 pub row_within : (p : Instance) (route : List ℕ) (rows : List Row) (k : ℕ) → rows ≡ rows_of p route → k < length rows → k ≤ length route
 row_within p route rows k are lt = omega (arith, rows_counted p route rows are)
 
--- the halt that is made of a row and its visit is that of the place
-pub halt_is : (p : Instance) (route : List ℕ) (rows : List Row) (k : ℕ) (d : Row) (visit : Visit) → rows ≡ rows_of p route → k < length rows → visit ≡ visit_after p route k → halt_with (slice_index_or rows k d) visit ≡ halt_behind p route k
-halt_is p route rows k d visit are lt is =
+-- what is made of a row and its visit is that of the place
+pub stop_visit_is : (p : Instance) (route : List ℕ) (rows : List Row) (k : ℕ) (d : Row) (visit : Visit) → rows ≡ rows_of p route → k < length rows → visit ≡ visit_after p route k → stop_visit_with (slice_index_or rows k d) visit ≡ stop_visit_behind p route k
+stop_visit_is p route rows k d visit are lt is =
     let within = row_within p route rows k are lt in
     let row : slice_index_or rows k d ≡ row_behind p route k = ap (λ rs. slice_index_or rs k d) are ∙ get_or-map-range_with_len (row_behind p route) 0 (length route + 1) k k d (omega (arith, within)) (omega arith) in
-    ap (λ r. halt_with r visit) row ∙ ap (halt_with (row_behind p route k)) is
+    ap (λ r. stop_visit_with r visit) row ∙ ap (stop_visit_with (row_behind p route k)) is
 
 -- a place is left
 pub none_left : (p : Instance) (route : List ℕ) (k : ℕ) (left : List Visit) → k ≤ length route → left ≡ visits_from p route k → left ≡ [] → ⊥

@@ -1,8 +1,8 @@
--- The row and the halt of a visit, and the lines of summaries.
+-- What is told of a visit, and the lines of summaries.
 use Rattle.std.specs.Prelude.{ℕ, ◌+◌, List, [], ◌∷◌, ◌++◌}
 use Rattle.route_sched.specs.declared.visits.Visit.{Visit}
 use Rattle.plan_explain.specs.Summaries.{summary_line}
-use Rattle.plan_explain.specs.declared.halts.Halt.{Halt}
+use Rattle.plan_explain.specs.declared.stop_visits.StopVisit.{StopVisit}
 use Rattle.plan_explain.specs.declared.rows.Row.{Row}
 use Rattle.plan_explain.specs.declared.summaries.Summary.{Summary}
 
@@ -18,9 +18,9 @@ row_after k last visit = record {
   load = visit.load;
 }
 
--- the halt of a row and its visit
-abbrev pub halt_with : Row → Visit → Halt
-halt_with row visit = record { row = row; leg = visit.leg; service = visit.stop.service }
+-- the row of a visit, with its leg and its service
+abbrev pub stop_visit_with : Row → Visit → StopVisit
+stop_visit_with row visit = record { row = row; leg = visit.leg; service = visit.stop.service }
 
 -- the line of each, the first of them with this number
 abbrev pub lines_from : ℕ → List Summary → List ℕ

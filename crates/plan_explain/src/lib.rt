@@ -2,7 +2,7 @@
 //!
 //! Entry functions: `explain_verdict` for a verdict, `explain_instance_fault` and `explain_solution_fault` for a
 //! text that is refused, `explain_driven` for the routes of one that may be read; called by `auditor_cli` (the word `explain`), which prints the audit's line first, with
-//! its status. `rows_of`, `halts_of`, `wait`, `set_off` and `summary_of` give the figures of a route; `plan_timetable` tells them too.
+//! its status. `rows_of`, `stop_visits_of`, `wait`, `set_off` and `summary_of` give the figures of a route; `plan_timetable` tells them too.
 //!
 //! Source: this project's own. Each figure is `route_sched`'s start, load, length or cost.
 //!
@@ -17,7 +17,7 @@
 //! Modules, in reading order:
 //! - `phrases`, `names`: the words between the figures, the names of fields and keys
 //! - `rows`: what happens at the places of a route
-//! - `halts`: the same with the ways between them and the services
+//! - `stop_visits`: the same with the ways between them and the services
 //! - `tables`: a route as a table
 //! - `summaries`: a line for each route, and the sums
 //! - `sentences`, `shifts`: the sentence on a broken rule; numbers that are all one too high or too low
@@ -44,7 +44,7 @@
 //! - `line_behind_cost`: the first line that is not blank behind the cost line of a solution's text, which its reader passes over
 //!   (`reading_ends_at_the_cost_line`)
 //! - `unasked_limit`: the first line of an instance whose key names a limit that is not asked
-//! - `rows_of`, `halts_of`, `wait`, `set_off`, `summary_of`: the rows of a route, when a vehicle leaves for them, and what it comes to
+//! - `rows_of`, `stop_visits_of`, `wait`, `set_off`, `summary_of`: the rows of a route, when a vehicle leaves for them, and what it comes to
 #![tactic(auto)]
 
 mod behind;
@@ -52,7 +52,6 @@ mod cited;
 mod driven;
 mod firsts;
 mod further;
-mod halts;
 mod laws;
 mod layouts;
 mod lilim_faults;
@@ -67,6 +66,7 @@ mod rows;
 mod sentences;
 mod shifts;
 mod sol_faults;
+mod stop_visits;
 mod summaries;
 mod tables;
 mod told_lines;
@@ -79,10 +79,10 @@ mod words_told;
 
 pub use behind::line_behind_cost;
 pub use driven::{explain_driven, verdict_knows_ways};
-pub use halts::{Halt, halts_of, set_off};
 pub use laws::reading_ends_at_the_cost_line;
 pub use refused::{explain_instance_fault, explain_solution_fault};
 pub use rows::{Row, rows_of};
+pub use stop_visits::{StopVisit, set_off, stop_visits_of};
 pub use summaries::{Summary, summary_of, wait};
 pub use unasked::unasked_limit;
 pub use verdicts::explain_verdict;

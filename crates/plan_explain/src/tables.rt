@@ -7,10 +7,10 @@ ghost use Rattle.told_text.specs.Columns.{cell, right};
 ghost use Rattle.plan_explain.specs.Phrases.{phrase};
 ghost use Rattle.plan_explain.specs.Tables.{arrival_text, figures_text, heading, load_text, row_text, stop_rows, stops_table, table_text, times_text, window_text};
 
-use crate::halts::{Halt, halts_of};
 use crate::phrases::Phrase;
 use crate::rows::Row;
 use crate::sentences::{put_mark, put_phrase};
+use crate::stop_visits::{StopVisit, stop_visits_of};
 use plan_types::{Kind, OutOfMemory, Problem};
 use rule_breaches::{is_late, is_overload};
 use std::alloc::Global;
@@ -26,9 +26,9 @@ pub(crate) fn put_table(
     requires { AreLiveOnce problem.now route.now }
     ensures { OnOk result (text.new ≡ text.old ++ table_text problem.now route.now) }
 {
-    let halts = halts_of(alloc, problem, route)?;
+    let visits = stop_visits_of(alloc, problem, route)?;
     put_phrase(text, heading(problem.kind));
-    put_rows(text, problem, halts.as_slice());
+    put_rows(text, problem, visits.as_slice());
     Ok(())
 }
 
@@ -41,62 +41,62 @@ fn heading(kind: Kind) -> Phrase
     }
 }
 
-fn put_rows(text: &mut Told, problem: &Problem, halts: &[Halt])
-    ensures { text.new ≡ text.old ++ flat_map (row_text problem.now) halts.now }
+fn put_rows(text: &mut Told, problem: &Problem, visits: &[StopVisit])
+    ensures { text.new ≡ text.old ++ flat_map (row_text problem.now) visits.now }
 {
-    for halt in halts {
-        put_row(text, problem, halt);
+    for visit in visits {
+        put_row(text, problem, visit);
     }
 }
 
 // A row, with a mark where the vehicle carries too much, and one where it is late.
-fn put_row(text: &mut Told, problem: &Problem, halt: &Halt)
-    ensures { text.new ≡ text.old ++ row_text problem.now halt.now }
+fn put_row(text: &mut Told, problem: &Problem, visit: &StopVisit)
+    ensures { text.new ≡ text.old ++ row_text problem.now visit.now }
 {
-    put_figures(text, problem.kind, halt);
+    put_figures(text, problem.kind, visit);
     put_mark(
         text,
-        is_overload(problem, halt.row.load),
+        is_overload(problem, visit.row.load),
         Phrase::MarkOverload,
     );
-    let late = is_late(problem, halt.row.start, halt.row.latest);
+    let late = is_late(problem, visit.row.start, visit.row.latest);
     put_mark(text, late, Phrase::MarkLate);
     text.push_str("\n");
 }
 
-fn put_figures(text: &mut Told, kind: Kind, halt: &Halt)
-    ensures { text.new ≡ text.old ++ figures_text kind halt.now }
+fn put_figures(text: &mut Told, kind: Kind, visit: &StopVisit)
+    ensures { text.new ≡ text.old ++ figures_text kind visit.now }
 {
     match kind {
         Kind::LiLim => {
-            put_times(text, halt);
-            put_window(text, &halt.row);
-            put_load(text, halt);
+            put_times(text, visit);
+            put_window(text, &visit.row);
+            put_load(text, visit);
         }
         Kind::Vrp => {
-            put_arrival(text, halt);
-            text.push_right_signed(9, halt.row.load);
+            put_arrival(text, visit);
+            text.push_right_signed(9, visit.row.load);
         }
     }
 }
 
 #[tactic(auto, unfolding(crate::specs::Tables::times_text))]
-fn put_times(text: &mut Told, halt: &Halt)
-    ensures { text.new ≡ text.old ++ times_text halt.now }
+fn put_times(text: &mut Told, visit: &StopVisit)
+    ensures { text.new ≡ text.old ++ times_text visit.now }
 {
-    put_arrival(text, halt);
-    text.push_cell(10, u128::from(halt.row.start));
+    put_arrival(text, visit);
+    text.push_cell(10, u128::from(visit.row.start));
 }
 
 // Where the vehicle comes, how far that is and when.
 #[tactic(auto, unfolding(crate::specs::Tables::arrival_text))]
-fn put_arrival(text: &mut Told, halt: &Halt)
-    ensures { text.new ≡ text.old ++ arrival_text halt.now }
+fn put_arrival(text: &mut Told, visit: &StopVisit)
+    ensures { text.new ≡ text.old ++ arrival_text visit.now }
 {
-    text.push_cell(5, u128::from(halt.row.place));
-    text.push_cell(6, u128::from(halt.row.stop));
-    text.push_cell(8, u128::from(halt.leg));
-    text.push_cell(10, u128::from(halt.row.arrival));
+    text.push_cell(5, u128::from(visit.row.place));
+    text.push_cell(6, u128::from(visit.row.stop));
+    text.push_cell(8, u128::from(visit.leg));
+    text.push_cell(10, u128::from(visit.row.arrival));
 }
 
 #[tactic(auto, unfolding(crate::specs::Tables::window_text))]
@@ -110,11 +110,11 @@ fn put_window(text: &mut Told, row: &Row)
 }
 
 #[tactic(auto, unfolding(crate::specs::Tables::load_text))]
-fn put_load(text: &mut Told, halt: &Halt)
-    ensures { text.new ≡ text.old ++ load_text halt.now }
+fn put_load(text: &mut Told, visit: &StopVisit)
+    ensures { text.new ≡ text.old ++ load_text visit.now }
 {
-    text.push_cell(8, u128::from(halt.service));
-    text.push_right_signed(9, halt.row.load);
+    text.push_cell(8, u128::from(visit.service));
+    text.push_right_signed(9, visit.row.load);
 }
 
 /// Appends the places of a route with their stops, without times.

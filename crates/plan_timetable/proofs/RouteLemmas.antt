@@ -42,8 +42,8 @@ use Rattle.route_sched.specs.Route.{place}
 use Rattle.route_sched.specs.Schedule.{load, start}
 use Rattle.plan_audit.specs.Passes.{feasible_alone, has_whole_pairs, is_back_in_time, keeps_capacity, keeps_times, keeps_windows, picks_up_first}
 use Rattle.slack_tables.specs.Insertion.{KeepsLimits}
-use Rattle.plan_explain.specs.Tables.{halt_behind, halts_of}
-use Rattle.plan_explain.specs.declared.halts.Halt.{Halt}
+use Rattle.plan_explain.specs.Tables.{stop_visit_behind, stop_visits_of}
+use Rattle.plan_explain.specs.declared.stop_visits.StopVisit.{StopVisit}
 use Rattle.plan_timetable.specs.Timed.{IsRowIn}
 
 -- ---- tests of all places
@@ -89,10 +89,10 @@ kept_limits p route used feasible =
       ];
     }
 
--- the row of each halt of a route is that of a stop or of the return
-pub row_in : (p : Instance) (route : List ℕ) (halts : List Halt) (k : ℕ) (d : Halt) → halts ≡ halts_of p route → k < length halts → IsRowIn p route (slice_index_or halts k d).row
-row_in p route halts k d are lt =
-    let few : length halts ≡ length route + 1 = ap length are ∙ length-map-range_with_len (halt_behind p route) 0 (length route + 1) in
-    let halt : slice_index_or halts k d ≡ halt_behind p route k = ap (λ hs. slice_index_or hs k d) are
-    ∙ get_or-map-range_with_len (halt_behind p route) 0 (length route + 1) k k d (omega (arith, few)) (omega arith) in
-    subst (λ h. IsRowIn p route h.row) (sym halt) (record { within = omega (arith, few); latest = refl })
+-- the row of each visit of a route is that of a stop or of the return
+pub row_in : (p : Instance) (route : List ℕ) (visits : List StopVisit) (k : ℕ) (d : StopVisit) → visits ≡ stop_visits_of p route → k < length visits → IsRowIn p route (slice_index_or visits k d).row
+row_in p route visits k d are lt =
+    let few : length visits ≡ length route + 1 = ap length are ∙ length-map-range_with_len (stop_visit_behind p route) 0 (length route + 1) in
+    let visit : slice_index_or visits k d ≡ stop_visit_behind p route k = ap (λ hs. slice_index_or hs k d) are
+    ∙ get_or-map-range_with_len (stop_visit_behind p route) 0 (length route + 1) k k d (omega (arith, few)) (omega arith) in
+    subst (λ h. IsRowIn p route h.row) (sym visit) (record { within = omega (arith, few); latest = refl })

@@ -24,5 +24,5 @@ number_or_nothing form None = word form Nothing
 number_or_nothing form (Some n) = number form 8 n
 
 -- a word, and a number behind it
-abbrev pub named : Form → Word → ℕ → List ℕ
-named form w n = word form w ++ decimal n
+abbrev pub field : Form → Word → ℕ → List ℕ
+field form w n = word form w ++ decimal n

@@ -7,8 +7,8 @@ use Rattle.plan_types.specs.declared.requests.Kind.TheVariants.{LiLim, Vrp}
 use Rattle.route_sched.specs.Route.{place}
 use Rattle.route_sched.specs.Schedule.{time_between}
 use Rattle.plan_audit.specs.Passes.{feasible_alone}
-use Rattle.plan_explain.specs.Tables.{halts_of}
-use Rattle.plan_explain.specs.declared.halts.Halt.{Halt}
+use Rattle.plan_explain.specs.Tables.{stop_visits_of}
+use Rattle.plan_explain.specs.declared.stop_visits.StopVisit.{StopVisit}
 use Rattle.plan_timetable.specs.declared.entries.Entry.{Entry}
 use Rattle.plan_timetable.specs.declared.entries.Role.{Role}
 use Rattle.plan_timetable.specs.declared.entries.Role.TheVariants.{Pickup, Delivery, Single, Return}
@@ -39,15 +39,15 @@ latest_told p route i = if has_times p.kind && feasible_alone p route then Some 
 abbrev pub may_end : Instance → List ℕ → ℕ → Bool
 may_end p route k = nat_le k (length route) && feasible_alone p (take k route)
 
--- what is told of a place, by its halt
-abbrev pub entry_of : Instance → List ℕ → Halt → Entry
-entry_of p route halt = record {
-  halt = halt;
-  role = role_of p halt.row.stop;
-  partner = partner_at p halt.row.stop;
-  latest = latest_told p route halt.row.place;
-  may_end = may_end p route halt.row.place;
+-- what is told of a place, by its visit
+abbrev pub entry_of : Instance → List ℕ → StopVisit → Entry
+entry_of p route visit = record {
+  visit = visit;
+  role = role_of p visit.row.stop;
+  partner = partner_at p visit.row.stop;
+  latest = latest_told p route visit.row.place;
+  may_end = may_end p route visit.row.place;
 }
 
 abbrev pub entries_of : Instance → List ℕ → List Entry
-entries_of p route = map (entry_of p route) (halts_of p route)
+entries_of p route = map (entry_of p route) (stop_visits_of p route)

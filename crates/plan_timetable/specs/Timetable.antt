@@ -14,7 +14,7 @@ use Rattle.plan_explain.specs.declared.summaries.Summary.{Summary}
 use Rattle.plan_why.specs.Why.{reason_text}
 use Rattle.plan_why.specs.declared.leads.Lead.{Lead}
 use Rattle.plan_why.specs.declared.leads.Lead.TheVariants.{Named, Tabbed}
-use Rattle.plan_timetable.specs.Cells.{load_cell, named, number, number_or_nothing}
+use Rattle.plan_timetable.specs.Cells.{load_cell, field, number, number_or_nothing}
 use Rattle.plan_timetable.specs.Entries.{entries_of}
 use Rattle.plan_timetable.specs.Words.{word}
 use Rattle.plan_timetable.specs.declared.entries.Entry.{Entry}
@@ -47,7 +47,7 @@ use Rattle.plan_timetable.specs.declared.words.Word.TheVariants.{
 -- by tabs each line of a stop names its vehicle
 abbrev pub lead : Form → ℕ → List ℕ
 lead Columns v = []
-lead Tabs v = named Tabs Stop v
+lead Tabs v = field Tabs Stop v
 
 abbrev pub role_word : Role → Word
 role_word role.Pickup = Pickup
@@ -61,27 +61,27 @@ pin_word false = PinMayNotEnd
 
 -- where the vehicle is, and what for
 abbrev pub where_text : Form → ℕ → Entry → List ℕ
-where_text form v e = lead form v ++ number form 5 e.halt.row.place ++ number form 5 e.halt.row.stop
+where_text form v e = lead form v ++ number form 5 e.visit.row.place ++ number form 5 e.visit.row.stop
 
 abbrev pub what_text : Form → Entry → List ℕ
 what_text form e = word form (role_word e.role) ++ number_or_nothing form e.partner
 
 -- when the vehicle leaves the place before, comes and starts; how long it waits
 abbrev pub times_text : Form → Entry → List ℕ
-times_text form e = number form 8 (set_off e.halt) ++ number form 8 e.halt.row.arrival ++ number form 8 e.halt.row.start ++ number form 8 (wait e.halt.row)
+times_text form e = number form 8 (set_off e.visit) ++ number form 8 e.visit.row.arrival ++ number form 8 e.visit.row.start ++ number form 8 (wait e.visit.row)
 
 -- how long service takes, when it may start at all, and when it has to
 abbrev pub window_text : Form → Entry → List ℕ
-window_text form e = number form 8 e.halt.service ++ number form 8 e.halt.row.earliest ++ number form 8 e.halt.row.latest ++ number_or_nothing form e.latest
+window_text form e = number form 8 e.visit.service ++ number form 8 e.visit.row.earliest ++ number form 8 e.visit.row.latest ++ number_or_nothing form e.latest
 
 -- a problem of kind `Vrp` asks for no times
 abbrev pub when_text : Form → Kind → Entry → List ℕ
 when_text form LiLim e = times_text form e ++ window_text form e
-when_text form Vrp e = number form 8 e.halt.row.arrival
+when_text form Vrp e = number form 8 e.visit.row.arrival
 
 -- what it carries then, and whether a pin may end there
 abbrev pub load_text : Form → Entry → List ℕ
-load_text form e = ended (load_cell form e.halt.row.load ++ word form (pin_word e.may_end))
+load_text form e = ended (load_cell form e.visit.row.load ++ word form (pin_word e.may_end))
 
 -- the line of a place
 abbrev pub entry_text : Form → Kind → ℕ → Entry → List ℕ
@@ -89,13 +89,13 @@ entry_text form kind v e = where_text form v e ++ what_text form e ++ when_text 
 
 -- the figures of a vehicle
 abbrev pub way_text : Form → ℕ → Summary → List ℕ
-way_text form v s = named form Vehicle v ++ named form Stops s.stops ++ named form Distance s.distance
+way_text form v s = field form Vehicle v ++ field form Stops s.stops ++ field form Distance s.distance
 
 abbrev pub top_load_text : Form → Summary → List ℕ
 top_load_text form s = word form Load ++ signed_decimal s.load
 
 abbrev pub day_text : Form → Kind → Summary → List ℕ
-day_text form LiLim s = named form SetOff s.set_off ++ named form Return s.back ++ named form Waiting s.waiting
+day_text form LiLim s = field form SetOff s.set_off ++ field form Return s.back ++ field form Waiting s.waiting
 day_text form Vrp s = []
 
 abbrev pub vehicle_line : Form → Kind → ℕ → Summary → List ℕ
@@ -119,7 +119,7 @@ blocks_from form p v [] = []
 blocks_from form p v (route ∷ routes) = vehicle_text form p v route ++ blocks_from form p (v + 1) routes
 
 abbrev pub unplanned_line : Form → ℕ → List ℕ
-unplanned_line form n = ended (named form Unplanned n)
+unplanned_line form n = ended (field form Unplanned n)
 
 -- what stands before each line that tells why
 abbrev pub lead_of : Form → Lead

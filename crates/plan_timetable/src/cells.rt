@@ -1,53 +1,54 @@
 //! Numbers in their columns, or behind tabs.
-ghost use Rattle.std.specs.Prelude.{◌≡◌, ◌<◌, ◌++◌, OnOk, string_bytes};
-ghost use Rattle.plan_timetable.specs.Cells.{load_cell, named, number, number_or_nothing};
+ghost use Rattle.std.specs.Prelude.{◌≡◌, ◌++◌};
+ghost use Rattle.plan_timetable.specs.Cells.{field, load_cell, number, number_or_nothing};
 ghost use Rattle.plan_timetable.specs.Words.{word};
 
 use crate::forms::Form;
 use crate::words::Word;
-use plan_types::OutOfMemory;
+use told_text::Told;
 
 /// Appends a word.
-pub(crate) fn put_word(text: &mut String, form: Form, what: Word) -> Result<(), OutOfMemory>
-    ensures { OnOk result (string_bytes text.new ≡ string_bytes text.old ++ word form what) }
+pub(crate) fn put_word(text: &mut Told, form: Form, what: Word)
+    ensures { text.new ≡ text.old ++ word form what }
 {
-    text.push_str(what.text(form))
+    text.push_str(what.text(form));
 }
 
 /// Appends a number to a line, in a column of this width.
-pub(crate) fn put_number(
-    text: &mut String,
-    form: Form,
-    width: usize,
-    n: u64,
-) -> Result<(), OutOfMemory>
-    requires { width < 100 }
-    ensures { OnOk result (string_bytes text.new ≡ string_bytes text.old ++ number form width n) }
+pub(crate) fn put_number(text: &mut Told, form: Form, width: usize, n: u64)
+    ensures { text.new ≡ text.old ++ number form width n }
 {
     match form {
-        Form::Columns => write!(text, " {n:>width$}"),
-        Form::Tabs => write!(text, "\t{n}"),
+        Form::Columns => {
+            text.push_str(" ");
+            text.push_right(width, u128::from(n))
+        }
+        Form::Tabs => {
+            text.push_str("\t");
+            text.push_number(n)
+        }
     }
 }
 
 /// Appends a load to a line, in a column of 8.
-pub(crate) fn put_load(text: &mut String, form: Form, load: i64) -> Result<(), OutOfMemory>
-    ensures { OnOk result (string_bytes text.new ≡ string_bytes text.old ++ load_cell form load) }
+pub(crate) fn put_load(text: &mut Told, form: Form, load: i64)
+    ensures { text.new ≡ text.old ++ load_cell form load }
 {
     match form {
-        Form::Columns => write!(text, " {load:>8}"),
-        Form::Tabs => write!(text, "\t{load}"),
+        Form::Columns => {
+            text.push_str(" ");
+            text.push_right_signed(8, load)
+        }
+        Form::Tabs => {
+            text.push_str("\t");
+            text.push_number(load)
+        }
     }
 }
 
 /// Appends a number, or that there is none, to a line, in a column of 8.
-pub(crate) fn put_number_or_nothing(
-    text: &mut String,
-    form: Form,
-    n: Option<u64>,
-) -> Result<(), OutOfMemory>
-    ensures { OnOk result (string_bytes text.new
-        ≡ string_bytes text.old ++ number_or_nothing form n) }
+pub(crate) fn put_number_or_nothing(text: &mut Told, form: Form, n: Option<u64>)
+    ensures { text.new ≡ text.old ++ number_or_nothing form n }
 {
     match n {
         None => put_word(text, form, Word::Nothing),
@@ -56,14 +57,9 @@ pub(crate) fn put_number_or_nothing(
 }
 
 /// Appends a word and the number behind it.
-pub(crate) fn put_named(
-    text: &mut String,
-    form: Form,
-    what: Word,
-    n: u64,
-) -> Result<(), OutOfMemory>
-    ensures { OnOk result (string_bytes text.new ≡ string_bytes text.old ++ named form what n) }
+pub(crate) fn put_field(text: &mut Told, form: Form, what: Word, n: u64)
+    ensures { text.new ≡ text.old ++ field form what n }
 {
-    put_word(text, form, what)?;
-    write!(text, "{n}")
+    put_word(text, form, what);
+    text.push_number(n);
 }

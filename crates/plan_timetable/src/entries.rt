@@ -1,13 +1,13 @@
 //! What is told of each place of a route.
 ghost use Rattle.std.specs.Prelude.{◌≡◌, ◌<◌, IfOk, length};
-ghost use Rattle.plan_explain.specs.Tables.{halts_of};
+ghost use Rattle.plan_explain.specs.Tables.{stop_visits_of};
 ghost use Rattle.route_sched.specs.Route.{AreLiveOnce};
 ghost use Rattle.plan_timetable.specs.Entries.{entries_of, entry_of, role_of};
 ghost use Rattle.plan_timetable.specs.Timed.{IsRowIn, IsTableOf};
 
 use crate::fronts::may_end;
 use crate::slack::{latest_told, table_of};
-use plan_explain::{Halt, halts_of};
+use plan_explain::{StopVisit, stop_visits_of};
 use plan_types::{OutOfMemory, Problem};
 use slack_tables::RouteTable;
 use std::alloc::Global;
@@ -24,7 +24,7 @@ pub(crate) enum Role {
 /// What is told of a place.
 #[derive(Clone, Copy, Debug, PartialEq, Eq)]
 pub(crate) struct Entry {
-    pub halt: Halt,
+    pub visit: StopVisit,
     pub role: Role,
     /// The number of the other stop of the pair.
     pub partner: Option<u32>,
@@ -44,40 +44,45 @@ pub(crate) fn entries(
     requires used { 0 < length route.now }
     ensures { IfOk result (λ entries. entries.items ≡ entries_of problem.now route.now) }
 {
-    let halts = halts_of(alloc, problem, route)?;
+    let visits = stop_visits_of(alloc, problem, route)?;
     let table = table_of(alloc, problem, route)?;
-    entries_at(alloc, problem, route, &table, halts.as_slice())
+    entries_at(alloc, problem, route, &table, visits.as_slice())
 }
 
-// What is told of the places of these halts.
+// What is told of the places of these visits.
 fn entries_at(
     alloc: Global,
     problem: &Problem,
     route: &[u32],
     table: &Option<RouteTable>,
-    halts: &[Halt],
+    visits: &[StopVisit],
 ) -> Result<Vec<Entry>, OutOfMemory>
     requires route { AreLiveOnce problem.now route.now }
     requires table { IsTableOf problem.now route.now table.now }
-    requires halts { halts.now ≡ halts_of problem.now route.now }
+    requires visits { visits.now ≡ stop_visits_of problem.now route.now }
     ensures { IfOk result (λ entries. entries.items ≡ entries_of problem.now route.now) }
 {
     let mut entries = Vec::new(alloc);
-    for halt in halts {
-        entries.push(entry_of(problem, route, table, halt))?;
+    for visit in visits {
+        entries.push(entry_of(problem, route, table, visit))?;
     }
     Ok(entries)
 }
 
-fn entry_of(problem: &Problem, route: &[u32], table: &Option<RouteTable>, halt: &Halt) -> Entry
+fn entry_of(
+    problem: &Problem,
+    route: &[u32],
+    table: &Option<RouteTable>,
+    visit: &StopVisit,
+) -> Entry
     requires route { AreLiveOnce problem.now route.now }
     requires table { IsTableOf problem.now route.now table.now }
-    requires row { IsRowIn problem.now route.now halt.now.row }
-    ensures { result ≡ entry_of problem.now route.now halt.now }
+    requires row { IsRowIn problem.now route.now visit.now.row }
+    ensures { result ≡ entry_of problem.now route.now visit.now }
 {
-    let row = &halt.row;
+    let row = &visit.row;
     Entry {
-        halt: *halt,
+        visit: *visit,
         role: role_of(problem, row.stop),
         partner: problem.partner_of(row.stop),
         latest: latest_told(problem, route, table, row),

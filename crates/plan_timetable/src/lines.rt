@@ -1,59 +1,50 @@
 //! The line of a place.
-ghost use Rattle.std.specs.Prelude.{◌≡◌, ◌++◌, OnOk, string_bytes};
+ghost use Rattle.std.specs.Prelude.{◌≡◌, ◌++◌};
 ghost use Rattle.std.specs.List.{flat_map};
 ghost use Rattle.plan_timetable.specs.Timetable.{entry_text, lead, load_text, pin_word, role_word, times_text, what_text, when_text, where_text, window_text};
 
-use crate::cells::{put_load, put_named, put_number, put_number_or_nothing, put_word};
+use crate::cells::{put_field, put_load, put_number, put_number_or_nothing, put_word};
 use crate::entries::{Entry, Role};
 use crate::forms::Form;
 use crate::words::Word;
 use plan_explain::{set_off, wait};
-use plan_types::{Kind, OutOfMemory};
+use plan_types::Kind;
+use told_text::Told;
 
 /// Appends the line of each place.
-pub(crate) fn put_entries(
-    text: &mut String,
-    form: Form,
-    kind: Kind,
-    vehicle: u64,
-    entries: &[Entry],
-) -> Result<(), OutOfMemory>
-    ensures { OnOk result (string_bytes text.new
-        ≡ string_bytes text.old ++ flat_map (entry_text form kind vehicle) entries.now) }
+pub(crate) fn put_entries(text: &mut Told, form: Form, kind: Kind, vehicle: u64, entries: &[Entry])
+    ensures { text.new ≡ text.old ++ flat_map (entry_text form kind vehicle) entries.now }
 {
     for entry in entries {
-        put_where(text, form, vehicle, entry)?;
-        put_what(text, form, entry)?;
-        put_when(text, form, kind, entry)?;
-        put_load_and_pin(text, form, entry)?;
+        put_where(text, form, vehicle, entry);
+        put_what(text, form, entry);
+        put_when(text, form, kind, entry);
+        put_load_and_pin(text, form, entry);
     }
-    Ok(())
 }
 
-fn put_where(text: &mut String, form: Form, vehicle: u64, entry: &Entry) -> Result<(), OutOfMemory>
-    ensures { OnOk result (string_bytes text.new
-        ≡ string_bytes text.old ++ where_text form vehicle entry.now) }
+fn put_where(text: &mut Told, form: Form, vehicle: u64, entry: &Entry)
+    ensures { text.new ≡ text.old ++ where_text form vehicle entry.now }
 {
-    put_lead(text, form, vehicle)?;
-    let row = &entry.halt.row;
-    put_number(text, form, 5, row.place)?;
+    put_lead(text, form, vehicle);
+    let row = &entry.visit.row;
+    put_number(text, form, 5, row.place);
     put_number(text, form, 5, u64::from(row.stop))
 }
 
-fn put_lead(text: &mut String, form: Form, vehicle: u64) -> Result<(), OutOfMemory>
-    ensures { OnOk result (string_bytes text.new ≡ string_bytes text.old ++ lead form vehicle) }
+fn put_lead(text: &mut Told, form: Form, vehicle: u64)
+    ensures { text.new ≡ text.old ++ lead form vehicle }
 {
     match form {
-        Form::Columns => Ok(()),
-        Form::Tabs => put_named(text, form, Word::Stop, vehicle),
+        Form::Columns => {}
+        Form::Tabs => put_field(text, form, Word::Stop, vehicle),
     }
 }
 
-fn put_what(text: &mut String, form: Form, entry: &Entry) -> Result<(), OutOfMemory>
-    ensures { OnOk result (string_bytes text.new
-        ≡ string_bytes text.old ++ what_text form entry.now) }
+fn put_what(text: &mut Told, form: Form, entry: &Entry)
+    ensures { text.new ≡ text.old ++ what_text form entry.now }
 {
-    put_word(text, form, role_word(entry.role))?;
+    put_word(text, form, role_word(entry.role));
     put_number_or_nothing(text, form, entry.partner.map(u64::from))
 }
 
@@ -69,48 +60,44 @@ fn role_word(role: Role) -> Word
 }
 
 // A problem of kind `Vrp` asks for no times.
-fn put_when(text: &mut String, form: Form, kind: Kind, entry: &Entry) -> Result<(), OutOfMemory>
-    ensures { OnOk result (string_bytes text.new
-        ≡ string_bytes text.old ++ when_text form kind entry.now) }
+fn put_when(text: &mut Told, form: Form, kind: Kind, entry: &Entry)
+    ensures { text.new ≡ text.old ++ when_text form kind entry.now }
 {
     match kind {
         Kind::LiLim => {
-            put_times(text, form, entry)?;
+            put_times(text, form, entry);
             put_window(text, form, entry)
         }
-        Kind::Vrp => put_number(text, form, 8, entry.halt.row.arrival),
+        Kind::Vrp => put_number(text, form, 8, entry.visit.row.arrival),
     }
 }
 
-fn put_times(text: &mut String, form: Form, entry: &Entry) -> Result<(), OutOfMemory>
-    ensures { OnOk result (string_bytes text.new
-        ≡ string_bytes text.old ++ times_text form entry.now) }
+fn put_times(text: &mut Told, form: Form, entry: &Entry)
+    ensures { text.new ≡ text.old ++ times_text form entry.now }
 {
-    let row = &entry.halt.row;
-    put_number(text, form, 8, set_off(&entry.halt))?;
-    put_number(text, form, 8, row.arrival)?;
-    put_number(text, form, 8, row.start)?;
+    let row = &entry.visit.row;
+    put_number(text, form, 8, set_off(&entry.visit));
+    put_number(text, form, 8, row.arrival);
+    put_number(text, form, 8, row.start);
     put_number(text, form, 8, wait(row))
 }
 
-fn put_window(text: &mut String, form: Form, entry: &Entry) -> Result<(), OutOfMemory>
-    ensures { OnOk result (string_bytes text.new
-        ≡ string_bytes text.old ++ window_text form entry.now) }
+fn put_window(text: &mut Told, form: Form, entry: &Entry)
+    ensures { text.new ≡ text.old ++ window_text form entry.now }
 {
-    let row = &entry.halt.row;
-    put_number(text, form, 8, u64::from(entry.halt.service))?;
-    put_number(text, form, 8, u64::from(row.earliest))?;
-    put_number(text, form, 8, u64::from(row.latest))?;
+    let row = &entry.visit.row;
+    put_number(text, form, 8, u64::from(entry.visit.service));
+    put_number(text, form, 8, u64::from(row.earliest));
+    put_number(text, form, 8, u64::from(row.latest));
     put_number_or_nothing(text, form, entry.latest)
 }
 
-fn put_load_and_pin(text: &mut String, form: Form, entry: &Entry) -> Result<(), OutOfMemory>
-    ensures { OnOk result (string_bytes text.new
-        ≡ string_bytes text.old ++ load_text form entry.now) }
+fn put_load_and_pin(text: &mut Told, form: Form, entry: &Entry)
+    ensures { text.new ≡ text.old ++ load_text form entry.now }
 {
-    put_load(text, form, entry.halt.row.load)?;
-    put_word(text, form, pin_word(entry.may_end))?;
-    text.push_str("\n")
+    put_load(text, form, entry.visit.row.load);
+    put_word(text, form, pin_word(entry.may_end));
+    text.push_str("\n");
 }
 
 fn pin_word(may_end: bool) -> Word

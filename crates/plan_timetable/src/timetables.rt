@@ -3,13 +3,14 @@ ghost use Rattle.std.specs.Prelude.{◌≡◌, ◌++◌, All, IfOk, OnOk, string
 ghost use Rattle.route_sched.specs.Route.{AreLiveOnce};
 ghost use Rattle.plan_timetable.specs.Timetable.{gap, lead_of, timetable_text, unplanned_line, unplanned_text, vehicle_text};
 
-use crate::cells::{put_named, put_word};
+use crate::cells::{put_field, put_word};
 use crate::forms::Form;
 use crate::vehicles::{put_blocks, put_vehicle};
 use crate::words::Word;
 use plan_types::{OutOfMemory, Problem, Route};
-use plan_why::{Lead, reason};
+use plan_why::{Lead, put_reason};
 use std::alloc::Global;
+use told_text::Told;
 
 /// When each vehicle is where, in whole lines: for each one that is used its figures, then a line for each stop and for the return; then
 /// each of these unplanned requests, by name, and why it is in no route, as `plan_why` tells it. Vehicles count as their routes do,
@@ -29,10 +30,10 @@ pub fn timetable(
     ensures { IfOk result (λ text. string_bytes text
         ≡ timetable_text form problem.now pins.now routes.now unplanned.now) }
 {
-    let mut text = String::new(alloc);
+    let mut text = Told::new(alloc);
     put_blocks(alloc, &mut text, form, problem, routes)?;
     put_unplanned(alloc, &mut text, form, problem, pins, routes, unplanned)?;
-    Ok(text)
+    text.into_string()
 }
 
 /// When this vehicle is where: its figures and its lines, as `timetable` has them; none where it is not used.
@@ -47,15 +48,15 @@ pub fn vehicle_timetable(
     ensures { IfOk result (λ text. string_bytes text
         ≡ vehicle_text form problem.now vehicle route.now) }
 {
-    let mut text = String::new(alloc);
+    let mut text = Told::new(alloc);
     put_vehicle(alloc, &mut text, form, problem, vehicle, route)?;
-    Ok(text)
+    text.into_string()
 }
 
 // Appends the lines of unplanned requests.
 fn put_unplanned(
     alloc: Global,
-    text: &mut String,
+    text: &mut Told,
     form: Form,
     problem: &Problem,
     pins: &[Route],
@@ -63,34 +64,32 @@ fn put_unplanned(
     names: &[u32],
 ) -> Result<(), OutOfMemory>
     requires { All (AreLiveOnce problem.now) routes.now }
-    ensures { OnOk result (string_bytes text.new ≡ string_bytes text.old
+    ensures { OnOk result (text.new ≡ text.old
         ++ unplanned_text form problem.now pins.now routes.now names.now) }
 {
-    put_gap(text, form, names)?;
+    put_gap(text, form, names);
     for name in names {
-        put_name(text, form, *name)?;
-        let reason = reason(alloc, lead_of(form), problem, pins, routes, *name)?;
-        text.push_str(reason.as_str())?;
+        put_name(text, form, *name);
+        put_reason(alloc, text, lead_of(form), problem, pins, routes, *name)?;
     }
     Ok(())
 }
 
 // Appends what stands before them, where there are any.
-fn put_gap(text: &mut String, form: Form, names: &[u32]) -> Result<(), OutOfMemory>
-    ensures { OnOk result (string_bytes text.new ≡ string_bytes text.old ++ gap form names.now) }
+fn put_gap(text: &mut Told, form: Form, names: &[u32])
+    ensures { text.new ≡ text.old ++ gap form names.now }
 {
     if names.is_empty() {
-        return Ok(());
+        return;
     }
-    put_word(text, form, Word::Gap)
+    put_word(text, form, Word::Gap);
 }
 
-fn put_name(text: &mut String, form: Form, name: u32) -> Result<(), OutOfMemory>
-    ensures { OnOk result (string_bytes text.new
-        ≡ string_bytes text.old ++ unplanned_line form name) }
+fn put_name(text: &mut Told, form: Form, name: u32)
+    ensures { text.new ≡ text.old ++ unplanned_line form name }
 {
-    put_named(text, form, Word::Unplanned, u64::from(name))?;
-    text.push_str("\n")
+    put_field(text, form, Word::Unplanned, u64::from(name));
+    text.push_str("\n");
 }
 
 // What stands before each line that tells why.

@@ -1,10 +1,10 @@
 //! The block of a vehicle: its figures, and a line for each place of its route.
-ghost use Rattle.std.specs.Prelude.{◌≡◌, ◌<◌, ◌++◌, All, OnOk, length, string_bytes};
+ghost use Rattle.std.specs.Prelude.{◌≡◌, ◌<◌, ◌++◌, All, OnOk, length};
 ghost use Rattle.route_sched.specs.Route.{AreLiveOnce};
 ghost use Rattle.text_lines.specs.Lines.{ended};
 ghost use Rattle.plan_timetable.specs.Timetable.{block_text, blocks_from, day_text, heading, top_load_text, vehicle_line, vehicle_text, way_text};
 
-use crate::cells::{put_named, put_word};
+use crate::cells::{put_field, put_word};
 use crate::entries::entries;
 use crate::forms::Form;
 use crate::lines::put_entries;
@@ -12,18 +12,18 @@ use crate::words::Word;
 use plan_explain::{Summary, summary_of};
 use plan_types::{Kind, OutOfMemory, Problem, Route};
 use std::alloc::Global;
+use told_text::Told;
 
 /// Appends the block of each vehicle that is used.
 pub(crate) fn put_blocks(
     alloc: Global,
-    text: &mut String,
+    text: &mut Told,
     form: Form,
     problem: &Problem,
     routes: &[Route],
 ) -> Result<(), OutOfMemory>
     requires { All (AreLiveOnce problem.now) routes.now }
-    ensures { OnOk result (string_bytes text.new
-        ≡ string_bytes text.old ++ blocks_from form problem.now 1 routes.now) }
+    ensures { OnOk result (text.new ≡ text.old ++ blocks_from form problem.now 1 routes.now) }
 {
     for (place, route) in routes.iter().enumerate() {
         put_vehicle(
@@ -41,15 +41,15 @@ pub(crate) fn put_blocks(
 /// Appends the block of a vehicle, if it is used.
 pub(crate) fn put_vehicle(
     alloc: Global,
-    text: &mut String,
+    text: &mut Told,
     form: Form,
     problem: &Problem,
     vehicle: u64,
     route: &[u32],
 ) -> Result<(), OutOfMemory>
     requires { AreLiveOnce problem.now route.now }
-    ensures { OnOk result (string_bytes text.new
-        ≡ string_bytes text.old ++ vehicle_text form problem.now vehicle route.now) }
+    ensures { OnOk result (text.new ≡ text.old
+        ++ vehicle_text form problem.now vehicle route.now) }
 {
     if route.is_empty() {
         return Ok(());
@@ -59,7 +59,7 @@ pub(crate) fn put_vehicle(
 
 fn put_block(
     alloc: Global,
-    text: &mut String,
+    text: &mut Told,
     form: Form,
     problem: &Problem,
     vehicle: u64,
@@ -67,15 +67,15 @@ fn put_block(
 ) -> Result<(), OutOfMemory>
     requires route { AreLiveOnce problem.now route.now }
     requires used { 0 < length route.now }
-    ensures { OnOk result (string_bytes text.new
-        ≡ string_bytes text.old ++ block_text form problem.now vehicle route.now) }
+    ensures { OnOk result (text.new ≡ text.old ++ block_text form problem.now vehicle route.now) }
 {
     let kind = problem.kind;
     let summary = summary_of(alloc, problem, route)?;
     let entries = entries(alloc, problem, route)?;
-    put_vehicle_line(text, form, kind, vehicle, &summary)?;
-    put_word(text, form, heading(kind))?;
-    put_entries(text, form, kind, vehicle, entries.as_slice())
+    put_vehicle_line(text, form, kind, vehicle, &summary);
+    put_word(text, form, heading(kind));
+    put_entries(text, form, kind, vehicle, entries.as_slice());
+    Ok(())
 }
 
 fn heading(kind: Kind) -> Word
@@ -87,68 +87,46 @@ fn heading(kind: Kind) -> Word
     }
 }
 
-fn put_vehicle_line(
-    text: &mut String,
-    form: Form,
-    kind: Kind,
-    vehicle: u64,
-    summary: &Summary,
-) -> Result<(), OutOfMemory>
-    ensures { OnOk result (string_bytes text.new
-        ≡ string_bytes text.old ++ vehicle_line form kind vehicle summary.now) }
+fn put_vehicle_line(text: &mut Told, form: Form, kind: Kind, vehicle: u64, summary: &Summary)
+    ensures { text.new ≡ text.old ++ vehicle_line form kind vehicle summary.now }
 {
-    put_way(text, form, vehicle, summary)?;
-    put_top_load(text, form, summary)?;
+    put_way(text, form, vehicle, summary);
+    put_top_load(text, form, summary);
     put_line_end(text, form, kind, summary)
 }
 
-fn put_way(
-    text: &mut String,
-    form: Form,
-    vehicle: u64,
-    summary: &Summary,
-) -> Result<(), OutOfMemory>
-    ensures { OnOk result (string_bytes text.new
-        ≡ string_bytes text.old ++ way_text form vehicle summary.now) }
+fn put_way(text: &mut Told, form: Form, vehicle: u64, summary: &Summary)
+    ensures { text.new ≡ text.old ++ way_text form vehicle summary.now }
 {
-    put_named(text, form, Word::Vehicle, vehicle)?;
-    put_named(text, form, Word::Stops, summary.stops)?;
-    put_named(text, form, Word::Distance, summary.distance)
+    put_field(text, form, Word::Vehicle, vehicle);
+    put_field(text, form, Word::Stops, summary.stops);
+    put_field(text, form, Word::Distance, summary.distance)
 }
 
-fn put_top_load(text: &mut String, form: Form, summary: &Summary) -> Result<(), OutOfMemory>
-    ensures { OnOk result (string_bytes text.new
-        ≡ string_bytes text.old ++ top_load_text form summary.now) }
+fn put_top_load(text: &mut Told, form: Form, summary: &Summary)
+    ensures { text.new ≡ text.old ++ top_load_text form summary.now }
 {
-    let load = summary.load;
-    put_word(text, form, Word::Load)?;
-    write!(text, "{load}")
+    put_word(text, form, Word::Load);
+    text.push_number(summary.load);
 }
 
-fn put_line_end(
-    text: &mut String,
-    form: Form,
-    kind: Kind,
-    summary: &Summary,
-) -> Result<(), OutOfMemory>
-    ensures { OnOk result (string_bytes text.new
-        ≡ string_bytes text.old ++ ended (day_text form kind summary.now)) }
+fn put_line_end(text: &mut Told, form: Form, kind: Kind, summary: &Summary)
+    ensures { text.new ≡ text.old ++ ended (day_text form kind summary.now) }
 {
-    put_day(text, form, kind, summary)?;
-    text.push_str("\n")
+    put_day(text, form, kind, summary);
+    text.push_str("\n");
 }
 
 // A problem of kind `Vrp` asks for no times.
-fn put_day(text: &mut String, form: Form, kind: Kind, summary: &Summary) -> Result<(), OutOfMemory>
-    ensures { OnOk result (string_bytes text.new
-        ≡ string_bytes text.old ++ day_text form kind summary.now) }
+fn put_day(text: &mut Told, form: Form, kind: Kind, summary: &Summary)
+    ensures { text.new ≡ text.old ++ day_text form kind summary.now }
 {
     match kind {
         Kind::LiLim => {
-            put_named(text, form, Word::SetOff, summary.set_off)?;
-            put_named(text, form, Word::Return, summary.back)?;
-            put_named(text, form, Word::Waiting, summary.waiting)
+            put_field(text, form, Word::SetOff, summary.set_off);
+            put_field(text, form, Word::Return, summary.back);
+            put_field(text, form, Word::Waiting, summary.waiting)
         }
-        Kind::Vrp => Ok(()),
+        Kind::Vrp => {}
     }
 }

@@ -4,5 +4,5 @@ use Rattle.plan_explain.specs.Tables.{row_text}
 use Rattle.plan_explain.proofs.tables.put_rows.Given as goal
 
 -- the text so far and that of the rows to come
-abbrev pub invariant-loop-halt : goal.invariant-loop-halt
-invariant-loop-halt l = l.text ++ flat_map (row_text l.problem) (drop l.halt-index l.halts) ≡ l.fn.text ++ flat_map (row_text l.problem) l.halts
+abbrev pub invariant-loop-visit : goal.invariant-loop-visit
+invariant-loop-visit l = l.text ++ flat_map (row_text l.problem) (drop l.visit-index l.visits) ≡ l.fn.text ++ flat_map (row_text l.problem) l.visits

@@ -1,9 +1,9 @@
 -- The text so far and that of the places to come.
-use Rattle.std.proofs.Common.{◌≡◌, ◌++◌, drop, string_bytes}
+use Rattle.std.proofs.Common.{◌≡◌, ◌++◌, drop}
 use Rattle.std.specs.List.{flat_map}
 use Rattle.plan_timetable.specs.Timetable.{entry_text}
 use Rattle.plan_timetable.proofs.lines.put_entries.Given as goal
 
 abbrev pub invariant-loop-entry : goal.invariant-loop-entry
-invariant-loop-entry l = string_bytes l.text ++ flat_map (entry_text l.form l.kind l.vehicle) (drop l.entry-index l.entries) ≡ string_bytes l.fn.text
+invariant-loop-entry l = l.text ++ flat_map (entry_text l.form l.kind l.vehicle) (drop l.entry-index l.entries) ≡ l.fn.text
     ++ flat_map (entry_text l.form l.kind l.vehicle) l.entries

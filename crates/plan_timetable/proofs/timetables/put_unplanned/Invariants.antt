@@ -1,9 +1,9 @@
 -- The text so far and that of the names to come.
-use Rattle.std.proofs.Common.{◌≡◌, ◌++◌, drop, string_bytes}
+use Rattle.std.proofs.Common.{◌≡◌, ◌++◌, drop}
 use Rattle.std.specs.List.{flat_map}
 use Rattle.plan_timetable.specs.Timetable.{unplanned_block, unplanned_text}
 use Rattle.plan_timetable.proofs.timetables.put_unplanned.Given as goal
 
 abbrev pub invariant-loop-name : goal.invariant-loop-name
 invariant-loop-name l =
-    string_bytes l.text ++ flat_map (unplanned_block l.form l.problem l.pins l.routes) (drop l.name-index l.names) ≡ string_bytes l.fn.text ++ unplanned_text l.form l.problem l.pins l.routes l.names
+    l.text ++ flat_map (unplanned_block l.form l.problem l.pins l.routes) (drop l.name-index l.names) ≡ l.fn.text ++ unplanned_text l.form l.problem l.pins l.routes l.names

@@ -1,7 +1,7 @@
 -- The text so far and that of the vehicles to come.
-use Rattle.std.proofs.Common.{◌≡◌, ◌+◌, ◌++◌, drop, string_bytes}
+use Rattle.std.proofs.Common.{◌≡◌, ◌+◌, ◌++◌, drop}
 use Rattle.plan_timetable.specs.Timetable.{blocks_from}
 use Rattle.plan_timetable.proofs.vehicles.put_blocks.Given as goal
 
 abbrev pub invariant-loop-place : goal.invariant-loop-place
-invariant-loop-place l = string_bytes l.text ++ blocks_from l.form l.problem (l.place + 1) (drop l.place l.routes) ≡ string_bytes l.fn.text ++ blocks_from l.form l.problem 1 l.routes
+invariant-loop-place l = l.text ++ blocks_from l.form l.problem (l.place + 1) (drop l.place l.routes) ≡ l.fn.text ++ blocks_from l.form l.problem 1 l.routes
