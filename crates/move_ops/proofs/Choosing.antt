@@ -1,6 +1,7 @@
 -- The best insertion over the first vehicles, and over one more.
 use Rattle.std.proofs.Common.{◌≡◌, ℕ, zero, suc, ◌+◌, ◌-◌, ◌<◌, ◌≤◌, ℤ, pos, ◌+ℤ◌, ◌-ℤ◌, ◌<ℤ◌, ◌≤ℤ◌, eqb, ltb, leb, cond, ◌&&◌, Bool, true}
-use Rattle.std.proofs.Common.{false, List, [], ◌∷◌, length, length-append, take, drop, get_or, slice_get, Option, Some, None, refl, sym, ap, subst, ◌∙◌, inl, inr, arith, nat_eq}
+use Rattle.std.proofs.Common.{false, List, [], ◌∷◌, length, length-append, take, drop, get_or, slice_get, Option}
+use Rattle.std.proofs.Common.{Some, None, refl, sym, ap, subst, ◌∙◌, inl, inr, arith, nat_eq}
 use Rattle.std.specs.List.{AllByRecursion, Contains, insert}
 use Rattle.std.specs.Map.{lookup}
 use Rattle.std.specs.Prelude.{◌⊎◌, ◌≢◌, nat_lt, ◌==◌, MatchOption, unwrap_or}
@@ -463,8 +464,7 @@ module _ (laws : InsertionLaws) {p : Instance} {pins : List (List ℕ)} {courses
               subst (IsBestAmongThese p pins routes r l More) (sym better.2)
               (chosen few o is_o None old l.below (λ d less. inr (same ∙ sym is_c, less)) (λ f is. absurd (none_some f is)) (λ f is. absurd (none_some f is))
               (λ is y let_in small. elim let_in [
-                | inl none ↦ absurd (let h : true ≡ false = sym none.1 ∙ (is_c ∙ (sym same ∙ none.0)) in
-                    cc)
+                | inl none ↦ absurd (let h : true ≡ false = sym none.1 ∙ (is_c ∙ (sym same ∙ none.0)) in cc)
                 | inr less ↦ less.1
               ]) better.0 better.1)
 
@@ -531,8 +531,7 @@ module _ (laws : InsertionLaws) {p : Instance} {pins : List (List ℕ)} {courses
                       ⊎ ((f.addition.distance ≡ adds y) × (is_no_later (place_found f) y ≡ true))} f.addition.distance
                       (adds y) (λ closer. inl closer)
                       (λ not_closer. inr (
-                        let h = as_dear t.0 in
-                            omega (arith, ints),
+                        (let h = as_dear t.0 in omega (arith, ints)),
                         said_later (place_found f) y
                             (inl (let apart = not_same in let behind = t.1 in omega arith)),
                       ))

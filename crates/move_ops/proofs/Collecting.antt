@@ -32,9 +32,9 @@ module _ (old new : List (List ℕ)) (cs : List Change) (is : AreChanges old new
       → AllByRecursion (λ c. c.route ≡ of_vehicle new c.vehicle) ds → AllByRecursion (λ c. P c.route) ds
   each_at P all [] within there = tt
   each_at P all (c ∷ ds) within there = (
-    let low = within.0.0 in
+    (let low = within.0.0 in
         let high = within.0.1 in
-        subst P (sym there.0) (all_at P new c.vehicle low (omega arith) all),
+        subst P (sym there.0) (all_at P new c.vehicle low (omega arith) all)),
     each_at P all ds within.1 there.1,
   )
 

@@ -79,6 +79,33 @@ pub(crate) const NO_LIMIT: Limit = Limit {
     below: i64::MAX,
 };
 
+/// On what terms a request is put in: behind the pins of a problem, and for less than a limit.
+#[derive(Clone, Copy)]
+pub(crate) struct Terms<'a> {
+    pub problem: &'a Problem,
+    pub pins: &'a [Route],
+    pub limit: &'a Limit,
+}
+
+/// The vehicles that are asked for a place.
+#[derive(Clone, Copy)]
+pub(crate) struct Vehicles<'a> {
+    pub tables: &'a [Tour],
+    /// What a single may ask of each at most, as far as that is known.
+    pub rooms: &'a [i64],
+    /// So many are asked: where there are more, an idle one stands for all of those.
+    pub end: usize,
+    /// These are asked before the others.
+    pub first: &'a [(u32, Tour)],
+}
+
+// A vehicle, and its route with its table.
+#[derive(Clone, Copy)]
+struct Vehicle<'a> {
+    number: u64,
+    tour: &'a Tour,
+}
+
 impl Tables {
     ghost use Rattle.std.specs.Prelude.{OnOk, OnErr};
     ghost use Rattle.std.specs.Option.{IsSomeAnd};
@@ -110,8 +137,18 @@ impl Tables {
         let request = live_request(problem, name);
         let tables = self.tables.as_slice();
         let pins = pins.routes.as_slice();
-        let end = tables.len();
-        best_within(problem, pins, tables, &[], end, &[], request, &NO_LIMIT)
+        let terms = Terms {
+            problem,
+            pins,
+            limit: &NO_LIMIT,
+        };
+        let vehicles = Vehicles {
+            tables,
+            rooms: &[],
+            end: tables.len(),
+            first: &[],
+        };
+        best_within(&terms, &vehicles, request)
     }
 
     /// Builds the tables of these vehicles anew, for a plan whose other routes are those of the tables. Vehicles count from 1; the list
@@ -185,27 +222,20 @@ fn live_request(problem: &Problem, name: u32) -> &Request
     problem.requests.get(&name).unwrap()
 }
 
-/// The best insertion over all vehicles, where that costs less than the limit; those of `first` are asked before the others.
+/// The best insertion over all vehicles, where that costs less than the limit.
 pub(crate) fn best_within(
-    problem: &Problem,
-    pins: &[Route],
-    tables: &[Tour],
-    rooms: &[i64],
-    end: usize,
-    first: &[(u32, Tour)],
+    terms: &Terms,
+    vehicles: &Vehicles,
     request: &Request,
-    limit: &Limit,
 ) -> Option<(u64, u64, u64)>
-    requires { IsAskedOver problem.now pins.now tables.now rooms.now end first.now request.now }
-    ensures { IsBestWithin problem.now pins.now (plan_of tables.now) request.now limit.now result }
+    requires { let t = terms.now in let v = vehicles.now in IsAskedOver t.problem.now t.pins.now
+        v.tables.now v.rooms.now v.end v.first.now request.now }
+    ensures { let t = terms.now in IsBestWithin t.problem.now t.pins.now
+        (plan_of vehicles.now.tables.now) request.now t.limit.now result }
 {
     let found = match request {
-        Request::Single(_) => best_by_rooms(
-            problem, pins, tables, rooms, end, first, request, limit,
-        ),
-        Request::Pair(_, _) => {
-            best_by_rooms(problem, pins, tables, &[], end, first, request, limit)
-        }
+        Request::Single(_) => best_by_rooms(terms, vehicles, vehicles.rooms, request),
+        Request::Pair(_, _) => best_by_rooms(terms, vehicles, &[], request),
     };
     match found {
         Some(found) => Some(found.place()),
@@ -218,82 +248,82 @@ pub(crate) fn best_within(
 // the loop ends there.
 #[inline(always)]
 fn best_by_rooms(
-    problem: &Problem,
-    pins: &[Route],
-    tables: &[Tour],
+    terms: &Terms,
+    vehicles: &Vehicles,
     rooms: &[i64],
-    end: usize,
-    first: &[(u32, Tour)],
     request: &Request,
-    limit: &Limit,
 ) -> Option<Found>
-    requires { IsAskedOver problem.now pins.now tables.now rooms.now end first.now request.now }
-    ensures { IsBestWithin problem.now pins.now (plan_of tables.now) request.now limit.now
-        (option_map place_found result) }
+    requires { let t = terms.now in let v = vehicles.now in IsAskedOver t.problem.now t.pins.now
+        v.tables.now rooms.now v.end v.first.now request.now }
+    ensures { let t = terms.now in IsBestWithin t.problem.now t.pins.now
+        (plan_of vehicles.now.tables.now) request.now t.limit.now (option_map place_found result) }
 {
     insertion_laws();
+    let problem = terms.problem;
+    let tables = vehicles.tables;
     let ways = RequestWays::of(&problem.depot, request);
-    let mut best = best_of_first(problem, pins, tables, first, request, &ways, limit);
-    let mut below = bound_from(limit, &best, 1);
+    let mut best = best_of_first(terms, vehicles, request, &ways);
+    let mut below = bound_from(terms.limit, &best, 1);
     let mut has_idle = false;
-    for k in 0..end {
-        let table = &tables[k];
+    for k in 0..vehicles.end {
+        let tour = &tables[k];
         if is_full(rooms, k, request) {
-            table.stops_are_few();
+            tour.stops_are_few();
             continue;
         }
-        let vehicle = k as u64 + 1;
-        if table.stop_count() == 0 {
+        if tour.stop_count() == 0 {
             if has_idle {
                 continue;
             }
             has_idle = true;
         }
+        let vehicle = Vehicle {
+            number: k as u64 + 1,
+            tour,
+        };
         below = look_at(
-            problem, request, &ways, table, pins, first, vehicle, below, limit, &mut best,
+            terms,
+            request,
+            &ways,
+            vehicles.first,
+            vehicle,
+            below,
+            &mut best,
         );
     }
     best
 }
 
-// The best insertion over those of these vehicles that have stops.
+// The best insertion over those of the vehicles that are asked first that have stops.
 #[inline(never)]
 fn best_of_first(
-    problem: &Problem,
-    pins: &[Route],
-    tables: &[Tour],
-    first: &[(u32, Tour)],
+    terms: &Terms,
+    vehicles: &Vehicles,
     request: &Request,
     ways: &RequestWays,
-    limit: &Limit,
 ) -> Option<Found>
-    requires asked { IsAsked problem.now pins.now tables.now request.now }
-    requires ways { AreWays problem.now.depot request.now ways.now }
-    requires first { AreWithin (length tables.now) first.now }
-    ensures best { IsBestAmongThese problem.now pins.now (plan_of tables.now) request.now limit.now
-        (IsNamed (plan_of tables.now) first.now (length first.now)) result }
+    requires asked { IsAsked terms.now.problem.now terms.now.pins.now vehicles.now.tables.now
+        request.now }
+    requires ways { AreWays terms.now.problem.now.depot request.now ways.now }
+    requires first { AreWithin (length vehicles.now.tables.now) vehicles.now.first.now }
+    ensures best { let t = terms.now in let routes = plan_of vehicles.now.tables.now in
+        let first = vehicles.now.first.now in
+        IsBestAmongThese t.problem.now t.pins.now routes request.now t.limit.now
+        (IsNamed routes first (length first)) result }
     ensures short { IsShort result }
 {
     insertion_laws();
+    let tables = vehicles.tables;
+    let first = vehicles.first;
     let mut best = None;
     for j in 0..first.len() {
-        let vehicle = u64::from(first[j].0);
-        let index = (vehicle - 1) as usize;
-        let table = &tables[index];
-        if table.stop_count() != 0 {
-            let below = bound_from(limit, &best, vehicle);
-            look_at(
-                problem,
-                request,
-                ways,
-                table,
-                pins,
-                &[],
-                vehicle,
-                below,
-                limit,
-                &mut best,
-            );
+        let number = u64::from(first[j].0);
+        let index = (number - 1) as usize;
+        let tour = &tables[index];
+        if tour.stop_count() != 0 {
+            let below = bound_from(terms.limit, &best, number);
+            let vehicle = Vehicle { number, tour };
+            look_at(terms, request, ways, &[], vehicle, below, &mut best);
         }
     }
     best
@@ -304,63 +334,64 @@ fn best_of_first(
 // out.
 #[inline(always)]
 fn look_at(
-    problem: &Problem,
+    terms: &Terms,
     request: &Request,
     ways: &RequestWays,
-    table: &Tour,
-    pins: &[Route],
     first: &[(u32, Tour)],
-    vehicle: u64,
+    vehicle: Vehicle,
     below: i64,
-    limit: &Limit,
     best: &mut Option<Found>,
 ) -> i64
-    requires vehicle { IsLookable problem.now pins.now request.now ways.now vehicle table.now }
-    requires below { IsLoose vehicle limit.now best.old below }
+    requires vehicle { IsLookable terms.now.problem.now terms.now.pins.now request.now ways.now
+        vehicle.number vehicle.tour.now }
+    requires below { IsLoose vehicle.number terms.now.limit.now best.old below }
     requires short { IsShort best.old }
-    ensures looked { IsLookedAt problem.now (route_of table.now) request.now
-        (length (of_vehicle pins.now vehicle)) first.now vehicle limit.now best.old best.new }
-    ensures below { IsLoose vehicle limit.now best.new result }
+    ensures looked { let t = terms.now in let v = vehicle.entry in
+        IsLookedAt t.problem.now (route_of v.tour.now) request.now
+        (length (of_vehicle t.pins.now v.number)) first.now v.number t.limit.now best.old best.new }
+    ensures below { IsLoose vehicle.entry.number terms.now.limit.now best.new result }
     ensures short { IsShort best.new }
 {
-    if table.stop_count() != 0 {
-        if table.table().rules_out_by(request, ways, below) {
+    let Vehicle { number, tour } = vehicle;
+    if tour.stop_count() != 0 {
+        if tour.table().rules_out_by(request, ways, below) {
             return below;
         }
-        if is_among(first, vehicle) {
-            return bound_from(limit, best, vehicle);
+        if is_among(first, number) {
+            return bound_from(terms.limit, best, number);
         }
     }
-    look_closer(problem, request, ways, table, pins, vehicle, limit, best);
-    bound_from(limit, best, vehicle)
+    look_closer(terms, request, ways, vehicle, best);
+    bound_from(terms.limit, best, number)
 }
 
 // The same, at each place of a vehicle that isn't ruled out. It is written in its place, and the pin is looked up of such vehicles alone.
 #[inline(never)]
 fn look_closer(
-    problem: &Problem,
+    terms: &Terms,
     request: &Request,
     ways: &RequestWays,
-    table: &Tour,
-    pins: &[Route],
-    vehicle: u64,
-    limit: &Limit,
+    vehicle: Vehicle,
     best: &mut Option<Found>,
 )
-    requires vehicle { IsLookable problem.now pins.now request.now ways.now vehicle table.now }
+    requires vehicle { IsLookable terms.now.problem.now terms.now.pins.now request.now ways.now
+        vehicle.number vehicle.tour.now }
     requires short { IsShort best.old }
-    ensures better { IsBetter problem.now (route_of table.now) request.now
-        (length (of_vehicle pins.now vehicle)) vehicle limit.now best.old best.new }
+    ensures better { let t = terms.now in let v = vehicle.entry in
+        IsBetter t.problem.now (route_of v.tour.now) request.now
+        (length (of_vehicle t.pins.now v.number)) v.number t.limit.now best.old best.new }
     ensures short { IsShort best.new }
 {
-    let opens = opens(problem.kind, table);
-    let Some(below) = bound(vehicle, opens, limit, best) else {
+    let Vehicle { number, tour } = vehicle;
+    let problem = terms.problem;
+    let opens = opens(problem.kind, tour);
+    let Some(below) = bound(number, opens, terms.limit, best) else {
         return;
     };
-    let kept = of_vehicle(pins, vehicle).len() as u64;
-    if let Some(addition) = table.table().best_places_by(request, ways, kept, below) {
+    let kept = of_vehicle(terms.pins, number).len() as u64;
+    if let Some(addition) = tour.table().best_places_by(request, ways, kept, below) {
         *best = Some(Found {
-            vehicle,
+            vehicle: number,
             opens,
             addition,
         });

@@ -24,7 +24,7 @@ use crate::insert::{are_places, put_into};
 use crate::laws::{best_insertions_are_least, insertion_laws};
 use crate::lists::of_vehicle;
 use crate::naming::request_named;
-use crate::tables::{Limit, NO_LIMIT, best_within};
+use crate::tables::{Limit, NO_LIMIT, Terms, Vehicles, best_within};
 use crate::tour::{Tour, tour_of};
 use plan_audit::{passes_are_local, tests_say_feasible};
 use plan_types::{
@@ -152,17 +152,18 @@ impl Draft {
         if self.is_planned(request) {
             return None;
         }
-        let kept = pins.routes.as_slice();
-        best_within(
+        let terms = Terms {
             problem,
-            kept,
-            &self.tours,
-            &self.rooms,
-            self.reach(),
-            self.first_asked(),
-            request,
+            pins: pins.routes.as_slice(),
             limit,
-        )
+        };
+        let vehicles = Vehicles {
+            tables: &self.tours,
+            rooms: &self.rooms,
+            end: self.reach(),
+            first: self.first_asked(),
+        };
+        best_within(&terms, &vehicles, request)
     }
 
     // The vehicles that a best insertion asks first: those that were changed, as long as they are few.

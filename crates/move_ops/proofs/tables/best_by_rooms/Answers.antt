@@ -14,13 +14,15 @@ use Rattle.move_ops.proofs.tables.best_by_rooms.Goals.{then-stop_count-eq0+else-
 
 pub loop-k-init : goal.loop-k-init
 loop-k-init c =
+    let first = c.args.vehicles.now.first.now in
+    let limit = c.args.terms.now.limit.now in
     record {
       best =
-          from_named c.insertion_laws.ensures c.requires.asked c.args.first.now c.args.limit.now
+          from_named c.insertion_laws.ensures c.requires.asked first limit
           c.best_of_first-best.result c.best_of_first-best.ensures.best;
       below =
           let fits : SFits w64 c.bound_from-below.result = search rules in
-          subst (IsLoose 1 c.args.limit.now c.best_of_first-best.result)
+          subst (IsLoose 1 limit c.best_of_first-best.result)
           (sym (to_z-of_z w64 c.bound_from-below.result fits)) c.bound_from-below.ensures;
       short = c.best_of_first-best.ensures.short;
       idle = λ h. absurd (let k : false ≡ true = h in cc);
@@ -28,18 +30,20 @@ loop-k-init c =
 
 pub loop-k-preserved-then-is_full : goal.loop-k-preserved-then-is_full
 loop-k-preserved-then-is_full c =
-    let p = c.args.problem.now in
-    let tables = c.args.tables.now in
+    let first = c.args.vehicles.now.first.now in
+    let limit = c.args.terms.now.limit.now in
+    let p = c.args.terms.now.problem.now in
+    let tables = c.args.vehicles.now.tables.now in
     let table = c.index-tables-k.result in
     let at = slice_get_read tables (length tables) c.loop-k.k table refl (omega arith) c.index-tables-k.is in
     let out = c.is_full.ensures c.if-is_full.true tables c.requires.rooms table at in
-    let stays = passed_by p c.args.request.now table (length (of_vehicle c.args.pins.now (c.loop-k.k + 1)))
-    (c.loop-k.k + 1) c.args.limit.now c.loop-k.best c.requires.asked.valid
+    let stays = passed_by p c.args.request.now table (length (of_vehicle c.args.terms.now.pins.now (c.loop-k.k + 1)))
+    (c.loop-k.k + 1) limit c.loop-k.best c.requires.asked.valid
     (course_at tables c.loop-k.k table c.index-tables-k.is (omega arith) p c.requires.asked.tables) c.requires.asked.named out in
     record {
       best =
           one_more c.insertion_laws.ensures c.requires.asked c.loop-k.k table c.index-tables-k.is
-          (omega arith) c.args.first.now c.args.limit.now c.stops_are_few.ensures c.loop-k.best c.loop-k.best c.loop-k.invariant.best
+          (omega arith) first limit c.stops_are_few.ensures c.loop-k.best c.loop-k.best c.loop-k.invariant.best
           (inl stays);
       below = λ u from. c.loop-k.invariant.below u (omega arith);
       short = c.loop-k.invariant.short;
@@ -48,14 +52,16 @@ loop-k-preserved-then-is_full c =
 
 pub loop-k-preserved-then-has_idle : goal.loop-k-preserved-then-has_idle
 loop-k-preserved-then-has_idle c =
+    let first = c.args.vehicles.now.first.now in
+    let limit = c.args.terms.now.limit.now in
     record {
       best =
           one_skipped c.insertion_laws.ensures c.requires.asked c.loop-k.k c.index-tables-k.result c.index-tables-k.is
-          (omega arith) c.args.first.now c.args.limit.now (omega arith)
+          (omega arith) first limit (omega arith)
           (c.loop-k.invariant.idle c.if-has_idle.true) c.loop-k.best c.loop-k.invariant.best;
       below = λ u from. c.loop-k.invariant.below u (omega arith);
       short = c.loop-k.invariant.short;
-      idle = λ h. idle_more (plan_of c.args.tables.now) c.loop-k.k (c.loop-k.invariant.idle h);
+      idle = λ h. idle_more (plan_of c.args.vehicles.now.tables.now) c.loop-k.k (c.loop-k.invariant.idle h);
     }
 
 pub of-ways-requires : goal.of-ways-requires
@@ -63,19 +69,21 @@ of-ways-requires c = request_valid c.insertion_laws.ensures c.requires.asked
 
 pub look_at-below-requires-clause-vehicle : goal.look_at-below-requires-clause-vehicle
 look_at-below-requires-clause-vehicle c =
-    let ways : AreWays c.args.problem.now.depot c.args.request.now c.of-ways.result = search rules in
+    let ways : AreWays c.args.terms.now.problem.now.depot c.args.request.now c.of-ways.result = search rules in
     lookable c.insertion_laws.ensures c.requires.asked c.loop-k.k c.index-tables-k.result c.index-tables-k.is (omega arith) c.of-ways.result ways
 
 pub loop-k-preserved : goal.loop-k-preserved
 loop-k-preserved c =
+    let first = c.args.vehicles.now.first.now in
+    let limit = c.args.terms.now.limit.now in
     record {
       best =
           one_more c.insertion_laws.ensures c.requires.asked c.loop-k.k c.index-tables-k.result c.index-tables-k.is
-          (omega arith) c.args.first.now c.args.limit.now
+          (omega arith) first limit
           (omega arith) c.loop-k.best c.look_at-below.new.best c.loop-k.invariant.best c.look_at-below.ensures.looked;
       below = λ u from.
           (let fits : SFits w64 c.look_at-below.result = search rules in
-          subst (IsLoose (c.loop-k.k + 1) c.args.limit.now c.look_at-below.new.best)
+          subst (IsLoose (c.loop-k.k + 1) limit c.look_at-below.new.best)
           (sym (to_z-of_z w64 c.look_at-below.result fits)) c.look_at-below.ensures.below u (omega arith));
       short = c.look_at-below.ensures.short;
       idle = λ h. elim c.if-stop_count-eq0.branch [
@@ -83,14 +91,20 @@ loop-k-preserved c =
             (let none = w.if-stop_count-eq0 in
             idle_here c.insertion_laws.ensures c.requires.asked c.loop-k.k c.index-tables-k.result c.index-tables-k.is (omega arith)
             (omega arith))
-        | else-stop_count-eq0 w ↦ idle_more (plan_of c.args.tables.now) c.loop-k.k (c.loop-k.invariant.idle (sym w.has_idle-is ∙ h))
+        | else-stop_count-eq0 w ↦ idle_more (plan_of c.args.vehicles.now.tables.now) c.loop-k.k (c.loop-k.invariant.idle (sym w.has_idle-is ∙ h))
       ];
     }
 
 pub returns : goal.returns
 returns c =
-    let end : c.loop-k.k ≡ c.args.end = search rules in
-    answered c.insertion_laws.ensures c.requires.asked c.args.first.now c.args.limit.now c.loop-k.best
-    (beyond c.insertion_laws.ensures c.requires.asked c.args.first.now c.args.limit.now c.args.end c.requires.within c.requires.reach c.loop-k.best
-    (subst (λ k. IsBestAmongThese c.args.problem.now c.args.pins.now (plan_of c.args.tables.now) c.args.request.now c.args.limit.now
-    (IsNamedOrUpTo (plan_of c.args.tables.now) c.args.first.now k) c.loop-k.best) end c.loop-k.invariant.best))
+    let p = c.args.terms.now.problem.now in
+    let pins = c.args.terms.now.pins.now in
+    let routes = plan_of c.args.vehicles.now.tables.now in
+    let r = c.args.request.now in
+    let first = c.args.vehicles.now.first.now in
+    let limit = c.args.terms.now.limit.now in
+    let end : c.loop-k.k ≡ c.args.vehicles.now.end = search rules in
+    answered c.insertion_laws.ensures c.requires.asked first limit c.loop-k.best
+    (beyond c.insertion_laws.ensures c.requires.asked first limit c.args.vehicles.now.end c.requires.within c.requires.reach c.loop-k.best
+    (subst (λ k. IsBestAmongThese p pins routes r limit
+    (IsNamedOrUpTo routes first k) c.loop-k.best) end c.loop-k.invariant.best))

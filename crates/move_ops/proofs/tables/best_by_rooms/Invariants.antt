@@ -6,8 +6,9 @@ use Rattle.move_ops.proofs.tables.best_by_rooms.Given as goal
 
 abbrev pub invariant-loop-k : goal.invariant-loop-k
 invariant-loop-k l = record {
-  best : IsBestAmongThese l.problem l.pins (plan_of l.tables) l.request l.limit (IsNamedOrUpTo (plan_of l.tables) l.first l.k) l.best;
-  below : IsLoose (l.k + 1) l.limit l.best l.below;
+  best : IsBestAmongThese l.terms.problem.now l.terms.pins.now (plan_of l.vehicles.tables.now) l.request l.terms.limit.now
+      (IsNamedOrUpTo (plan_of l.vehicles.tables.now) l.vehicles.first.now l.k) l.best;
+  below : IsLoose (l.k + 1) l.terms.limit.now l.best l.below;
   short : IsShort l.best;
-  idle : l.has_idle ≡ true → HasIdle (plan_of l.tables) l.k;
+  idle : l.has_idle ≡ true → HasIdle (plan_of l.vehicles.tables.now) l.k;
 }

@@ -10,23 +10,26 @@ use Rattle.move_ops.proofs.tables.best_of_first.Goals.{then-stop_count-ne0, else
 
 pub look_at-requires-clause-vehicle : goal.look_at-requires-clause-vehicle
 look_at-requires-clause-vehicle c =
+    let tables = c.args.vehicles.now.tables.now in
+    let first = c.args.vehicles.now.first.now in
+    let number = c.from-number in
     let table = c.index-tables-index.result in
     let e =
-    entry_at (length c.args.tables.now) c.args.first.now c.loop-j.j c.index-first-j.result c.from-vehicle.result c.requires.first
-    (search rules) c.from-vehicle.ensures in
-    subst (λ u. IsLookable c.args.problem.now c.args.pins.now c.args.request.now c.args.ways.now u table) (sym e.2)
-    (lookable c.insertion_laws.ensures c.requires.asked (c.from-vehicle.result - 1) table c.index-tables-index.is e.3 c.args.ways.now c.requires.ways)
+    entry_at (length tables) first c.loop-j.j c.index-first-j.result number.result c.requires.first
+    (search rules) number.ensures in
+    subst (λ u. IsLookable c.args.terms.now.problem.now c.args.terms.now.pins.now c.args.request.now c.args.ways.now u table) (sym e.2)
+    (lookable c.insertion_laws.ensures c.requires.asked (number.result - 1) table c.index-tables-index.is e.3 c.args.ways.now c.requires.ways)
 
 pub loop-j-preserved : goal.loop-j-preserved
 loop-j-preserved c =
-    let p = c.args.problem.now in
-    let pins = c.args.pins.now in
-    let routes = plan_of c.args.tables.now in
+    let p = c.args.terms.now.problem.now in
+    let pins = c.args.terms.now.pins.now in
+    let routes = plan_of c.args.vehicles.now.tables.now in
     let r = c.args.request.now in
-    let first = c.args.first.now in
-    let limit = c.args.limit.now in
-    let v = c.from-vehicle.result in
-    let e = entry_at (length c.args.tables.now) first c.loop-j.j c.index-first-j.result v c.requires.first (search rules) c.from-vehicle.ensures in
+    let first = c.args.vehicles.now.first.now in
+    let limit = c.args.terms.now.limit.now in
+    let v = c.from-number.result in
+    let e = entry_at (length c.args.vehicles.now.tables.now) first c.loop-j.j c.index-first-j.result v c.requires.first (search rules) c.from-number.ensures in
     let table = c.index-tables-index.result in
     record {
       best = elim c.if-stop_count-ne0.branch [
@@ -47,10 +50,10 @@ loop-j-preserved c =
 
 pub returns-clause-best : goal.returns-clause-best
 returns-clause-best c =
-    let p = c.args.problem.now in
-    let pins = c.args.pins.now in
-    let routes = plan_of c.args.tables.now in
+    let p = c.args.terms.now.problem.now in
+    let pins = c.args.terms.now.pins.now in
+    let routes = plan_of c.args.vehicles.now.tables.now in
     let r = c.args.request.now in
-    let first = c.args.first.now in
-    let limit = c.args.limit.now in
+    let first = c.args.vehicles.now.first.now in
+    let limit = c.args.terms.now.limit.now in
     subst (λ n. IsBestAmongThese p pins routes r limit (IsNamed routes first n) c.loop-j.best) (search rules) c.loop-j.invariant.best

@@ -5,6 +5,7 @@ use Rattle.move_ops.proofs.tables.best_of_first.Given as goal
 
 abbrev pub invariant-loop-j : goal.invariant-loop-j
 invariant-loop-j l = record {
-  best : IsBestAmongThese l.problem l.pins (plan_of l.tables) l.request l.limit (IsNamed (plan_of l.tables) l.first l.j) l.best;
+  best : IsBestAmongThese l.terms.problem.now l.terms.pins.now (plan_of l.vehicles.tables.now) l.request l.terms.limit.now
+      (IsNamed (plan_of l.vehicles.tables.now) l.vehicles.first.now l.j) l.best;
   short : IsShort l.best;
 }

@@ -11,14 +11,16 @@ use Rattle.move_ops.proofs.tables.look_at.Goals as goal
 
 pub returns-then-rules_out_by-clause-looked : goal.returns-then-rules_out_by-clause-looked
 returns-then-rules_out_by-clause-looked c =
-    let p = c.args.problem.now in
+    let vehicle = c.args.vehicle in
+    let limit = c.args.terms.now.limit.now in
+    let p = c.args.terms.now.problem.now in
     let r = c.args.request.now in
-    let kept = length (of_vehicle c.args.pins.now c.args.vehicle) in
+    let kept = length (of_vehicle c.args.terms.now.pins.now vehicle.number) in
     let below : SFits w64 c.args.below = record { sfits = c.ranges.below.sfits } in
     let stays = to_z-of_z w64 c.args.below below in
-    let out : FitsNowhere c.args.table.now r c.args.below = subst (λ q. FitsNowhere q r c.args.below) c.table.ensures
+    let out : FitsNowhere vehicle.tour.now r c.args.below = subst (λ q. FitsNowhere q r c.args.below) c.table.ensures
     (subst (FitsNowhere c.table.result.now r) stays (c.rules_out_by.ensures c.if-rules_out_by.true)) in
-    inl (passed_over p r c.args.table.now kept c.args.vehicle c.args.limit.now c.args.best.now c.args.below c.requires.vehicle.problem
+    inl (passed_over p r vehicle.tour.now kept vehicle.number limit c.args.best.now c.args.below c.requires.vehicle.problem
     c.requires.vehicle.course c.requires.vehicle.request
     (λ none. c.if-stop_count-ne0.true (let count = c.stop_count.ensures.count in omega arith)) out c.requires.below)
 
