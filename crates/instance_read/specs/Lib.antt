@@ -11,6 +11,10 @@ pub mod VrpKeys
 pub mod VrpLaws
 pub mod Readable
 pub mod Readings
+pub mod WordEvidence
+pub mod LilimEvidence
+pub mod VrpEvidence
+pub mod Evidence
 -- of private functions alone
 pub mod RowViews
 pub mod FieldValues

@@ -2,8 +2,8 @@
 //!
 //! Entry functions: `read_lilim`, `read_vrp`, and `read_instance` for either. Each gives the `Problem` that a text spells, or the first
 //! of its faults. Called by `command_text` (the line `load`), `plan_solve` and `auditor_cli`.
-//! `split_key` and `field_limits` give key and value of a line and the limits of its numbers, for `plan_explain`, which
-//! tells a fault of one in words.
+//! `evidence_of` gives what the line of a fault has of it, as the field and its limits, for `plan_explain`, which tells it in words;
+//! `split_key` gives key and value of a line.
 //!
 //! Sources: Li and Lim's benchmark instances of PDPTW; TSPLIB95's keys and sections, as CVRPLIB's instances use them
 //! (TYPE CVRP, EDGE_WEIGHT_TYPE EUC_2D). Faults, their order and the limits (`plan_types::limits`) are this project's.
@@ -29,11 +29,13 @@
 //! - `vrp_problem`: the problem that they spell
 //! - `vrp`: the reader of `.vrp` texts
 //! - `instance`: that of a text of either format
+//! - `number_evidence`, `lilim_evidence`, `vrp_evidence`, `evidence`: what the line of a fault has of it
 //! - `laws`: what lines of a `.vrp` text are, in other words, and that each text is read
 //!
 //! Said by `specs/Lilim.antt`, `Pairs.antt`, `Vrp.antt`, `VrpLines.antt` and `Faults.antt`, for both formats by `Readings.antt`. Proved:
 //! - `read_lilim`, `read_vrp`, `read_instance`: `value`, the problem is the one that the text spells (`SpellsLilim`, `SpellsVrp`);
 //!   `fault`, else the least fault by class, line and kind, or want of memory (`TellsFirstFault`)
+//! - `evidence_of`: the evidence of a fault is that of `Evidence.antt`
 //! - `sections_have_a_line_for_each_node`: a section of nodes has as many lines as the first DIMENSION line says
 //! - `depots_are_two_words`: the list of depots is over with its second word
 //! - `eof_is_the_end`: nothing counts behind EOF
@@ -43,23 +45,30 @@
 #![tactic(auto)]
 
 mod entries;
+mod evidence;
 mod faults;
-pub mod field_limits;
+mod field_limits;
 mod fields;
 mod instance;
 mod laws;
 mod lilim;
+mod lilim_evidence;
+mod number_evidence;
 mod pairs;
 mod put;
 mod rows;
 mod tasks;
 mod vrp;
 mod vrp_draft;
+mod vrp_evidence;
 mod vrp_fields;
 mod vrp_lines;
 mod vrp_problem;
 
+pub use evidence::{Evidence, Excerpt, Field, Role, evidence_of};
 pub use faults::{ReadFault, ReadFaultKind};
+pub use field_limits::Limits;
+pub use fields::has_no_number;
 pub use instance::read_instance;
 pub use laws::{
     depots_are_two_words, each_text_is_read, eof_is_the_end, key_lines_are_made,
@@ -67,4 +76,4 @@ pub use laws::{
 };
 pub use lilim::read_lilim;
 pub use vrp::read_vrp;
-pub use vrp_lines::split_key;
+pub use vrp_lines::{Key, split_key};

@@ -84,10 +84,9 @@ impl Section {
 
     /// The place after a line of the list of depots, with so many words after those seen.
     pub fn after_depots(seen: usize, words: usize) -> Section
-        requires { seen < 2 }
         ensures { result ≡ depots_after (seen + words) }
     {
-        if words < 2 - seen {
+        if words < 2_usize.saturating_sub(seen) {
             Section::DepotLine(seen + words)
         } else {
             Section::Outside

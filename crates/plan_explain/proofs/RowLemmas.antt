@@ -1,7 +1,5 @@
 -- The rows of a route, one visit after another.
-use Rattle.std.proofs.Common.{◌≡◌, ℕ, zero, suc, ◌+◌, ◌-◌, ◌<◌, ◌≤◌, List, [], length, map, slice_get, slice_index_or, Option, Some, None, ap, sym, arith, ◌∙◌}
-use Rattle.std.specs.List.{range_with_len}
-use Rattle.std.specs.Option.{option_map}
+use Rattle.std.proofs.Common.{◌≡◌, ℕ, ◌+◌, ◌<◌, ◌≤◌, List, [], length, slice_index_or, ap, sym, arith, ◌∙◌}
 use Rattle.std.proofs.lemmas.List.FromFn.{get_or-map-range_with_len, length-map-range_with_len}
 use Rattle.plan_types.specs.Instance.{Instance}
 use Rattle.plan_types.specs.declared.requests.Stop.{Stop}
@@ -9,7 +7,6 @@ use Rattle.route_sched.specs.Route.{place}
 use Rattle.route_sched.specs.Schedule.{start}
 use Rattle.route_sched.specs.Visiting.{visit_after, visits_from}
 use Rattle.route_sched.specs.declared.visits.Visit.{Visit}
-use Rattle.plan_audit.proofs.FirstLemmas.{none_some}
 use Rattle.plan_audit.proofs.VisitLemmas.{visits_from-step}
 use Rattle.route_sched.proofs.Steps.{start-next}
 use Rattle.plan_explain.specs.Rows.{stop_visit_with, row_after}

@@ -1,5 +1,11 @@
--- Bytes of a text as a terminal gets them.
+-- The lines of a refused text, and its bytes as a terminal gets them.
 use Rattle.std.specs.Prelude.{ℕ, nat_le, ◌==◌, ◌&&◌, ◌||◌, Bool, List, map, take, if◌then◌else◌}
+use Rattle.std.specs.Str.{str_eq_ignore_ascii_case}
+use Rattle.instance_read.specs.VrpLines.{key_text}
+
+-- the line has this key, in any letter case
+abbrev pub is_key : List ℕ → List ℕ → Bool
+is_key key line = str_eq_ignore_ascii_case (key_text line) key
 
 -- it is shown as it is: a printable character of ASCII, or a tab
 abbrev pub is_shown : ℕ → Bool

@@ -1,17 +1,11 @@
 -- what public contracts say
 pub mod Explained
 pub mod Phrases
-pub mod FieldNames
 pub mod Cited
-pub mod ToldLines
 pub mod Numbers
-pub mod Layouts
-pub mod WordTexts
-pub mod PairFaults
-pub mod LilimFaults
-pub mod VrpKeys
-pub mod VrpWalk
-pub mod VrpFaults
+pub mod Names
+pub mod Forms
+pub mod EvidenceTexts
 pub mod SolFaults
 pub mod Behind
 pub mod Notes

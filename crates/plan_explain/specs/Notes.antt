@@ -1,14 +1,13 @@
 -- What is said of a refused text as a whole.
-use Rattle.std.specs.Prelude.{ℕ, ◌==◌, ◌&&◌, ◌||◌, Bool, false, is_none, List, ◌∷◌, length}
-use Rattle.std.specs.List.{list_any, position_from}
+use Rattle.std.specs.Prelude.{ℕ, ◌==◌, ◌&&◌, ◌||◌, not, Bool, false, List, ◌∷◌, length, codes}
+use Rattle.std.specs.List.{list_any}
 use Rattle.text_lines.specs.Lines.{lines_of}
 use Rattle.text_lines.specs.Words.{words_of}
 use Rattle.plan_types.specs.declared.requests.Kind.{Kind}
 use Rattle.plan_types.specs.declared.requests.Kind.TheVariants.{LiLim, Vrp}
-use Rattle.instance_read.specs.Fields.{is_no_number}
+use Rattle.instance_read.specs.Fields.{has_no_number}
 use Rattle.plan_explain.specs.Phrases.{text_if}
-use Rattle.plan_explain.specs.VrpKeys.{is_key}
-use Rattle.plan_explain.specs.declared.names.Name.TheVariants.{KeyDimension, KeyCoordinates}
+use Rattle.plan_explain.specs.Cited.{is_key}
 use Rattle.plan_explain.specs.declared.phrases.Phrase.TheVariants.{ByteOrderMark, LooksLilim, LooksVrp}
 
 -- U+FEFF in UTF-8 is first
@@ -21,11 +20,11 @@ mark_note text = text_if (has_mark text) ByteOrderMark
 
 -- the line announces nodes or their coordinates
 abbrev pub is_vrp_line : List ℕ → Bool
-is_vrp_line line = is_key KeyDimension line || is_key KeyCoordinates line
+is_vrp_line line = is_key (codes "DIMENSION") line || is_key (codes "NODE_COORD_SECTION") line
 
 -- the line has the nine numbers of a task
 abbrev pub has_nine_numbers : List ℕ → Bool
-has_nine_numbers line = length (words_of line) == 9 && is_none (position_from is_no_number 0 (words_of line))
+has_nine_numbers line = length (words_of line) == 9 && not (has_no_number (words_of line))
 
 -- an instance that is read as this kind looks like the other one
 abbrev pub kind_note : Kind → List ℕ → List ℕ

@@ -1,9 +1,8 @@
 -- What a word is as a number.
-use Rattle.std.specs.Prelude.{ℕ, ◌^◌, ◌==◌, ◌&&◌, ◌||◌, Bool, false, is_none, nat_lt, if◌then◌else◌, List, [], ◌∷◌, length, drop, unwrap_or}
+use Rattle.std.specs.Prelude.{ℕ, ◌==◌, ◌&&◌, ◌||◌, Bool, false, is_none, nat_lt, if◌then◌else◌, List, [], ◌∷◌, length, drop}
 use Rattle.std.specs.Char.{is_ascii_digit}
 use Rattle.std.specs.List.{prefix_len}
-use Rattle.text_lines.specs.Numbers.{below}
-use Rattle.sol_text.specs.Values.{cost_of, customer_of}
+use Rattle.sol_text.specs.Values.{customer_of}
 
 -- without the plus or minus that it may begin with
 abbrev pub unsigned : List ℕ → List ℕ
@@ -21,7 +20,3 @@ is_fraction word = let body = unsigned word in is_point_and_digits (drop (prefix
 
 abbrev pub is_no_customer : List ℕ → Bool
 is_no_customer word = is_none (customer_of word)
-
--- the number that a word is, if it is below 2^16, as those of stops and nodes are; else 0
-abbrev pub small_of : List ℕ → ℕ
-small_of word = unwrap_or (below (2 ^ 16) (cost_of word)) 0

@@ -4,6 +4,7 @@ use Rattle.text_lines.specs.Lines.{ended, lines_of}
 use Rattle.plan_types.specs.declared.requests.Kind.{Kind}
 use Rattle.plan_types.specs.declared.requests.Kind.TheVariants.{LiLim, Vrp}
 use Rattle.plan_audit.specs.Rules.{item_at}
+use Rattle.instance_read.specs.Evidence.{evidence_of}
 use Rattle.instance_read.specs.declared.faults.ReadFault.{ReadFault}
 use Rattle.instance_read.specs.declared.faults.ReadFaultKind.{ReadFaultKind}
 use Rattle.instance_read.specs.declared.faults.ReadFaultKind.TheVariants as faults
@@ -11,53 +12,47 @@ use Rattle.sol_text.specs.declared.faults.SolFault.{SolFault}
 use Rattle.sol_text.specs.declared.faults.SolFaultKind.{SolFaultKind}
 use Rattle.sol_text.specs.declared.faults.SolFaultKind.TheVariants as sol_faults
 use Rattle.plan_explain.specs.Cited.{shown_bytes}
-use Rattle.plan_explain.specs.LilimFaults.{lilim_detail}
+use Rattle.plan_explain.specs.EvidenceTexts.{evidence_text}
 use Rattle.plan_explain.specs.Notes.{kind_note, mark_note}
 use Rattle.plan_explain.specs.Phrases.{phrase}
 use Rattle.plan_explain.specs.SolFaults.{sol_detail}
-use Rattle.plan_explain.specs.VrpFaults.{vrp_detail}
-use Rattle.plan_explain.specs.declared.phrases.Phrase.{Phrase}
-use Rattle.plan_explain.specs.declared.phrases.Phrase.TheVariants.{Colon, DepotNotFirst, EmptyWindow, EndsEarly, KeyMissing, Line, NoCostLine, NodesAbove, NoHalf, NoSolutionLine, NotSupported, NoWholeNumber, OtherNumber, OutOfMemory, OutsideLimits, Repeated, TaskAbove, TaskOrder, WordCount}
+use Rattle.plan_explain.specs.declared.phrases.Phrase.TheVariants.{Colon, Line}
 
 -- one task's number is above the greatest; the nodes that are announced are too many
-abbrev pub too_many : Kind → Phrase
-too_many LiLim = TaskAbove
-too_many Vrp = NodesAbove
+unfoldable pub too_many : Kind → List ℕ
+too_many LiLim = codes "a task has a number above 40000"
+too_many Vrp = codes "there are more nodes than 40001"
 
 -- what a fault of an instance of this kind is
-abbrev pub instance_reason : Kind → ReadFaultKind → Phrase
-instance_reason kind faults.BadNumber = NoWholeNumber
-instance_reason kind faults.Range = OutsideLimits
-instance_reason kind faults.FieldCount = WordCount
-instance_reason kind faults.TaskOrder = TaskOrder
-instance_reason kind faults.PairMismatch = NoHalf
-instance_reason kind faults.EmptyWindow = EmptyWindow
+unfoldable pub instance_reason : Kind → ReadFaultKind → List ℕ
+instance_reason kind faults.BadNumber = codes "a word is not a whole number"
+instance_reason kind faults.Range = codes "a number is outside its limits"
+instance_reason kind faults.FieldCount = codes "the number of words is wrong"
+instance_reason kind faults.TaskOrder = codes "task numbers do not rise from 0"
+instance_reason kind faults.PairMismatch = codes "a task is no half of a pair"
+instance_reason kind faults.EmptyWindow = codes "a window ends before it begins"
 instance_reason kind faults.TooManyStops = too_many kind
-instance_reason kind faults.MissingKey = KeyMissing
-instance_reason kind faults.Unsupported = NotSupported
-instance_reason kind faults.DepotNotFirst = DepotNotFirst
-instance_reason kind faults.NodeRepeated = Repeated
-instance_reason kind faults.Truncated = EndsEarly
-instance_reason kind faults.OutOfMemory = OutOfMemory
+instance_reason kind faults.MissingKey = codes "a key or a section is missing"
+instance_reason kind faults.Unsupported = codes "the key or its value is not supported"
+instance_reason kind faults.DepotNotFirst = codes "the list of depots is not 1 and then -1"
+instance_reason kind faults.NodeRepeated = codes "a node, a key or a section stands twice"
+instance_reason kind faults.Truncated = codes "the text ends early"
+instance_reason kind faults.OutOfMemory = codes "out of memory"
 
--- and what the line that it names has of it
-abbrev pub instance_detail : Kind → List ℕ → ReadFault → List ℕ
-instance_detail LiLim text fault = lilim_detail text fault.line fault.kind
-instance_detail Vrp text fault = vrp_detail text fault.line fault.kind
-
+-- behind it stands what the line that it names has of it
 abbrev pub instance_sentence : Kind → List ℕ → ReadFault → List ℕ
 instance_sentence kind text fault =
-    (phrase Line ++ decimal fault.line) ++ phrase Colon ++ phrase (instance_reason kind fault.kind) ++ instance_detail kind text fault
+    (phrase Line ++ decimal fault.line) ++ phrase Colon ++ instance_reason kind fault.kind ++ evidence_text fault.kind (evidence_of kind text fault)
 
-abbrev pub solution_reason : SolFaultKind → Phrase
-solution_reason sol_faults.BadLine = NoSolutionLine
-solution_reason sol_faults.BadNumber = OtherNumber
-solution_reason sol_faults.NoCost = NoCostLine
-solution_reason sol_faults.OutOfMemory = OutOfMemory
+unfoldable pub solution_reason : SolFaultKind → List ℕ
+solution_reason sol_faults.BadLine = codes "this is no route line, and no cost line with one word"
+solution_reason sol_faults.BadNumber = codes "a word is not the number that has to stand there"
+solution_reason sol_faults.NoCost = codes "there is no cost line"
+solution_reason sol_faults.OutOfMemory = codes "out of memory"
 
 abbrev pub solution_sentence : List ℕ → SolFault → List ℕ
 solution_sentence text fault =
-    (phrase Line ++ decimal fault.line) ++ phrase Colon ++ phrase (solution_reason fault.kind) ++ sol_detail text fault.line fault.kind
+    (phrase Line ++ decimal fault.line) ++ phrase Colon ++ solution_reason fault.kind ++ sol_detail text fault.line fault.kind
 
 -- the line, where the text has it
 abbrev pub cited_line : Option (List ℕ) → List ℕ

@@ -1,19 +1,20 @@
 -- What is said of a fault of a solution's text behind its kind.
-use Rattle.std.specs.Prelude.{ℕ, ◌++◌, ◌==◌, ◌&&◌, ◌||◌, not, Bool, false, if◌then◌else◌, List, [], ◌∷◌, length, codes, Option, Some, None, decimal}
+use Rattle.std.specs.Prelude.{ℕ, ◌==◌, ◌&&◌, ◌||◌, not, Bool, false, if◌then◌else◌, List, [], ◌∷◌, find, length, unwrap_or, codes, Option, Some, None, decimal}
 use Rattle.std.specs.Char.{is_ascii_digit}
-use Rattle.std.specs.List.{list_any, position_from}
+use Rattle.std.specs.List.{list_any}
 use Rattle.std.specs.Str.{str_eq_ignore_ascii_case}
+use Rattle.text_lines.specs.Lines.{lines_of}
 use Rattle.text_lines.specs.Words.{is_blank, words_of}
 use Rattle.instance_read.specs.VrpLines.{key_text, value_text}
 use Rattle.sol_text.specs.LineShapes.{cost_tail}
 use Rattle.sol_text.specs.declared.faults.SolFaultKind.{SolFaultKind}
 use Rattle.sol_text.specs.declared.faults.SolFaultKind.TheVariants.{BadLine, BadNumber}
 use Rattle.plan_explain.specs.Cited.{shown_bytes}
-use Rattle.plan_explain.specs.Numbers.{is_no_customer}
+use Rattle.plan_audit.specs.Rules.{item_at}
+use Rattle.plan_explain.specs.Numbers.{is_fraction, is_no_customer}
 use Rattle.plan_explain.specs.Phrases.{phrase, text_if}
-use Rattle.plan_explain.specs.ToldLines.{told_line, word_at}
-use Rattle.plan_explain.specs.WordTexts.{fraction_text}
-use Rattle.plan_explain.specs.declared.phrases.Phrase.TheVariants.{CostIs, CostLimits, CostWords, CustomerIs, CustomerLimits, Found, IndentedLine, KeyLine, RoundedWays}
+use Rattle.plan_explain.specs.Forms.{form}
+use Rattle.plan_explain.specs.declared.phrases.Phrase.TheVariants.{CostIs, CostWords, CustomerIs, Fraction, IndentedLine, KeyLine, RoundedWays}
 
 -- blanks stand before the first word
 abbrev pub begins_blank : List ℕ → Bool
@@ -25,8 +26,13 @@ abbrev pub is_line_word : List ℕ → Bool
 is_line_word word =
     str_eq_ignore_ascii_case word (codes "route") || (str_eq_ignore_ascii_case word (codes "cost") || str_eq_ignore_ascii_case word (codes "cost:"))
 
+-- the first of these words; empty where there is none
+abbrev pub first_word : List (List ℕ) → List ℕ
+first_word [] = []
+first_word (word ∷ words) = word
+
 abbrev pub is_indented : List ℕ → Bool
-is_indented line = begins_blank line && is_line_word (word_at (words_of line) 0)
+is_indented line = begins_blank line && is_line_word (first_word (words_of line))
 
 -- a byte that no key of a word has: a digit, or #
 abbrev pub is_no_key_byte : ℕ → Bool
@@ -42,7 +48,7 @@ other_line_text line = if is_indented line then phrase IndentedLine else text_if
 -- how many words stand behind `Cost`, where the line begins so; else how such a line is done without
 abbrev pub bad_line_by : List ℕ → Option (List ℕ) → List ℕ
 bad_line_by line None = other_line_text line
-bad_line_by line (Some tail) = (phrase CostWords ++ decimal (length (words_of tail))) ++ phrase Found
+bad_line_by line (Some tail) = form CostWords (decimal (length (words_of tail)) ∷ [])
 
 abbrev pub bad_line_text : List ℕ → List ℕ
 bad_line_text line = bad_line_by line (cost_tail line)
@@ -52,23 +58,24 @@ abbrev pub is_unrounded : List ℕ → Bool
 is_unrounded word = list_any (λ b. (b == 46) || (b == 101) || (b == 69)) word
 
 abbrev pub bad_cost_text : List ℕ → List ℕ
-bad_cost_text word = (phrase CostIs ++ shown_bytes word) ++ fraction_text word ++ phrase CostLimits ++ text_if (is_unrounded word) RoundedWays
+bad_cost_text word = form CostIs (shown_bytes word ∷ text_if (is_fraction word) Fraction ∷ text_if (is_unrounded word) RoundedWays ∷ [])
 
--- the first of these words that is no customer, if there is one
-abbrev pub bad_customer_at : List (List ℕ) → Option ℕ → List ℕ
-bad_customer_at words None = []
-bad_customer_at words (Some k) = (phrase CustomerIs ++ shown_bytes (word_at words k)) ++ phrase CustomerLimits
-
-abbrev pub bad_customer_text : List (List ℕ) → List ℕ
-bad_customer_text words = bad_customer_at words (position_from is_no_customer 0 words)
+-- the first word that is no customer, if there is one
+abbrev pub bad_customer_text : Option (List ℕ) → List ℕ
+bad_customer_text None = []
+bad_customer_text (Some word) = form CustomerIs (shown_bytes word ∷ [])
 
 -- the cost, or a customer of those behind the colon of a route line
 abbrev pub number_text : Option (List ℕ) → List ℕ → List ℕ
-number_text (Some tail) line = bad_cost_text (word_at (words_of tail) 0)
-number_text None line = bad_customer_text (words_of (value_text line))
+number_text (Some tail) line = bad_cost_text (first_word (words_of tail))
+number_text None line = bad_customer_text (find is_no_customer (words_of (value_text line)))
 
 abbrev pub wrong_number_text : List ℕ → List ℕ
 wrong_number_text line = number_text (cost_tail line) line
+
+-- the line with this number; empty where the text has none
+abbrev pub told_line : List ℕ → ℕ → List ℕ
+told_line text n = unwrap_or (item_at (lines_of text) n) []
 
 -- what line n has of a fault
 abbrev pub sol_detail : List ℕ → ℕ → SolFaultKind → List ℕ

@@ -5,8 +5,7 @@ use Rattle.instance_read.specs.VrpLines.{key_text}
 use Rattle.plan_types.specs.declared.requests.Kind.{Kind}
 use Rattle.plan_types.specs.declared.requests.Kind.TheVariants.{LiLim, Vrp}
 use Rattle.text_lines.specs.Lines.{lines_of}
-use Rattle.plan_explain.specs.VrpKeys.{is_key}
-use Rattle.plan_explain.specs.declared.names.Name.TheVariants.{KeyEnd}
+use Rattle.plan_explain.specs.Cited.{is_key}
 
 -- how many vehicles there are, as LKH and CVRPLIB's readers have it, or how long a route may be
 abbrev pub is_of_fleet : List ℕ → Bool
@@ -26,7 +25,7 @@ is_limit line = is_of_fleet (key_text line) || (is_of_length (key_text line) || 
 -- the number of the first such line before that of EOF, where the first of these lines has this number
 abbrev pub limit_from : ℕ → List (List ℕ) → Option ℕ
 limit_from n [] = None
-limit_from n (line ∷ lines) = if is_key KeyEnd line then None else if is_limit line then Some n else limit_from (n + 1) lines
+limit_from n (line ∷ lines) = if is_key (codes "EOF") line then None else if is_limit line then Some n else limit_from (n + 1) lines
 
 -- the first such line of an instance of this kind
 abbrev pub unasked_limit : Kind → List ℕ → Option ℕ

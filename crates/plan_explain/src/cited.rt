@@ -1,15 +1,36 @@
-//! Bytes of a text as a terminal gets them.
+//! The line that a fault names, and bytes of a text as a terminal gets them.
 //!
 //! What is cited keeps its tabs, since Li and Lim's files use them; other bytes that can't be printed are `?`.
 ghost use Rattle.std.specs.Prelude.{◌≡◌, ◌<◌, ◌++◌, map};
-ghost use Rattle.text_lines.specs.Lines.{ended};
-ghost use Rattle.plan_explain.specs.Cited.{shown_byte, shown_bytes};
+ghost use Rattle.std.specs.Option.{option_copied};
+ghost use Rattle.text_lines.specs.Lines.{ended, lines_of};
+ghost use Rattle.plan_audit.specs.Rules.{item_at};
+ghost use Rattle.plan_explain.specs.Cited.{is_key, shown_byte, shown_bytes};
 
 use crate::firsts::first_of;
+use instance_read::split_key;
+use text_lines::Lines;
 use told_text::Told;
 
 /// How many bytes of a line or of a word are shown.
 const SHOWN: usize = 200;
+
+/// The line with this number, counted from 1.
+pub(crate) fn line_at(text: &[u8], number: u64) -> Option<&[u8]>
+    ensures { option_copied result ≡ item_at (lines_of text.now) number }
+{
+    if number == 0 {
+        return None;
+    }
+    Lines::new(text).nth(number as usize - 1)
+}
+
+/// Whether a line has this key, in any letter case.
+pub(crate) fn is_key(key: &[u8], line: &[u8]) -> bool
+    ensures { result ≡ is_key key.now line.now }
+{
+    split_key(line).0.eq_ignore_ascii_case(key)
+}
 
 /// Appends a line of its own with these bytes.
 pub(crate) fn put_line(text: &mut Told, bytes: &[u8])
@@ -34,7 +55,7 @@ fn put_bytes(text: &mut Told, bytes: &[u8])
     }
 }
 
-fn shown_byte(byte: u8) -> u8
+pub(crate) fn shown_byte(byte: u8) -> u8
     ensures shown { result ≡ shown_byte byte }
     ensures ascii { result < 128 }
 {

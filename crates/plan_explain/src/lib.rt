@@ -11,8 +11,8 @@
 //! alone. For a wrong cost, or a solution that passes, a line for each route and the sums. Where a line says when a vehicle
 //! sets off, it is as late as service starts no later for it; arrivals and waiting are those of one that leaves at once.
 //!
-//! A refused text is read once more, up to the line of its fault, for what that line has of it: the field, the limits,
-//! the section, the other task of a pair. The readers tell the kind of a fault and its line alone.
+//! What the line of a refused instance has of its fault, as the field, the limits, the section or the other task of a pair, is the
+//! evidence that `instance_read` gives; here it is put into words. Words have `@` where a value stands (`put_form`).
 //!
 //! Modules, in reading order:
 //! - `phrases`, `names`: the words between the figures, the names of fields and keys
@@ -25,10 +25,9 @@
 //! - `further`, `others`: all places that break a rule (`rule_breaches`), how they are told, and how many break each rule behind it
 //! - `verdicts`: what is said of a verdict
 //! - `driven`: how far the routes of a refused text drive
-//! - `cited`, `told_lines`, `numbers`: bytes, lines and words of a refused text
-//! - `layouts`, `words_told`: what numbers a line has, and what is said of a wrong one
-//! - `pair_faults`, `lilim_faults`: what is said of a fault of a Li-Lim text
-//! - `vrp_keys`, `vrp_walk`, `vrp_faults`: keys and sections of a `.vrp` text, what is said of a fault of one
+//! - `cited`, `numbers`: lines, bytes and words of a refused text
+//! - `forms`: words with values in them
+//! - `evidence`: what is said of the evidence of a fault of an instance
 //! - `sol_faults`: what is said of a fault of a solution's text
 //! - `behind`: what stands behind the cost line of one
 //! - `unasked`: limits of an instance that are not asked
@@ -50,16 +49,15 @@
 mod behind;
 mod cited;
 mod driven;
+mod evidence;
 mod firsts;
+mod forms;
 mod further;
 mod laws;
-mod layouts;
-mod lilim_faults;
 mod names;
 mod notes;
 mod numbers;
 mod others;
-mod pair_faults;
 mod phrases;
 mod refused;
 mod rows;
@@ -69,13 +67,8 @@ mod sol_faults;
 mod stop_visits;
 mod summaries;
 mod tables;
-mod told_lines;
 mod unasked;
 mod verdicts;
-mod vrp_faults;
-mod vrp_keys;
-mod vrp_walk;
-mod words_told;
 
 pub use behind::line_behind_cost;
 pub use driven::{explain_driven, verdict_knows_ways};

@@ -1,69 +1,58 @@
 //! The names of the fields and keys of instances, as sentences have them.
 ghost use Rattle.std.specs.Prelude.{◌≡◌};
-ghost use Rattle.plan_explain.specs.FieldNames.{name};
+ghost use Rattle.plan_explain.specs.Names.{field_name, key_name, supported_name};
 
-/// A field of a line, a key of a `.vrp` text, or a value that a key has to have.
-#[derive(Clone, Copy)]
-pub(crate) enum Name {
-    Fleet,
-    Capacity,
-    Speed,
-    Number,
-    X,
-    Y,
-    Demand,
-    Earliest,
-    Latest,
-    Service,
-    Pickup,
-    Delivery,
-    Node,
-    Depot,
-    Word,
-    KeyDimension,
-    KeyCapacity,
-    KeyType,
-    KeyWeights,
-    KeyCoordinates,
-    KeyDemands,
-    KeyDepots,
-    KeyEnd,
-    Cvrp,
-    Euclidean,
+use instance_read::{Field, Key};
+
+/// The name of a field.
+#[tactic(auto, unfolding(crate::specs::Names::field_name))]
+pub(crate) fn field_name(field: Field) -> &'static str
+    ensures { result.now ≡ field_name field }
+{
+    match field {
+        Field::Fleet => "fleet",
+        Field::Capacity => "capacity",
+        Field::Speed => "speed",
+        Field::Number => "number",
+        Field::X => "x",
+        Field::Y => "y",
+        Field::Demand => "demand",
+        Field::Earliest => "earliest",
+        Field::Latest => "latest",
+        Field::Service => "service",
+        Field::Pickup => "pickup",
+        Field::Delivery => "delivery",
+        Field::Node => "node",
+        Field::Depot => "depot",
+        Field::Value(key) => key_name(key),
+        Field::Surplus => "a word",
+    }
 }
 
-impl Name {
-    /// The words, in ASCII.
-    #[tactic(auto, unfolding(crate::specs::FieldNames::name))]
-    pub(crate) fn text(self) -> &'static str
-        ensures { result.now ≡ name self }
-    {
-        match self {
-            Name::Fleet => "fleet",
-            Name::Capacity => "capacity",
-            Name::Speed => "speed",
-            Name::Number => "number",
-            Name::X => "x",
-            Name::Y => "y",
-            Name::Demand => "demand",
-            Name::Earliest => "earliest",
-            Name::Latest => "latest",
-            Name::Service => "service",
-            Name::Pickup => "pickup",
-            Name::Delivery => "delivery",
-            Name::Node => "node",
-            Name::Depot => "depot",
-            Name::Word => "a word",
-            Name::KeyDimension => "DIMENSION",
-            Name::KeyCapacity => "CAPACITY",
-            Name::KeyType => "TYPE",
-            Name::KeyWeights => "EDGE_WEIGHT_TYPE",
-            Name::KeyCoordinates => "NODE_COORD_SECTION",
-            Name::KeyDemands => "DEMAND_SECTION",
-            Name::KeyDepots => "DEPOT_SECTION",
-            Name::KeyEnd => "EOF",
-            Name::Cvrp => "CVRP",
-            Name::Euclidean => "EUC_2D",
-        }
+/// A key that values or sections are told by.
+#[tactic(auto, unfolding(crate::specs::Names::key_name))]
+pub(crate) fn key_name(key: Key) -> &'static str
+    ensures { result.now ≡ key_name key }
+{
+    match key {
+        Key::Dimension => "DIMENSION",
+        Key::Capacity => "CAPACITY",
+        Key::ProblemType => "TYPE",
+        Key::WeightType => "EDGE_WEIGHT_TYPE",
+        Key::Coordinates => "NODE_COORD_SECTION",
+        Key::Demands => "DEMAND_SECTION",
+        Key::Depots => "DEPOT_SECTION",
+        _ => "",
+    }
+}
+
+/// The value that a key has to have.
+#[tactic(auto, unfolding(crate::specs::Names::supported_name))]
+pub(crate) fn supported_name(key: Key) -> &'static str
+    ensures { result.now ≡ supported_name key }
+{
+    match key {
+        Key::ProblemType => "CVRP",
+        _ => "EUC_2D",
     }
 }

@@ -4,14 +4,12 @@ ghost use Rattle.std.specs.List.{list_any};
 ghost use Rattle.text_lines.specs.Lines.{lines_of};
 ghost use Rattle.plan_explain.specs.Notes.{has_nine_numbers, is_vrp_line, kind_note, mark_note};
 
-use crate::names::Name;
+use crate::cited::is_key;
 use crate::phrases::Phrase;
 use crate::sentences::{put_mark, put_phrase};
-use crate::told_lines::word_count;
-use crate::vrp_keys::is_key;
-use crate::words_told::no_number_place;
+use instance_read::has_no_number;
 use plan_types::Kind;
-use text_lines::Lines;
+use text_lines::{Lines, word_count};
 use told_text::Told;
 
 /// Appends that a text begins with a byte order mark, if it does.
@@ -44,7 +42,7 @@ fn looks_vrp(instance: &[u8]) -> bool
 fn is_vrp_line(line: &[u8]) -> bool
     ensures { result ≡ is_vrp_line line.now }
 {
-    is_key(Name::KeyDimension, line) || is_key(Name::KeyCoordinates, line)
+    is_key(b"DIMENSION", line) || is_key(b"NODE_COORD_SECTION", line)
 }
 
 // Whether a line has the nine numbers of a task.
@@ -57,5 +55,5 @@ fn looks_lilim(instance: &[u8]) -> bool
 fn has_nine_numbers(line: &[u8]) -> bool
     ensures { result ≡ has_nine_numbers line.now }
 {
-    word_count(line) == 9 && no_number_place(line).is_none()
+    word_count(line) == 9 && !has_no_number(line)
 }

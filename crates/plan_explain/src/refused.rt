@@ -1,17 +1,15 @@
 //! What is said of a text that is refused: the sentence of its fault, under it the line that the fault names, and what is said of the
 //! text as a whole.
 ghost use Rattle.std.specs.Prelude.{◌≡◌, ◌++◌, IfOk, string_bytes};
-ghost use Rattle.plan_explain.specs.Refused.{instance_detail, instance_fault_text, instance_reason, instance_sentence, solution_fault_text, solution_reason, solution_sentence, too_many, under_sentence};
+ghost use Rattle.plan_explain.specs.Refused.{instance_fault_text, instance_reason, instance_sentence, solution_fault_text, solution_reason, solution_sentence, too_many, under_sentence};
 
-use crate::cited::put_line;
-use crate::lilim_faults::put_lilim_detail;
+use crate::cited::{line_at, put_line};
+use crate::evidence::put_evidence;
 use crate::notes::{put_kind_note, put_mark_note};
 use crate::phrases::Phrase;
 use crate::sentences::{put_named, put_phrase};
 use crate::sol_faults::put_sol_detail;
-use crate::told_lines::line_at;
-use crate::vrp_faults::put_vrp_detail;
-use instance_read::{ReadFault, ReadFaultKind};
+use instance_read::{ReadFault, ReadFaultKind, evidence_of};
 use plan_types::{Kind, OutOfMemory};
 use sol_text::{SolFault, SolFaultKind};
 use std::alloc::Global;
@@ -57,46 +55,38 @@ fn put_instance_sentence(answer: &mut Told, kind: Kind, text: &[u8], fault: Read
 {
     put_named(answer, Phrase::Line, fault.line);
     put_phrase(answer, Phrase::Colon);
-    put_phrase(answer, instance_reason(kind, fault.kind));
-    put_instance_detail(answer, kind, text, fault);
+    answer.push_str(instance_reason(kind, fault.kind));
+    put_evidence(answer, fault.kind, evidence_of(kind, text, fault));
 }
 
-// What the line that the fault names has of it.
-fn put_instance_detail(answer: &mut Told, kind: Kind, text: &[u8], fault: ReadFault)
-    ensures { answer.new ≡ answer.old ++ instance_detail kind text.now fault }
-{
-    match kind {
-        Kind::LiLim => put_lilim_detail(answer, text, fault),
-        Kind::Vrp => put_vrp_detail(answer, text, fault),
-    }
-}
-
-fn instance_reason(kind: Kind, fault: ReadFaultKind) -> Phrase
-    ensures { result ≡ instance_reason kind fault }
+#[tactic(auto, unfolding(crate::specs::Refused::instance_reason))]
+fn instance_reason(kind: Kind, fault: ReadFaultKind) -> &'static str
+    ensures { result.now ≡ instance_reason kind fault }
 {
     match fault {
-        ReadFaultKind::BadNumber => Phrase::NoWholeNumber,
-        ReadFaultKind::Range => Phrase::OutsideLimits,
-        ReadFaultKind::FieldCount => Phrase::WordCount,
-        ReadFaultKind::TaskOrder => Phrase::TaskOrder,
-        ReadFaultKind::PairMismatch => Phrase::NoHalf,
-        ReadFaultKind::EmptyWindow => Phrase::EmptyWindow,
+        ReadFaultKind::BadNumber => "a word is not a whole number",
+        ReadFaultKind::Range => "a number is outside its limits",
+        ReadFaultKind::FieldCount => "the number of words is wrong",
+        ReadFaultKind::TaskOrder => "task numbers do not rise from 0",
+        ReadFaultKind::PairMismatch => "a task is no half of a pair",
+        ReadFaultKind::EmptyWindow => "a window ends before it begins",
         ReadFaultKind::TooManyStops => too_many(kind),
-        ReadFaultKind::MissingKey => Phrase::KeyMissing,
-        ReadFaultKind::Unsupported => Phrase::NotSupported,
-        ReadFaultKind::DepotNotFirst => Phrase::DepotNotFirst,
-        ReadFaultKind::NodeRepeated => Phrase::Repeated,
-        ReadFaultKind::Truncated => Phrase::EndsEarly,
-        ReadFaultKind::OutOfMemory => Phrase::OutOfMemory,
+        ReadFaultKind::MissingKey => "a key or a section is missing",
+        ReadFaultKind::Unsupported => "the key or its value is not supported",
+        ReadFaultKind::DepotNotFirst => "the list of depots is not 1 and then -1",
+        ReadFaultKind::NodeRepeated => "a node, a key or a section stands twice",
+        ReadFaultKind::Truncated => "the text ends early",
+        ReadFaultKind::OutOfMemory => "out of memory",
     }
 }
 
-fn too_many(kind: Kind) -> Phrase
-    ensures { result ≡ too_many kind }
+#[tactic(auto, unfolding(crate::specs::Refused::too_many))]
+fn too_many(kind: Kind) -> &'static str
+    ensures { result.now ≡ too_many kind }
 {
     match kind {
-        Kind::LiLim => Phrase::TaskAbove,
-        Kind::Vrp => Phrase::NodesAbove,
+        Kind::LiLim => "a task has a number above 40000",
+        Kind::Vrp => "there are more nodes than 40001",
     }
 }
 
@@ -105,18 +95,19 @@ fn put_solution_sentence(answer: &mut Told, text: &[u8], fault: SolFault)
 {
     put_named(answer, Phrase::Line, fault.line);
     put_phrase(answer, Phrase::Colon);
-    put_phrase(answer, solution_reason(fault.kind));
+    answer.push_str(solution_reason(fault.kind));
     put_sol_detail(answer, text, fault);
 }
 
-fn solution_reason(fault: SolFaultKind) -> Phrase
-    ensures { result ≡ solution_reason fault }
+#[tactic(auto, unfolding(crate::specs::Refused::solution_reason))]
+fn solution_reason(fault: SolFaultKind) -> &'static str
+    ensures { result.now ≡ solution_reason fault }
 {
     match fault {
-        SolFaultKind::BadLine => Phrase::NoSolutionLine,
-        SolFaultKind::BadNumber => Phrase::OtherNumber,
-        SolFaultKind::NoCost => Phrase::NoCostLine,
-        SolFaultKind::OutOfMemory => Phrase::OutOfMemory,
+        SolFaultKind::BadLine => "this is no route line, and no cost line with one word",
+        SolFaultKind::BadNumber => "a word is not the number that has to stand there",
+        SolFaultKind::NoCost => "there is no cost line",
+        SolFaultKind::OutOfMemory => "out of memory",
     }
 }
 

@@ -1,25 +1,27 @@
 //! What is said of a fault of a solution's text behind its kind.
-ghost use Rattle.std.specs.Prelude.{◌≡◌, ◌++◌};
-ghost use Rattle.std.specs.List.{list_any, position_from};
+ghost use Rattle.std.specs.Prelude.{◌≡◌, ◌++◌, find};
+ghost use Rattle.std.specs.List.{list_any};
+ghost use Rattle.std.specs.Option.{option_copied};
 ghost use Rattle.text_lines.specs.Words.{words_of};
 ghost use Rattle.plan_explain.specs.Numbers.{is_no_customer};
-ghost use Rattle.plan_explain.specs.SolFaults.{bad_cost_text, bad_customer_text, bad_line_text, begins_blank, is_indented, is_line_word, is_key_line, is_no_key_byte, is_unrounded, other_line_text, sol_detail, wrong_number_text};
+ghost use Rattle.plan_explain.specs.SolFaults.{bad_cost_text, bad_customer_text, bad_line_text, begins_blank, first_word, is_indented, is_line_word, is_key_line, is_no_key_byte, is_unrounded, other_line_text, sol_detail, wrong_number_text};
 
-use crate::numbers::is_no_customer;
+use crate::cited::line_at;
+use crate::forms::Value::{Cited, Number, WordsIf};
+use crate::forms::put_form;
+use crate::numbers::{is_fraction, is_no_customer};
 use crate::phrases::Phrase;
-use crate::sentences::{put_mark, put_named, put_phrase};
-use crate::told_lines::{told_line, word_at, word_count};
-use crate::vrp_keys::{key_of, value_of};
-use crate::words_told::{put_cited, put_fraction};
+use crate::sentences::{put_mark, put_phrase};
+use instance_read::split_key;
 use sol_text::{SolFault, SolFaultKind, cost_tail};
-use text_lines::Words;
+use text_lines::{Words, word_count};
 use told_text::Told;
 
 /// Appends what the line that the fault names has of it.
 pub(crate) fn put_sol_detail(text: &mut Told, solution: &[u8], fault: SolFault)
     ensures { text.new ≡ text.old ++ sol_detail solution.now fault.line fault.kind }
 {
-    let line = told_line(solution, fault.line);
+    let line = line_at(solution, fault.line).unwrap_or(&[]);
     match fault.kind {
         SolFaultKind::BadLine => put_bad_line(text, line),
         SolFaultKind::BadNumber => put_wrong_number(text, line),
@@ -35,8 +37,7 @@ fn put_bad_line(text: &mut Told, line: &[u8])
         put_other_line(text, line);
         return;
     };
-    put_named(text, Phrase::CostWords, word_count(tail) as u64);
-    put_phrase(text, Phrase::Found);
+    put_form(text, Phrase::CostWords, &[Number(word_count(tail) as u64)]);
 }
 
 fn put_other_line(text: &mut Told, line: &[u8])
@@ -53,7 +54,7 @@ fn put_other_line(text: &mut Told, line: &[u8])
 fn is_indented(line: &[u8]) -> bool
     ensures { result ≡ is_indented line.now }
 {
-    begins_blank(line) && is_line_word(word_at(line, 0))
+    begins_blank(line) && is_line_word(first_word(line))
 }
 
 fn begins_blank(line: &[u8]) -> bool
@@ -74,7 +75,7 @@ fn is_line_word(word: &[u8]) -> bool
 fn is_key_line(line: &[u8]) -> bool
     ensures { result ≡ is_key_line line.now }
 {
-    line.contains(&b':') && !has_no_key_byte(key_of(line))
+    line.contains(&b':') && !has_no_key_byte(split_key(line).0)
 }
 
 fn has_no_key_byte(key: &[u8]) -> bool
@@ -93,18 +94,17 @@ fn put_wrong_number(text: &mut Told, line: &[u8])
     ensures { text.new ≡ text.old ++ wrong_number_text line.now }
 {
     match cost_tail(line) {
-        Some(tail) => put_bad_cost(text, word_at(tail, 0)),
-        None => put_bad_customer(text, value_of(line)),
+        Some(tail) => put_bad_cost(text, first_word(tail)),
+        None => put_bad_customer(text, no_customer(split_key(line).1)),
     }
 }
 
 fn put_bad_cost(text: &mut Told, word: &[u8])
     ensures { text.new ≡ text.old ++ bad_cost_text word.now }
 {
-    put_cited(text, Phrase::CostIs, word);
-    put_fraction(text, word);
-    put_phrase(text, Phrase::CostLimits);
-    put_mark(text, is_unrounded(word), Phrase::RoundedWays);
+    let fraction = WordsIf(Phrase::Fraction, is_fraction(word));
+    let rounded = WordsIf(Phrase::RoundedWays, is_unrounded(word));
+    put_form(text, Phrase::CostIs, &[Cited(word), fraction, rounded]);
 }
 
 // Whether the cost has a fraction, or an exponent.
@@ -114,26 +114,33 @@ fn is_unrounded(word: &[u8]) -> bool
     word.iter().any(|byte| matches!(*byte, b'.' | b'e' | b'E'))
 }
 
-fn put_bad_customer(text: &mut Told, tail: &[u8])
-    ensures { text.new ≡ text.old ++ bad_customer_text (words_of tail.now) }
+fn put_bad_customer(text: &mut Told, word: Option<&[u8]>)
+    ensures { text.new ≡ text.old ++ bad_customer_text (option_copied word.entry) }
 {
-    let Some(place) = no_customer_place(tail) else {
-        return;
-    };
-    put_cited(text, Phrase::CustomerIs, word_at(tail, place));
-    put_phrase(text, Phrase::CustomerLimits);
+    match word {
+        Some(word) => put_form(text, Phrase::CustomerIs, &[Cited(word)]),
+        None => {}
+    }
 }
 
-// The place of the first word that is no number of a customer.
-fn no_customer_place(tail: &[u8]) -> Option<usize>
-    ensures { result ≡ position_from is_no_customer 0 (words_of tail.now) }
+// The first word that is no number of a customer.
+fn no_customer(tail: &[u8]) -> Option<&[u8]>
+    ensures { option_copied result ≡ find is_no_customer (words_of tail.now) }
 {
-    let mut place = 0;
     for word in Words::new(tail) {
         if is_no_customer(word) {
-            return Some(place);
+            return Some(word);
         }
-        place += 1;
     }
     None
+}
+
+// Empty where the line has none.
+fn first_word(line: &[u8]) -> &[u8]
+    ensures { result.now ≡ first_word (words_of line.now) }
+{
+    match Words::new(line).next() {
+        Some(word) => word,
+        None => &[],
+    }
 }

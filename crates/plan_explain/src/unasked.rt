@@ -3,8 +3,8 @@ ghost use Rattle.std.specs.Prelude.{◌≡◌};
 ghost use Rattle.text_lines.specs.Lines.{lines_of};
 ghost use Rattle.plan_explain.specs.Unasked.{is_limit, is_of_fleet, is_of_length, is_of_size, limit_from, unasked_limit};
 
-use crate::names::Name;
-use crate::vrp_keys::{is_key, key_of};
+use crate::cited::is_key;
+use instance_read::split_key;
 use plan_types::Kind;
 use text_lines::Lines;
 
@@ -25,7 +25,7 @@ fn first_limit(text: &[u8]) -> Option<u64>
     let mut number = 0;
     for line in Lines::new(text) {
         number += 1;
-        if is_key(Name::KeyEnd, line) {
+        if is_key(b"EOF", line) {
             return None;
         }
         if is_limit(line) {
@@ -38,7 +38,7 @@ fn first_limit(text: &[u8]) -> Option<u64>
 fn is_limit(line: &[u8]) -> bool
     ensures { result ≡ is_limit line.now }
 {
-    let key = key_of(line);
+    let key = split_key(line).0;
     is_of_fleet(key) || is_of_length(key) || is_of_size(key)
 }
 

@@ -1,4 +1,4 @@
-use Rattle.std.proofs.Common.{◌≡◌, ◌∙◌, ◌++◌, ap, codes, sym, subst, All}
+use Rattle.std.proofs.Common.{◌∙◌, ◌++◌, ap, codes, sym, subst, All}
 use Rattle.std.proofs.lemmas.Result.{on_ok_weaker}
 use Rattle.route_sched.specs.Route.{AreLiveOnce}
 use Rattle.text_lines.specs.Lines.{ended}

@@ -1,4 +1,4 @@
-use Rattle.std.proofs.Common.{◌≡◌, ◌∙◌, true, sym, ap, subst, All}
+use Rattle.std.proofs.Common.{◌≡◌, ◌∙◌, true, sym, ap, subst}
 use Rattle.route_sched.specs.Route.{AreLiveOnce}
 use Rattle.rule_breaches.specs.Ways.{knows_ways}
 use Rattle.plan_explain.specs.Sentences.{route_told}

@@ -1,0 +1,86 @@
+-- What a line of a Li-Lim text has of its fault.
+use Rattle.std.specs.Prelude.{ℕ, ◌==◌, ◌&&◌, not, Bool, false, if◌then◌else◌, List, [], ◌∷◌, find, length, Option, Some, None, pos}
+use Rattle.text_lines.specs.Numbers.{number_of}
+use Rattle.text_lines.specs.Words.{words_of}
+use Rattle.plan_types.specs.declared.limits.TheConstants.{MAX_DEMAND}
+use Rattle.instance_read.specs.Fields.{is_beyond, is_that}
+use Rattle.instance_read.specs.Lilim.{header_limits, task_limits}
+use Rattle.instance_read.specs.Rows.{Row, rows_of}
+use Rattle.instance_read.specs.WordEvidence.{numbers_evidence, stop_at, word_at}
+use Rattle.instance_read.specs.declared.evidence.Evidence.{Evidence}
+use Rattle.instance_read.specs.declared.evidence.Evidence.TheVariants.{Absent, Demands, FirstTask, NamesBoth, NamesNone, NamesOther, NoDepot, NoHeader, TaskBehind, Window}
+use Rattle.instance_read.specs.declared.evidence.Field.{Field}
+use Rattle.instance_read.specs.declared.evidence.Field.TheVariants as fields
+use Rattle.instance_read.specs.declared.evidence.Role.{Role}
+use Rattle.instance_read.specs.declared.evidence.Role.TheVariants as roles
+use Rattle.instance_read.specs.declared.faults.ReadFault.{ReadFault}
+use Rattle.instance_read.specs.declared.faults.ReadFaultKind.{ReadFaultKind}
+use Rattle.instance_read.specs.declared.faults.ReadFaultKind.TheVariants.{EmptyWindow, PairMismatch, TaskOrder, Truncated}
+
+abbrev pub header_fields : List Field
+header_fields = fields.Fleet ∷ fields.Capacity ∷ fields.Speed ∷ []
+
+abbrev pub task_fields : List Field
+task_fields = fields.Number ∷ fields.X ∷ fields.Y ∷ fields.Demand ∷ fields.Earliest ∷ fields.Latest ∷ fields.Service ∷ fields.Pickup ∷ fields.Delivery ∷ []
+
+-- the line with this number, and before it the one that is read before; empty where there is none
+abbrev pub spot_from : ℕ → List ℕ → List Row → List ℕ × List ℕ
+spot_from n before [] = (before, [])
+spot_from n before (row ∷ rows) = if row.line == n then (before, row.text) else spot_from n row.text rows
+
+-- the first line has vehicles and capacity, each other a task
+abbrev pub row_evidence : ReadFaultKind → List (List ℕ) → List ℕ → Evidence
+row_evidence kind words [] = numbers_evidence kind header_fields header_limits words
+row_evidence kind words (b ∷ before) = numbers_evidence kind task_fields task_limits words
+
+-- the line before is told where it is a task's
+abbrev pub order_evidence : List (List ℕ) → List (List ℕ) → Evidence
+order_evidence before words = if length before == 9 then TaskBehind (word_at words 0) (word_at before 0) else FirstTask (word_at words 0)
+
+abbrev pub missing_line : List ℕ → Evidence
+missing_line [] = NoHeader
+missing_line (b ∷ before) = NoDepot
+
+-- the line has the words of a task, and its number is this
+abbrev pub is_task_line : ℕ → Row → Bool
+is_task_line n row = length (words_of row.text) == 9 && stop_at (words_of row.text) 0 == n
+
+-- the task that a pickup has as its delivery, or a delivery as its pickup
+abbrev pub named_back : Role → List (List ℕ) → ℕ
+named_back roles.Pickup words = stop_at words 8
+named_back roles.Delivery words = stop_at words 7
+
+-- the task is a pickup, and its demand is below 0
+abbrev pub is_negative : Role → List ℕ → Bool
+is_negative roles.Pickup demand = false
+is_negative roles.Delivery demand = is_that (is_beyond (pos 0, MAX_DEMAND)) (number_of demand)
+
+-- The task that is named is not there, or it names another one, or their demands do not fit.
+abbrev pub partner_evidence : List (List ℕ) → Role → ℕ → Option Row → Evidence
+partner_evidence words role n None = Absent role n
+partner_evidence words role n (Some other) =
+    let there = words_of other.text in
+    if not (named_back role there == stop_at words 0) then NamesOther role n other.line (named_back role there)
+    else Demands role n other.line (word_at there 3) (word_at words 3) (is_negative role (word_at words 3))
+
+-- why the task with these words is no half of a pair
+abbrev pub pair_evidence : List Row → List (List ℕ) → Evidence
+pair_evidence rows words =
+    let pickup = stop_at words 7 in
+    let delivery = stop_at words 8 in
+    if pickup == 0
+    then (if delivery == 0 then NamesNone else partner_evidence words roles.Delivery delivery (find (is_task_line delivery) rows))
+    else (if delivery == 0 then partner_evidence words roles.Pickup pickup (find (is_task_line pickup) rows) else NamesBoth)
+
+-- what a line has of a fault, behind this one
+abbrev pub line_evidence : List Row → List ℕ → List ℕ → ReadFaultKind → Evidence
+line_evidence rows before line TaskOrder = order_evidence (words_of before) (words_of line)
+line_evidence rows before line EmptyWindow = Window (word_at (words_of line) 4) (word_at (words_of line) 5)
+line_evidence rows before line PairMismatch = pair_evidence rows (words_of line)
+line_evidence rows before line Truncated = missing_line before
+line_evidence rows before line kind = row_evidence kind (words_of line) before
+
+abbrev pub lilim_evidence : List ℕ → ReadFault → Evidence
+lilim_evidence text fault =
+    let spot = spot_from fault.line [] (rows_of text) in
+    line_evidence (rows_of text) spot.0 spot.1 fault.kind

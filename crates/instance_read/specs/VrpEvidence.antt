@@ -1,0 +1,114 @@
+-- What a line of a `.vrp` text has of its fault.
+use Rattle.std.specs.Prelude.{ℕ, ◌==◌, Bool, true, false, if◌then◌else◌, List, [], ◌∷◌, length, Option, Some, None, ℤ, pos, neg_ℤ, unwrap_or}
+use Rattle.std.specs.Int.RustNames.{unsigned_abs}
+use Rattle.std.specs.Option.{option_map}
+use Rattle.text_lines.specs.Numbers.{first_number, within}
+use Rattle.text_lines.specs.Words.{words_of}
+use Rattle.plan_types.specs.declared.limits.TheConstants.{MAX_CAPACITY, MAX_COORDINATE, MAX_DEMAND}
+use Rattle.instance_read.specs.Rows.{Row, rows_of}
+use Rattle.instance_read.specs.Vrp.{key_number, most_nodes}
+use Rattle.instance_read.specs.VrpLines.{key_from, key_of, key_text, place_after, trimmed, value_text, value_words}
+use Rattle.instance_read.specs.WordEvidence.{numbers_evidence}
+use Rattle.instance_read.specs.declared.evidence.Evidence.{Evidence}
+use Rattle.instance_read.specs.declared.evidence.Evidence.TheVariants as evidence
+use Rattle.instance_read.specs.declared.evidence.Field.{Field}
+use Rattle.instance_read.specs.declared.evidence.Field.TheVariants.{Demand, Depot, Node, Value, X, Y}
+use Rattle.instance_read.specs.declared.faults.ReadFault.{ReadFault}
+use Rattle.instance_read.specs.declared.faults.ReadFaultKind.{ReadFaultKind}
+use Rattle.instance_read.specs.declared.faults.ReadFaultKind.TheVariants.{FieldCount, MissingKey, NodeRepeated, Truncated, Unsupported}
+use Rattle.instance_read.specs.declared.vrp_evidence.PlacedLine.{PlacedLine}
+use Rattle.instance_read.specs.declared.vrp_lines.Key.{Key}
+use Rattle.instance_read.specs.declared.vrp_lines.Key.TheVariants.{Dimension, Capacity, ProblemType, WeightType, Coordinates, Demands, Depots, End, StrayNumber}
+use Rattle.instance_read.specs.declared.vrp_lines.Section.{Section}
+use Rattle.instance_read.specs.declared.vrp_lines.Section.TheVariants.{Outside, CoordinateLine, DemandLine, DepotLine, AfterEnd}
+
+-- how many nodes a line with this key announces, within their limits
+abbrev pub announced_by : List (List ℕ) → Key → Option ℤ
+announced_by words Dimension = within (pos 2) (pos most_nodes) (first_number words)
+announced_by words _ = None
+
+abbrev pub announced : Row → Option ℤ
+announced row = announced_by (value_words row) (key_of row)
+
+-- how many are announced after a line: the first DIMENSION outside the sections counts
+abbrev pub announced_after : Option ℤ → Row → Section → Option ℤ
+announced_after (Some n) row place = Some n
+announced_after None row Outside = announced row
+announced_after None row _ = None
+
+-- the line with this number, with its place, where the first of these lines stands at this place
+abbrev pub line_from : ℕ → Option ℤ → Section → List Row → PlacedLine
+line_from n nodes place [] = record { nodes = nodes; place = place; line = [] }
+line_from n nodes place (row ∷ rows) =
+    if row.line == n then record { nodes = nodes; place = place; line = row.text }
+    else line_from n (announced_after nodes row place) (place_after (option_map unsigned_abs nodes) row place) rows
+
+-- of a line of a section of nodes with these fields, which lacks so many lines
+abbrev pub node_evidence : ReadFaultKind → List Field → List (ℤ × ℤ) → Key → ℕ → List (List ℕ) → Evidence
+node_evidence FieldCount fields limits section left words = evidence.NodeCount (length fields) (length words) section left
+node_evidence Truncated fields limits section left words = evidence.Unfinished section left
+node_evidence kind fields limits section left words = numbers_evidence kind fields limits words
+
+abbrev pub depot_evidence : ReadFaultKind → List (List ℕ) → Evidence
+depot_evidence FieldCount words = evidence.BehindEnd
+depot_evidence Truncated words = evidence.OpenDepots
+depot_evidence kind words = numbers_evidence kind (Depot ∷ Depot ∷ []) [] words
+
+-- the value has to be another one, or the key is not supported
+abbrev pub unsupported : List ℕ → List ℕ → Key → Evidence
+unsupported line value ProblemType = evidence.Value ProblemType value
+unsupported line value WeightType = evidence.Value WeightType value
+unsupported line value _ = evidence.Key (key_text line)
+
+-- no line before that of EOF has this key
+abbrev pub lacks : Key → List Row → Bool
+lacks key [] = true
+lacks key (row ∷ rows) =
+    if key_number (key_of row) == key_number key then false
+    else if key_number (key_of row) == key_number End then true else lacks key rows
+
+-- what is missing at a line with this key: DIMENSION before a section, or the keys that no line has
+abbrev pub missing_evidence : List Row → Key → Evidence
+missing_evidence rows Coordinates = evidence.Unannounced
+missing_evidence rows Demands = evidence.Unannounced
+missing_evidence rows _ =
+    evidence.Missing (lacks Dimension rows) (lacks Capacity rows) (lacks WeightType rows) (lacks Coordinates rows) (lacks Demands rows) (lacks Depots rows)
+
+-- of the value of a key, or of numbers that are in no section
+abbrev pub value_evidence : ReadFaultKind → Option ℤ → List (List ℕ) → Key → Evidence
+value_evidence kind nodes words Dimension = numbers_evidence kind (Value Dimension ∷ []) ((pos 2, pos most_nodes) ∷ []) words
+value_evidence kind nodes words Capacity = numbers_evidence kind (Value Capacity ∷ []) ((pos 0, pos MAX_CAPACITY) ∷ []) words
+value_evidence kind nodes words StrayNumber = evidence.Stray (option_map unsigned_abs nodes)
+value_evidence kind nodes words _ = evidence.Nothing
+
+-- of a line outside the sections with this key
+abbrev pub keyed_evidence : List Row → Option ℤ → List ℕ → Key → ReadFaultKind → Evidence
+keyed_evidence rows nodes line key Unsupported = unsupported line (value_text line) key
+keyed_evidence rows nodes line key MissingKey = missing_evidence rows key
+keyed_evidence rows nodes line key NodeRepeated = evidence.Key (key_text line)
+keyed_evidence rows nodes line key kind = value_evidence kind nodes (words_of (value_text line)) key
+
+abbrev pub key_evidence : List Row → Option ℤ → List ℕ → ReadFaultKind → Evidence
+key_evidence rows nodes line kind = keyed_evidence rows nodes line (key_from (key_text line) (trimmed line)) kind
+
+abbrev pub point_limits : ℤ → List (ℤ × ℤ)
+point_limits nodes = (pos 1, nodes) ∷ (neg_ℤ MAX_COORDINATE, MAX_COORDINATE) ∷ (neg_ℤ MAX_COORDINATE, MAX_COORDINATE) ∷ []
+
+abbrev pub amount_limits : ℤ → List (ℤ × ℤ)
+amount_limits nodes = (pos 1, nodes) ∷ (pos 0, MAX_DEMAND) ∷ []
+
+-- what a line at this place has of a fault, where so many nodes are announced
+abbrev pub place_evidence : List Row → Option ℤ → List ℕ → ReadFaultKind → Section → Evidence
+place_evidence rows nodes line kind Outside = key_evidence rows nodes line kind
+place_evidence rows nodes line kind (CoordinateLine left) =
+    node_evidence kind (Node ∷ X ∷ Y ∷ []) (point_limits (unwrap_or nodes (pos 0))) Coordinates left (words_of line)
+place_evidence rows nodes line kind (DemandLine left) =
+    node_evidence kind (Node ∷ Demand ∷ []) (amount_limits (unwrap_or nodes (pos 0))) Demands left (words_of line)
+place_evidence rows nodes line kind (DepotLine seen) = depot_evidence kind (words_of line)
+place_evidence rows nodes line kind AfterEnd = evidence.Nothing
+
+abbrev pub placed_evidence : List Row → ReadFaultKind → PlacedLine → Evidence
+placed_evidence rows kind p = place_evidence rows p.nodes p.line kind p.place
+
+abbrev pub vrp_evidence : List ℕ → ReadFault → Evidence
+vrp_evidence text fault = placed_evidence (rows_of text) fault.kind (line_from fault.line None Outside (rows_of text))

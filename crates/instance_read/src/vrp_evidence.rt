@@ -1,0 +1,221 @@
+//! What a line of a `.vrp` text has of its fault.
+ghost use Rattle.std.specs.Prelude.{◌≡◌, None};
+ghost use Rattle.std.specs.Int.RustNames.{unsigned_abs};
+ghost use Rattle.std.specs.Option.{option_map};
+ghost use Rattle.text_lines.specs.Words.{words_of};
+ghost use Rattle.instance_read.specs.RowViews.{row_view};
+ghost use Rattle.instance_read.specs.Rows.{rows_of};
+ghost use Rattle.instance_read.specs.VrpEvidence.{announced, announced_after, depot_evidence, key_evidence, lacks, line_from, missing_evidence, node_evidence, unsupported, value_evidence, vrp_evidence};
+ghost use Rattle.instance_read.specs.VrpLines.{key_of, place_after};
+ghost use Rattle.instance_read.specs.declared.vrp_lines.Section.TheVariants.{Outside};
+
+use crate::evidence::{Evidence, Excerpt, Field};
+use crate::field_limits::{CAPACITY, COORDINATE, DIMENSION, Limits, NODE_DEMAND};
+use crate::number_evidence::numbers_evidence;
+use crate::rows::{NumberedLine, NumberedLines};
+use crate::vrp_lines::{Key, Section, read_key, split_key};
+use crate::{ReadFault, ReadFaultKind};
+use text_lines::{Words, word_count};
+
+// A line, with its place and the number of nodes that the lines before it announce.
+#[derive(Drop)]
+struct PlacedLine<'a> {
+    nodes: Option<i32>,
+    place: Section,
+    line: Excerpt<'a>,
+}
+
+/// What the line of a fault has of it.
+pub fn vrp_evidence<'a>(text: &'a [u8], fault: ReadFault) -> Evidence<'a>
+    ensures { result ≡ vrp_evidence text.now fault }
+{
+    let PlacedLine { nodes, place, line } = placed_line(text, fault.line);
+    let line = line.bytes();
+    let numbers = (1, nodes.unwrap_or(0));
+    match place {
+        Section::Outside => key_evidence(text, nodes, line, fault.kind),
+        Section::CoordinateLine(left) => {
+            let fields = [Field::Node, Field::X, Field::Y];
+            let limits = [numbers, COORDINATE, COORDINATE];
+            node_evidence(fault.kind, line, &fields, &limits, Key::Coordinates, left)
+        }
+        Section::DemandLine(left) => {
+            let fields = [Field::Node, Field::Demand];
+            let limits = [numbers, NODE_DEMAND];
+            node_evidence(fault.kind, line, &fields, &limits, Key::Demands, left)
+        }
+        Section::DepotLine(_) => depot_evidence(fault.kind, line),
+        Section::AfterEnd => Evidence::Nothing,
+    }
+}
+
+fn placed_line<'a>(text: &'a [u8], number: u64) -> PlacedLine<'a>
+    ensures { result ≡ line_from number None Outside (rows_of text.now) }
+{
+    let mut nodes = None;
+    let mut place = Section::Outside;
+    for line in NumberedLines::new(text) {
+        if line.number == number {
+            return PlacedLine {
+                nodes,
+                place,
+                line: Excerpt::new(line.text),
+            };
+        }
+        let next = place_after(nodes, place, &line);
+        nodes = announced_after(nodes, place, &line);
+        place = next;
+    }
+    PlacedLine {
+        nodes,
+        place,
+        line: Excerpt::new(&[]),
+    }
+}
+
+fn place_after(nodes: Option<i32>, place: Section, line: &NumberedLine<'_>) -> Section
+    ensures { result ≡ place_after (option_map unsigned_abs nodes) (row_view line.now) place }
+{
+    match place {
+        Section::Outside => Section::after_key(nodes.map(i32::unsigned_abs), key_of(line)),
+        Section::CoordinateLine(left) => Section::with_coordinates(left.saturating_sub(1)),
+        Section::DemandLine(left) => Section::with_demands(left.saturating_sub(1)),
+        Section::DepotLine(seen) => Section::after_depots(seen, word_count(line.text)),
+        Section::AfterEnd => Section::AfterEnd,
+    }
+}
+
+#[tactic(auto, unfolding(crate::specs::VrpLines::key_of))]
+fn key_of(line: &NumberedLine<'_>) -> Key
+    ensures { result ≡ key_of (row_view line.now) }
+{
+    read_key(line.text).0
+}
+
+// How many nodes are announced after a line: the first DIMENSION counts.
+fn announced_after(nodes: Option<i32>, place: Section, line: &NumberedLine<'_>) -> Option<i32>
+    ensures { result ≡ announced_after nodes (row_view line.now) place }
+{
+    match (nodes, place) {
+        (None, Section::Outside) => announced(line),
+        _ => nodes,
+    }
+}
+
+#[tactic(auto, unfolding(crate::specs::VrpLines::key_of, crate::specs::VrpLines::value_of))]
+fn announced(line: &NumberedLine<'_>) -> Option<i32>
+    ensures { result ≡ announced (row_view line.now) }
+{
+    let (key, value) = read_key(line.text);
+    match key {
+        Key::Dimension => Words::new(value).next_number(DIMENSION.0, DIMENSION.1),
+        _ => None,
+    }
+}
+
+// Of a line of a section of nodes with these fields.
+fn node_evidence<'a>(
+    kind: ReadFaultKind,
+    line: &'a [u8],
+    fields: &[Field],
+    limits: &[Limits],
+    section: Key,
+    left: u32,
+) -> Evidence<'a>
+    ensures { result ≡ node_evidence kind fields.now limits.now section left (words_of line.now) }
+{
+    match kind {
+        ReadFaultKind::FieldCount => {
+            Evidence::NodeCount(fields.len(), word_count(line), section, left)
+        }
+        ReadFaultKind::Truncated => Evidence::Unfinished(section, left),
+        _ => numbers_evidence(kind, line, fields, limits),
+    }
+}
+
+fn depot_evidence<'a>(kind: ReadFaultKind, line: &'a [u8]) -> Evidence<'a>
+    ensures { result ≡ depot_evidence kind (words_of line.now) }
+{
+    match kind {
+        ReadFaultKind::FieldCount => Evidence::BehindEnd,
+        ReadFaultKind::Truncated => Evidence::OpenDepots,
+        _ => numbers_evidence(kind, line, &[Field::Depot, Field::Depot], &[]),
+    }
+}
+
+// Of a line outside the sections, where so many nodes are announced.
+fn key_evidence<'a>(
+    text: &'a [u8],
+    nodes: Option<i32>,
+    line: &'a [u8],
+    kind: ReadFaultKind,
+) -> Evidence<'a>
+    ensures { result ≡ key_evidence (rows_of text.now) nodes line.now kind }
+{
+    let (key, value) = read_key(line);
+    match kind {
+        ReadFaultKind::Unsupported => unsupported(line, key, value),
+        ReadFaultKind::MissingKey => missing_evidence(text, key),
+        ReadFaultKind::NodeRepeated => Evidence::Key(Excerpt::new(split_key(line).0)),
+        _ => value_evidence(kind, nodes, key, value),
+    }
+}
+
+fn value_evidence<'a>(
+    kind: ReadFaultKind,
+    nodes: Option<i32>,
+    key: Key,
+    value: &'a [u8],
+) -> Evidence<'a>
+    ensures { result ≡ value_evidence kind nodes (words_of value.now) key }
+{
+    match key {
+        Key::Dimension => numbers_evidence(kind, value, &[Field::Value(key)], &[DIMENSION]),
+        Key::Capacity => numbers_evidence(kind, value, &[Field::Value(key)], &[CAPACITY]),
+        Key::StrayNumber => Evidence::Stray(nodes.map(i32::unsigned_abs)),
+        _ => Evidence::Nothing,
+    }
+}
+
+// A value that is not supported, or a key.
+fn unsupported<'a>(line: &'a [u8], key: Key, value: &'a [u8]) -> Evidence<'a>
+    ensures { result ≡ unsupported line.now value.now key }
+{
+    match key {
+        Key::ProblemType | Key::WeightType => Evidence::Value(key, Excerpt::new(value)),
+        _ => Evidence::Key(Excerpt::new(split_key(line).0)),
+    }
+}
+
+// What is missing at a line with this key: DIMENSION before a section, or the keys that no line has.
+fn missing_evidence<'a>(text: &'a [u8], key: Key) -> Evidence<'a>
+    ensures { result ≡ missing_evidence (rows_of text.now) key }
+{
+    match key {
+        Key::Coordinates | Key::Demands => Evidence::Unannounced,
+        _ => Evidence::Missing(
+            lacks(text, Key::Dimension),
+            lacks(text, Key::Capacity),
+            lacks(text, Key::WeightType),
+            lacks(text, Key::Coordinates),
+            lacks(text, Key::Demands),
+            lacks(text, Key::Depots),
+        ),
+    }
+}
+
+// Whether no line before the one of EOF has this key.
+fn lacks(text: &[u8], key: Key) -> bool
+    ensures { result ≡ lacks key (rows_of text.now) }
+{
+    for line in NumberedLines::new(text) {
+        let here = key_of(&line);
+        if here == key {
+            return false;
+        }
+        if here == Key::End {
+            return true;
+        }
+    }
+    true
+}
