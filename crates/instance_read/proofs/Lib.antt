@@ -25,3 +25,4 @@ pub mod VrpLawProofs
 pub mod KeyLineProofs
 pub mod ReadableLemmas
 pub mod SpelledLemmas
+pub mod EvidenceLemmas

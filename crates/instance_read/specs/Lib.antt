@@ -15,6 +15,7 @@ pub mod WordEvidence
 pub mod LilimEvidence
 pub mod VrpEvidence
 pub mod Evidence
+pub mod EvidenceLaws
 -- of private functions alone
 pub mod RowViews
 pub mod FieldValues

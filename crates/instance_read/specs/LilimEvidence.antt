@@ -11,8 +11,6 @@ use Rattle.instance_read.specs.declared.evidence.Evidence.{Evidence}
 use Rattle.instance_read.specs.declared.evidence.Evidence.TheVariants.{Absent, Demands, FirstTask, NamesBoth, NamesNone, NamesOther, NoDepot, NoHeader, TaskBehind, Window}
 use Rattle.instance_read.specs.declared.evidence.Field.{Field}
 use Rattle.instance_read.specs.declared.evidence.Field.TheVariants as fields
-use Rattle.instance_read.specs.declared.evidence.Role.{Role}
-use Rattle.instance_read.specs.declared.evidence.Role.TheVariants as roles
 use Rattle.instance_read.specs.declared.faults.ReadFault.{ReadFault}
 use Rattle.instance_read.specs.declared.faults.ReadFaultKind.{ReadFaultKind}
 use Rattle.instance_read.specs.declared.faults.ReadFaultKind.TheVariants.{EmptyWindow, PairMismatch, TaskOrder, Truncated}
@@ -45,23 +43,24 @@ missing_line (b ∷ before) = NoDepot
 abbrev pub is_task_line : ℕ → Row → Bool
 is_task_line n row = length (words_of row.text) == 9 && stop_at (words_of row.text) 0 == n
 
--- the task that a pickup has as its delivery, or a delivery as its pickup
-abbrev pub named_back : Role → List (List ℕ) → ℕ
-named_back roles.Pickup words = stop_at words 8
-named_back roles.Delivery words = stop_at words 7
+-- the other one of the fields pickup and delivery, and the task that the words have in it
+abbrev pub named_back : List (List ℕ) → Field → Field × ℕ
+named_back words fields.Pickup = (fields.Delivery, stop_at words 8)
+named_back words _ = (fields.Pickup, stop_at words 7)
 
--- the task is a pickup, and its demand is below 0
-abbrev pub is_negative : Role → List ℕ → Bool
-is_negative roles.Pickup demand = false
-is_negative roles.Delivery demand = is_that (is_beyond (pos 0, MAX_DEMAND)) (number_of demand)
+-- a task that names its delivery is a pickup; its demand is below 0
+abbrev pub is_negative : List ℕ → Field → Bool
+is_negative demand fields.Delivery = is_that (is_beyond (pos 0, MAX_DEMAND)) (number_of demand)
+is_negative demand _ = false
 
--- The task that is named is not there, or it names another one, or their demands do not fit.
-abbrev pub partner_evidence : List (List ℕ) → Role → ℕ → Option Row → Evidence
-partner_evidence words role n None = Absent role n
-partner_evidence words role n (Some other) =
-    let there = words_of other.text in
-    if not (named_back role there == stop_at words 0) then NamesOther role n other.line (named_back role there)
-    else Demands role n other.line (word_at there 3) (word_at words 3) (is_negative role (word_at words 3))
+-- The task that a field names is not there, or it names another one, or their demands do not fit.
+abbrev pub partner_evidence : List (List ℕ) → Field → ℕ → Option Row → Evidence
+partner_evidence words field n None = Absent field n
+partner_evidence words field n (Some other) =
+    let back = named_back (words_of other.text) field in
+    let demand = word_at (words_of other.text) 3 in
+    if not (back.1 == stop_at words 0) then NamesOther field n other.line back.1 back.0
+    else Demands field n other.line demand (word_at words 3) (is_negative (word_at words 3) field)
 
 -- why the task with these words is no half of a pair
 abbrev pub pair_evidence : List Row → List (List ℕ) → Evidence
@@ -69,8 +68,8 @@ pair_evidence rows words =
     let pickup = stop_at words 7 in
     let delivery = stop_at words 8 in
     if pickup == 0
-    then (if delivery == 0 then NamesNone else partner_evidence words roles.Delivery delivery (find (is_task_line delivery) rows))
-    else (if delivery == 0 then partner_evidence words roles.Pickup pickup (find (is_task_line pickup) rows) else NamesBoth)
+    then (if delivery == 0 then NamesNone else partner_evidence words fields.Delivery delivery (find (is_task_line delivery) rows))
+    else (if delivery == 0 then partner_evidence words fields.Pickup pickup (find (is_task_line pickup) rows) else NamesBoth)
 
 -- what a line has of a fault, behind this one
 abbrev pub line_evidence : List Row → List ℕ → List ℕ → ReadFaultKind → Evidence

@@ -16,7 +16,6 @@ use Rattle.instance_read.specs.declared.evidence.Field.TheVariants.{Demand, Depo
 use Rattle.instance_read.specs.declared.faults.ReadFault.{ReadFault}
 use Rattle.instance_read.specs.declared.faults.ReadFaultKind.{ReadFaultKind}
 use Rattle.instance_read.specs.declared.faults.ReadFaultKind.TheVariants.{FieldCount, MissingKey, NodeRepeated, Truncated, Unsupported}
-use Rattle.instance_read.specs.declared.vrp_evidence.PlacedLine.{PlacedLine}
 use Rattle.instance_read.specs.declared.vrp_lines.Key.{Key}
 use Rattle.instance_read.specs.declared.vrp_lines.Key.TheVariants.{Dimension, Capacity, ProblemType, WeightType, Coordinates, Demands, Depots, End, StrayNumber}
 use Rattle.instance_read.specs.declared.vrp_lines.Section.{Section}
@@ -36,11 +35,11 @@ announced_after (Some n) row place = Some n
 announced_after None row Outside = announced row
 announced_after None row _ = None
 
--- the line with this number, with its place, where the first of these lines stands at this place
-abbrev pub line_from : ℕ → Option ℤ → Section → List Row → PlacedLine
-line_from n nodes place [] = record { nodes = nodes; place = place; line = [] }
+-- how many nodes are announced before the line with this number, its place, and the line, where the first of these stands at this place
+abbrev pub line_from : ℕ → Option ℤ → Section → List Row → Option ℤ × Section × List ℕ
+line_from n nodes place [] = (nodes, place, [])
 line_from n nodes place (row ∷ rows) =
-    if row.line == n then record { nodes = nodes; place = place; line = row.text }
+    if row.line == n then (nodes, place, row.text)
     else line_from n (announced_after nodes row place) (place_after (option_map unsigned_abs nodes) row place) rows
 
 -- of a line of a section of nodes with these fields, which lacks so many lines
@@ -107,8 +106,7 @@ place_evidence rows nodes line kind (DemandLine left) =
 place_evidence rows nodes line kind (DepotLine seen) = depot_evidence kind (words_of line)
 place_evidence rows nodes line kind AfterEnd = evidence.Nothing
 
-abbrev pub placed_evidence : List Row → ReadFaultKind → PlacedLine → Evidence
-placed_evidence rows kind p = place_evidence rows p.nodes p.line kind p.place
-
 abbrev pub vrp_evidence : List ℕ → ReadFault → Evidence
-vrp_evidence text fault = placed_evidence (rows_of text) fault.kind (line_from fault.line None Outside (rows_of text))
+vrp_evidence text fault =
+    let at = line_from fault.line None Outside (rows_of text) in
+    place_evidence (rows_of text) at.0 at.2 fault.kind at.1

@@ -63,13 +63,6 @@ pub enum Field {
     Surplus,
 }
 
-/// What a task that names another one takes that for.
-#[derive(Clone, Copy, PartialEq, Eq)]
-pub enum Role {
-    Pickup,
-    Delivery,
-}
-
 /// What the line of a fault has of it. Words are as they stand in the text.
 #[derive(Drop)]
 pub enum Evidence<'a> {
@@ -90,12 +83,12 @@ pub enum Evidence<'a> {
     /// A task names neither a pickup nor a delivery, or both.
     NamesNone,
     NamesBoth,
-    /// No task has the number that a task names.
-    Absent(Role, u16),
-    /// The task of this number, which is named, stands on this line, and names that other task.
-    NamesOther(Role, u16, u64, u16),
+    /// No task has the number that a task has as its pickup or its delivery.
+    Absent(Field, u16),
+    /// The task of this number, which is named so, stands on this line, and has that other task in that other field.
+    NamesOther(Field, u16, u64, u16, Field),
     /// The same, where both name each other: its demand, that of the other one, and whether that is a pickup's below 0.
-    Demands(Role, u16, u64, Excerpt<'a>, Excerpt<'a>, bool),
+    Demands(Field, u16, u64, Excerpt<'a>, Excerpt<'a>, bool),
     /// The first line, or task 0, is missing.
     NoHeader,
     NoDepot,

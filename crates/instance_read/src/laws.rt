@@ -1,4 +1,5 @@
 //! What a line of a `.vrp` text says, where the lines stand, and that each text is read: laws for every text.
+ghost use Rattle.instance_read.specs.EvidenceLaws.{EvidenceShowsTheWord, NumbersShowTheWord};
 ghost use Rattle.instance_read.specs.Readable.{TextsAreRead, TextsAreReadOneWay};
 ghost use Rattle.instance_read.specs.VrpKeys.{AreKeyLines};
 ghost use Rattle.instance_read.specs.VrpLaws.{DepotsAreTwoWords, DimensionAloneAnnounces, EndIsTheEnd, OtherLinesStayOutside, SectionsHaveALineForEachNode};
@@ -36,4 +37,11 @@ pub fn eof_is_the_end()
 pub fn each_text_is_read()
     ensures some { TextsAreRead }
     ensures one { TextsAreReadOneWay }
+{}
+
+/// Of a line of numbers with a word that is no number, or a number beyond its limits, the evidence is the first such word, with its
+/// field and the limits of that. In a Li-Lim text that has this fault first, the line is the one that the fault names.
+pub fn evidence_shows_the_word()
+    ensures numbers { NumbersShowTheWord }
+    ensures lilim { EvidenceShowsTheWord }
 {}

@@ -30,12 +30,13 @@
 //! - `vrp`: the reader of `.vrp` texts
 //! - `instance`: that of a text of either format
 //! - `number_evidence`, `lilim_evidence`, `vrp_evidence`, `evidence`: what the line of a fault has of it
-//! - `laws`: what lines of a `.vrp` text are, in other words, and that each text is read
+//! - `laws`: what lines of a `.vrp` text are, in other words, that each text is read, and what evidence shows
 //!
 //! Said by `specs/Lilim.antt`, `Pairs.antt`, `Vrp.antt`, `VrpLines.antt` and `Faults.antt`, for both formats by `Readings.antt`. Proved:
 //! - `read_lilim`, `read_vrp`, `read_instance`: `value`, the problem is the one that the text spells (`SpellsLilim`, `SpellsVrp`);
 //!   `fault`, else the least fault by class, line and kind, or want of memory (`TellsFirstFault`)
 //! - `evidence_of`: the evidence of a fault is that of `Evidence.antt`
+//! - `evidence_shows_the_word`: of a word that is no number, or a number beyond its limits, it is the first of the fault's line
 //! - `sections_have_a_line_for_each_node`: a section of nodes has as many lines as the first DIMENSION line says
 //! - `depots_are_two_words`: the list of depots is over with its second word
 //! - `eof_is_the_end`: nothing counts behind EOF
@@ -65,14 +66,14 @@ mod vrp_fields;
 mod vrp_lines;
 mod vrp_problem;
 
-pub use evidence::{Evidence, Excerpt, Field, Role, evidence_of};
+pub use evidence::{Evidence, Excerpt, Field, evidence_of};
 pub use faults::{ReadFault, ReadFaultKind};
 pub use field_limits::Limits;
 pub use fields::has_no_number;
 pub use instance::read_instance;
 pub use laws::{
-    depots_are_two_words, each_text_is_read, eof_is_the_end, key_lines_are_made,
-    other_lines_stay_outside, sections_have_a_line_for_each_node,
+    depots_are_two_words, each_text_is_read, eof_is_the_end, evidence_shows_the_word,
+    key_lines_are_made, other_lines_stay_outside, sections_have_a_line_for_each_node,
 };
 pub use lilim::read_lilim;
 pub use vrp::read_vrp;

@@ -2,11 +2,11 @@
 ghost use Rattle.std.specs.Prelude.{◌≡◌, [], find};
 ghost use Rattle.std.specs.Option.{option_map};
 ghost use Rattle.text_lines.specs.Words.{words_of};
-ghost use Rattle.instance_read.specs.LilimEvidence.{is_task_line, lilim_evidence, missing_line, named_back, order_evidence, pair_evidence, partner_evidence, row_evidence, spot_from};
+ghost use Rattle.instance_read.specs.LilimEvidence.{is_negative, is_task_line, lilim_evidence, missing_line, named_back, order_evidence, pair_evidence, partner_evidence, row_evidence, spot_from};
 ghost use Rattle.instance_read.specs.RowViews.{row_view};
 ghost use Rattle.instance_read.specs.Rows.{rows_of};
 
-use crate::evidence::{Evidence, Excerpt, Field, Role};
+use crate::evidence::{Evidence, Excerpt, Field};
 use crate::field_limits::{HEADER, TASK};
 use crate::number_evidence::{is_beyond, numbers_evidence, stop_at, word_at};
 use crate::rows::{NumberedLine, NumberedLines};
@@ -96,27 +96,27 @@ fn pair_evidence<'a>(text: &'a [u8], line: &'a [u8]) -> Evidence<'a>
     match (pickup == 0, delivery == 0) {
         (true, true) => Evidence::NamesNone,
         (false, false) => Evidence::NamesBoth,
-        (true, false) => partner_evidence(text, line, Role::Delivery, delivery),
-        (false, true) => partner_evidence(text, line, Role::Pickup, pickup),
+        (true, false) => partner_evidence(text, line, Field::Delivery, delivery),
+        (false, true) => partner_evidence(text, line, Field::Pickup, pickup),
     }
 }
 
-// What is wrong with the task that is named.
-fn partner_evidence<'a>(text: &'a [u8], line: &'a [u8], role: Role, number: u16) -> Evidence<'a>
-    ensures { result ≡ partner_evidence (words_of line.now) role number
+// What is wrong with the task that this field names.
+fn partner_evidence<'a>(text: &'a [u8], line: &'a [u8], field: Field, number: u16) -> Evidence<'a>
+    ensures { result ≡ partner_evidence (words_of line.now) field number
         (find (is_task_line number) (rows_of text.now)) }
 {
     let Some(other) = task_line(text, number) else {
-        return Evidence::Absent(role, number);
+        return Evidence::Absent(field, number);
     };
-    let named = named_back(role, other.text);
+    let (back, named) = named_back(field, other.text);
     if named != stop_at(line, 0) {
-        return Evidence::NamesOther(role, number, other.number, named);
+        return Evidence::NamesOther(field, number, other.number, named, back);
     }
     let demand = word_at(other.text, 3);
     let own = word_at(line, 3);
-    let is_negative = role == Role::Delivery && is_beyond(own.bytes(), (0, MAX_DEMAND));
-    Evidence::Demands(role, number, other.number, demand, own, is_negative)
+    let is_negative = is_negative(field, own.bytes());
+    Evidence::Demands(field, number, other.number, demand, own, is_negative)
 }
 
 // The line of the task with this number.
@@ -137,12 +137,22 @@ fn is_task_line(number: u16, line: &NumberedLine<'_>) -> bool
     word_count(line.text) == TASK_FIELDS.len() && stop_at(line.text, 0) == number
 }
 
-// The task that the one of a line has in its other field.
-fn named_back(role: Role, line: &[u8]) -> u16
-    ensures { result ≡ named_back role (words_of line.now) }
+// The other field, and the task that a line has in it.
+fn named_back(field: Field, line: &[u8]) -> (Field, u16)
+    ensures { result ≡ named_back (words_of line.now) field }
 {
-    match role {
-        Role::Pickup => stop_at(line, 8),
-        Role::Delivery => stop_at(line, 7),
+    match field {
+        Field::Pickup => (Field::Delivery, stop_at(line, 8)),
+        _ => (Field::Pickup, stop_at(line, 7)),
+    }
+}
+
+// Whether a task that names this field is a pickup whose demand is below 0.
+fn is_negative(field: Field, demand: &[u8]) -> bool
+    ensures { result ≡ is_negative demand.now field }
+{
+    match field {
+        Field::Delivery => is_beyond(demand, (0, MAX_DEMAND)),
+        _ => false,
     }
 }

@@ -17,19 +17,11 @@ use crate::vrp_lines::{Key, Section, read_key, split_key};
 use crate::{ReadFault, ReadFaultKind};
 use text_lines::{Words, word_count};
 
-// A line, with its place and the number of nodes that the lines before it announce.
-#[derive(Drop)]
-struct PlacedLine<'a> {
-    nodes: Option<i32>,
-    place: Section,
-    line: Excerpt<'a>,
-}
-
 /// What the line of a fault has of it.
 pub fn vrp_evidence<'a>(text: &'a [u8], fault: ReadFault) -> Evidence<'a>
     ensures { result ≡ vrp_evidence text.now fault }
 {
-    let PlacedLine { nodes, place, line } = placed_line(text, fault.line);
+    let (nodes, place, line) = placed_line(text, fault.line);
     let line = line.bytes();
     let numbers = (1, nodes.unwrap_or(0));
     match place {
@@ -49,28 +41,21 @@ pub fn vrp_evidence<'a>(text: &'a [u8], fault: ReadFault) -> Evidence<'a>
     }
 }
 
-fn placed_line<'a>(text: &'a [u8], number: u64) -> PlacedLine<'a>
+// How many nodes are announced before the line with this number, its place, and the line.
+fn placed_line<'a>(text: &'a [u8], number: u64) -> (Option<i32>, Section, Excerpt<'a>)
     ensures { result ≡ line_from number None Outside (rows_of text.now) }
 {
     let mut nodes = None;
     let mut place = Section::Outside;
     for line in NumberedLines::new(text) {
         if line.number == number {
-            return PlacedLine {
-                nodes,
-                place,
-                line: Excerpt::new(line.text),
-            };
+            return (nodes, place, Excerpt::new(line.text));
         }
         let next = place_after(nodes, place, &line);
         nodes = announced_after(nodes, place, &line);
         place = next;
     }
-    PlacedLine {
-        nodes,
-        place,
-        line: Excerpt::new(&[]),
-    }
+    (nodes, place, Excerpt::new(&[]))
 }
 
 fn place_after(nodes: Option<i32>, place: Section, line: &NumberedLine<'_>) -> Section

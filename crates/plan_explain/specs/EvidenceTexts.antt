@@ -5,8 +5,6 @@ use Rattle.instance_read.specs.declared.evidence.Evidence.{Evidence}
 use Rattle.instance_read.specs.declared.evidence.Evidence.TheVariants as found
 use Rattle.instance_read.specs.declared.evidence.Field.{Field}
 use Rattle.instance_read.specs.declared.evidence.Field.TheVariants as fields
-use Rattle.instance_read.specs.declared.evidence.Role.{Role}
-use Rattle.instance_read.specs.declared.evidence.Role.TheVariants as roles
 use Rattle.instance_read.specs.declared.faults.ReadFaultKind.{ReadFaultKind}
 use Rattle.instance_read.specs.declared.faults.ReadFaultKind.TheVariants.{BadNumber, Range, TooManyStops}
 use Rattle.instance_read.specs.declared.vrp_lines.Key.TheVariants as keys
@@ -35,17 +33,8 @@ word_text Range field word limits = beyond_text field word limits
 word_text TooManyStops field word limits = many_text word field
 word_text kind field word limits = form words.FieldIs (field_name field ∷ shown_bytes word ∷ [])
 
-abbrev pub role_phrase : Role → Phrase
-role_phrase roles.Pickup = words.ItsPickupTask
-role_phrase roles.Delivery = words.ItsDeliveryTask
-
--- what the task that is named has the other one as
-abbrev pub other_phrase : Role → Phrase
-other_phrase roles.Pickup = words.ItsDeliveryTask
-other_phrase roles.Delivery = words.ItsPickupTask
-
-abbrev pub sum_phrase : Bool → Phrase
-sum_phrase is_negative = if is_negative then words.NegativePickup else words.SumNotZero
+abbrev pub demands_phrase : Bool → Phrase
+demands_phrase is_negative = if is_negative then words.NegativePickup else words.SumNotZero
 
 -- of what no line has
 abbrev pub missing_text : Evidence → List ℕ
@@ -71,11 +60,11 @@ key_text evidence = missing_text evidence
 abbrev pub pair_text : Evidence → List ℕ
 pair_text found.NamesNone = phrase words.NamesNone
 pair_text found.NamesBoth = phrase words.NamesBoth
-pair_text (found.Absent role n) = form words.Absent (phrase (role_phrase role) ∷ decimal n ∷ [])
-pair_text (found.NamesOther role n line named) =
-    form words.NamesOther (phrase (role_phrase role) ∷ decimal n ∷ decimal line ∷ decimal named ∷ phrase (other_phrase role) ∷ [])
-pair_text (found.Demands role n line demand own is_negative) =
-    form words.Demands (phrase (role_phrase role) ∷ decimal n ∷ decimal line ∷ shown_bytes demand ∷ shown_bytes own ∷ phrase (sum_phrase is_negative) ∷ [])
+pair_text (found.Absent field n) = form words.Absent (field_name field ∷ decimal n ∷ [])
+pair_text (found.NamesOther field n line named back) =
+    form words.NamesOther (field_name field ∷ decimal n ∷ decimal line ∷ decimal named ∷ field_name back ∷ [])
+pair_text (found.Demands field n line demand own is_negative) =
+    form (demands_phrase is_negative) (field_name field ∷ decimal n ∷ decimal line ∷ shown_bytes demand ∷ shown_bytes own ∷ [])
 pair_text evidence = key_text evidence
 
 -- what is said of the evidence of a fault of this kind

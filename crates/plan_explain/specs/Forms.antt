@@ -6,7 +6,7 @@ use Rattle.plan_explain.specs.Cited.{shown_byte, shown_bytes}
 use Rattle.plan_explain.specs.Names.{field_name, key_name, supported_name}
 use Rattle.plan_explain.specs.Phrases.{phrase, text_if}
 use Rattle.plan_explain.specs.declared.forms.Value.{Value}
-use Rattle.plan_explain.specs.declared.forms.Value.TheVariants.{Cited, KeyName, Limit, Missing, Name, Needed, Number, Words, WordsIf}
+use Rattle.plan_explain.specs.declared.forms.Value.TheVariants.{Cited, KeyName, Missing, Name, Needed, Number, Signed, WordsIf}
 use Rattle.plan_explain.specs.declared.phrases.Phrase.{Phrase}
 
 -- a blank and the key, if it is missing
@@ -15,13 +15,12 @@ lacked_text key is_missing = if is_missing then codes " " ++ key_name key else [
 
 abbrev pub value_text : Value → List ℕ
 value_text (Number n) = decimal n
-value_text (Limit z) = signed_decimal z
+value_text (Signed z) = signed_decimal z
 value_text (Cited bytes) = shown_bytes bytes.now
 value_text (Name field) = field_name field
 value_text (KeyName key) = key_name key
 value_text (Needed key) = supported_name key
 value_text (Missing key is_missing) = lacked_text key is_missing
-value_text (Words words) = phrase words
 value_text (WordsIf words holds) = text_if holds words
 
 -- a byte of words, or the first of these values, where the byte is @

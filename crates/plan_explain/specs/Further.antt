@@ -1,16 +1,17 @@
 -- How often a rule is broken, and where else. Routes and places count from 1.
-use Rattle.std.specs.Prelude.{ℕ, List, [], ◌++◌, codes, decimal, drop, length, take}
+use Rattle.std.specs.Prelude.{ℕ, List, [], ◌∷◌, ◌++◌, codes, decimal, drop, length, take}
 use Rattle.std.specs.List.{flat_map}
 use Rattle.plan_types.specs.Instance.{Instance}
 use Rattle.plan_audit.specs.declared.rules.Rule.{Rule}
 use Rattle.plan_audit.specs.declared.rules.Rule.TheVariants.{Missing, Fleet, Pin, PrintedCost}
 use Rattle.rule_breaches.specs.Breaches.{breaches_of, missing_stops}
 use Rattle.rule_breaches.specs.declared.breaches.Breach.{Breach}
+use Rattle.plan_explain.specs.Forms.{form}
 use Rattle.plan_explain.specs.Phrases.{phrase}
-use Rattle.plan_explain.specs.declared.phrases.Phrase.TheVariants.{Broken, Further, FurtherStop, Place, StopAt, Unserved}
+use Rattle.plan_explain.specs.declared.phrases.Phrase.TheVariants.{Broken, Further, FurtherStop, Unserved}
 
 abbrev pub place_text : Breach → List ℕ
-place_text b = (phrase Further ++ decimal b.route) ++ (phrase Place ++ decimal b.place) ++ (phrase StopAt ++ decimal b.stop) ++ codes "\n"
+place_text b = form Further (decimal b.route ∷ decimal b.place ∷ decimal b.stop ∷ []) ++ codes "\n"
 
 -- how many places there are, and those behind the first one, 20 of them at most
 abbrev pub places_text : List Breach → List ℕ

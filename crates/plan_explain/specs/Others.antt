@@ -1,5 +1,5 @@
 -- How often each rule behind the one that is told is broken, too.
-use Rattle.std.specs.Prelude.{ℕ, ◌-◌, ◌==◌, ◌&&◌, ◌||◌, nat_lt, if◌then◌else◌, Bool, List, [], ◌∷◌, ◌++◌, decimal, length}
+use Rattle.std.specs.Prelude.{ℕ, ◌-◌, ◌==◌, ◌&&◌, ◌||◌, nat_lt, if◌then◌else◌, Bool, List, [], ◌∷◌, decimal, length}
 use Rattle.std.specs.List.{flat_map}
 use Rattle.plan_types.specs.Instance.{Instance}
 use Rattle.route_sched.specs.Cost.{used_count}
@@ -9,8 +9,8 @@ use Rattle.plan_audit.specs.declared.rules.Rule.TheVariants.{Twice, Missing, Spl
 use Rattle.text_lines.specs.Lines.{ended}
 use Rattle.rule_breaches.specs.Breaches.{breaches_of, missing_stops}
 use Rattle.rule_breaches.specs.Ways.{knows_ways}
-use Rattle.plan_explain.specs.Phrases.{phrase}
-use Rattle.plan_explain.specs.declared.phrases.Phrase.TheVariants.{BreakRule, Colon}
+use Rattle.plan_explain.specs.Forms.{form}
+use Rattle.plan_explain.specs.declared.phrases.Phrase.TheVariants.{BreakRule}
 
 -- the places that break it; of rule 3 the stops in no route, of rule 9 the routes too many
 abbrev pub count_of : Instance → List (List ℕ) → Rule → ℕ
@@ -19,7 +19,7 @@ count_of p routes Fleet = used_count routes - p.fleet
 count_of p routes rule = length (breaches_of p routes rule)
 
 abbrev pub count_text : Rule → ℕ → List ℕ
-count_text rule n = if n == 0 then [] else ended ((phrase BreakRule ++ decimal (rule_number rule)) ++ (phrase Colon ++ decimal n))
+count_text rule n = if n == 0 then [] else ended (form BreakRule (decimal (rule_number rule) ∷ decimal n ∷ []))
 
 -- Loads and times are known where no stop is unknown or stands twice.
 abbrev pub is_counted : Rule → Rule → Bool

@@ -1,5 +1,5 @@
 -- What is said of a text that is refused: the sentence of its fault, then the line that the fault names, then what is said of it as a whole.
-use Rattle.std.specs.Prelude.{ℕ, List, [], ◌++◌, codes, Option, Some, None, decimal}
+use Rattle.std.specs.Prelude.{ℕ, List, [], ◌∷◌, ◌++◌, codes, Option, Some, None, decimal}
 use Rattle.text_lines.specs.Lines.{ended, lines_of}
 use Rattle.plan_types.specs.declared.requests.Kind.{Kind}
 use Rattle.plan_types.specs.declared.requests.Kind.TheVariants.{LiLim, Vrp}
@@ -14,9 +14,9 @@ use Rattle.sol_text.specs.declared.faults.SolFaultKind.TheVariants as sol_faults
 use Rattle.plan_explain.specs.Cited.{shown_bytes}
 use Rattle.plan_explain.specs.EvidenceTexts.{evidence_text}
 use Rattle.plan_explain.specs.Notes.{kind_note, mark_note}
-use Rattle.plan_explain.specs.Phrases.{phrase}
+use Rattle.plan_explain.specs.Forms.{form}
 use Rattle.plan_explain.specs.SolFaults.{sol_detail}
-use Rattle.plan_explain.specs.declared.phrases.Phrase.TheVariants.{Colon, Line}
+use Rattle.plan_explain.specs.declared.phrases.Phrase.TheVariants.{LineIs}
 
 -- one task's number is above the greatest; the nodes that are announced are too many
 unfoldable pub too_many : Kind → List ℕ
@@ -42,7 +42,7 @@ instance_reason kind faults.OutOfMemory = codes "out of memory"
 -- behind it stands what the line that it names has of it
 abbrev pub instance_sentence : Kind → List ℕ → ReadFault → List ℕ
 instance_sentence kind text fault =
-    (phrase Line ++ decimal fault.line) ++ phrase Colon ++ instance_reason kind fault.kind ++ evidence_text fault.kind (evidence_of kind text fault)
+    form LineIs (decimal fault.line ∷ []) ++ instance_reason kind fault.kind ++ evidence_text fault.kind (evidence_of kind text fault)
 
 unfoldable pub solution_reason : SolFaultKind → List ℕ
 solution_reason sol_faults.BadLine = codes "this is no route line, and no cost line with one word"
@@ -52,7 +52,7 @@ solution_reason sol_faults.OutOfMemory = codes "out of memory"
 
 abbrev pub solution_sentence : List ℕ → SolFault → List ℕ
 solution_sentence text fault =
-    (phrase Line ++ decimal fault.line) ++ phrase Colon ++ solution_reason fault.kind ++ sol_detail text fault.line fault.kind
+    form LineIs (decimal fault.line ∷ []) ++ solution_reason fault.kind ++ sol_detail text fault.line fault.kind
 
 -- the line, where the text has it
 abbrev pub cited_line : Option (List ℕ) → List ℕ

@@ -12,11 +12,12 @@ use Rattle.plan_audit.specs.declared.rules.Rule.{Rule}
 use Rattle.plan_audit.specs.declared.rules.Rule.TheVariants as rules
 use Rattle.rule_breaches.specs.Seats.{first_seat}
 use Rattle.rule_breaches.specs.declared.seats.Seat.{Seat}
+use Rattle.plan_explain.specs.Forms.{form}
 use Rattle.plan_explain.specs.Phrases.{phrase, text_if}
 use Rattle.plan_explain.specs.Tables.{rows_of}
 use Rattle.plan_explain.specs.declared.verdicts.Fault.{Fault}
 use Rattle.plan_explain.specs.declared.phrases.Phrase.{Phrase}
-use Rattle.plan_explain.specs.declared.phrases.Phrase.TheVariants.{UnknownStop, DepotInRoute, NumbersTooHigh, NumbersTooLow, NumbersBelow, VisitedTwice, First, MissingStop, SplitPair, EarlyDelivery, OtherStop, ItsPickup, Stop as StopWord, Is, Stands, Nowhere, AtPlace, OfRoute, Overload, DemandIs, LoadIs, Capacity, LateService, StartsAt, LateReturn, BackAt, Latest, LateBy, TooManyVehicles, Fleet, WrongCost, Driven}
+use Rattle.plan_explain.specs.declared.phrases.Phrase.TheVariants.{UnknownStop, DepotInRoute, NumbersTooHigh, NumbersTooLow, VisitedTwice, First, MissingStop, SplitPair, EarlyDelivery, OtherStop, ItsPickup, StopIs, Nowhere, AtPlace, Overload, DemandIs, LoadIs, LateService, LateReturn, TooManyVehicles, WrongCost, Driven}
 use Rattle.plan_explain.specs.declared.rows.Row.{Row}
 
 -- the stops of a route; route 0 has none
@@ -25,16 +26,16 @@ route_told routes r = unwrap_or (item_at routes r) []
 
 abbrev pub seat_text : Option Seat → List ℕ
 seat_text None = phrase Nowhere
-seat_text (Some s) = phrase AtPlace ++ decimal s.place ++ phrase OfRoute ++ decimal s.route
+seat_text (Some s) = form AtPlace (decimal s.place ∷ decimal s.route ∷ [])
 
 -- where a stop stands first
 abbrev pub stands_text : List (List ℕ) → ℕ → List ℕ
-stands_text routes n = phrase StopWord ++ decimal n ++ phrase Is ++ seat_text (first_seat routes n)
+stands_text routes n = form StopIs (decimal n ∷ []) ++ seat_text (first_seat routes n)
 
 -- and another stop beside it, if there is one
 abbrev pub beside_text : List (List ℕ) → Phrase → Option ℕ → List ℕ
 beside_text routes words None = []
-beside_text routes words (Some m) = phrase words ++ decimal m ++ phrase Stands ++ seat_text (first_seat routes m)
+beside_text routes words (Some m) = form words (decimal m ∷ []) ++ seat_text (first_seat routes m)
 
 -- a stop, and the other one of its pair
 abbrev pub pair_text : Instance → List (List ℕ) → ℕ → List ℕ
@@ -59,7 +60,7 @@ shift_text p routes =
 
 -- rules 1 and 2
 abbrev pub unknown_text : Instance → ℕ → List ℕ
-unknown_text p n = if n == 0 then phrase DepotInRoute else (phrase UnknownStop ++ decimal n) ++ (phrase NumbersBelow ++ decimal p.next_number)
+unknown_text p n = if n == 0 then phrase DepotInRoute else form UnknownStop (decimal n ∷ decimal p.next_number ∷ [])
 
 abbrev pub unknown_sentence : Instance → List (List ℕ) → ℕ → List ℕ
 unknown_sentence p routes n = unknown_text p n ++ shift_text p routes
@@ -89,15 +90,15 @@ stop_text p words n = (phrase words ++ decimal n) ++ demand_text (stop_at p n)
 -- 6 and 7, by the row of the place that is told
 abbrev pub load_sentence : Instance → Option Row → List ℕ
 load_sentence p None = []
-load_sentence p (Some row) = stop_text p Overload row.stop ++ (phrase LoadIs ++ signed_decimal row.load) ++ (phrase Capacity ++ decimal p.capacity)
+load_sentence p (Some row) = stop_text p Overload row.stop ++ form LoadIs (signed_decimal row.load ∷ decimal p.capacity ∷ [])
 
--- a time, the latest time, and by how much it is late
-abbrev pub late_text : ℕ → ℕ → List ℕ
-late_text start latest = decimal start ++ phrase Latest ++ decimal latest ++ phrase LateBy ++ decimal (start - latest)
+-- a stop, a time, the latest time, and by how much it is late
+abbrev pub late_text : Phrase → ℕ → ℕ → ℕ → List ℕ
+late_text words n start latest = form words (decimal n ∷ decimal start ∷ decimal latest ∷ decimal (start - latest) ∷ [])
 
 abbrev pub late_sentence : Option Row → List ℕ
 late_sentence None = []
-late_sentence (Some row) = (phrase LateService ++ decimal row.stop) ++ phrase StartsAt ++ late_text row.start row.latest
+late_sentence (Some row) = late_text LateService row.stop row.start row.latest
 
 -- the last of these stops; this one, where there is none
 abbrev pub last_from : ℕ → List ℕ → ℕ
@@ -109,11 +110,8 @@ abbrev pub last_stop : List ℕ → ℕ
 last_stop route = last_from 0 route
 
 -- 8: the last stop, and when the vehicle is back behind it
-abbrev pub return_text : Instance → ℕ → ℕ → List ℕ
-return_text p n back = (phrase LateReturn ++ decimal n) ++ phrase BackAt ++ late_text back p.depot.latest
-
 unfoldable pub return_sentence : Instance → List ℕ → List ℕ
-return_sentence p route = return_text p (last_stop route) (start p route (length route + 1))
+return_sentence p route = late_text LateReturn (last_stop route) (start p route (length route + 1)) p.depot.latest
 
 -- the row of a place, counted from 1
 abbrev pub row_told : Instance → List ℕ → ℕ → Option Row
@@ -121,7 +119,7 @@ row_told p route i = item_at (rows_of p route) i
 
 -- 9 and 11
 abbrev pub fleet_sentence : Instance → List (List ℕ) → List ℕ
-fleet_sentence p routes = phrase TooManyVehicles ++ decimal (used_count routes) ++ phrase Fleet ++ decimal p.fleet
+fleet_sentence p routes = form TooManyVehicles (decimal (used_count routes) ∷ decimal p.fleet ∷ [])
 
 abbrev pub cost_sentence : Instance → Solution → List ℕ
 cost_sentence p plan = phrase WrongCost ++ decimal plan.cost ++ phrase Driven ++ decimal (total_length p plan.routes)

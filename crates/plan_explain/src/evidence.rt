@@ -1,19 +1,18 @@
 //! What is said of the evidence of a fault of an instance, behind its kind.
 ghost use Rattle.std.specs.Prelude.{◌≡◌, ◌++◌};
-ghost use Rattle.plan_explain.specs.EvidenceTexts.{beyond_text, evidence_text, key_text, many_text, missing_text, other_phrase, pair_text, role_phrase, sum_phrase, word_text};
+ghost use Rattle.plan_explain.specs.EvidenceTexts.{beyond_text, demands_phrase, evidence_text, key_text, many_text, missing_text, pair_text, word_text};
 
-use crate::forms::Value::{Cited, KeyName, Limit, Missing, Name, Needed, Number, Words, WordsIf};
+use crate::forms::Value::{Cited, KeyName, Missing, Name, Needed, Number, Signed, WordsIf};
 use crate::forms::put_form;
 use crate::numbers::is_fraction;
 use crate::phrases::Phrase;
 use crate::phrases::Phrase::{
-    Absent, BehindEnd, Beyond, Counts, Demands, FieldIs, FirstTask, Fraction, InsideDepots,
-    ItsDeliveryTask, ItsPickupTask, KeyIs, MissingKeys, NamesBoth, NamesNone, NamesOther,
-    NegativePickup, NoDepot, NoHeader, NodeCounts, NotBefore, Stray, StrayNodes, SumNotZero,
-    TaskBehind, TaskIs, Unfinished, ValueIs, Window,
+    Absent, BehindEnd, Beyond, Counts, FieldIs, FirstTask, Fraction, InsideDepots, KeyIs,
+    MissingKeys, NamesBoth, NamesNone, NamesOther, NegativePickup, NoDepot, NoHeader, NodeCounts,
+    NotBefore, Stray, StrayNodes, SumNotZero, TaskBehind, TaskIs, Unfinished, ValueIs, Window,
 };
 use crate::sentences::put_phrase;
-use instance_read::{Evidence, Field, Key, Limits, ReadFaultKind, Role};
+use instance_read::{Evidence, Field, Key, Limits, ReadFaultKind};
 use told_text::Told;
 
 /// Appends what the line of a fault of this kind has of it.
@@ -60,7 +59,7 @@ fn put_beyond(text: &mut Told, field: Field, word: &[u8], limits: Option<Limits>
     let Some((least, most)) = limits else {
         return;
     };
-    let (least, most) = (Limit(least), Limit(most));
+    let (least, most) = (Signed(i64::from(least)), Signed(i64::from(most)));
     put_form(text, Beyond, &[Name(field), Cited(word), least, most]);
 }
 
@@ -81,50 +80,30 @@ fn put_pair(text: &mut Told, evidence: Evidence<'_>)
     match evidence {
         Evidence::NamesNone => put_phrase(text, NamesNone),
         Evidence::NamesBoth => put_phrase(text, NamesBoth),
-        Evidence::Absent(role, task) => {
+        Evidence::Absent(field, task) => {
+            put_form(text, Absent, &[Name(field), Number(u64::from(task))])
+        }
+        Evidence::NamesOther(field, task, line, named, back) => {
+            let (task, named) = (Number(u64::from(task)), Number(u64::from(named)));
             put_form(
                 text,
-                Absent,
-                &[Words(role_phrase(role)), Number(u64::from(task))],
+                NamesOther,
+                &[Name(field), task, Number(line), named, Name(back)],
             )
         }
-        Evidence::NamesOther(role, task, line, named) => {
-            let (task, named) = (Number(u64::from(task)), Number(u64::from(named)));
-            let (role, other) = (Words(role_phrase(role)), Words(other_phrase(role)));
-            put_form(text, NamesOther, &[role, task, Number(line), named, other])
-        }
-        Evidence::Demands(role, task, line, demand, own, is_negative) => {
-            let (role, task) = (Words(role_phrase(role)), Number(u64::from(task)));
+        Evidence::Demands(field, task, line, demand, own, is_negative) => {
+            let (task, line) = (Number(u64::from(task)), Number(line));
             let (demand, own) = (Cited(demand.bytes()), Cited(own.bytes()));
-            let sum = Words(sum_phrase(is_negative));
-            put_form(text, Demands, &[role, task, Number(line), demand, own, sum])
+            let words = demands_phrase(is_negative);
+            put_form(text, words, &[Name(field), task, line, demand, own])
         }
         other => put_key(text, other),
     }
 }
 
-fn role_phrase(role: Role) -> Phrase
-    ensures { result ≡ role_phrase role }
-{
-    match role {
-        Role::Pickup => ItsPickupTask,
-        Role::Delivery => ItsDeliveryTask,
-    }
-}
-
-// What the task that is named has the other one as.
-fn other_phrase(role: Role) -> Phrase
-    ensures { result ≡ other_phrase role }
-{
-    match role {
-        Role::Pickup => ItsDeliveryTask,
-        Role::Delivery => ItsPickupTask,
-    }
-}
-
 // A pickup's demand that is below 0 is wrong whatever the other one is, and else their sum is.
-fn sum_phrase(is_negative: bool) -> Phrase
-    ensures { result ≡ sum_phrase is_negative }
+fn demands_phrase(is_negative: bool) -> Phrase
+    ensures { result ≡ demands_phrase is_negative }
 {
     if is_negative {
         NegativePickup

@@ -6,7 +6,7 @@ ghost use Rattle.plan_explain.specs.Phrases.{phrase};
 use crate::cited::{put_shown, shown_byte};
 use crate::names::{field_name, key_name, supported_name};
 use crate::phrases::Phrase;
-use crate::sentences::{put_mark, put_phrase};
+use crate::sentences::put_mark;
 use instance_read::{Field, Key};
 use told_text::Told;
 
@@ -14,7 +14,7 @@ use told_text::Told;
 #[derive(Clone, Copy)]
 pub(crate) enum Value<'a> {
     Number(u64),
-    Limit(i32),
+    Signed(i64),
     /// Bytes of the text.
     Cited(&'a [u8]),
     Name(Field),
@@ -23,7 +23,6 @@ pub(crate) enum Value<'a> {
     Needed(Key),
     /// A blank and a key, if that is missing.
     Missing(Key, bool),
-    Words(Phrase),
     WordsIf(Phrase, bool),
 }
 
@@ -61,13 +60,12 @@ fn put_value(text: &mut Told, value: Value<'_>)
 {
     match value {
         Value::Number(number) => text.push_number(number),
-        Value::Limit(limit) => text.push_number(limit),
+        Value::Signed(number) => text.push_number(number),
         Value::Cited(bytes) => put_shown(text, bytes),
         Value::Name(field) => text.push_str(field_name(field)),
         Value::KeyName(key) => text.push_str(key_name(key)),
         Value::Needed(key) => text.push_str(supported_name(key)),
         Value::Missing(key, is_missing) => put_lacked(text, key, is_missing),
-        Value::Words(words) => put_phrase(text, words),
         Value::WordsIf(words, holds) => put_mark(text, holds, words),
     }
 }

@@ -6,6 +6,8 @@ ghost use Rattle.rule_breaches.specs.Ways.{knows_ways};
 ghost use Rattle.plan_explain.specs.Further.{further_text, missing_stop_text, missing_text, place_text, places_text};
 
 use crate::firsts::first_of;
+use crate::forms::Value::Number;
+use crate::forms::put_form;
 use crate::phrases::Phrase;
 use crate::sentences::put_named;
 use plan_audit::Rule;
@@ -96,8 +98,7 @@ fn put_place_lines(text: &mut Told, found: &[Breach])
 fn put_place_line(text: &mut Told, breach: Breach)
     ensures { text.new ≡ text.old ++ place_text breach }
 {
-    put_named(text, Phrase::Further, breach.route);
-    put_named(text, Phrase::Place, breach.place);
-    put_named(text, Phrase::StopAt, u64::from(breach.stop));
+    let (place, stop) = (Number(breach.place), Number(u64::from(breach.stop)));
+    put_form(text, Phrase::Further, &[Number(breach.route), place, stop]);
     text.push_str("\n");
 }

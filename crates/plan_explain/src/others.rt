@@ -6,8 +6,9 @@ ghost use Rattle.plan_audit.specs.Verdict.{rule_number};
 ghost use Rattle.rule_breaches.specs.Ways.{knows_ways};
 ghost use Rattle.plan_explain.specs.Others.{count_of, count_text, is_counted, other_text, others_text};
 
+use crate::forms::Value::Number;
+use crate::forms::put_form;
 use crate::phrases::Phrase;
-use crate::sentences::put_named;
 use plan_audit::Rule;
 use plan_types::{OutOfMemory, Problem, Route};
 use route_sched::used_count;
@@ -89,8 +90,8 @@ fn put_count(text: &mut Told, rule: Rule, count: u64)
     if count == 0 {
         return;
     }
-    put_named(text, Phrase::BreakRule, rule.number());
-    put_named(text, Phrase::Colon, count);
+    let number = Number(u64::from(rule.number()));
+    put_form(text, Phrase::BreakRule, &[number, Number(count)]);
     text.push_str("\n");
 }
 

@@ -5,9 +5,10 @@ ghost use Rattle.plan_explain.specs.Refused.{instance_fault_text, instance_reaso
 
 use crate::cited::{line_at, put_line};
 use crate::evidence::put_evidence;
+use crate::forms::Value::Number;
+use crate::forms::put_form;
 use crate::notes::{put_kind_note, put_mark_note};
 use crate::phrases::Phrase;
-use crate::sentences::{put_named, put_phrase};
 use crate::sol_faults::put_sol_detail;
 use instance_read::{ReadFault, ReadFaultKind, evidence_of};
 use plan_types::{Kind, OutOfMemory};
@@ -53,8 +54,7 @@ pub fn explain_solution_fault(
 fn put_instance_sentence(answer: &mut Told, kind: Kind, text: &[u8], fault: ReadFault)
     ensures { answer.new ≡ answer.old ++ instance_sentence kind text.now fault }
 {
-    put_named(answer, Phrase::Line, fault.line);
-    put_phrase(answer, Phrase::Colon);
+    put_form(answer, Phrase::LineIs, &[Number(fault.line)]);
     answer.push_str(instance_reason(kind, fault.kind));
     put_evidence(answer, fault.kind, evidence_of(kind, text, fault));
 }
@@ -93,8 +93,7 @@ fn too_many(kind: Kind) -> &'static str
 fn put_solution_sentence(answer: &mut Told, text: &[u8], fault: SolFault)
     ensures { answer.new ≡ answer.old ++ solution_sentence text.now fault }
 {
-    put_named(answer, Phrase::Line, fault.line);
-    put_phrase(answer, Phrase::Colon);
+    put_form(answer, Phrase::LineIs, &[Number(fault.line)]);
     answer.push_str(solution_reason(fault.kind));
     put_sol_detail(answer, text, fault);
 }

@@ -5,8 +5,10 @@ ghost use Rattle.std.specs.Option.{option_copied};
 ghost use Rattle.route_sched.specs.Route.{AreLiveOnce};
 ghost use Rattle.route_sched.specs.Cost.{used_count};
 ghost use Rattle.plan_explain.specs.Phrases.{phrase, text_if};
-ghost use Rattle.plan_explain.specs.Sentences.{beside_text, cost_sentence, demand_text, early_sentence, fleet_sentence, last_stop, late_sentence, late_text, load_sentence, missing_sentence, pair_text, return_sentence, return_text, seat_text, split_sentence, stands_text, stop_text, twice_sentence, unknown_sentence, unknown_text};
+ghost use Rattle.plan_explain.specs.Sentences.{beside_text, cost_sentence, demand_text, early_sentence, fleet_sentence, last_stop, late_sentence, late_text, load_sentence, missing_sentence, pair_text, return_sentence, seat_text, split_sentence, stands_text, stop_text, twice_sentence, unknown_sentence, unknown_text};
 
+use crate::forms::Value::{Number, Signed};
+use crate::forms::put_form;
 use crate::phrases::Phrase;
 use crate::rows::Row;
 use crate::shifts::put_shift;
@@ -56,9 +58,11 @@ fn put_unknown_stop(text: &mut Told, problem: &Problem, stop: u32)
         put_phrase(text, Phrase::DepotInRoute);
         return;
     }
-    put_named(text, Phrase::UnknownStop, u64::from(stop));
-    let next = u64::from(problem.next_number);
-    put_named(text, Phrase::NumbersBelow, next);
+    let (stop, next) = (
+        Number(u64::from(stop)),
+        Number(u64::from(problem.next_number)),
+    );
+    put_form(text, Phrase::UnknownStop, &[stop, next]);
 }
 
 /// Appends where a stop that stands twice stands first.
@@ -105,8 +109,7 @@ fn put_pair(text: &mut Told, problem: &Problem, routes: &[Route], stop: u32)
 fn put_stands(text: &mut Told, routes: &[Route], stop: u32)
     ensures { text.new ≡ text.old ++ stands_text routes.now stop }
 {
-    put_named(text, Phrase::Stop, u64::from(stop));
-    put_phrase(text, Phrase::Is);
+    put_form(text, Phrase::StopIs, &[Number(u64::from(stop))]);
     put_seat(text, first_seat(routes, stop));
 }
 
@@ -117,8 +120,7 @@ fn put_beside(text: &mut Told, routes: &[Route], words: Phrase, stop: Option<u32
     let Some(stop) = stop else {
         return;
     };
-    put_named(text, words, u64::from(stop));
-    put_phrase(text, Phrase::Stands);
+    put_form(text, words, &[Number(u64::from(stop))]);
     put_seat(text, first_seat(routes, stop));
 }
 
@@ -127,9 +129,8 @@ fn put_seat(text: &mut Told, seat: Option<Seat>)
 {
     match seat {
         None => put_phrase(text, Phrase::Nowhere),
-        Some(seat) => {
-            put_named(text, Phrase::AtPlace, seat.place);
-            put_named(text, Phrase::OfRoute, seat.route)
+        Some(Seat { route, place }) => {
+            put_form(text, Phrase::AtPlace, &[Number(place), Number(route)])
         }
     }
 }
@@ -142,8 +143,8 @@ pub(crate) fn put_overload(text: &mut Told, problem: &Problem, row: Option<Row>)
         return;
     };
     put_stop(text, problem, Phrase::Overload, row.stop);
-    put_named(text, Phrase::LoadIs, row.load);
-    put_named(text, Phrase::Capacity, u64::from(problem.capacity));
+    let capacity = Number(u64::from(problem.capacity));
+    put_form(text, Phrase::LoadIs, &[Signed(row.load), capacity]);
 }
 
 // Words, and behind them a stop with its demand.
@@ -177,9 +178,7 @@ pub(crate) fn put_late(text: &mut Told, row: Option<Row>)
     let Some(row) = row else {
         return;
     };
-    put_named(text, Phrase::LateService, u64::from(row.stop));
-    put_phrase(text, Phrase::StartsAt);
-    put_lateness(text, row.start, row.latest);
+    put_lateness(text, Phrase::LateService, row.stop, row.start, row.latest);
 }
 
 /// Appends when the vehicle is back, and the depot's latest.
@@ -189,16 +188,13 @@ pub(crate) fn put_late_return(text: &mut Told, problem: &Problem, route: &[u32])
     ensures { text.new ≡ text.old ++ return_sentence problem.now route.now }
 {
     let back = visit_behind(problem, route, route.len()).start;
-    put_return(text, problem, last_stop(route), back);
-}
-
-// The last stop, and when the vehicle is back behind it.
-fn put_return(text: &mut Told, problem: &Problem, stop: u32, back: u64)
-    ensures { text.new ≡ text.old ++ return_text problem.now stop back }
-{
-    put_named(text, Phrase::LateReturn, u64::from(stop));
-    put_phrase(text, Phrase::BackAt);
-    put_lateness(text, back, problem.depot.latest);
+    put_lateness(
+        text,
+        Phrase::LateReturn,
+        last_stop(route),
+        back,
+        problem.depot.latest,
+    );
 }
 
 // The last stop of a route; 0 where it has none.
@@ -212,21 +208,22 @@ fn last_stop(route: &[u32]) -> u32
     last
 }
 
-fn put_lateness(text: &mut Told, start: u64, latest: u32)
-    ensures { text.new ≡ text.old ++ late_text start latest }
+// A stop, a time, the latest time, and by how much it is late.
+fn put_lateness(text: &mut Told, words: Phrase, stop: u32, start: u64, latest: u32)
+    ensures { text.new ≡ text.old ++ late_text words stop start latest }
 {
-    let latest = u64::from(latest);
-    text.push_number(start);
-    put_named(text, Phrase::Latest, latest);
-    put_named(text, Phrase::LateBy, start.saturating_sub(latest));
+    let (stop, latest) = (u64::from(stop), u64::from(latest));
+    let late = Number(start.saturating_sub(latest));
+    let values = [Number(stop), Number(start), Number(latest), late];
+    put_form(text, words, &values);
 }
 
 /// Appends how many vehicles are used, and how many there are.
 pub(crate) fn put_fleet(text: &mut Told, problem: &Problem, routes: &[Route])
     ensures { text.new ≡ text.old ++ fleet_sentence problem.now routes.now }
 {
-    put_named(text, Phrase::TooManyVehicles, used_count(routes));
-    put_named(text, Phrase::Fleet, u64::from(problem.fleet));
+    let (used, fleet) = (Number(used_count(routes)), Number(u64::from(problem.fleet)));
+    put_form(text, Phrase::TooManyVehicles, &[used, fleet]);
 }
 
 /// Appends the printed cost, and the distance driven.
