@@ -49,7 +49,8 @@ pub row_within : (p : Instance) (route : List ℕ) (rows : List Row) (k : ℕ) �
 row_within p route rows k are lt = omega (arith, rows_counted p route rows are)
 
 -- what is made of a row and its visit is that of the place
-pub stop_visit_is : (p : Instance) (route : List ℕ) (rows : List Row) (k : ℕ) (d : Row) (visit : Visit) → rows ≡ rows_of p route → k < length rows → visit ≡ visit_after p route k → stop_visit_with (slice_index_or rows k d) visit ≡ stop_visit_behind p route k
+pub stop_visit_is : (p : Instance) (route : List ℕ) (rows : List Row) (k : ℕ) (d : Row) (visit : Visit) → rows ≡ rows_of p route → k < length rows
+    → visit ≡ visit_after p route k → stop_visit_with (slice_index_or rows k d) visit ≡ stop_visit_behind p route k
 stop_visit_is p route rows k d visit are lt is =
     let within = row_within p route rows k are lt in
     let row : slice_index_or rows k d ≡ row_behind p route k = ap (λ rs. slice_index_or rs k d) are ∙ get_or-map-range_with_len (row_behind p route) 0 (length route + 1) k k d (omega (arith, within)) (omega arith) in

@@ -95,7 +95,8 @@ unfolding row_end fixed
 row_ends g index n os =
     let a = inside (codes "tspan" ∷ codes "text" ∷ codes "g" ∷ n ∷ os) in
     goes_on a (fixed tags.CellsEnd ++ heading_text g index) (fixed tags.GroupEnd)
-    (goes_on a (fixed tags.CellsEnd) (heading_text g index) refl (stays_if (index % g.rows == 0) (columns_text ++ fixed tags.HeadingEnd) [] columns_stay (λ m ms. refl) (codes "g") (n ∷ os))) (group_ends n os)
+    (goes_on a (fixed tags.CellsEnd) (heading_text g index) refl
+    (stays_if (index % g.rows == 0) (columns_text ++ fixed tags.HeadingEnd) [] columns_stay (λ m ms. refl) (codes "g") (n ∷ os))) (group_ends n os)
 
 row_stays : (p : Instance) (g : Grid) (broken first index : ℕ) (route : List ℕ) → Stays (row_text p g broken first index route)
 unfolding row_text
