@@ -2,6 +2,7 @@ mod BlockLemmas
 mod DrawLemmas
 mod Examples
 pub mod NameLemmas
+mod NearbyLemmas
 mod PickLemmas
 pub mod PlacingLemmas
 mod RouteLemmas

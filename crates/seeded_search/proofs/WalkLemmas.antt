@@ -15,7 +15,9 @@ use Rattle.seeded_search.specs.Words.{pick, step_words}
 use Rattle.seeded_search.specs.Steps.{picked, movable_names, unplanned_names, placed_all, relocated, exchanged_by, used_vehicles, cut_by, crossed_by, ruined_names, recreated_by, candidate, Walked, has_less_pair, has_same_pair, is_near, moved_on, moved_on_by, many, step, steps, walked}
 use Rattle.move_ops.specs.Foreseen.{IsCostIfMade}
 use Rattle.move_ops.specs.Drafts.{placed, AreIdleBehind, Drafted, base_of, draft_of, IsDraftOf, IsMade}
+use Rattle.seeded_search.specs.Nearby.{AreFronts}
 use Rattle.seeded_search.specs.Working.{AreListsOf, IsMadeIfNear, IsWalk, HasTaken}
+use Rattle.seeded_search.specs.declared.nearby.Nearby.{Nearby}
 use Rattle.seeded_search.specs.declared.walk.Walk.{Walk}
 use Rattle.plan_types.specs.declared.plans.Plan.{Plan}
 use Rattle.seeded_search.specs.StepLaws.{RelocatedNeverCostMore, StepsAddUp, BothPass, StepsKeepPassing, IncumbentsNeverCostMore, WorksNear, WorkingStaysNear}
@@ -280,8 +282,8 @@ module _ (p : Instance) (deviation : ℕ) (s : Walked) (c : List (List ℕ)) whe
 
 -- a walk goes on from its candidate
 pub taken_walk : (p : Instance) (pins : List (List ℕ)) (old new : Walk) → HasTaken p pins old new → passes p pins old.incumbent.routes ≡ true → old.best ≡ cost_of p old.incumbent.routes
-    → AreIdleBehind old.front old.incumbent.routes → IsWalk p pins new
-taken_walk p pins old new h pass best idle =
+    → AreIdleBehind old.front old.incumbent.routes → AreFronts p old.nearby → IsWalk p pins new
+taken_walk p pins old new h pass best idle nearby =
     let same : old.incumbent.routes ≡ new.incumbent.routes = ap (λ (plan : Plan). plan.routes) (sym h.incumbent) in
     record {
       keeps = record {
@@ -291,6 +293,7 @@ taken_walk p pins old new h pass best idle =
         idle = subst (λ n. AreIdleBehind n new.incumbent.routes) (sym h.front) (subst (AreIdleBehind old.front) same idle);
         lists = subst (λ routes. AreListsOf p pins routes new.lists) (sym h.base) h.lists;
         at = λ yes. absurd (both_ways new.is_at_incumbent h.at yes);
+        nearby = subst (AreFronts p) (sym h.nearby) nearby;
       };
       settled = h.settled ∙ sym h.base;
     }
@@ -305,6 +308,7 @@ noted_walk p pins w at is same = record {
     idle = is.keeps.idle;
     lists = is.keeps.lists;
     at = same;
+    nearby = is.keeps.nearby;
   };
   settled = is.settled;
 }
@@ -315,8 +319,9 @@ made_some None made old new h is = absurd (both_ways made h.0 is)
 made_some (Some routes) made old new h is = ap (λ x. Some x) (sym h.1)
 
 -- the draft is the base again
-pub stayed_walk : (p : Instance) (pins : List (List ℕ)) (w : Walk) (draft : Drafted) → IsWalk p pins w → IsDraftOf p pins draft → base_of draft ≡ base_of w.draft → draft_of draft ≡ draft_of w.draft → IsWalk p pins (record w { draft = draft })
-stayed_walk p pins w draft is drafted base same = record {
+pub stayed_walk : (p : Instance) (pins : List (List ℕ)) (w : Walk) (draft : Drafted) (nearby : Nearby) → IsWalk p pins w → AreFronts p nearby → IsDraftOf p pins draft → base_of draft ≡ base_of w.draft
+    → draft_of draft ≡ draft_of w.draft → IsWalk p pins (record w { draft = draft; nearby = nearby })
+stayed_walk p pins w draft nearby is fronts drafted base same = record {
   keeps = record {
     draft = drafted;
     incumbent = is.keeps.incumbent;
@@ -324,6 +329,7 @@ stayed_walk p pins w draft is drafted base same = record {
     idle = is.keeps.idle;
     lists = subst (λ routes. AreListsOf p pins routes w.lists) (sym base) is.keeps.lists;
     at = λ yes. is.keeps.at yes ∙ sym base;
+    nearby = fronts;
   };
   settled = same ∙ (is.settled ∙ sym base);
 }

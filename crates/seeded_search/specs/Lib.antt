@@ -8,4 +8,5 @@ pub mod StepLaws
 pub mod Draws
 pub mod Generator
 pub mod Names
+pub mod Nearby
 pub mod Working

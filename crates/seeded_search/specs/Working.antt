@@ -7,6 +7,7 @@ use Rattle.plan_audit.specs.Passes.{passes}
 use Rattle.move_ops.specs.Drafts.{base_of, draft_of, AreIdleBehind, Drafted, IsDraftOf, placed}
 use Rattle.move_ops.specs.Savings.{SavesAtMost}
 use Rattle.seeded_search.specs.Steps.{movable_names, unplanned_names, placed_all, is_near, Walked, walked}
+use Rattle.seeded_search.specs.Nearby.{AreFronts}
 use Rattle.seeded_search.specs.declared.lists.Lists.{Lists}
 use Rattle.seeded_search.specs.declared.near.Outlook.{Outlook}
 use Rattle.seeded_search.specs.declared.near.Outlook.TheVariants.{Far, Open, Below}
@@ -29,6 +30,7 @@ pub record KeepsWalk (p : Instance) (pins : List (List ℕ)) (w : Walk) : Type 0
   pub idle : AreIdleBehind w.front w.incumbent.routes
   pub lists : AreListsOf p pins (base_of w.draft) w.lists
   pub at : IsTrue w.is_at_incumbent → w.incumbent.routes ≡ base_of w.draft
+  pub nearby : AreFronts p w.nearby
 
 -- the draft is this plan, or it stays, since the plan is not near an incumbent of that cost
 pub record IsMadeOrFar (p : Instance) (deviation : ℕ) (best : Cost) (routes : List (List ℕ)) (made : Bool) (old new : Drafted) : Type 0 where
@@ -82,3 +84,4 @@ pub record HasTaken (p : Instance) (pins : List (List ℕ)) (old new : Walk) : T
   pub front : new.front ≡ old.front
   pub lists : AreListsOf p pins (draft_of old.draft) new.lists
   pub at : new.is_at_incumbent ≡ false
+  pub nearby : new.nearby ≡ old.nearby

@@ -11,6 +11,7 @@
 //! - `draws`: what a step's words draw of lists.
 //! - `lists`: the lists that a step draws from.
 //! - `near`: which candidates are walked on from.
+//! - `nearby`: the stops nearest to each, for steps of another kind.
 //! - `placing`: requests put in, and given up where the plan would be far.
 //! - `operators`: the candidate that a step's words make.
 //! - `walk`: what a search keeps from step to step, and what a candidate replaces.
@@ -19,7 +20,7 @@
 //! - `laws`: what words, picks and steps mean, without code.
 //!
 //! Specs: `ChaCha20` and `Words` (the words), `Steps` (a step, as a definition that computes), `Laws` and
-//! `StepLaws`; `Generator`, `Names` and `Working` follow the code.
+//! `StepLaws`; `Generator`, `Names`, `Nearby` and `Working` follow the code.
 //!
 //! Source: ChaCha20 by RFC 8439; record-to-record travel (Dueck 1993); ruin and recreate, relocation,
 //! exchange of requests and 2-opt* as the literature on vehicle routing has them.
@@ -33,7 +34,8 @@
 //!
 //! What a step of another kind needs too is public: `Walk` with its `Lists` begins, ends and takes a candidate,
 //! `StepWords` gives the words of one step after another, `place_all` and `place_all_near` recreate, `Walk::improve` and `is_near` settle.
-//! A walk may be kept between searches (`command_core`): `walk_on` makes further steps, `plans` copies both plans.
+//! A walk may be kept between searches (`command_core`): `walk_on` makes further steps, `plans` copies both plans. It keeps
+//! the stops nearest to each too (`Nearby`), which annealing asks for.
 //!
 //! The definition of a step knows nothing of the code: commands and the journal speak of `step` and `steps`
 //! alone. A step is a function of the plans, deviation, seed and number, so searches may be cut and run
@@ -59,6 +61,7 @@ mod incumbent;
 mod laws;
 mod lists;
 mod near;
+mod nearby;
 mod operators;
 mod placing;
 mod search;
@@ -71,6 +74,7 @@ pub use laws::{
 };
 pub use lists::Lists;
 pub use near::{Near, is_near};
+pub use nearby::{Nearby, Seat};
 pub use placing::{place_all, place_all_near};
 pub use search::{Found, search_step, search_steps, walk_on};
 pub use stream::{StepWords, words};

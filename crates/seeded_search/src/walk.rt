@@ -17,6 +17,7 @@ ghost use Rattle.seeded_search.specs.Working.{KeepsWalk, IsWalk, AreListsOf, Has
 use crate::incumbent::follow;
 use crate::lists::Lists;
 use crate::near::{Near, is_near};
+use crate::nearby::Nearby;
 use crate::operators::make;
 use crate::search::Found;
 use move_ops::Draft;
@@ -40,6 +41,8 @@ pub struct Walk {
     pub lists: Lists,
     /// Whether the working plan is known to be the incumbent.
     pub is_at_incumbent: bool,
+    /// The stops nearest to each, which a step of this crate does not ask for.
+    pub nearby: Nearby,
 }
 
 impl Walk {
@@ -67,6 +70,7 @@ impl Walk {
             best: plan_cost(problem, plan),
             lists,
             is_at_incumbent: false,
+            nearby: Nearby::none(alloc),
         })
     }
 

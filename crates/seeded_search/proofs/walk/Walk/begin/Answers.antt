@@ -17,6 +17,7 @@ returns-clause-walk c =
         idle = idle_behind_all routes (length c.as_slice.result.now) (omega arith);
         lists = search rules;
         at = search rules;
+        nearby = search rules;
       };
       settled = search rules;
     }

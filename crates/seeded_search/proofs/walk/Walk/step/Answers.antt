@@ -36,5 +36,5 @@ returns-then-not-branch-clause-walk c =
     let pins = c.args.pins.now.routes in
     let walk = c.args.self.now in
     let draft = c.make.new.draft in
-    stayed_walk p pins walk draft c.requires c.in_ok-make.ensures.is c.in_ok-make.ensures.base
+    stayed_walk p pins walk draft walk.nearby c.requires c.requires.keeps.nearby c.in_ok-make.ensures.is c.in_ok-make.ensures.base
     (stays_then p c.args.deviation walk.best (candidate p pins (draft_of walk.draft) c.args.words.now) c.in_ok-make.field-0 walk.draft draft c.in_ok-make.ensures.made (search rules))

@@ -29,6 +29,7 @@ returns-then-is_empty c =
         unplanned = c.requires.lists.unplanned ∙ (before ∙ sym after);
       };
       at = search rules;
+      nearby = search rules;
     }
 
 -- the plan that stood is taken once more
@@ -46,4 +47,5 @@ returns-then-is_base c =
       front = search rules;
       lists = subst (λ routes. AreListsOf p pins routes c.args.self.now.lists) (sym same) c.requires.lists;
       at = search rules;
+      nearby = search rules;
     }
