@@ -68,7 +68,7 @@ module _ (p : Instance) (pins : List (List ℕ)) (old improved new : Walk) (at :
 
   pub goes_on : IsGoing p pins (record { walk = record new { is_at_incumbent = at }; work = cost })
   goes_on = record {
-    walk = noted_walk p pins new at (taken_walk p pins improved new taken better.keeps.incumbent better.keeps.best better.keeps.idle)
+    walk = noted_walk p pins new at (taken_walk p pins improved new taken better.keeps.incumbent better.keeps.best better.keeps.idle better.keeps.nearby)
         (λ yes. ap (λ (plan : Plan). plan.routes) taken.incumbent ∙ (better.at yes ∙ sym base_is));
     work = cost_is ∙ ap (cost_of p) (sym base_is);
   }

@@ -1,7 +1,9 @@
 mod AnnealLemmas
 mod BoundLemmas
 mod CutLemmas
+mod FrontLemmas
 mod LeftOutLemmas
+mod MetLemmas
 mod MissingLemmas
 mod NearLemmas
 mod NearestLemmas
@@ -9,6 +11,7 @@ mod OrderLemmas
 pub mod PlacedLemmas
 pub mod RequestCounts
 pub mod SortLemmas
+mod SeatLemmas
 mod StopLemmas
 mod StringExamples
 mod StringLemmas

@@ -1,9 +1,11 @@
 -- A table of a route has the stops that the problem has under the route's numbers.
-use Rattle.std.proofs.Common.{◌≡◌, ℕ, suc, ◌+◌, ◌<◌, ◌≤◌, eqb, false, List, [], ◌∷◌, length, Option, Some, None, refl, sym, ap, subst, ◌∙◌, inl, inr, arith, add-one}
+use Rattle.std.proofs.Common.{◌≡◌, ℕ, suc, ◌+◌, ◌<◌, ◌≤◌, eqb, false, List, [], ◌∷◌, length, Option, Some, None, refl, sym, ap, subst, ◌∙◌, inl, inr, arith, add-one, Bor}
 use Rattle.std.specs.List.{AllByRecursion}
-use Rattle.std.specs.Prelude.{slice_index, unwrap_or}
+use Rattle.std.specs.Option.{option_copied}
+use Rattle.std.specs.Prelude.{slice_index, unwrap_or, IfSome}
 use Rattle.std.proofs.lemmas.Bool.Decides.{eqb_tells}
 use Rattle.plan_types.specs.Instance.{Instance, IsInstance, stop_at, first_some}
+use Rattle.plan_types.specs.Limits.{IsStop}
 use Rattle.plan_types.specs.Request.{stop_in, IsRequest}
 use Rattle.plan_types.specs.declared.requests.Request.{Request}
 use Rattle.plan_types.specs.declared.requests.Request.TheVariants.{Single, Pair}
@@ -43,3 +45,8 @@ pub none_found : (p : Instance) (center : Stop) (vehicle k : ℕ) (limit : Near)
 none_found p center vehicle k limit [] far = refl
 none_found p center vehicle k limit (n ∷ ns) far =
     rw (none_beyond (near p center vehicle k n) limit (far 0 (omega arith))) (none_found p center vehicle (k + 1) limit ns (λ j below. far (suc j) (omega arith)))
+
+-- a stop that is found is known by its number
+pub stop_known : (p : Instance) (n : ℕ) (o : Option (Bor Stop)) → option_copied o ≡ stop_at p n → IfSome o (λ s. (s.now.number ≡ n) × IsStop s.now × (n < p.next_number)) → IfSome o (λ s. stop_at p s.now.number ≡ Some s.now)
+stop_known p n None found is = tt
+stop_known p n (Some s) found is = ap (stop_at p) is.0 ∙ sym found

@@ -11,6 +11,7 @@ pub mod AnnealLaws
 pub mod StringLaws
 -- of private functions alone
 pub mod Going
+pub mod Fronts
 pub mod Missing
 pub mod Absences
 pub mod Attempts

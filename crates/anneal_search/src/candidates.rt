@@ -1,6 +1,7 @@
 //! The candidate that the words of a step make of a plan.
 ghost use Rattle.std.specs.Prelude.{◌≡◌, is_some, IfOk, IfSome, OnOk};
 ghost use Rattle.move_ops.specs.Drafts.{base_of, draft_of, IsDraftOf, IsMade};
+ghost use Rattle.seeded_search.specs.Nearby.{AreFronts};
 ghost use Rattle.seeded_search.specs.Steps.{unplanned_names};
 ghost use Rattle.seeded_search.specs.Working.{AreListsOf, IsMadeIfNear};
 ghost use Rattle.anneal_search.specs.Absences.{HoldLeftOut};
@@ -12,7 +13,7 @@ use crate::orders::ordered;
 use crate::strings::ruined_names;
 use move_ops::Draft;
 use plan_types::{OutOfMemory, Pins, Problem, requests_are_found_by_stop, requests_stand_by_name};
-use seeded_search::{Lists, Near, place_all, place_all_near};
+use seeded_search::{Lists, Near, Nearby, place_all, place_all_near};
 use std::alloc::Global;
 
 /// Makes of the draft what the words of a step make of it, if anything: the requests of some strings are taken out, and all that are
@@ -23,19 +24,22 @@ pub(crate) fn make(
     pins: &Pins,
     draft: &mut Draft,
     lists: &Lists,
+    nearby: &mut Nearby,
     words: &[u32; 16],
 ) -> Result<Option<Vec<u32>>, OutOfMemory>
     requires draft { IsDraftOf problem.now pins.now.routes draft.old }
     requires lists { AreListsOf problem.now pins.now.routes (draft_of draft.old) lists.now }
+    requires fronts { AreFronts problem.now nearby.old }
     ensures is { OnOk result (IsDraftOf problem.now pins.now.routes draft.new) }
     ensures base { OnOk result (base_of draft.new ≡ base_of draft.old) }
+    ensures fronts { OnOk result (AreFronts problem.now nearby.new) }
     ensures made { IfOk result (λ made.
         IsMade (candidate problem.now pins.now.routes (draft_of draft.old) words.now)
         (is_some made) draft.old draft.new) }
     ensures left { IfOk result (λ made. IfSome made (λ names.
         HoldLeftOut problem.now (draft_of draft.new) names.items)) }
 {
-    let Some(missing) = take_out(alloc, problem, pins, draft, lists, words)? else {
+    let Some(missing) = take_out(alloc, problem, pins, draft, lists, nearby, words)? else {
         return Ok(None);
     };
     let order = ordered(alloc, problem, words[2], &missing)?;
@@ -50,20 +54,23 @@ pub(crate) fn make_near(
     pins: &Pins,
     draft: &mut Draft,
     lists: &Lists,
+    nearby: &mut Nearby,
     words: &[u32; 16],
     near: &Near,
 ) -> Result<bool, OutOfMemory>
     requires draft { IsDraftOf problem.now pins.now.routes draft.old }
     requires settled { draft_of draft.old ≡ base_of draft.old }
     requires lists { AreListsOf problem.now pins.now.routes (draft_of draft.old) lists.now }
+    requires fronts { AreFronts problem.now nearby.old }
     ensures is { OnOk result (IsDraftOf problem.now pins.now.routes draft.new) }
     ensures base { OnOk result (base_of draft.new ≡ base_of draft.old) }
+    ensures fronts { OnOk result (AreFronts problem.now nearby.new) }
     ensures made { IfOk result (λ made.
         IsMadeIfNear problem.now near.now.deviation near.now.best.now
         (candidate problem.now pins.now.routes (draft_of draft.old) words.now) made
         draft.old draft.new) }
 {
-    let Some(missing) = take_out(alloc, problem, pins, draft, lists, words)? else {
+    let Some(missing) = take_out(alloc, problem, pins, draft, lists, nearby, words)? else {
         return Ok(false);
     };
     let order = ordered(alloc, problem, words[2], &missing)?;
@@ -77,12 +84,15 @@ fn take_out(
     pins: &Pins,
     draft: &mut Draft,
     lists: &Lists,
+    nearby: &mut Nearby,
     words: &[u32; 16],
 ) -> Result<Option<Vec<u32>>, OutOfMemory>
     requires draft { IsDraftOf problem.now pins.now.routes draft.old }
     requires lists { AreListsOf problem.now pins.now.routes (draft_of draft.old) lists.now }
+    requires fronts { AreFronts problem.now nearby.old }
     ensures is { OnOk result (IsDraftOf problem.now pins.now.routes draft.new) }
     ensures base { OnOk result (base_of draft.new ≡ base_of draft.old) }
+    ensures fronts { OnOk result (AreFronts problem.now nearby.new) }
     ensures taken { IfOk result (λ missing.
         IsMade (ruined problem.now pins.now.routes (draft_of draft.old) words.now)
         (is_some missing) draft.old draft.new) }
@@ -91,7 +101,7 @@ fn take_out(
 {
     requests_are_found_by_stop();
     requests_stand_by_name();
-    let names = ruined_names(alloc, problem, pins, draft, &lists.movable, words)?;
+    let names = ruined_names(alloc, problem, pins, draft, nearby, &lists.movable, words)?;
     if names.is_empty() {
         return Ok(None);
     }

@@ -8,7 +8,9 @@
 //! Modules, in reading order:
 //! - `draws`: what a word draws, and what is left of it.
 //! - `sorting`: where an item goes in a list that is sorted by insertion.
-//! - `routes`: the routes nearest to a stop.
+//! - `routes`: the routes nearest to a stop, by a look at each.
+//! - `fronts`: the stops nearest to a stop.
+//! - `around`: the routes nearest to a stop, by its front.
 //! - `strings`: the strings, and the requests that go with them.
 //! - `missing`: the requests that are unplanned once those are taken out.
 //! - `orders`: the order in which requests are put in again.
@@ -19,8 +21,8 @@
 //! - `laws`: what nearest stops, strings and orders mean, and what steps keep, without code.
 //!
 //! Specs: `Annealing` and `Trying` (a step of each kind, as a definition that computes), below them `Draws`, `Strings`
-//! with `Nearest`, and `Orders` with `Sorting`; `AnnealLaws`, `TryLaws` and `StringLaws`. `Going`, `Missing`, `Absences` and
-//! `Attempts` follow the code.
+//! with `Nearest`, and `Orders` with `Sorting`; `AnnealLaws`, `TryLaws` and `StringLaws`. `Going`, `Fronts`, `Missing`, `Absences`
+//! and `Attempts` follow the code.
 //!
 //! Source: Christiaens and Vanden Berghe, Slack Induction by String Removals (2020), in whole numbers; Dueck
 //! and Scheuer, Threshold Accepting (1990).
@@ -33,8 +35,9 @@
 //! come near, and are dropped once that is seen, while requests are still put in (`place_all_near`). In a try, a
 //! candidate is near that leaves such requests out as were left out less often.
 //!
-//! A step looks at the coordinates of each stop to find the nearest routes, and sorts by insertion. What stands
-//! below (`Walk`, `Draft`) is shared with the search.
+//! A step finds the nearest routes along a front of the sixteen stops nearest to its own, which a walk of many steps
+//! keeps; where that is too short, or there is none, it looks at the coordinates of each stop. It sorts by insertion. What
+//! stands below (`Walk`, `Draft`) is shared with the search.
 //!
 //! Proved:
 //! - `draw` is the whole part and the rest of `w m / 2^32`, `ordered` the order that a word picks;
@@ -51,8 +54,10 @@
 #![tactic(auto)]
 
 mod absences;
+mod around;
 mod candidates;
 mod draws;
+mod fronts;
 mod laws;
 mod missing;
 mod orders;

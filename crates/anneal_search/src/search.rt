@@ -10,7 +10,7 @@ ghost use Rattle.anneal_search.specs.Going.{HasImproved, KeepsGoing, IsGoing};
 
 use crate::candidates::make_near;
 use plan_types::{Cost, OutOfMemory, Pins, Plan, Problem, costs_compare_part_by_part};
-use seeded_search::{Found, Near, StepWords, Walk, is_near};
+use seeded_search::{Found, Near, Nearby, StepWords, Walk, is_near};
 use std::alloc::Global;
 
 /// One annealing step, from an incumbent and a working plan. The words of the step make a candidate of the working plan. It becomes the
@@ -78,6 +78,26 @@ pub struct Annealing {
 }
 
 impl Annealing {
+    /// Before so many steps of a walk. Where they are many, fronts are made as they are asked for.
+    pub(crate) fn begin(
+        alloc: Global,
+        problem: &Problem,
+        pins: &Pins,
+        walk: Walk,
+        count: u64,
+    ) -> Result<Annealing, OutOfMemory>
+        requires { IsWalk problem.now pins.now.routes walk }
+        ensures walked { IfOk result (λ annealing. walked_by annealing.walk ≡ walked_by walk) }
+        ensures going { IfOk result (IsGoing problem.now pins.now.routes) }
+    {
+        let work = walk.draft.cost(problem, pins);
+        let mut walk = walk;
+        if fronts_pay(problem, count) && walk.nearby.fronts.is_empty() {
+            walk.nearby = Nearby::build(alloc, problem)?;
+        }
+        Ok(Annealing { walk, work })
+    }
+
     // A step with these words.
     fn step(
         &mut self,
@@ -104,6 +124,7 @@ impl Annealing {
             pins,
             &mut self.walk.draft,
             &self.walk.lists,
+            &mut self.walk.nearby,
             words,
             &near,
         )? {
@@ -158,6 +179,11 @@ impl Annealing {
     }
 }
 
+// Whether so many steps save what fronts take: to make one takes as much as three looks at all routes or four.
+fn fronts_pay(problem: &Problem, count: u64) -> bool {
+    u64::from(problem.next_number) * 4 <= count
+}
+
 // Lets the candidate become the incumbent where it costs no more, and tells whether it has.
 fn improve(
     alloc: Global,
@@ -198,8 +224,7 @@ pub fn anneal_on(
         ≡ anneal_steps problem.now pins.now.routes deviation seed step count (walked_by walk)) }
     ensures walk { IfOk result (λ on. IsWalk problem.now pins.now.routes on) }
 {
-    let work = walk.draft.cost(problem, pins);
-    let mut annealing = Annealing { walk, work };
+    let mut annealing = Annealing::begin(alloc, problem, pins, walk, count)?;
     let mut words = StepWords::from_step(seed, step);
     for done in 0..count {
         annealing.step(alloc, problem, pins, deviation, &words.next_step())?;

@@ -1,19 +1,23 @@
 //! The strings that a step cuts out of routes, and the requests that go with them.
-ghost use Rattle.std.specs.Prelude.{◌≡◌, ◌++◌, ◌<◌, ◌≤◌, true, All, IfOk, IfSome, OnOk, length};
+ghost use Rattle.std.specs.Prelude.{◌≡◌, ◌++◌, ◌<◌, ◌≤◌, true, Some, All, IfOk, IfSome, OnOk, length};
 ghost use Rattle.std.specs.List.{concat};
 ghost use Rattle.std.specs.Option.{option_copied};
+ghost use Rattle.plan_types.specs.Instance.{stop_at};
 ghost use Rattle.plan_types.specs.Limits.{IsStop};
 ghost use Rattle.nint_dist.specs.Distance.{IsPlaced};
 ghost use Rattle.route_sched.specs.Cost.{used_count};
 ghost use Rattle.move_ops.specs.Drafts.{draft_of, IsDraftOf};
+ghost use Rattle.seeded_search.specs.Nearby.{AreFronts};
 ghost use Rattle.seeded_search.specs.Steps.{movable_names};
 ghost use Rattle.anneal_search.specs.Strings.{longest, route_count, placed_cut, cut_of, cut_stops, strings_of, seed, stop_drawn, movable_at, movable_of, ruined_around, ruined_names};
 ghost use Rattle.anneal_search.specs.Going.{IsCutOf, IsInRoute};
 
+use crate::around::routes_around;
 use crate::draws::{Drawn, draw};
-use crate::routes::{Near, nearest_routes};
+use crate::routes::Near;
 use move_ops::{Draft, request_named};
 use plan_types::{OutOfMemory, Pins, Problem, Stop};
+use seeded_search::Nearby;
 use std::alloc::Global;
 
 /// Where a string lies in a route. Places count from 0.
@@ -33,17 +37,20 @@ pub(crate) fn ruined_names(
     problem: &Problem,
     pins: &Pins,
     draft: &Draft,
+    nearby: &mut Nearby,
     movable: &[u32],
     words: &[u32; 16],
 ) -> Result<Vec<u32>, OutOfMemory>
     requires draft { IsDraftOf problem.now pins.now.routes draft.now }
     requires movable { movable.now
         ≡ movable_names problem.now pins.now.routes (draft_of draft.now) }
-    ensures { IfOk result (λ names. names.items
+    requires fronts { AreFronts problem.now nearby.old }
+    ensures names { IfOk result (λ names. names.items
         ≡ ruined_names problem.now pins.now.routes (draft_of draft.now) words.now) }
+    ensures fronts { OnOk result (AreFronts problem.now nearby.new) }
 {
     match seed(problem, movable, words[0]) {
-        Some(center) => ruined_around(alloc, problem, pins, draft, center, words),
+        Some(center) => ruined_around(alloc, problem, pins, draft, nearby, center, words),
         None => Ok(Vec::new(alloc)),
     }
 }
@@ -52,6 +59,7 @@ pub(crate) fn ruined_names(
 fn seed<'a>(problem: &'a Problem, movable: &[u32], word: u32) -> Option<&'a Stop>
     ensures found { option_copied result ≡ seed problem.now movable.now word }
     ensures stop { IfSome result (λ s. IsStop s.now) }
+    ensures known { IfSome result (λ s. stop_at problem.now s.now.number ≡ Some s.now) }
 {
     let Drawn { number, rest } = draw(word, movable.len());
     let name = movable.get(number)?;
@@ -62,6 +70,7 @@ fn seed<'a>(problem: &'a Problem, movable: &[u32], word: u32) -> Option<&'a Stop
 fn stop_drawn(problem: &Problem, name: u32, rest: u32) -> Option<&Stop>
     ensures found { option_copied result ≡ stop_drawn problem.now name rest }
     ensures stop { IfSome result (λ s. IsStop s.now) }
+    ensures known { IfSome result (λ s. stop_at problem.now s.now.number ≡ Some s.now) }
 {
     if rest < 1 << 31 {
         return problem.stop(name);
@@ -77,17 +86,21 @@ fn ruined_around(
     problem: &Problem,
     pins: &Pins,
     draft: &Draft,
+    nearby: &mut Nearby,
     center: &Stop,
     words: &[u32; 16],
 ) -> Result<Vec<u32>, OutOfMemory>
     requires draft { IsDraftOf problem.now pins.now.routes draft.now }
     requires center { IsPlaced center.now }
-    ensures { IfOk result (λ names. names.items
+    requires known { stop_at problem.now center.now.number ≡ Some center.now }
+    requires fronts { AreFronts problem.now nearby.old }
+    ensures names { IfOk result (λ names. names.items
         ≡ ruined_around problem.now pins.now.routes (draft_of draft.now) words.now center.now) }
+    ensures fronts { OnOk result (AreFronts problem.now nearby.new) }
 {
     let longest = longest(draft);
     let count = route_count(longest, words[1]);
-    let nears = nearest_routes(alloc, problem, draft, center, count)?;
+    let nears = routes_around(alloc, problem, draft, nearby, center, count)?;
     let stops = strings_of(alloc, draft, longest, &nears, words)?;
     movable_of(alloc, problem, pins, draft, &stops)
 }

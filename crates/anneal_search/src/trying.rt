@@ -51,7 +51,7 @@ pub fn try_steps(
         (try_steps problem.now pins.now.routes deviation seed most
         (begun problem.now plan.now.routes step))) }
 {
-    let mut attempt = Try::begin(alloc, problem, pins, plan)?;
+    let mut attempt = Try::begin(alloc, problem, pins, plan, most)?;
     let mut words = StepWords::from_step(seed, step);
     while attempt.made < most && attempt.leaves_out() {
         attempt.step(alloc, problem, pins, deviation, &words.next_step())?;
@@ -75,8 +75,14 @@ pub struct Try {
 }
 
 impl Try {
-    // Before the first step.
-    fn begin(alloc: Global, problem: &Problem, pins: &Pins, plan: &Plan) -> Result<Try, OutOfMemory>
+    // Before the first of so many steps.
+    fn begin(
+        alloc: Global,
+        problem: &Problem,
+        pins: &Pins,
+        plan: &Plan,
+        most: u32,
+    ) -> Result<Try, OutOfMemory>
         requires { passes problem.now pins.now.routes plan.now.routes ≡ true }
         ensures made { IfOk result (λ attempt. attempt.made ≡ 0) }
         ensures begun { IfOk result (λ attempt. (step : _)
@@ -84,9 +90,9 @@ impl Try {
         ensures attempt { IfOk result (IsTry problem.now pins.now.routes) }
     {
         let walk = Walk::begin(alloc, problem, pins, plan, plan)?;
-        let work = walk.draft.cost(problem, pins);
+        let annealing = Annealing::begin(alloc, problem, pins, walk, u64::from(most))?;
         Ok(Try {
-            annealing: Annealing { walk, work },
+            annealing,
             absences: vec![in alloc; 0; problem.next_number as usize]?,
             made: 0,
         })
@@ -126,7 +132,15 @@ impl Try {
         ensures attempt { OnOk result (IsTry problem.now pins.now.routes self.new) }
     {
         let walk = &mut self.annealing.walk;
-        let made = make(alloc, problem, pins, &mut walk.draft, &walk.lists, words)?;
+        let made = make(
+            alloc,
+            problem,
+            pins,
+            &mut walk.draft,
+            &walk.lists,
+            &mut walk.nearby,
+            words,
+        )?;
         let Some(missing) = made else {
             self.made += 1;
             return Ok(());

@@ -1,4 +1,4 @@
-use Rattle.std.proofs.Common.{rules, ◌<◌, ap, arith}
+use Rattle.std.proofs.Common.{rules, ◌≡◌, ◌+◌, ◌-◌, ◌<◌, sym, ap, ◌∙◌, arith}
 use Rattle.seeded_search.specs.Generator.{NextStep}
 use Rattle.seeded_search.specs.Working.{walked_by}
 use Rattle.seeded_search.proofs.WalkLemmas.{walked_more}
@@ -19,3 +19,11 @@ loop-done-preserved c =
           c.next_step.result c.loop-done.words.seed c.loop-done.words.step (anneal_steps p pins c.args.deviation c.args.seed c.args.step c.args.count (walked_by c.args.walk)) c.loop-done.invariant.left
           within c.next_step.ensures.words c.loop-done.invariant.seed c.loop-done.invariant.step c.in_ok-step.ensures.walked;
     }
+
+pub returns-clause-walked : goal.returns-clause-walked
+unfolding anneal_steps
+returns-clause-walked c =
+    let p = c.args.problem.now in
+    let pins = c.args.pins.now.routes in
+    let none : c.args.count - c.loop-done.done ≡ 0 = search rules in
+    ap (λ left. anneal_steps p pins c.args.deviation c.args.seed (c.args.step + c.loop-done.done) left (walked_by c.loop-done.annealing.walk)) (sym none) ∙ c.loop-done.invariant.left

@@ -39,7 +39,7 @@ returns-then-not-branch-clause-going c =
     let walk = c.args.self.now.walk in
     let draft = c.make_near.new.draft in
     record {
-      walk = stayed_walk p pins walk draft c.requires.walk c.in_ok-make_near.ensures.is c.in_ok-make_near.ensures.base
+      walk = stayed_walk p pins walk draft c.make_near.new.nearby c.requires.walk c.in_ok-make_near.ensures.fronts c.in_ok-make_near.ensures.is c.in_ok-make_near.ensures.base
           (stays_then p c.args.deviation c.args.self.now.work (candidate p pins (draft_of walk.draft) c.args.words.now) c.in_ok-make_near.field-0 walk.draft draft c.in_ok-make_near.ensures.made (search rules));
       work = search rules;
     }
