@@ -1,5 +1,5 @@
 //! In reading order: `builders` (what the examples share), `lines`, `instances`, `solutions`, `explanations`,
-//! `timetables`, `pictures`, `written`.
+//! `told`, `timetables`, `pictures`, `written`.
 
 mod builders;
 mod explanations;
@@ -8,4 +8,5 @@ mod lines;
 mod pictures;
 mod solutions;
 mod timetables;
+mod told;
 mod written;
