@@ -129,7 +129,8 @@ last_filled text [] after e h = e
 last_filled text (row ∷ rows) after e h = last_filled row.text rows after h.0 h.1
 
 -- behind a line the numbers are a task's
-behind_line : (kind : ReadFaultKind) (words : List (List ℕ)) (text : List ℕ) → is_blank_line text ≡ false → row_evidence kind words text ≡ numbers_evidence kind task_fields task_limits words
+behind_line : (kind : ReadFaultKind) (words : List (List ℕ)) (text : List ℕ)
+    → is_blank_line text ≡ false → row_evidence kind words text ≡ numbers_evidence kind task_fields task_limits words
 behind_line kind words [] e = absurd (false≢true (sym e))
 behind_line kind words (b ∷ text) e = refl
 
@@ -152,7 +153,8 @@ module _ (text : List ℕ) (before : List Row) (row : Row) (after : List Row) (s
       let P : List Row → Type 0 = LinesAbove 0 in
       ap (spot_from row.line []) splits ∙ spot_is row.line 0 [] before row after (subst P splits (rows_above 0 (lines_of text))) refl
 
-  evidence_is : (kind : ReadFaultKind) → line_evidence (rows_of text) (spot_from row.line [] (rows_of text)).0 (spot_from row.line [] (rows_of text)).1 kind ≡ line_evidence (rows_of text) (last_text [] before) row.text kind
+  evidence_is : (kind : ReadFaultKind)
+      → let s = spot_from row.line [] (rows_of text) in line_evidence (rows_of text) s.0 s.1 kind ≡ line_evidence (rows_of text) (last_text [] before) row.text kind
   evidence_is kind = ap (λ (s : List ℕ × List ℕ). line_evidence (rows_of text) s.0 s.1 kind) spot
 
   filled : AreFilled (before ++ row ∷ after)
@@ -168,7 +170,8 @@ task_numbers : (kind : ReadFaultKind) (header : Row) (before : List Row) (row : 
 task_numbers kind header before row after h =
     sym (behind_line kind (words_of row.text) (last_text header.text before) (last_filled header.text before (row ∷ after) h.0 h.1))
 
-shown : (rows : List Row) (before : List Row) (row : Row) (after : List Row) (kind : ReadFaultKind) → AreFilled (before ++ row ∷ after) → IsOfWord kind → row_fault before row kind ≡ true
+shown : (rows : List Row) (before : List Row) (row : Row) (after : List Row) (kind : ReadFaultKind)
+    → AreFilled (before ++ row ∷ after) → IsOfWord kind → row_fault before row kind ≡ true
     → IsFirstWord kind (fields_behind before) (limits_behind before) 0 (words_of row.text) (line_evidence rows (last_text [] before) row.text kind)
 shown rows [] row after BadNumber h of has = (numbers_show_the_word header_fields header_limits (words_of row.text)).0 has
 shown rows [] row after Range h of has = (numbers_show_the_word header_fields header_limits (words_of row.text)).1 has
@@ -180,7 +183,8 @@ shown rows (header ∷ before) row after Range h of has =
     subst P (task_numbers Range header before row after h) ((numbers_show_the_word task_fields task_limits (words_of row.text)).1 has)
 shown rows before row after kind h of has = absurd of
 
-of_fault : (text : List ℕ) (line : ℕ) (kind : ReadFaultKind) (class : Class) → LilimFault text class line kind → IsOfWord kind → ShowsWord text (record { line = line; kind = kind })
+of_fault : (text : List ℕ) (line : ℕ) (kind : ReadFaultKind) (class : Class)
+    → LilimFault text class line kind → IsOfWord kind → ShowsWord text (record { line = line; kind = kind })
 of_fault text line kind OfLine f of =
     let rows = rows_of text in
     let P : Evidence → Type 0 = IsFirstWord kind (fields_behind f.0) (limits_behind f.0) 0 (words_of f.1.text) in
