@@ -69,26 +69,57 @@ pub enum Evidence<'a> {
     /// Nothing beside the line itself.
     Nothing,
     /// How many words are due, and how many found.
-    Count(usize, usize),
+    Count {
+        due: usize,
+        found: usize,
+    },
     /// The same of a line of a section of nodes, which lacks so many lines, with this one.
-    NodeCount(usize, usize, Key, u32),
+    NodeCount {
+        due: usize,
+        found: usize,
+        section: Key,
+        lacks: u32,
+    },
     /// The first word of the line that is at fault: its field, the word, the limits of the field.
-    Word(Field, Excerpt<'a>, Option<Limits>),
+    Word {
+        field: Field,
+        word: Excerpt<'a>,
+        limits: Option<Limits>,
+    },
     /// The number of the first task.
     FirstTask(Excerpt<'a>),
     /// The number of a task, and that of the task before.
-    TaskBehind(Excerpt<'a>, Excerpt<'a>),
+    TaskBehind {
+        task: Excerpt<'a>,
+        before: Excerpt<'a>,
+    },
     /// When a window begins, and when it ends.
-    Window(Excerpt<'a>, Excerpt<'a>),
+    Window {
+        earliest: Excerpt<'a>,
+        latest: Excerpt<'a>,
+    },
     /// A task names neither a pickup nor a delivery, or both.
     NamesNone,
     NamesBoth,
     /// No task has the number that a task has as its pickup or its delivery.
     Absent(Field, u16),
-    /// The task of this number, which is named so, stands on this line, and has that other task in that other field.
-    NamesOther(Field, u16, u64, u16, Field),
-    /// The same, where both name each other: its demand, that of the other one, and whether that is a pickup's below 0.
-    Demands(Field, u16, u64, Excerpt<'a>, Excerpt<'a>, bool),
+    /// The task that this field names stands on this line, and has another task in the field that names back.
+    NamesOther {
+        field: Field,
+        task: u16,
+        line: u64,
+        named: u16,
+        back: Field,
+    },
+    /// Both name each other: the demand of the one that is named, its own, and whether the pickup's is below 0.
+    Demands {
+        field: Field,
+        task: u16,
+        line: u64,
+        demand: Excerpt<'a>,
+        own: Excerpt<'a>,
+        is_negative: bool,
+    },
     /// The first line, or task 0, is missing.
     NoHeader,
     NoDepot,
@@ -98,8 +129,15 @@ pub enum Evidence<'a> {
     Stray(Option<u32>),
     /// A section of nodes begins before DIMENSION.
     Unannounced,
-    /// Whether DIMENSION, CAPACITY, EDGE_WEIGHT_TYPE and the sections of coordinates, demands and depots are missing.
-    Missing(bool, bool, bool, bool, bool, bool),
+    /// Which of DIMENSION, CAPACITY, EDGE_WEIGHT_TYPE and the sections of coordinates, demands and depots no line has.
+    Missing {
+        dimension: bool,
+        capacity: bool,
+        weights: bool,
+        coordinates: bool,
+        demands: bool,
+        depots: bool,
+    },
     /// A key that is not supported, or stands twice.
     Key(Excerpt<'a>),
     /// A key that has to have another value than this one.

@@ -36,7 +36,10 @@ pub fn lilim_evidence<'a>(text: &'a [u8], fault: ReadFault) -> Evidence<'a>
     let line = line.bytes();
     match fault.kind {
         ReadFaultKind::TaskOrder => order_evidence(before.bytes(), line),
-        ReadFaultKind::EmptyWindow => Evidence::Window(word_at(line, 4), word_at(line, 5)),
+        ReadFaultKind::EmptyWindow => Evidence::Window {
+            earliest: word_at(line, 4),
+            latest: word_at(line, 5),
+        },
         ReadFaultKind::PairMismatch => pair_evidence(text, line),
         ReadFaultKind::Truncated => missing_line(before.bytes()),
         kind => row_evidence(kind, before.bytes(), line),
@@ -72,7 +75,10 @@ fn order_evidence<'a>(before: &'a [u8], line: &'a [u8]) -> Evidence<'a>
     ensures { result ≡ order_evidence (words_of before.now) (words_of line.now) }
 {
     if word_count(before) == TASK_FIELDS.len() {
-        Evidence::TaskBehind(word_at(line, 0), word_at(before, 0))
+        Evidence::TaskBehind {
+            task: word_at(line, 0),
+            before: word_at(before, 0),
+        }
     } else {
         Evidence::FirstTask(word_at(line, 0))
     }
@@ -111,12 +117,25 @@ fn partner_evidence<'a>(text: &'a [u8], line: &'a [u8], field: Field, number: u1
     };
     let (back, named) = named_back(field, other.text);
     if named != stop_at(line, 0) {
-        return Evidence::NamesOther(field, number, other.number, named, back);
+        return Evidence::NamesOther {
+            field,
+            task: number,
+            line: other.number,
+            named,
+            back,
+        };
     }
     let demand = word_at(other.text, 3);
     let own = word_at(line, 3);
     let is_negative = is_negative(field, own.bytes());
-    Evidence::Demands(field, number, other.number, demand, own, is_negative)
+    Evidence::Demands {
+        field,
+        task: number,
+        line: other.number,
+        demand,
+        own,
+        is_negative,
+    }
 }
 
 // The line of the task with this number.

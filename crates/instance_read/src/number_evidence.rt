@@ -31,7 +31,10 @@ pub fn numbers_evidence<'a>(
     ensures { result ≡ numbers_evidence kind fields.now limits.now (words_of line.now) }
 {
     match kind {
-        ReadFaultKind::FieldCount => Evidence::Count(fields.len(), word_count(line)),
+        ReadFaultKind::FieldCount => Evidence::Count {
+            due: fields.len(),
+            found: word_count(line),
+        },
         _ => faulty_word(kind, line, fields, limits),
     }
 }
@@ -49,7 +52,11 @@ fn faulty_word<'a>(
     for word in Words::new(line) {
         let limits = limits.get(place).copied();
         if is_faulty(kind, limits, word) {
-            return Evidence::Word(field_at(fields, place), Excerpt::new(word), limits);
+            return Evidence::Word {
+                field: field_at(fields, place),
+                word: Excerpt::new(word),
+                limits,
+            };
         }
         place += 1;
     }

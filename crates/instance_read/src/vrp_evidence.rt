@@ -111,7 +111,12 @@ fn node_evidence<'a>(
 {
     match kind {
         ReadFaultKind::FieldCount => {
-            Evidence::NodeCount(fields.len(), word_count(line), section, left)
+            Evidence::NodeCount {
+                due: fields.len(),
+                found: word_count(line),
+                section,
+                lacks: left,
+            }
         }
         ReadFaultKind::Truncated => Evidence::Unfinished(section, left),
         _ => numbers_evidence(kind, line, fields, limits),
@@ -178,14 +183,14 @@ fn missing_evidence<'a>(text: &'a [u8], key: Key) -> Evidence<'a>
 {
     match key {
         Key::Coordinates | Key::Demands => Evidence::Unannounced,
-        _ => Evidence::Missing(
-            lacks(text, Key::Dimension),
-            lacks(text, Key::Capacity),
-            lacks(text, Key::WeightType),
-            lacks(text, Key::Coordinates),
-            lacks(text, Key::Demands),
-            lacks(text, Key::Depots),
-        ),
+        _ => Evidence::Missing {
+            dimension: lacks(text, Key::Dimension),
+            capacity: lacks(text, Key::Capacity),
+            weights: lacks(text, Key::WeightType),
+            coordinates: lacks(text, Key::Coordinates),
+            demands: lacks(text, Key::Demands),
+            depots: lacks(text, Key::Depots),
+        },
     }
 }
 

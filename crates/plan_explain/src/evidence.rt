@@ -20,20 +20,28 @@ pub(crate) fn put_evidence(text: &mut Told, kind: ReadFaultKind, evidence: Evide
     ensures { text.new ≡ text.old ++ evidence_text kind evidence.entry }
 {
     match evidence {
-        Evidence::Count(due, found) => {
+        Evidence::Count { due, found } => {
             put_form(text, Counts, &[Number(due as u64), Number(found as u64)])
         }
-        Evidence::Word(field, word, limits) => put_word(text, kind, field, word.bytes(), limits),
+        Evidence::Word {
+            field,
+            word,
+            limits,
+        } => put_word(text, kind, field, word.bytes(), limits),
         Evidence::FirstTask(task) => put_form(text, FirstTask, &[Cited(task.bytes())]),
-        Evidence::TaskBehind(task, before) => {
+        Evidence::TaskBehind { task, before } => {
             put_form(
                 text,
                 TaskBehind,
                 &[Cited(task.bytes()), Cited(before.bytes())],
             )
         }
-        Evidence::Window(from, to) => {
-            put_form(text, Window, &[Cited(from.bytes()), Cited(to.bytes())])
+        Evidence::Window { earliest, latest } => {
+            put_form(
+                text,
+                Window,
+                &[Cited(earliest.bytes()), Cited(latest.bytes())],
+            )
         }
         Evidence::NoHeader => put_phrase(text, NoHeader),
         Evidence::NoDepot => put_phrase(text, NoDepot),
@@ -83,7 +91,13 @@ fn put_pair(text: &mut Told, evidence: Evidence<'_>)
         Evidence::Absent(field, task) => {
             put_form(text, Absent, &[Name(field), Number(u64::from(task))])
         }
-        Evidence::NamesOther(field, task, line, named, back) => {
+        Evidence::NamesOther {
+            field,
+            task,
+            line,
+            named,
+            back,
+        } => {
             let (task, named) = (Number(u64::from(task)), Number(u64::from(named)));
             put_form(
                 text,
@@ -91,7 +105,14 @@ fn put_pair(text: &mut Told, evidence: Evidence<'_>)
                 &[Name(field), task, Number(line), named, Name(back)],
             )
         }
-        Evidence::Demands(field, task, line, demand, own, is_negative) => {
+        Evidence::Demands {
+            field,
+            task,
+            line,
+            demand,
+            own,
+            is_negative,
+        } => {
             let (task, line) = (Number(u64::from(task)), Number(line));
             let (demand, own) = (Cited(demand.bytes()), Cited(own.bytes()));
             let words = demands_phrase(is_negative);
@@ -117,10 +138,15 @@ fn put_key(text: &mut Told, evidence: Evidence<'_>)
     ensures { text.new ≡ text.old ++ key_text evidence.entry }
 {
     match evidence {
-        Evidence::NodeCount(due, found, section, left) => {
+        Evidence::NodeCount {
+            due,
+            found,
+            section,
+            lacks,
+        } => {
             let (due, found) = (Number(due as u64), Number(found as u64));
-            let left = Number(u64::from(left));
-            put_form(text, NodeCounts, &[due, found, KeyName(section), left])
+            let lacks = Number(u64::from(lacks));
+            put_form(text, NodeCounts, &[due, found, KeyName(section), lacks])
         }
         Evidence::BehindEnd => put_phrase(text, BehindEnd),
         Evidence::Stray(None) => put_phrase(text, Stray),
@@ -151,7 +177,14 @@ fn put_missing(text: &mut Told, evidence: Evidence<'_>)
 {
     match evidence {
         Evidence::Unannounced => put_phrase(text, NotBefore),
-        Evidence::Missing(dimension, capacity, weights, coordinates, demands, depots) => {
+        Evidence::Missing {
+            dimension,
+            capacity,
+            weights,
+            coordinates,
+            demands,
+            depots,
+        } => {
             let keys = [
                 Missing(Key::Dimension, dimension),
                 Missing(Key::Capacity, capacity),
