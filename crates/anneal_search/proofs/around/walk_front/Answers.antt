@@ -1,3 +1,4 @@
+-- Along a front that is sorted, the first stop that is met of a route is the nearest of it; so as many as are asked for are the first of all.
 use Rattle.std.proofs.Common.{rules, ◌≡◌, ◌+◌, ◌<◌, ◌≤◌, false, length, refl, sym, ap, subst, ◌∙◌, arith}
 use Rattle.std.specs.Prelude.{slice_index}
 use Rattle.route_sched.specs.Cost.{has_stop}

@@ -1,3 +1,4 @@
+-- The nearest stops from which strings begin stand in their routes.
 use Rattle.std.proofs.Common.{All, sym, subst, ◌∙◌}
 use Rattle.move_ops.specs.Drafts.{draft_of}
 use Rattle.anneal_search.specs.Going.{IsInRoute}

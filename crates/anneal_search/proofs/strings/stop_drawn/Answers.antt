@@ -1,3 +1,4 @@
+-- The stop that is drawn is one of the problem, whichever stop of its request it is.
 use Rattle.anneal_search.proofs.StopLemmas.{stop_known}
 use Rattle.anneal_search.proofs.strings.stop_drawn.Goals as goal
 

@@ -1,9 +1,9 @@
+-- The first of the lines that are left is the first of all.
 use Rattle.std.proofs.Common.{◌≡◌}
 use Rattle.std.specs.Prelude.{find}
 use Rattle.instance_read.specs.LilimEvidence.{is_task_line}
 use Rattle.instance_read.specs.Rows.{rows_of}
 use Rattle.instance_read.proofs.lilim_evidence.task_line.Given as goal
 
--- the first of the lines that are left is the first of all
 abbrev pub invariant-loop-line : goal.invariant-loop-line
 invariant-loop-line l = find (is_task_line l.number) l.line-iterator ≡ find (is_task_line l.number) (rows_of l.text)

@@ -1,3 +1,4 @@
+-- The lines that are left, from what is known of those before, lead to the line that all lead to.
 use Rattle.std.proofs.Common.{◌≡◌}
 use Rattle.std.specs.Prelude.{None}
 use Rattle.instance_read.specs.Rows.{rows_of}
@@ -5,6 +6,5 @@ use Rattle.instance_read.specs.VrpEvidence.{line_from}
 use Rattle.instance_read.specs.declared.vrp_lines.Section.TheVariants.{Outside}
 use Rattle.instance_read.proofs.vrp_evidence.placed_line.Given as goal
 
--- the lines that are left go on from what is known
 abbrev pub invariant-loop-line : goal.invariant-loop-line
 invariant-loop-line l = line_from l.number l.nodes l.place l.line-iterator ≡ line_from l.number None Outside (rows_of l.text)

@@ -1,3 +1,4 @@
+-- No front so far has a stop.
 use Rattle.std.proofs.Common.{◌≡◌, [], All}
 use Rattle.seeded_search.proofs.nearby.empty_fronts.Given as goal
 

@@ -1,3 +1,4 @@
+-- A walk to which fronts are given, or to which none are, is the walk that it was.
 use Rattle.std.proofs.Common.{rules, ◌≡◌, refl, sym, ap, subst, ◌∙◌}
 use Rattle.route_sched.specs.Cost.{cost_of}
 use Rattle.move_ops.specs.Drafts.{base_of}

@@ -1,3 +1,4 @@
+-- Where no front is made yet, each that there is is one.
 use Rattle.std.proofs.Common.{rules}
 use Rattle.seeded_search.proofs.NearbyLemmas.{none_made}
 use Rattle.seeded_search.proofs.nearby.Nearby.build.Goals as goal
