@@ -31,8 +31,8 @@
 //! - `serves`, after `Ok` (`IsServed`): all is served, what is appended is the answer to the input, and the state
 //!   is the one after the commands that were carried out
 //! - `serves`, behind a `ServeFault` (`IsCutShort`): the answers to a first part of the input stand whole, and of
-//!   the next one a front or all, whose flush has failed; the session is the one that these answers tell, or with the one
-//!   command that the next tells, so nothing is carried out behind an answer that lets none follow
+//!   the next one a front, nothing, or all of it where its flush is told as failed; the session is the one that these answers
+//!   tell, or with the one command that the next tells
 //! - `serves`, in both cases (`run`): what was done are acts, whose commands and replies are a run of the session, and the
 //!   answers are those that follow these replies
 //! - `serves`, in both cases (`AreAsked`): each command that was tried, done or denied, is the one that the input asked for then

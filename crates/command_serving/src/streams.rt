@@ -221,7 +221,7 @@ impl<R: Read> Source for Watched<R> {
 }
 
 impl<W: Write> Watched<W> {
-    /// Hands on what was written, and notes it only where that fails.
+    /// Hands on what was written. Of the sink's events nothing is noted, only whether it has failed.
     pub(crate) fn hand_on(&mut self) -> Result<(), Failed>
         ensures kept { Keeps (W.contents self.old.inner) (W.contents self.new.inner) }
         ensures log { self.new.log ≡ self.old.log }
