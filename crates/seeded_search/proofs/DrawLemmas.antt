@@ -59,7 +59,8 @@ first_drawn w ws [] some = absurd (omega arith)
 first_drawn w ws (x ∷ xs) some = refl
 
 -- what is drawn so far, one word on
-pub drawn_more : (names new all words : List ℕ) (n w k x : ℕ) (taken after xs : List ℕ) → AreTaken taken xs → names ++ drawn (drop n words) (left_of taken xs) ≡ all → n < length words → w ≡ slice_index words n
+pub drawn_more : (names new all words : List ℕ) (n w k x : ℕ) (taken after xs : List ℕ) → AreTaken taken xs
+    → names ++ drawn (drop n words) (left_of taken xs) ≡ all → n < length words → w ≡ slice_index words n
     → k ≡ pick w (length xs - length taken) → k < length xs - length taken → x ≡ slice_index xs (index_of taken k) → new ≡ names ++ x ∷ [] → after ≡ k ∷ taken
     → (new ++ drawn (drop (n + 1) words) (left_of after xs) ≡ all) × AreTaken after xs
 drawn_more names new all words n w k x taken after xs are so_far within word picks low is made took =

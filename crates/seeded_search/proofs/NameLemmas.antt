@@ -1,5 +1,39 @@
 -- The names of requests that pass a test, and the lists that a step draws from.
-use Rattle.std.proofs.Common.{◌≡◌, ℕ, zero, suc, ◌+◌, ◌-◌, ◌<◌, ◌≤◌, ◌==◌, ◌&&◌, not, Bool, true, false, cond, List, [], ◌∷◌, ◌++◌, length, drop, filter, map, Some, None, slice_get, refl, sym, ap, ◌∙◌, inl, inr, arith}
+use Rattle.std.proofs.Common.{
+  ◌≡◌,
+  ℕ,
+  zero,
+  suc,
+  ◌+◌,
+  ◌-◌,
+  ◌<◌,
+  ◌≤◌,
+  ◌==◌,
+  ◌&&◌,
+  not,
+  Bool,
+  true,
+  false,
+  cond,
+  List,
+  [],
+  ◌∷◌,
+  ◌++◌,
+  length,
+  drop,
+  filter,
+  map,
+  Some,
+  None,
+  slice_get,
+  refl,
+  sym,
+  ap,
+  ◌∙◌,
+  inl,
+  inr,
+  arith,
+}
 use Rattle.std.specs.List.{range_with_len}
 use Rattle.std.specs.Option.{option_and_then}
 use Rattle.std.proofs.lemmas.Bool.{cases_Bool, not-false}
@@ -99,7 +133,9 @@ none_named test (e ∷ es) none k name r at = elim (cases_Bool (test e.1)) [
 module _ (p : Instance) where
   pub none_unplanned : (routes : List (List ℕ)) → unplanned_count p routes ≡ 0 → unplanned_names p routes ≡ []
   none_unplanned routes none =
-      ap (map (λ (e : ℕ × Request). e.0)) (nil_from_length (filter (λ (e : ℕ × Request). not (is_planned routes e.1)) p.requests) (length-filter (λ (e : ℕ × Request). not (is_planned routes e.1)) p.requests ∙ none))
+      ap (map (λ (e : ℕ × Request). e.0))
+      (nil_from_length (filter (λ (e : ℕ × Request). not (is_planned routes e.1)) p.requests)
+      (length-filter (λ (e : ℕ × Request). not (is_planned routes e.1)) p.requests ∙ none))
 
   -- two plans without an unplanned request have the same list of movable ones
   pub movable_stay : (pins old new : List (List ℕ)) → unplanned_names p old ≡ [] → unplanned_names p new ≡ [] → movable_names p pins old ≡ movable_names p pins new

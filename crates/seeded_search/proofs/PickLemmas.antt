@@ -60,5 +60,12 @@ module _ (m k a b : ℕ) (f : IsFirst m k a) (g : IsFirst m (k + 1) b) where
 
 pub picks : (m k : ℕ) → k < m → (a : ℕ) × (b : ℕ) × IsRunOfPicks m k a b
 picks m k h =
-    let positive : 0 < m = omega arith in let f = is_first m k positive in let g = is_first m (k + 1) positive in
-    (first m k, first m (k + 1), record { picked = λ w. (in_run m k _ _ f g w, picks_k m k _ _ f g w); are_words = are_words m k _ _ f g h; even = even m k _ _ f g (2 ^ 32 / m) (div-mul-le_self (2 ^ 32) m) (lt-div-mul-add positive) })
+    let positive : 0 < m = omega arith in let f = is_first m k positive in let g = is_first m (k + 1) positive in (
+      first m k,
+      first m (k + 1),
+      record {
+        picked = λ w. (in_run m k _ _ f g w, picks_k m k _ _ f g w);
+        are_words = are_words m k _ _ f g h;
+        even = even m k _ _ f g (2 ^ 32 / m) (div-mul-le_self (2 ^ 32) m) (lt-div-mul-add positive);
+      },
+    )

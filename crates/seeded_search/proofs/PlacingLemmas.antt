@@ -40,7 +40,8 @@ module _ (law : PlacementsSaveLittle) (p : Instance) (pins : List (List ℕ)) (v
   all_save_little (name ∷ names) routes good =
       let first = law p pins routes name valid good in
       let rest = all_save_little names (placed p pins routes name) (placed_passes p pins routes name good) in
-      let all = joined_savings 1 (length names) (most_saved p name) (sum_by (most_saved p) names) (cost_of p routes) (cost_of p (placed p pins routes name)) (cost_of p (placed_all p pins routes (name ∷ names))) first rest in
+      let all = joined_savings 1 (length names) (most_saved p name) (sum_by (most_saved p) names) (cost_of p routes) (cost_of p (placed p pins routes name))
+      (cost_of p (placed_all p pins routes (name ∷ names))) first rest in
       let sum = sum_by-cons (most_saved p) name names in
       let d = all.unplanned in
       let e = all.vehicles in
@@ -48,7 +49,8 @@ module _ (law : PlacementsSaveLittle) (p : Instance) (pins : List (List ℕ)) (v
       record { unplanned = omega arith; vehicles = e; distance = omega arith }
 
   -- where no plan is near that those behind a request make of the plan with it, the plan with all is not near
-  pub all_far : (deviation : ℕ) (best : Cost) (routes : List (List ℕ)) → passes p pins routes ≡ true → (names : List ℕ) (i behind rest saved d : ℕ) → i < length names → behind + i ≡ length names → rest ≡ sum_by (most_saved p) (drop i names) → saved ≡ most_saved p (get_or names i d)
+  pub all_far : (deviation : ℕ) (best : Cost) (routes : List (List ℕ)) → passes p pins routes ≡ true → (names : List ℕ) (i behind rest saved d : ℕ)
+      → i < length names → behind + i ≡ length names → rest ≡ sum_by (most_saved p) (drop i names) → saved ≡ most_saved p (get_or names i d)
       → ((last : Cost) → SavesAtMost (behind - 1) (rest - saved) (cost_of p (placed p pins routes (get_or names i d))) last → is_near deviation last best ≡ false)
       → is_near deviation (cost_of p (placed_all p pins routes (drop i names))) best ≡ false
   all_far deviation best routes good names i behind rest saved d within few little own far =
@@ -66,7 +68,8 @@ module _ (law : PlacementsSaveLittle) (p : Instance) (pins : List (List ℕ)) (v
 -- ---- a candidate of what a removal leaves
 module _ (p : Instance) (pins : List (List ℕ)) (deviation : ℕ) (best : Cost) (f : List (List ℕ) → List (List ℕ)) where
   -- requests are put in again
-  pub placed_near : (answer : Option (List (List ℕ))) (done made : Bool) (old left new : Drafted) (names : List ℕ) → IsMade answer done old left → done ≡ true → draft_of old ≡ base_of old → base_of left ≡ base_of old
+  pub placed_near : (answer : Option (List (List ℕ))) (done made : Bool) (old left new : Drafted) (names : List ℕ) → IsMade answer done old left → done ≡ true
+      → draft_of old ≡ base_of old → base_of left ≡ base_of old
       → f (draft_of left) ≡ placed_all p pins (draft_of left) names → AreAllPlacedOrFar p pins deviation best names made left new → IsMadeIfNear p deviation best (option_map f answer) made old new
   placed_near None done made old left new names h is settled base same all = absurd (both_ways done h.0 is)
   placed_near (Some routes) done made old left new names h is settled base same all =

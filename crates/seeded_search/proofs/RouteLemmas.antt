@@ -40,7 +40,8 @@ same_all old routes plan n front other long before same stays enough idle also =
       | inl below ↦ same k below
       | inr above ↦ (
           let behind = enough (k + 1) (omega arith) (omega arith) in
-          no_stops (get_or routes k []) (get_or plan k []) (ap length (stays k above) ∙ (sym (ap length (route_at old k)) ∙ idle (k + 1) behind.0)) (sym (ap length (route_at plan k)) ∙ also (k + 1) behind.1))
+          no_stops (get_or routes k []) (get_or plan k []) (ap length (stays k above) ∙ (sym (ap length (route_at old k)) ∙ idle (k + 1) behind.0))
+          (sym (ap length (route_at plan k)) ∙ also (k + 1) behind.1))
     ])
 
 -- what stays behind the next place

@@ -35,10 +35,12 @@ walked routes = record { incumbent = routes; working = routes }
 
 -- 2-opt* of the second and the third route, cut before their first and behind their first stop: the plan of 54 becomes one of 44
 first_step : step four_customers no_pins 0 0 0 (walked ((1 ∷ []) ∷ (2 ∷ 3 ∷ []) ∷ (4 ∷ []) ∷ [] ∷ [])) ≡ walked ((1 ∷ []) ∷ [] ∷ (4 ∷ 2 ∷ 3 ∷ []) ∷ [] ∷ [])
-unfolding stop_at four_customers no_pins walked step candidate step_words word block chacha20_block add_states inner_blocks inner_block quarter_round_at quarter_round words_of_bytes passes feasible_alone start load route_length place distance nearest_root whole_root
+unfolding stop_at four_customers no_pins walked step candidate step_words word block chacha20_block add_states inner_blocks inner_block
+    quarter_round_at quarter_round words_of_bytes passes feasible_alone start load route_length place distance nearest_root whole_root
 first_step = refl
 
 -- with two used vehicles the same words pick the second one twice, and nothing changes
 no_candidate : step four_customers no_pins 0 0 0 (walked ((1 ∷ []) ∷ [] ∷ (4 ∷ 2 ∷ 3 ∷ []) ∷ [] ∷ [])) ≡ walked ((1 ∷ []) ∷ [] ∷ (4 ∷ 2 ∷ 3 ∷ []) ∷ [] ∷ [])
-unfolding stop_at four_customers no_pins walked step candidate step_words word block chacha20_block add_states inner_blocks inner_block quarter_round_at quarter_round words_of_bytes passes feasible_alone start load route_length place distance nearest_root whole_root
+unfolding stop_at four_customers no_pins walked step candidate step_words word block chacha20_block add_states inner_blocks inner_block
+    quarter_round_at quarter_round words_of_bytes passes feasible_alone start load route_length place distance nearest_root whole_root
 no_candidate = refl

@@ -1,5 +1,43 @@
 -- What the steps of a search keep, proved.
-use Rattle.std.proofs.Common.{◌≡◌, ℕ, zero, suc, ◌+◌, ◌-◌, ◌<◌, ◌≤◌, Bool, true, false, cond, ◌&&◌, nat_lt, nat_le, List, [], ◌∷◌, ◌++◌, length, slice_index, Option, Some, None, unwrap_or, IfSome, IsSomeAnd, IsTrue, refl, sym, ap, subst, ◌∙◌, inl, inr, arith, eqb}
+use Rattle.std.proofs.Common.{
+  ◌≡◌,
+  ℕ,
+  zero,
+  suc,
+  ◌+◌,
+  ◌-◌,
+  ◌<◌,
+  ◌≤◌,
+  Bool,
+  true,
+  false,
+  cond,
+  ◌&&◌,
+  nat_lt,
+  nat_le,
+  List,
+  [],
+  ◌∷◌,
+  ◌++◌,
+  length,
+  slice_index,
+  Option,
+  Some,
+  None,
+  unwrap_or,
+  IfSome,
+  IsSomeAnd,
+  IsTrue,
+  refl,
+  sym,
+  ap,
+  subst,
+  ◌∙◌,
+  inl,
+  inr,
+  arith,
+  eqb,
+}
 use Rattle.std.specs.Option.{option_map, option_and_then}
 use Rattle.std.proofs.lemmas.Bool.{cond_both, cases_lt, cases_order, eqb-true, eq-eqb, leb-true, le-leb, lt-ltb, not_from_true, or_cases, or_left, or_right, and_parts, and_from, both_ways}
 use Rattle.plan_types.specs.Cost.{cost_below, cost_at_most, CostsAreTotal, CostsAreTransitive, BelowIsAtMost}
@@ -12,7 +50,30 @@ use Rattle.move_ops.specs.Laws.{RelocationsNeverCostMore}
 use Rattle.move_ops.specs.Moves.{removed, exchanged, crossed}
 use Rattle.move_ops.proofs.Times.{none_some, some_same}
 use Rattle.seeded_search.specs.Words.{pick, step_words}
-use Rattle.seeded_search.specs.Steps.{picked, movable_names, unplanned_names, placed_all, relocated, exchanged_by, used_vehicles, cut_by, crossed_by, ruined_names, recreated_by, candidate, Walked, has_less_pair, has_same_pair, is_near, moved_on, moved_on_by, many, step, steps, walked}
+use Rattle.seeded_search.specs.Steps.{
+  picked,
+  movable_names,
+  unplanned_names,
+  placed_all,
+  relocated,
+  exchanged_by,
+  used_vehicles,
+  cut_by,
+  crossed_by,
+  ruined_names,
+  recreated_by,
+  candidate,
+  Walked,
+  has_less_pair,
+  has_same_pair,
+  is_near,
+  moved_on,
+  moved_on_by,
+  many,
+  step,
+  steps,
+  walked,
+}
 use Rattle.move_ops.specs.Foreseen.{IsCostIfMade}
 use Rattle.move_ops.specs.Drafts.{placed, AreIdleBehind, Drafted, base_of, draft_of, IsDraftOf, IsMade}
 use Rattle.seeded_search.specs.Nearby.{AreFronts}
@@ -120,7 +181,8 @@ module _ (p : Instance) (pins : List (List ℕ)) where
       subst Passes u.2 (placed_passes u.0 t.0 (removed_passes routes (t.0 ∷ []) u.0 u.1))
 
   -- and it costs no more, with the law of relocations
-  pub relocated_cost : RelocationsNeverCostMore → IsInstance p → (routes : List (List ℕ)) (w : ℕ) (y : List (List ℕ)) → Passes routes → relocated p pins routes w ≡ Some y → IsTrue (cost_at_most (cost_of p y) (cost_of p routes))
+  pub relocated_cost : RelocationsNeverCostMore → IsInstance p → (routes : List (List ℕ)) (w : ℕ) (y : List (List ℕ)) → Passes routes
+      → relocated p pins routes w ≡ Some y → IsTrue (cost_at_most (cost_of p y) (cost_of p routes))
   relocated_cost law valid routes w y pass is =
       let t = and_then_some _ (picked w (movable_names p pins routes)) y is in
       let u = map_some (λ left. placed p pins left t.0) (removed p pins routes (t.0 ∷ [])) y t.2 in
@@ -158,7 +220,9 @@ module _ (p : Instance) (pins : List (List ℕ)) where
   candidate_passes routes words y is = by (eqb (pick (slice_index words 0) 4) 0) (eqb (pick (slice_index words 0) 4) 1) (eqb (pick (slice_index words 0) 4) 2) is
     where
       by : (a b c : Bool)
-          → cond a (relocated p pins routes (slice_index words 1)) (cond b (exchanged_by p pins routes (slice_index words 1) (slice_index words 2)) (cond c (crossed_by p pins routes words) (recreated_by p pins routes words))) ≡ Some y
+          → cond a (relocated p pins routes (slice_index words 1))
+          (cond b (exchanged_by p pins routes (slice_index words 1) (slice_index words 2))
+          (cond c (crossed_by p pins routes words) (recreated_by p pins routes words))) ≡ Some y
           → Passes y
       by true b c is = relocated_passes routes (slice_index words 1) y is
       by false true c is = exchanged_by_passes routes (slice_index words 1) (slice_index words 2) y is
@@ -187,7 +251,8 @@ module _ (p : Instance) (pins : List (List ℕ)) where
         by : (o : Option (List (List ℕ))) → IsTrue (cost_at_most (cost_of p (moved_on_by p deviation s o).incumbent) (cost_of p s.incumbent))
         by None = same_cost total (cost_of p s.incumbent)
         by (Some c) =
-            cond_both (cost_at_most (cost_of p c) (cost_of p s.incumbent)) c s.incumbent (λ best. IsTrue (cost_at_most (cost_of p best) (cost_of p s.incumbent))) (λ t. t) (λ t. same_cost total (cost_of p s.incumbent))
+            cond_both (cost_at_most (cost_of p c) (cost_of p s.incumbent)) c s.incumbent
+            (λ best. IsTrue (cost_at_most (cost_of p best) (cost_of p s.incumbent))) (λ t. t) (λ t. same_cost total (cost_of p s.incumbent))
 
 -- a plan that is near, and costs more, has the same pair and drives at most the deviation more
 near_apart : BelowIsAtMost → (deviation : ℕ) (a b : Cost) → is_near deviation a b ≡ true → cost_at_most a b ≡ false
@@ -216,12 +281,21 @@ at_most_is_near deviation a b most = elim (cases_order a.unplanned b.unplanned) 
         let here : eqb b.unplanned a.unplanned ≡ true = eq-eqb b.unplanned a.unplanned (sym same) in
         let there : eqb b.vehicles a.vehicles ≡ true = eq-eqb b.vehicles a.vehicles (sym alike) in
         elim (cases_lt b.distance a.distance) [
-          | inl lt ↦ absurd (above (or_right (nat_lt b.unplanned a.unplanned) _ (and_from (eqb b.unplanned a.unplanned) _ here (or_right (nat_lt b.vehicles a.vehicles) _ (and_from (eqb b.vehicles a.vehicles) _ there (lt-ltb b.distance a.distance lt))))))
-          | inr le ↦ or_right (has_less_pair a b) _ (and_from (has_same_pair a b) _ (and_from (eqb a.unplanned b.unplanned) _ (eq-eqb a.unplanned b.unplanned same) (eq-eqb a.vehicles b.vehicles alike)) (le-leb a.distance (b.distance + deviation) (omega arith)))
+          | inl lt ↦ absurd (above (or_right (nat_lt b.unplanned a.unplanned) _
+              (and_from (eqb b.unplanned a.unplanned) _ here
+              (or_right (nat_lt b.vehicles a.vehicles) _ (and_from (eqb b.vehicles a.vehicles) _ there (lt-ltb b.distance a.distance lt))))))
+          | inr le ↦ or_right (has_less_pair a b) _
+              (and_from (has_same_pair a b) _
+              (and_from (eqb a.unplanned b.unplanned) _ (eq-eqb a.unplanned b.unplanned same) (eq-eqb a.vehicles b.vehicles alike))
+              (le-leb a.distance (b.distance + deviation) (omega arith)))
         ])
     | inr apart ↦ elim apart [
-      | inl lt ↦ or_left (has_less_pair a b) _ (or_right (nat_lt a.unplanned b.unplanned) _ (and_from (eqb a.unplanned b.unplanned) _ (eq-eqb a.unplanned b.unplanned same) (lt-ltb a.vehicles b.vehicles lt)))
-      | inr gt ↦ absurd (above (or_right (nat_lt b.unplanned a.unplanned) _ (and_from (eqb b.unplanned a.unplanned) _ (eq-eqb b.unplanned a.unplanned (sym same)) (or_left (nat_lt b.vehicles a.vehicles) _ (lt-ltb b.vehicles a.vehicles gt)))))
+      | inl lt ↦ or_left (has_less_pair a b) _
+          (or_right (nat_lt a.unplanned b.unplanned) _
+          (and_from (eqb a.unplanned b.unplanned) _ (eq-eqb a.unplanned b.unplanned same) (lt-ltb a.vehicles b.vehicles lt)))
+      | inr gt ↦ absurd (above (or_right (nat_lt b.unplanned a.unplanned) _
+          (and_from (eqb b.unplanned a.unplanned) _ (eq-eqb b.unplanned a.unplanned (sym same))
+          (or_left (nat_lt b.vehicles a.vehicles) _ (lt-ltb b.vehicles a.vehicles gt)))))
     ]
   ]
   | inr apart ↦ elim apart [
@@ -340,7 +414,8 @@ module _ (p : Instance) (deviation : ℕ) (best : Cost) where
   made_near None made old new h = h
   made_near (Some routes) made old new h = record { is = λ yes. h.1; stays = λ none. absurd (both_ways made none h.0); far = λ none. absurd (both_ways made none h.0) }
 
-  pub foreseen_far : (answer : Option (List (List ℕ))) (old new : Drafted) (cost : Option Cost) → IfSome cost (λ k. IsCostIfMade p answer k) → IsSomeAnd cost (λ k. is_near deviation k best ≡ false) → draft_of new ≡ draft_of old
+  pub foreseen_far : (answer : Option (List (List ℕ))) (old new : Drafted) (cost : Option Cost) → IfSome cost (λ k. IsCostIfMade p answer k)
+      → IsSomeAnd cost (λ k. is_near deviation k best ≡ false) → draft_of new ≡ draft_of old
       → IsMadeIfNear p deviation best answer false old new
   foreseen_far None old new cost priced far same = (refl, same)
   foreseen_far (Some routes) old new None priced far same = absurd far
@@ -358,13 +433,15 @@ module _ (p : Instance) (deviation : ℕ) (best : Cost) where
   stays_then None made old new h is = h.1
   stays_then (Some routes) made old new h is = h.stays is
 
-  pub far_then : (answer : Option (List (List ℕ))) (made : Bool) (old new : Drafted) → IsMadeIfNear p deviation best answer made old new → made ≡ false → (s : Walked) → best ≡ cost_of p s.incumbent → s ≡ moved_on_by p deviation s answer
+  pub far_then : (answer : Option (List (List ℕ))) (made : Bool) (old new : Drafted) → IsMadeIfNear p deviation best answer made old new → made ≡ false
+      → (s : Walked) → best ≡ cost_of p s.incumbent → s ≡ moved_on_by p deviation s answer
   far_then None made old new h is s cost = refl
   far_then (Some routes) made old new h is s cost =
       let far : is_near deviation (cost_of p routes) (cost_of p s.incumbent) ≡ false = subst (λ (k : Cost). is_near deviation (cost_of p routes) k ≡ false) cost (h.far is) in
       none_moved p deviation s routes (above (cost_at_most (cost_of p routes) (cost_of p s.incumbent)) refl far) far
     where
-      above : (t : Bool) → cost_at_most (cost_of p routes) (cost_of p s.incumbent) ≡ t → is_near deviation (cost_of p routes) (cost_of p s.incumbent) ≡ false → cost_at_most (cost_of p routes) (cost_of p s.incumbent) ≡ false
+      above : (t : Bool) → cost_at_most (cost_of p routes) (cost_of p s.incumbent) ≡ t → is_near deviation (cost_of p routes) (cost_of p s.incumbent) ≡ false
+          → cost_at_most (cost_of p routes) (cost_of p s.incumbent) ≡ false
       above false e far = e
       above true e far = absurd (both_ways (is_near deviation (cost_of p routes) (cost_of p s.incumbent)) far (at_most_is_near deviation (cost_of p routes) (cost_of p s.incumbent) e))
 

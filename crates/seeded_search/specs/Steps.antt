@@ -1,6 +1,36 @@
 -- One step of a search, and many: a random move, and record-to-record travel (Dueck 1993), which walks on from a plan that is a little
 -- worse than the incumbent. A step is a function of the plans, the deviation, the seed and its number alone.
-use Rattle.std.specs.Prelude.{ℕ, zero, suc, ◌+◌, ◌-◌, nat_lt, nat_le, ◌==◌, ◌&&◌, ◌||◌, not, Bool, List, [], ◌∷◌, ◌++◌, length, take, drop, map, filter, fold, slice_get, slice_index, remove, Option, Some, None, if◌then◌else◌}
+use Rattle.std.specs.Prelude.{
+  ℕ,
+  zero,
+  suc,
+  ◌+◌,
+  ◌-◌,
+  nat_lt,
+  nat_le,
+  ◌==◌,
+  ◌&&◌,
+  ◌||◌,
+  not,
+  Bool,
+  List,
+  [],
+  ◌∷◌,
+  ◌++◌,
+  length,
+  take,
+  drop,
+  map,
+  filter,
+  fold,
+  slice_get,
+  slice_index,
+  remove,
+  Option,
+  Some,
+  None,
+  if◌then◌else◌,
+}
 use Rattle.std.specs.List.{range_with_len}
 use Rattle.std.specs.Option.{option_map, option_and_then}
 use Rattle.plan_types.specs.Cost.{cost_at_most}
@@ -54,7 +84,9 @@ module _ (p : Instance) (pins : List (List ℕ)) where
   -- 2-opt*: two routes exchange what stands behind their cuts
   abbrev pub crossed_by : List (List ℕ) → List ℕ → Option (List (List ℕ))
   crossed_by routes words =
-      option_and_then (λ a. option_and_then (λ b. crossed p pins routes a (cut_by pins routes a (slice_index words 3)) b (cut_by pins routes b (slice_index words 4))) (picked (slice_index words 2) (used_vehicles routes)))
+      option_and_then (λ a. option_and_then
+      (λ b. crossed p pins routes a (cut_by pins routes a (slice_index words 3)) b (cut_by pins routes b (slice_index words 4)))
+      (picked (slice_index words 2) (used_vehicles routes)))
       (picked (slice_index words 1) (used_vehicles routes))
 
   -- the requests that are removed: one to eight, as word 1 picks, drawn by the words behind it

@@ -1,3 +1,4 @@
+-- Each pick is below the count of the numbers left, so its index is that of one not drawn yet, which is put behind those drawn so far.
 use Rattle.std.proofs.Common.{rules, ◌≡◌, ◌-◌, ◌<◌, ◌≤◌, ◌++◌, ◌∷◌, [], length, drop, slice_index, refl, ap}
 use Rattle.seeded_search.specs.Words.{pick}
 use Rattle.seeded_search.specs.Steps.{drawn}
@@ -10,7 +11,8 @@ returns-then-numbers-len c =
     let taken = c.loop-word.taken.items in
     let numbers = c.args.numbers.now in
     let all : length numbers ≤ length taken = search rules in
-    drawn_end c.loop-word.names.items (drop c.loop-word.word-index c.args.words.now) (left_of taken numbers) (drawn c.args.words.now numbers) c.loop-word.invariant.drawn (none_left taken numbers c.loop-word.invariant.taken all)
+    drawn_end c.loop-word.names.items (drop c.loop-word.word-index c.args.words.now) (left_of taken numbers)
+    (drawn c.args.words.now numbers) c.loop-word.invariant.drawn (none_left taken numbers c.loop-word.invariant.taken all)
 
 pub bounds-numbers-index_of : goal.bounds-numbers-index_of
 bounds-numbers-index_of c =
@@ -40,6 +42,7 @@ loop-word-preserved c =
     let picks : k ≡ pick (slice_index words c.loop-word.word-index) (length numbers - length taken) = search rules in
     let made : c.push.new.self.items ≡ c.loop-word.names.items ++ x ∷ [] = search rules in
     let took : c.insert.new.self.items ≡ k ∷ taken = search rules in
-    let more = drawn_more c.loop-word.names.items c.push.new.self.items (drawn words numbers) words c.loop-word.word-index (slice_index words c.loop-word.word-index) k x taken c.insert.new.self.items numbers
+    let more = drawn_more c.loop-word.names.items c.push.new.self.items (drawn words numbers) words c.loop-word.word-index
+    (slice_index words c.loop-word.word-index) k x taken c.insert.new.self.items numbers
     c.loop-word.invariant.taken c.loop-word.invariant.drawn within refl picks low (ap (slice_index numbers) is) made took in
     record { drawn = more.0; taken = more.1 }

@@ -1,9 +1,9 @@
+-- What is drawn so far, and what the words left draw of the numbers left, is all that is drawn.
 use Rattle.std.proofs.Common.{◌≡◌, ◌++◌, drop}
 use Rattle.seeded_search.specs.Steps.{drawn}
 use Rattle.seeded_search.specs.Draws.{left_of, AreTaken}
 use Rattle.seeded_search.proofs.draws.drawn.Given as goal
 
--- what is drawn so far, and what the words left draw of what is left
 abbrev pub invariant-loop-word : goal.invariant-loop-word
 invariant-loop-word l = record {
   drawn : l.names.items ++ drawn (drop l.word-index l.words) (left_of l.taken.items l.numbers) ≡ drawn l.words l.numbers;

@@ -1,3 +1,4 @@
+-- A route becomes the draft's where the two differ, and stays where they don't; no vehicle behind the fronts has stops, so at the end all routes are the draft's.
 use Rattle.std.proofs.Common.{rules, ◌≡◌, ℕ, ◌+◌, ◌<◌, ◌≤◌, [], length, get_or, set, slice_get, refl, sym, ap, subst, ◌∙◌, arith}
 use Rattle.std.proofs.lemmas.List.{length-set}
 use Rattle.std.proofs.lemmas.Option.{slice_get_read, get_or_from_slice_get}
@@ -24,13 +25,15 @@ loop-index-preserved c =
           record {
             long = ap length made ∙ (length-set routes n c.route-stops.result.now ∙ c.loop-index.invariant.long);
             same = subst (λ rs. SameBelow rs plan (n + 1)) (sym made) (same_set routes plan n c.route-stops.result.now c.loop-index.invariant.same within is);
-            stays = subst (λ rs. (k : ℕ) → n + 1 ≤ k → get_or rs k [] ≡ get_or c.args.routes.now k []) (sym made) (stays_set c.args.routes.now routes n c.route-stops.result.now c.loop-index.invariant.stays);
+            stays = subst (λ rs. (k : ℕ) → n + 1 ≤ k → get_or rs k [] ≡ get_or c.args.routes.now k []) (sym made)
+                (stays_set c.args.routes.now routes n c.route-stops.result.now c.loop-index.invariant.stays);
           })
       | else-ne w ↦ (
           let made : c.if-ne.routes ≡ routes = search rules in
           let same : c.index-as_slice-index.result ≡ c.route-stops.result.now = search rules in
           let inside : n < length c.as_slice.result.now = search rules in
-          let there = ap (λ rs. slice_get rs n) (sym c.as_slice.ensures) ∙ slice_get_read c.as_slice.result.now (length c.as_slice.result.now) n c.index-as_slice-index.result refl inside c.index-as_slice-index.is in
+          let there = ap (λ rs. slice_get rs n) (sym c.as_slice.ensures)
+          ∙ slice_get_read c.as_slice.result.now (length c.as_slice.result.now) n c.index-as_slice-index.result refl inside c.index-as_slice-index.is in
           record {
             long = ap length made ∙ c.loop-index.invariant.long;
             same = subst (λ rs. SameBelow rs plan (n + 1)) (sym made)
@@ -42,5 +45,6 @@ loop-index-preserved c =
 pub returns : goal.returns
 returns c =
     let end : c.loop-index.index ≡ c.reach-index-end.result = search rules in
-    same_all c.args.routes.now c.loop-index.routes (draft_of c.args.draft.now) c.loop-index.index c.args.front c.front.result c.loop-index.invariant.long c.requires.long c.loop-index.invariant.same c.loop-index.invariant.stays
+    same_all c.args.routes.now c.loop-index.routes
+    (draft_of c.args.draft.now) c.loop-index.index c.args.front c.front.result c.loop-index.invariant.long c.requires.long c.loop-index.invariant.same c.loop-index.invariant.stays
     (subst (λ n. (v : ℕ) → n < v → v ≤ length c.args.routes.now → (c.args.front < v) × (c.front.result < v)) (sym end) c.reach-index-end.ensures.enough) c.requires.idle c.front.ensures.idle

@@ -1,8 +1,8 @@
+-- The routes so far are those of the draft, and the others are as they were.
 use Rattle.std.proofs.Common.{◌≡◌, ℕ, ◌<◌, ◌≤◌, [], length, get_or}
 use Rattle.move_ops.specs.Drafts.{draft_of}
 use Rattle.seeded_search.proofs.incumbent.follow.Given as goal
 
--- the routes so far are those of the draft, and the others stay
 abbrev pub invariant-loop-index : goal.invariant-loop-index
 invariant-loop-index l = record {
   long : length l.routes ≡ length (draft_of l.draft);

@@ -1,3 +1,4 @@
+-- Costs are in order, so no number of steps makes the incumbent cost more.
 use Rattle.seeded_search.proofs.WalkLemmas.{incumbents_never_cost_more}
 use Rattle.seeded_search.proofs.laws.incumbents_never_cost_more.Goals as goal
 

@@ -1,3 +1,4 @@
+-- What becomes the working plan is within the deviation of the incumbent, or is the new incumbent, so the working plan stays near it.
 use Rattle.seeded_search.proofs.WalkLemmas.{working_stays_near}
 use Rattle.seeded_search.proofs.laws.working_stays_near.Goals as goal
 

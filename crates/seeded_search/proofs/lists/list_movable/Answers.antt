@@ -1,3 +1,4 @@
+-- The next request's name is put behind those so far where the request is movable, and passed over where it is not.
 use Rattle.std.proofs.Common.{rules, ◌≡◌, ◌≤◌, length, ◌++◌, ◌∷◌, [], Some, None, sym, ◌∙◌}
 use Rattle.move_ops.specs.Moves.{is_movable}
 use Rattle.move_ops.specs.Drafts.{draft_of}
@@ -11,7 +12,8 @@ loop-index-preserved c = elim c.match-movable_name.branch [
   | in-Some+in_ok-push w ↦ (
       let made : c.match-movable_name.names.items ≡ c.loop-index.names.items ++ w.in-Some.name ∷ [] = search rules in
       let found : c.movable_name.result ≡ Some w.in-Some.name = search rules in
-      name_pushed (is_movable c.args.pins.now.routes (draft_of c.args.draft.now)) c.loop-index.names.items c.match-movable_name.names.items c.args.problem.now.requests c.loop-index.index w.in-Some.name
+      name_pushed (is_movable c.args.pins.now.routes
+      (draft_of c.args.draft.now)) c.loop-index.names.items c.match-movable_name.names.items c.args.problem.now.requests c.loop-index.index w.in-Some.name
       (movable_names c.args.problem.now c.args.pins.now.routes (draft_of c.args.draft.now)) c.loop-index.invariant (sym c.movable_name.ensures ∙ found) made)
   | in_default w ↦ (
       let made : c.match-movable_name.names.items ≡ c.loop-index.names.items = search rules in

@@ -1,3 +1,4 @@
+-- A vehicle with stops is put behind those so far, one without is passed over; none behind the front has stops, so at the end these are all.
 use Rattle.std.proofs.Common.{rules, ◌≡◌, ◌+◌, ◌<◌, ◌==◌, ◌++◌, ◌∷◌, [], not, true, false, length, subst, arith}
 use Rattle.move_ops.specs.Insertion.{of_vehicle}
 use Rattle.move_ops.specs.Drafts.{draft_of, AreIdleBehind}

@@ -1,9 +1,9 @@
+-- The requests left, put into the draft so far, make the plan with all of them.
 use Rattle.std.proofs.Common.{◌≡◌, drop}
 use Rattle.move_ops.specs.Drafts.{base_of, draft_of, IsDraftOf}
 use Rattle.seeded_search.specs.Steps.{placed_all}
 use Rattle.seeded_search.proofs.placing.place_all.Given as goal
 
--- the requests left, put into the draft so far, make the plan with all of them
 abbrev pub invariant-loop-name : goal.invariant-loop-name
 invariant-loop-name l = record {
   is : IsDraftOf l.problem l.pins.routes l.draft;

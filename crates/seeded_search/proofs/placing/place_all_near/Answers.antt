@@ -1,3 +1,4 @@
+-- A draft that is far, whatever becomes of the requests left, is far with all of them; it is dropped, and its base stays.
 use Rattle.std.proofs.Common.{rules, get_or, ◌≡◌, subst, true, false, ◌∙◌}
 use Rattle.route_sched.specs.Cost.{cost_of}
 use Rattle.move_ops.specs.Drafts.{draft_of}
@@ -13,7 +14,8 @@ returns-then-not-branch-clause-made c =
     let so_far = c.loop-name.invariant in
     let made = c.in_ok-place_near.ensures.made in
     let saved : c.from.result ≡ most_saved c.args.problem.now (get_or c.args.names.now c.loop-name.name-index 0) = search rules in
-    let far = all_far c.placements_save_little.ensures p pins c.requires.valid c.args.near.now.deviation c.args.near.now.best.now (draft_of c.loop-name.draft) so_far.is.draft c.args.names.now c.loop-name.name-index c.loop-name.behind c.loop-name.rest c.from.result 0
+    let far = all_far c.placements_save_little.ensures p pins c.requires.valid c.args.near.now.deviation c.args.near.now.best.now
+    (draft_of c.loop-name.draft) so_far.is.draft c.args.names.now c.loop-name.name-index c.loop-name.behind c.loop-name.rest c.from.result 0
     c.loop-name-test.true so_far.behind so_far.rest saved (made.far c.if-not-branch.true) in
     record {
       put = λ yes. absurd (let h : false ≡ true = yes in cc);

@@ -1,3 +1,4 @@
+-- The requests left, put into the draft so far, make the plan with all; their number is counted, and what they save at most is their sum.
 use Rattle.std.proofs.Common.{◌≡◌, ◌+◌, drop, length}
 use Rattle.std.specs.Prelude.{sum_by}
 use Rattle.move_ops.specs.Drafts.{base_of, draft_of, IsDraftOf}
@@ -5,7 +6,6 @@ use Rattle.move_ops.specs.Savings.{most_saved}
 use Rattle.seeded_search.specs.Steps.{placed_all}
 use Rattle.seeded_search.proofs.placing.place_all_near.Given as goal
 
--- as in `place_all`; and what is left, and how much that saves
 abbrev pub invariant-loop-name : goal.invariant-loop-name
 invariant-loop-name l = record {
   is : IsDraftOf l.problem l.pins.routes l.draft;

@@ -1,7 +1,7 @@
+-- One step is the first of many.
 use Rattle.seeded_search.specs.Steps.{steps}
 use Rattle.seeded_search.proofs.search.search_step.Goals as goal
 
--- one step is the first of many
 pub returns-clause-found : goal.returns-clause-found
 unfolding steps
 returns-clause-found c = c.search_steps.ensures.found

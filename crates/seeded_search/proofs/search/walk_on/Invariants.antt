@@ -1,9 +1,9 @@
+-- The steps left, from what is found so far, find what all steps find.
 use Rattle.std.proofs.Common.{◌≡◌, ◌+◌, ◌-◌}
 use Rattle.seeded_search.specs.Steps.{steps}
 use Rattle.seeded_search.specs.Working.{IsWalk, walked_by}
 use Rattle.seeded_search.proofs.search.walk_on.Given as goal
 
--- the steps left, from what is found so far, find what all steps find
 abbrev pub invariant-loop-done : goal.invariant-loop-done
 invariant-loop-done l = record {
   seed : l.words.seed ≡ l.seed;

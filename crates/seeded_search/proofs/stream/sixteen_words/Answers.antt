@@ -1,3 +1,4 @@
+-- Each word is the generator's at its place, so all are its next sixteen words.
 use Rattle.std.proofs.Common.{arith}
 use Rattle.rand_chacha.specs.ChaCha.{word_at}
 use Rattle.seeded_search.specs.Generator.{next_words}

@@ -1,3 +1,4 @@
+-- A walk begins with a draft that is its base, with that draft's lists, and with an incumbent of which no vehicle behind the last has stops.
 use Rattle.std.proofs.Common.{rules, ◌≡◌, length, ap, arith}
 use Rattle.move_ops.proofs.Drafting.{idle_behind_all}
 use Rattle.seeded_search.proofs.walk.Walk.begin.Goals as goal

@@ -1,3 +1,4 @@
+-- A draft that is taken stays a walk's; where the incumbent followed it, the working plan is the incumbent.
 use Rattle.std.proofs.Common.{true, sym, ap, ◌∙◌}
 use Rattle.std.proofs.lemmas.Result.{on_ok_weaker}
 use Rattle.plan_types.specs.declared.plans.Plan.{Plan}
@@ -15,4 +16,5 @@ returns-then-le-clause-walk c =
     (λ _. ap (λ (plan : Plan). plan.routes) taken.incumbent ∙ (followed.incumbent ∙ sym (taken.base ∙ ap draft_of followed.draft)))
 
 pub returns-clause-walk : goal.returns-clause-walk
-returns-clause-walk c = on_ok_weaker c.take-2.result (λ taken. taken_walk c.args.problem.now c.args.pins.now.routes c.args.self.now c.take-2.new.self taken c.requires.incumbent c.requires.best c.requires.idle c.requires.nearby) c.take-2.ensures
+returns-clause-walk c = on_ok_weaker c.take-2.result
+    (λ taken. taken_walk c.args.problem.now c.args.pins.now.routes c.args.self.now c.take-2.new.self taken c.requires.incumbent c.requires.best c.requires.idle c.requires.nearby) c.take-2.ensures

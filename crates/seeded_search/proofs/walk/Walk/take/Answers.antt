@@ -1,3 +1,4 @@
+-- Where no request is left out before and behind the change, or the draft is the base, the lists that stand are those of the new base.
 use Rattle.std.proofs.Common.{rules, ◌≡◌, [], length, sym, subst, ◌∙◌}
 use Rattle.std.proofs.lemmas.List.{nil_from_length}
 use Rattle.route_sched.specs.Cost.{unplanned_count}
