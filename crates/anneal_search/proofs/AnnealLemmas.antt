@@ -43,12 +43,14 @@ module _ (p : Instance) (pins routes : List (List ℕ)) (words : List ℕ) where
         ∙ ap (removed p pins routes) (sym drawn)
 
 -- nothing is removed
-pub not_removed : (f : List (List ℕ) → List (List ℕ)) (answer : Option (List (List ℕ))) (made : Bool) (old new : Drafted) → IsMade answer made old new → made ≡ false → IsMade (option_map f answer) false old new
+pub not_removed : (f : List (List ℕ) → List (List ℕ)) (answer : Option (List (List ℕ))) (made : Bool) (old new : Drafted) → IsMade answer made old new
+    → made ≡ false → IsMade (option_map f answer) false old new
 not_removed f None made old new h is = (refl, h.1)
 not_removed f (Some left) made old new h is = absurd (both_ways made is h.0)
 
 -- what is left is put in again
-pub removed_and_more : (f : List (List ℕ) → List (List ℕ)) (answer : Option (List (List ℕ))) (made : Bool) (old left new : Drafted) → IsMade answer made old left → made ≡ true → draft_of new ≡ f (draft_of left)
+pub removed_and_more : (f : List (List ℕ) → List (List ℕ)) (answer : Option (List (List ℕ))) (made : Bool) (old left new : Drafted)
+    → IsMade answer made old left → made ≡ true → draft_of new ≡ f (draft_of left)
     → IsMade (option_map f answer) true old new
 removed_and_more f None made old left new h is more = absurd (both_ways made h.0 is)
 removed_and_more f (Some routes) made old left new h is more = (refl, more ∙ ap f h.1)
@@ -98,7 +100,8 @@ module _ (p : Instance) (pins : List (List ℕ)) (deviation seed : ℕ) where
   unfolding candidate
   candidate_passes routes words y is = by (eqb (length (ruined_names p pins routes words)) 0) (removed p pins routes (ruined_names p pins routes words)) refl is
     where
-      by : (b : Bool) (o : Option (List (List ℕ))) → removed p pins routes (ruined_names p pins routes words) ≡ o → cond b None (option_map (recreated p pins (slice_index words 2)) o) ≡ Some y → Passes p pins y
+      by : (b : Bool) (o : Option (List (List ℕ))) → removed p pins routes (ruined_names p pins routes words) ≡ o
+          → cond b None (option_map (recreated p pins (slice_index words 2)) o) ≡ Some y → Passes p pins y
       by true o e is = absurd (none_some y is)
       by false None e is = absurd (none_some y is)
       by false (Some left) e is =

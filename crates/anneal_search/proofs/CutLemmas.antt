@@ -40,7 +40,8 @@ strings_lie_around most w n q low some within = by (nat_le 2 taken && nat_lt tak
     taken = 1 + pick w (min n most)
 
     by : (b : Bool) → (nat_le 2 (1 + pick w (min n most)) && nat_lt (1 + pick w (min n most)) n) ≡ b
-        → LiesAround most n q (cond b (placed_cut (rest (rest w (min n most)) 2) n q (1 + pick w (min n most)) (pick (rest w (min n most)) 2 == 1)) (placed_cut (rest w (min n most)) n q (1 + pick w (min n most)) false))
+        → LiesAround most n q (cond b (placed_cut (rest (rest w (min n most)) 2) n q (1 + pick w (min n most)) (pick (rest w (min n most)) 2 == 1))
+        (placed_cut (rest w (min n most)) n q (1 + pick w (min n most)) false))
     by true is =
         let parts = and_parts (nat_le 2 (1 + pick w (min n most))) (nat_lt (1 + pick w (min n most)) n) is in
         let two = leb-true 2 (1 + pick w (min n most)) parts.0 in

@@ -29,7 +29,8 @@ module _ (p : Instance) (left new : List (List ℕ)) (kept : (r : Request) → i
   ]
 
 -- all that is left out once requests were put in was left out before
-pub held : (p : Instance) (pins : List (List ℕ)) (w : ℕ) (left new : List (List ℕ)) (names : List ℕ) → IsInstance p → names ≡ unplanned_names p left → new ≡ recreated p pins w left → HoldLeftOut p new names
+pub held : (p : Instance) (pins : List (List ℕ)) (w : ℕ) (left new : List (List ℕ)) (names : List ℕ) → IsInstance p → names ≡ unplanned_names p left
+    → new ≡ recreated p pins w left → HoldLeftOut p new names
 held p pins w left new names valid is made =
     let kept : (r : Request) → is_planned left r ≡ true → is_planned new r ≡ true =
     λ r had. subst (λ l. is_planned l r ≡ true) (sym made) (placed_all_keeps p pins r (ordered p w (unplanned_names p left)) left had) in

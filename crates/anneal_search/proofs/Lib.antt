@@ -1,3 +1,4 @@
+-- The lemma files; upper crates may cite those that are `pub`.
 mod AnnealLemmas
 mod BoundLemmas
 mod CutLemmas

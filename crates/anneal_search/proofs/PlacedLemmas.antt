@@ -19,7 +19,8 @@ use Rattle.seeded_search.specs.Steps.{placed_all}
 use Rattle.seeded_search.proofs.WalkLemmas.{and_then_some, then_some}
 
 -- how often numbers stand with a request put in
-times_then : (n : ℕ) (pins routes : List (List ℕ)) (r : Request) (x : Insertion) → is_place_of pins routes r x ≡ true → times n (concat (with_request_at routes r x)) ≡ times n (numbers_of r) + times n (concat routes)
+times_then : (n : ℕ) (pins routes : List (List ℕ)) (r : Request) (x : Insertion) → is_place_of pins routes r x ≡ true
+    → times n (concat (with_request_at routes r x)) ≡ times n (numbers_of r) + times n (concat routes)
 times_then n pins routes r x at =
     let a = and_parts _ _ at in
     let b = and_parts _ _ a.1 in

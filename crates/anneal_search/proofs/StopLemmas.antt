@@ -47,6 +47,7 @@ none_found p center vehicle k limit (n ∷ ns) far =
     rw (none_beyond (near p center vehicle k n) limit (far 0 (omega arith))) (none_found p center vehicle (k + 1) limit ns (λ j below. far (suc j) (omega arith)))
 
 -- a stop that is found is known by its number
-pub stop_known : (p : Instance) (n : ℕ) (o : Option (Bor Stop)) → option_copied o ≡ stop_at p n → IfSome o (λ s. (s.now.number ≡ n) × IsStop s.now × (n < p.next_number)) → IfSome o (λ s. stop_at p s.now.number ≡ Some s.now)
+pub stop_known : (p : Instance) (n : ℕ) (o : Option (Bor Stop)) → option_copied o ≡ stop_at p n
+    → IfSome o (λ s. (s.now.number ≡ n) × IsStop s.now × (n < p.next_number)) → IfSome o (λ s. stop_at p s.now.number ≡ Some s.now)
 stop_known p n None found is = tt
 stop_known p n (Some s) found is = ap (stop_at p) is.0 ∙ sym found

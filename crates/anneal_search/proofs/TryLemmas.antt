@@ -1,5 +1,40 @@
 -- What the steps of a try keep, and how the code's steps follow them.
-use Rattle.std.proofs.Common.{◌≡◌, ◌∙◌, ℕ, zero, suc, ◌+◌, ◌-◌, ◌*◌, ◌<◌, ◌≤◌, ◌==◌, ◌&&◌, Bool, true, false, cond, List, [], ◌∷◌, drop, filter, length, map, not, Option, Some, None, refl, sym, ap, subst, inl, inr, arith}
+use Rattle.std.proofs.Common.{
+  ◌≡◌,
+  ◌∙◌,
+  ℕ,
+  zero,
+  suc,
+  ◌+◌,
+  ◌-◌,
+  ◌*◌,
+  ◌<◌,
+  ◌≤◌,
+  ◌==◌,
+  ◌&&◌,
+  Bool,
+  true,
+  false,
+  cond,
+  List,
+  [],
+  ◌∷◌,
+  drop,
+  filter,
+  length,
+  map,
+  not,
+  Option,
+  Some,
+  None,
+  refl,
+  sym,
+  ap,
+  subst,
+  inl,
+  inr,
+  arith,
+}
 use Rattle.std.specs.Prelude.{slice_set, slice_index_or}
 use Rattle.std.proofs.Math.Seq.{drop-cons}
 use Rattle.std.proofs.lemmas.Bool.{both_ways, cases_Bool}
@@ -37,9 +72,11 @@ one_more most absences name all =
 
 pub counted_most : (most : ℕ) (names xs : List ℕ) → AreAtMost most xs → AreAtMost (most + length names) (counted xs names)
 counted_most most [] xs all = more_most most (most + 0) xs (omega arith) all
-counted_most most (n ∷ ns) xs all = more_most (most + 1 + length ns) (most + suc (length ns)) (counted (once_more xs n) ns) (omega arith) (counted_most (most + 1) ns (once_more xs n) (one_more most xs n all))
+counted_most most (n ∷ ns) xs all = more_most (most + 1 + length ns) (most + suc (length ns)) (counted (once_more xs n) ns) (omega arith)
+    (counted_most (most + 1) ns (once_more xs n) (one_more most xs n all))
 
-pub counted_next : (names : List ℕ) (i : ℕ) (xs new all : List ℕ) → i < length names → new ≡ once_more xs (slice_index_or names i 0) → counted xs (drop i names) ≡ all → counted new (drop (i + 1) names) ≡ all
+pub counted_next : (names : List ℕ) (i : ℕ) (xs new all : List ℕ) → i < length names → new ≡ once_more xs (slice_index_or names i 0)
+    → counted xs (drop i names) ≡ all → counted new (drop (i + 1) names) ≡ all
 counted_next names i xs new all within is so_far =
     let there : i + 1 ≡ suc i = omega arith in
     ap (λ k. counted new (drop k names)) there ∙ ap (λ l. counted l (drop (suc i) names)) is ∙ ap (counted xs) (sym (drop-cons names i 0 within)) ∙ so_far
@@ -56,11 +93,13 @@ few_left p routes names missing valid held is =
     omega (arith, a, b, c, d, few_requests p valid)
 
 -- each of them counts once more at most
-pub few_then : (p : Instance) (routes : List (List ℕ)) (made : ℕ) (names missing xs new : List ℕ) → IsInstance p → HoldLeftOut p routes missing → names ≡ left_out p routes missing → AreAtMost (40001 * made) xs → new ≡ counted xs names
+pub few_then : (p : Instance) (routes : List (List ℕ)) (made : ℕ) (names missing xs new : List ℕ) → IsInstance p → HoldLeftOut p routes missing
+    → names ≡ left_out p routes missing → AreAtMost (40001 * made) xs → new ≡ counted xs names
     → AreAtMost (40001 * (made + 1)) new
 few_then p routes made names missing xs new valid held is all counts =
     subst (AreAtMost (40001 * (made + 1))) (sym counts)
-    (more_most (40001 * made + length names) (40001 * (made + 1)) (counted xs names) (let h = few_left p routes names missing valid held is in omega (arith, h)) (counted_most (40001 * made) names xs all))
+    (more_most (40001 * made + length names) (40001 * (made + 1)) (counted xs names)
+    (let h = few_left p routes names missing valid held is in omega (arith, h)) (counted_most (40001 * made) names xs all))
 
 -- ---- plans that pass
 module _ (p : Instance) (pins : List (List ℕ)) (deviation seed : ℕ) where
@@ -147,7 +186,8 @@ step_off p pins deviation seed most made t all best so_far is off = by (most - m
         sym (ap (λ b. cond b t (try_steps p pins deviation seed k (try_step p pins deviation seed t))) whole) ∙ so
 
 -- ---- what a candidate replaces
-module _ (p : Instance) (deviation : ℕ) (t : Trying) (c : List (List ℕ)) (follows : Bool) (left absences : List ℕ) (step : ℕ) (is : follows ≡ may_follow p deviation t.absences c t.working) (out : left ≡ unplanned_names p c)
+module _ (p : Instance) (deviation : ℕ) (t : Trying) (c : List (List ℕ)) (follows : Bool) (left absences : List ℕ) (step : ℕ)
+    (is : follows ≡ may_follow p deviation t.absences c t.working) (out : left ≡ unplanned_names p c)
     (counts : absences ≡ counted t.absences left) (next : step ≡ t.step + 1) where
   abbrev by_then : Bool → List ℕ → ℕ → Trying
   by_then b cs n = record { incumbent = cond (b && cost_at_most (cost_of p c) (cost_of p t.incumbent)) c t.incumbent; working = cond b c t.working; absences = cs; step = n }
@@ -161,5 +201,6 @@ module _ (p : Instance) (deviation : ℕ) (t : Trying) (c : List (List ℕ)) (fo
   pub dropped_try : follows ≡ false → (record { incumbent = t.incumbent; working = t.working; absences = absences; step = step }) ≡ tried_on p deviation t c
   dropped_try e = by_then_is false e
 
-  pub followed_try : follows ≡ true → (w : Walked) → w ≡ followed p (walked t.incumbent t.working) c → (record { incumbent = w.incumbent; working = w.working; absences = absences; step = step }) ≡ tried_on p deviation t c
+  pub followed_try : follows ≡ true → (w : Walked) → w ≡ followed p (walked t.incumbent t.working) c
+      → (record { incumbent = w.incumbent; working = w.working; absences = absences; step = step }) ≡ tried_on p deviation t c
   followed_try e w same = ap (λ (v : Walked). record { incumbent = v.incumbent; working = v.working; absences = absences; step = step }) same ∙ by_then_is true e

@@ -1,3 +1,4 @@
+-- One name more raises one count by one, so no count is above what all were at most and the names so far, and none wraps.
 use Rattle.std.proofs.Common.{◌≡◌, ◌+◌, arith, sym, subst}
 use Rattle.std.specs.Prelude.{slice_index_or}
 use Rattle.anneal_search.specs.Absences.{AreAtMost}
@@ -19,5 +20,7 @@ loop-name-preserved c =
     let one = c.count_once.ensures in
     record {
       counted = counted_next names i c.loop-name.absences c.count_once.new.absences (counted c.args.absences.now names) c.loop-name-test.true one c.loop-name.invariant.counted;
-      few = λ most all. (let more : most + i + 1 ≡ most + (i + 1) = omega arith in subst (λ k. AreAtMost k c.count_once.new.absences) more (subst (AreAtMost (most + i + 1)) (sym one) (one_more (most + i) c.loop-name.absences (slice_index_or names i 0) (c.loop-name.invariant.few most all))));
+      few = λ most all. (let more : most + i + 1 ≡ most + (i + 1) = omega arith in subst (λ k. AreAtMost k c.count_once.new.absences) more
+          (subst (AreAtMost (most + i + 1)) (sym one)
+          (one_more (most + i) c.loop-name.absences (slice_index_or names i 0) (c.loop-name.invariant.few most all))));
     }

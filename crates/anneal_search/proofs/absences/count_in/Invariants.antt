@@ -1,9 +1,9 @@
+-- The names left count what all names do, and each of those so far raised a count by one at most.
 use Rattle.std.proofs.Common.{◌≡◌, ℕ, ◌+◌, drop}
 use Rattle.anneal_search.specs.Absences.{AreAtMost}
 use Rattle.anneal_search.specs.Trying.{counted}
 use Rattle.anneal_search.proofs.absences.count_in.Given as goal
 
--- the names left count what all do, and each raised a count by one at most
 abbrev pub invariant-loop-name : goal.invariant-loop-name
 invariant-loop-name l = record {
   counted : counted l.absences (drop l.name-index l.names) ≡ counted l.fn.absences l.names;

@@ -1,3 +1,4 @@
+-- Once the requests with a stop in a string are taken out, all that are unplanned are put in by an order, which makes the step's candidate.
 use Rattle.std.proofs.Common.{rules, ◌≡◌, is_some, true, false, slice_index, ap, subst, ◌∙◌}
 use Rattle.move_ops.specs.Drafts.{draft_of, IsMade}
 use Rattle.seeded_search.specs.Steps.{placed_all, unplanned_names}
@@ -30,7 +31,8 @@ returns-clause-made c =
     let order : c.in_ok-order.order.items ≡ ordered c.args.problem.now (slice_index c.args.words.now 2) c.in-Some.missing.items = search rules in
     let more : draft_of c.place_all.new.draft ≡ placed_all c.args.problem.now c.args.pins.now.routes (draft_of c.take_out.new.draft) c.in_ok-order.order.items = search rules in
     subst (λ answer. IsMade answer true c.args.draft.now c.place_all.new.draft) (candidate_is p pins routes words)
-    (removed_and_more (recreated p pins (slice_index words 2)) (ruined p pins routes words) (is_some c.in_ok-missing.field-0) c.args.draft.now c.take_out.new.draft c.place_all.new.draft c.in_ok-missing.ensures.taken some
+    (removed_and_more (recreated p pins (slice_index words 2)) (ruined p pins routes words)
+    (is_some c.in_ok-missing.field-0) c.args.draft.now c.take_out.new.draft c.place_all.new.draft c.in_ok-missing.ensures.taken some
     (more ∙ ap (placed_all p pins left) (order ∙ ap (ordered p (slice_index words 2)) missing)))
 
 pub returns-clause-left : goal.returns-clause-left
@@ -42,4 +44,5 @@ returns-clause-left c =
     let missing : c.in-Some.missing.items ≡ unplanned_names c.args.problem.now (draft_of c.take_out.new.draft) = search rules in
     let order : c.in_ok-order.order.items ≡ ordered c.args.problem.now (slice_index c.args.words.now 2) c.in-Some.missing.items = search rules in
     let more : draft_of c.place_all.new.draft ≡ placed_all c.args.problem.now c.args.pins.now.routes (draft_of c.take_out.new.draft) c.in_ok-order.order.items = search rules in
-    held p pins (slice_index words 2) left (draft_of c.place_all.new.draft) c.in-Some.missing.items c.requires.draft.valid missing (more ∙ ap (placed_all p pins left) (order ∙ ap (ordered p (slice_index words 2)) missing))
+    held p pins (slice_index words 2) left (draft_of c.place_all.new.draft) c.in-Some.missing.items c.requires.draft.valid missing
+    (more ∙ ap (placed_all p pins left) (order ∙ ap (ordered p (slice_index words 2)) missing))

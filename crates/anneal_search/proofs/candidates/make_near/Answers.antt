@@ -1,3 +1,4 @@
+-- Where requests are taken out, those unplanned then are put in by an order, which makes the step's candidate, or one that is seen to be far; else there is none.
 use Rattle.std.proofs.Common.{rules, ◌≡◌, is_some, true, false, IfOk, slice_index, sym, ap, subst, ◌∙◌}
 use Rattle.std.proofs.lemmas.Result.{IfOk-weaker}
 use Rattle.move_ops.specs.Drafts.{draft_of, IsMade}
@@ -32,8 +33,12 @@ returns-clause-made c =
     let some : is_some c.in_ok-missing.field-0 ≡ true = search rules in
     let missing : c.in-Some.missing.items ≡ unplanned_names c.args.problem.now (draft_of c.take_out.new.draft) = search rules in
     let order : c.deref-2.result.now ≡ ordered c.args.problem.now (slice_index c.args.words.now 2) c.in-Some.missing.items = search rules in
-    subst (λ answer. IfOk c.place_all_near.result (λ made. IsMadeIfNear p c.args.near.now.deviation c.args.near.now.best.now answer made c.args.draft.now c.place_all_near.new.draft)) (candidate_is p pins routes words)
+    subst (λ answer. IfOk c.place_all_near.result
+    (λ made. IsMadeIfNear p c.args.near.now.deviation c.args.near.now.best.now answer made c.args.draft.now c.place_all_near.new.draft))
+    (candidate_is p pins routes words)
     (IfOk-weaker c.place_all_near.result _ _
-    (λ made all. placed_near p pins c.args.near.now.deviation c.args.near.now.best.now (recreated p pins (slice_index words 2)) (ruined p pins routes words) (is_some c.in_ok-missing.field-0) made c.args.draft.now c.take_out.new.draft
-    c.place_all_near.new.draft c.deref-2.result.now c.in_ok-missing.ensures.taken some c.requires.settled c.in_ok-missing.ensures.base (ap (placed_all p pins left) (sym (order ∙ ap (ordered p (slice_index words 2)) missing))) all)
+    (λ made all. placed_near p pins c.args.near.now.deviation c.args.near.now.best.now (recreated p pins (slice_index words 2)) (ruined p pins routes words)
+    (is_some c.in_ok-missing.field-0) made c.args.draft.now c.take_out.new.draft
+    c.place_all_near.new.draft c.deref-2.result.now c.in_ok-missing.ensures.taken some c.requires.settled c.in_ok-missing.ensures.base
+    (ap (placed_all p pins left) (sym (order ∙ ap (ordered p (slice_index words 2)) missing))) all)
     c.place_all_near.ensures.made)

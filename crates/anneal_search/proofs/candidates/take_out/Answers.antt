@@ -1,3 +1,4 @@
+-- The plan without the requests with a stop in a string leaves out these and those left out before; where there are none, or it fails, there is no such plan.
 use Rattle.std.proofs.Common.{rules, ◌≡◌, ◌==◌, true, false, length, refl, sym, ap, subst, ◌∙◌}
 use Rattle.move_ops.specs.Drafts.{draft_of, IsMade}
 use Rattle.move_ops.specs.Moves.{removed}
@@ -19,7 +20,8 @@ returns-then-not-branch-clause-taken c =
     let routes = draft_of c.args.draft.now in
     let names = c.in_ok-names.names.items in
     let some : (length c.in_ok-names.names.items == 0) ≡ false = search rules in
-    let made : IsMade (removed c.args.problem.now c.args.pins.now.routes (draft_of c.args.draft.now) c.in_ok-names.names.items) c.in_ok-remove.field-0 c.args.draft.now c.remove.new.self = search rules in
+    let made : IsMade (removed c.args.problem.now c.args.pins.now.routes
+    (draft_of c.args.draft.now) c.in_ok-names.names.items) c.in_ok-remove.field-0 c.args.draft.now c.remove.new.self = search rules in
     subst (λ answer. IsMade answer false c.args.draft.now c.remove.new.self) (sym (some_ruined p pins routes c.args.words.now names c.in_ok-names.ensures.names some))
     (subst (λ done. IsMade (removed p pins routes names) done c.args.draft.now c.remove.new.self) c.if-not-branch.true made)
 
@@ -30,7 +32,8 @@ returns-clause-taken c =
     let routes = draft_of c.args.draft.now in
     let names = c.in_ok-names.names.items in
     let some : (length c.in_ok-names.names.items == 0) ≡ false = search rules in
-    let made : IsMade (removed c.args.problem.now c.args.pins.now.routes (draft_of c.args.draft.now) c.in_ok-names.names.items) c.in_ok-remove.field-0 c.args.draft.now c.remove.new.self = search rules in
+    let made : IsMade (removed c.args.problem.now c.args.pins.now.routes
+    (draft_of c.args.draft.now) c.in_ok-names.names.items) c.in_ok-remove.field-0 c.args.draft.now c.remove.new.self = search rules in
     subst (λ answer. IsMade answer true c.args.draft.now c.remove.new.self) (sym (some_ruined p pins routes c.args.words.now names c.in_ok-names.ensures.names some))
     (subst (λ done. IsMade (removed p pins routes names) done c.args.draft.now c.remove.new.self) c.if-not-branch.false made)
 
@@ -40,7 +43,9 @@ returns-clause-missing c =
     let pins = c.args.pins.now.routes in
     let routes = draft_of c.args.draft.now in
     let names = c.in_ok-names.names.items in
-    let made : IsMade (removed c.args.problem.now c.args.pins.now.routes (draft_of c.args.draft.now) c.in_ok-names.names.items) c.in_ok-remove.field-0 c.args.draft.now c.remove.new.self = search rules in
+    let made : IsMade (removed c.args.problem.now c.args.pins.now.routes
+    (draft_of c.args.draft.now) c.in_ok-names.names.items) c.in_ok-remove.field-0 c.args.draft.now c.remove.new.self = search rules in
     let all : c.in_ok-missing.missing.items ≡ with_names c.args.lists.now.unplanned.items c.in_ok-names.names.items = search rules in
     all ∙ (ap (λ before. with_names before names) c.requires.lists.unplanned
-    ∙ missing_is c.requests_are_found_by_stop.ensures c.requests_stand_by_name.ensures p c.requires.draft.valid names routes pins c.in_ok-remove.field-0 c.args.draft.now c.remove.new.self made c.if-not-branch.false)
+    ∙ missing_is c.requests_are_found_by_stop.ensures c.requests_stand_by_name.ensures p c.requires.draft.valid names
+    routes pins c.in_ok-remove.field-0 c.args.draft.now c.remove.new.self made c.if-not-branch.false)

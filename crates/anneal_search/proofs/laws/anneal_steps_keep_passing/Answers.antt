@@ -1,3 +1,4 @@
+-- From plans that pass each annealing step leads to plans that pass, so any number of them does.
 use Rattle.seeded_search.specs.StepLaws.{BothPass}
 use Rattle.seeded_search.proofs.WalkLemmas.{many_keep}
 use Rattle.anneal_search.specs.Annealing.{anneal_step, anneal_steps}

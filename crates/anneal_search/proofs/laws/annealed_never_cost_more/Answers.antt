@@ -1,3 +1,4 @@
+-- Costs are in order, so no number of annealing steps makes the incumbent cost more.
 use Rattle.seeded_search.proofs.WalkLemmas.{many_cost}
 use Rattle.anneal_search.specs.Annealing.{anneal_step, anneal_steps}
 use Rattle.anneal_search.proofs.AnnealLemmas.{step_cost}

@@ -1,3 +1,4 @@
+-- An order has the same names, rising by key, then by salt, then by name.
 use Rattle.anneal_search.proofs.OrderLemmas.{orders_are_rising}
 use Rattle.anneal_search.proofs.laws.orders_are_rising.Goals as goal
 

@@ -1,3 +1,4 @@
+-- From plans that pass a try leads to plans that pass, and makes no more steps than it may.
 use Rattle.anneal_search.proofs.TryLemmas.{tries_are_short, tries_keep_passing}
 use Rattle.anneal_search.proofs.laws.tries_keep_passing.Goals as goal
 

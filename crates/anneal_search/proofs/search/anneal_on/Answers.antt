@@ -1,3 +1,4 @@
+-- One annealing step more leads to a walk from which the steps left find what all find; with none left it is found.
 use Rattle.std.proofs.Common.{rules, ◌≡◌, ◌+◌, ◌-◌, ◌<◌, sym, ap, ◌∙◌, arith}
 use Rattle.seeded_search.specs.Generator.{NextStep}
 use Rattle.seeded_search.specs.Working.{walked_by}
@@ -15,8 +16,11 @@ loop-done-preserved c =
       seed = search rules;
       step = omega (arith, c.loop-done.invariant.step, ap (λ (w : NextStep). w.step) c.next_step.ensures.after);
       going = c.in_ok-step.ensures.going;
-      left = walked_more (λ words (s : Walked). annealed_by p c.args.deviation s (candidate p pins s.working words)) c.args.seed c.args.step c.args.count c.loop-done.done (walked_by c.loop-done.annealing.walk) (walked_by c.step.new.self.walk)
-          c.next_step.result c.loop-done.words.seed c.loop-done.words.step (anneal_steps p pins c.args.deviation c.args.seed c.args.step c.args.count (walked_by c.args.walk)) c.loop-done.invariant.left
+      left = walked_more (λ words (s : Walked). annealed_by p c.args.deviation s
+          (candidate p pins s.working words)) c.args.seed c.args.step c.args.count c.loop-done.done (walked_by c.loop-done.annealing.walk)
+          (walked_by c.step.new.self.walk)
+          c.next_step.result c.loop-done.words.seed c.loop-done.words.step
+          (anneal_steps p pins c.args.deviation c.args.seed c.args.step c.args.count (walked_by c.args.walk)) c.loop-done.invariant.left
           within c.next_step.ensures.words c.loop-done.invariant.seed c.loop-done.invariant.step c.in_ok-step.ensures.walked;
     }
 

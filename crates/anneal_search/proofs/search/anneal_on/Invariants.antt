@@ -1,10 +1,10 @@
+-- The annealing steps left, from what is found so far, find what all of them find.
 use Rattle.std.proofs.Common.{◌≡◌, ◌+◌, ◌-◌}
 use Rattle.seeded_search.specs.Working.{walked_by}
 use Rattle.anneal_search.specs.Annealing.{anneal_steps}
 use Rattle.anneal_search.specs.Going.{IsGoing}
 use Rattle.anneal_search.proofs.search.anneal_on.Given as goal
 
--- the steps left, from what is found so far, find what all steps find
 abbrev pub invariant-loop-done : goal.invariant-loop-done
 invariant-loop-done l = record {
   seed : l.words.seed ≡ l.seed;

@@ -1,3 +1,4 @@
+-- One route more adds its stops and, where it has any, a used one; no vehicle behind the front has stops, so at the end all are counted.
 use Rattle.std.proofs.Common.{rules, ◌≡◌, ◌+◌, ◌<◌, not, length, ap, subst, arith, cond, ◌∙◌}
 use Rattle.std.specs.List.{concat}
 use Rattle.route_sched.specs.Cost.{used_count}
@@ -15,7 +16,8 @@ loop-index-preserved c =
     let long : length c.route-route.result.now ≡ length (of_vehicle routes (c.loop-index.index + 1)) = ap length c.route-route.ensures in
     let more = stops_more routes c.loop-index.index c.loop-index.stops (length (concat routes)) within c.loop-index.invariant.stops in
     let one : c.from-used.result ≡ used c.route-route.result.now = c.from-used.ensures ∙ (used_is c.is_empty.result ∙ ap (λ b. cond (not b) 1 0) c.is_empty.ensures) in
-    let more_used : c.loop-index.used + c.from-used.result ≡ c.loop-index.used + used (of_vehicle routes (c.loop-index.index + 1)) = ap (λ n. c.loop-index.used + n) (one ∙ ap used c.route-route.ensures) in
+    let more_used : c.loop-index.used + c.from-used.result ≡ c.loop-index.used + used (of_vehicle routes (c.loop-index.index + 1)) =
+    ap (λ n. c.loop-index.used + n) (one ∙ ap used c.route-route.ensures) in
     record {
       stops = omega arith;
       stops_bound = omega (arith, c.loop-index.invariant.stops_bound, c.route-route.type_inv);

@@ -1,10 +1,10 @@
+-- The stops and used routes counted so far, and those left, are all; and no sum wraps.
 use Rattle.std.proofs.Common.{◌≡◌, ◌+◌, ◌*◌, ◌^◌, ◌≤◌, length, drop}
 use Rattle.std.specs.List.{concat}
 use Rattle.route_sched.specs.Cost.{used_count}
 use Rattle.move_ops.specs.Drafts.{draft_of}
 use Rattle.anneal_search.proofs.strings.totals_of.Given as goal
 
--- what was counted and what is left make all, and no sum wraps
 abbrev pub invariant-loop-index : goal.invariant-loop-index
 invariant-loop-index l = record {
   stops : l.stops + length (concat (drop l.index (draft_of l.draft))) ≡ length (concat (draft_of l.draft));

@@ -1,3 +1,4 @@
+-- One try step more leads to a try from which the steps left find what all find; with none left, or none left out, it is found.
 use Rattle.std.proofs.Common.{rules, ◌≡◌, ◌+◌, ◌-◌, ◌<◌, ◌==◌, true, false, sym, ap, ◌∙◌, arith}
 use Rattle.std.proofs.lemmas.Bool.{not-false, not-true}
 use Rattle.plan_types.specs.declared.plans.Plan.{Plan}
@@ -40,7 +41,8 @@ loop-attempt-preserved c =
       left =
           ap (λ k. try_steps p pins c.args.deviation c.args.seed (c.args.most - k) (trying_by c.args.step new)) c.in_ok-step.ensures.made
           ∙ step_on p pins c.args.deviation c.args.seed c.args.most old.made (trying_by c.args.step old) (trying_by c.args.step new)
-          (try_steps p pins c.args.deviation c.args.seed c.args.most (begun p c.args.plan.now.routes c.args.step)) old.annealing.walk.best c.next_step.result c.loop-attempt.words.seed c.loop-attempt.words.step before.left within
+          (try_steps p pins c.args.deviation c.args.seed c.args.most
+          (begun p c.args.plan.now.routes c.args.step)) old.annealing.walk.best c.next_step.result c.loop-attempt.words.seed c.loop-attempt.words.step before.left within
           before.going.going.walk.keeps.best lacks c.next_step.ensures.words before.seed before.step (c.in_ok-step.ensures.tried c.args.step);
     }
 
@@ -56,7 +58,8 @@ returns c =
       | else-loop-attempt-test w ↦ absurd (omega (arith, some, w.loop-attempt-test.false))
     ] in
     let same =
-    step_off p pins c.args.deviation c.args.seed c.args.most last.made (trying_by c.args.step last) (try_steps p pins c.args.deviation c.args.seed c.args.most (begun p c.args.plan.now.routes c.args.step))
+    step_off p pins c.args.deviation c.args.seed c.args.most last.made (trying_by c.args.step last)
+    (try_steps p pins c.args.deviation c.args.seed c.args.most (begun p c.args.plan.now.routes c.args.step))
     last.annealing.walk.best is.left is.going.going.walk.keeps.best off in
     record {
       tried = record {

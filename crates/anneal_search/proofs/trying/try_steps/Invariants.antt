@@ -1,9 +1,9 @@
+-- The try steps left, from the try so far, find what all of them find; each makes them fewer.
 use Rattle.std.proofs.Common.{◌≡◌, ◌+◌, ◌-◌, ◌≤◌}
 use Rattle.anneal_search.specs.Attempts.{IsTry, trying_by}
 use Rattle.anneal_search.specs.Trying.{begun, try_steps}
 use Rattle.anneal_search.proofs.trying.try_steps.Given as goal
 
--- the steps left, from what is found so far, find what all steps find
 abbrev pub invariant-loop-attempt : goal.invariant-loop-attempt
 invariant-loop-attempt l = record {
   seed : l.words.seed ≡ l.seed;

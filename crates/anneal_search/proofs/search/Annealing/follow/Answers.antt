@@ -1,3 +1,4 @@
+-- The candidate becomes the working plan, and the incumbent too where it costs no more than that.
 use Rattle.anneal_search.proofs.AnnealLemmas.{followed_is, goes_on}
 use Rattle.anneal_search.proofs.search.Annealing.follow.Goals as goal
 

@@ -1,3 +1,4 @@
+-- A candidate that is near the working plan becomes it, as by the definition.
 use Rattle.std.proofs.Common.{rules, ◌≡◌, ◌∙◌, true}
 use Rattle.std.proofs.lemmas.Result.{on_ok_weaker}
 use Rattle.move_ops.specs.Drafts.{draft_of}

@@ -1,3 +1,4 @@
+-- A candidate that is made replaces what the step's would; without one, or with one that is far, nothing changes.
 use Rattle.std.proofs.Common.{rules, ◌≡◌, Some, sym, ap, ◌∙◌}
 use Rattle.std.proofs.lemmas.Result.{on_ok_weaker}
 use Rattle.move_ops.specs.Drafts.{base_of, draft_of}
@@ -15,7 +16,8 @@ returns-clause-walked c =
     let draft = c.make_near.new.draft in
     let some : candidate p pins (base_of walk.draft) c.args.words.now ≡ Some (draft_of draft) =
     ap (λ routes. candidate p pins routes c.args.words.now) (sym c.requires.walk.settled)
-    ∙ made_then p c.args.deviation c.args.self.now.work (candidate p pins (draft_of walk.draft) c.args.words.now) c.in_ok-make_near.field-0 walk.draft draft c.in_ok-make_near.ensures.made (search rules) in
+    ∙ made_then p c.args.deviation c.args.self.now.work
+    (candidate p pins (draft_of walk.draft) c.args.words.now) c.in_ok-make_near.field-0 walk.draft draft c.in_ok-make_near.ensures.made (search rules) in
     let same : annealed p c.args.deviation (walked walk.incumbent.routes (base_of draft)) (draft_of draft)
     ≡ annealed_by p c.args.deviation (walked_by walk) (candidate p pins (base_of walk.draft) c.args.words.now) =
     ap (λ base. annealed p c.args.deviation (walked walk.incumbent.routes base) (draft_of draft)) c.in_ok-make_near.ensures.base ∙ ap (annealed_by p c.args.deviation (walked_by walk)) (sym some) in
@@ -29,7 +31,9 @@ returns-then-not-branch-clause-walked c =
     let walk = c.args.self.now.walk in
     let draft = c.make_near.new.draft in
     ap (walked walk.incumbent.routes) c.in_ok-make_near.ensures.base
-    ∙ (far_stays p c.args.deviation c.args.self.now.work (candidate p pins (draft_of walk.draft) c.args.words.now) c.in_ok-make_near.field-0 walk.draft draft c.in_ok-make_near.ensures.made (search rules) (walked_by walk) c.requires.work
+    ∙ (far_stays p c.args.deviation c.args.self.now.work
+    (candidate p pins (draft_of walk.draft) c.args.words.now) c.in_ok-make_near.field-0 walk.draft draft c.in_ok-make_near.ensures.made (search rules)
+    (walked_by walk) c.requires.work
     ∙ ap (λ routes. annealed_by p c.args.deviation (walked_by walk) (candidate p pins routes c.args.words.now)) c.requires.walk.settled)
 
 pub returns-then-not-branch-clause-going : goal.returns-then-not-branch-clause-going
@@ -40,6 +44,8 @@ returns-then-not-branch-clause-going c =
     let draft = c.make_near.new.draft in
     record {
       walk = stayed_walk p pins walk draft c.make_near.new.nearby c.requires.walk c.in_ok-make_near.ensures.fronts c.in_ok-make_near.ensures.is c.in_ok-make_near.ensures.base
-          (stays_then p c.args.deviation c.args.self.now.work (candidate p pins (draft_of walk.draft) c.args.words.now) c.in_ok-make_near.field-0 walk.draft draft c.in_ok-make_near.ensures.made (search rules));
+          (stays_then p c.args.deviation c.args.self.now.work
+          (candidate p pins (draft_of walk.draft) c.args.words.now) c.in_ok-make_near.field-0 walk.draft draft c.in_ok-make_near.ensures.made
+          (search rules));
       work = search rules;
     }

@@ -1,3 +1,4 @@
+-- A plan leaves out so few requests that after one step more each count is at most 40,001 times the steps made, and none wraps.
 use Rattle.std.proofs.Common.{rules, ◌≡◌, ◌*◌, arith, ap, ◌∙◌, length}
 use Rattle.std.proofs.lemmas.Result.{on_ok_weaker}
 use Rattle.move_ops.specs.Drafts.{draft_of}
@@ -8,7 +9,8 @@ use Rattle.anneal_search.proofs.trying.Try.settle.Goals as goal
 pub count-requires : goal.count-requires
 count-requires c =
     let walk = c.args.self.now.annealing.walk in
-    let few = few_left c.args.problem.now (draft_of walk.draft) c.in_ok-left_out.left_out.items c.args.missing.now c.requires.keeps.going.walk.draft.valid c.requires.missing c.in_ok-left_out.ensures in
+    let few = few_left c.args.problem.now
+    (draft_of walk.draft) c.in_ok-left_out.left_out.items c.args.missing.now c.requires.keeps.going.walk.draft.valid c.requires.missing c.in_ok-left_out.ensures in
     let same : length c.deref-2.result.now ≡ length c.in_ok-left_out.left_out.items = ap length c.deref-2.ensures.value in
     record { few = (40001 * c.args.self.now.made, c.requires.keeps.few, omega (arith, few, same, c.requires.most)) }
 
@@ -19,7 +21,8 @@ returns-then-not-follows-clause-attempt c =
     record {
       going = search rules;
       few =
-          few_then c.args.problem.now (draft_of old.annealing.walk.draft) old.made c.in_ok-left_out.left_out.items c.args.missing.now old.absences.items c.count.new.absences.items c.requires.keeps.going.walk.draft.valid
+          few_then c.args.problem.now
+          (draft_of old.annealing.walk.draft) old.made c.in_ok-left_out.left_out.items c.args.missing.now old.absences.items c.count.new.absences.items c.requires.keeps.going.walk.draft.valid
           c.requires.missing c.in_ok-left_out.ensures c.requires.keeps.few counts;
     }
 
@@ -28,6 +31,7 @@ returns-clause-attempt c =
     let old = c.args.self.now in
     let counts = c.count.ensures ∙ ap (counted old.absences.items) c.deref-2.ensures.value in
     let few =
-    few_then c.args.problem.now (draft_of old.annealing.walk.draft) old.made c.in_ok-left_out.left_out.items c.args.missing.now old.absences.items c.count.new.absences.items c.requires.keeps.going.walk.draft.valid c.requires.missing
+    few_then c.args.problem.now (draft_of old.annealing.walk.draft) old.made c.in_ok-left_out.left_out.items c.args.missing.now
+    old.absences.items c.count.new.absences.items c.requires.keeps.going.walk.draft.valid c.requires.missing
     c.in_ok-left_out.ensures c.requires.keeps.few counts in
     on_ok_weaker c.follow.result (λ h. record { going = h; few = few }) c.follow.ensures.going

@@ -1,3 +1,4 @@
+-- A candidate that is made is the one of the working plan, so settling it leaves what the try step of the definition leaves.
 use Rattle.std.proofs.Common.{rules, ◌≡◌, ℕ, true, is_some, Some, sym, ap, ◌∙◌}
 use Rattle.std.proofs.lemmas.Result.{on_ok_weaker}
 use Rattle.move_ops.specs.Drafts.{base_of, draft_of}
@@ -20,5 +21,6 @@ returns-clause-tried c =
     ∙ made_some (candidate p pins (draft_of walk.draft) c.args.words.now) (is_some c.in_ok-made.made) walk.draft draft c.in_ok-made.ensures.made some_made in
     let same : (first : ℕ) → tried_on p c.args.deviation (record (trying_by first old) { working = base_of draft }) (draft_of draft)
     ≡ tried_by p c.args.deviation (trying_by first old) (candidate p pins (base_of walk.draft) c.args.words.now) =
-    λ first. ap (λ base. tried_on p c.args.deviation (record (trying_by first old) { working = base }) (draft_of draft)) c.in_ok-made.ensures.base ∙ ap (tried_by p c.args.deviation (trying_by first old)) (sym some) in
+    λ first. ap (λ base. tried_on p c.args.deviation (record (trying_by first old) { working = base }) (draft_of draft)) c.in_ok-made.ensures.base
+    ∙ ap (tried_by p c.args.deviation (trying_by first old)) (sym some) in
     on_ok_weaker c.settle.result (λ h first. h first ∙ same first) c.settle.ensures.tried
