@@ -13,7 +13,7 @@ use crate::orders::ordered;
 use crate::strings::ruined_names;
 use move_ops::Draft;
 use plan_types::{OutOfMemory, Pins, Problem, requests_are_found_by_stop, requests_stand_by_name};
-use seeded_search::{Lists, Near, Nearby, place_all, place_all_near};
+use seeded_search::{Lists, Nearby, Threshold, place_all, place_all_near};
 use std::alloc::Global;
 
 /// Makes of the draft what the words of a step make of it, if anything: the requests of some strings are taken out, and all that are
@@ -56,7 +56,7 @@ pub(crate) fn make_near(
     lists: &Lists,
     nearby: &mut Nearby,
     words: &[u32; 16],
-    near: &Near,
+    near: &Threshold,
 ) -> Result<bool, OutOfMemory>
     requires draft { IsDraftOf problem.now pins.now.routes draft.old }
     requires settled { draft_of draft.old ≡ base_of draft.old }

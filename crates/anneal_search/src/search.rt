@@ -10,7 +10,7 @@ ghost use Rattle.anneal_search.specs.Going.{HasImproved, KeepsGoing, IsGoing};
 
 use crate::candidates::make_near;
 use plan_types::{Cost, OutOfMemory, Pins, Plan, Problem, costs_compare_part_by_part};
-use seeded_search::{Found, Near, Nearby, StepWords, Walk, is_near};
+use seeded_search::{Found, Nearby, StepWords, Threshold, Walk, is_near};
 use std::alloc::Global;
 
 /// One annealing step, from an incumbent and a working plan. The words of the step make a candidate of the working plan. It becomes the
@@ -114,7 +114,7 @@ impl Annealing {
             (candidate problem.now pins.now.routes (base_of self.old.walk.draft) words.now)) }
         ensures going { OnOk result (IsGoing problem.now pins.now.routes self.new) }
     {
-        let near = Near {
+        let near = Threshold {
             deviation,
             best: &self.work,
         };

@@ -73,7 +73,7 @@ pub use laws::{
     steps_are_blocks, steps_keep_passing, working_stays_near,
 };
 pub use lists::Lists;
-pub use near::{Near, is_near};
+pub use near::{Threshold, is_near};
 pub use nearby::{Nearby, Seat};
 pub use placing::{place_all, place_all_near};
 pub use search::{Found, search_step, search_steps, walk_on};

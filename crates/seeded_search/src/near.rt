@@ -18,9 +18,9 @@ pub fn is_near(deviation: u32, cost: &Cost, best: &Cost) -> bool
     cost.distance.saturating_sub(best.distance) <= u64::from(deviation)
 }
 
-/// What a candidate has to be near: a plan that costs so much, by this deviation.
+/// The threshold of a candidate: a plan that costs so much, which it has to be near by this deviation.
 #[derive(Clone, Copy)]
-pub struct Near<'a> {
+pub struct Threshold<'a> {
     /// How much more it may drive.
     pub deviation: u32,
     /// What the plan costs.
@@ -37,7 +37,7 @@ pub(crate) enum Outlook {
     Below(i64),
 }
 
-impl Near<'_> {
+impl Threshold<'_> {
     /// Whether a draft of this cost, where it is foreseen, is not near.
     pub(crate) fn is_far(&self, cost: Option<Cost>) -> bool
         ensures { IsTrue result

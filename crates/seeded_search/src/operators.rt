@@ -11,7 +11,7 @@ ghost use Rattle.seeded_search.specs.Steps.{candidate, drawn, movable_names, rel
 
 use crate::draws::{drawn, picked, picked_vehicle, place};
 use crate::lists::{Lists, used_vehicles};
-use crate::near::Near;
+use crate::near::Threshold;
 use crate::pick;
 use crate::placing::place_all_near;
 use move_ops::{Draft, of_vehicle};
@@ -30,7 +30,7 @@ pub(crate) fn make(
     draft: &mut Draft,
     lists: &Lists,
     words: &[u32; 16],
-    near: &Near,
+    near: &Threshold,
 ) -> Result<bool, OutOfMemory>
     requires draft { IsDraftOf problem.now pins.now.routes draft.old }
     requires settled { draft_of draft.old ≡ base_of draft.old }
@@ -58,7 +58,7 @@ fn relocate(
     draft: &mut Draft,
     movable: &[u32],
     word: u32,
-    near: &Near,
+    near: &Threshold,
 ) -> Result<bool, OutOfMemory>
     requires draft { IsDraftOf problem.now pins.now.routes draft.old }
     requires settled { draft_of draft.old ≡ base_of draft.old }
@@ -88,7 +88,7 @@ fn exchange(
     draft: &mut Draft,
     movable: &[u32],
     words: &[u32; 16],
-    near: &Near,
+    near: &Threshold,
 ) -> Result<bool, OutOfMemory>
     requires draft { IsDraftOf problem.now pins.now.routes draft.old }
     requires movable { movable.now
@@ -120,7 +120,7 @@ fn cross(
     pins: &Pins,
     draft: &mut Draft,
     words: &[u32; 16],
-    near: &Near,
+    near: &Threshold,
 ) -> Result<bool, OutOfMemory>
     requires { IsDraftOf problem.now pins.now.routes draft.old }
     ensures is { OnOk result (IsDraftOf problem.now pins.now.routes draft.new) }
@@ -165,7 +165,7 @@ fn recreate(
     draft: &mut Draft,
     lists: &Lists,
     words: &[u32; 16],
-    near: &Near,
+    near: &Threshold,
 ) -> Result<bool, OutOfMemory>
     requires draft { IsDraftOf problem.now pins.now.routes draft.old }
     requires settled { draft_of draft.old ≡ base_of draft.old }

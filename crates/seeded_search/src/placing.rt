@@ -10,7 +10,7 @@ ghost use Rattle.move_ops.specs.Savings.{most_saved as most_saved_of};
 ghost use Rattle.seeded_search.specs.Steps.{placed_all};
 ghost use Rattle.seeded_search.specs.Working.{AreAllPlacedOrFar, IsPlacedOrFar};
 
-use crate::near::{Near, Outlook};
+use crate::near::{Outlook, Threshold};
 use move_ops::{Draft, most_saved, placements_save_little};
 use plan_types::{OutOfMemory, Pins, Problem};
 
@@ -40,7 +40,7 @@ pub fn place_all_near(
     pins: &Pins,
     draft: &mut Draft,
     names: &[u32],
-    near: &Near,
+    near: &Threshold,
 ) -> Result<bool, OutOfMemory>
     requires { IsDraftOf problem.now pins.now.routes draft.old }
     ensures is { OnOk result (IsDraftOf problem.now pins.now.routes draft.new) }
@@ -69,7 +69,7 @@ fn place_near(
     pins: &Pins,
     draft: &mut Draft,
     name: u32,
-    near: &Near,
+    near: &Threshold,
     behind: u64,
     rest: u128,
 ) -> Result<bool, OutOfMemory>

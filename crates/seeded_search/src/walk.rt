@@ -16,7 +16,7 @@ ghost use Rattle.seeded_search.specs.Working.{KeepsWalk, IsWalk, AreListsOf, Has
 
 use crate::incumbent::follow;
 use crate::lists::Lists;
-use crate::near::{Near, is_near};
+use crate::near::{Threshold, is_near};
 use crate::nearby::Nearby;
 use crate::operators::make;
 use crate::search::Found;
@@ -89,7 +89,7 @@ impl Walk {
             (candidate problem.now pins.now.routes (base_of self.old.draft) words.now)) }
         ensures walk { OnOk result (IsWalk problem.now pins.now.routes self.new) }
     {
-        let near = Near {
+        let near = Threshold {
             deviation,
             best: &self.best,
         };
