@@ -11,7 +11,7 @@ use Rattle.plan_audit.specs.Locality.{PassesAreLocal, PlansAreLocal}
 use Rattle.plan_audit.specs.Passes.{has, passes}
 use Rattle.plan_audit.specs.Rules.{item_at, Stands}
 use Rattle.move_ops.specs.Insertion.{of_vehicle}
-use Rattle.seeded_search.specs.declared.nearby.Seat.{Seat}
+use Rattle.seeded_search.specs.declared.nearby.RoutePlace.{RoutePlace}
 use Rattle.anneal_search.specs.Fronts.{IsSeated}
 use Rattle.move_ops.proofs.Drafting.{has_in_vehicle}
 use Rattle.move_ops.proofs.Replacing.{all_at}
@@ -61,7 +61,7 @@ module _ (local : PassesAreLocal) (plans : PlansAreLocal) (p : Instance) (pins r
       )
 
 -- a seat that is right
-pub seated : (routes : List (List ℕ)) (stop : ℕ) (seat : Seat) → IsSeated routes stop seat → slice_get (of_vehicle routes seat.vehicle) seat.place ≡ Some stop
+pub seated : (routes : List (List ℕ)) (stop : ℕ) (seat : RoutePlace) → IsSeated routes stop seat → slice_get (of_vehicle routes seat.vehicle) seat.place ≡ Some stop
 seated routes stop seat is = elim (slice_get_cases (of_vehicle routes seat.vehicle) seat.place).1 [
   | inl there ↦ there.2 ∙ ap (λ n. Some n) (sym there.3 ∙ (get_or_default_zero (of_vehicle routes seat.vehicle) seat.place there.0 there.1 ∙ is.1))
   | inr past ↦ (let low = is.0 in let high = past.0 in absurd (omega arith))

@@ -15,12 +15,12 @@ pub struct Nearby {
     /// The first of all stops by distance from it and number, itself among them; none as long as nobody asked.
     pub fronts: Vec<Vec<u32>>,
     /// Where to look for it first.
-    pub seats: Vec<Seat>,
+    pub seats: Vec<RoutePlace>,
 }
 
 /// A place in a vehicle's route.
 #[derive(Clone, Copy, Debug, PartialEq, Eq)]
-pub struct Seat {
+pub struct RoutePlace {
     /// From 1; 0 where nothing is known.
     pub vehicle: u64,
     /// From 0.
@@ -43,7 +43,7 @@ impl Nearby {
         ensures { IfOk result (λ nearby. AreFronts problem.now nearby) }
     {
         let count = problem.next_number as usize;
-        let nowhere = Seat {
+        let nowhere = RoutePlace {
             vehicle: 0,
             place: 0,
         };
