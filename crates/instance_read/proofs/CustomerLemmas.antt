@@ -67,7 +67,8 @@ all_below draft n from zero le = tt
 all_below draft n from (suc count) le = (omega (arith, le), all_below draft n (from + 1) count (omega (arith, le)))
 
 -- the problem with one customer more
-pub customer_put : (draft : VrpFields) (base before after : Instance) (n : ℕ) → 1 ≤ n → before ≡ record base { requests = customers_in draft (n - 1); next_number = n } → after ≡ with_request before (Single (drafted_stop draft (demand_at draft n) n)) → after ≡ record base { requests = customers_in draft n; next_number = n + 1 }
+pub customer_put : (draft : VrpFields) (base before after : Instance) (n : ℕ) → 1 ≤ n → before ≡ record base { requests = customers_in draft (n - 1); next_number = n }
+    → after ≡ with_request before (Single (drafted_stop draft (demand_at draft n) n)) → after ≡ record base { requests = customers_in draft n; next_number = n + 1 }
 customer_put draft base before after n one is put =
     let s = drafted_stop draft (demand_at draft n) n in
     let es = customers_in draft (n - 1) in

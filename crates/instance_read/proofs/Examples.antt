@@ -33,7 +33,13 @@ end_at : end_line V ≡ 19
 unfolding lines_of pieces_of words_of number_of whole_of digits_of is_digits rows_from key_of value_of placed_from
 end_at = refl
 
-last_request : (vrp_problem (placed_of V)).requests ≡ (1, Single (record { number = 1; x = pos 3; y = pos 4; demand = pos 6; earliest = 0; latest = 100000000; service = 0 })) ∷ (2, Single (record { number = 2; x = pos 6; y = pos 8; demand = pos 4; earliest = 0; latest = 100000000; service = 0 })) ∷ (3, Single (record { number = 3; x = pos 0; y = pos 5; demand = pos 5; earliest = 0; latest = 100000000; service = 0 })) ∷ []
+last_request : (vrp_problem (placed_of V)).requests ≡ (
+  1,
+  Single
+      (record { number = 1; x = pos 3; y = pos 4; demand = pos 6; earliest = 0; latest = 100000000; service = 0 }),
+) ∷
+    (2, Single (record { number = 2; x = pos 6; y = pos 8; demand = pos 4; earliest = 0; latest = 100000000; service = 0 })) ∷
+    (3, Single (record { number = 3; x = pos 0; y = pos 5; demand = pos 5; earliest = 0; latest = 100000000; service = 0 })) ∷ []
 unfolding lines_of pieces_of words_of number_of whole_of digits_of is_digits rows_from key_of value_of placed_from
 last_request = refl
 
@@ -41,7 +47,11 @@ last_request = refl
 abbrev L : List ℕ
 L = codes "2 10 1" ++ line_end (codes "0 0 0 0 0 100 0 0 0") ++ line_end (codes "1 3 4 4 0 50 2 0 2") ++ line_end (codes "2 6 8 -4 0 60 2 1 0") ++ line_end []
 
-pairs : pairs_of (customers_of L) ≡ (1, Pair (record { number = 1; x = pos 3; y = pos 4; demand = pos 4; earliest = 0; latest = 50; service = 2 }) (record { number = 2; x = pos 6; y = pos 8; demand = negsuc 3; earliest = 0; latest = 60; service = 2 })) ∷ []
+pairs : pairs_of (customers_of L) ≡ (
+  1,
+  Pair (record { number = 1; x = pos 3; y = pos 4; demand = pos 4; earliest = 0; latest = 50; service = 2 })
+      (record { number = 2; x = pos 6; y = pos 8; demand = negsuc 3; earliest = 0; latest = 60; service = 2 }),
+) ∷ []
 unfolding lines_of pieces_of words_of number_of whole_of digits_of is_digits rows_from customers_of task_of
 pairs = refl
 

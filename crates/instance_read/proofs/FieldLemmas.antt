@@ -1,5 +1,6 @@
 -- The numbers of a line, one after another.
-use Rattle.std.proofs.Common.{◌≡◌, ◌≢◌, set, below_more, get_or-set_other, get_or-set_same, ℕ, zero, suc, ◌+◌, ◌<◌, List, [], ◌∷◌, length, length-drop, drop, get_or, Some, refl, sym, ap, ◌∙◌, arith, ℤ, pos}
+use Rattle.std.proofs.Common.{◌≡◌, ◌≢◌, set, below_more, get_or-set_other, get_or-set_same, ℕ, zero, suc, ◌+◌, ◌<◌, List, [], ◌∷◌, length, length-drop, drop}
+use Rattle.std.proofs.Common.{get_or, Some, refl, sym, ap, ◌∙◌, arith, ℤ, pos}
 use Rattle.std.specs.Prelude.{slice_get}
 use Rattle.std.specs.Option.{option_and_then}
 use Rattle.text_lines.specs.Numbers.{number_of}
@@ -15,7 +16,8 @@ pub field-drop : (words : List (List ℕ)) (i : ℕ) → field (drop i words) 0 
 field-drop words i = ap (option_and_then number_of) (slice_get-drop words i)
 
 -- one field more is read
-pub values_more : (limits : List (ℤ × ℤ)) (words rest : List (List ℕ)) (values : List ℤ) (i : ℕ) (v : ℤ) → i < length values → rest ≡ drop i words → ((k : ℕ) → k < i → HasValue limits words values k) → IsValue (get_or limits i (pos 0, pos 0)) (field rest 0) v → (k : ℕ) → k < i + 1 → HasValue limits words (set values i v) k
+pub values_more : (limits : List (ℤ × ℤ)) (words rest : List (List ℕ)) (values : List ℤ) (i : ℕ) (v : ℤ) → i < length values → rest ≡ drop i words
+    → ((k : ℕ) → k < i → HasValue limits words values k) → IsValue (get_or limits i (pos 0, pos 0)) (field rest 0) v → (k : ℕ) → k < i + 1 → HasValue limits words (set values i v) k
 values_more limits words rest values i v l at before here =
     below_more _ _
     (λ k h. let ne : k ≢ i = omega arith in rw get_or-set_other (before k h))

@@ -1,5 +1,6 @@
 -- The key and the value of a line from its parts, and the parts from them.
-use Rattle.std.proofs.Common.{◌≡◌, ℕ, suc, ◌+◌, ◌-◌, ◌<◌, ◌≤◌, true, false, ◌⊎◌, inl, inr, ⊎_elim, List, [], ◌∷◌, ◌++◌, length, get_or, take, drop, Option, Some, refl, sym, ap, subst, ◌∙◌, arith, append-nil, length-append}
+use Rattle.std.proofs.Common.{◌≡◌, ℕ, suc, ◌+◌, ◌-◌, ◌<◌, ◌≤◌, true, false, ◌⊎◌, inl, inr, ⊎_elim, List, [], ◌∷◌, ◌++◌, length, get_or, take, drop, Option, Some}
+use Rattle.std.proofs.Common.{refl, sym, ap, subst, ◌∙◌, arith, append-nil, length-append}
 use Rattle.std.specs.Prelude.{not, IfSome}
 use Rattle.std.specs.List.{after_first, before_first, last_or, position_or_len, prefix_len, suffix_len}
 use Rattle.std.proofs.lemmas.Bool.{and_from, and_parts, cases_Bool, cases_lt, eqb-true, false≢true, ne_eqb}
@@ -73,7 +74,8 @@ end_length d b middle behind blank ends =
     omega (arith, is, long)
 
 -- ---- a text without the blanks around it
-trimmed_from_parts : (text before middle behind : List ℕ) → text ≡ before ++ (middle ++ behind) → is_blank_line before ≡ true → is_blank_line behind ≡ true → BeginsSolid middle → EndsSolid middle → trimmed text ≡ middle
+trimmed_from_parts : (text before middle behind : List ℕ) → text ≡ before ++ (middle ++ behind) → is_blank_line before ≡ true → is_blank_line behind ≡ true
+    → BeginsSolid middle → EndsSolid middle → trimmed text ≡ middle
 trimmed_from_parts text before [] behind whole blank blank2 begins ends =
     let n = prefix_len is_blank text in
     let all : is_blank_line text ≡ true =

@@ -10,7 +10,8 @@ no_lesser : (n r : ℕ) (b : Bool) → (r < n → b ≡ false) → b ≡ true �
 no_lesser n r b h e = ⊎_elim (λ lesser. absurd (false≢true (sym (h lesser) ∙ e))) (λ le. le) (cases_lt r n)
 
 -- a line has no fault of a rank below n, if it has none of the six that a line of tasks may have
-pub none_below : (fault : ReadFaultKind → Bool) (n : ℕ) → n ≤ 7 → (1 < n → fault FieldCount ≡ false) → (2 < n → fault BadNumber ≡ false) → (3 < n → fault TooManyStops ≡ false) → (4 < n → fault Range ≡ false) → (5 < n → fault TaskOrder ≡ false) → (6 < n → fault EmptyWindow ≡ false) → (k : ReadFaultKind) → fault k ≡ true → n ≤ rank k
+pub none_below : (fault : ReadFaultKind → Bool) (n : ℕ) → n ≤ 7 → (1 < n → fault FieldCount ≡ false) → (2 < n → fault BadNumber ≡ false)
+    → (3 < n → fault TooManyStops ≡ false) → (4 < n → fault Range ≡ false) → (5 < n → fault TaskOrder ≡ false) → (6 < n → fault EmptyWindow ≡ false) → (k : ReadFaultKind) → fault k ≡ true → n ≤ rank k
 none_below fault n small count number stops range order window FieldCount e = no_lesser n 1 (fault FieldCount) count e
 none_below fault n small count number stops range order window BadNumber e = no_lesser n 2 (fault BadNumber) number e
 none_below fault n small count number stops range order window TooManyStops e = no_lesser n 3 (fault TooManyStops) stops e
@@ -21,7 +22,8 @@ none_below fault n small count number stops range order window Unsupported e = s
 none_below fault n small count number stops range order window _ e = omega arith
 
 -- which of the two it is says the test
-pub stops_or_range : (fault : ReadFaultKind → Bool) (t : Bool) (kind : ReadFaultKind) → kind ≡ cond t TooManyStops Range → fault FieldCount ≡ false → fault BadNumber ≡ false → fault TooManyStops ≡ t → (t ≡ false → fault Range ≡ true) → IsFirstKind fault kind
+pub stops_or_range : (fault : ReadFaultKind → Bool) (t : Bool) (kind : ReadFaultKind) → kind ≡ cond t TooManyStops Range → fault FieldCount ≡ false
+    → fault BadNumber ≡ false → fault TooManyStops ≡ t → (t ≡ false → fault Range ≡ true) → IsFirstKind fault kind
 stops_or_range fault true kind is count number stops range =
     rw is (stops, none_below fault 3 (omega arith) (λ _. count) (λ _. number) (λ h. absurd (omega arith)) (λ h. absurd (omega arith)) (λ h. absurd (omega arith)) (λ h. absurd (omega arith)))
 stops_or_range fault false kind is count number stops range =
@@ -29,8 +31,11 @@ stops_or_range fault false kind is count number stops range =
 
 -- a line without as many words as are due
 pub count_first : (fault : ReadFaultKind → Bool) → fault FieldCount ≡ true → IsFirstKind fault FieldCount
-count_first fault e =
-    (e, none_below fault 1 (omega arith) (λ h. absurd (omega arith)) (λ h. absurd (omega arith)) (λ h. absurd (omega arith)) (λ h. absurd (omega arith)) (λ h. absurd (omega arith)) (λ h. absurd (omega arith)))
+count_first fault e = (
+  e,
+  none_below fault 1 (omega arith) (λ h. absurd (omega arith)) (λ h. absurd (omega arith)) (λ h. absurd (omega arith)) (λ h. absurd (omega arith))
+      (λ h. absurd (omega arith)) (λ h. absurd (omega arith)),
+)
 
 pub number_first : (fault : ReadFaultKind → Bool) → fault FieldCount ≡ false → fault BadNumber ≡ true → IsFirstKind fault BadNumber
 number_first fault count e =

@@ -1,5 +1,6 @@
 -- What a draft knows after one more line, and that it tells the faults of a line.
-use Rattle.std.proofs.Common.{◌≡◌, ℕ, zero, suc, ◌<◌, Bool, true, false, cond, eqb, List, [], ◌∷◌, ◌++◌, length, replicate, set, Option, Some, None, ⊎_elim, refl, sym, ap, ◌∙◌, arith, ℤ, pos, negsuc, get_or-set_same, get_or-set_other}
+use Rattle.std.proofs.Common.{◌≡◌, ℕ, zero, suc, ◌<◌, Bool, true, false, cond, eqb, List, [], ◌∷◌, ◌++◌, length, replicate, set, Option, Some, None, ⊎_elim}
+use Rattle.std.proofs.Common.{refl, sym, ap, ◌∙◌, arith, ℤ, pos, negsuc, get_or-set_same, get_or-set_other}
 use Rattle.std.specs.Prelude.{find, is_some, slice_index_or, ◌||◌}
 use Rattle.std.specs.List.{list_any}
 use Rattle.std.specs.Option.{option_map, option_or}
@@ -98,12 +99,15 @@ KnowsTable section value_in k lines items =
     ((z : ℤ) → entry_at items z ≡ option_map value_in (find (is_node_line section z) lines)) × (any_key k lines ≡ false → items ≡ [])
 
 -- the line of the first EOF, with one line more
-end_more : (before : List Placed) (row : Row) → has_key End (placed row Outside) ≡ true → option_or (option_map (λ (r : Row). r.line) (first_key End before)) (Some row.line) ≡ option_map (λ (r : Row). r.line) (first_key End (before ++ placed row Outside ∷ []))
+end_more : (before : List Placed) (row : Row) → has_key End (placed row Outside) ≡ true
+    → option_or (option_map (λ (r : Row). r.line) (first_key End before)) (Some row.line) ≡ option_map (λ (r : Row). r.line) (first_key End (before ++ placed row Outside ∷ []))
 end_more before row this =
     by (find (has_key End) before)
-    ∙ sym (ap (λ (o : Option Placed). option_map (λ (r : Row). r.line) (option_map (λ (p : Placed). p.row) o)) (find-append (has_key End) before (placed row Outside ∷ []) ∙ ap (λ b. option_or (find (has_key End) before) (cond b (Some (placed row Outside)) None)) this))
+    ∙ sym (ap (λ (o : Option Placed). option_map (λ (r : Row). r.line) (option_map (λ (p : Placed). p.row) o))
+    (find-append (has_key End) before (placed row Outside ∷ []) ∙ ap (λ b. option_or (find (has_key End) before) (cond b (Some (placed row Outside)) None)) this))
   where
-    by : (o : Option Placed) → option_or (option_map (λ (r : Row). r.line) (option_map (λ (p : Placed). p.row) o)) (Some row.line) ≡ option_map (λ (r : Row). r.line) (option_map (λ (p : Placed). p.row) (option_or o (Some (placed row Outside))))
+    by : (o : Option Placed) → option_or (option_map (λ (r : Row). r.line) (option_map (λ (p : Placed). p.row) o)) (Some row.line) ≡ option_map (λ (r : Row). r.line)
+        (option_map (λ (p : Placed). p.row) (option_or o (Some (placed row Outside))))
     by None = refl
     by (Some q) = refl
 
@@ -121,7 +125,8 @@ module _ (before : List Placed) (row : Row) (key : Key) (key_is : key_of row ≡
   new_any : (k : Key) → eqb (key_number key) (key_number k) ≡ true → any_key k (before ++ placed row Outside ∷ []) ≡ true
   new_any k this = any_more before (placed row Outside) (has_key k) ∙ ap (λ b. any_key k before || b) (has_is k ∙ this) ∙ or-true (any_key k before)
 
-  seen_cases : (old_seen : List Bool) → length old_seen ≡ 11 → (k : Key) (b : Bool) → eqb (key_number key) (key_number k) ≡ b → slice_index_or old_seen (key_number k) false ≡ any_key k before → slice_index_or (set old_seen (key_number key) true) (key_number k) false ≡ any_key k (before ++ placed row Outside ∷ [])
+  seen_cases : (old_seen : List Bool) → length old_seen ≡ 11 → (k : Key) (b : Bool) → eqb (key_number key) (key_number k) ≡ b
+      → slice_index_or old_seen (key_number k) false ≡ any_key k before → slice_index_or (set old_seen (key_number key) true) (key_number k) false ≡ any_key k (before ++ placed row Outside ∷ [])
   seen_cases old_seen long k true this known =
       let same = eqb-true (key_number key) (key_number k) this in
       ap (λ i. slice_index_or (set old_seen (key_number key) true) i false) (sym same)
@@ -132,7 +137,8 @@ module _ (before : List Placed) (row : Row) (key : Key) (key_is : key_of row ≡
       ∙ known ∙ sym (any_same before (placed row Outside) (has_key k) (has_is k ∙ other))
 
   -- a table of nodes, behind this line
-  module _ {X : Type 0} (section : Section → Bool) (value_in : Placed → X) (k : Key) (other : (z : ℤ) → is_node_line section z (placed row Outside) ≡ false) (items new : List (Option X)) (known : KnowsTable section value_in k before items) where
+  module _ {X : Type 0} (section : Section → Bool) (value_in : Placed → X) (k : Key) (other : (z : ℤ) → is_node_line section z (placed row Outside) ≡ false)
+      (items new : List (Option X)) (known : KnowsTable section value_in k before items) where
     entries_stay : (z : ℤ) → entry_at items z ≡ option_map value_in (find (is_node_line section z) (before ++ placed row Outside ∷ []))
     entries_stay z = known.0 z ∙ ap (option_map value_in) (sym (find_same before (placed row Outside) (is_node_line section z) (other z)))
 
@@ -168,8 +174,12 @@ module _ (before : List Placed) (row : Row) (key : Key) (key_is : key_of row ≡
     demands_kept : new.demands.items ≡ old.demands.items → KnowsTable in_demands demand_in Demands (before ++ placed row Outside ∷ []) new.demands.items
     demands_kept = table_kept in_demands demand_in Demands (λ z. refl) old.demands.items new.demands.items (known.demands, known.no_demands)
 
-    parts_known : new.seen ≡ set old.seen (key_number key) true → KnowsTable in_coordinates point_in Coordinates (before ++ placed row Outside ∷ []) new.coordinates.items → KnowsTable in_demands demand_in Demands (before ++ placed row Outside ∷ []) new.demands.items
-        → new.nodes ≡ option_map number_in (first_key Dimension (before ++ placed row Outside ∷ [])) → new.capacity ≡ option_map number_in (first_key Capacity (before ++ placed row Outside ∷ [])) → new.end ≡ option_map (λ (r : Row). r.line) (first_key End (before ++ placed row Outside ∷ [])) → Knows (before ++ placed row Outside ∷ []) new
+    parts_known : new.seen ≡ set old.seen (key_number key) true
+        → KnowsTable in_coordinates point_in Coordinates (before ++ placed row Outside ∷ []) new.coordinates.items
+        → KnowsTable in_demands demand_in Demands (before ++ placed row Outside ∷ []) new.demands.items
+        → new.nodes ≡ option_map number_in (first_key Dimension (before ++ placed row Outside ∷ []))
+        → new.capacity ≡ option_map number_in (first_key Capacity (before ++ placed row Outside ∷ []))
+        → new.end ≡ option_map (λ (r : Row). r.line) (first_key End (before ++ placed row Outside ∷ [])) → Knows (before ++ placed row Outside ∷ []) new
     parts_known seen points demands nodes capacity end =
         record {
           seen = seen_kept seen;
@@ -184,12 +194,16 @@ module _ (before : List Placed) (row : Row) (key : Key) (key_is : key_of row ≡
 
     -- a draft whose tables stay
     tables_kept : new.seen ≡ set old.seen (key_number key) true → new.coordinates.items ≡ old.coordinates.items → new.demands.items ≡ old.demands.items
-        → new.nodes ≡ option_map number_in (first_key Dimension (before ++ placed row Outside ∷ [])) → new.capacity ≡ option_map number_in (first_key Capacity (before ++ placed row Outside ∷ [])) → new.end ≡ option_map (λ (r : Row). r.line) (first_key End (before ++ placed row Outside ∷ [])) → Knows (before ++ placed row Outside ∷ []) new
+        → new.nodes ≡ option_map number_in (first_key Dimension (before ++ placed row Outside ∷ []))
+        → new.capacity ≡ option_map number_in (first_key Capacity (before ++ placed row Outside ∷ []))
+        → new.end ≡ option_map (λ (r : Row). r.line) (first_key End (before ++ placed row Outside ∷ [])) → Knows (before ++ placed row Outside ∷ []) new
     tables_kept seen points demands = parts_known seen (points_kept points) (demands_kept demands)
 
     -- where at most tables change beside the key
-    tables_known : eqb (key_number key) 0 ≡ false → eqb (key_number key) 1 ≡ false → eqb (key_number key) 8 ≡ false → new.seen ≡ set old.seen (key_number key) true → new.nodes ≡ old.nodes → new.capacity ≡ old.capacity → new.end ≡ old.end
-        → KnowsTable in_coordinates point_in Coordinates (before ++ placed row Outside ∷ []) new.coordinates.items → KnowsTable in_demands demand_in Demands (before ++ placed row Outside ∷ []) new.demands.items → Knows (before ++ placed row Outside ∷ []) new
+    tables_known : eqb (key_number key) 0 ≡ false → eqb (key_number key) 1 ≡ false → eqb (key_number key) 8 ≡ false → new.seen ≡ set old.seen (key_number key) true
+        → new.nodes ≡ old.nodes → new.capacity ≡ old.capacity → new.end ≡ old.end
+        → KnowsTable in_coordinates point_in Coordinates (before ++ placed row Outside ∷ []) new.coordinates.items
+        → KnowsTable in_demands demand_in Demands (before ++ placed row Outside ∷ []) new.demands.items → Knows (before ++ placed row Outside ∷ []) new
     tables_known dimension capacity end seen same_nodes same_capacity same_end points demands =
         parts_known seen points demands (nodes_kept dimension same_nodes) (capacity_kept capacity same_capacity) (end_kept end same_end)
 
@@ -218,12 +232,15 @@ knows_key before row old new Capacity key_is valid known none is =
     (end_kept before row Capacity key_is old new valid known refl (ap (λ (d : VrpFields). d.end) is))
 knows_key before row old new Coordinates key_is valid known none is =
     let fresh = sym (known.seen Coordinates) ∙ none NodeRepeated in
-    tables_known before row Coordinates key_is old new valid known refl refl refl (ap (λ (d : VrpFields). d.seen) is.0) (ap (λ (d : VrpFields). d.nodes) is.0) (ap (λ (d : VrpFields). d.capacity) is.0) (ap (λ (d : VrpFields). d.end) is.0)
-    (table_opened before row Coordinates key_is in_coordinates point_in Coordinates (λ z. refl) old.coordinates.items new.coordinates.items (known.coordinates, known.no_coordinates) (nodes_in old) refl fresh is.1)
+    tables_known before row Coordinates key_is old new valid known refl refl refl (ap (λ (d : VrpFields). d.seen) is.0) (ap (λ (d : VrpFields). d.nodes) is.0)
+    (ap (λ (d : VrpFields). d.capacity) is.0) (ap (λ (d : VrpFields). d.end) is.0)
+    (table_opened before row Coordinates key_is in_coordinates point_in Coordinates (λ z. refl) old.coordinates.items new.coordinates.items
+    (known.coordinates, known.no_coordinates) (nodes_in old) refl fresh is.1)
     (demands_kept before row Coordinates key_is old new valid known (ap (λ (d : VrpFields). d.demands.items) is.0))
 knows_key before row old new Demands key_is valid known none is =
     let fresh = sym (known.seen Demands) ∙ none NodeRepeated in
-    tables_known before row Demands key_is old new valid known refl refl refl (ap (λ (d : VrpFields). d.seen) is.0) (ap (λ (d : VrpFields). d.nodes) is.0) (ap (λ (d : VrpFields). d.capacity) is.0) (ap (λ (d : VrpFields). d.end) is.0)
+    tables_known before row Demands key_is old new valid known refl refl refl (ap (λ (d : VrpFields). d.seen) is.0) (ap (λ (d : VrpFields). d.nodes) is.0)
+    (ap (λ (d : VrpFields). d.capacity) is.0) (ap (λ (d : VrpFields). d.end) is.0)
     (points_kept before row Demands key_is old new valid known (ap (λ (d : VrpFields). d.coordinates.items) is.0))
     (table_opened before row Demands key_is in_demands demand_in Demands (λ z. refl) old.demands.items new.demands.items (known.demands, known.no_demands) (nodes_in old) refl fresh is.1)
 knows_key before row old new End key_is valid known none is =

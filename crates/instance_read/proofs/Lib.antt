@@ -1,3 +1,4 @@
+-- The lemma files of this crate.
 pub mod RowLemmas
 pub mod FieldLemmas
 pub mod KindLemmas

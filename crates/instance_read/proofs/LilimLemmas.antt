@@ -1,5 +1,6 @@
 -- The first fault of a Li-Lim text, from what its lines have.
-use Rattle.std.proofs.Common.{◌≡◌, ℕ, zero, suc, ◌+◌, ◌<◌, ◌≤◌, Bool, true, false, cond, ◌⊎◌, inl, inr, ⊎_elim, List, [], ◌∷◌, ◌++◌, length, map, drop, Option, Some, None, refl, sym, ap, subst, ◌∙◌, arith, length-append}
+use Rattle.std.proofs.Common.{◌≡◌, ℕ, zero, suc, ◌+◌, ◌<◌, ◌≤◌, Bool, true, false, cond, ◌⊎◌, inl, inr, ⊎_elim, List, [], ◌∷◌, ◌++◌, length, map, drop, Option}
+use Rattle.std.proofs.Common.{Some, None, refl, sym, ap, subst, ◌∙◌, arith, length-append}
 use Rattle.std.specs.Prelude.{find, Contains}
 use Rattle.std.specs.List.{AllByRecursion, last_or}
 use Rattle.std.proofs.lemmas.Bool.{cases_lt, false≢true}
@@ -26,7 +27,8 @@ pub cons_tail : {X : Type 0} (x y : X) (xs ys : List X) → x ∷ xs ≡ y ∷ y
 cons_tail x y xs ys e = cc
 
 -- a task line with a fault, among task lines
-split_fault : (previous : Option Task) (rows before : List Row) (row : Row) (after : List Row) (line : ℕ) (kind : ReadFaultKind) → rows ≡ before ++ row ∷ after → row.line ≡ line → task_fault (last_or previous (map task_of before)) (words_of row.text) kind ≡ true → TaskLineFault previous rows line kind
+split_fault : (previous : Option Task) (rows before : List Row) (row : Row) (after : List Row) (line : ℕ) (kind : ReadFaultKind) → rows ≡ before ++ row ∷ after
+    → row.line ≡ line → task_fault (last_or previous (map task_of before)) (words_of row.text) kind ≡ true → TaskLineFault previous rows line kind
 split_fault previous [] [] row after line kind e at fault = absurd (cc)
 split_fault previous [] (b ∷ before) row after line kind e at fault = absurd (cc)
 split_fault previous (r ∷ rows) [] row after line kind e at fault =
@@ -54,7 +56,8 @@ fault_split previous (r ∷ rows) line kind (inr later) =
 abbrev HeaderFault : Row → ℕ → ReadFaultKind → Type 0
 HeaderFault header line kind = (header.line ≡ line) × (header_fault (words_of header.text) kind ≡ true)
 
-line_cases : (rows : List Row) (header : Row) (rest before : List Row) (row : Row) (after : List Row) (line : ℕ) (kind : ReadFaultKind) → rows ≡ header ∷ rest → rows ≡ before ++ row ∷ after → row.line ≡ line → row_fault before row kind ≡ true → HeaderFault header line kind ⊎ TaskLineFault None rest line kind
+line_cases : (rows : List Row) (header : Row) (rest before : List Row) (row : Row) (after : List Row) (line : ℕ) (kind : ReadFaultKind) → rows ≡ header ∷ rest
+    → rows ≡ before ++ row ∷ after → row.line ≡ line → row_fault before row kind ≡ true → HeaderFault header line kind ⊎ TaskLineFault None rest line kind
 line_cases rows header rest [] row after line kind is split at fault =
     let P : Row → Type 0 = λ q. HeaderFault q line kind in
     inl (subst P (sym (cons_head header row rest after (sym is ∙ split))) (at, fault))
@@ -106,11 +109,13 @@ module _ (text : List ℕ) (header : Row) (rest : List Row) (is : rows_of text �
   line_fault : (line : ℕ) (kind : ReadFaultKind) → LilimFault text OfLine line kind → HeaderFault header line kind ⊎ TaskLineFault None rest line kind
   line_fault line kind f = line_cases (rows_of text) header rest f.0 f.1 f.2 line kind is f.3 f.4 f.5
 
-  header_no_later : (found : ReadFaultKind) → IsFirstKind (header_fault (words_of header.text)) found → (line : ℕ) (kind : ReadFaultKind) → HeaderFault header line kind ⊎ TaskLineFault None rest line kind → IsNoLaterPlace header.line found line kind
+  header_no_later : (found : ReadFaultKind) → IsFirstKind (header_fault (words_of header.text)) found → (line : ℕ) (kind : ReadFaultKind)
+      → HeaderFault header line kind ⊎ TaskLineFault None rest line kind → IsNoLaterPlace header.line found line kind
   header_no_later found h line kind (inl here) = inr (here.0, h.1 kind here.1)
   header_no_later found h line kind (inr later) = inl (fault_above header.line None rest line kind rest_above later)
 
-  header_cases : (found : ReadFaultKind) → IsFirstKind (header_fault (words_of header.text)) found → (class : Class) (line : ℕ) (kind : ReadFaultKind) → LilimFault text class line kind → IsNoLater OfLine header.line found class line kind
+  header_cases : (found : ReadFaultKind) → IsFirstKind (header_fault (words_of header.text)) found → (class : Class) (line : ℕ) (kind : ReadFaultKind)
+      → LilimFault text class line kind → IsNoLater OfLine header.line found class line kind
   header_cases found h OfLine line kind f = header_no_later found h line kind (line_fault line kind f)
   header_cases found h OfText line kind f = tt
 
@@ -144,7 +149,8 @@ contains_head x xs = (0, omega arith, refl)
 contains_more : {X : Type 0} (x y : X) (xs : List X) → Contains xs y → Contains (x ∷ xs) y
 contains_more x y xs h = (suc h.0, omega (arith, h.1), h.2)
 
-found_cond : (p : Task → Bool) (x t : Task) (ts : List Task) (b : Bool) → p x ≡ b → (find p ts ≡ Some t → Contains ts t × (p t ≡ true)) → cond b (Some x) (find p ts) ≡ Some t → Contains (x ∷ ts) t × (p t ≡ true)
+found_cond : (p : Task → Bool) (x t : Task) (ts : List Task) (b : Bool) → p x ≡ b → (find p ts ≡ Some t → Contains ts t × (p t ≡ true))
+    → cond b (Some x) (find p ts) ≡ Some t → Contains (x ∷ ts) t × (p t ≡ true)
 found_cond p x t ts true e h is =
     let P : Task → Type 0 = λ u. Contains (x ∷ ts) u × (p u ≡ true) in subst P (same_Some x t is) (contains_head x ts, e)
 found_cond p x t ts false e h is = let rest = h is in (contains_more x t ts rest.0, rest.1)
@@ -162,7 +168,9 @@ line_above n [] u above here = absurd (none_contained u here)
 line_above n (row ∷ rows) u above (zero, l, at) = omega (arith, above.0, task_line row, ap (λ (t : Task). t.line) at)
 line_above n (row ∷ rows) u above (suc k, l, at) = omega (arith, above.0, line_above row.line rows u above.1 (k, omega arith, at))
 
-least_cond : (p : Task → Bool) (row : Row) (rows : List Row) (t u : Task) (b : Bool) → p (task_of row) ≡ b → LinesAbove row.line rows → Contains (task_of row ∷ map task_of rows) u → p u ≡ true → (find p (map task_of rows) ≡ Some t → Contains (map task_of rows) u → t.line ≤ u.line) → cond b (Some (task_of row)) (find p (map task_of rows)) ≡ Some t → t.line ≤ u.line
+least_cond : (p : Task → Bool) (row : Row) (rows : List Row) (t u : Task) (b : Bool) → p (task_of row) ≡ b → LinesAbove row.line rows
+    → Contains (task_of row ∷ map task_of rows) u → p u ≡ true → (find p (map task_of rows) ≡ Some t → Contains (map task_of rows) u → t.line ≤ u.line)
+    → cond b (Some (task_of row)) (find p (map task_of rows)) ≡ Some t → t.line ≤ u.line
 least_cond p row rows t u true e above (zero, l, at) fails h is =
     omega (arith, ap (λ (x : Task). x.line) (same_Some (task_of row) t is), ap (λ (x : Task). x.line) at)
 least_cond p row rows t u true e above (suc k, l, at) fails h is =
@@ -181,7 +189,8 @@ holds_in P (t ∷ ts) u all (zero, l, at) = subst P at all.0
 holds_in P (t ∷ ts) u all (suc k, l, at) = holds_in P ts u all.1 (k, omega arith, at)
 
 -- A text with a header and a depot, and no fault of a line.
-module _ (text : List ℕ) (header depot : Row) (customers : List Row) (is : rows_of text ≡ header ∷ depot ∷ customers) (sound : HasNoKind (header_fault (words_of header.text))) (clean : HasNoTaskFault None (depot ∷ customers)) where
+module _ (text : List ℕ) (header depot : Row) (customers : List Row) (is : rows_of text ≡ header ∷ depot ∷ customers)
+    (sound : HasNoKind (header_fault (words_of header.text))) (clean : HasNoTaskFault None (depot ∷ customers)) where
   tasks : customers_of text ≡ map task_of customers
   unfolding customers_of
   tasks = ap (λ rows. map task_of (drop 2 rows)) is
@@ -192,14 +201,20 @@ module _ (text : List ℕ) (header depot : Row) (customers : List Row) (is : row
   not_cut : (line : ℕ) → Cut text line → ⊥
   not_cut line cut = omega (arith, cut.0, ap length is)
 
-  mismatch_cases : (t : Task) → find (is_mismatched (map task_of customers)) (map task_of customers) ≡ Some t → (class : Class) (line : ℕ) (kind : ReadFaultKind) → LilimFault text class line kind → IsNoLater OfText t.line PairMismatch class line kind
+  mismatch_cases : (t : Task) → find (is_mismatched (map task_of customers)) (map task_of customers) ≡ Some t → (class : Class) (line : ℕ) (kind : ReadFaultKind)
+      → LilimFault text class line kind → IsNoLater OfText t.line PairMismatch class line kind
   mismatch_cases t found OfLine line kind f = no_line_fault line kind f
   mismatch_cases t found OfText line kind f =
       ⊎_elim
       (λ m.
       let P : List Task → Type 0 = λ ts. Contains ts m.1.0 × (is_mismatched ts m.1.0 ≡ true) in
       let here = subst P tasks (m.1.1, m.1.3) in
-      let least : t.line ≤ line = omega (arith, m.1.2, find_least (is_mismatched (map task_of customers)) depot.line customers t m.1.0 (rest_above text header (depot ∷ customers) is).1 found here.0 here.1) in
+      let least : t.line ≤ line = omega (
+        arith,
+        m.1.2,
+        find_least (is_mismatched (map task_of customers)) depot.line customers t m.1.0
+            (rest_above text header (depot ∷ customers) is).1 found here.0 here.1,
+      ) in
       ⊎_elim (λ less. inl less) (λ le. inr (omega arith, omega (arith, ap rank m.0))) (cases_lt t.line line))
       (λ cut. absurd (not_cut line cut.1))
       (text_cases text line kind f)

@@ -40,7 +40,8 @@ value_here : (limits : ℤ × ℤ) (number : Option ℤ) → is_none number ≡ 
 value_here limits None some h = absurd (false≢true (sym some))
 value_here limits (Some z) some h = (refl, h)
 
-pub values_of : (limits : List (ℤ × ℤ)) (words : List (List ℕ)) (k : ℕ) → length limits ≤ length words → has_no_number words ≡ false → any_beyond limits words ≡ false → k < length limits → IsValue (get_or limits k (pos 0, pos 0)) (field words k) (value_at words k)
+pub values_of : (limits : List (ℤ × ℤ)) (words : List (List ℕ)) (k : ℕ) → length limits ≤ length words → has_no_number words ≡ false → any_beyond limits words ≡ false
+    → k < length limits → IsValue (get_or limits k (pos 0, pos 0)) (field words k) (value_at words k)
 values_of [] words k fits numbers h l = absurd (omega arith)
 values_of (x ∷ limits) [] k fits numbers h l = absurd (omega arith)
 values_of (x ∷ limits) (w ∷ words) zero fits numbers h l =

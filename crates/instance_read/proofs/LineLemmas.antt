@@ -11,7 +11,8 @@ use Rattle.instance_read.specs.declared.vrp_lines.Section.{Section}
 use Rattle.instance_read.specs.declared.vrp_lines.Section.TheVariants.{Outside, CoordinateLine, DemandLine, DepotLine, AfterEnd}
 use Rattle.instance_read.specs.Drafts.{FitsSection, IsDraft, TakesLine, entry_at, is_taken, line_fault, nodes_in, node_index}
 use Rattle.instance_read.specs.Rows.{Row}
-use Rattle.instance_read.specs.Vrp.{any_key, coordinate_limits, demand_limits, first_key, has_key, has_node, in_coordinates, in_demands, is_node_line, key_fault, key_number, node_fault, nodes_of, place_fault}
+use Rattle.instance_read.specs.Vrp.{any_key, coordinate_limits, demand_limits, first_key, has_key, has_node, in_coordinates, in_demands, is_node_line, key_fault}
+use Rattle.instance_read.specs.Vrp.{key_number, node_fault, nodes_of, place_fault}
 use Rattle.instance_read.specs.VrpLines.{Placed, key_of, value_of}
 use Rattle.instance_read.specs.VrpWalk.{Knows, demand_in, number_in, point_in}
 use Rattle.instance_read.specs.Walk.{HasNoKind}
@@ -82,7 +83,8 @@ set_none : {X : Type 0} (xs : List X) (i : ℕ) (x : X) → xs ≡ [] → set xs
 set_none xs i x e = ap (λ l. set l i x) e
 
 -- a line that says nothing
-knows_same : (before : List Placed) (row : Row) (place : Section) (old new : VrpFields) → ((key : Key) → has_key key (placed row place) ≡ false) → ((z : ℤ) → is_node_line in_coordinates z (placed row place) ≡ false) → ((z : ℤ) → is_node_line in_demands z (placed row place) ≡ false)
+knows_same : (before : List Placed) (row : Row) (place : Section) (old new : VrpFields) → ((key : Key) → has_key key (placed row place) ≡ false)
+    → ((z : ℤ) → is_node_line in_coordinates z (placed row place) ≡ false) → ((z : ℤ) → is_node_line in_demands z (placed row place) ≡ false)
     → Knows before old → new ≡ old → Knows (before ++ placed row place ∷ []) new
 knows_same before row place old new outside no_point no_demand known is =
     let p = placed row place in
@@ -92,7 +94,8 @@ knows_same before row place old new outside no_point no_demand known is =
     (λ e. ap (λ (d : VrpFields). d.coordinates.items) is ∙ e)
     (λ e. ap (λ (d : VrpFields). d.demands.items) is ∙ e)
 
-pub knows_more : (before : List Placed) (row : Row) (place : Section) (old new : VrpFields) → IsDraft old → Knows before old → FitsSection place old → HasNoKind (line_fault old row place) → TakesLine old row place new → Knows (before ++ placed row place ∷ []) new
+pub knows_more : (before : List Placed) (row : Row) (place : Section) (old new : VrpFields) → IsDraft old → Knows before old → FitsSection place old
+    → HasNoKind (line_fault old row place) → TakesLine old row place new → Knows (before ++ placed row place ∷ []) new
 knows_more before row Outside old new valid known fits none takes = knows_key before row old new (key_of row) refl valid known none takes
 knows_more before row (CoordinateLine n) old new valid known fits none takes =
     let p = placed row (CoordinateLine n) in
@@ -101,9 +104,11 @@ knows_more before row (CoordinateLine n) old new valid known fits none takes =
     let limits = (negsuc 999999, pos 1000000) ∷ (negsuc 999999, pos 1000000) ∷ [] in
     let node = node_of limits (nodes_in old) table words none in
     let is = takes.1 ∙ ap (λ k. set table k (Some (point_in p))) (index_is_node limits (nodes_in old) table words none) in
-    section_knows before p (λ key. refl) old new known (ap (λ (d : VrpFields). d.seen) takes.0) (ap (λ (d : VrpFields). d.nodes) takes.0) (ap (λ (d : VrpFields). d.capacity) takes.0) (ap (λ (d : VrpFields). d.end) takes.0)
+    section_knows before p (λ key. refl) old new known (ap (λ (d : VrpFields). d.seen) takes.0) (ap (λ (d : VrpFields). d.nodes) takes.0)
+    (ap (λ (d : VrpFields). d.capacity) takes.0) (ap (λ (d : VrpFields). d.end) takes.0)
     (λ z. ap (λ t. entry_at t z) is
-    ∙ entry_more in_coordinates point_in before p refl table node.0 (number_is limits (nodes_in old) table words none) (omega (arith, fits.1, node_below limits (nodes_in old) table words none)) (node_free limits (nodes_in old) table words none) known.coordinates z)
+    ∙ entry_more in_coordinates point_in before p refl table node.0 (number_is limits (nodes_in old) table words none)
+    (omega (arith, fits.1, node_below limits (nodes_in old) table words none)) (node_free limits (nodes_in old) table words none) known.coordinates z)
     (λ z. ap (λ (d : VrpFields). entry_at d.demands.items z) takes.0 ∙ known.demands z ∙ ap (option_map demand_in) (sym (find_same before p (is_node_line in_demands z) refl)))
     (λ e. takes.1 ∙ set_none table (node_index words) (Some (point_in p)) e)
     (λ e. ap (λ (d : VrpFields). d.demands.items) takes.0 ∙ e)
@@ -114,10 +119,12 @@ knows_more before row (DemandLine n) old new valid known fits none takes =
     let limits = (pos 0, pos 1000000) ∷ [] in
     let node = node_of limits (nodes_in old) table words none in
     let is = takes.1 ∙ ap (λ k. set table k (Some (demand_in p))) (index_is_node limits (nodes_in old) table words none) in
-    section_knows before p (λ key. refl) old new known (ap (λ (d : VrpFields). d.seen) takes.0) (ap (λ (d : VrpFields). d.nodes) takes.0) (ap (λ (d : VrpFields). d.capacity) takes.0) (ap (λ (d : VrpFields). d.end) takes.0)
+    section_knows before p (λ key. refl) old new known (ap (λ (d : VrpFields). d.seen) takes.0) (ap (λ (d : VrpFields). d.nodes) takes.0)
+    (ap (λ (d : VrpFields). d.capacity) takes.0) (ap (λ (d : VrpFields). d.end) takes.0)
     (λ z. ap (λ (d : VrpFields). entry_at d.coordinates.items z) takes.0 ∙ known.coordinates z ∙ ap (option_map point_in) (sym (find_same before p (is_node_line in_coordinates z) refl)))
     (λ z. ap (λ t. entry_at t z) is
-    ∙ entry_more in_demands demand_in before p refl table node.0 (number_is limits (nodes_in old) table words none) (omega (arith, fits.1, node_below limits (nodes_in old) table words none)) (node_free limits (nodes_in old) table words none) known.demands z)
+    ∙ entry_more in_demands demand_in before p refl table node.0 (number_is limits (nodes_in old) table words none)
+    (omega (arith, fits.1, node_below limits (nodes_in old) table words none)) (node_free limits (nodes_in old) table words none) known.demands z)
     (λ e. ap (λ (d : VrpFields). d.coordinates.items) takes.0 ∙ e)
     (λ e. takes.1 ∙ set_none table (node_index words) (Some (demand_in p)) e)
 knows_more before row (DepotLine seen) old new valid known fits none takes = knows_same before row (DepotLine seen) old new (λ key. refl) (λ z. refl) (λ z. refl) known takes

@@ -1,5 +1,6 @@
 -- The faults of a node's line where its node is known to be taken or free.
-use Rattle.std.proofs.Common.{◌≡◌, ℕ, zero, suc, ◌-◌, ◌≤◌, Bool, true, false, ◌⊎◌, inl, inr, ⊎_elim, List, Option, Some, None, set, Result, Ok, Err, refl, sym, ap, subst, ◌∙◌, arith, ℤ, pos, negsuc, to_z, of_z, to_z-of_z, w32}
+use Rattle.std.proofs.Common.{◌≡◌, ℕ, zero, suc, ◌-◌, ◌≤◌, Bool, true, false, ◌⊎◌, inl, inr, ⊎_elim, List, Option, Some, None, set, Result, Ok, Err, refl, sym}
+use Rattle.std.proofs.Common.{ap, subst, ◌∙◌, arith, ℤ, pos, negsuc, to_z, of_z, to_z-of_z, w32}
 use Rattle.std.specs.Prelude.{All, IfSome, MatchResult, is_some, slice_index_or, unwrap_or}
 use Rattle.std.specs.Int.RustNames.{unsigned_abs}
 use Rattle.std.proofs.lemmas.Bool.{false≢true}
@@ -53,7 +54,9 @@ pub index_is : (words : List (List ℕ)) (node : ℕ) → field words 0 ≡ Some
 index_is words node at = ap (λ (o : Option ℤ). unsigned_abs (unwrap_or o (pos 0)) - 1) at
 
 -- What a table of nodes has after the line of a node; it is handed on as another list.
-module _ {T : Type 0} (count : ℕ) (given limits : List (ℤ × ℤ)) (same : given ≡ limits) (words : List (List ℕ)) (read : HasNoKind (node_fault count given (λ _. false) words)) (node : ℕ) (one : 1 ≤ node) (at : field words 0 ≡ Some (pos node)) (items table new : List (Option T)) (is : table ≡ items) (value : T) where
+module _ {T : Type 0} (count : ℕ) (given limits : List (ℤ × ℤ)) (same : given ≡ limits) (words : List (List ℕ))
+    (read : HasNoKind (node_fault count given (λ _. false) words)) (node : ℕ) (one : 1 ≤ node) (at : field words 0 ≡ Some (pos node)) (items table new : List (Option T))
+    (is : table ≡ items) (value : T) where
   abbrev pub IsPut : {X : Type 0} → Result X ReadFaultKind → Type 0
   IsPut result =
       let entry = slice_index_or table (node - 1) None in
@@ -83,7 +86,8 @@ module _ (old new : VrpFields) (text : List ℕ) (valid : IsDraft old) where
       → new.coordinates.items ≡ set old.coordinates.items (node_index (words_of text)) (Some point) → TakesLine old (unnumbered text) (CoordinateLine 0) new × IsDraft new
   takes_point point within is other put =
       let AreWithin = All (λ entry. IfSome entry IsPoint) in
-      let all : AreWithin new.coordinates.items = subst AreWithin (sym put) (All-set (λ entry. IfSome entry IsPoint) old.coordinates.items (node_index (words_of text)) (Some point) within valid.coordinates) in (
+      let all : AreWithin new.coordinates.items = subst AreWithin (sym put)
+      (All-set (λ entry. IfSome entry IsPoint) old.coordinates.items (node_index (words_of text)) (Some point) within valid.coordinates) in (
         (other, put ∙ ap (λ p. set old.coordinates.items (node_index (words_of text)) (Some p)) is),
         subst IsDraft (sym other) (record { keys = valid.keys; nodes = valid.nodes; capacity = valid.capacity; coordinates = all; demands = valid.demands }),
       )
@@ -94,7 +98,8 @@ module _ (old new : VrpFields) (text : List ℕ) (valid : IsDraft old) where
       let set_to : ℤ → List (Option ℤ) = λ d. set old.demands.items (node_index (words_of text)) (Some d) in
       let kept = put ∙ ap set_to (demand_kept demand within) in
       let AreWithin = All (λ entry. IfSome entry IsDemand) in
-      let all : AreWithin new.demands.items = subst AreWithin (sym kept) (All-set (λ entry. IfSome entry IsDemand) old.demands.items (node_index (words_of text)) (Some demand) within valid.demands) in (
+      let all : AreWithin new.demands.items = subst AreWithin (sym kept)
+      (All-set (λ entry. IfSome entry IsDemand) old.demands.items (node_index (words_of text)) (Some demand) within valid.demands) in (
         (other, kept ∙ ap set_to is),
         subst IsDraft (sym other) (record { keys = valid.keys; nodes = valid.nodes; capacity = valid.capacity; coordinates = valid.coordinates; demands = all }),
       )

@@ -1,5 +1,6 @@
 -- What a draft knows after the line of a node.
-use Rattle.std.proofs.Common.{Less, Equal, Greater, ◌≡◌, ◌≢◌, ℕ, zero, suc, ◌+◌, ◌-◌, ◌<◌, Bool, true, false, cond, ◌⊎◌, inl, inr, eqb, List, [], ◌∷◌, ◌++◌, length, set, Option, Some, None, ⊎_elim, refl, sym, ap, subst, ◌∙◌, arith, ℤ, pos, negsuc, get_or-set_same, get_or-set_other}
+use Rattle.std.proofs.Common.{Less, Equal, Greater, ◌≡◌, ◌≢◌, ℕ, zero, suc, ◌+◌, ◌-◌, ◌<◌, Bool, true, false, cond, ◌⊎◌, inl, inr, eqb, List, [], ◌∷◌, ◌++◌}
+use Rattle.std.proofs.Common.{length, set, Option, Some, None, ⊎_elim, refl, sym, ap, subst, ◌∙◌, arith, ℤ, pos, negsuc, get_or-set_same, get_or-set_other}
 use Rattle.std.specs.Prelude.{find, slice_index_or, int_lt, ◌||◌, ◌&&◌}
 use Rattle.std.specs.Int.RustNames.{unsigned_abs}
 use Rattle.std.specs.Option.{option_map}
@@ -37,7 +38,9 @@ one_other m n ne =
     (cases_lt n m)
 
 -- A line of a section, with the number of a node that no line before it has.
-module _ {X : Type 0} (section : Section → Bool) (value_in : Placed → X) (before : List Placed) (p : Placed) (inside : section p.place ≡ true) (table : List (Option X)) (node : ℕ) (number : field (words_of p.row.text) 0 ≡ Some (pos (suc node))) (within : node < length table) (free : slice_index_or table node None ≡ None) (known : (z : ℤ) → entry_at table z ≡ option_map value_in (find (is_node_line section z) before)) where
+module _ {X : Type 0} (section : Section → Bool) (value_in : Placed → X) (before : List Placed) (p : Placed) (inside : section p.place ≡ true) (table : List (Option X))
+    (node : ℕ) (number : field (words_of p.row.text) 0 ≡ Some (pos (suc node))) (within : node < length table) (free : slice_index_or table node None ≡ None)
+    (known : (z : ℤ) → entry_at table z ≡ option_map value_in (find (is_node_line section z) before)) where
   line_is : (z : ℤ) → is_node_line section z p ≡ is_one z (pos (suc node))
   line_is z = ap (λ b. b && is_that (is_one z) (field (words_of p.row.text) 0)) inside ∙ ap (is_that (is_one z)) number
 
@@ -70,7 +73,8 @@ node_from nodes (pos (suc k)) e = (k, refl, ltb-false nodes (suc k) (or_parts (i
 node_from nodes (negsuc k) e = absurd (false≢true (sym e))
 
 -- what a line of a node without a fault says of its node
-module _ {X : Type 0} (more : List (ℤ × ℤ)) (nodes : ℕ) (table : List (Option X)) (words : List (List ℕ)) (none : HasNoKind (node_fault (length more + 1) ((pos 1, pos nodes) ∷ more) (is_taken table) words)) where
+module _ {X : Type 0} (more : List (ℤ × ℤ)) (nodes : ℕ) (table : List (Option X)) (words : List (List ℕ))
+    (none : HasNoKind (node_fault (length more + 1) ((pos 1, pos nodes) ∷ more) (is_taken table) words)) where
   first_value : (field words 0 ≡ Some (value_at words 0)) × (is_beyond (pos 1, pos nodes) (value_at words 0) ≡ false)
   first_value =
       let count = eqb-true (length words) (length more + 1) (not-false (eqb (length words) (length more + 1)) (none FieldCount)) in

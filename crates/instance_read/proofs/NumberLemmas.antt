@@ -16,7 +16,8 @@ beyond_first : (limits : ℤ × ℤ) (number : Option ℤ) → is_none number �
 beyond_first limits None e h = absurd (false≢true (sym e))
 beyond_first limits (Some z) e h = h z refl
 
-pub any_beyond-true : (limits : List (ℤ × ℤ)) (words : List (List ℕ)) (k : ℕ) → k < length limits → length limits ≤ length words → has_no_number words ≡ false → HasNoValue limits words k → any_beyond limits words ≡ true
+pub any_beyond-true : (limits : List (ℤ × ℤ)) (words : List (List ℕ)) (k : ℕ) → k < length limits → length limits ≤ length words → has_no_number words ≡ false
+    → HasNoValue limits words k → any_beyond limits words ≡ true
 any_beyond-true [] words k l fits e h = absurd (omega arith)
 any_beyond-true (x ∷ limits) [] k l fits e h = absurd (omega arith)
 any_beyond-true (x ∷ limits) (w ∷ words) zero l fits e h =
@@ -24,7 +25,8 @@ any_beyond-true (x ∷ limits) (w ∷ words) zero l fits e h =
 any_beyond-true (x ∷ limits) (w ∷ words) (suc k) l fits e h =
     or_right _ _ (any_beyond-true limits words k (omega arith) (omega arith) (or_parts (is_no_number w) (has_no_number words) e).1 h)
 
-pub any_beyond-false : (limits : List (ℤ × ℤ)) (words : List (List ℕ)) (value : ℕ → ℤ) → ((k : ℕ) → k < length limits → IsValue (get_or limits k (pos 0, pos 0)) (field words k) (value k)) → any_beyond limits words ≡ false
+pub any_beyond-false : (limits : List (ℤ × ℤ)) (words : List (List ℕ)) (value : ℕ → ℤ)
+    → ((k : ℕ) → k < length limits → IsValue (get_or limits k (pos 0, pos 0)) (field words k) (value k)) → any_beyond limits words ≡ false
 any_beyond-false [] words value h = refl
 any_beyond-false (x ∷ limits) [] value h = refl
 any_beyond-false (x ∷ limits) (w ∷ words) value h =
@@ -55,7 +57,8 @@ module _ (count : ℕ) (limits : List (ℤ × ℤ)) (words : List (List ℕ)) wh
       (λ numbers.
       let counted : length words ≡ count = eqb-true (length words) count (not-false (length words == count) many) in
       let broken = none counted in
-      first_from (numbers_fault count limits words) Range (any_beyond-true limits words broken.0 (omega (arith, sized, broken.1)) (omega (arith, sized, counted)) numbers broken.2) (range_last many numbers)))
+      first_from (numbers_fault count limits words) Range (any_beyond-true limits words broken.0 (omega (arith, sized, broken.1))
+      (omega (arith, sized, counted)) numbers broken.2) (range_last many numbers)))
 
   earlier : (kind k : ReadFaultKind) → IsFirstKind (numbers_fault count limits words) kind → rank k < rank kind → numbers_fault count limits words k ≡ false
   earlier kind k first l = false_from_ne_true (numbers_fault count limits words k) (λ e. absurd (omega (arith, first.1 k e)))
@@ -63,14 +66,16 @@ module _ (count : ℕ) (limits : List (ℤ × ℤ)) (words : List (List ℕ)) wh
   -- a line that may have more faults
   module _ (fault : ReadFaultKind → Bool) (counts : fault FieldCount ≡ not (length words == count)) (numbers : fault BadNumber ≡ has_no_number words) where
     -- where a first number above the most stops is one too many
-    pub stops_first : (stops : Bool) (kind : ReadFaultKind) → kind ≡ cond stops TooManyStops Range → fault TooManyStops ≡ stops → (stops ≡ false → any_beyond limits words ≡ true → fault Range ≡ true) → (told : ReadFaultKind) → told ≡ Range → IsFirstKind (numbers_fault count limits words) told → IsFirstKind fault kind
+    pub stops_first : (stops : Bool) (kind : ReadFaultKind) → kind ≡ cond stops TooManyStops Range → fault TooManyStops ≡ stops
+        → (stops ≡ false → any_beyond limits words ≡ true → fault Range ≡ true) → (told : ReadFaultKind) → told ≡ Range → IsFirstKind (numbers_fault count limits words) told → IsFirstKind fault kind
     stops_first stops kind is many range told at first_told =
         let First : ReadFaultKind → Type 0 = IsFirstKind (numbers_fault count limits words) in
         let first = subst First at first_told in
         stops_or_range fault stops kind is (counts ∙ earlier Range FieldCount first (omega arith)) (numbers ∙ earlier Range BadNumber first (omega arith)) many (λ few. range few first.0)
 
 -- A line that has so many words, each a number within its limits, has no fault.
-pub numbers_none : (count : ℕ) (limits : List (ℤ × ℤ)) (words : List (List ℕ)) (values : List ℤ) → length limits ≡ count → HasNumbers count limits words values → HasNoKind (numbers_fault count limits words)
+pub numbers_none : (count : ℕ) (limits : List (ℤ × ℤ)) (words : List (List ℕ)) (values : List ℤ) → length limits ≡ count → HasNumbers count limits words values
+    → HasNoKind (numbers_fault count limits words)
 numbers_none count limits words values sized h FieldCount = not_from_true (length words == count) (eq-eqb (length words) count h.0)
 numbers_none count limits words values sized h BadNumber = numbers_of words (λ k. get_or values k (pos 0)) (λ k l. (h.1 k (omega (arith, h.0))).0)
 numbers_none count limits words values sized h Range = any_beyond-false limits words (λ k. get_or values k (pos 0)) (λ k l. h.1 k (omega (arith, sized)))

@@ -1,5 +1,6 @@
 -- The pairs of tasks that rise and are all paired: each can be put, and stands after those of lesser names.
-use Rattle.std.proofs.Common.{Less, Equal, Greater, ◌≡◌, ℕ, zero, suc, ◌+◌, ◌<◌, ◌≤◌, Bool, true, false, not, cond, ◌⊎◌, inl, inr, List, [], ◌∷◌, ◌++◌, length, get_or, take, Option, Some, None, refl, sym, ap, subst, ◌∙◌, arith, eqb, ℤ, pos}
+use Rattle.std.proofs.Common.{Less, Equal, Greater, ◌≡◌, ℕ, zero, suc, ◌+◌, ◌<◌, ◌≤◌, Bool, true, false, not, cond, ◌⊎◌, inl, inr, List, [], ◌∷◌, ◌++◌, length}
+use Rattle.std.proofs.Common.{get_or, take, Option, Some, None, refl, sym, ap, subst, ◌∙◌, arith, eqb, ℤ, pos}
 use Rattle.std.specs.Prelude.{◌||◌, ◌==◌, nat_lt, neg_ℤ, ◌≤ℤ◌, ◌+ℤ◌, int_lt, IsSome, find}
 use Rattle.std.specs.List.{AllByRecursion, cons_option, filter_map}
 use Rattle.std.specs.Option.{option_map, option_map_or, option_or}
@@ -103,7 +104,9 @@ equal_parts false false is = (refl, refl)
 abbrev Parts : List Task → Task → ℕ → Request → Type 0
 Parts tasks t k r = (k ≡ t.stop.number) × (d : Task) × IsPair tasks t d × (r ≡ Pair t.stop d.stop)
 
-pair_cases : (tasks : List Task) (t : Task) (k : ℕ) (r : Request) (other b c : Bool) (o : Option Task) → AllByRecursion IsCustomer tasks → ArePaired tasks → IsGood tasks t → eqb t.pickup 0 ≡ b → find_task t.delivery tasks ≡ o → cond b (cond c true (option_map_or (is_wrong_delivery t) o true)) other ≡ false → cond b (option_map {U = ℕ × Request} (λ d. (t.stop.number, Pair t.stop d.stop)) o) None ≡ Some (k, r) → Parts tasks t k r
+pair_cases : (tasks : List Task) (t : Task) (k : ℕ) (r : Request) (other b c : Bool) (o : Option Task) → AllByRecursion IsCustomer tasks → ArePaired tasks
+    → IsGood tasks t → eqb t.pickup 0 ≡ b → find_task t.delivery tasks ≡ o → cond b (cond c true (option_map_or (is_wrong_delivery t) o true)) other ≡ false
+    → cond b (option_map {U = ℕ × Request} (λ d. (t.stop.number, Pair t.stop d.stop)) o) None ≡ Some (k, r) → Parts tasks t k r
 pair_cases tasks t k r other false c o valid paired good picks at right is = absurd (none-some (k, r) is)
 pair_cases tasks t k r other true c None valid paired good picks at right is = absurd (none-some (k, r) is)
 pair_cases tasks t k r other true true (Some d) valid paired good picks at right is = absurd (false≢true (sym right))
@@ -166,7 +169,8 @@ IsEarlier tasks n t = IsGood tasks t × (t.stop.number < n)
 
 -- Their requests have none of the numbers of a pair, and lesser names.
 module _ (tasks : List Task) (valid : AllByRecursion IsCustomer tasks) (paired : ArePaired tasks) (p d : Task) (pair : IsPair tasks p d) where
-  free_step : (n : ℕ) (t : Task) (o : Option (ℕ × Request)) (es : List (ℕ × Request)) → (n ≡ p.stop.number) ⊎ (n ≡ d.stop.number) → IsEarlier tasks p.stop.number t → pair_of tasks t ≡ o → first_some (stop_in n) es ≡ None → first_some (stop_in n) (cons_option o es) ≡ None
+  free_step : (n : ℕ) (t : Task) (o : Option (ℕ × Request)) (es : List (ℕ × Request)) → (n ≡ p.stop.number) ⊎ (n ≡ d.stop.number) → IsEarlier tasks p.stop.number t
+      → pair_of tasks t ≡ o → first_some (stop_in n) es ≡ None → first_some (stop_in n) (cons_option o es) ≡ None
   free_step n t None es at before is rest = rest
   free_step n t (Some e) es at before is rest =
       let parts = pair_parts tasks t e.0 e.1 valid paired before.0 is in
@@ -178,7 +182,8 @@ module _ (tasks : List Task) (valid : AllByRecursion IsCustomer tasks) (paired :
   free n [] at before = refl
   free n (t ∷ ts) at before = free_step n t (pair_of tasks t) (filter_map (pair_of tasks) ts) at before.0 refl (free n ts at before.1)
 
-  lesser_step : (t : Task) (o : Option (ℕ × Request)) (es : List (ℕ × Request)) → IsEarlier tasks p.stop.number t → pair_of tasks t ≡ o → AllByRecursion (λ (e : ℕ × Request). e.0 < p.stop.number) es → AllByRecursion (λ (e : ℕ × Request). e.0 < p.stop.number) (cons_option o es)
+  lesser_step : (t : Task) (o : Option (ℕ × Request)) (es : List (ℕ × Request)) → IsEarlier tasks p.stop.number t → pair_of tasks t ≡ o
+      → AllByRecursion (λ (e : ℕ × Request). e.0 < p.stop.number) es → AllByRecursion (λ (e : ℕ × Request). e.0 < p.stop.number) (cons_option o es)
   lesser_step t None es before is rest = rest
   lesser_step t (Some e) es before is rest =
       let parts = pair_parts tasks t e.0 e.1 valid paired before.0 is in (omega (arith, parts.0, before.1), rest)
@@ -218,28 +223,32 @@ pub not_some : {X : Type 0} (o : Option X) → o ≡ None → IsSome o → ⊥
 not_some None e h = false≢true h
 not_some (Some x) e h = none-some x (sym e)
 
-pub pair_free : (tasks ts : List Task) (p d : Task) (problem : Instance) → AllByRecursion IsCustomer tasks → ArePaired tasks → IsPair tasks p d → AllByRecursion (IsEarlier tasks p.stop.number) ts → problem.requests ≡ filter_map (pair_of tasks) ts → IsTaken problem (Pair p.stop d.stop) → ⊥
+pub pair_free : (tasks ts : List Task) (p d : Task) (problem : Instance) → AllByRecursion IsCustomer tasks → ArePaired tasks → IsPair tasks p d
+    → AllByRecursion (IsEarlier tasks p.stop.number) ts → problem.requests ≡ filter_map (pair_of tasks) ts → IsTaken problem (Pair p.stop d.stop) → ⊥
 pair_free tasks ts p d problem valid paired pair before is (inl taken) =
     not_some (stop_at problem p.stop.number) (ap (first_some (stop_in p.stop.number)) is ∙ free tasks valid paired p d pair p.stop.number ts (inl refl) before) taken
 pair_free tasks ts p d problem valid paired pair before is (inr taken) =
     not_some (stop_at problem d.stop.number) (ap (first_some (stop_in d.stop.number)) is ∙ free tasks valid paired p d pair d.stop.number ts (inr refl) before) taken
 
 -- those before the task at place i
-pub earlier_at : (tasks : List Task) (i : ℕ) (d : Task) → AllByRecursion IsCustomer tasks → RisesFrom 0 tasks → ArePaired tasks → i < length tasks → AllByRecursion (IsEarlier tasks (get_or tasks i d).stop.number) (take i tasks)
+pub earlier_at : (tasks : List Task) (i : ℕ) (d : Task) → AllByRecursion IsCustomer tasks → RisesFrom 0 tasks → ArePaired tasks → i < length tasks
+    → AllByRecursion (IsEarlier tasks (get_or tasks i d).stop.number) (take i tasks)
 earlier_at tasks i d valid rising paired l =
     recursion_from_All (IsEarlier tasks (get_or tasks i d).stop.number) (take i tasks) (λ k e h.
     let small : k < i = omega (arith, length-take i tasks) in
     rw get_or-take (good_at tasks k e valid rising paired (omega arith), rising_at 0 tasks k i d e rising small l))
 
 -- the pairs of one task more
-more_pairs : (tasks : List Task) (i : ℕ) (t : Task) → i < length tasks → t ≡ get_or tasks i t → filter_map (pair_of tasks) (take (i + 1) tasks) ≡ filter_map (pair_of tasks) (take i tasks) ++ cons_option (pair_of tasks t) []
+more_pairs : (tasks : List Task) (i : ℕ) (t : Task) → i < length tasks → t ≡ get_or tasks i t
+    → filter_map (pair_of tasks) (take (i + 1) tasks) ≡ filter_map (pair_of tasks) (take i tasks) ++ cons_option (pair_of tasks t) []
 more_pairs tasks i t l at =
     ap (filter_map (pair_of tasks)) (take_more tasks i t l)
     ∙ filter_map-append (pair_of tasks) (take i tasks) (get_or tasks i t ∷ [])
     ∙ ap (λ u. filter_map (pair_of tasks) (take i tasks) ++ cons_option (pair_of tasks u) []) (sym at)
 
 -- What a loop over the tasks knows of the request that it puts for the task t at place i.
-module _ (tasks : List Task) (i : ℕ) (t : Task) (valid : AllByRecursion IsCustomer tasks) (rising : RisesFrom 0 tasks) (paired : ArePaired tasks) (l : i < length tasks) (at : t ≡ get_or tasks i t) where
+module _ (tasks : List Task) (i : ℕ) (t : Task) (valid : AllByRecursion IsCustomer tasks) (rising : RisesFrom 0 tasks) (paired : ArePaired tasks) (l : i < length tasks)
+    (at : t ≡ get_or tasks i t) where
   good : IsGood tasks t
   good = let P : Task → Type 0 = IsGood tasks in subst P (sym at) (good_at tasks i t valid rising paired l)
 
@@ -260,17 +269,20 @@ module _ (tasks : List Task) (i : ℕ) (t : Task) (valid : AllByRecursion IsCust
 
     pub put_last : (es : List (ℕ × Request)) → es ≡ filter_map (pair_of tasks) (take i tasks) → with_entry es r ≡ filter_map (pair_of tasks) (take (i + 1) tasks)
     put_last es same =
-        let before = let P : List (ℕ × Request) → Type 0 = AllByRecursion (λ (e : ℕ × Request). e.0 < t.stop.number) in subst P (sym same) (lesser tasks valid paired t parts.1 parts.2 (take i tasks) earlier) in
+        let before = let P : List (ℕ × Request) → Type 0 = AllByRecursion (λ (e : ℕ × Request). e.0 < t.stop.number) in subst P (sym same)
+        (lesser tasks valid paired t parts.1 parts.2 (take i tasks) earlier) in
         with_entry-last t.stop.number es r (ap request_name parts.3) before
         ∙ ap (λ xs. xs ++ (t.stop.number, r) ∷ []) same
         ∙ ap (λ o. filter_map (pair_of tasks) (take i tasks) ++ cons_option o []) (sym is)
         ∙ sym (more_pairs tasks i t l at)
 
 -- a task that makes no request adds none
-pub put_none : (tasks : List Task) (i : ℕ) (t : Task) → i < length tasks → t ≡ get_or tasks i t → pair_of tasks t ≡ None → filter_map (pair_of tasks) (take (i + 1) tasks) ≡ filter_map (pair_of tasks) (take i tasks)
+pub put_none : (tasks : List Task) (i : ℕ) (t : Task) → i < length tasks → t ≡ get_or tasks i t → pair_of tasks t ≡ None
+    → filter_map (pair_of tasks) (take (i + 1) tasks) ≡ filter_map (pair_of tasks) (take i tasks)
 put_none tasks i t l at is = more_pairs tasks i t l at ∙ ap (λ o. filter_map (pair_of tasks) (take i tasks) ++ cons_option o []) is ∙ append-nil (filter_map (pair_of tasks) (take i tasks))
 
-pub same_instance : (a base : Instance) (fs : List (ℕ × Request)) → a.kind ≡ base.kind → a.depot ≡ base.depot → a.capacity ≡ base.capacity → a.fleet ≡ base.fleet → a.requests ≡ fs → a ≡ record base { requests = fs; next_number = a.next_number }
+pub same_instance : (a base : Instance) (fs : List (ℕ × Request)) → a.kind ≡ base.kind → a.depot ≡ base.depot → a.capacity ≡ base.capacity → a.fleet ≡ base.fleet
+    → a.requests ≡ fs → a ≡ record base { requests = fs; next_number = a.next_number }
 same_instance a base fs kind depot capacity fleet requests =
     ap (λ k. record a { kind = k }) kind
     ∙ ap (λ s. record a { kind = base.kind; depot = s }) depot
@@ -279,7 +291,8 @@ same_instance a base fs kind depot capacity fleet requests =
     ∙ ap (λ xs. record a { kind = base.kind; depot = base.depot; capacity = base.capacity; fleet = base.fleet; requests = xs }) requests
 
 -- the problem with one request more
-pub put_step : (base before after : Instance) (r : Request) (es fs : List (ℕ × Request)) → before ≡ record base { requests = es; next_number = before.next_number } → after ≡ with_request before r → with_entry es r ≡ fs → after ≡ record base { requests = fs; next_number = after.next_number }
+pub put_step : (base before after : Instance) (r : Request) (es fs : List (ℕ × Request)) → before ≡ record base { requests = es; next_number = before.next_number }
+    → after ≡ with_request before r → with_entry es r ≡ fs → after ≡ record base { requests = fs; next_number = after.next_number }
 put_step base before after r es fs is put more =
     let requests = ap (λ (p : Instance). p.requests) is in
     let put_requests = ap (λ (p : Instance). p.requests) put ∙ ap (λ xs. with_entry xs r) requests ∙ more in
@@ -312,12 +325,15 @@ few_tasks n [] small valid rising = omega arith
 few_tasks n (t ∷ ts) small valid rising = omega (arith, rising.0, few_tasks t.stop.number ts valid.0.stop.to_most valid.1 rising.1)
 
 -- the numbers of the requests of tasks that are below n are below n
-below_step : (n : ℕ) (t : Task) (o : Option Task) (b : Bool) (es : List (ℕ × Request)) → t.stop.number < n → ((d : Task) → o ≡ Some d → d.stop.number < n) → AllByRecursion (λ m. m < n) (numbers_among es) → AllByRecursion (λ m. m < n) (numbers_among (cons_option (cond b (option_map {U = ℕ × Request} (λ d. (t.stop.number, Pair t.stop d.stop)) o) None) es))
+below_step : (n : ℕ) (t : Task) (o : Option Task) (b : Bool) (es : List (ℕ × Request)) → t.stop.number < n → ((d : Task) → o ≡ Some d → d.stop.number < n)
+    → AllByRecursion (λ m. m < n) (numbers_among es)
+    → AllByRecursion (λ m. m < n) (numbers_among (cons_option (cond b (option_map {U = ℕ × Request} (λ d. (t.stop.number, Pair t.stop d.stop)) o) None) es))
 below_step n t o false es here found rest = rest
 below_step n t None true es here found rest = rest
 below_step n t (Some d) true es here found rest = (here, (found d refl, rest))
 
-numbers_below : (n : ℕ) (tasks ts : List Task) → AllByRecursion (λ t. t.stop.number < n) tasks → AllByRecursion (λ t. t.stop.number < n) ts → AllByRecursion (λ m. m < n) (numbers_among (filter_map (pair_of tasks) ts))
+numbers_below : (n : ℕ) (tasks ts : List Task) → AllByRecursion (λ t. t.stop.number < n) tasks → AllByRecursion (λ t. t.stop.number < n) ts
+    → AllByRecursion (λ m. m < n) (numbers_among (filter_map (pair_of tasks) ts))
 numbers_below n tasks [] all here = tt
 numbers_below n tasks (t ∷ ts) all here =
     below_step n t (find_task t.delivery tasks) (eqb t.pickup 0) (filter_map (pair_of tasks) ts) here.0
@@ -341,7 +357,8 @@ module _ (depot : Task) (tasks : List Task) (known : AreTasks depot tasks) where
       numbers_below (last_number depot tasks + 1) tasks tasks all all
 
 -- a search that finds none
-none_found_cond : {X : Type 0} (p : X → Bool) (x : X) (xs : List X) (b : Bool) → p x ≡ b → (find p xs ≡ None → AllByRecursion (λ y. p y ≡ false) xs) → cond b (Some x) (find p xs) ≡ None → (p x ≡ false) × AllByRecursion (λ y. p y ≡ false) xs
+none_found_cond : {X : Type 0} (p : X → Bool) (x : X) (xs : List X) (b : Bool) → p x ≡ b → (find p xs ≡ None → AllByRecursion (λ y. p y ≡ false) xs)
+    → cond b (Some x) (find p xs) ≡ None → (p x ≡ false) × AllByRecursion (λ y. p y ≡ false) xs
 none_found_cond p x xs true e h is = absurd (none-some x (sym is))
 none_found_cond p x xs false e h is = (e, h is)
 
@@ -350,7 +367,9 @@ none_found p [] is = tt
 none_found p (x ∷ xs) is = none_found_cond p x xs (p x) refl (none_found p xs) is
 
 -- the problem after its requests are put and its next number is set
-pub finished : (header : FleetLine) (depot : Task) (tasks : List Task) (fresh put done : Instance) (n : ℕ) → fresh ≡ new_instance LiLim (depot_from depot) header.capacity header.fleet → put ≡ record fresh { requests = pairs_of tasks; next_number = put.next_number } → done ≡ record put { next_number = n } → n ≡ last_number depot tasks + 1 → done ≡ problem_from header.fleet header.capacity depot tasks
+pub finished : (header : FleetLine) (depot : Task) (tasks : List Task) (fresh put done : Instance) (n : ℕ)
+    → fresh ≡ new_instance LiLim (depot_from depot) header.capacity header.fleet → put ≡ record fresh { requests = pairs_of tasks; next_number = put.next_number }
+    → done ≡ record put { next_number = n } → n ≡ last_number depot tasks + 1 → done ≡ problem_from header.fleet header.capacity depot tasks
 finished header depot tasks fresh put done n new puts sets next =
     sets
     ∙ ap (λ (p : Instance). record p { next_number = n }) puts

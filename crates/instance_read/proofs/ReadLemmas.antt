@@ -29,12 +29,14 @@ others_is : (t : Task) (ts : List Task) → other_tasks (t ∷ ts) ≡ ts
 others_is t ts = take_all (length (t ∷ ts) - 1) ts (omega arith)
 
 -- the problem of the header as it is read
-same_problem : (words : List (List ℕ)) (read : FleetLine) (header depot : Row) (customers : List Row) → IsHeader (words_of header.text) read → problem_from read.fleet read.capacity (task_of depot) (map task_of customers) ≡ problem_of header depot customers
+same_problem : (words : List (List ℕ)) (read : FleetLine) (header depot : Row) (customers : List Row) → IsHeader (words_of header.text) read
+    → problem_from read.fleet read.capacity (task_of depot) (map task_of customers) ≡ problem_of header depot customers
 same_problem words read header depot customers made =
     ap (λ fleet. problem_from fleet read.capacity (task_of depot) (map task_of customers)) made.0
     ∙ ap (λ capacity. problem_from (unsigned_abs (value_at (words_of header.text) 0)) capacity (task_of depot) (map task_of customers)) made.1
 
-module _ (text : List ℕ) (header : Row) (read : FleetLine) (items : List Task) (sound : HasNoKind (header_fault (words_of header.text))) (made : IsHeader (words_of header.text) read) (some : 1 ≤ length items) where
+module _ (text : List ℕ) (header : Row) (read : FleetLine) (items : List Task) (sound : HasNoKind (header_fault (words_of header.text)))
+    (made : IsHeader (words_of header.text) read) (some : 1 ≤ length items) where
   pub known_tasks : (rest : List Row) → HasNoTaskFault None rest → items ≡ map task_of rest → AreTasks (first_task items) (other_tasks items)
   known_tasks [] clean same = absurd (omega (arith, ap length same))
   known_tasks (depot ∷ customers) clean same =
@@ -42,7 +44,8 @@ module _ (text : List ℕ) (header : Row) (read : FleetLine) (items : List Task)
       let Q : List Task → Type 0 = λ ts. AreTasks (task_of depot) ts in
       subst P (sym same) (subst Q (sym (others_is (task_of depot) (map task_of customers))) (are_tasks depot customers clean))
 
-  pub spells : (rest : List Row) → rows_of text ≡ header ∷ rest → HasNoTaskFault None rest → items ≡ map task_of rest → (p : Instance) → ArePaired (other_tasks items) × (p ≡ problem_from read.fleet read.capacity (first_task items) (other_tasks items)) → SpellsLilim text p
+  pub spells : (rest : List Row) → rows_of text ≡ header ∷ rest → HasNoTaskFault None rest → items ≡ map task_of rest → (p : Instance)
+      → ArePaired (other_tasks items) × (p ≡ problem_from read.fleet read.capacity (first_task items) (other_tasks items)) → SpellsLilim text p
   spells [] is clean same p h = absurd (omega (arith, ap length same))
   spells (depot ∷ customers) is clean same p h =
       let P : List Task → Type 0 = λ xs. ArePaired (other_tasks xs) × (p ≡ problem_from read.fleet read.capacity (first_task xs) (other_tasks xs)) in
@@ -56,7 +59,8 @@ module _ (text : List ℕ) (header : Row) (read : FleetLine) (items : List Task)
         plain.1 ∙ same_problem (words_of header.text) read header depot customers made,
       )
 
-  pub tells : (rest : List Row) → rows_of text ≡ header ∷ rest → HasNoTaskFault None rest → items ≡ map task_of rest → (f : ReadFault) → TellsMismatch (other_tasks items) f → TellsFirstFault (LilimFault text) f
+  pub tells : (rest : List Row) → rows_of text ≡ header ∷ rest → HasNoTaskFault None rest → items ≡ map task_of rest → (f : ReadFault)
+      → TellsMismatch (other_tasks items) f → TellsFirstFault (LilimFault text) f
   tells [] is clean same f h = absurd (omega (arith, ap length same))
   tells (depot ∷ customers) is clean same f h =
       let P : List Task → Type 0 = λ xs. TellsMismatch (other_tasks xs) f in

@@ -37,10 +37,12 @@ module _ (text : List ℕ) (rows : List Row) (draft : VrpFields) (place : Sectio
       let P : ℕ → Type 0 = λ n. IsFirstFault (VrpFault text) (record { line = n; kind = Truncated }) in
       inr (subst P (sym at) (truncated_first text here.2 (sym ends ∙ inside)))
 
-  pub tells_missing : (line : ℕ) → is_inside place ≡ false → draft_lacks_key draft ≡ true → line ≡ option_map_or (λ n. n) draft.end (length (lines_of text) + 1) → TellsFirstFault (VrpFault text) (record { line = line; kind = MissingKey })
+  pub tells_missing : (line : ℕ) → is_inside place ≡ false → draft_lacks_key draft ≡ true → line ≡ option_map_or (λ n. n) draft.end (length (lines_of text) + 1)
+      → TellsFirstFault (VrpFault text) (record { line = line; kind = MissingKey })
   tells_missing line outside lacks at =
       let P : ℕ → Type 0 = λ n. IsFirstFault (VrpFault text) (record { line = n; kind = MissingKey }) in
-      inr (subst P (sym (at ∙ end_is (placed_of text) draft here.0 (length (lines_of text) + 1))) (missing_first text here.2 (sym ends ∙ outside) (sym (lacks_is (placed_of text) draft here.0) ∙ lacks)))
+      inr (subst P (sym (at ∙ end_is (placed_of text) draft here.0 (length (lines_of text) + 1)))
+      (missing_first text here.2 (sym ends ∙ outside) (sym (lacks_is (placed_of text) draft here.0) ∙ lacks)))
 
   pub announced : draft_lacks_key draft ≡ false → is_some draft.nodes ≡ true
   announced has = is_announced (placed_of text) draft here.0 has

@@ -1,12 +1,14 @@
 -- Each text spells a problem or has a first fault: the faults are looked for in the order in which they are told. And no two of them.
-use Rattle.std.proofs.Common.{◌≡◌, ℕ, ◌≤◌, Bool, true, false, ◌⊎◌, inl, inr, ⊎_elim, List, [], ◌∷◌, ◌++◌, length, map, Option, Some, None, refl, sym, ap, ap₂, subst, ◌∙◌, arith, append_assoc, append-nil, length-append}
+use Rattle.std.proofs.Common.{◌≡◌, ℕ, ◌≤◌, Bool, true, false, ◌⊎◌, inl, inr, ⊎_elim, List, [], ◌∷◌, ◌++◌, length, map, Option, Some, None, refl, sym, ap, ap₂}
+use Rattle.std.proofs.Common.{subst, ◌∙◌, arith, append_assoc, append-nil, length-append}
 use Rattle.std.specs.Prelude.{find, slice_index_or}
 use Rattle.std.specs.List.{AllByRecursion}
 use Rattle.std.proofs.lemmas.Bool.{cases_lt, false≢true}
 use Rattle.text_lines.specs.Words.{words_of}
 use Rattle.instance_read.specs.declared.faults.ReadFault.{ReadFault}
 use Rattle.instance_read.specs.declared.faults.ReadFaultKind.{ReadFaultKind}
-use Rattle.instance_read.specs.declared.faults.ReadFaultKind.TheVariants.{BadNumber, Range, FieldCount, TaskOrder, PairMismatch, EmptyWindow, TooManyStops, MissingKey, Unsupported, DepotNotFirst, NodeRepeated, Truncated, OutOfMemory}
+use Rattle.instance_read.specs.declared.faults.ReadFaultKind.TheVariants.{BadNumber, Range, FieldCount, TaskOrder, PairMismatch, EmptyWindow, TooManyStops}
+use Rattle.instance_read.specs.declared.faults.ReadFaultKind.TheVariants.{MissingKey, Unsupported, DepotNotFirst, NodeRepeated, Truncated, OutOfMemory}
 use Rattle.instance_read.specs.declared.tasks.Task.{Task}
 use Rattle.instance_read.specs.Faults.{Class, HasNone, IsFirstFault, IsNoLater, IsNoLaterPlace, OfLine, OfText, rank}
 use Rattle.instance_read.specs.Lilim.{LilimFault, SpellsLilim, header_fault, problem_of, task_fault}
@@ -85,7 +87,8 @@ module _ (previous : Option Task) (row : Row) (rows : List Row) (above : LinesAb
   task_later none (inl clean) = inl (step_none previous row rows none clean)
   task_later none (inr (f, first)) = inr (f, step_first previous row rows f none first)
 
-  task_here : HasNoKind (task_fault previous (words_of row.text)) ⊎ ((kind : ReadFaultKind) × IsFirstKind (task_fault previous (words_of row.text)) kind) → TaskFound (Some (task_of row)) rows → TaskFound previous (row ∷ rows)
+  task_here : HasNoKind (task_fault previous (words_of row.text)) ⊎ ((kind : ReadFaultKind) × IsFirstKind (task_fault previous (words_of row.text)) kind)
+      → TaskFound (Some (task_of row)) rows → TaskFound previous (row ∷ rows)
   task_here (inl none) later = task_later none later
   task_here (inr (kind, first)) later = inr (record { line = row.line; kind = kind }, here_first previous row rows kind above first)
 
@@ -99,7 +102,8 @@ first_task_fault previous (row ∷ rows) above =
 abbrev LilimRead : List ℕ → Type 0
 LilimRead text = SpellsOrFails (SpellsLilim text) (LilimFault text)
 
-module _ (text : List ℕ) (header depot : Row) (customers : List Row) (is : rows_of text ≡ header ∷ depot ∷ customers) (sound : HasNoKind (header_fault (words_of header.text))) (clean : HasNoTaskFault None (depot ∷ customers)) where
+module _ (text : List ℕ) (header depot : Row) (customers : List Row) (is : rows_of text ≡ header ∷ depot ∷ customers)
+    (sound : HasNoKind (header_fault (words_of header.text))) (clean : HasNoTaskFault None (depot ∷ customers)) where
   pairs_read : (found : Option Task) → find (is_mismatched (map task_of customers)) (map task_of customers) ≡ found → LilimRead text
   pairs_read None none =
       let paired = none_found (is_mismatched (map task_of customers)) (map task_of customers) none in
@@ -132,7 +136,8 @@ abbrev LineFound : List Placed → Type 0
 LineFound ps = HasNoLineFault ps ⊎ ((f : ReadFault) × IsFirstFaultyLine ps f)
 
 module _ (before : List Placed) (p : Placed) (ps : List Placed) (clean : HasNoLineFault before) where
-  line_here : (HasNoKind (place_fault before p.row p.place) → LineFound ((before ++ p ∷ []) ++ ps)) → HasNoKind (place_fault before p.row p.place) ⊎ ((kind : ReadFaultKind) × IsFirstKind (place_fault before p.row p.place) kind) → LineFound (before ++ p ∷ ps)
+  line_here : (HasNoKind (place_fault before p.row p.place) → LineFound ((before ++ p ∷ []) ++ ps))
+      → HasNoKind (place_fault before p.row p.place) ⊎ ((kind : ReadFaultKind) × IsFirstKind (place_fault before p.row p.place) kind) → LineFound (before ++ p ∷ ps)
   line_here later (inl none) = subst LineFound (append_assoc before (p ∷ []) ps) (later none)
   line_here later (inr (kind, first)) =
       inr (record { line = p.row.line; kind = kind }, record { before = before; here = p; after = ps; splits = refl; line = refl; kind = first; clean = clean })
@@ -202,7 +207,8 @@ none_first : (Fault : Class → ℕ → ReadFaultKind → Type 0) (f : ReadFault
 none_first Fault f none first = none first.0 f.line f.kind first.1
 
 -- the problem of lines, if they are enough
-one_problem : (rows : List Row) (header depot : Row) (customers : List Row) (other its : Row) (others : List Row) → rows ≡ header ∷ depot ∷ customers → rows ≡ other ∷ its ∷ others → problem_of header depot customers ≡ problem_of other its others
+one_problem : (rows : List Row) (header depot : Row) (customers : List Row) (other its : Row) (others : List Row) → rows ≡ header ∷ depot ∷ customers
+    → rows ≡ other ∷ its ∷ others → problem_of header depot customers ≡ problem_of other its others
 one_problem rows header depot customers other its others is same =
     let whole = sym is ∙ same in
     let rest = cons_tail header other (depot ∷ customers) (its ∷ others) whole in

@@ -1,5 +1,6 @@
 -- The lines of a `.vrp` text that are read one after another.
-use Rattle.std.proofs.Common.{◌≡◌, ℕ, zero, suc, ◌+◌, ◌-◌, ◌≤◌, Bool, true, false, cond, eqb, ◌⊎◌, inl, inr, List, [], ◌∷◌, ◌++◌, length, Option, Some, None, refl, sym, ap, subst, ◌∙◌, arith, ℤ, pos, length-append, append_assoc, append-nil}
+use Rattle.std.proofs.Common.{◌≡◌, ℕ, zero, suc, ◌+◌, ◌-◌, ◌≤◌, Bool, true, false, cond, eqb, ◌⊎◌, inl, inr, List, [], ◌∷◌, ◌++◌, length, Option, Some, None}
+use Rattle.std.proofs.Common.{refl, sym, ap, subst, ◌∙◌, arith, ℤ, pos, length-append, append_assoc, append-nil}
 use Rattle.std.specs.Prelude.{is_none, is_some, unwrap_or, nat_lt}
 use Rattle.std.specs.Int.RustNames.{unsigned_abs}
 use Rattle.std.specs.Option.{option_map}
@@ -19,7 +20,8 @@ use Rattle.instance_read.specs.Drafts.{FitsSection, IsDraft, TakesLine, TakesVal
 use Rattle.instance_read.specs.Fields.{field, has_no_number, is_no_number, value_at}
 use Rattle.instance_read.specs.Rows.{Row}
 use Rattle.instance_read.specs.Vrp.{key_fault, place_fault}
-use Rattle.instance_read.specs.VrpLines.{Placed, coordinates_left, demands_left, depots_after, end_from, lines_left, key_of, nodes_after, nodes_in_key, place_after, place_after_key, placed_from, value_of, value_words}
+use Rattle.instance_read.specs.VrpLines.{Placed, coordinates_left, demands_left, depots_after, end_from, lines_left, key_of, nodes_after, nodes_in_key}
+use Rattle.instance_read.specs.VrpLines.{place_after, place_after_key, placed_from, value_of, value_words}
 use Rattle.instance_read.specs.VrpWalk.{HasNoLineFault, IsFirstFaultyLine, Knows, TellsLine, placed_rows}
 use Rattle.instance_read.specs.Walk.{HasNoKind, IsFirstKind}
 use Rattle.instance_read.proofs.KnowLemmas.{placed}
@@ -28,7 +30,8 @@ use Rattle.instance_read.proofs.LineLemmas.{announced_is, knows_more, same_fault
 use Rattle.instance_read.proofs.KnowLemmas.{some_false}
 
 -- One list, split at two elements: they stand at one place, or one of them stands before the other.
-pub compare_splits : {A : Type 0} (b : List A) (x : A) (a c : List A) (y : A) (d : List A) → b ++ x ∷ a ≡ c ++ y ∷ d → ((b ≡ c) × (x ≡ y)) ⊎ (((m : List A) × (c ≡ b ++ x ∷ m)) ⊎ ((m : List A) × (b ≡ c ++ y ∷ m)))
+pub compare_splits : {A : Type 0} (b : List A) (x : A) (a c : List A) (y : A) (d : List A) → b ++ x ∷ a ≡ c ++ y ∷ d
+    → ((b ≡ c) × (x ≡ y)) ⊎ (((m : List A) × (c ≡ b ++ x ∷ m)) ⊎ ((m : List A) × (b ≡ c ++ y ∷ m)))
 compare_splits [] x a [] y d e = inl (refl, cons_head x y a d e)
 compare_splits [] x a (z ∷ c) y d e = inr (inl (c, ap (λ w. w ∷ c) (sym (cons_head x z a (c ++ y ∷ d) e))))
 compare_splits (z ∷ b) x a [] y d e = inr (inr (b, ap (λ w. w ∷ b) (cons_head z y (b ++ x ∷ a) d e)))
@@ -36,7 +39,8 @@ compare_splits {A} (z ∷ b) x a (w ∷ c) y d e =
     let head = cons_head z w (b ++ x ∷ a) (c ++ y ∷ d) e in
     step (compare_splits b x a c y d (cons_tail z w (b ++ x ∷ a) (c ++ y ∷ d) e)) head
   where
-    step : ((b ≡ c) × (x ≡ y)) ⊎ (((m : List A) × (c ≡ b ++ x ∷ m)) ⊎ ((m : List A) × (b ≡ c ++ y ∷ m))) → z ≡ w → ((z ∷ b ≡ w ∷ c) × (x ≡ y)) ⊎ (((m : List A) × (w ∷ c ≡ z ∷ (b ++ x ∷ m))) ⊎ ((m : List A) × (z ∷ b ≡ w ∷ (c ++ y ∷ m))))
+    step : ((b ≡ c) × (x ≡ y)) ⊎ (((m : List A) × (c ≡ b ++ x ∷ m)) ⊎ ((m : List A) × (b ≡ c ++ y ∷ m))) → z ≡ w
+        → ((z ∷ b ≡ w ∷ c) × (x ≡ y)) ⊎ (((m : List A) × (w ∷ c ≡ z ∷ (b ++ x ∷ m))) ⊎ ((m : List A) × (z ∷ b ≡ w ∷ (c ++ y ∷ m))))
     step (inl same) h = inl (ap (λ q. q ∷ b) h ∙ ap (λ l. w ∷ l) same.0, same.1)
     step (inr (inl later)) h = inr (inl (later.0, ap (λ q. q ∷ c) (sym h) ∙ ap (λ l. z ∷ l) later.1))
     step (inr (inr earlier)) h = inr (inr (earlier.0, ap (λ q. q ∷ b) h ∙ ap (λ l. w ∷ l) earlier.1))
@@ -69,7 +73,8 @@ nodes_other row key (Some n) key_is none = refl
 nodes_other row key None key_is none = ap (nodes_in_key row) key_is ∙ none
 
 -- how many nodes are announced after a line with a key
-nodes_key : (before : List Placed) (row : Row) (old new : VrpFields) (key : Key) → key_of row ≡ key → Knows before old → HasNoKind (key_fault (is_some old.nodes) (has_seen old key) (value_of row) key) → TakesValue (with_key old key) row.line (value_of row) key new → nodes_after old.nodes row Outside ≡ new.nodes
+nodes_key : (before : List Placed) (row : Row) (old new : VrpFields) (key : Key) → key_of row ≡ key → Knows before old
+    → HasNoKind (key_fault (is_some old.nodes) (has_seen old key) (value_of row) key) → TakesValue (with_key old key) row.line (value_of row) key new → nodes_after old.nodes row Outside ≡ new.nodes
 nodes_key before row old new Dimension key_is known none takes =
     let words = value_words row in
     let count = eqb-true (length words) 1 (not-false (eqb (length words) 1) (none FieldCount)) in
@@ -84,7 +89,8 @@ nodes_section : (o : Option ℕ) (row : Row) (place : Section) → ((n : ℕ) �
 nodes_section None row place none = none 0
 nodes_section (Some n) row place none = refl
 
-nodes_step : (before : List Placed) (row : Row) (place : Section) (old new : VrpFields) → Knows before old → HasNoKind (line_fault old row place) → TakesLine old row place new → nodes_after old.nodes row place ≡ new.nodes
+nodes_step : (before : List Placed) (row : Row) (place : Section) (old new : VrpFields) → Knows before old → HasNoKind (line_fault old row place)
+    → TakesLine old row place new → nodes_after old.nodes row place ≡ new.nodes
 nodes_step before row Outside old new known none takes = nodes_key before row old new (key_of row) refl known none takes
 nodes_step before row (CoordinateLine n) old new known none takes = nodes_section old.nodes row (CoordinateLine n) (λ _. refl) ∙ sym (ap (λ (d : VrpFields). d.nodes) takes.0)
 nodes_step before row (DemandLine n) old new known none takes = nodes_section old.nodes row (DemandLine n) (λ _. refl) ∙ sym (ap (λ (d : VrpFields). d.nodes) takes.0)
@@ -112,7 +118,8 @@ fits_depots n d = by (nat_lt n 2) refl
     by true e = ltb-true n 2 e
     by false e = tt
 
-fits_key : (row : Row) (old new : VrpFields) (nodes : Option ℕ) (key : Key) → nodes ≡ old.nodes → TakesValue (with_key old key) row.line (value_of row) key new → FitsSection (place_after_key nodes key) new
+fits_key : (row : Row) (old new : VrpFields) (nodes : Option ℕ) (key : Key) → nodes ≡ old.nodes → TakesValue (with_key old key) row.line (value_of row) key new
+    → FitsSection (place_after_key nodes key) new
 fits_key row old new (Some n) Coordinates is takes =
     fits_coordinates n new (ap length takes.1 ∙ length-replicate {A = Option (ℤ × ℤ)} (nodes_in old) None ∙ sym (ap (λ (d : VrpFields). nodes_in d) takes.0))
 fits_key row old new (Some n) Demands is takes =
@@ -141,7 +148,8 @@ pub record IsReading (all : List Row) (draft : VrpFields) (place : Section) (res
   pub valid : IsDraft draft
   pub fits : FitsSection place draft
 
-pub placed_step : (nodes : Option ℕ) (place : Section) (row : Row) (more : List Row) → placed_from nodes place (row ∷ more) ≡ placed row place ∷ placed_from (nodes_after nodes row place) (place_after nodes row place) more
+pub placed_step : (nodes : Option ℕ) (place : Section) (row : Row) (more : List Row)
+    → placed_from nodes place (row ∷ more) ≡ placed row place ∷ placed_from (nodes_after nodes row place) (place_after nodes row place) more
 unfolding placed_from
 placed_step nodes place row more = refl
 
@@ -176,13 +184,23 @@ module _ (all : List Row) (old new : VrpFields) (place next : Section) (rest mor
   first_here : (kind : ReadFaultKind) → IsFirstKind (line_fault old row place) kind → IsFirstKind (place_fault reading.before row place) kind
   first_here kind h = (same kind ∙ h.0, λ k e. h.1 k (sym (same k) ∙ e))
 
-  pub reading_stops : (kind : ReadFaultKind) (f : ReadFault) → TellsKind (line_fault old row place) kind → (kind ≡ OutOfMemory → f ≡ record { line = 0; kind = OutOfMemory }) → ((kind ≡ OutOfMemory → ⊥) → f ≡ record { line = row.line; kind = kind }) → TellsLine (placed_rows all) f
+  pub reading_stops : (kind : ReadFaultKind) (f : ReadFault) → TellsKind (line_fault old row place) kind
+      → (kind ≡ OutOfMemory → f ≡ record { line = 0; kind = OutOfMemory }) → ((kind ≡ OutOfMemory → ⊥) → f ≡ record { line = row.line; kind = kind }) → TellsLine (placed_rows all) f
   reading_stops kind f (inl memory) told other = inl (told memory)
   reading_stops kind f (inr first) told other =
       let P : ReadFault → Type 0 = IsFirstFaultyLine (placed_rows all) in
       let here = first_here kind first in
       inr (subst P (sym (other (λ e. no_memory row place (subst (λ (k : ReadFaultKind). line_fault old row place k ≡ true) e first.0))))
-      (record { before = reading.before; here = placed row place; after = placed_from (nodes_after old.nodes row place) (place_after old.nodes row place) more; splits = split_here; line = refl; kind = here; clean = reading.clean }))
+      (record {
+        before = reading.before;
+        here = placed row place;
+        after = placed_from (nodes_after old.nodes row place)
+            (place_after old.nodes row place) more;
+        splits = split_here;
+        line = refl;
+        kind = here;
+        clean = reading.clean;
+      }))
     where
       no_memory_key : (announced stands : Bool) (value : List ℕ) (key : Key) → key_fault announced stands value key OutOfMemory ≡ true → ⊥
       no_memory_key announced stands value Dimension e = false≢true e
@@ -195,7 +213,8 @@ module _ (all : List Row) (old new : VrpFields) (place next : Section) (rest mor
       no_memory row _ e = false≢true e
 
 -- all lines are read
-pub reading_done : (all : List Row) (draft : VrpFields) (place : Section) (rest : List Row) → rest ≡ [] → IsReading all draft place rest → Knows (placed_rows all) draft × IsDraft draft × HasNoLineFault (placed_rows all) × (place ≡ end_from None Outside all)
+pub reading_done : (all : List Row) (draft : VrpFields) (place : Section) (rest : List Row) → rest ≡ [] → IsReading all draft place rest
+    → Knows (placed_rows all) draft × IsDraft draft × HasNoLineFault (placed_rows all) × (place ≡ end_from None Outside all)
 reading_done all draft place rest none reading =
     let is = reading.splits ∙ ap (λ rows. reading.before ++ placed_from draft.nodes place rows) none ∙ ap (λ ps. reading.before ++ ps) (placed_none draft.nodes place) ∙ append-nil reading.before in
     let P : List Placed → Type 0 = λ ps. Knows ps draft in

@@ -29,7 +29,8 @@ last_number-ref o d r ts last is =
     ∙ ap (λ p. (unwrap_or p d.now).stop.number) (last ∙ last_or-is ts) ∙ last_number-or d.now ts
 
 -- what a search finds stands at the place that it finds, where `at` gives the elements from the place k on
-place_cond : {X : Type 0} (at : ℕ → Option X) (k : ℕ) (x : X) (b : Bool) (place : Option ℕ) (found : Option X) → at k ≡ Some x → option_and_then at place ≡ found → option_and_then at (cond b (Some k) place) ≡ cond b (Some x) found
+place_cond : {X : Type 0} (at : ℕ → Option X) (k : ℕ) (x : X) (b : Bool) (place : Option ℕ) (found : Option X) → at k ≡ Some x → option_and_then at place ≡ found
+    → option_and_then at (cond b (Some k) place) ≡ cond b (Some x) found
 place_cond at k x true place found here later = here
 place_cond at k x false place found here later = later
 

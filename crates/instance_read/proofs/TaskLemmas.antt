@@ -35,7 +35,9 @@ task_by line number x y demand earliest latest service pickup delivery = record 
   delivery = unsigned_abs delivery;
 }
 
-same_task : (line : ℕ) (words : List (List ℕ)) (v : ℕ → ℤ) → ((k : ℕ) → k < 9 → value_at words k ≡ v k) → task_by line (v 0) (v 1) (v 2) (v 3) (v 4) (v 5) (v 6) (v 7) (v 8) ≡ task_by line (value_at words 0) (value_at words 1) (value_at words 2) (value_at words 3) (value_at words 4) (value_at words 5) (value_at words 6) (value_at words 7) (value_at words 8)
+same_task : (line : ℕ) (words : List (List ℕ)) (v : ℕ → ℤ) → ((k : ℕ) → k < 9 → value_at words k ≡ v k)
+    → task_by line (v 0) (v 1) (v 2) (v 3) (v 4) (v 5) (v 6) (v 7) (v 8) ≡ task_by line (value_at words 0) (value_at words 1) (value_at words 2) (value_at words 3)
+    (value_at words 4) (value_at words 5) (value_at words 6) (value_at words 7) (value_at words 8)
 same_task line words v h =
     let e0 = h 0 (omega arith) in let e1 = h 1 (omega arith) in let e2 = h 2 (omega arith) in
     let e3 = h 3 (omega arith) in let e4 = h 4 (omega arith) in let e5 = h 5 (omega arith) in
@@ -84,8 +86,11 @@ module _ (words : List (List ℕ)) (values : List ℤ) (h : HasNumbers 9 task_li
         (order_is ∙ e, none_below (task_fault previous words) 5 (omega arith) (λ _. counted) (λ _. numbers) (λ _. few_stops) (λ _. in_limits) (λ h. absurd (omega arith)) (λ h. absurd (omega arith)))
 
     pub window_first : is_out_of_order previous (pos task.stop.number) ≡ false → task.stop.latest < task.stop.earliest → IsFirstKind (task_fault previous words) EmptyWindow
-    window_first e l =
-        (window_is ∙ lt-ltb _ _ l, none_below (task_fault previous words) 6 (omega arith) (λ _. counted) (λ _. numbers) (λ _. few_stops) (λ _. in_limits) (λ _. order_is ∙ e) (λ h. absurd (omega arith)))
+    window_first e l = (
+      window_is ∙ lt-ltb _ _ l,
+      none_below (task_fault previous words) 6 (omega arith) (λ _. counted) (λ _. numbers) (λ _. few_stops) (λ _. in_limits)
+          (λ _. order_is ∙ e) (λ h. absurd (omega arith)),
+    )
 
     pub no_fault : is_out_of_order previous (pos task.stop.number) ≡ false → task.stop.earliest ≤ task.stop.latest → HasNoKind (task_fault previous words)
     no_fault e l FieldCount = counted

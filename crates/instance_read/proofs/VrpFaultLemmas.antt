@@ -29,7 +29,8 @@ above_later : (n : ℕ) (ps : List Placed) (q : Placed) (after : List Placed) �
 above_later n [] q after h = h.0
 above_later n (p ∷ ps) q after h = omega (arith, h.0, above_later p.row.line ps q after h.1)
 
-line_before : (n : ℕ) (ps : List Placed) (p : Placed) (between : List Placed) (q : Placed) (after : List Placed) → LinesAbove n (rows_placed (ps ++ p ∷ (between ++ q ∷ after))) → p.row.line < q.row.line
+line_before : (n : ℕ) (ps : List Placed) (p : Placed) (between : List Placed) (q : Placed) (after : List Placed)
+    → LinesAbove n (rows_placed (ps ++ p ∷ (between ++ q ∷ after))) → p.row.line < q.row.line
 line_before n [] p between q after h = above_later p.row.line between q after h.1
 line_before n (r ∷ ps) p between q after h = line_before r.row.line ps p between q after h.1
 

@@ -36,7 +36,8 @@ from_one most (pos n) e = refl
 from_one most (negsuc n) e = absurd (false≢true (sym e))
 
 -- the node that a line begins with
-pub node_is : (count nodes : ℕ) (more : List (ℤ × ℤ)) (words : List (List ℕ)) (values : List ℤ) → 0 < count → HasNumbers count ((pos 1, pos nodes) ∷ more) words values → field words 0 ≡ Some (pos (unsigned_abs (get_or values 0 (pos 0))))
+pub node_is : (count nodes : ℕ) (more : List (ℤ × ℤ)) (words : List (List ℕ)) (values : List ℤ) → 0 < count → HasNumbers count ((pos 1, pos nodes) ∷ more) words values
+    → field words 0 ≡ Some (pos (unsigned_abs (get_or values 0 (pos 0))))
 node_is count nodes more words values l h =
     let first = h.1 0 l in
     first.0 ∙ ap Some (from_one (pos nodes) (get_or values 0 (pos 0)) first.1)
@@ -73,7 +74,8 @@ module _ (stands : Bool) (words : List (List ℕ)) where
     capacity_none e k = capacity_below 14 (λ _. e) k (rank_small k)
 
 -- The value of a DIMENSION.
-pub below_two : (words : List (List ℕ)) → is_that (λ z. int_lt (pos 40001) z) (field words 0) ≡ false → any_beyond ((pos 2, pos 40001) ∷ []) words ≡ true → is_that (λ z. int_lt z (pos 2)) (field words 0) ≡ true
+pub below_two : (words : List (List ℕ)) → is_that (λ z. int_lt (pos 40001) z) (field words 0) ≡ false → any_beyond ((pos 2, pos 40001) ∷ []) words ≡ true
+    → is_that (λ z. int_lt z (pos 2)) (field words 0) ≡ true
 below_two words few e = low (field words 0) few (sym (one_beyond (pos 2, pos 40001) words) ∙ e)
 
 module _ (stands : Bool) (words : List (List ℕ)) where

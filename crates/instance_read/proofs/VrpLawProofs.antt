@@ -1,5 +1,6 @@
 -- Where the lines of a `.vrp` text stand.
-use Rattle.std.proofs.Common.{◌≡◌, ◌≤◌, ℕ, zero, suc, ◌+◌, ◌-◌, Bool, true, false, ◌⊎◌, inl, inr, ⊎_elim, cond, eqb, List, [], ◌∷◌, ◌++◌, length, length-append, map, drop, Option, Some, None, pos, refl, sym, ap, ◌∙◌, arith}
+use Rattle.std.proofs.Common.{◌≡◌, ◌≤◌, ℕ, zero, suc, ◌+◌, ◌-◌, Bool, true, false, ◌⊎◌, inl, inr, ⊎_elim, cond, eqb, List, [], ◌∷◌, ◌++◌, length, length-append}
+use Rattle.std.proofs.Common.{map, drop, Option, Some, None, pos, refl, sym, ap, ◌∙◌, arith}
 use Rattle.std.specs.Prelude.{◌||◌, codes, find}
 use Rattle.std.specs.Int.RustNames.{unsigned_abs}
 use Rattle.std.specs.Option.{option_map}
@@ -13,8 +14,11 @@ use Rattle.instance_read.specs.declared.vrp_lines.Section.TheVariants.{Outside, 
 use Rattle.instance_read.specs.Fields.{field}
 use Rattle.instance_read.specs.Rows.{Row, rows_of}
 use Rattle.instance_read.specs.Vrp.{first_key, has_key, key_number}
-use Rattle.instance_read.specs.VrpLaws.{DepotsAreTwoWords, DimensionAloneAnnounces, EndIsTheEnd, LeavesOutside, OtherLinesStayOutside, SectionsHaveALineForEachNode, after_end, coordinate_lines, demand_lines, depot_line, section_lines, is_keyed, outside, rows_in}
-use Rattle.instance_read.specs.VrpLines.{Placed, begins_as_number, coordinates_left, demands_left, depots_after, lines_left, ends_in, key_of, key_text, nodes_after, nodes_in_key, place_after, place_after_key, placed_from, trimmed, value_words}
+use Rattle.instance_read.specs.VrpLaws.{DepotsAreTwoWords, DimensionAloneAnnounces, EndIsTheEnd, LeavesOutside, OtherLinesStayOutside}
+use Rattle.instance_read.specs.VrpLaws.{SectionsHaveALineForEachNode, after_end, coordinate_lines, demand_lines, depot_line, section_lines, is_keyed, outside}
+use Rattle.instance_read.specs.VrpLaws.{rows_in}
+use Rattle.instance_read.specs.VrpLines.{Placed, begins_as_number, coordinates_left, demands_left, depots_after, lines_left, ends_in, key_of, key_text}
+use Rattle.instance_read.specs.VrpLines.{nodes_after, nodes_in_key, place_after, place_after_key, placed_from, trimmed, value_words}
 use Rattle.instance_read.proofs.LilimLemmas.{cons_head, cons_tail}
 use Rattle.instance_read.proofs.ReadingLemmas.{nodes_other, placed_none, placed_step}
 
@@ -39,7 +43,8 @@ demand_block : (n k : ℕ) (rows : List Row) → placed_from (Some n) (demands_l
 demand_block n k rows = block (λ j. DemandLine j) (λ n row j. refl) n k rows
 
 -- a line outside the sections, by its key
-key_step : (nodes : Option ℕ) (row : Row) (rows : List Row) (key : Key) → key_of row ≡ key → nodes_in_key row key ≡ None → placed_from nodes Outside (row ∷ rows) ≡ outside row ∷ placed_from nodes (place_after_key nodes key) rows
+key_step : (nodes : Option ℕ) (row : Row) (rows : List Row) (key : Key) → key_of row ≡ key → nodes_in_key row key ≡ None
+    → placed_from nodes Outside (row ∷ rows) ≡ outside row ∷ placed_from nodes (place_after_key nodes key) rows
 key_step nodes row rows key is none =
     placed_step nodes Outside row rows
     ∙ ap (λ o. outside row ∷ placed_from o (place_after_key nodes (key_of row)) rows) (nodes_other row key nodes is none)
@@ -85,7 +90,8 @@ announced_first : (before : List Placed) (dimension : Row) (n : ℕ) → first_k
 announced_first [] dimension n first value = absurd (none-some dimension first)
 announced_first (p ∷ before) dimension n first value = by (has_key Dimension p) refl (announced_first before dimension n)
   where
-    by : (t : Bool) → has_key Dimension p ≡ t → (first_key Dimension before ≡ Some dimension → field (value_words dimension) 0 ≡ Some (pos n) → announced None before ≡ Some n) → announced None (p ∷ before) ≡ Some n
+    by : (t : Bool) → has_key Dimension p ≡ t → (first_key Dimension before ≡ Some dimension → field (value_words dimension) 0 ≡ Some (pos n)
+        → announced None before ≡ Some n) → announced None (p ∷ before) ≡ Some n
     by true is rest =
         let same : p.row ≡ dimension = same_Some p.row dimension (sym (ap (λ t. option_map (λ (q : Placed). q.row) (cond t (Some p) (find (has_key Dimension) before))) is) ∙ first) in
         ap (λ o. announced o before) (now_some p n is (ap (λ row. field (value_words row) 0) same ∙ value)) ∙ announced_stays n before
@@ -116,7 +122,8 @@ behind nodes place (row ∷ rows) (q ∷ before) after p is =
     let here : record { row = row; place = place } ≡ q = cons_head (record { row = row; place = place }) q more (before ++ p ∷ after) whole in
     let rest : more ≡ before ++ p ∷ after = cons_tail (record { row = row; place = place }) q more (before ++ p ∷ after) whole in
     behind (nodes_after nodes row place) (place_after nodes row place) rows before after p rest
-    ∙ ap (λ (r : Placed). placed_from (nodes_after (announced (nodes_after nodes r.row r.place) before) p.row p.place) (place_after (announced (nodes_after nodes r.row r.place) before) p.row p.place) (rows_in after)) here
+    ∙ ap (λ (r : Placed). placed_from (nodes_after (announced (nodes_after nodes r.row r.place) before) p.row p.place)
+    (place_after (announced (nodes_after nodes r.row r.place) before) p.row p.place) (rows_in after)) here
 
 pub sections : SectionsHaveALineForEachNode
 sections text before after row dimension n is first value =
@@ -169,7 +176,8 @@ same_nodes_after : (nodes : Option ℕ) (row : Row) → nodes_after nodes row Af
 same_nodes_after None row = refl
 same_nodes_after (Some n) row = refl
 
-depot_step : (nodes : Option ℕ) (seen : ℕ) (row : Row) (rows : List Row) (place : Section) → depots_after (seen + length (words_of row.text)) ≡ place → placed_from nodes (DepotLine seen) (row ∷ rows) ≡ depot_line seen row ∷ placed_from nodes place rows
+depot_step : (nodes : Option ℕ) (seen : ℕ) (row : Row) (rows : List Row) (place : Section) → depots_after (seen + length (words_of row.text)) ≡ place
+    → placed_from nodes (DepotLine seen) (row ∷ rows) ≡ depot_line seen row ∷ placed_from nodes place rows
 depot_step nodes seen row rows place goes =
     placed_step nodes (DepotLine seen) row rows
     ∙ ap (λ o. depot_line seen row ∷ placed_from o (depots_after (seen + length (words_of row.text))) rows) (same_nodes nodes row seen)

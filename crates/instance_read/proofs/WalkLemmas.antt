@@ -39,18 +39,21 @@ module _ (previous : Option Task) (row : Row) (rows : List Row) where
   step_none none rest line kind (inl here) = false≢true (sym (none kind) ∙ here.1)
   step_none none rest line kind (inr later) = rest line kind later
 
-  first_cases : (f : ReadFault) → HasNoKind (task_fault previous (words_of row.text)) → IsFirstTaskFault (Some (task_of row)) rows f → (line : ℕ) (kind : ReadFaultKind) → TaskLineFault previous (row ∷ rows) line kind → IsNoLaterPlace f.line f.kind line kind
+  first_cases : (f : ReadFault) → HasNoKind (task_fault previous (words_of row.text)) → IsFirstTaskFault (Some (task_of row)) rows f → (line : ℕ) (kind : ReadFaultKind)
+      → TaskLineFault previous (row ∷ rows) line kind → IsNoLaterPlace f.line f.kind line kind
   first_cases f none rest line kind (inl here) = absurd (false≢true (sym (none kind) ∙ here.1))
   first_cases f none rest line kind (inr later) = rest.first line kind later
 
   pub step_first : (f : ReadFault) → HasNoKind (task_fault previous (words_of row.text)) → IsFirstTaskFault (Some (task_of row)) rows f → IsFirstTaskFault previous (row ∷ rows) f
   step_first f none rest = record { here = inr rest.here; first = first_cases f none rest }
 
-  here_cases : (found : ReadFaultKind) → LinesAbove 0 (row ∷ rows) → IsFirstKind (task_fault previous (words_of row.text)) found → (line : ℕ) (kind : ReadFaultKind) → TaskLineFault previous (row ∷ rows) line kind → IsNoLaterPlace row.line found line kind
+  here_cases : (found : ReadFaultKind) → LinesAbove 0 (row ∷ rows) → IsFirstKind (task_fault previous (words_of row.text)) found → (line : ℕ) (kind : ReadFaultKind)
+      → TaskLineFault previous (row ∷ rows) line kind → IsNoLaterPlace row.line found line kind
   here_cases found above h line kind (inl here) = inr (here.0, h.1 kind here.1)
   here_cases found above h line kind (inr later) = inl (fault_above row.line (Some (task_of row)) rows line kind above.1 later)
 
-  pub here_first : (found : ReadFaultKind) → LinesAbove 0 (row ∷ rows) → IsFirstKind (task_fault previous (words_of row.text)) found → IsFirstTaskFault previous (row ∷ rows) (record { line = row.line; kind = found })
+  pub here_first : (found : ReadFaultKind) → LinesAbove 0 (row ∷ rows) → IsFirstKind (task_fault previous (words_of row.text)) found
+      → IsFirstTaskFault previous (row ∷ rows) (record { line = row.line; kind = found })
   here_first found above h = record { here = inl (refl, h.0); first = here_cases found above h }
 
 pub last_or-push : (o : Option Task) (ts : List Task) (t : Task) → last_or o (ts ++ t ∷ []) ≡ Some t
@@ -67,7 +70,8 @@ last_or-is [] = refl
 last_or-is (t ∷ ts) = let n : suc (length ts) - 1 ≡ length ts = omega arith in rw n (last_from t ts)
 
 -- One line more, without a fault: `tasks` are those of the lines before it, and `rest` the lines from it on.
-module _ (all rest more : List Row) (row : Row) (tasks : List Task) (previous : Option Task) (task : Task) (steps : rest ≡ row ∷ more) (last : previous ≡ last_or None tasks) (none : HasNoKind (task_fault previous (words_of row.text))) (made : task ≡ task_of row) where
+module _ (all rest more : List Row) (row : Row) (tasks : List Task) (previous : Option Task) (task : Task) (steps : rest ≡ row ∷ more)
+    (last : previous ≡ last_or None tasks) (none : HasNoKind (task_fault previous (words_of row.text))) (made : task ≡ task_of row) where
   pub tasks_more : tasks ++ map task_of rest ≡ map task_of all → (tasks ++ task ∷ []) ++ map task_of more ≡ map task_of all
   tasks_more h =
       append_assoc tasks (task ∷ []) (map task_of more) ∙ ap (λ t. tasks ++ t ∷ map task_of more) made
@@ -96,7 +100,9 @@ module _ (all rest more : List Row) (row : Row) (tasks : List Task) (previous : 
       subst R last (subst Q (sym steps) (step_first previous row more f none (subst P after h)))
 
 -- the line at which a reader stops
-pub stops_first : (rest more : List Row) (row : Row) (tasks : List Task) (previous : Option Task) (found : ReadFaultKind) → rest ≡ row ∷ more → previous ≡ last_or None tasks → LinesAbove 0 rest → IsFirstKind (task_fault previous (words_of row.text)) found → IsFirstTaskFault (last_or None tasks) rest (record { line = row.line; kind = found })
+pub stops_first : (rest more : List Row) (row : Row) (tasks : List Task) (previous : Option Task) (found : ReadFaultKind) → rest ≡ row ∷ more
+    → previous ≡ last_or None tasks → LinesAbove 0 rest → IsFirstKind (task_fault previous (words_of row.text)) found
+    → IsFirstTaskFault (last_or None tasks) rest (record { line = row.line; kind = found })
 stops_first rest more row tasks previous found steps last above h =
     let P : List Row → Type 0 = LinesAbove 0 in
     let Q : List Row → Type 0 = λ rows. IsFirstTaskFault previous rows (record { line = row.line; kind = found }) in

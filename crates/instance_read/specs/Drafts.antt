@@ -1,5 +1,6 @@
 -- What a reader keeps of the lines of a `.vrp` text that it has read, and what one more line adds.
-use Rattle.std.specs.Prelude.{◌≡◌, ℕ, zero, suc, ◌-◌, ◌<◌, ◌≤◌, Bool, true, false, ◌⊎◌, is_some, All, IfSome, MatchResult, Result, List, length, replicate, set, slice_index_or, unwrap_or, Option, Some, None, ℤ, pos, negsuc}
+use Rattle.std.specs.Prelude.{◌≡◌, ℕ, zero, suc, ◌-◌, ◌<◌, ◌≤◌, Bool, true, false, ◌⊎◌, is_some, All, IfSome, MatchResult, Result, List, length, replicate, set}
+use Rattle.std.specs.Prelude.{slice_index_or, unwrap_or, Option, Some, None, ℤ, pos, negsuc}
 use Rattle.std.specs.Int.RustNames.{unsigned_abs}
 use Rattle.std.specs.Option.{option_or}
 use Rattle.text_lines.specs.Words.{words_of}

@@ -2,7 +2,8 @@
 use Rattle.std.specs.Prelude.{◌≡◌, ℕ, ◌<◌, ◌≤◌, ◌⊎◌}
 use Rattle.instance_read.specs.declared.faults.ReadFault.{ReadFault}
 use Rattle.instance_read.specs.declared.faults.ReadFaultKind.{ReadFaultKind}
-use Rattle.instance_read.specs.declared.faults.ReadFaultKind.TheVariants.{BadNumber, Range, FieldCount, TaskOrder, PairMismatch, EmptyWindow, TooManyStops, MissingKey, Unsupported, DepotNotFirst, NodeRepeated, Truncated, OutOfMemory}
+use Rattle.instance_read.specs.declared.faults.ReadFaultKind.TheVariants.{BadNumber, Range, FieldCount, TaskOrder, PairMismatch, EmptyWindow, TooManyStops}
+use Rattle.instance_read.specs.declared.faults.ReadFaultKind.TheVariants.{MissingKey, Unsupported, DepotNotFirst, NodeRepeated, Truncated, OutOfMemory}
 
 -- a fault of one line, or of the whole text
 pub data Class : Type 0 where

@@ -1,3 +1,4 @@
+-- The next word gives the next field's value, and leaves the words behind it.
 use Rattle.std.proofs.Common.{drop, arith, ◌∙◌, ap, w32, rules}
 use Rattle.std.proofs.lemmas.List.{drop-drop, length-set}
 use Rattle.std.proofs.lemmas.Int.{to_z-of_z}
@@ -14,5 +15,6 @@ loop-i-preserved g c =
     record {
       rest = c.next_value.ensures.rest ∙ ap (λ ws. drop 1 ws) c.loop-i.invariant.rest ∙ drop-drop 1 i words;
       sized = simp length-set c.loop-i.invariant.sized;
-      read = rw (to_z-of_z w32 value fits) (values_more c.args.limits.now words c.loop-i.words c.loop-i.values i value (omega (arith, c.loop-i.invariant.sized)) c.loop-i.invariant.rest c.loop-i.invariant.read c.in_ok-values.ensures.value);
+      read = rw (to_z-of_z w32 value fits) (values_more c.args.limits.now words c.loop-i.words c.loop-i.values i value
+          (omega (arith, c.loop-i.invariant.sized)) c.loop-i.invariant.rest c.loop-i.invariant.read c.in_ok-values.ensures.value);
     }

@@ -1,3 +1,4 @@
+-- A line whose numbers can't be read is told by their first fault.
 use Rattle.std.proofs.Common.{subst, sym}
 use Rattle.text_lines.specs.Words.{words_of}
 use Rattle.instance_read.specs.declared.faults.ReadFaultKind.{ReadFaultKind}

@@ -1,3 +1,4 @@
+-- The values are those of all words of the line, and no word is left.
 use Rattle.std.proofs.Common.{ℕ, List, subst, sym, ◌∙◌}
 use Rattle.instance_read.specs.FieldValues.{HasNumbers}
 use Rattle.instance_read.proofs.FieldLemmas.{no_more}

@@ -1,3 +1,4 @@
+-- Each text spells a problem or has a first fault, and not both.
 use Rattle.instance_read.proofs.ReadableLemmas.{texts_are_read, texts_are_read_one_way}
 use Rattle.instance_read.proofs.laws.each_text_is_read.Goals as goal
 

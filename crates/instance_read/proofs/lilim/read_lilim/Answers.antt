@@ -1,3 +1,4 @@
+-- A Li-Lim text that is refused has its first fault told, by class, line and kind; else it spells the problem.
 use Rattle.std.proofs.Common.{inl, inr, ⊎_elim, sym, subst, ◌∙◌, arith}
 use Rattle.std.proofs.lemmas.Result.{err_from_is_err_and, MatchResult-weaker}
 use Rattle.instance_read.specs.declared.faults.ReadFault.{ReadFault}

@@ -1,3 +1,4 @@
+-- The next task's line is read behind the task before it, or its fault is the first of all lines.
 use Rattle.std.proofs.Common.{◌-◌, ◌∙◌, ap, length, inr}
 use Rattle.std.specs.Prelude.{slice_get}
 use Rattle.instance_read.specs.Pairs.{task_of}

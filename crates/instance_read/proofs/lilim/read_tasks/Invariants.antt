@@ -1,3 +1,4 @@
+-- The tasks so far are read without fault, and what is left has the rest and the first fault.
 use Rattle.std.proofs.Common.{◌≡◌, ◌++◌, map, None}
 use Rattle.std.specs.List.{last_or}
 use Rattle.instance_read.specs.declared.faults.ReadFault.{ReadFault}

@@ -1,3 +1,4 @@
+-- No word so far is at fault, so the first of those that are left is the first of all.
 use Rattle.std.proofs.Common.{◌≡◌, ◌+◌, ◌≤◌, length}
 use Rattle.text_lines.specs.Words.{words_of}
 use Rattle.instance_read.specs.WordEvidence.{faulty_word}

@@ -1,3 +1,4 @@
+-- The word at a place is that of the list of words.
 use Rattle.std.proofs.lemmas.Iterator.Consumers.{nth_from_yields_List, YieldsList-from_first}
 use Rattle.text_lines.specs.Words.{words_of}
 use Rattle.instance_read.proofs.number_evidence.nth_word.Goals as goal

@@ -1,3 +1,4 @@
+-- No task so far is mismatched, so the first of those that are left is the first of all.
 use Rattle.std.proofs.Common.{◌≡◌, drop}
 use Rattle.std.specs.Prelude.{find}
 use Rattle.instance_read.specs.Pairs.{is_mismatched}

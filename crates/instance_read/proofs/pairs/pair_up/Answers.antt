@@ -1,3 +1,4 @@
+-- Tasks of which none is mismatched are the requests of the problem, and the next number is above theirs.
 use Rattle.std.proofs.Common.{◌+◌, ◌<◌, ℕ, List, sym, ap, subst, arith}
 use Rattle.std.specs.List.{AllByRecursion}
 use Rattle.plan_types.specs.Instance.{Instance, numbers_among}

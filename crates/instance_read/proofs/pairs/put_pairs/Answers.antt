@@ -1,3 +1,4 @@
+-- A pair of tasks that name each other is a request within its limits, and its numbers are free.
 use Rattle.std.proofs.Common.{◌+◌, sym, ap, ◌∙◌, get_or, take, refl}
 use Rattle.std.proofs.lemmas.List.{get_or_default}
 use Rattle.std.specs.List.{filter_map}

@@ -1,3 +1,4 @@
+-- The problem has the requests of the tasks so far, and is else as it was.
 use Rattle.std.proofs.Common.{◌≡◌, take}
 use Rattle.std.specs.List.{filter_map}
 use Rattle.instance_read.specs.Pairs.{pair_of}

@@ -1,3 +1,4 @@
+-- The length is above each number of the tasks so far.
 use Rattle.std.proofs.Common.{◌<◌, ℕ, get_or}
 use Rattle.instance_read.specs.declared.tasks.Task.{Task}
 use Rattle.instance_read.proofs.pairs.table_len.Given as goal

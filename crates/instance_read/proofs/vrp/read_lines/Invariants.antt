@@ -1,3 +1,4 @@
+-- What is read of a `.vrp` text: the draft of the lines so far, at the place behind them.
 use Rattle.instance_read.proofs.ReadingLemmas.{IsReading}
 use Rattle.instance_read.proofs.vrp.read_lines.Given as goal
 

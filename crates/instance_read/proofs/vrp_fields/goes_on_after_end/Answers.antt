@@ -1,3 +1,4 @@
+-- A word behind -1 is found where the line has one, and at the line's end there is none.
 use Rattle.std.proofs.Common.{◌∷◌, sym, ap, ◌∙◌}
 use Rattle.text_lines.specs.Words.{words_of}
 use Rattle.instance_read.proofs.VrpFieldLemmas.{goes_on-is, goes_on_from}

@@ -1,3 +1,4 @@
+-- Whether a word stands behind -1 is told by the words that are left and whether -1 was met.
 use Rattle.std.proofs.Common.{◌≡◌, false}
 use Rattle.text_lines.specs.Words.{words_of}
 use Rattle.instance_read.proofs.VrpFieldLemmas.{goes_on_from}

@@ -1,3 +1,4 @@
+-- The value of CAPACITY is taken within its limits, unless an earlier line has the key.
 use Rattle.std.proofs.Common.{◌∷◌, [], ap, ◌∙◌, get_or, pos, w32, rules, arith}
 use Rattle.std.proofs.lemmas.Int.{to_z-of_z}
 use Rattle.std.specs.Int.RustNames.{unsigned_abs}

@@ -1,3 +1,4 @@
+-- The place of the first colon is below the line's length, or the line has none.
 use Rattle.std.proofs.Common.{◌≡◌, ℕ, ◌≤◌, cond, Option, Some, None, MatchOption, length, refl, subst, sym, rules, tests}
 use Rattle.std.specs.Prelude.{nat_lt}
 use Rattle.std.specs.List.{position_or_len}

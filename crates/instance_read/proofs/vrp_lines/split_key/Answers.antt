@@ -1,3 +1,4 @@
+-- Key and value are the trimmed parts before and behind the first colon; without one the whole line is the key.
 use Rattle.std.proofs.Common.{◌+◌, take, drop, sym, ap, ◌∙◌, arith}
 use Rattle.std.specs.List.{position_or_len}
 use Rattle.std.proofs.lemmas.List.{drop_all, take_all, take_rest}

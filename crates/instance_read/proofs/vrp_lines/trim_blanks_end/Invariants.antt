@@ -1,3 +1,4 @@
+-- What is left is the front of the text, and what is cut off are blanks of its end.
 use Rattle.std.proofs.Common.{◌≡◌, ◌+◌, ◌≤◌, length, take}
 use Rattle.std.specs.List.{suffix_len}
 use Rattle.text_lines.specs.Words.{is_blank}

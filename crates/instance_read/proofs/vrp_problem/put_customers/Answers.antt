@@ -1,3 +1,4 @@
+-- The next node is a customer within its limits, and its number is free.
 use Rattle.std.proofs.Common.{◌≡◌, ◌+◌, ◌-◌, ◌∙◌, ap, subst, arith}
 use Rattle.plan_types.specs.Instance.{Instance, with_request}
 use Rattle.instance_read.specs.VrpWalk.{customers_in}
@@ -6,7 +7,8 @@ use Rattle.instance_read.proofs.vrp_problem.put_customers.Goals as goal
 
 pub put_request-requires-clause-valid : goal.put_request-requires-clause-valid
 put_request-requires-clause-valid c =
-    rw c.customer.ensures (customer_valid c.args.draft.now c.requires.draft c.loop-number.number c.loop-number.invariant.from_one (omega (arith, c.loop-number-test.true, c.node_count-number-end.ensures)))
+    rw c.customer.ensures (customer_valid c.args.draft.now c.requires.draft c.loop-number.number c.loop-number.invariant.from_one
+    (omega (arith, c.loop-number-test.true, c.node_count-number-end.ensures)))
 
 pub put_request-requires-clause-free : goal.put_request-requires-clause-free
 put_request-requires-clause-free c =

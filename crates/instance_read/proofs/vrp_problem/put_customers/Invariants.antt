@@ -1,3 +1,4 @@
+-- The problem has the customers of lesser nodes, and is else as it was.
 use Rattle.std.proofs.Common.{◌≡◌, ◌-◌, ◌≤◌}
 use Rattle.instance_read.specs.VrpWalk.{customers_in}
 use Rattle.instance_read.proofs.vrp_problem.put_customers.Given as goal

@@ -1,3 +1,4 @@
+-- The lines so far have no word, so those that are left have the same numbered lines.
 use Rattle.std.proofs.Common.{◌≡◌, ◌+◌, ◌<◌, ◌^◌, length}
 use Rattle.instance_read.specs.Rows.{rows_from}
 use Rattle.instance_read.proofs.rows.NumberedLinesIterator.next.Given as goal

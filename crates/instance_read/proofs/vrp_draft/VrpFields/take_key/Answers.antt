@@ -1,3 +1,4 @@
+-- A line with a key is refused by its first fault, else the draft notes the key and takes its value.
 use Rattle.std.proofs.Common.{subst}
 use Rattle.std.specs.Prelude.{is_some}
 use Rattle.std.proofs.lemmas.Result.{err_from_is_err_and}
@@ -18,7 +19,8 @@ returns-in_err-take_value-clause-err c =
     let P : VrpFields → Type 0 = λ mid. TellsKind (key_fault (is_some mid.nodes) c.mark-stands.result value key) kind in
     let told = subst P c.mark-stands.ensures.after c.in_err-take_value.ensures.err in
     let p = err_from_is_err_and c.from_residual.result c.from_residual.ensures.1 in
-    rw (p.1, p.2) (tells_key old row key value c.mark-stands.result (same_key row key c.read_key-key.ensures.key) (same_value row value c.read_key-key.ensures.value) c.mark-stands.ensures.before kind told)
+    rw (p.1, p.2) (tells_key old row key value c.mark-stands.result (same_key row key c.read_key-key.ensures.key)
+    (same_value row value c.read_key-key.ensures.value) c.mark-stands.ensures.before kind told)
 
 pub returns-clause-ok : goal.returns-clause-ok
 returns-clause-ok c =
