@@ -31,8 +31,8 @@
 //! the nearest routes. The requests that can be moved and have a stop in a string are removed at once. All
 //! that are unplanned then are put in where they are best, one after another, in an order by one of sixteen
 //! keys. The candidate becomes the working plan where it is near the working plan itself, so annealing climbs
-//! step by step; it then becomes the incumbent too where it costs no more. A fifth to a half of the candidates can't
-//! come near, and are dropped once that is seen, while requests are still put in (`place_all_near`). In a try, a
+//! step by step; it then becomes the incumbent too where it costs no more. A fifth to three fifths of the candidates
+//! can't come near, and are dropped once that is seen, while requests are still put in (`place_all_near`). In a try, a
 //! candidate is near that leaves such requests out as were left out less often.
 //!
 //! A step finds the nearest routes along a front of the sixteen stops nearest to its own, which a walk of many steps
