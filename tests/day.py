@@ -4,6 +4,7 @@
 1. The commands make sheets, of which README shows the first lines. Each order is on one sheet, its pickup first, each window and load is kept,
    and all that is printed of a stop is what the table has. Each time is reckoned here from the table: to the minute by the projection and the
    rounding that the script tells, and within the bounds that it tells by great circles that nothing rounds.
+   By README's further commands an order that is added within the day is on a sheet too.
 2. Other forms of the same table make the same instance, by each awk that is installed.
 3. A table is refused by name and line, and nothing is printed then. So is a timetable that is not of these orders.
 4. Orders in no van are on a last sheet, by a timetable that is written by hand.
@@ -20,6 +21,7 @@ import sys
 import tempfile
 
 TOP = os.path.dirname(os.path.dirname(os.path.abspath(__file__)))
+README = os.path.join(TOP, "README.md")
 PROGRAM = os.path.join(TOP, "crates", "planner", "out", "planner")
 DAY = os.path.join(TOP, "examples", "day")
 SCRIPT = os.path.join(DAY, "day.sh")
@@ -140,7 +142,7 @@ class Day:
 
 
 def section_of_readme():
-    return read(os.path.join(TOP, "README.md")).split("## A day from a spreadsheet\n")[1].split("\n## ")[0]
+    return read(README).split("## A day from a spreadsheet\n")[1].split("\n## ")[0]
 
 
 def blocks_of_readme():
@@ -263,6 +265,28 @@ def check_store(folder, day):
     expect("what is in no van", left, list(day.stops)[2:4])
     expect("the last page", rest.splitlines()[2], f"order {left[0][0]}, {day.boxes[left[0][0]]} boxes, stops 3 and 4")
     expect("how the last page ends", rest.splitlines()[5:], ["  withdrawn"])
+    check_further(folder, store)
+
+
+# An order of the middle of the day.
+FURTHER = '4801,2,"Petals, 18 Bishopthorpe Road",01632 960107,53.9499,-1.0861,10:15,12:00,3,Harbour Shop,01632 960200,53.9561,-1.1228,10:15,15:00,4'
+
+
+def check_further(folder, store):
+    """By README's commands this order becomes the last row of the table and a line for the store: it is on the sheets, with all that were there."""
+    orders = write(folder, "orders.csv", f"{read(ORDERS)}{FURTHER}\r\n")
+    block = re.search(r"^```sh\n(examples/day/day.sh [^`]* > order.line\n[^`]*)^```$", read(README), flags=re.MULTILINE)
+    words = block[1].replace("day.store", store).replace("anneal 20000", "anneal 500")
+    told = subprocess.run(["sh", "-e", "-c", f"{words}./planner timetable {store} tabs > day.tabs"], cwd=folder, capture_output=True, check=False)
+    if (told.returncode, told.stdout.split()[-1:]) != (0, [b"ok"]):
+        fail(f"a further order: status {told.returncode}, {told.stdout!r}, {told.stderr!r}")
+    status, text, told = ask("sheets", SETTINGS, orders, os.path.join(folder, "day.tabs"))
+    expect("its sheets", (status, told), (1, "day.sh: orders in no van: 1\n"))
+    rows = [row for sheet in text.split("\f")[:-1] for row in rows_of(sheet)[1][1:-1]]
+    names = [row.split(",")[0] for row in read(orders).splitlines()[1:]]
+    wanted = [(name, task) for name in names if name != names[1] for task in ("deliver", "pick")]
+    expect("what is on them", sorted((row[4], row[5].split()[0]) for row in rows), sorted(wanted))
+    expect("its windows", [row[3] for row in rows if row[4] == names[-1]], ["10:15-12:00", "10:15-15:00"])
 
 
 # Other forms of the table.
