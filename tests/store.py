@@ -240,6 +240,17 @@ def check_load(folder):
         got = subprocess.run([PROGRAM, "load", store, "lilim", INSTANCE], capture_output=True)
         if got.returncode == 0 or contents(store) != begun:
             fail(f"load over a file of {len(begun)} bytes: status {got.returncode}, {got.stdout!r}")
+    # As a load leaves it that was stopped: README's cure is to remove it.
+    for begun in (bytes(4096), bytes(len(empty))):
+        with open(store, "wb") as file:
+            file.write(begun)
+        got = subprocess.run([PROGRAM, "load", store, "lilim", INSTANCE], capture_output=True)
+        if (got.returncode, got.stdout) != (2, b"store NotFormatted\n") or contents(store) != begun:
+            fail(f"load over a file of {len(begun)} zeros: status {got.returncode}, {got.stdout!r}")
+        os.remove(store)
+        load(store, 0, b"ok")
+        if contents(store) != made:
+            fail("load in place of a file that was removed made another store")
     with open(store, "wb") as file:
         file.write(empty)
     load(store, 0, b"ok", seed="8")
