@@ -435,6 +435,15 @@ SESSIONS = [
         ("freeze 100000001", RANGE),
         ("freeze -1", RANGE),
     ]),
+    ("an order that falls away within its pin", "lilim", DAY, [
+        ("build", ""),
+        ("freeze 40", "pin 1 4\npin 2 2\n"),
+        ("withdraw 3", "no Pinned\n"),
+        ("unpin 1", ""),
+        ("withdraw 3", ""),
+        ("freeze 40", "pin 1 2\n"),
+        ("show", "requests 2 next 7\nsteps 0 place 0\npin 1: 1 2\npin 2: 5 6\nvehicle 1: 1 2\nvehicle 2: 5 6\ncost 0 2 80\n"),
+    ]),
     ("nothing planned has begun", "lilim", DAY, [("freeze 100000000", "")]),
     ("no times", "vrp", THREE_CUSTOMERS, [("build", ""), ("freeze 5", "no NoTimes\n"), ("freeze 100000001", RANGE)]),
     ("next numbers", "lilim", TWO_PAIRS, [
