@@ -3,4 +3,6 @@ pub mod ClaimLemmas
 pub mod FillLemmas
 pub mod FoundLemmas
 pub mod LawProofs
+pub mod PassLemmas
+pub mod SeatedLemmas
 pub mod VerdictLemmas

@@ -1,8 +1,12 @@
--- Each text is seated, in one way.
-use Rattle.std.specs.Prelude.{◌≡◌, ℕ, List, Result}
+-- Each text is seated, in one way; and what the auditor passed passes with the pins, too.
+use Rattle.std.specs.Prelude.{◌≡◌, ◌≤◌, ℕ, List, length, Result, Ok}
 use Rattle.plan_types.specs.Instance.{Instance, IsInstance}
+use Rattle.plan_types.specs.declared.plans.Cost.{Cost}
 use Rattle.plan_types.specs.declared.plans.Plan.{Plan}
+use Rattle.plan_audit.specs.Verdict.{IsVerdict, planned, printed}
+use Rattle.plan_audit.specs.declared.rules.Verdict.TheVariants.{Pass}
 use Rattle.plan_seats.specs.Seating.{IsFound}
+use Rattle.plan_seats.specs.Seats.{seated}
 use Rattle.plan_seats.specs.declared.faults.Unseated.{Unseated}
 
 -- what each text is over a problem with these pins
@@ -19,3 +23,9 @@ SomeSeatingIs = (seating : Seating) × IsSeating seating
 -- law: and there is no second answer
 abbrev pub SeatingsAgree : Type 0
 SeatingsAgree = (p : Instance) (pins : List (List ℕ)) (text : List ℕ) (found other : Result Plan Unseated) → IsFound p pins text found → IsFound p pins text other → found ≡ other
+
+-- law: a solution that passes as it is printed passes as a plan with the pins, at the same cost, once its routes have vehicles; there are no more pins
+-- than vehicles
+abbrev pub SeatedPlansPass : Type 0
+SeatedPlansPass = (p : Instance) (pins routes : List (List ℕ)) (distance : ℕ) (cost : Cost) (plan : Plan) → length pins ≤ p.fleet → IsVerdict p (printed routes distance) (Pass cost)
+    → seated p.fleet pins routes ≡ Ok plan → IsVerdict p (planned plan.routes pins) (Pass cost)

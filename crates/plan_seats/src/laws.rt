@@ -1,5 +1,5 @@
 //! Laws, for every problem, pins and text.
-ghost use Rattle.plan_seats.specs.Laws.{SeatingsAgree, SomeSeatingIs};
+ghost use Rattle.plan_seats.specs.Laws.{SeatedPlansPass, SeatingsAgree, SomeSeatingIs};
 
 use plan_audit::verdicts_are_unique;
 
@@ -10,3 +10,8 @@ pub fn texts_are_seated()
 {
     verdicts_are_unique();
 }
+
+/// A solution that the auditor passes passes as a plan, too, with the pins and at the same cost, once its routes have vehicles.
+pub fn seated_plans_pass()
+    ensures { SeatedPlansPass }
+{}

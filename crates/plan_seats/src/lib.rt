@@ -14,13 +14,14 @@
 //! - `claims`: what vehicles with pins take
 //! - `filling`: what the other vehicles take
 //! - `seating`: `seated_plan`
-//! - `laws`: each text is seated in one way
+//! - `laws`: each text is seated in one way; what passes as printed passes with the pins
 //!
 //! Said by `specs/Seats.antt` (which vehicle gets which route, as a function that computes), `Seating.antt` and `Laws.antt`.
 //! Proved:
 //! - `seated_plan`: the plan that the text's solution is, where the auditor passes it and each pin finds its route; else the
 //!   text's first fault, the least broken rule, or the first vehicle whose pin finds none; or want of memory
 //! - `texts_are_seated`: there is a function that tells this of each problem, pins and text, and no other
+//! - `seated_plans_pass`: a solution that the auditor passes passes as a plan with the pins, once its routes have vehicles
 #![tactic(auto)]
 
 mod claims;
@@ -30,5 +31,5 @@ mod laws;
 mod seating;
 
 pub use faults::Unseated;
-pub use laws::texts_are_seated;
+pub use laws::{seated_plans_pass, texts_are_seated};
 pub use seating::seated_plan;
