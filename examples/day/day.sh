@@ -524,7 +524,7 @@ function print_rest(    row, count) {
         count += 1
         if (count == 1)
             printf "%sIn no van. Below each order stands why, with times in seconds since midnight.\n", used ? "\f" : ""
-        printf "\norder %s, %d boxes, stops %d and %d\n", order[row], boxes[row], 2 * row - 1, 2 * row
+        printf "\norder %s, %s, stops %d and %d\n", order[row], counted(boxes[row], "box", "boxes"), 2 * row - 1, 2 * row
         printf "  pick up %s  %s  %s\n", window(2 * row - 1), phone[2 * row - 1], place[2 * row - 1]
         printf "  deliver %s  %s  %s\n", window(2 * row), phone[2 * row], place[2 * row]
         printf "%s", reason[2 * row - 1] != "" ? reason[2 * row - 1] : "  withdrawn\n"
@@ -536,6 +536,10 @@ function print_rest(    row, count) {
 
 function greater(a, b) {
     return a > b ? a : b
+}
+
+function counted(count, one, more) {
+    return count " " (count == 1 ? one : more)
 }
 
 # How many letters a text has, of UTF-8: the bytes that begin one.
