@@ -1,5 +1,6 @@
 -- A route exceeds no limit exactly where it keeps them, and then a request alone is feasible by the auditor's rules.
-use Rattle.std.proofs.Common.{◌≡◌, ◌∙◌, ℕ, zero, suc, ◌+◌, ◌-◌, ◌<◌, ◌≤◌, ◌≤ℤ◌, ◌<ℤ◌, ℤ, pos, int_lt, ltb, Bool, true, false, T, List, [], map, length, get_or, slice_get, Option, Some, None, refl, sym, ap, subst, arith, inl, inr, nat_eq}
+use Rattle.std.proofs.Common.{◌≡◌, ◌∙◌, ℕ, zero, suc, ◌+◌, ◌-◌, ◌<◌, ◌≤◌, ◌≤ℤ◌, ◌<ℤ◌, ℤ, pos, int_lt, ltb, Bool, true, false}
+use Rattle.std.proofs.Common.{T, List, [], map, length, get_or, slice_get, Option, Some, None, refl, sym, ap, subst, arith, inl, inr, nat_eq}
 use Rattle.std.specs.List.{find, range_with_len}
 use Rattle.std.specs.Map.{lookup}
 use Rattle.std.specs.Option.{option_map, option_or}
@@ -122,12 +123,14 @@ module _ (p : Instance) (route : List ℕ) (valid : IsInstance p) (numbered : (k
   late_none Vrp is lilim none k to = absurd (let h : Vrp ≡ LiLim = lilim in cc)
   late_none LiLim is lilim none k to =
       none_found is_late (row_behind p route) 0 rows
-      (map_none lateness_at (find is_late (map (row_behind p route) (range_with_len 0 rows))) (subst (λ kind. lateness_in kind (map (row_behind p route) (range_with_len 0 rows)) ≡ None) is none)) k (omega arith) (omega arith)
+      (map_none lateness_at (find is_late (map (row_behind p route) (range_with_len 0 rows)))
+      (subst (λ kind. lateness_in kind (map (row_behind p route) (range_with_len 0 rows)) ≡ None) is none)) k (omega arith) (omega arith)
 
   pub limits_kept : miss_of p route ≡ None → KeepsLimits p route
   limits_kept none =
       let both = or_none (overload_in p.capacity (map (row_behind p route) (range_with_len 0 rows))) (lateness_in p.kind (map (row_behind p route) (range_with_len 0 rows))) none in
-      let light = none_found (is_heavy p.capacity) (row_behind p route) 0 rows (map_none (overload_at p.capacity) (find (is_heavy p.capacity) (map (row_behind p route) (range_with_len 0 rows))) both.0) in
+      let light = none_found (is_heavy p.capacity) (row_behind p route) 0 rows
+      (map_none (overload_at p.capacity) (find (is_heavy p.capacity) (map (row_behind p route) (range_with_len 0 rows))) both.0) in
       record {
         load = λ i from to.
             let at : i - 1 + 1 ≡ i = omega arith in
@@ -168,7 +171,8 @@ module _ (found : NamedAreFound) (stand : RequestsStandByName) (p : Instance) (v
       at_place name (Pair a b) named a (rw (eq-eqb a.number a.number refl) refl) request.0 (let e = one_here a.number a.number refl in omega arith) (alone_route (Pair a b)) 0 refl refl
   alone_stands name (Pair a b) named (suc zero) below =
       let request = valid_request p.requests name (Pair a b) valid.valid named in
-      at_place name (Pair a b) named b (rw (ne_eqb a.number b.number request.2, eq-eqb b.number b.number refl) refl) request.1 (let e = one_here b.number b.number refl in omega arith) (alone_route (Pair a b)) 1 refl refl
+      at_place name (Pair a b) named b (rw (ne_eqb a.number b.number request.2, eq-eqb b.number b.number refl) refl) request.1
+      (let e = one_here b.number b.number refl in omega arith) (alone_route (Pair a b)) 1 refl refl
   alone_stands name (Pair a b) named (suc (suc k)) below = absurd (omega arith)
 
   alone_numbered : (name : ℕ) (r : Request) → lookup (nat_eq name) p.requests ≡ Some r → (k : ℕ) → k < length (alone_route r) → 1 ≤ (place p (alone_route r) (k + 1)).number

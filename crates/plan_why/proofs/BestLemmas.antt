@@ -81,11 +81,13 @@ best_is best last [] e = let same : best ≡ last = some_same best last e in (in
 best_is best last (t ∷ ts) e = elim (cases_Bool (is_better t best)) [
   | inl holds ↦ (
       let rest = best_is t last ts (ap (λ o. best_from o ts) (sym (taken holds)) ∙ e) in
-      let first = joined (excess_of last.miss) last.distance (excess_of t.miss) t.distance (excess_of best.miss) best.distance rest.0 (was_before (excess_of t.miss) t.distance (excess_of best.miss) best.distance holds) in
+      let first = joined (excess_of last.miss) last.distance (excess_of t.miss) t.distance (excess_of best.miss) best.distance rest.0
+      (was_before (excess_of t.miss) t.distance (excess_of best.miss) best.distance holds) in
       (first, (not_better t last rest.0, rest.1)))
   | inr fails ↦ (
       let rest = best_is best last ts (ap (λ o. best_from o ts) (sym (left fails)) ∙ e) in
-      let this = joined (excess_of last.miss) last.distance (excess_of best.miss) best.distance (excess_of t.miss) t.distance rest.0 (not_before (excess_of t.miss) t.distance (excess_of best.miss) best.distance fails) in
+      let this = joined (excess_of last.miss) last.distance (excess_of best.miss) best.distance (excess_of t.miss) t.distance rest.0
+      (not_before (excess_of t.miss) t.distance (excess_of best.miss) best.distance fails) in
       (rest.0, (not_better t last this, rest.1)))
 ]
   where

@@ -1,6 +1,7 @@
 -- What a request alone misses is what the auditor tells of its route: the rule, and the stop.
 -- The auditor's rules have no names outside of its crate: each comes with the sentence that its lemmas give of it.
-use Rattle.std.proofs.Common.{◌≡◌, ◌∙◌, ◌⊎◌, ℕ, zero, suc, ◌+◌, ◌<◌, ◌≤◌, ◌<ℤ◌, pos, int_lt, Bool, true, false, T, List, [], ◌∷◌, map, length, slice_get, Option, Some, None, is_some, refl, sym, ap, subst, arith, inl, inr, nat_eq, add-one}
+use Rattle.std.proofs.Common.{◌≡◌, ◌∙◌, ◌⊎◌, ℕ, zero, suc, ◌+◌, ◌<◌, ◌≤◌, ◌<ℤ◌, pos, int_lt, Bool, true, false, T, List, []}
+use Rattle.std.proofs.Common.{◌∷◌, map, length, slice_get, Option, Some, None, is_some, refl, sym, ap, subst, arith, inl, inr, nat_eq, add-one}
 use Rattle.std.specs.List.{find, range_with_len}
 use Rattle.std.specs.Map.{lookup}
 use Rattle.std.specs.Option.{option_map, option_or}
@@ -110,10 +111,14 @@ module _ (p : Instance) (route : List ℕ) (valid : IsInstance p) (once : AreLiv
 
   -- the fault of a rule on visits is told of the first place that fails
   module _ (Fails : List ℕ → ℕ → Type 0) (k : ℕ) (below : k < length route) (earliest : (j : ℕ) → j < length route → Fails route (suc j) → k ≤ j) where
-    here : (r i n : ℕ) → (other : List ℕ) × (item_at (route ∷ []) r ≡ Some other) × (item_at other i ≡ Some n) × Fails other i → IsNotAfter r i n 1 (suc k) (stop_behind k) → (r ≡ 1) × (n ≡ stop_behind k)
+    here : (r i n : ℕ) → (other : List ℕ) × (item_at (route ∷ []) r ≡ Some other) × (item_at other i ≡ Some n) × Fails other i →
+        IsNotAfter r i n 1 (suc k) (stop_behind k) → (r ≡ 1) × (n ≡ stop_behind k)
     here r i n b least =
-        let one = only_route route b.0 r b.1 in
-        (one.0, stop i (subst (λ (l : List ℕ). item_at l i ≡ Some n) (sym one.1) b.2) (subst (λ (l : List ℕ). Fails l i) (sym one.1) b.3) (elim least [ inl lt ↦ (let e = one.0 in absurd (omega arith)) | inr at ↦ at.1 ]))
+        let one = only_route route b.0 r b.1 in (
+          one.0,
+          stop i (subst (λ (l : List ℕ). item_at l i ≡ Some n) (sym one.1) b.2) (subst (λ (l : List ℕ). Fails l i) (sym one.1) b.3)
+              (elim least [ inl lt ↦ (let e = one.0 in absurd (omega arith)) | inr at ↦ at.1 ]),
+        )
       where
         stop : (i : ℕ) → item_at route i ≡ Some n → Fails route i → (i < suc k) ⊎ ((i ≡ suc k) × (n ≤ stop_behind k)) → n ≡ stop_behind k
         stop zero on fails order = absurd (none_some n on)
@@ -126,7 +131,8 @@ module _ (p : Instance) (route : List ℕ) (valid : IsInstance p) (once : AreLiv
         → Breaks p (alone route) f.0 1 (suc k) (stop_behind k) → (i : ℕ) × IsVerdictOver 3 8 p (alone route) (Broken number 1 i (stop_behind k))
     exact number f b broken =
         let least = f.2.3 in
-        let order : IsNotAfter f.2.0 f.2.1 f.2.2 1 (suc k) (stop_behind k) = elim (least.least f.0 1 (suc k) (stop_behind k) least.from least.to broken) [ inl lt ↦ absurd (omega arith) | inr e ↦ e.1 ] in
+        let order : IsNotAfter f.2.0 f.2.1 f.2.2 1 (suc k) (stop_behind k) = elim (least.least f.0 1 (suc k) (stop_behind k) least.from least.to broken)
+        [ inl lt ↦ absurd (omega arith) | inr e ↦ e.1 ] in
         let at = here f.2.0 f.2.1 f.2.2 b order in
         verdict_at number (stop_behind k) f at.0 at.1
 
@@ -148,7 +154,10 @@ module _ (p : Instance) (route : List ℕ) (valid : IsInstance p) (once : AreLiv
   overload k below heavy before =
       let fails : IsAbove route (suc k) = subst (IsAbove route) (add-one k) (record { lt = subst T (sym (above k below heavy)) tt }) in
       let told : visit_told p (is_overloaded p) route k (stop_behind k) ≡ Some (stop_behind k) = rw (above k below heavy) refl in
-      let found : is_some (first_place (visit_told p (is_overloaded p) route) 0 route) ≡ true = is_so (is_some (first_place (visit_told p (is_overloaded p) route) 0 route)) (λ none. none_some (stop_behind k) (sym (told_nothing (visit_told p (is_overloaded p) route) route (nothing _ none) k (stop_behind k) (stands k below)) ∙ told)) in
+      let found : is_some (first_place (visit_told p (is_overloaded p) route) 0 route) ≡ true = is_so
+      (is_some (first_place (visit_told p (is_overloaded p) route) 0 route))
+      (λ none. none_some (stop_behind k)
+      (sym (told_nothing (visit_told p (is_overloaded p) route) route (nothing _ none) k (stop_behind k) (stands k below)) ∙ told)) in
       let fault = load_fault p route once _ refl no_missing _ refl no_delivered _ refl found in
       exact IsAbove k below (λ j within broken. elim (cases_lt j k) [ inl lt ↦ absurd (not_heavy j within (before j (omega arith) lt) broken) | inr ge ↦ ge ]) 6 (_, refl, fault) fault.3.broken
       (route, refl, stands k below, fails)
@@ -180,7 +189,9 @@ module _ (p : Instance) (route : List ℕ) (valid : IsInstance p) (once : AreLiv
     late k below is before =
         let fails : IsBehind route (suc k) = subst (IsBehind route) (add-one k) (ltb-true (place p route (k + 1)).latest (start p route (k + 1)) is) in
         let told : visit_told p is_late route k (stop_behind k) ≡ Some (stop_behind k) = rw is refl in
-        let found : is_some (first_place (visit_told p is_late route) 0 route) ≡ true = is_so (is_some (first_place (visit_told p is_late route) 0 route)) (λ none. none_some (stop_behind k) (sym (told_nothing (visit_told p is_late route) route (nothing _ none) k (stop_behind k) (stands k below)) ∙ told)) in
+        let found : is_some (first_place (visit_told p is_late route) 0 route) ≡ true = is_so (is_some (first_place (visit_told p is_late route) 0 route))
+        (λ none. none_some (stop_behind k)
+        (sym (told_nothing (visit_told p is_late route) route (nothing _ none) k (stop_behind k) (stands k below)) ∙ told)) in
         let fault = late_fault p route once _ refl no_missing _ refl no_delivered _ refl no_overload lilim _ refl found in
         let from = numbered k below in
         rw (ne_eqb (stop_behind k) 0 (λ e. omega arith))

@@ -21,7 +21,8 @@ use Rattle.plan_why.specs.declared.missed.Limit.{Limit}
 use Rattle.plan_why.specs.declared.missed.Limit.TheVariants.{Capacity, Start, Return}
 use Rattle.plan_why.specs.declared.missed.Miss.{Miss}
 use Rattle.plan_why.specs.declared.trials.Trial.{Trial}
-use Rattle.plan_why.specs.declared.words.Word.TheVariants.{AloneStop, AloneBack, AloneFits, Needs, VehicleTakes, StartsAt, WouldStartAt, Latest, Vehicle, Stop, WouldStart, Back, Late, Behind, WouldCarry, TooMuch, FitsAtPlace, FitsAtPlaces, And, AtPlace, Fleet, Of, VehiclesUsed}
+use Rattle.plan_why.specs.declared.words.Word.TheVariants.{AloneStop, AloneBack, AloneFits, Needs, VehicleTakes, StartsAt, WouldStartAt, Latest, Vehicle, Stop, WouldStart, Back}
+use Rattle.plan_why.specs.declared.words.Word.TheVariants.{Late, Behind, WouldCarry, TooMuch, FitsAtPlace, FitsAtPlaces, And, AtPlace, Fleet, Of, VehiclesUsed}
 
 -- a vehicle that serves the request and nothing else
 abbrev pub alone_route : Request → List ℕ

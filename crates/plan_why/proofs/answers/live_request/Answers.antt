@@ -1,3 +1,4 @@
+-- What a look-up by name gives may be served alone, and tried in routes that have none of its stops.
 use Rattle.std.proofs.Common.{rules, ◌≡◌, subst}
 use Rattle.std.specs.Option.{option_copied}
 use Rattle.plan_types.specs.Instance.{IsInstance}

@@ -1,3 +1,4 @@
+-- A request alone is a route of live stops.
 use Rattle.std.proofs.Common.{◌≡◌, IfOk, subst, sym}
 use Rattle.plan_why.specs.Missed.{miss_of}
 use Rattle.plan_why.specs.Why.{alone_route}

@@ -1,3 +1,4 @@
+-- The stops of a plan that passes are live, and stand once in each route.
 use Rattle.std.proofs.Common.{All, sym, subst}
 use Rattle.route_sched.specs.Route.{AreLiveOnce}
 use Rattle.plan_why.proofs.answers.passing_routes.Goals as goal

@@ -1,3 +1,4 @@
+-- A stop of no request has none; that of one is found under the request's name.
 use Rattle.std.proofs.Common.{◌∙◌, sym}
 use Rattle.plan_audit.proofs.FirstLemmas.{map-none}
 use Rattle.plan_types.specs.Instance.{request_with}

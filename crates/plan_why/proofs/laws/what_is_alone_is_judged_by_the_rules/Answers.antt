@@ -1,3 +1,4 @@
+-- A request alone exceeds no limit exactly where its route is feasible alone.
 use Rattle.plan_why.proofs.AloneLemmas.{alone_is_judged}
 use Rattle.plan_why.proofs.laws.what_is_alone_is_judged_by_the_rules.Goals as goal
 

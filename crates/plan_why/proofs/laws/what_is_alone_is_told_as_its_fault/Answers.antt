@@ -1,3 +1,4 @@
+-- The limit that a request alone exceeds is the auditor's least broken rule of its route.
 use Rattle.plan_why.proofs.FaultLemmas.{alone_tells}
 use Rattle.plan_why.proofs.laws.what_is_alone_is_told_as_its_fault.Goals as goal
 

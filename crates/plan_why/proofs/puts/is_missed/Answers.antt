@@ -1,3 +1,4 @@
+-- Who comes behind the stop later than the latest arrival there misses 1 at least.
 use Rattle.std.proofs.Common.{◌≡◌, pos, subst}
 use Rattle.std.proofs.lemmas.Bool.{ltb-true}
 use Rattle.plan_types.specs.Instance.{Instance}

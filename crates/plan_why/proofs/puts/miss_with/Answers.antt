@@ -1,3 +1,4 @@
+-- What is found before the stop, at it and behind it is what the route with it misses.
 use Rattle.std.proofs.Common.{◌∙◌, ap, pos}
 use Rattle.plan_explain.specs.declared.rows.Row.{Row}
 use Rattle.plan_why.specs.Puts.{found_then}

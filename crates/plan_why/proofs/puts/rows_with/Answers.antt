@@ -1,3 +1,4 @@
+-- The rows before the stop, its own and those moved behind it are the rows of the route with it.
 use Rattle.std.proofs.Common.{◌≡◌, ◌∙◌, ◌∷◌, ◌++◌, Option, Vec, Global, IfSome, get_or, take, drop, subst, pos}
 use Rattle.plan_explain.specs.declared.rows.Row.{Row}
 use Rattle.plan_why.specs.Moved.{moved_from}
@@ -11,6 +12,9 @@ returns c = λ number is.
     none none c.in-Some.row c.in-Some-arrival_behind.arrival c.in-Some.ensures c.in-Some-arrival_behind.ensures in
     let rows = c.args.tour.now.rows.now in
     let moved = subst
-    (λ (o : Option (Vec Row Global)). IfSome o (λ v. v.items ≡ take c.args.at rows ++ (c.in-Some.row ∷ moved_from c.in-Some-arrival_behind.arrival (get_or rows c.args.at none).arrival c.args.tour.now.stop.now.demand (drop c.args.at rows))))
+    (λ (o : Option (Vec Row Global)). IfSome o
+    (λ v. v.items ≡ take c.args.at rows ++
+    (c.in-Some.row ∷ moved_from c.in-Some-arrival_behind.arrival (get_or rows c.args.at none).arrival c.args.tour.now.stop.now.demand
+    (drop c.args.at rows))))
     c.in-Some-moved.is c.in_ok-moved.ensures in
     moved ∙ made

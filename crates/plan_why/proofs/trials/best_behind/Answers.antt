@@ -1,3 +1,4 @@
+-- A place of the delivery that is judged or passed over leaves the best of all; what is settled in front stays so.
 use Rattle.std.proofs.Common.{◌≡◌, ◌∙◌, ◌<◌, ◌+◌, ◌-◌, ap, subst, arith, pos, map, sym, take, drop, length, None}
 use Rattle.std.specs.List.{range_with_len}
 use Rattle.std.proofs.lemmas.List.Edits.{length-insert}
@@ -31,7 +32,8 @@ returns-then-is_settled c =
     let long = ap length picked ∙ longer in
     let count : length route + 3 - (place + 1) ≡ length route + 2 - place = omega arith in
     settled p route a b c.args.tour.now c.loop-behind.front.over c.loop-behind.best _ place behind c.requires.tour c.requires.number picked
-    (ap (λ (f : Found). f.over) c.loop-behind.invariant.0) (omega (arith, c.loop-behind.auto.behind, c.requires.within.0)) long (sym c.is_settled.ensures ∙ c.if-is_settled.true) c.loop-behind.invariant.1
+    (ap (λ (f : Found). f.over) c.loop-behind.invariant.0) (omega (arith, c.loop-behind.auto.behind, c.requires.within.0)) long
+    (sym c.is_settled.ensures ∙ c.if-is_settled.true) c.loop-behind.invariant.1
     ∙ ap (λ n. best_from c.args.so_far (map (trial_at p route (Pair a b)) (map (λ j. (place, j)) (range_with_len (place + 1) n)))) count
 
 pub loop-behind-preserved : goal.loop-behind-preserved
@@ -56,7 +58,9 @@ loop-behind-preserved c =
       c.then-front.ensures ∙ ap (λ f. found_then f c.found_at.result) c.loop-behind.invariant.0 ∙ ap (found_then (found_in p (take (behind - 1) tour.rows.now))) c.found_at.ensures
           ∙ found_more p tour.rows.now (behind - 1) none within ∙ ap (λ k. found_in p (take k tour.rows.now)) same,
       elim c.match-better_with.branch [
-        | in-Some w ↦ delivery_more p route a b best c.match-better_with.best _ place behind below (w.best-is ∙ w.in-Some.ensures b.number c.requires.number ∙ ap (better best) trial) c.loop-behind.invariant.1
-        | in-None+in_ok-trial-in-None w ↦ delivery_more p route a b best c.match-better_with.best _ place behind below (w.best-is ∙ w.better-best.ensures ∙ ap (better best) w.in_ok-trial-in-None.ensures) c.loop-behind.invariant.1
+        | in-Some w ↦ delivery_more p route a b best c.match-better_with.best _ place behind below
+            (w.best-is ∙ w.in-Some.ensures b.number c.requires.number ∙ ap (better best) trial) c.loop-behind.invariant.1
+        | in-None+in_ok-trial-in-None w ↦ delivery_more p route a b best c.match-better_with.best _ place behind below
+            (w.best-is ∙ w.better-best.ensures ∙ ap (better best) w.in_ok-trial-in-None.ensures) c.loop-behind.invariant.1
       ],
     )

@@ -1,10 +1,10 @@
+-- Front, best so far and places left give what they gave at the first place of the delivery.
 use Rattle.std.proofs.Common.{◌≡◌, ◌+◌, ◌-◌, take}
 use Rattle.plan_why.specs.Puts.{found_in}
 use Rattle.plan_why.specs.Trials.{best_from}
 use Rattle.plan_why.proofs.TrialLemmas.{deliveries}
 use Rattle.plan_why.proofs.trials.best_behind.Given as goal
 
--- what was found before the delivery's place; the best so far and the places to come give the best of those so far and all of these
 abbrev pub invariant-loop-behind : goal.invariant-loop-behind
 invariant-loop-behind l =
     (l.front ≡ found_in l.problem (take (l.behind - 1) l.tour.rows.now))

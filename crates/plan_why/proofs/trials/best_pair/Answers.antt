@@ -1,3 +1,4 @@
+-- The route, in front of both stops at the end, is a tour whose rows and distance are known.
 use Rattle.std.proofs.Common.{◌≡◌, ◌∙◌, ◌+◌, ◌-◌, refl, ap, sym, subst, arith, length}
 use Rattle.std.specs.List.{insert}
 use Rattle.std.proofs.lemmas.List.Edits.{length-insert}
@@ -31,7 +32,9 @@ best_pickup-requires-clause-base c =
     let whole = c.as_slice.ensures.value ∙ c.in_ok-whole.ensures in
     let last : n + 1 - 1 ≡ n = omega arith in
     let longer : length (insert route (n + 1 - 1) a) ≡ n + 1 = length-insert route (n + 1 - 1) a (omega arith) in
-    let stands = c.stop_behind-stop.ensures.value ∙ ap (λ r. place p r (n + 1)) whole ∙ place_before_put p (insert route (n + 1 - 1) a) (n + 1 + 1 - 1) b (n + 1) (omega (arith, longer)) (omega arith) ∙ ap (λ m. place p (insert route m a) (n + 1)) last ∙ place_put p route n a (omega arith) in
+    let stands = c.stop_behind-stop.ensures.value ∙ ap (λ r. place p r (n + 1)) whole
+    ∙ place_before_put p (insert route (n + 1 - 1) a) (n + 1 + 1 - 1) b (n + 1) (omega (arith, longer)) (omega arith)
+    ∙ ap (λ m. place p (insert route m a) (n + 1)) last ∙ place_put p route n a (omega arith) in
     record {
       tour = record {
         once = live_without p route a b (n + 1 - 1) (n + 1 + 1 - 1) (omega arith) (omega arith) (c.requires.once (n + 1) (n + 1 + 1));

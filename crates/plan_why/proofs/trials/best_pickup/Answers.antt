@@ -1,3 +1,4 @@
+-- One place of the pickup more, with all places of the delivery behind it, leaves the best of all.
 use Rattle.std.proofs.Common.{◌∙◌, ◌+◌, ap, sym, arith}
 use Rattle.plan_why.specs.Trials.{best_from}
 use Rattle.plan_why.proofs.TrialLemmas.{pair_next, pairs}

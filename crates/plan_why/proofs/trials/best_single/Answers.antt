@@ -1,3 +1,4 @@
+-- One place more leaves the best of all.
 use Rattle.std.proofs.Common.{◌∙◌, ◌+◌, ap, sym, arith}
 use Rattle.plan_why.specs.Trials.{best_from, better}
 use Rattle.plan_why.proofs.TrialLemmas.{single_next, singles}

@@ -1,3 +1,4 @@
+-- The request that may be tried is the single or the pair that it is.
 use Rattle.std.proofs.Common.{subst}
 use Rattle.plan_why.specs.Trials.{MayTake}
 use Rattle.plan_why.proofs.trials.best_trial.Goals as goal

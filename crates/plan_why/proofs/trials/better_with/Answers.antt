@@ -1,3 +1,4 @@
+-- What is missed with the detour, and how far that drives, is the trial there.
 use Rattle.std.proofs.Common.{◌∙◌, ◌+◌, ap}
 use Rattle.plan_why.specs.Puts.{route_with}
 use Rattle.plan_why.specs.Trials.{better}

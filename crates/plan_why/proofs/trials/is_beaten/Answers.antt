@@ -1,3 +1,4 @@
+-- What is no shorter than the best, and misses as much at least, leaves the best as it is.
 use Rattle.std.proofs.Common.{◌∙◌, ◌≤◌, ◌+◌, inl, inr, sym, arith}
 use Rattle.route_sched.specs.Schedule.{route_length}
 use Rattle.plan_why.specs.Puts.{route_with}

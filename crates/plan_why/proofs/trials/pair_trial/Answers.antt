@@ -1,3 +1,4 @@
+-- The stops of a route with the pair in it are live, each once.
 use Rattle.std.proofs.Common.{◌∙◌, subst, sym}
 use Rattle.route_sched.specs.Route.{AreLiveOnce}
 use Rattle.plan_why.proofs.trials.pair_trial.Goals as goal

@@ -1,3 +1,4 @@
+-- The way with the pickup is the route's and the detour.
 use Rattle.std.proofs.Common.{◌∙◌, ◌-◌, ap, sym, arith}
 use Rattle.route_sched.specs.Schedule.{route_length}
 use Rattle.plan_why.proofs.PutLemmas.{distance_told}
