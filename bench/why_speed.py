@@ -3,8 +3,11 @@
 
 The problem and its plan are made here. A vehicle drives from stop to stop of its route, two pickups and then their deliveries, and each window lies
 round the time when it comes: a minute at `tight`, the whole day else. The further pairs stand anywhere, with a window of a few minutes at `tight`
-and `loose`. At `open` and `full` their windows too are the whole day, and no load is too much: the day ends long after the last return, so that
-nearly all fits, or with the longest route's, so that nothing fits into that and the end of its route alone is late. The time is that of a table with them, less that of one without, by the program that `./planner` builds.
+and `loose`. At `open`, `full` and `back` their windows too are the whole day, and no load is too much: the day ends long after the last return, so
+that nearly all fits, or with the longest route's, so that nothing fits into that. At `full` a few stops at its end may be late too; at `back` all
+windows end long after the day, so that each trial there is late by the return alone, and by more than 1.
+
+The time is that of a table with them, less that of one without, by the program that `./planner` builds.
 
     bench/why_speed.py [STOPS ROUTES]..
 """
@@ -20,8 +23,8 @@ TOP = pathlib.Path(__file__).resolve().parent.parent
 PROGRAM = TOP / "crates" / "planner" / "out" / "planner"
 SIZES = [(1_000, 50), (1_000, 10), (1_000, 1)]
 PAIRS, SIDE, SERVICE = 100, 1_000, 10
-# Of each kind: what a vehicle carries, and how long the day is behind the last return.
-KINDS = {"tight": (40, 200), "loose": (40, 200), "open": (1_000, 100_000), "full": (1_000, 0)}
+# Of each kind: what a vehicle carries, how long the day is behind the last return, and how long service may start behind the day.
+KINDS = {"tight": (40, 200, 0), "loose": (40, 200, 0), "open": (1_000, 100_000, 0), "full": (1_000, 0, 0), "back": (1_000, 0, 100_000)}
 
 
 class Sequence:
@@ -60,19 +63,20 @@ def problem(kind, stops, routes, pairs):
     """The text of an instance and that of its plan."""
     words = Sequence()
     depot, rows, end, cost = planned(words, stops, routes)
-    capacity, spare = KINDS[kind]
+    capacity, spare, behind = KINDS[kind]
     day = end + spare
+    last = day + behind
     lines = [f"{routes + pairs} {capacity} 1", f"0 {depot[0]} {depot[1]} 0 0 {day} 0 0 0"]
     for number, (there, now, partner, goods) in enumerate(rows, 1):
-        earliest, latest = (max(0, now - 30), min(day, now + 30)) if kind == "tight" else (0, day)
+        earliest, latest = (max(0, now - 30), min(day, now + 30)) if kind == "tight" else (0, last)
         ends = f"0 {partner}" if goods > 0 else f"{partner} 0"
         lines.append(f"{number} {there[0]} {there[1]} {goods} {earliest} {latest} {SERVICE} {ends}")
     for number in range(stops + 1, stops + 2 * pairs, 2):
         a, b = [(words.below(SIDE), words.below(SIDE)) for _ in range(2)]
         goods, begin = words.below(30) + 5, distance(depot, a)
         first, then = begin + 300, begin + 600 + SERVICE + distance(a, b)
-        if kind in ("open", "full"):
-            begin, first, then = 0, day, day
+        if kind in ("open", "full", "back"):
+            begin, first, then = 0, last, last
         lines.append(f"{number} {a[0]} {a[1]} {goods} {begin} {first} {SERVICE} 0 {number + 1}")
         lines.append(f"{number + 1} {b[0]} {b[1]} {-goods} {begin} {then} {SERVICE} {number} 0")
     long = stops // routes

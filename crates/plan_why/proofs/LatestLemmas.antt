@@ -109,19 +109,20 @@ missed_told p t at tour one within detour ways number is d arrival kind comes la
     (late_missed p (take at rows) (row ∷ moved_from arrival before change (drop at rows)) kind late)
 
 -- ---- so the best so far stays
+pub by_least : (best t : Trial) → best.distance ≤ t.distance → excess_of best.miss ≤ excess_of t.miss →
+    (excess_of best.miss < excess_of t.miss) ⊎ ((excess_of best.miss ≡ excess_of t.miss) × (best.distance ≤ t.distance))
+by_least best t longer most = elim (cases_lt (excess_of best.miss) (excess_of t.miss)) [
+  | inl less ↦ inl less
+  | inr back ↦ inr (omega (arith, most, back), longer)
+]
+
 pub best_stays : (best t : Trial) → best.distance ≤ t.distance → (excess_of best.miss ≡ 0) ⊎ ((excess_of best.miss ≡ 1) × (1 ≤ excess_of t.miss)) → better (Some best) t ≡ Some best
 best_stays best t longer misses = kept (is_better t best) refl (not_better t best (order misses))
   where
     kept : (b : Bool) → is_better t best ≡ b → is_better t best ≡ false → better (Some best) t ≡ Some best
     kept b is fails = rw fails refl
 
-    by_least : (e f : ℕ) → e ≤ f → (e < f) ⊎ ((e ≡ f) × (best.distance ≤ t.distance))
-    by_least e f most = elim (cases_lt e f) [
-      | inl less ↦ inl less
-      | inr back ↦ inr (omega (arith, most, back), longer)
-    ]
-
     order : (excess_of best.miss ≡ 0) ⊎ ((excess_of best.miss ≡ 1) × (1 ≤ excess_of t.miss)) →
         (excess_of best.miss < excess_of t.miss) ⊎ ((excess_of best.miss ≡ excess_of t.miss) × (best.distance ≤ t.distance))
-    order (inl none) = by_least (excess_of best.miss) (excess_of t.miss) (omega (arith, none))
-    order (inr one) = by_least (excess_of best.miss) (excess_of t.miss) (omega (arith, one.0, one.1))
+    order (inl none) = by_least best t longer (omega (arith, none))
+    order (inr one) = by_least best t longer (omega (arith, one.0, one.1))

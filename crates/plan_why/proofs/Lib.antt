@@ -1,4 +1,6 @@
+-- The lemmas that proofs of this crate cite.
 pub mod AloneLemmas
+pub mod AnywayLemmas
 pub mod BestLemmas
 pub mod FaultLemmas
 pub mod LatestLemmas

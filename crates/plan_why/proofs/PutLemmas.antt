@@ -1,5 +1,6 @@
 -- A route with one stop more: its places, its starts, its loads and its length, and the rows that tell them.
-use Rattle.std.proofs.Common.{◌≡◌, ◌∙◌, ℕ, zero, suc, Bool, true, false, inl, inr, ◌+◌, ◌-◌, ◌<◌, ◌≤◌, max, ℤ, pos, ◌+ℤ◌, List, [], ◌∷◌, ◌++◌, map, take, drop, length, get_or, Option, Some, None, refl, sym, ap, subst, arith, add-one}
+use Rattle.std.proofs.Common.{◌≡◌, ◌∙◌, ℕ, zero, suc, Bool, true, false, inl, inr, ◌+◌, ◌-◌, ◌<◌, ◌≤◌, max, ℤ, pos, ◌+ℤ◌}
+use Rattle.std.proofs.Common.{List, [], ◌∷◌, ◌++◌, map, take, drop, length, get_or, Option, Some, None, refl, sym, ap, subst, arith, add-one}
 use Rattle.std.specs.List.{find, insert, range_with_len}
 use Rattle.std.specs.Option.{option_map, option_or}
 use Rattle.std.proofs.lemmas.Bool.{cases_Bool}
@@ -65,7 +66,8 @@ pub found_both : (p : Instance) (xs ys : List Row) → found_in p (xs ++ ys) ≡
 found_both p xs ys = same_found _ _ _ _ (over_both p.capacity xs ys) (late_both p.kind xs ys)
 
 -- the first of two lists that agree on what is asked
-first_cons : {X Y : Type 0} (test : X → Bool) (f : X → Y) (x y : X) (xs ys : List X) → test x ≡ test y → f x ≡ f y → option_map f (find test xs) ≡ option_map f (find test ys) → option_map f (find test (x ∷ xs)) ≡ option_map f (find test (y ∷ ys))
+first_cons : {X Y : Type 0} (test : X → Bool) (f : X → Y) (x y : X) (xs ys : List X) → test x ≡ test y → f x ≡ f y →
+    option_map f (find test xs) ≡ option_map f (find test ys) → option_map f (find test (x ∷ xs)) ≡ option_map f (find test (y ∷ ys))
 first_cons test f x y xs ys same told rest = elim (cases_Bool (test y)) [
   | inl holds ↦ rw (same ∙ holds, holds) (ap Some told)
   | inr fails ↦ rw (same ∙ fails, fails) rest
@@ -88,13 +90,23 @@ late_moved LiLim now before change other (r ∷ rows) =
     (late_moved LiLim (max (now + (r.arrival - before)) r.earliest) r.start change other rows)
 
 -- what is exceeded by rows, a further one and moved ones behind it
-miss_joined : (p : Instance) (front : List Row) (row : Row) (now before : ℕ) (change : ℤ) (rows : List Row) → miss_behind p (found_then (found_in p front) (found_in p (row ∷ []))) now before change rows ≡ miss_in p (front ++ (row ∷ moved_from now before change rows))
+miss_joined : (p : Instance) (front : List Row) (row : Row) (now before : ℕ) (change : ℤ) (rows : List Row) →
+    miss_behind p (found_then (found_in p front) (found_in p (row ∷ []))) now before change rows ≡ miss_in p
+    (front ++ (row ∷ moved_from now before change rows))
 miss_joined p front row now before change rows =
     let behind = moved_from now before change rows in
-    let over : option_or (option_or (overload_in p.capacity front) (overload_in p.capacity (row ∷ []))) (overload_in p.capacity (laden change rows)) ≡ overload_in p.capacity (front ++ (row ∷ behind)) =
-    or_assoc (overload_in p.capacity front) (overload_in p.capacity (row ∷ [])) (overload_in p.capacity (laden change rows)) ∙ ap (option_or (overload_in p.capacity front)) (ap (option_or (overload_in p.capacity (row ∷ []))) (sym (over_moved p.capacity now before change rows)) ∙ sym (over_both p.capacity (row ∷ []) behind)) ∙ sym (over_both p.capacity front (row ∷ behind)) in
-    let late : option_or (option_or (lateness_in p.kind front) (lateness_in p.kind (row ∷ []))) (lateness_in p.kind (moved_from now before (pos 0) rows)) ≡ lateness_in p.kind (front ++ (row ∷ behind)) =
-    or_assoc (lateness_in p.kind front) (lateness_in p.kind (row ∷ [])) (lateness_in p.kind (moved_from now before (pos 0) rows)) ∙ ap (option_or (lateness_in p.kind front)) (ap (option_or (lateness_in p.kind (row ∷ []))) (late_moved p.kind now before (pos 0) change rows) ∙ sym (late_both p.kind (row ∷ []) behind)) ∙ sym (late_both p.kind front (row ∷ behind)) in
+    let over : option_or (option_or (overload_in p.capacity front) (overload_in p.capacity (row ∷ [])))
+    (overload_in p.capacity (laden change rows)) ≡ overload_in p.capacity (front ++ (row ∷ behind)) =
+    or_assoc (overload_in p.capacity front) (overload_in p.capacity (row ∷ [])) (overload_in p.capacity (laden change rows))
+    ∙ ap (option_or (overload_in p.capacity front))
+    (ap (option_or (overload_in p.capacity (row ∷ []))) (sym (over_moved p.capacity now before change rows))
+    ∙ sym (over_both p.capacity (row ∷ []) behind)) ∙ sym (over_both p.capacity front (row ∷ behind)) in
+    let late : option_or (option_or (lateness_in p.kind front) (lateness_in p.kind (row ∷ [])))
+    (lateness_in p.kind (moved_from now before (pos 0) rows)) ≡ lateness_in p.kind (front ++ (row ∷ behind)) =
+    or_assoc (lateness_in p.kind front) (lateness_in p.kind (row ∷ [])) (lateness_in p.kind (moved_from now before (pos 0) rows))
+    ∙ ap (option_or (lateness_in p.kind front))
+    (ap (option_or (lateness_in p.kind (row ∷ []))) (late_moved p.kind now before (pos 0) change rows) ∙ sym (late_both p.kind (row ∷ []) behind))
+    ∙ sym (late_both p.kind front (row ∷ behind)) in
     ap (λ o. option_or o (option_or (option_or (lateness_in p.kind front) (lateness_in p.kind (row ∷ []))) (lateness_in p.kind (moved_from now before (pos 0) rows)))) over
     ∙ ap (option_or (overload_in p.capacity (front ++ (row ∷ behind)))) late
   where
@@ -103,7 +115,8 @@ miss_joined p front row now before change rows =
     or_assoc (Some x) b c = refl
 
 same_row : (k l : ℕ) (s t : Stop) (a b c d : ℕ) (x y : ℤ) → k ≡ l → s ≡ t → a ≡ b → c ≡ d → x ≡ y →
-    ◌≡◌ {A = Row} (record { place = k; stop = s.number; arrival = a; start = c; earliest = s.earliest; latest = s.latest; load = x }) (record { place = l; stop = t.number; arrival = b; start = d; earliest = t.earliest; latest = t.latest; load = y })
+    ◌≡◌ {A = Row} (record { place = k; stop = s.number; arrival = a; start = c; earliest = s.earliest; latest = s.latest; load = x })
+    (record { place = l; stop = t.number; arrival = b; start = d; earliest = t.earliest; latest = t.latest; load = y })
 same_row k l s t a b c d x y h i j m n = rw (h, i, j, m, n) refl
 
 -- ---- a stop put in behind the first m
@@ -120,21 +133,21 @@ module _ (p : Instance) (route : List ℕ) (number m : ℕ) (s : Stop) (one : 1 
   abbrev new : List ℕ
   new = insert route m number
 
-  place_before : (k : ℕ) → k ≤ m → place p new k ≡ place p route k
+  pub place_before : (k : ℕ) → k ≤ m → place p new k ≡ place p route k
   place_before k h = place_before_put p route m number k within h
 
-  place_here : place p new (m + 1) ≡ s
+  pub place_here : place p new (m + 1) ≡ s
   place_here = place_put p route m number within ∙ stands
 
-  place_behind : (k : ℕ) → m ≤ k → place p new (k + 1 + 1) ≡ place p route (k + 1)
+  pub place_behind : (k : ℕ) → m ≤ k → place p new (k + 1 + 1) ≡ place p route (k + 1)
   unfolding place
   place_behind k h = rw (add-one (k + 1), add-one k) (ap (stop_numbered p) (subst (λ i. get_or new i 0 ≡ get_or route k 0) (add-one k) (get_or-insert_above route m number 0 k h within)))
 
-  long : length new ≡ length route + 1
+  pub long : length new ≡ length route + 1
   long = length-insert route m number within
 
   -- nothing changes before it
-  start_before : (k : ℕ) → k ≤ m → start p new k ≡ start p route k
+  pub start_before : (k : ℕ) → k ≤ m → start p new k ≡ start p route k
   start_before k h = start-is p new k ∙ same-start (place p route) (place p new) m place_before k h ∙ sym (start-is p route k)
 
   load_before : (k : ℕ) → k ≤ m → load p new k ≡ load p route k
@@ -182,11 +195,12 @@ module _ (p : Instance) (route : List ℕ) (number m : ℕ) (s : Stop) (one : 1 
   load_later : (k : ℕ) → m ≤ k → load p new (k + 1) ≡ load p route k +ℤ s.demand
   load_later k from = let at : m + (k - m) ≡ k = omega arith in subst (λ j. load p new (j + 1) ≡ load p route j +ℤ s.demand) at (load_after (k - m))
 
-  leg_behind : (k : ℕ) → m ≤ k → leg p new (k + 1 + 1) ≡ leg p route (k + 1)
+  pub leg_behind : (k : ℕ) → m ≤ k → leg p new (k + 1 + 1) ≡ leg p route (k + 1)
   leg_behind k from = rw (place_behind k from, place_behind (k + 1) (omega arith)) refl
 
   -- and the rows are moved
-  moved_is : (n k now before : ℕ) → m ≤ k → now + (arrival p route k - before) ≡ arrival p new (k + 1) → moved_from now before s.demand (map (row_behind p route) (range_with_len k n)) ≡ map (row_behind p new) (range_with_len (k + 1) n)
+  moved_is : (n k now before : ℕ) → m ≤ k → now + (arrival p route k - before) ≡ arrival p new (k + 1) →
+      moved_from now before s.demand (map (row_behind p route) (range_with_len k n)) ≡ map (row_behind p new) (range_with_len (k + 1) n)
   moved_is zero k now before from comes = refl
   moved_is (suc n) k now before from comes =
       let there = place_behind k from in
@@ -195,13 +209,15 @@ module _ (p : Instance) (route : List ℕ) (number m : ℕ) (s : Stop) (one : 1 
       let begins : max (now + (arrival p route k - before)) (place p route (k + 1)).earliest ≡ start p new (k + 1 + 1) = omega (arith, comes, start-next p new (k + 1)) in
       let here : moved_row (now + (arrival p route k - before)) s.demand (row_behind p route k) ≡ row_behind p new (k + 1) =
       same_row _ _ _ _ _ _ _ _ _ _ refl (sym there) comes begins (sym (load_later (k + 1) (omega arith))) in
-      let next : max (now + (arrival p route k - before)) (place p route (k + 1)).earliest + (arrival p route (k + 1) - start p route (k + 1)) ≡ arrival p new (k + 1 + 1) = omega (arith, begins, leg_behind k from) in
+      let next : max (now + (arrival p route k - before)) (place p route (k + 1)).earliest + (arrival p route (k + 1) - start p route (k + 1)) ≡ arrival p new
+      (k + 1 + 1) = omega (arith, begins, leg_behind k from) in
       ap (λ r. r ∷ moved_from (max (now + (arrival p route k - before)) (place p route (k + 1)).earliest) (start p route (k + 1)) s.demand (map (row_behind p route) (range_with_len (k + 1) n))) here
       ∙ ap (λ l. row_behind p new (k + 1) ∷ l) (moved_is n (k + 1) (max (now + (arrival p route k - before)) (place p route (k + 1)).earliest) (start p route (k + 1)) (omega arith) next)
 
   -- all rows
   rows_are : (now : ℕ) → now ≡ arrival p new (m + 1) →
-      rows_of p new ≡ map (row_behind p route) (range_with_len 0 m) ++ (row_behind p new m ∷ moved_from now (arrival p route m) s.demand (map (row_behind p route) (range_with_len m (length route + 1 - m))))
+      rows_of p new ≡ map (row_behind p route) (range_with_len 0 m) ++
+      (row_behind p new m ∷ moved_from now (arrival p route m) s.demand (map (row_behind p route) (range_with_len m (length route + 1 - m))))
   rows_are now comes =
       let left = length route + 1 - m in
       let count : length new + 1 ≡ m + suc left = omega (arith, long) in
@@ -213,7 +229,7 @@ module _ (p : Instance) (route : List ℕ) (number m : ℕ) (s : Stop) (one : 1 
       ∙ ap (λ l. map (row_behind p route) (range_with_len 0 m) ++ (row_behind p new m ∷ l)) (sym (moved_is left m now (arrival p route m) (omega arith) (omega (arith, comes))))
 
   -- the way is longer by the detour
-  length_is : route_length p new + leg p route m ≡ route_length p route + distance (place p route m) s + distance s (place p route (m + 1))
+  pub length_is : route_length p new + leg p route m ≡ route_length p route + distance (place p route m) s + distance s (place p route (m + 1))
   length_is =
       let a = place p route in
       let b = place p new in
@@ -238,7 +254,8 @@ drop_range f a (suc n) (suc k) h =
     let left : n - k ≡ suc n - suc k = omega arith in
     drop_range f (a + 1) n k (omega arith) ∙ ap (λ b. map f (range_with_len b (n - k))) there ∙ ap (λ m. map f (range_with_len (a + suc k) m)) left
 
-module _ (p : Instance) (t : Tour) (at : ℕ) (tour : IsTour p t) (one : 1 ≤ at) (within : at ≤ length t.route.now) (detour : Detour) (ways : IsDetour p t at detour) (number : ℕ) (is : IsNumberOf p t number) where
+module _ (p : Instance) (t : Tour) (at : ℕ) (tour : IsTour p t) (one : 1 ≤ at) (within : at ≤ length t.route.now) (detour : Detour)
+    (ways : IsDetour p t at detour) (number : ℕ) (is : IsNumberOf p t number) where
   pub distance_told : (longer : ℕ) → longer + detour.way ≡ t.distance + detour.to + detour.from → longer ≡ route_length p (route_with t at number)
   distance_told longer sum =
       let far = length_is p t.route.now number at t.stop.now one within is in
@@ -251,30 +268,39 @@ module _ (p : Instance) (t : Tour) (at : ℕ) (tour : IsTour p t) (one : 1 ≤ a
   abbrev tried : List ℕ
   tried = insert t.route.now at number
 
-  row_at : (k : ℕ) (d : Row) → k ≤ length t.route.now → get_or t.rows.now k d ≡ row_behind p t.route.now k
+  pub row_at : (k : ℕ) (d : Row) → k ≤ length t.route.now → get_or t.rows.now k d ≡ row_behind p t.route.now k
   row_at k d below = ap (λ rs. get_or rs k d) tour.rows ∙ get_or-map-range_with_len (row_behind p t.route.now) 0 (length t.route.now + 1) k k d (omega arith) (omega arith)
+
+  -- the row of the stop
+  pub row_told : (d row : Row) → row ≡ put_row (get_or t.rows.now (at - 1) d) detour.service detour.to t.stop.now → row ≡ row_behind p tried at
+  row_told d row row_is =
+      let s = t.stop.now in
+      let same_at : at - 1 + 1 ≡ at = omega arith in
+      let known : get_or t.rows.now (at - 1) d ≡ row_behind p t.route.now (at - 1) = row_at (at - 1) d (omega arith) in
+      row_is
+      ∙ ap (λ w. put_row (get_or t.rows.now (at - 1) d) w detour.to s) ways.service
+      ∙ ap (λ w. put_row (get_or t.rows.now (at - 1) d) (place p t.route.now at).service w s) ways.to
+      ∙ row_here p t.route.now number at s one within is (get_or t.rows.now (at - 1) d) (ap (λ (r : Row). r.place) known ∙ same_at)
+      (ap (λ (r : Row). r.start) known ∙ ap (start p t.route.now) same_at) (ap (λ (r : Row). r.load) known ∙ ap (load p t.route.now) same_at)
 
   pub rows_told : (d e row : Row) (comes : ℕ) → row ≡ put_row (get_or t.rows.now (at - 1) d) detour.service detour.to t.stop.now → comes ≡ row.start + t.stop.now.service + detour.from →
       take at t.rows.now ++ (row ∷ moved_from comes (get_or t.rows.now at e).arrival t.stop.now.demand (drop at t.rows.now)) ≡ rows_of p (route_with t at number)
   rows_told d e row comes row_is comes_is =
       let route = t.route.now in
       let s = t.stop.now in
-      let same_at : at - 1 + 1 ≡ at = omega arith in
-      let known : get_or t.rows.now (at - 1) d ≡ row_behind p t.route.now (at - 1) = row_at (at - 1) d (omega arith) in
-      let made : put_row (get_or t.rows.now (at - 1) d) (place p route at).service (distance (place p route at) s) s ≡ row_behind p tried at =
-      row_here p route number at s one within is (get_or t.rows.now (at - 1) d) (ap (λ (r : Row). r.place) known ∙ same_at) (ap (λ (r : Row). r.start) known ∙ ap (start p route) same_at) (ap (λ (r : Row). r.load) known ∙ ap (load p route) same_at) in
-      let is_row : row ≡ row_behind p tried at =
-      row_is ∙ ap (λ w. put_row (get_or t.rows.now (at - 1) d) w detour.to s) ways.service ∙ ap (λ w. put_row (get_or t.rows.now (at - 1) d) (place p route at).service w s) ways.to ∙ made in
+      let is_row : row ≡ row_behind p tried at = row_told d row row_is in
       let service = ap (λ (s : Stop). s.service) (place_here p route number at s one within is) in
       let begins = ap (λ (r : Row). r.start) is_row in
-      let way : detour.from ≡ leg p tried (at + 1) = ways.from ∙ ap (distance s) (sym (place_behind p route number at s one within is at (omega arith))) ∙ ap (λ b. distance b (place p tried (at + 1 + 1))) (sym (place_here p route number at s one within is)) in
+      let way : detour.from ≡ leg p tried (at + 1) = ways.from ∙ ap (distance s) (sym (place_behind p route number at s one within is at (omega arith)))
+      ∙ ap (λ b. distance b (place p tried (at + 1 + 1))) (sym (place_here p route number at s one within is)) in
       let reached : comes ≡ arrival p tried (at + 1) = omega arith in
       let had : (get_or t.rows.now at e).arrival ≡ arrival p route at = ap (λ (r : Row). r.arrival) (row_at at e within) in
       let taken : take at t.rows.now ≡ map (row_behind p route) (range_with_len 0 at) = ap (take at) tour.rows ∙ take-map-range_with_len (row_behind p route) 0 (length route + 1) at (omega arith) in
       let begin : 0 + at ≡ at = omega arith in
       let dropped : drop at t.rows.now ≡ map (row_behind p route) (range_with_len at (length route + 1 - at)) =
       ap (drop at) tour.rows ∙ drop_range (row_behind p route) 0 (length route + 1) at (omega arith) ∙ ap (λ a. map (row_behind p route) (range_with_len a (length route + 1 - at))) begin in
-      let moved : moved_from comes (get_or t.rows.now at e).arrival s.demand (drop at t.rows.now) ≡ moved_from comes (arrival p route at) s.demand (map (row_behind p route) (range_with_len at (length route + 1 - at))) =
+      let moved : moved_from comes (get_or t.rows.now at e).arrival s.demand (drop at t.rows.now) ≡ moved_from comes (arrival p route at) s.demand
+      (map (row_behind p route) (range_with_len at (length route + 1 - at))) =
       ap (λ h. moved_from comes h s.demand (drop at t.rows.now)) had ∙ ap (moved_from comes (arrival p route at) s.demand) dropped in
       ap (λ l. l ++ (row ∷ moved_from comes (get_or t.rows.now at e).arrival s.demand (drop at t.rows.now))) taken
       ∙ ap (λ r. map (row_behind p route) (range_with_len 0 at) ++ (r ∷ moved_from comes (get_or t.rows.now at e).arrival s.demand (drop at t.rows.now))) is_row
@@ -304,7 +330,8 @@ light_drop capacity change (r ∷ rows) (suc k) light = light_drop capacity chan
 pub light_later : (p : Instance) (t : Tour) (a b : ℕ) → a ≤ b → IsLight p t a → IsLight p t b
 light_later p t a b most light =
     let there : a + (b - a) ≡ b = omega arith in
-    subst (λ rows. overload_in p.capacity (laden t.stop.now.demand rows) ≡ None) (drop-drop (b - a) a t.rows.now ∙ ap (λ n. drop n t.rows.now) there) (light_drop p.capacity t.stop.now.demand (drop a t.rows.now) (b - a) light)
+    subst (λ rows. overload_in p.capacity (laden t.stop.now.demand rows) ≡ None) (drop-drop (b - a) a t.rows.now ∙ ap (λ n. drop n t.rows.now) there)
+    (light_drop p.capacity t.stop.now.demand (drop a t.rows.now) (b - a) light)
 
 pub found_more : (p : Instance) (rows : List Row) (k : ℕ) (d : Row) → k < length rows → found_then (found_in p (take k rows)) (found_in p (get_or rows k d ∷ [])) ≡ found_in p (take (k + 1) rows)
 found_more p rows k d below = sym (ap (found_in p) (take_more rows k d below) ∙ found_both p (take k rows) (get_or rows k d ∷ []))
@@ -316,12 +343,16 @@ module _ (p : Instance) (t : Tour) (tour : IsTour p t) (number : ℕ) (is : IsNu
   over_stays at later m one most within found =
       let route = t.route.now in
       let new = route_with t later number in
-      let behind = row_behind p new later ∷ moved_from (arrival p new (later + 1)) (arrival p route later) t.stop.now.demand (map (row_behind p route) (range_with_len later (length route + 1 - later))) in
-      let taken : take later t.rows.now ≡ map (row_behind p route) (range_with_len 0 later) = ap (take later) tour.rows ∙ take-map-range_with_len (row_behind p route) 0 (length route + 1) later (omega arith) in
+      let behind = row_behind p new later ∷ moved_from (arrival p new (later + 1)) (arrival p route later) t.stop.now.demand
+      (map (row_behind p route) (range_with_len later (length route + 1 - later))) in
+      let taken : take later t.rows.now ≡ map (row_behind p route) (range_with_len 0 later) = ap (take later) tour.rows
+      ∙ take-map-range_with_len (row_behind p route) 0 (length route + 1) later (omega arith) in
       let first : take at (take later t.rows.now) ≡ take at t.rows.now = take-take at later t.rows.now most in
-      let parts : take later t.rows.now ≡ take at t.rows.now ++ drop at (take later t.rows.now) = sym (take-append-drop at (take later t.rows.now)) ∙ ap (λ l. l ++ drop at (take later t.rows.now)) first in
+      let parts : take later t.rows.now ≡ take at t.rows.now ++ drop at (take later t.rows.now) = sym (take-append-drop at (take later t.rows.now))
+      ∙ ap (λ l. l ++ drop at (take later t.rows.now)) first in
       let front : overload_in p.capacity (take later t.rows.now) ≡ Some m =
-      ap (overload_in p.capacity) parts ∙ over_both p.capacity (take at t.rows.now) (drop at (take later t.rows.now)) ∙ ap (λ o. option_or o (overload_in p.capacity (drop at (take later t.rows.now)))) found in
+      ap (overload_in p.capacity) parts ∙ over_both p.capacity (take at t.rows.now) (drop at (take later t.rows.now))
+      ∙ ap (λ o. option_or o (overload_in p.capacity (drop at (take later t.rows.now)))) found in
       let all : overload_in p.capacity (rows_of p new) ≡ Some m =
       ap (overload_in p.capacity) (rows_are p route number later t.stop.now (omega arith) within is (arrival p new (later + 1)) refl ∙ ap (λ l. l ++ behind) (sym taken))
       ∙ over_both p.capacity (take later t.rows.now) behind ∙ ap (λ o. option_or o (overload_in p.capacity behind)) front in

@@ -35,7 +35,8 @@ map_both f [] ys = refl
 map_both f (x ∷ xs) ys = ap (λ l. f x ∷ l) (map_both f xs ys)
 
 -- what comes of a route, from what it misses and how far the vehicle drives
-pub same_trial : (p : Instance) (route : List ℕ) (i j : ℕ) (miss : Option Miss) (distance : ℕ) → miss ≡ miss_of p route → distance ≡ route_length p route → ◌≡◌ {A = Trial} (record { miss = miss; distance = distance; pickup = i; delivery = j }) (judged p route i j)
+pub same_trial : (p : Instance) (route : List ℕ) (i j : ℕ) (miss : Option Miss) (distance : ℕ) → miss ≡ miss_of p route → distance ≡ route_length p route →
+    ◌≡◌ {A = Trial} (record { miss = miss; distance = distance; pickup = i; delivery = j }) (judged p route i j)
 same_trial p route i j miss distance misses far = rw (misses, far) refl
 
 module _ (p : Instance) (route : List ℕ) where
@@ -43,7 +44,8 @@ module _ (p : Instance) (route : List ℕ) where
   abbrev pub singles : Stop → ℕ → List Trial
   singles s place = map (trial_at p route (Single s)) (map (λ i. (i, i)) (up_to place (length route + 2)))
 
-  pub single_next : (s : Stop) (best : Option Trial) (place : ℕ) → place < length route + 2 → best_from best (singles s place) ≡ best_from (better best (trial_at p route (Single s) (place, place))) (singles s (place + 1))
+  pub single_next : (s : Stop) (best : Option Trial) (place : ℕ) → place < length route + 2 →
+      best_from best (singles s place) ≡ best_from (better best (trial_at p route (Single s) (place, place))) (singles s (place + 1))
   single_next s best place below = ap (λ l. best_from best (map (trial_at p route (Single s)) (map (λ i. (i, i)) l))) (up_more place (length route + 2) below)
 
   module _ (a b : Stop) where
@@ -51,31 +53,38 @@ module _ (p : Instance) (route : List ℕ) where
     abbrev pub deliveries : ℕ → ℕ → List Trial
     deliveries i behind = map (trial_at p route (Pair a b)) (map (λ j. (i, j)) (up_to behind (length route + 3)))
 
-    pub delivery_next : (best : Option Trial) (i behind : ℕ) → behind < length route + 3 → best_from best (deliveries i behind) ≡ best_from (better best (trial_at p route (Pair a b) (i, behind))) (deliveries i (behind + 1))
+    pub delivery_next : (best : Option Trial) (i behind : ℕ) → behind < length route + 3 →
+        best_from best (deliveries i behind) ≡ best_from (better best (trial_at p route (Pair a b) (i, behind))) (deliveries i (behind + 1))
     delivery_next best i behind below = ap (λ l. best_from best (map (trial_at p route (Pair a b)) (map (λ j. (i, j)) l))) (up_more behind (length route + 3) below)
 
     -- the best of those so far and one more
-    pub delivery_more : (best new all : Option Trial) (i behind : ℕ) → behind < length route + 3 → new ≡ better best (trial_at p route (Pair a b) (i, behind)) → best_from best (deliveries i behind) ≡ all → best_from new (deliveries i (behind + 1)) ≡ all
+    pub delivery_more : (best new all : Option Trial) (i behind : ℕ) → behind < length route + 3 → new ≡ better best (trial_at p route (Pair a b) (i, behind)) →
+        best_from best (deliveries i behind) ≡ all → best_from new (deliveries i (behind + 1)) ≡ all
     delivery_more best new all i behind below is so_far = ap (λ o. best_from o (deliveries i (behind + 1))) is ∙ sym (delivery_next best i behind below) ∙ so_far
 
     -- a delivery that is put into the route with the pickup
-    pub trial_with : (picked : List ℕ) (i behind : ℕ) → 1 ≤ behind → picked ≡ inserted (Single a) i i route → judged p (insert picked (behind - 1) b.number) i (behind - 1 + 1) ≡ trial_at p route (Pair a b) (i, behind)
+    pub trial_with : (picked : List ℕ) (i behind : ℕ) → 1 ≤ behind → picked ≡ inserted (Single a) i i route →
+        judged p (insert picked (behind - 1) b.number) i (behind - 1 + 1) ≡ trial_at p route (Pair a b) (i, behind)
     trial_with picked i behind from is =
         let same : behind - 1 + 1 ≡ behind = omega arith in
         ap (λ r. judged p (insert r (behind - 1) b.number) i (behind - 1 + 1)) is ∙ ap (judged p (inserted (Pair a b) i behind route) i) same
 
     -- where none of these is better than the best so far, that stays
-    none_better : (best : Trial) (i behind n : ℕ) → ((j : ℕ) → behind ≤ j → j < behind + n → is_better (trial_at p route (Pair a b) (i, j)) best ≡ false) → best_from (Some best) (map (trial_at p route (Pair a b)) (map (λ j. (i, j)) (range_with_len behind n))) ≡ Some best
+    pub none_better : (best : Trial) (i behind n : ℕ) → ((j : ℕ) → behind ≤ j → j < behind + n → is_better (trial_at p route (Pair a b) (i, j)) best ≡ false) →
+        best_from (Some best) (map (trial_at p route (Pair a b)) (map (λ j. (i, j)) (range_with_len behind n))) ≡ Some best
     none_better best i behind zero worse = refl
     none_better best i behind (suc n) worse =
-        ap (λ o. best_from o (map (trial_at p route (Pair a b)) (map (λ j. (i, j)) (range_with_len (behind + 1) n)))) (kept (is_better (trial_at p route (Pair a b) (i, behind)) best) refl (worse behind (omega arith) (omega arith)))
+        ap (λ o. best_from o (map (trial_at p route (Pair a b)) (map (λ j. (i, j)) (range_with_len (behind + 1) n))))
+        (kept (is_better (trial_at p route (Pair a b) (i, behind)) best) refl (worse behind (omega arith) (omega arith)))
         ∙ none_better best i (behind + 1) n (λ j from to. worse j (omega arith) (omega arith))
       where
-        kept : (t : Bool) → is_better (trial_at p route (Pair a b) (i, behind)) best ≡ t → is_better (trial_at p route (Pair a b) (i, behind)) best ≡ false → better (Some best) (trial_at p route (Pair a b) (i, behind)) ≡ Some best
+        kept : (t : Bool) → is_better (trial_at p route (Pair a b) (i, behind)) best ≡ t → is_better (trial_at p route (Pair a b) (i, behind)) best ≡ false →
+            better (Some best) (trial_at p route (Pair a b) (i, behind)) ≡ Some best
         kept t is fails = rw fails refl
 
     -- a limit that is exceeded by more than the best so far, and comes first wherever the delivery is put in
-    pub settled : (tour : Tour) (over : Option Miss) (best all : Option Trial) (i behind : ℕ) → IsTour p tour → IsNumberOf p tour b.number → tour.route.now ≡ inserted (Single a) i i route → over ≡ overload_in p.capacity (take (behind - 1) tour.rows.now) →
+    pub settled : (tour : Tour) (over : Option Miss) (best all : Option Trial) (i behind : ℕ) → IsTour p tour → IsNumberOf p tour b.number →
+        tour.route.now ≡ inserted (Single a) i i route → over ≡ overload_in p.capacity (take (behind - 1) tour.rows.now) →
         2 ≤ behind → length tour.route.now ≡ length route + 1 → is_settled over best ≡ true → best_from best (deliveries i behind) ≡ all → best ≡ all
     settled tour over None all i behind is number picked found from long worse so_far = absurd (let e : false ≡ true = worse in cc)
     settled tour None (Some best) all i behind is number picked found from long worse so_far = absurd (let e : false ≡ true = worse in cc)
@@ -96,7 +105,8 @@ module _ (p : Instance) (route : List ℕ) where
     abbrev pub pairs : ℕ → List Trial
     pairs place = map (trial_at p route (Pair a b)) (flat_map places_at (up_to place (length route + 2)))
 
-    pub pair_next : (best : Option Trial) (place : ℕ) → place < length route + 2 → best_from best (pairs place) ≡ best_from (best_from best (map (trial_at p route (Pair a b)) (places_at place))) (pairs (place + 1))
+    pub pair_next : (best : Option Trial) (place : ℕ) → place < length route + 2 →
+        best_from best (pairs place) ≡ best_from (best_from best (map (trial_at p route (Pair a b)) (places_at place))) (pairs (place + 1))
     pair_next best place below =
         ap (λ l. best_from best (map (trial_at p route (Pair a b)) (flat_map places_at l))) (up_more place (length route + 2) below)
         ∙ ap (best_from best) (map_both (trial_at p route (Pair a b)) (places_at place) (flat_map places_at (up_to (place + 1) (length route + 2))))

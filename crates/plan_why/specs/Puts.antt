@@ -1,5 +1,5 @@
 -- One stop more in a route whose rows are known: those before it stay, it gets a row of its own, and those behind it are moved.
-use Rattle.std.specs.Prelude.{◌≡◌, ℕ, ◌+◌, ◌-◌, max, ℤ, pos, ◌+ℤ◌, List, map, length, drop, Option, None, Some, Bool, false, nat_lt}
+use Rattle.std.specs.Prelude.{◌≡◌, ◌⊎◌, ℕ, ◌+◌, ◌-◌, ◌<◌, max, ℤ, pos, ◌+ℤ◌, List, map, length, drop, slice_index_or, Option, None, Some, Bool, false, true, nat_lt}
 use Rattle.std.specs.List.{insert}
 use Rattle.std.specs.Option.{option_or}
 use Rattle.plan_types.specs.Instance.{Instance}
@@ -10,7 +10,7 @@ use Rattle.route_sched.specs.Route.{AreLiveOnce, place, stop_numbered}
 use Rattle.route_sched.specs.Schedule.{leg, route_length}
 use Rattle.plan_explain.specs.Tables.{rows_of}
 use Rattle.plan_explain.specs.declared.rows.Row.{Row}
-use Rattle.plan_why.specs.Missed.{excess, excess_of, lateness_in, overload_in}
+use Rattle.plan_why.specs.Missed.{excess, excess_of, is_late, lateness_in, overload_in}
 use Rattle.plan_why.specs.Latests.{AreLatests}
 use Rattle.plan_why.specs.Moved.{moved_from}
 use Rattle.plan_why.specs.declared.missed.Miss.{Miss}
@@ -42,6 +42,12 @@ put_row here service way s = record {
 -- when the vehicle comes to what is behind a stop that is put in behind this row
 abbrev pub arrival_with : Tour → Detour → Row → ℕ
 arrival_with tour detour here = (put_row here detour.service detour.to tour.stop.now).start + tour.stop.now.service + detour.from
+
+-- Its row is late, or the vehicle comes to what is behind it so late that a further stop there, over which the way may be shorter by 1,
+-- is of no help.
+abbrev pub IsLateAnyway : Tour → Detour → ℕ → Row → Type 0
+IsLateAnyway tour detour at here =
+    (is_late (put_row here detour.service detour.to tour.stop.now) ≡ true) ⊎ (slice_index_or tour.latests.now at 0 + 1 < arrival_with tour detour here)
 
 -- rows with another load
 abbrev pub laden : ℤ → List Row → List Row

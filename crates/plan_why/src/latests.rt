@@ -2,7 +2,7 @@
 //!
 //! A backward pass over windows and ways. Starts that windows hold back are left out, so a vehicle that comes in time may be late too.
 ghost use Rattle.std.specs.Prelude.{◌≡◌, ◌<◌, ◌+◌, length, IfOk};
-ghost use Rattle.plan_why.specs.Latests.{AreLatests, AreLatestsFrom, IsLatest};
+ghost use Rattle.plan_why.specs.Latests.{AreLatests, AreLatestsFrom, IsDue, IsLatest};
 
 use plan_explain::Row;
 use plan_types::OutOfMemory;
@@ -31,7 +31,8 @@ fn fill_latests(rows: &[Row], latests: &mut [u64])
 fn latest_at(rows: &[Row], latests: &[u64], index: usize) -> u64
     requires within { index < length rows.now }
     requires behind { AreLatestsFrom (index + 1) rows.now latests.now }
-    ensures { IsLatest rows.now index result }
+    ensures late { IsLatest rows.now index result }
+    ensures due { IsDue rows.now latests.now index result }
 {
     let row = &rows[index];
     let latest = u64::from(row.latest);

@@ -17,6 +17,9 @@
 //! moved where the way is no shorter than the best trial's, if that exceeds no limit, or one by 1 and the vehicle comes too late for
 //! what is behind: what misses something misses 1 at least.
 //!
+//! A place of the pickup is passed over with all places of the delivery where the pickup alone makes the way longer than the best trial's, if
+//! that exceeds no limit, or one by 1 and the pickup alone is late, there or behind it. A way over the delivery is shorter by 1 at most.
+//!
 //! Modules, in reading order:
 //! - `words`: the words between the figures
 //! - `leads`: what stands before each line, where lines of several requests stand together

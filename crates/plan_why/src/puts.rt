@@ -3,15 +3,16 @@
 //! What was found before the stop is handed on from place to place. Behind it the rows are moved, up to the first limit that is
 //! exceeded. No sum is known to fit here, so a quick way gives `None` where one did not, which says nothing.
 ghost use Rattle.std.specs.Prelude.{◌≡◌, ◌<◌, ◌≤◌, ◌+◌, ◌-◌, ◌+ℤ◌, ◌∷◌, ◌++◌, [], ℕ, IfOk, IfSome, None, drop, length, pos, slice_index_or, take, true};
+ghost use Rattle.std.specs.List.{insert};
 ghost use Rattle.plan_types.specs.declared.requests.Kind.TheVariants.{LiLim};
 ghost use Rattle.plan_explain.specs.Tables.{rows_of};
 ghost use Rattle.plan_explain.specs.declared.rows.Row.{Row};
 ghost use Rattle.plan_why.specs.Missed.{excess_of, lateness_in, miss_of, overload_in};
 ghost use Rattle.plan_why.specs.Moved.{moved_from, moved_row};
-ghost use Rattle.plan_why.specs.Puts.{IsDetour, IsLight, IsNumberOf, IsTour, arrival_with, found_in, found_then, laden, miss_behind, put_row, route_with};
+ghost use Rattle.plan_why.specs.Puts.{IsDetour, IsLight, IsNumberOf, IsTour, arrival_with, IsLateAnyway, found_in, found_then, laden, miss_behind, put_row, route_with};
 
 use crate::missed::{Miss, is_heavy, is_late, lateness_at, lateness_in, overload_at, overload_in};
-use nint_dist::dist;
+use nint_dist::{detours_save_at_most_one, dist};
 use plan_explain::Row;
 use plan_types::{Kind, OutOfMemory, Problem, Stop};
 use route_sched::{load_behind, stop_behind};
@@ -246,6 +247,46 @@ pub(crate) fn is_missed(problem: &Problem, tour: &Tour<'_>, detour: &Detour, at:
             None => false,
         },
         Kind::Vrp => false,
+    }
+}
+
+/// The same wherever a further stop is put in behind it.
+pub(crate) fn is_missed_anyway(
+    problem: &Problem,
+    tour: &Tour<'_>,
+    detour: &Detour,
+    at: usize,
+) -> bool
+    requires tour { IsTour problem.now tour.now }
+    requires within { (1 ≤ at) × (at ≤ length tour.now.route.now) }
+    requires detour { IsDetour problem.now tour.now at detour.now }
+    ensures { result ≡ true → (number other later : ℕ) → IsNumberOf problem.now tour.now number
+        → at < later → later ≤ length tour.now.route.now + 1
+        → 1 ≤ excess_of (miss_of problem.now (insert (route_with tour.now at number) later other)) }
+{
+    detours_save_at_most_one();
+    match problem.kind {
+        Kind::LiLim => is_late_anyway(tour, detour, at),
+        Kind::Vrp => false,
+    }
+}
+
+// Whether the stop is late, put in behind the first `at` stops, or the vehicle comes to what is behind it too late by more than 1.
+fn is_late_anyway(tour: &Tour<'_>, detour: &Detour, at: usize) -> bool
+    requires rows { (1 ≤ at) × (at < length tour.now.rows.now) }
+    requires latests { at < length tour.now.latests.now }
+    ensures { result ≡ true → (d : Row) → IsLateAnyway tour.now detour.now at
+        (slice_index_or tour.now.rows.now (at - 1) d) }
+{
+    let Some(row) = put_row(&tour.rows[at - 1], detour.service, detour.to, tour.stop) else {
+        return false;
+    };
+    if is_late(&row) {
+        return true;
+    }
+    match arrival_behind(&row, tour.stop, detour) {
+        Some(arrival) => tour.latests[at] < arrival.saturating_sub(1),
+        None => false,
     }
 }
 

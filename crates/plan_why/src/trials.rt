@@ -5,6 +5,7 @@ ghost use Rattle.route_sched.specs.Route.{AreLiveOnce};
 ghost use Rattle.route_sched.specs.Schedule.{route_length};
 ghost use Rattle.plan_explain.specs.Tables.{rows_of};
 ghost use Rattle.plan_types.specs.declared.requests.Request.TheVariants.{Pair, Single};
+ghost use Rattle.plan_types.specs.declared.requests.Stop.{Stop};
 ghost use Rattle.move_ops.specs.Insertion.{inserted};
 ghost use Rattle.plan_why.specs.Puts.{IsBase, IsDetour, IsLight, IsNumberOf, IsPicked, IsTour, found_in, is_settled, route_with};
 ghost use Rattle.plan_why.specs.Trials.{MayTake, best_from, best_trial, better, is_better, judged, trial_at};
@@ -12,9 +13,10 @@ ghost use Rattle.plan_why.specs.Trials.{MayTake, best_from, best_trial, better, 
 use crate::latests::latests_of;
 use crate::missed::{Miss, excess_of, miss_of};
 use crate::puts::{
-    Detour, Found, Tour, are_light, distance_with, found_at, found_in, is_missed, miss_with,
-    rows_with,
+    Detour, Found, Tour, are_light, distance_with, found_at, found_in, is_missed, is_missed_anyway,
+    miss_with, rows_with,
 };
+use nint_dist::detours_save_at_most_one;
 use plan_explain::{Row, rows_of};
 use plan_types::{OutOfMemory, Problem, Request, Stop};
 use route_sched::{route_distance, stop_behind};
@@ -139,6 +141,9 @@ fn best_delivery(
         (map (trial_at problem.now route.now (Pair pickup.now delivery.now))
         (map (λ j. (place, j)) (range_with_len (place + 1) (length route.now + 2 - place))))) }
 {
+    if is_passed(problem, base, place, &so_far) {
+        return Ok(so_far);
+    }
     // The delivery at the end, so that the front is the route with the pickup alone.
     let whole = with_pair(alloc, route, pickup, delivery, place, route.len() + 2)?;
     let stop = stop_behind(problem, whole.as_slice(), route.len() + 1);
@@ -155,6 +160,37 @@ fn best_delivery(
     best_behind(
         alloc, problem, route, pickup, delivery, &tour, place, so_far,
     )
+}
+
+// Whether the best so far stays the best beside all with the stop of the tour at this place, as the pickup: each drives no less, since a
+// way over the delivery is shorter by 1 at most, and misses no less than the pickup's place alone is known to miss.
+fn is_passed(problem: &Problem, base: &Tour<'_>, place: usize, best: &Option<Trial>) -> bool
+    requires base { IsTour problem.now base.now }
+    requires within { (1 ≤ place) × (place ≤ length base.now.route.now + 1) }
+    ensures { result ≡ true → (a b : Stop) → IsNumberOf problem.now base.now a.number
+        → best.now ≡ best_from best.now (map (trial_at problem.now base.now.route.now (Pair a b))
+        (map (λ j. (place, j)) (range_with_len (place + 1)
+        (length base.now.route.now + 2 - place)))) }
+{
+    detours_save_at_most_one();
+    let Some(best) = best else {
+        return false;
+    };
+    if place == 1 {
+        return false;
+    }
+    let detour = Detour::of(problem, base, place - 1);
+    let Some(distance) = distance_with(base.distance, &detour) else {
+        return false;
+    };
+    if distance <= best.distance {
+        return false;
+    }
+    match excess_of(&best.miss) {
+        0 => true,
+        1 => is_missed_anyway(problem, base, &detour, place - 1),
+        _ => false,
+    }
 }
 
 // The rows of the route with the pickup at this place.

@@ -1,10 +1,11 @@
+-- A row's latest arrival is its own limit, or the latest arrival behind it less the way there, whichever is less.
 use Rattle.std.proofs.Common.{◌+◌, ◌<◌, length, get_or, pos, arith}
 use Rattle.plan_explain.specs.declared.rows.Row.{Row}
 use Rattle.plan_why.proofs.LatestLemmas.{latest_next}
 use Rattle.plan_why.proofs.latests.latest_at.Goals as goal
 
-pub returns : goal.returns
-returns c = λ arrival change later.
+pub returns-clause-late : goal.returns-clause-late
+returns-clause-late c = λ arrival change later.
     let rows = c.args.rows.now in
     let k = c.args.index in
     let none : Row = record { place = 0; stop = 0; arrival = 0; start = 0; earliest = 0; latest = 0; load = pos 0 } in

@@ -1,13 +1,26 @@
-use Rattle.std.proofs.Common.{◌≡◌, ◌∙◌, ◌+◌, ◌-◌, ap, sym, subst, arith, take, length}
-use Rattle.std.specs.List.{insert}
+-- The route with the pickup alone, in front of a delivery at the end, is a tour whose rows and distance are known.
+use Rattle.std.proofs.Common.{◌≡◌, ◌∙◌, ◌+◌, ◌-◌, ap, map, sym, subst, arith, take, length}
+use Rattle.std.specs.List.{insert, range_with_len}
+use Rattle.plan_types.specs.declared.requests.Request.TheVariants.{Pair}
 use Rattle.std.proofs.lemmas.List.Edits.{length-insert}
 use Rattle.std.proofs.lemmas.List.FromFn.{length-map-range_with_len}
 use Rattle.route_sched.specs.Route.{AreLiveOnce, place}
 use Rattle.route_sched.proofs.LiveStops.{front_once}
 use Rattle.plan_explain.specs.Tables.{row_behind}
 use Rattle.plan_why.specs.Latests.{AreLatests}
+use Rattle.plan_why.specs.Trials.{best_from, trial_at}
 use Rattle.plan_why.proofs.PutLemmas.{place_put, take_last}
 use Rattle.plan_why.proofs.trials.best_delivery.Goals as goal
+
+pub returns-then-is_passed : goal.returns-then-is_passed
+returns-then-is_passed c =
+    let p = c.args.problem.now in
+    let a = c.args.pickup.now in
+    let b = c.args.delivery.now in
+    let place = c.args.place in
+    let so_far = c.args.so_far in
+    subst (λ r. so_far ≡ best_from so_far (map (trial_at p r (Pair a b)) (map (λ j. (place, j)) (range_with_len (place + 1) (length r + 2 - place))))) c.requires.base.same
+    (c.is_passed.ensures c.if-is_passed.true a b c.requires.base.number)
 
 pub picked_rows-requires-clause-once : goal.picked_rows-requires-clause-once
 picked_rows-requires-clause-once c =
@@ -21,7 +34,9 @@ picked_rows-requires-clause-picked c =
     let at = c.args.place - 1 in
     let number = c.args.pickup.now.number in
     let longer = length-insert route at number (omega (arith, c.requires.from, c.requires.within)) in
-    let front = ap (take (length route + 1)) (c.as_slice-2.ensures.value ∙ c.in_ok-whole.ensures) ∙ take_last (insert route at number) (length route + 1) (length route + 2 - 1) c.args.delivery.now.number (omega (arith, longer)) (omega (arith, longer)) in
+    let front = ap (take (length route + 1)) (c.as_slice-2.ensures.value ∙ c.in_ok-whole.ensures)
+    ∙ take_last (insert route at number) (length route + 1) (length route + 2 - 1) c.args.delivery.now.number (omega (arith, longer))
+    (omega (arith, longer)) in
     record { number = number; is = c.requires.base.number; put = front ∙ ap (λ r. insert r at number) (sym c.requires.base.same) }
 
 pub picked_distance-requires-clause-once : goal.picked_distance-requires-clause-once
@@ -36,7 +51,9 @@ picked_distance-requires-clause-picked c =
     let at = c.args.place - 1 in
     let number = c.args.pickup.now.number in
     let longer = length-insert route at number (omega (arith, c.requires.from, c.requires.within)) in
-    let front = ap (take (length route + 1)) (c.as_slice-2.ensures.value ∙ c.in_ok-whole.ensures) ∙ take_last (insert route at number) (length route + 1) (length route + 2 - 1) c.args.delivery.now.number (omega (arith, longer)) (omega (arith, longer)) in
+    let front = ap (take (length route + 1)) (c.as_slice-2.ensures.value ∙ c.in_ok-whole.ensures)
+    ∙ take_last (insert route at number) (length route + 1) (length route + 2 - 1) c.args.delivery.now.number (omega (arith, longer))
+    (omega (arith, longer)) in
     record { number = number; is = c.requires.base.number; put = front ∙ ap (λ r. insert r at number) (sym c.requires.base.same) }
 
 pub best_behind-requires-clause-tour : goal.best_behind-requires-clause-tour
@@ -48,7 +65,8 @@ best_behind-requires-clause-tour c =
     let latests = subst (λ ls. AreLatests c.as_slice-4.result.now ls) (sym c.as_slice-5.ensures.value)
     (subst (λ rs. AreLatests rs c.in_ok-latests.latests.items) (c.as_slice-3.ensures.value ∙ sym c.as_slice-4.ensures.value) c.in_ok-latests.ensures) in
     record {
-      once = front_once p c.as_slice-2.result.now end (subst (AreLiveOnce p) (sym (c.as_slice-2.ensures.value ∙ c.in_ok-whole.ensures)) (c.requires.once.once c.args.place (length c.args.route.now + 2)));
+      once = front_once p c.as_slice-2.result.now end
+          (subst (AreLiveOnce p) (sym (c.as_slice-2.ensures.value ∙ c.in_ok-whole.ensures)) (c.requires.once.once c.args.place (length c.args.route.now + 2)));
       rows = is;
       long = ap length is ∙ length-map-range_with_len (row_behind p picked) 0 (length picked + 1);
       latests = latests;

@@ -1,0 +1,231 @@
+-- A pickup that is late, or behind which the vehicle comes late by more than 1, misses something wherever the delivery is put in behind it.
+-- What then drives no less than the best, which misses no more, leaves the best as it is.
+use Rattle.std.proofs.Common.{◌≡◌, ◌∙◌, ℕ, zero, suc, ◌⊎◌, inl, inr, Bool, true, ◌||◌, ◌+◌, ◌-◌, ◌<◌, ◌≤◌, min, List, []}
+use Rattle.std.proofs.Common.{map, length, get_or, Some, refl, sym, ap, subst, arith}
+use Rattle.std.specs.List.{insert, list_any, range_with_len}
+use Rattle.std.proofs.Math.Bool.{or-true}
+use Rattle.std.proofs.lemmas.Bool.{cases_lt, lt-ltb, ltb-true}
+use Rattle.std.proofs.lemmas.List.Edits.{length-insert}
+use Rattle.plan_types.specs.Instance.{Instance}
+use Rattle.plan_types.specs.declared.requests.Kind.TheVariants.{LiLim}
+use Rattle.plan_types.specs.declared.requests.Request.TheVariants.{Pair}
+use Rattle.plan_types.specs.declared.requests.Stop.{Stop}
+use Rattle.nint_dist.specs.Distance.{distance, DetoursSaveAtMostOne}
+use Rattle.route_sched.specs.Route.{place, stop_numbered}
+use Rattle.route_sched.specs.Schedule.{leg, route_length, start}
+use Rattle.route_sched.proofs.Steps.{start-next}
+use Rattle.plan_explain.specs.Tables.{row_behind, rows_of}
+use Rattle.plan_explain.specs.declared.rows.Row.{Row}
+use Rattle.plan_why.specs.Missed.{excess_of, is_late, miss_of}
+use Rattle.plan_why.specs.Puts.{IsDetour, IsLateAnyway, IsNumberOf, IsTour, put_row, route_with}
+use Rattle.plan_why.specs.Trials.{best_from, is_better, judged, trial_at}
+use Rattle.plan_why.specs.declared.puts.Detour.{Detour}
+use Rattle.plan_why.specs.declared.puts.Tour.{Tour}
+use Rattle.plan_why.specs.declared.trials.Trial.{Trial}
+use Rattle.plan_why.proofs.BestLemmas.{not_better}
+use Rattle.plan_why.proofs.LatestLemmas.{by_least, late_missed}
+use Rattle.plan_why.proofs.PutLemmas.{leg_behind, length_is, place_before, place_behind, place_here, row_at, row_told, start_before}
+use Rattle.plan_why.proofs.TrialLemmas.{none_better, trial_with}
+
+-- ---- a place that is late
+any_at : {X : Type 0} (test : X → Bool) (f : ℕ → X) (a n k : ℕ) → a ≤ k → k < a + n → test (f k) ≡ true → list_any test (map f (range_with_len a n)) ≡ true
+any_at test f a zero k from to holds = absurd (omega arith)
+any_at test f a (suc n) k from to holds = elim (cases_lt a k) [
+  | inl later ↦ ap (λ b. test (f a) || b) (any_at test f (a + 1) n k (omega arith) (omega arith) holds) ∙ or-true (test (f a))
+  | inr here ↦ (let same : a ≡ k = omega arith in rw (ap (λ j. test (f j)) same ∙ holds) refl)
+]
+
+pub record IsLateAt (p : Instance) (route : List ℕ) (x : ℕ) : Type 0 where
+  pub from : 1 ≤ x
+  pub to : x ≤ length route + 1
+  pub late : (place p route x).latest < start p route x
+
+missed_at : (p : Instance) (route : List ℕ) (x : ℕ) → p.kind ≡ LiLim → IsLateAt p route x → 1 ≤ excess_of (miss_of p route)
+missed_at p route x kind late =
+    let at : x - 1 + 1 ≡ x = omega (arith, late.from) in
+    let here : is_late (row_behind p route (x - 1)) ≡ true = lt-ltb _ _ (subst (λ j. (place p route j).latest < start p route j) (sym at) late.late) in
+    late_missed p [] (rows_of p route) kind (any_at is_late (row_behind p route) 0 (length route + 1) (x - 1) (omega arith) (omega (arith, late.from, late.to)) here)
+
+-- ---- a stop behind the first `at` stops, and a further one behind the first m of the route with it
+module _ (p : Instance) (route : List ℕ) (first second at m : ℕ) (one : 1 ≤ at) (within : at ≤ length route) (later : at < m)
+    (most : m ≤ length route + 1) (saves : DetoursSaveAtMostOne) where
+  abbrev pickup : Stop
+  pickup = stop_numbered p first
+
+  abbrev delivery : Stop
+  delivery = stop_numbered p second
+
+  abbrev picked : List ℕ
+  picked = insert route at first
+
+  abbrev both : List ℕ
+  both = insert picked m second
+
+  long_picked : length picked ≡ length route + 1
+  long_picked = length-insert route at first within
+
+  fits : m ≤ length picked
+  fits = omega (arith, long_picked, most)
+
+  long_both : length both ≡ length route + 1 + 1
+  long_both = length-insert picked m second fits ∙ ap (λ n. n + 1) long_picked
+
+  before : (k : ℕ) → k ≤ m → place p both k ≡ place p picked k
+  before k h = place_before p picked second m delivery (omega (arith, later)) fits refl k h
+
+  -- the places of the route behind the pickup, in front of the delivery and behind it
+  near : (i : ℕ) → at ≤ i → i + 1 + 1 ≤ m → place p both (i + 1 + 1) ≡ place p route (i + 1)
+  near i from to = before (i + 1 + 1) to ∙ place_behind p route first at pickup one within refl i from
+
+  far : (i : ℕ) → m ≤ i + 1 → place p both (i + 1 + 1 + 1) ≡ place p route (i + 1)
+  far i from = place_behind p picked second m delivery (omega (arith, later)) fits refl (i + 1) from ∙ place_behind p route first at pickup one within refl i (omega (arith, later, from))
+
+  -- a way over the delivery takes away 1 at most
+  over : start p both m + (place p picked m).service + leg p picked m ≤ start p both (m + 1 + 1) + 1
+  over =
+      let here = place_here p picked second m delivery (omega (arith, later)) fits refl in
+      let behind = place_behind p picked second m delivery (omega (arith, later)) fits refl m (omega arith) in
+      let to : leg p both m ≡ distance (place p picked m) delivery = rw (before m (omega arith), here) refl in
+      let from : leg p both (m + 1) ≡ distance delivery (place p picked (m + 1)) = rw (here, behind) refl in
+      let service = ap (λ (s : Stop). s.service) (before m (omega arith)) in
+      omega (arith, saves (place p picked m) (place p picked (m + 1)) delivery, start-next p both m, start-next p both (m + 1), to, from, service)
+
+  pub no_shorter : route_length p picked ≤ route_length p both + 1
+  no_shorter =
+      let sum = length_is p picked second m delivery (omega (arith, later)) fits refl in
+      omega (arith, sum, saves (place p picked m) (place p picked (m + 1)) delivery)
+
+  module _ (due : ℕ → ℕ) (last : (place p route (length route + 1)).latest ≤ due (length route))
+      (next : (i : ℕ) → i < length route → min (place p route (i + 1)).latest (due (i + 1) - ((place p route (i + 1)).service + leg p route (i + 1))) ≤ due i) where
+    -- who comes later than is due behind the delivery is late there or behind it
+    tail : (n i : ℕ) → m ≤ i + 1 → i + n ≡ length route → due i < start p both (i + 1 + 1 + 1) → (x : ℕ) × IsLateAt p both x
+    tail zero i from end comes =
+        let stop = ap (λ (s : Stop). s.latest) (far i from) in
+        let same : i ≡ length route = omega arith in
+        let limit : (place p route (i + 1)).latest ≤ due i = subst (λ j. (place p route (j + 1)).latest ≤ due j) (sym same) last in
+        (i + 1 + 1 + 1, record { from = omega arith; to = omega (arith, long_both, end); late = omega (arith, stop, limit, comes) })
+    tail (suc n) i from end comes = elim (cases_lt (place p route (i + 1)).latest (start p both (i + 1 + 1 + 1))) [
+      | inl late ↦ (
+          let stop = ap (λ (s : Stop). s.latest) (far i from) in
+          (i + 1 + 1 + 1, record { from = omega arith; to = omega (arith, long_both, end); late = omega (arith, stop, late) }))
+      | inr fine ↦ (
+          let service = ap (λ (s : Stop). s.service) (far i from) in
+          let way : leg p both (i + 1 + 1 + 1) ≡ leg p route (i + 1) = rw (far i from, far (i + 1) (omega (arith, from))) refl in
+          tail n (i + 1) (omega (arith, from)) (omega (arith, end))
+          (omega (arith, fine, comes, next i (omega (arith, end)), start-next p both (i + 1 + 1 + 1), service, way)))
+    ]
+
+    late_near : (i : ℕ) → at ≤ i → i + 1 + 1 ≤ m → (place p route (i + 1)).latest < start p both (i + 1 + 1) → (x : ℕ) × IsLateAt p both x
+    late_near i from to late =
+        let stop = ap (λ (s : Stop). s.latest) (near i from to) in
+        (i + 1 + 1, record { from = omega arith; to = omega (arith, long_both, to, most); late = omega (arith, stop, late) })
+
+    -- so is who comes later by more than 1 behind the pickup
+    front : (n i : ℕ) → at ≤ i → i + 1 + 1 + n ≡ m → due i + 1 < start p both (i + 1 + 1) → (x : ℕ) × IsLateAt p both x
+    front zero i from end comes = elim (cases_lt (place p route (i + 1)).latest (start p both (i + 1 + 1))) [
+      | inl late ↦ late_near i from (omega (arith, end)) late
+      | inr fine ↦ (
+          let same : i + 1 + 1 ≡ m = omega (arith, end) in
+          let service = ap (λ (s : Stop). s.service) (place_behind p route first at pickup one within refl i from) in
+          let way = leg_behind p route first at pickup one within refl i from in
+          let passed : start p both (i + 1 + 1) + (place p picked (i + 1 + 1)).service + leg p picked (i + 1 + 1) ≤ start p both (i + 1 + 1 + 1 + 1) + 1 =
+          subst (λ x. start p both x + (place p picked x).service + leg p picked x ≤ start p both (x + 1 + 1) + 1) (sym same) over in
+          tail (length route - (i + 1)) (i + 1) (omega (arith, same)) (omega (arith, same, most))
+          (omega (arith, fine, comes, next i (omega (arith, same, most)), passed, service, way)))
+    ]
+    front (suc n) i from end comes = elim (cases_lt (place p route (i + 1)).latest (start p both (i + 1 + 1))) [
+      | inl late ↦ late_near i from (omega (arith, end)) late
+      | inr fine ↦ (
+          let here = near i from (omega (arith, end)) in
+          let service = ap (λ (s : Stop). s.service) here in
+          let way : leg p both (i + 1 + 1) ≡ leg p route (i + 1) = rw (here, near (i + 1) (omega (arith, from)) (omega (arith, end))) refl in
+          front n (i + 1) (omega (arith, from)) (omega (arith, end))
+          (omega (arith, fine, comes, next i (omega (arith, end, most)), start-next p both (i + 1 + 1), service, way)))
+    ]
+
+    pub late_somewhere : due at + 1 < start p both (at + 1) + pickup.service + distance pickup (place p route (at + 1)) → (x : ℕ) × IsLateAt p both x
+    late_somewhere comes = elim (cases_lt (at + 1) m) [
+      | inl between ↦ (
+          let here = before (at + 1) (omega (arith, later)) ∙ place_here p route first at pickup one within refl in
+          let service = ap (λ (s : Stop). s.service) here in
+          let way : leg p both (at + 1) ≡ distance pickup (place p route (at + 1)) = rw (here, near at (omega arith) (omega (arith, between))) refl in
+          front (m - (at + 1 + 1)) at (omega arith) (omega (arith, between)) (omega (arith, comes, start-next p both (at + 1), service, way)))
+      | inr straight ↦ (
+          let same : at + 1 ≡ m = omega (arith, straight, later) in
+          let here = place_here p route first at pickup one within refl in
+          let service = ap (λ (s : Stop). s.service) here in
+          let way : leg p picked (at + 1) ≡ distance pickup (place p route (at + 1)) = rw (here, place_behind p route first at pickup one within refl at (omega arith)) refl in
+          let passed : start p both (at + 1) + (place p picked (at + 1)).service + leg p picked (at + 1) ≤ start p both (at + 1 + 1 + 1) + 1 =
+          subst (λ x. start p both x + (place p picked x).service + leg p picked x ≤ start p both (x + 1 + 1) + 1) (sym same) over in
+          tail (length route - at) at (omega (arith, same)) (omega (arith, within)) (omega (arith, comes, passed, service, way)))
+    ]
+
+-- ---- what the code finds
+module _ (p : Instance) (t : Tour) (at : ℕ) (tour : IsTour p t) (one : 1 ≤ at) (within : at ≤ length t.route.now) (detour : Detour)
+    (ways : IsDetour p t at detour) (number : ℕ) (is : IsNumberOf p t number) (saves : DetoursSaveAtMostOne) where
+  abbrev due_at : ℕ → ℕ
+  due_at i = get_or t.latests.now i 0
+
+  last_due : (place p t.route.now (length t.route.now + 1)).latest ≤ due_at (length t.route.now)
+  last_due =
+      let n = length t.route.now in
+      let none = row_behind p t.route.now n in
+      let known = ap (λ (r : Row). r.latest) (row_at p t at tour one within detour ways number is n none (omega arith)) in
+      omega (arith, known, (tour.latests.dues n 0 (omega arith) (omega (arith, tour.long))).last none (omega (arith, tour.long)))
+
+  next_due : (i : ℕ) → i < length t.route.now →
+      min (place p t.route.now (i + 1)).latest (due_at (i + 1) - ((place p t.route.now (i + 1)).service + leg p t.route.now (i + 1))) ≤ due_at i
+  next_due i below =
+      let none = row_behind p t.route.now i in
+      let here = row_at p t at tour one within detour ways number is i none (omega (arith, below)) in
+      let there = row_at p t at tour one within detour ways number is (i + 1) none (omega (arith, below)) in
+      let latest = ap (λ (r : Row). r.latest) here in
+      let begins = ap (λ (r : Row). r.start) here in
+      let comes = ap (λ (r : Row). r.arrival) there in
+      omega (arith, latest, begins, comes, (tour.latests.dues i 0 (omega arith) (omega (arith, below, tour.long))).next none 0 (omega (arith, below, tour.long)))
+
+  -- its own row, and those behind it
+  pub missed_anyway : (other later : ℕ) (d : Row) → p.kind ≡ LiLim → at < later → later ≤ length t.route.now + 1 → IsLateAnyway t detour at (get_or t.rows.now (at - 1) d) →
+      1 ≤ excess_of (miss_of p (insert (route_with t at number) later other))
+  missed_anyway other later d kind behind most late =
+      let route = t.route.now in
+      let picked = route_with t at number in
+      let both = insert picked later other in
+      let row = put_row (get_or t.rows.now (at - 1) d) detour.service detour.to t.stop.now in
+      let is_row : row ≡ row_behind p picked at = row_told p t at tour one within detour ways number is d row refl in
+      let longer = length-insert route at number within in
+      let fits : later ≤ length picked = omega (arith, longer, most) in
+      let begins : row.start ≡ start p both (at + 1) =
+      ap (λ (r : Row). r.start) is_row ∙ sym (start_before p picked other later (stop_numbered p other) (omega (arith, behind)) fits refl (at + 1) (omega (arith, behind))) in
+      let stands : place p both (at + 1) ≡ t.stop.now =
+      place_before p picked other later (stop_numbered p other) (omega (arith, behind)) fits refl (at + 1) (omega (arith, behind)) ∙ place_here p route number at t.stop.now one within is in
+      elim late [
+        | inl here ↦ (
+            let limit = ap (λ (s : Stop). s.latest) stands in
+            let longest = length-insert picked later other fits in
+            missed_at p both (at + 1) kind (record { from = omega arith; to = omega (arith, within, longer, longest); late = omega (arith, limit, begins, ltb-true _ _ here) }))
+        | inr after ↦ (
+            let service = ap (λ (s : Stop). s.service) is in
+            let way : detour.from ≡ distance (stop_numbered p number) (place p route (at + 1)) = ways.from ∙ ap (λ s. distance s (place p route (at + 1))) (sym is) in
+            let found = late_somewhere p route number other at later one within behind most saves due_at last_due next_due (omega (arith, after, begins, service, way)) in
+            missed_at p both found.0 kind found.1)
+      ]
+
+-- ---- so the best so far stays beside all places of the delivery
+module _ (p : Instance) (t : Tour) (place : ℕ) (tour : IsTour p t) (within : place ≤ length t.route.now + 1) (from : 1 < place) (detour : Detour)
+    (ways : IsDetour p t (place - 1) detour) (saves : DetoursSaveAtMostOne) where
+  pub stays_beside_all : (a b : Stop) (best : Trial) → IsNumberOf p t a.number → best.distance < route_length p (route_with t (place - 1) a.number) →
+      (excess_of best.miss ≡ 0) ⊎ ((excess_of best.miss ≡ 1) ×
+      ((later : ℕ) → place - 1 < later → later ≤ length t.route.now + 1 →
+      1 ≤ excess_of (miss_of p (insert (route_with t (place - 1) a.number) later b.number)))) →
+      best_from (Some best) (map (trial_at p t.route.now (Pair a b)) (map (λ j. (place, j)) (range_with_len (place + 1) (length t.route.now + 2 - place)))) ≡ Some best
+  stays_beside_all a b best is far misses = none_better p t.route.now a b best place (place + 1) (length t.route.now + 2 - place) (λ j first last.
+      let picked = route_with t (place - 1) a.number in
+      let new = insert picked (j - 1) b.number in
+      let same : trial_at p t.route.now (Pair a b) (place, j) ≡ judged p new place (j - 1 + 1) = sym (trial_with p t.route.now a b picked place j (omega (arith, first)) refl) in
+      let least = no_shorter p t.route.now a.number b.number (place - 1) (j - 1) (omega (arith, from)) (omega (arith, within)) (omega (arith, first)) (omega (arith, last)) saves in
+      let longer : best.distance ≤ route_length p new = omega (arith, far, least) in
+      ap (λ t. is_better t best) same ∙ not_better (judged p new place (j - 1 + 1)) best (elim misses [
+        | inl none ↦ by_least best (judged p new place (j - 1 + 1)) longer (omega (arith, none))
+        | inr some ↦ by_least best (judged p new place (j - 1 + 1)) longer (let more = some.1 (j - 1) (omega (arith, first)) (omega (arith, last)) in omega (arith, some.0, more))
+      ]))
