@@ -1,6 +1,5 @@
+-- The lemma files of this crate.
 pub mod BehindLemmas
-pub mod LineLemmas
 pub mod RouteLemmas
 pub mod RowLemmas
-pub mod RuleLemmas
 pub mod SummaryLemmas

@@ -9,7 +9,7 @@ use Rattle.route_sched.specs.Visiting.{visit_after, visits_from}
 use Rattle.route_sched.specs.declared.visits.Visit.{Visit}
 use Rattle.plan_audit.proofs.VisitLemmas.{visits_from-step}
 use Rattle.route_sched.proofs.Steps.{start-next}
-use Rattle.plan_explain.specs.Rows.{stop_visit_with, row_after}
+use Rattle.plan_explain.specs.Rows.{row_after, stop_visit_after, stop_visit_with}
 use Rattle.plan_explain.specs.Tables.{arrival, stop_visit_behind, row_behind, rows_of}
 use Rattle.plan_explain.specs.declared.rows.Row.{Row}
 
@@ -33,28 +33,25 @@ module _ (p : Instance) (route : List ℕ) (k : ℕ) (last visit : Visit) (stop 
   arrival_is = omega (arith, begun, ap (λ (s : Stop). s.service) stop, ap (λ (v : Visit). v.leg) is)
 
   -- the row that is made of two visits is that of the place
-  pub row_is : row_after k last visit ≡ row_behind p route k
+  row_is : row_after k last visit ≡ row_behind p route k
   unfolding row_with
   row_is = ap (λ a. row_with k a visit) arrival_is ∙ ap (row_with k (arrival p route k)) is
+
+  -- and so is what is made of it and its visit
+  pub stop_visit_is : stop_visit_after k last visit ≡ stop_visit_behind p route k
+  stop_visit_is = ap (λ r. stop_visit_with r visit) row_is ∙ ap (stop_visit_with (row_behind p route k)) is
 
   -- and its arrival is no later than the start
   pub in_time : last.start + last.stop.service + visit.leg ≤ visit.start
   in_time = omega (arith, arrival_is, arrives_before p route k, ap (λ (v : Visit). v.start) is)
 
--- a route has a row for each stop, and one for the return
-pub rows_counted : (p : Instance) (route : List ℕ) (rows : List Row) → rows ≡ rows_of p route → length rows ≡ length route + 1
-rows_counted p route rows are = ap length are ∙ length-map-range_with_len (row_behind p route) 0 (length route + 1)
-
-pub row_within : (p : Instance) (route : List ℕ) (rows : List Row) (k : ℕ) → rows ≡ rows_of p route → k < length rows → k ≤ length route
-row_within p route rows k are lt = omega (arith, rows_counted p route rows are)
-
--- what is made of a row and its visit is that of the place
-pub stop_visit_is : (p : Instance) (route : List ℕ) (rows : List Row) (k : ℕ) (d : Row) (visit : Visit) → rows ≡ rows_of p route → k < length rows
-    → visit ≡ visit_after p route k → stop_visit_with (slice_index_or rows k d) visit ≡ stop_visit_behind p route k
-stop_visit_is p route rows k d visit are lt is =
-    let within = row_within p route rows k are lt in
-    let row : slice_index_or rows k d ≡ row_behind p route k = ap (λ rs. slice_index_or rs k d) are ∙ get_or-map-range_with_len (row_behind p route) 0 (length route + 1) k k d (omega (arith, within)) (omega arith) in
-    ap (λ r. stop_visit_with r visit) row ∙ ap (stop_visit_with (row_behind p route k)) is
+-- the row at a place below their number
+pub row_at : (p : Instance) (route : List ℕ) (rows : List Row) (k : ℕ) (d : Row) → rows ≡ rows_of p route → k < length rows
+    → slice_index_or rows k d ≡ row_behind p route k
+row_at p route rows k d are lt =
+    let counted : length rows ≡ length route + 1 = ap length are ∙ length-map-range_with_len (row_behind p route) 0 (length route + 1) in
+    ap (λ rs. slice_index_or rs k d) are
+    ∙ get_or-map-range_with_len (row_behind p route) 0 (length route + 1) k k d (omega (arith, counted)) (omega arith)
 
 -- a place is left
 pub none_left : (p : Instance) (route : List ℕ) (k : ℕ) (left : List Visit) → k ≤ length route → left ≡ visits_from p route k → left ≡ [] → ⊥

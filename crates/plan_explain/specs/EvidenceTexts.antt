@@ -1,5 +1,5 @@
 -- What is said of the evidence of a fault of an instance behind its kind.
-use Rattle.std.specs.Prelude.{ℕ, Bool, List, [], ◌∷◌, Option, Some, None, ℤ, decimal, if◌then◌else◌}
+use Rattle.std.specs.Prelude.{ℕ, Bool, List, [], ◌∷◌, Option, Some, None, ℤ, decimal, if◌then◌else◌, codes}
 use Rattle.std.specs.Fmt.{signed_decimal}
 use Rattle.instance_read.specs.declared.evidence.Evidence.{Evidence}
 use Rattle.instance_read.specs.declared.evidence.Evidence.TheVariants as found
@@ -8,72 +8,71 @@ use Rattle.instance_read.specs.declared.evidence.Field.TheVariants as fields
 use Rattle.instance_read.specs.declared.faults.ReadFaultKind.{ReadFaultKind}
 use Rattle.instance_read.specs.declared.faults.ReadFaultKind.TheVariants.{BadNumber, Range, TooManyStops}
 use Rattle.instance_read.specs.declared.vrp_lines.Key.TheVariants as keys
-use Rattle.plan_explain.specs.Cited.{shown_bytes}
+use Rattle.plan_explain.specs.Cited.{is_fraction, shown_bytes}
 use Rattle.plan_explain.specs.Names.{field_name, key_name, supported_name}
-use Rattle.plan_explain.specs.Numbers.{is_fraction}
-use Rattle.plan_explain.specs.Phrases.{phrase, text_if}
-use Rattle.plan_explain.specs.Forms.{form, lacked_text}
-use Rattle.plan_explain.specs.declared.phrases.Phrase.{Phrase}
-use Rattle.plan_explain.specs.declared.phrases.Phrase.TheVariants as words
+use Rattle.plan_explain.specs.Forms.{form, lacked_text, text_if}
 
 abbrev pub beyond_text : Field → List ℕ → Option (ℤ × ℤ) → List ℕ
 beyond_text field word None = []
-beyond_text field word (Some limits) = form words.Beyond (field_name field ∷ shown_bytes word ∷ signed_decimal limits.0 ∷ signed_decimal limits.1 ∷ [])
+beyond_text field word (Some limits) = form (codes ": @ is @, its limits are @..@") (field_name field ∷ shown_bytes word ∷ signed_decimal limits.0 ∷ signed_decimal limits.1 ∷ [])
 
 -- the kind tells the greatest number
 abbrev pub many_text : List ℕ → Field → List ℕ
-many_text word fields.Number = form words.TaskIs (shown_bytes word ∷ [])
-many_text word field = form words.FieldIs (field_name field ∷ shown_bytes word ∷ [])
+many_text word fields.Number = form (codes ": task @") (shown_bytes word ∷ [])
+many_text word field = form (codes ": @ is @") (field_name field ∷ shown_bytes word ∷ [])
+
+unfoldable pub no_number_text : Field → List ℕ → Bool → List ℕ
+no_number_text field word has_fraction =
+    form (codes ": @ is @@") (field_name field ∷ shown_bytes word ∷ text_if (codes ", which has a fraction") has_fraction ∷ [])
 
 -- of the first word at fault
 abbrev pub word_text : ReadFaultKind → Field → List ℕ → Option (ℤ × ℤ) → List ℕ
-word_text BadNumber field word limits =
-    form words.FieldIs (field_name field ∷ shown_bytes word ∷ text_if (is_fraction word) words.Fraction ∷ [])
+word_text BadNumber field word limits = no_number_text field word (is_fraction word)
 word_text Range field word limits = beyond_text field word limits
 word_text TooManyStops field word limits = many_text word field
-word_text kind field word limits = form words.FieldIs (field_name field ∷ shown_bytes word ∷ [])
+word_text kind field word limits = form (codes ": @ is @") (field_name field ∷ shown_bytes word ∷ [])
 
-abbrev pub demands_phrase : Bool → Phrase
-demands_phrase is_negative = if is_negative then words.NegativePickup else words.SumNotZero
+abbrev pub demands_words : Bool → List ℕ
+demands_words is_negative = if is_negative then codes ": its @, task @ on line @, has demand @, this one @: that of a pickup is not negative" else codes ": its @, task @ on line @, has demand @, this one @: their sum is not 0"
 
 -- of what no line has
 abbrev pub missing_text : Evidence → List ℕ
-missing_text found.Unannounced = phrase words.NotBefore
+missing_text found.Unannounced = codes ": DIMENSION has to stand before this section"
 missing_text (found.Missing dimension capacity weights coordinates demands depots) =
-    form words.MissingKeys (lacked_text keys.Dimension dimension ∷ lacked_text keys.Capacity capacity ∷ lacked_text keys.WeightType weights
+    form (codes ":@@@@@@") (lacked_text keys.Dimension dimension ∷ lacked_text keys.Capacity capacity ∷ lacked_text keys.WeightType weights
     ∷ lacked_text keys.Coordinates coordinates ∷ lacked_text keys.Demands demands ∷ lacked_text keys.Depots depots ∷ [])
 missing_text _ = []
 
 -- of keys and sections
 abbrev pub key_text : Evidence → List ℕ
-key_text (found.NodeCount due n section left) = form words.NodeCounts (decimal due ∷ decimal n ∷ key_name section ∷ decimal left ∷ [])
-key_text found.BehindEnd = phrase words.BehindEnd
-key_text (found.Stray None) = phrase words.Stray
-key_text (found.Stray (Some nodes)) = form words.StrayNodes (decimal nodes ∷ [])
-key_text (found.Key key) = form words.KeyIs (shown_bytes key ∷ [])
-key_text (found.Value key value) = form words.ValueIs (key_name key ∷ shown_bytes value ∷ supported_name key ∷ [])
-key_text (found.Unfinished section left) = form words.Unfinished (key_name section ∷ decimal left ∷ [])
-key_text found.OpenDepots = phrase words.InsideDepots
+key_text (found.NodeCount due n section left) = form (codes ": @ due, @ found, @ lacks @ of its lines") (decimal due ∷ decimal n ∷ key_name section ∷ decimal left ∷ [])
+key_text found.BehindEnd = codes ": words stand behind -1, which ends the list of depots"
+key_text (found.Stray None) = codes ": these numbers stand in no section"
+key_text (found.Stray (Some nodes)) = form (codes ": these numbers stand in no section, each of which has as many lines as DIMENSION says, @") (decimal nodes ∷ [])
+key_text (found.Key key) = form (codes ": @") (shown_bytes key ∷ [])
+key_text (found.Value key value) = form (codes ": @ is @, supported is @") (key_name key ∷ shown_bytes value ∷ supported_name key ∷ [])
+key_text (found.Unfinished section left) = form (codes ": @ lacks @ of its lines") (key_name section ∷ decimal left ∷ [])
+key_text found.OpenDepots = codes ": DEPOT_SECTION lacks its end, -1"
 key_text evidence = missing_text evidence
 
 -- of a task and the one that it names
 abbrev pub pair_text : Evidence → List ℕ
-pair_text found.NamesNone = phrase words.NamesNone
-pair_text found.NamesBoth = phrase words.NamesBoth
-pair_text (found.Absent field n) = form words.Absent (field_name field ∷ decimal n ∷ [])
+pair_text found.NamesNone = codes ": it names neither a pickup nor a delivery"
+pair_text found.NamesBoth = codes ": it names both a pickup and a delivery"
+pair_text (found.Absent field n) = form (codes ": its @, task @, is not there") (field_name field ∷ decimal n ∷ [])
 pair_text (found.NamesOther field n line named back) =
-    form words.NamesOther (field_name field ∷ decimal n ∷ decimal line ∷ decimal named ∷ field_name back ∷ [])
+    form (codes ": its @, task @ on line @, has @ as its @") (field_name field ∷ decimal n ∷ decimal line ∷ decimal named ∷ field_name back ∷ [])
 pair_text (found.Demands field n line demand own is_negative) =
-    form (demands_phrase is_negative) (field_name field ∷ decimal n ∷ decimal line ∷ shown_bytes demand ∷ shown_bytes own ∷ [])
+    form (demands_words is_negative) (field_name field ∷ decimal n ∷ decimal line ∷ shown_bytes demand ∷ shown_bytes own ∷ [])
 pair_text evidence = key_text evidence
 
 -- what is said of the evidence of a fault of this kind
 abbrev pub evidence_text : ReadFaultKind → Evidence → List ℕ
-evidence_text kind (found.Count due n) = form words.Counts (decimal due ∷ decimal n ∷ [])
+evidence_text kind (found.Count due n) = form (codes ": @ due, @ found") (decimal due ∷ decimal n ∷ [])
 evidence_text kind (found.Word field word limits) = word_text kind field word limits
-evidence_text kind (found.FirstTask n) = form words.FirstTask (shown_bytes n ∷ [])
-evidence_text kind (found.TaskBehind n before) = form words.TaskBehind (shown_bytes n ∷ shown_bytes before ∷ [])
-evidence_text kind (found.Window earliest latest) = form words.Window (shown_bytes earliest ∷ shown_bytes latest ∷ [])
-evidence_text kind found.NoHeader = phrase words.NoHeader
-evidence_text kind found.NoDepot = phrase words.NoDepot
+evidence_text kind (found.FirstTask n) = form (codes ": the first is task @") (shown_bytes n ∷ [])
+evidence_text kind (found.TaskBehind n before) = form (codes ": task @ stands behind task @") (shown_bytes n ∷ shown_bytes before ∷ [])
+evidence_text kind (found.Window earliest latest) = form (codes ": it begins at @ and ends at @") (shown_bytes earliest ∷ shown_bytes latest ∷ [])
+evidence_text kind found.NoHeader = codes ": the first line, of fleet, capacity and speed, is missing"
+evidence_text kind found.NoDepot = codes ": task 0, the depot, is missing"
 evidence_text kind evidence = pair_text evidence

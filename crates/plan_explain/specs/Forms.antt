@@ -1,32 +1,51 @@
 -- Words with values in them.
-use Rattle.std.specs.Prelude.{ℕ, ◌++◌, ◌==◌, Bool, List, [], ◌∷◌, codes, decimal, if◌then◌else◌}
+use Rattle.std.specs.Prelude.{ℕ, ◌++◌, ◌==◌, nat_lt, Bool, List, [], ◌∷◌, Option, Some, None, codes, decimal, if◌then◌else◌}
 use Rattle.std.specs.Fmt.{signed_decimal}
 use Rattle.instance_read.specs.declared.vrp_lines.Key.{Key}
-use Rattle.plan_explain.specs.Cited.{shown_byte, shown_bytes}
+use Rattle.rule_breaches.specs.declared.seats.Seat.{Seat}
+use Rattle.told_text.specs.Columns.{left as at_left, right, right_signed}
+use Rattle.plan_explain.specs.Cited.{shown_bytes}
 use Rattle.plan_explain.specs.Names.{field_name, key_name, supported_name}
-use Rattle.plan_explain.specs.Phrases.{phrase, text_if}
 use Rattle.plan_explain.specs.declared.forms.Value.{Value}
-use Rattle.plan_explain.specs.declared.forms.Value.TheVariants.{Cited, KeyName, Missing, Name, Needed, Number, Signed, WordsIf}
-use Rattle.plan_explain.specs.declared.phrases.Phrase.{Phrase}
+use Rattle.plan_explain.specs.declared.forms.Value.TheVariants.{At, Cited, KeyName, Left, Long, Missing, Name, Needed, Number, Right, RightLong, RightSigned, Short, Signed, WordsIf}
+
+abbrev pub text_if : List ℕ → Bool → List ℕ
+text_if words holds = if holds then words else []
+
+-- where a stop stands
+abbrev pub seat_text : Option Seat → List ℕ
+seat_text None = codes "in no route"
+seat_text (Some s) = codes "at place " ++ decimal s.place ++ codes " of route " ++ decimal s.route
 
 -- a blank and the key, if it is missing
 abbrev pub lacked_text : Key → Bool → List ℕ
 lacked_text key is_missing = if is_missing then codes " " ++ key_name key else []
 
 abbrev pub value_text : Value → List ℕ
+value_text (Short n) = decimal n
 value_text (Number n) = decimal n
+value_text (Long n) = decimal n
 value_text (Signed z) = signed_decimal z
+value_text (Right width n) = right width n
+value_text (RightLong width n) = right width n
+value_text (RightSigned width z) = right_signed width z
+value_text (Left width n) = at_left width n
+value_text (WordsIf words holds) = text_if words.now holds
+value_text (At seat) = seat_text seat
 value_text (Cited bytes) = shown_bytes bytes.now
 value_text (Name field) = field_name field
 value_text (KeyName key) = key_name key
 value_text (Needed key) = supported_name key
 value_text (Missing key is_missing) = lacked_text key is_missing
-value_text (WordsIf words holds) = text_if holds words
+
+-- words are of ASCII
+abbrev pub plain_byte : ℕ → ℕ
+plain_byte b = if nat_lt b 128 then b else 63
 
 -- a byte of words, or the first of these values, where the byte is @
 abbrev pub next_text : ℕ → List (List ℕ) → List ℕ
-next_text b [] = if b == 64 then [] else shown_byte b ∷ []
-next_text b (value ∷ values) = if b == 64 then value else shown_byte b ∷ []
+next_text b [] = if b == 64 then [] else plain_byte b ∷ []
+next_text b (value ∷ values) = if b == 64 then value else plain_byte b ∷ []
 
 -- the values for the bytes behind it
 abbrev pub left : ℕ → List (List ℕ) → List (List ℕ)
@@ -34,10 +53,6 @@ left b [] = []
 left b (value ∷ values) = if b == 64 then values else value ∷ values
 
 -- words with the next of these values in place of each @
-abbrev pub filled : List ℕ → List (List ℕ) → List ℕ
-filled [] values = []
-filled (b ∷ words) values = next_text b values ++ filled words (left b values)
-
--- the same of a phrase
-abbrev pub form : Phrase → List (List ℕ) → List ℕ
-form words values = filled (phrase words) values
+abbrev pub form : List ℕ → List (List ℕ) → List ℕ
+form [] values = []
+form (b ∷ words) values = next_text b values ++ form words (left b values)

@@ -1,8 +1,6 @@
 -- what public contracts say
 pub mod Explained
-pub mod Phrases
 pub mod Cited
-pub mod Numbers
 pub mod Names
 pub mod Forms
 pub mod EvidenceTexts
@@ -15,6 +13,5 @@ pub mod Summaries
 pub mod Tables
 pub mod Unasked
 pub mod Further
-pub mod Others
 -- of private functions alone
 pub mod Rows

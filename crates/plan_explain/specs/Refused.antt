@@ -1,6 +1,6 @@
 -- What is said of a text that is refused: the sentence of its fault, then the line that the fault names, then what is said of it as a whole.
 use Rattle.std.specs.Prelude.{ℕ, List, [], ◌∷◌, ◌++◌, codes, Option, Some, None, decimal}
-use Rattle.text_lines.specs.Lines.{ended, lines_of}
+use Rattle.text_lines.specs.Lines.{lines_of}
 use Rattle.plan_types.specs.declared.requests.Kind.{Kind}
 use Rattle.plan_types.specs.declared.requests.Kind.TheVariants.{LiLim, Vrp}
 use Rattle.plan_audit.specs.Rules.{item_at}
@@ -16,7 +16,6 @@ use Rattle.plan_explain.specs.EvidenceTexts.{evidence_text}
 use Rattle.plan_explain.specs.Notes.{kind_note, mark_note}
 use Rattle.plan_explain.specs.Forms.{form}
 use Rattle.plan_explain.specs.SolFaults.{sol_detail}
-use Rattle.plan_explain.specs.declared.phrases.Phrase.TheVariants.{LineIs}
 
 -- one task's number is above the greatest; the nodes that are announced are too many
 unfoldable pub too_many : Kind → List ℕ
@@ -42,7 +41,7 @@ instance_reason kind faults.OutOfMemory = codes "out of memory"
 -- behind it stands what the line that it names has of it
 abbrev pub instance_sentence : Kind → List ℕ → ReadFault → List ℕ
 instance_sentence kind text fault =
-    form LineIs (decimal fault.line ∷ []) ++ instance_reason kind fault.kind ++ evidence_text fault.kind (evidence_of kind text fault)
+    form (codes "line @: ") (decimal fault.line ∷ []) ++ instance_reason kind fault.kind ++ evidence_text fault.kind (evidence_of kind text fault)
 
 unfoldable pub solution_reason : SolFaultKind → List ℕ
 solution_reason sol_faults.BadLine = codes "this is no route line, and no cost line with one word"
@@ -52,12 +51,12 @@ solution_reason sol_faults.OutOfMemory = codes "out of memory"
 
 abbrev pub solution_sentence : List ℕ → SolFault → List ℕ
 solution_sentence text fault =
-    form LineIs (decimal fault.line ∷ []) ++ solution_reason fault.kind ++ sol_detail text fault.line fault.kind
+    form (codes "line @: ") (decimal fault.line ∷ []) ++ solution_reason fault.kind ++ sol_detail text fault.line fault.kind
 
 -- the line, where the text has it
 abbrev pub cited_line : Option (List ℕ) → List ℕ
 cited_line None = []
-cited_line (Some bytes) = ended (shown_bytes bytes)
+cited_line (Some bytes) = form (codes "@\n") (shown_bytes bytes ∷ [])
 
 -- the end of a sentence's line, and under it the line that it names; lines count from 1
 abbrev pub under_sentence : List ℕ → ℕ → List ℕ

@@ -1,104 +1,90 @@
 -- The sentence on a broken rule, with its figures. Routes and places count from 1.
-use Rattle.std.specs.Prelude.{ℕ, ◌+◌, ◌-◌, ◌==◌, nat_lt, not, Bool, true, is_none, if◌then◌else◌, List, [], ◌∷◌, ◌++◌, length, Option, Some, None, unwrap_or, decimal}
+use Rattle.std.specs.Prelude.{ℕ, ◌+◌, ◌-◌, ◌==◌, nat_lt, not, Bool, true, is_none, if◌then◌else◌, List, [], ◌∷◌, ◌++◌, length, Option, Some, None, unwrap_or, decimal, codes}
 use Rattle.std.specs.Fmt.{signed_decimal}
 use Rattle.std.specs.List.{list_any}
 use Rattle.plan_types.specs.declared.requests.Stop.{Stop}
 use Rattle.plan_types.specs.Instance.{Instance, partner_at, pickup_at, stop_at}
 use Rattle.route_sched.specs.Schedule.{start}
 use Rattle.route_sched.specs.Cost.{total_length, used_count}
-use Rattle.sol_text.specs.declared.read.Solution.{Solution}
 use Rattle.plan_audit.specs.Rules.{item_at}
 use Rattle.plan_audit.specs.declared.rules.Rule.{Rule}
 use Rattle.plan_audit.specs.declared.rules.Rule.TheVariants as rules
 use Rattle.rule_breaches.specs.Seats.{first_seat}
-use Rattle.rule_breaches.specs.declared.seats.Seat.{Seat}
-use Rattle.plan_explain.specs.Forms.{form}
-use Rattle.plan_explain.specs.Phrases.{phrase, text_if}
+use Rattle.plan_explain.specs.Forms.{form, seat_text, text_if}
 use Rattle.plan_explain.specs.Tables.{rows_of}
-use Rattle.plan_explain.specs.declared.verdicts.Fault.{Fault}
-use Rattle.plan_explain.specs.declared.phrases.Phrase.{Phrase}
-use Rattle.plan_explain.specs.declared.phrases.Phrase.TheVariants.{UnknownStop, DepotInRoute, NumbersTooHigh, NumbersTooLow, VisitedTwice, First, MissingStop, SplitPair, EarlyDelivery, OtherStop, ItsPickup, StopIs, Nowhere, AtPlace, Overload, DemandIs, LoadIs, LateService, LateReturn, TooManyVehicles, WrongCost, Driven}
 use Rattle.plan_explain.specs.declared.rows.Row.{Row}
+use Rattle.plan_explain.specs.declared.shifts.Shift.{Shift}
+use Rattle.plan_explain.specs.declared.shifts.Shift.TheVariants.{TooHigh, TooLow}
+use Rattle.plan_explain.specs.declared.verdicts.Fault.{Fault}
 
 -- the stops of a route; route 0 has none
 abbrev pub route_told : List (List ℕ) → ℕ → List ℕ
 route_told routes r = unwrap_or (item_at routes r) []
 
-abbrev pub seat_text : Option Seat → List ℕ
-seat_text None = phrase Nowhere
-seat_text (Some s) = form AtPlace (decimal s.place ∷ decimal s.route ∷ [])
+-- words on a stop and where it stands first
+abbrev pub stop_sentence : List ℕ → List (List ℕ) → ℕ → List ℕ
+stop_sentence phrase routes n = form phrase (decimal n ∷ seat_text (first_seat routes n) ∷ [])
 
--- where a stop stands first
-abbrev pub stands_text : List (List ℕ) → ℕ → List ℕ
-stands_text routes n = form StopIs (decimal n ∷ []) ++ seat_text (first_seat routes n)
+-- and on another stop beside it, if there is one
+abbrev pub beside_text : List ℕ → List (List ℕ) → Option ℕ → List ℕ
+beside_text phrase routes None = []
+beside_text phrase routes (Some m) = stop_sentence phrase routes m
 
--- and another stop beside it, if there is one
-abbrev pub beside_text : List (List ℕ) → Phrase → Option ℕ → List ℕ
-beside_text routes words None = []
-beside_text routes words (Some m) = form words (decimal m ∷ []) ++ seat_text (first_seat routes m)
-
--- a stop, and the other one of its pair
-abbrev pub pair_text : Instance → List (List ℕ) → ℕ → List ℕ
-pair_text p routes n = stands_text routes n ++ beside_text routes OtherStop (partner_at p n)
-
--- a stop is of no request where its number is one too high, or one too low
-abbrev pub is_off_below : Instance → ℕ → Bool
-is_off_below p n = is_none (stop_at p (n - 1))
-
-abbrev pub is_off_above : Instance → ℕ → Bool
-is_off_above p n = if nat_lt n p.next_number then is_none (stop_at p (n + 1)) else true
+-- a number that is one too high, or one too low, is of no request when that is mended
+abbrev pub is_off : Instance → Shift → ℕ → Bool
+is_off p TooHigh n = is_none (stop_at p (n - 1))
+is_off p TooLow n = if nat_lt n p.next_number then is_none (stop_at p (n + 1)) else true
 
 -- some stop of the routes is so
-abbrev pub is_some_off : (ℕ → Bool) → List (List ℕ) → Bool
-is_some_off is_off routes = list_any (list_any is_off) routes
+abbrev pub is_some_off : Instance → Shift → List (List ℕ) → Bool
+is_some_off p shift routes = list_any (list_any (is_off p shift)) routes
 
 -- the numbers of all stops are one too high, or one too low
 abbrev pub shift_text : Instance → List (List ℕ) → List ℕ
 shift_text p routes =
-    if not (is_some_off (is_off_below p) routes) then phrase NumbersTooHigh
-    else text_if (not (is_some_off (is_off_above p) routes)) NumbersTooLow
+    if not (is_some_off p TooHigh routes) then codes ". Each stop less 1 is one of the instance: are the numbers one too high?"
+    else text_if (codes ". Each stop and 1 more is one of the instance: are the numbers one too low?") (not (is_some_off p TooLow routes))
 
--- rules 1 and 2
+-- rule 1
 abbrev pub unknown_text : Instance → ℕ → List ℕ
-unknown_text p n = if n == 0 then phrase DepotInRoute else form UnknownStop (decimal n ∷ decimal p.next_number ∷ [])
+unknown_text p n =
+    if n == 0 then codes "unknown stop: stop 0 is the depot, which no route line has" else form (codes "unknown stop: no request has stop @, the numbers of the instance are below @") (decimal n ∷ decimal p.next_number ∷ [])
 
 abbrev pub unknown_sentence : Instance → List (List ℕ) → ℕ → List ℕ
 unknown_sentence p routes n = unknown_text p n ++ shift_text p routes
 
-abbrev pub twice_sentence : List (List ℕ) → ℕ → List ℕ
-twice_sentence routes n = phrase VisitedTwice ++ stands_text routes n ++ phrase First
+-- 3 and 4: a stop, and the other one of its pair
+abbrev pub pair_sentence : List ℕ → Instance → List (List ℕ) → ℕ → List ℕ
+pair_sentence phrase p routes n = stop_sentence phrase routes n ++ beside_text (codes "; the other stop of its pair, stop @, is @") routes (partner_at p n)
 
--- 3, 4 and 5
-abbrev pub missing_sentence : Instance → List (List ℕ) → ℕ → List ℕ
-missing_sentence p routes n = phrase MissingStop ++ pair_text p routes n
-
-abbrev pub split_sentence : Instance → List (List ℕ) → ℕ → List ℕ
-split_sentence p routes n = phrase SplitPair ++ pair_text p routes n
-
-abbrev pub early_sentence : Instance → List (List ℕ) → ℕ → List ℕ
-early_sentence p routes n = phrase EarlyDelivery ++ stands_text routes n ++ beside_text routes ItsPickup (pickup_at p n)
+-- 5: a delivery, and its pickup
+abbrev pub early_sentence : List ℕ → Instance → List (List ℕ) → ℕ → List ℕ
+early_sentence phrase p routes n =
+    stop_sentence phrase routes n ++ beside_text (codes "; its pickup, stop @, is @") routes (pickup_at p n)
 
 -- a stop's demand
 abbrev pub demand_text : Option Stop → List ℕ
 demand_text None = []
-demand_text (Some s) = phrase DemandIs ++ signed_decimal s.demand
+demand_text (Some s) = codes ", demand " ++ signed_decimal s.demand
 
--- words, and behind them a stop with its demand
-abbrev pub stop_text : Instance → Phrase → ℕ → List ℕ
-stop_text p words n = (phrase words ++ decimal n) ++ demand_text (stop_at p n)
+unfoldable pub demanded_text : List ℕ → Instance → ℕ → List ℕ
+demanded_text phrase p n = form phrase (decimal n ∷ []) ++ demand_text (stop_at p n)
+
+unfoldable pub load_text : List ℕ → Instance → Row → List ℕ
+load_text phrase p row = form phrase (signed_decimal row.load ∷ decimal p.capacity ∷ [])
 
 -- 6 and 7, by the row of the place that is told
 abbrev pub load_sentence : Instance → Option Row → List ℕ
 load_sentence p None = []
-load_sentence p (Some row) = stop_text p Overload row.stop ++ form LoadIs (signed_decimal row.load ∷ decimal p.capacity ∷ [])
+load_sentence p (Some row) = demanded_text (codes "overload: after stop @") p row.stop ++ load_text (codes ", the load is @, the capacity @") p row
 
 -- a stop, a time, the latest time, and by how much it is late
-abbrev pub late_text : Phrase → ℕ → ℕ → ℕ → List ℕ
-late_text words n start latest = form words (decimal n ∷ decimal start ∷ decimal latest ∷ decimal (start - latest) ∷ [])
+abbrev pub late_text : List ℕ → ℕ → ℕ → ℕ → List ℕ
+late_text phrase n start latest = form phrase (decimal n ∷ decimal start ∷ decimal latest ∷ decimal (start - latest) ∷ [])
 
 abbrev pub late_sentence : Option Row → List ℕ
 late_sentence None = []
-late_sentence (Some row) = late_text LateService row.stop row.start row.latest
+late_sentence (Some row) = late_text (codes "late service: stop @ starts at @, latest @: late by @") row.stop row.start row.latest
 
 -- the last of these stops; this one, where there is none
 abbrev pub last_from : ℕ → List ℕ → ℕ
@@ -111,32 +97,33 @@ last_stop route = last_from 0 route
 
 -- 8: the last stop, and when the vehicle is back behind it
 unfoldable pub return_sentence : Instance → List ℕ → List ℕ
-return_sentence p route = late_text LateReturn (last_stop route) (start p route (length route + 1)) p.depot.latest
+return_sentence p route = late_text (codes "late return: after stop @ the vehicle is back at @, latest @: late by @") (last_stop route) (start p route (length route + 1)) p.depot.latest
 
 -- the row of a place, counted from 1
 abbrev pub row_told : Instance → List ℕ → ℕ → Option Row
 row_told p route i = item_at (rows_of p route) i
 
--- 9 and 11
+-- 9
 abbrev pub fleet_sentence : Instance → List (List ℕ) → List ℕ
-fleet_sentence p routes = form TooManyVehicles (decimal (used_count routes) ∷ decimal p.fleet ∷ [])
+fleet_sentence p routes = form (codes "too many vehicles: @ are used, the fleet has @") (decimal (used_count routes) ∷ decimal p.fleet ∷ [])
 
-abbrev pub cost_sentence : Instance → Solution → List ℕ
-cost_sentence p plan = phrase WrongCost ++ decimal plan.cost ++ phrase Driven ++ decimal (total_length p plan.routes)
+-- 11, of a printed cost
+abbrev pub cost_sentence : Instance → List (List ℕ) → ℕ → List ℕ
+cost_sentence p routes printed = form (codes "wrong cost: @ is printed, the distance driven is @") (decimal printed ∷ decimal (total_length p routes) ∷ [])
 
 -- the sentence on a rule; a printed solution has no pins
-abbrev pub rule_sentence : Instance → Solution → Fault → Rule → List ℕ
-rule_sentence p plan f rules.UnknownStop = unknown_sentence p plan.routes f.stop
-rule_sentence p plan f rules.Twice = twice_sentence plan.routes f.stop
-rule_sentence p plan f rules.Missing = missing_sentence p plan.routes f.stop
-rule_sentence p plan f rules.SplitPair = split_sentence p plan.routes f.stop
-rule_sentence p plan f rules.DeliveryFirst = early_sentence p plan.routes f.stop
-rule_sentence p plan f rules.Load = load_sentence p (row_told p (route_told plan.routes f.route) f.place)
-rule_sentence p plan f rules.Late = late_sentence (row_told p (route_told plan.routes f.route) f.place)
-rule_sentence p plan f rules.LateReturn = return_sentence p (route_told plan.routes f.route)
-rule_sentence p plan f rules.Fleet = fleet_sentence p plan.routes
-rule_sentence p plan f rules.Pin = []
-rule_sentence p plan f rules.PrintedCost = cost_sentence p plan
+abbrev pub rule_sentence : Instance → List (List ℕ) → Fault → Rule → List ℕ
+rule_sentence p routes f rules.UnknownStop = unknown_sentence p routes f.stop
+rule_sentence p routes f rules.Twice = stop_sentence (codes "visited twice: stop @ is @ already") routes f.stop
+rule_sentence p routes f rules.Missing = pair_sentence (codes "missing stop: stop @ is @") p routes f.stop
+rule_sentence p routes f rules.SplitPair = pair_sentence (codes "split pair: stop @ is @") p routes f.stop
+rule_sentence p routes f rules.DeliveryFirst = early_sentence (codes "early delivery: stop @ is @") p routes f.stop
+rule_sentence p routes f rules.Load = load_sentence p (row_told p (route_told routes f.route) f.place)
+rule_sentence p routes f rules.Late = late_sentence (row_told p (route_told routes f.route) f.place)
+rule_sentence p routes f rules.LateReturn = return_sentence p (route_told routes f.route)
+rule_sentence p routes f rules.Fleet = fleet_sentence p routes
+rule_sentence p routes f rules.Pin = []
+rule_sentence p routes f rules.PrintedCost = cost_sentence p routes f.printed
 
-abbrev pub sentence : Instance → Solution → Fault → List ℕ
-sentence p plan f = rule_sentence p plan f f.rule
+abbrev pub sentence : Instance → List (List ℕ) → Fault → List ℕ
+sentence p routes f = rule_sentence p routes f f.rule

@@ -9,12 +9,9 @@ use Rattle.instance_read.specs.VrpLines.{key_text, value_text}
 use Rattle.sol_text.specs.LineShapes.{cost_tail}
 use Rattle.sol_text.specs.declared.faults.SolFaultKind.{SolFaultKind}
 use Rattle.sol_text.specs.declared.faults.SolFaultKind.TheVariants.{BadLine, BadNumber}
-use Rattle.plan_explain.specs.Cited.{shown_bytes}
+use Rattle.plan_explain.specs.Cited.{is_fraction, is_no_customer, shown_bytes}
 use Rattle.plan_audit.specs.Rules.{item_at}
-use Rattle.plan_explain.specs.Numbers.{is_fraction, is_no_customer}
-use Rattle.plan_explain.specs.Phrases.{phrase, text_if}
-use Rattle.plan_explain.specs.Forms.{form}
-use Rattle.plan_explain.specs.declared.phrases.Phrase.TheVariants.{CostIs, CostWords, CustomerIs, Fraction, IndentedLine, KeyLine, RoundedWays}
+use Rattle.plan_explain.specs.Forms.{form, text_if}
 
 -- blanks stand before the first word
 abbrev pub begins_blank : List ℕ → Bool
@@ -29,7 +26,7 @@ is_line_word word =
 -- the first of these words; empty where there is none
 abbrev pub first_word : List (List ℕ) → List ℕ
 first_word [] = []
-first_word (word ∷ words) = word
+first_word (word ∷ more) = word
 
 abbrev pub is_indented : List ℕ → Bool
 is_indented line = begins_blank line && is_line_word (first_word (words_of line))
@@ -43,12 +40,12 @@ abbrev pub is_key_line : List ℕ → Bool
 is_key_line line = list_any (λ b. b == 58) line && not (list_any is_no_key_byte (key_text line))
 
 abbrev pub other_line_text : List ℕ → List ℕ
-other_line_text line = if is_indented line then phrase IndentedLine else text_if (is_key_line line) KeyLine
+other_line_text line = if is_indented line then codes ": Route and Cost have to begin their lines, as they do behind: sed 's/^[[:blank:]]*//'" else text_if (codes ": a solution has no other keys, as it has none behind: grep -iE '^(route|cost)'") (is_key_line line)
 
 -- how many words stand behind `Cost`, where the line begins so; else how such a line is done without
 abbrev pub bad_line_by : List ℕ → Option (List ℕ) → List ℕ
 bad_line_by line None = other_line_text line
-bad_line_by line (Some tail) = form CostWords (decimal (length (words_of tail)) ∷ [])
+bad_line_by line (Some tail) = form (codes ": 1 due behind Cost, @ found") (decimal (length (words_of tail)) ∷ [])
 
 abbrev pub bad_line_text : List ℕ → List ℕ
 bad_line_text line = bad_line_by line (cost_tail line)
@@ -57,13 +54,18 @@ bad_line_text line = bad_line_by line (cost_tail line)
 abbrev pub is_unrounded : List ℕ → Bool
 is_unrounded word = list_any (λ b. (b == 46) || (b == 101) || (b == 69)) word
 
+unfoldable pub cost_text : List ℕ → Bool → Bool → List ℕ
+cost_text word has_fraction is_unrounded = form (codes ": the cost is @@, allowed are whole numbers in 0..18446744073709551615@") (shown_bytes word
+    ∷ text_if (codes ", which has a fraction") has_fraction
+    ∷ text_if (codes ". Each way is rounded to a whole number here; behind the word routes no cost is asked") is_unrounded ∷ [])
+
 abbrev pub bad_cost_text : List ℕ → List ℕ
-bad_cost_text word = form CostIs (shown_bytes word ∷ text_if (is_fraction word) Fraction ∷ text_if (is_unrounded word) RoundedWays ∷ [])
+bad_cost_text word = cost_text word (is_fraction word) (is_unrounded word)
 
 -- the first word that is no customer, if there is one
 abbrev pub bad_customer_text : Option (List ℕ) → List ℕ
 bad_customer_text None = []
-bad_customer_text (Some word) = form CustomerIs (shown_bytes word ∷ [])
+bad_customer_text (Some word) = form (codes ": a customer is @, allowed are digits alone, at most 4294967295") (shown_bytes word ∷ [])
 
 -- the cost, or a customer of those behind the colon of a route line
 abbrev pub number_text : Option (List ℕ) → List ℕ → List ℕ

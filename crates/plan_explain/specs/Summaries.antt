@@ -4,11 +4,9 @@ use Rattle.std.specs.Int.{int_max}
 use Rattle.plan_types.specs.Instance.{Instance}
 use Rattle.route_sched.specs.Schedule.{leg, route_length, start}
 use Rattle.route_sched.specs.Cost.{total_length}
-use Rattle.text_lines.specs.Lines.{ended}
-use Rattle.told_text.specs.Columns.{cell, right, right_signed}
-use Rattle.plan_explain.specs.Phrases.{phrase}
+use Rattle.told_text.specs.Columns.{right, right_signed}
+use Rattle.plan_explain.specs.Forms.{form}
 use Rattle.plan_explain.specs.Tables.{rows_of}
-use Rattle.plan_explain.specs.declared.phrases.Phrase.TheVariants.{RoutesHeading, Sum}
 use Rattle.plan_explain.specs.declared.rows.Row.{Row}
 use Rattle.plan_explain.specs.declared.summaries.Summary.{Summary}
 use Rattle.plan_explain.specs.declared.summaries.Sums.{Sums}
@@ -36,27 +34,25 @@ summary_of p route = record {
   waiting = waiting p route;
 }
 
-unfoldable pub way_text : ℕ → Summary → List ℕ
-way_text k s = cell 5 k ++ cell 6 s.stops ++ cell 10 s.distance ++ right_signed 9 s.load ++ codes " "
+abbrev pub route_line : ℕ → Summary → List ℕ
+route_line k s = form (codes "@ @ @ @ @ @ @\n") (right 5 k ∷ right 6 s.stops ∷ right 10 s.distance ∷ right_signed 9 s.load ∷ right 10 s.set_off ∷ right 10 s.back ∷ right 10 s.waiting ∷ [])
 
-unfoldable pub day_text : Summary → List ℕ
-day_text s = ended (cell 10 s.set_off ++ cell 10 s.back ++ right 10 s.waiting)
+-- the line of each, the first of them with this number
+abbrev pub route_lines : ℕ → List Summary → List ℕ
+route_lines k [] = []
+route_lines k (s ∷ ss) = route_line k s ++ route_lines (k + 1) ss
 
-abbrev pub summary_line : ℕ → Summary → List ℕ
-summary_line k s = way_text k s ++ day_text s
+-- the sums of stops and waiting times
+abbrev pub sums_of : List Summary → Sums
+sums_of ss = record { stops = sum_by (λ (s : Summary). s.stops) ss; waiting = sum_by (λ (s : Summary). s.waiting) ss }
 
--- the line of each route, from this number on
-abbrev pub summary_lines : Instance → ℕ → List (List ℕ) → List ℕ
-summary_lines p k [] = []
-summary_lines p k (route ∷ routes) = summary_line k (summary_of p route) ++ summary_lines p (k + 1) routes
+-- in their columns, with that of distances
+abbrev pub sums_text : Sums → ℕ → List ℕ
+sums_text sums distance = form (codes "  sum @ @ @\n") (right 6 sums.stops ∷ right 10 distance ∷ right 42 sums.waiting ∷ [])
 
--- the sums of stops, distances and waiting times
-abbrev pub sums_of : Instance → List (List ℕ) → Sums
-sums_of p routes = record { stops = sum_by length routes; distance = total_length p routes; waiting = sum_by (waiting p) routes }
-
--- in their columns
-abbrev pub sums_text : Sums → List ℕ
-sums_text s = phrase Sum ++ ended (cell 6 s.stops ++ cell 10 s.distance ++ right 42 s.waiting)
+unfoldable pub lines_text : List ℕ → List Summary → ℕ → List ℕ
+lines_text heading ss distance = heading ++ route_lines 1 ss ++ sums_text (sums_of ss) distance
 
 abbrev pub summary_text : Instance → List (List ℕ) → List ℕ
-summary_text p routes = phrase RoutesHeading ++ summary_lines p 1 routes ++ sums_text (sums_of p routes)
+summary_text p routes =
+    lines_text (codes "route  stops   distance      load    set off     return    waiting\n") (map (summary_of p) routes) (total_length p routes)

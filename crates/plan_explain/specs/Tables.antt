@@ -6,12 +6,10 @@ use Rattle.plan_types.specs.declared.requests.Kind.{Kind}
 use Rattle.plan_types.specs.declared.requests.Kind.TheVariants.{LiLim, Vrp}
 use Rattle.route_sched.specs.Route.{place}
 use Rattle.route_sched.specs.Schedule.{leg, load, start}
-use Rattle.text_lines.specs.Lines.{ended}
-use Rattle.told_text.specs.Columns.{cell, left, right, right_signed}
-use Rattle.plan_explain.specs.Phrases.{phrase, text_if}
+use Rattle.told_text.specs.Columns.{left, right, right_signed}
+use Rattle.plan_explain.specs.Forms.{form, text_if}
 use Rattle.rule_breaches.specs.Limits.{is_late, is_overload}
 use Rattle.plan_explain.specs.declared.stop_visits.StopVisit.{StopVisit}
-use Rattle.plan_explain.specs.declared.phrases.Phrase.TheVariants.{LoadsHeading, MarkLate, MarkOverload, StopsHeading, TimesHeading}
 use Rattle.plan_explain.specs.declared.rows.Row.{Row}
 
 -- when the vehicle comes to the place behind place k: it leaves after the service there, and drives on
@@ -48,37 +46,31 @@ set_off h = h.row.start - h.leg
 
 -- A problem of kind `Vrp` asks for no times: its rows leave start, window and service out.
 abbrev pub heading : Kind → List ℕ
-heading LiLim = phrase TimesHeading
-heading Vrp = phrase LoadsHeading
-
--- where the vehicle comes, how far that is and when
-unfoldable pub arrival_text : StopVisit → List ℕ
-arrival_text h = cell 5 h.row.place ++ cell 6 h.row.stop ++ cell 8 h.leg ++ cell 10 h.row.arrival
-
-unfoldable pub times_text : StopVisit → List ℕ
-times_text h = arrival_text h ++ cell 10 h.row.start
-
-unfoldable pub window_text : Row → List ℕ
-window_text r = right 10 r.earliest ++ codes ".." ++ left 10 r.latest ++ codes " "
-
-unfoldable pub load_text : StopVisit → List ℕ
-load_text h = cell 8 h.service ++ right_signed 9 h.row.load
+heading LiLim = codes "place   stop      leg    arrival      start         window          service      load\n"
+heading Vrp = codes "place   stop      leg    arrival      load\n"
 
 abbrev pub figures_text : Kind → StopVisit → List ℕ
-figures_text LiLim h = times_text h ++ window_text h.row ++ load_text h
-figures_text Vrp h = arrival_text h ++ right_signed 9 h.row.load
+figures_text LiLim h = form (codes "@ @ @ @ @ @..@ @ @") (right 5 h.row.place ∷ right 6 h.row.stop ∷ right 8 h.leg ∷ right 10 h.row.arrival
+    ∷ right 10 h.row.start ∷ right 10 h.row.earliest ∷ left 10 h.row.latest ∷ right 8 h.service ∷ right_signed 9 h.row.load ∷ [])
+figures_text Vrp h = form (codes "@ @ @ @ @") (right 5 h.row.place ∷ right 6 h.row.stop ∷ right 8 h.leg ∷ right 10 h.row.arrival ∷ right_signed 9 h.row.load ∷ [])
 
--- a row, with a mark where the vehicle carries too much, and one where it is late
+-- a mark where the vehicle carries too much, and one where it is late
+abbrev pub marks_text : Instance → StopVisit → List ℕ
+marks_text p h = form (codes "@@\n") (text_if (codes "  overload") (is_overload p h.row.load) ∷ text_if (codes "  late") (is_late p h.row.start h.row.latest) ∷ [])
+
 abbrev pub row_text : Instance → StopVisit → List ℕ
-row_text p h = figures_text p.kind h ++ text_if (is_overload p h.row.load) MarkOverload ++ text_if (is_late p h.row.start h.row.latest) MarkLate ++ codes "\n"
+row_text p h = figures_text p.kind h ++ marks_text p h
 
 abbrev pub table_text : Instance → List ℕ → List ℕ
 table_text p route = heading p.kind ++ flat_map (row_text p) (stop_visits_of p route)
 
 -- Where a stop is unknown or stands twice, nobody knows when the vehicle comes: places and stops alone.
+abbrev pub stop_row : ℕ → ℕ → List ℕ
+stop_row k n = form (codes "@ @\n") (right 5 k ∷ right 6 n ∷ [])
+
 abbrev pub stop_rows : ℕ → List ℕ → List ℕ
 stop_rows k [] = []
-stop_rows k (n ∷ route) = ended (cell 5 k ++ right 6 n) ++ stop_rows (k + 1) route
+stop_rows k (n ∷ route) = stop_row k n ++ stop_rows (k + 1) route
 
-abbrev pub stops_table : List ℕ → List ℕ
-stops_table route = phrase StopsHeading ++ stop_rows 1 route
+unfoldable pub stops_table : List ℕ → List ℕ → List ℕ
+stops_table title route = title ++ stop_rows 1 route

@@ -1,7 +1,7 @@
 //! What stands behind the cost line of a solution's text. The reader ends there; here it is looked for.
 ghost use Rattle.std.specs.Prelude.{◌≡◌};
 ghost use Rattle.sol_text.specs.LineShapes.{is_cost_line};
-ghost use Rattle.plan_explain.specs.Behind.{line_behind_cost};
+ghost use Rattle.plan_explain.specs.Behind.{ReadingEndsAtCost, ToldLinesAreUnread, line_behind_cost};
 
 use sol_text::cost_word;
 use text_lines::{Lines, is_blank_line};
@@ -31,3 +31,10 @@ fn is_cost_line(line: &[u8]) -> bool
 {
     cost_word(line).is_some()
 }
+
+/// The reader of solutions ends at the first cost line: texts with the same lines up to it spell the same, or have the same first fault. The
+/// line that `line_behind_cost` tells stands behind it.
+pub fn reading_ends_at_the_cost_line()
+    ensures ends { ReadingEndsAtCost }
+    ensures unread { ToldLinesAreUnread }
+{}

@@ -1,19 +1,26 @@
-//! The line that a fault names, and bytes of a text as a terminal gets them.
+//! The line that a fault names, its words, and bytes of a text as a terminal gets them.
 //!
 //! What is cited keeps its tabs, since Li and Lim's files use them; other bytes that can't be printed are `?`.
-ghost use Rattle.std.specs.Prelude.{◌≡◌, ◌<◌, ◌++◌, map};
+ghost use Rattle.std.specs.Prelude.{◌≡◌, ◌<◌, ◌++◌, map, take};
 ghost use Rattle.std.specs.Option.{option_copied};
-ghost use Rattle.text_lines.specs.Lines.{ended, lines_of};
+ghost use Rattle.text_lines.specs.Lines.{lines_of};
 ghost use Rattle.plan_audit.specs.Rules.{item_at};
-ghost use Rattle.plan_explain.specs.Cited.{is_key, shown_byte, shown_bytes};
+ghost use Rattle.plan_explain.specs.Cited.{is_fraction, is_key, is_no_customer, shown_byte, shown_bytes};
 
-use crate::firsts::first_of;
 use instance_read::split_key;
-use text_lines::Lines;
+use text_lines::{Lines, digits_len, digits_to_u32};
 use told_text::Told;
 
 /// How many bytes of a line or of a word are shown.
 const SHOWN: usize = 200;
+
+/// The first items, at most so many.
+#[tactic(auto, using(std::proofs::lemmas::List::take_min))]
+pub(crate) fn first_of<T>(items: &[T], most: usize) -> &[T]
+    ensures { result.now ≡ take most items.now }
+{
+    &items[..most.min(items.len())]
+}
 
 /// The line with this number, counted from 1.
 pub(crate) fn line_at(text: &[u8], number: u64) -> Option<&[u8]>
@@ -32,14 +39,6 @@ pub(crate) fn is_key(key: &[u8], line: &[u8]) -> bool
     split_key(line).0.eq_ignore_ascii_case(key)
 }
 
-/// Appends a line of its own with these bytes.
-pub(crate) fn put_line(text: &mut Told, bytes: &[u8])
-    ensures { text.new ≡ text.old ++ ended (shown_bytes bytes.now) }
-{
-    put_shown(text, bytes);
-    text.push_str("\n");
-}
-
 /// Appends the bytes, as many of them as are shown.
 pub(crate) fn put_shown(text: &mut Told, bytes: &[u8])
     ensures { text.new ≡ text.old ++ shown_bytes bytes.now }
@@ -55,7 +54,7 @@ fn put_bytes(text: &mut Told, bytes: &[u8])
     }
 }
 
-pub(crate) fn shown_byte(byte: u8) -> u8
+fn shown_byte(byte: u8) -> u8
     ensures shown { result ≡ shown_byte byte }
     ensures ascii { result < 128 }
 {
@@ -63,4 +62,26 @@ pub(crate) fn shown_byte(byte: u8) -> u8
         b' '..=b'~' | b'\t' => byte,
         _ => b'?',
     }
+}
+
+/// Whether a word is no number for the digits behind its point alone.
+pub(crate) fn is_fraction(word: &[u8]) -> bool
+    ensures { result ≡ is_fraction word.now }
+{
+    let body = match word {
+        [b'+' | b'-', rest @ ..] => rest,
+        _ => word,
+    };
+    match &body[digits_len(body)..] {
+        [b'.', digits @ ..] => !digits.is_empty() && digits_len(digits) == digits.len(),
+        _ => false,
+    }
+}
+
+/// Whether a word is no number of a customer.
+#[tactic(auto, unfolding(sol_text::specs::Values::customer_of))]
+pub(crate) fn is_no_customer(word: &[u8]) -> bool
+    ensures { result ≡ is_no_customer word.now }
+{
+    digits_to_u32(word).is_none()
 }

@@ -3,8 +3,8 @@ ghost use Rattle.std.specs.Prelude.{◌≡◌, ◌++◌, ℕ, IfOk, string_bytes
 ghost use Rattle.plan_audit.specs.Verdict.{IsVerdict, printed};
 ghost use Rattle.plan_explain.specs.Explained.{driven_text, verdict_knows_ways};
 
-use crate::phrases::Phrase;
-use crate::sentences::put_named;
+use crate::forms::Value::Long;
+use crate::forms::put_form;
 use plan_audit::{Rule, Verdict};
 use plan_types::{OutOfMemory, Problem, Route};
 use route_sched::total_distance;
@@ -34,8 +34,9 @@ fn put_driven(text: &mut Told, problem: &Problem, routes: &[Route], verdict: Ver
     ensures { text.new ≡ text.old ++ driven_text problem.now routes.now verdict }
 {
     if verdict_knows_ways(verdict) {
-        put_named(text, Phrase::RoutesDrive, total_distance(problem, routes));
-        text.push_str("\n");
+        let distance = Long(total_distance(problem, routes));
+        let words = "distance that the routes drive, each way rounded: @\n";
+        put_form(text, words, &[distance]);
     }
 }
 

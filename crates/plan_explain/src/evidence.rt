@@ -1,17 +1,10 @@
 //! What is said of the evidence of a fault of an instance, behind its kind.
 ghost use Rattle.std.specs.Prelude.{◌≡◌, ◌++◌};
-ghost use Rattle.plan_explain.specs.EvidenceTexts.{beyond_text, demands_phrase, evidence_text, key_text, many_text, missing_text, pair_text, word_text};
+ghost use Rattle.plan_explain.specs.EvidenceTexts.{beyond_text, demands_words, evidence_text, key_text, many_text, missing_text, no_number_text, pair_text, word_text};
 
+use crate::cited::is_fraction;
 use crate::forms::Value::{Cited, KeyName, Missing, Name, Needed, Number, Signed, WordsIf};
 use crate::forms::put_form;
-use crate::numbers::is_fraction;
-use crate::phrases::Phrase;
-use crate::phrases::Phrase::{
-    Absent, BehindEnd, Beyond, Counts, FieldIs, FirstTask, Fraction, InsideDepots, KeyIs,
-    MissingKeys, NamesBoth, NamesNone, NamesOther, NegativePickup, NoDepot, NoHeader, NodeCounts,
-    NotBefore, Stray, StrayNodes, SumNotZero, TaskBehind, TaskIs, Unfinished, ValueIs, Window,
-};
-use crate::sentences::put_phrase;
 use instance_read::{Evidence, Field, Key, Limits, ReadFaultKind};
 use told_text::Told;
 
@@ -21,30 +14,31 @@ pub(crate) fn put_evidence(text: &mut Told, kind: ReadFaultKind, evidence: Evide
 {
     match evidence {
         Evidence::Count { due, found } => {
-            put_form(text, Counts, &[Number(due as u64), Number(found as u64)])
+            let counts = [Number(due as u64), Number(found as u64)];
+            put_form(text, ": @ due, @ found", &counts)
         }
         Evidence::Word {
             field,
             word,
             limits,
         } => put_word(text, kind, field, word.bytes(), limits),
-        Evidence::FirstTask(task) => put_form(text, FirstTask, &[Cited(task.bytes())]),
+        Evidence::FirstTask(task) => put_form(
+            text,
+            ": the first is task @",
+            &[Cited(task.bytes())],
+        ),
         Evidence::TaskBehind { task, before } => {
-            put_form(
-                text,
-                TaskBehind,
-                &[Cited(task.bytes()), Cited(before.bytes())],
-            )
+            let tasks = [Cited(task.bytes()), Cited(before.bytes())];
+            put_form(text, ": task @ stands behind task @", &tasks)
         }
         Evidence::Window { earliest, latest } => {
-            put_form(
-                text,
-                Window,
-                &[Cited(earliest.bytes()), Cited(latest.bytes())],
-            )
+            let window = [Cited(earliest.bytes()), Cited(latest.bytes())];
+            put_form(text, ": it begins at @ and ends at @", &window)
         }
-        Evidence::NoHeader => put_phrase(text, NoHeader),
-        Evidence::NoDepot => put_phrase(text, NoDepot),
+        Evidence::NoHeader => text.push_str(
+            ": the first line, of fleet, capacity and speed, is missing",
+        ),
+        Evidence::NoDepot => text.push_str(": task 0, the depot, is missing"),
         other => put_pair(text, other),
     }
 }
@@ -52,13 +46,20 @@ pub(crate) fn put_evidence(text: &mut Told, kind: ReadFaultKind, evidence: Evide
 fn put_word(text: &mut Told, kind: ReadFaultKind, field: Field, word: &[u8], limits: Option<Limits>)
     ensures { text.new ≡ text.old ++ word_text kind field word.now limits }
 {
-    let fraction = WordsIf(Fraction, is_fraction(word));
     match kind {
-        ReadFaultKind::BadNumber => put_form(text, FieldIs, &[Name(field), Cited(word), fraction]),
+        ReadFaultKind::BadNumber => put_no_number(text, field, word, is_fraction(word)),
         ReadFaultKind::Range => put_beyond(text, field, word, limits),
         ReadFaultKind::TooManyStops => put_many(text, field, word),
-        _ => put_form(text, FieldIs, &[Name(field), Cited(word)]),
+        _ => put_form(text, ": @ is @", &[Name(field), Cited(word)]),
     }
+}
+
+#[tactic(auto, unfolding(crate::specs::EvidenceTexts::no_number_text))]
+fn put_no_number(text: &mut Told, field: Field, word: &[u8], has_fraction: bool)
+    ensures { text.new ≡ text.old ++ no_number_text field word.now has_fraction }
+{
+    let fraction = WordsIf(", which has a fraction", has_fraction);
+    put_form(text, ": @ is @@", &[Name(field), Cited(word), fraction])
 }
 
 fn put_beyond(text: &mut Told, field: Field, word: &[u8], limits: Option<Limits>)
@@ -68,7 +69,8 @@ fn put_beyond(text: &mut Told, field: Field, word: &[u8], limits: Option<Limits>
         return;
     };
     let (least, most) = (Signed(i64::from(least)), Signed(i64::from(most)));
-    put_form(text, Beyond, &[Name(field), Cited(word), least, most]);
+    let values = [Name(field), Cited(word), least, most];
+    put_form(text, ": @ is @, its limits are @..@", &values);
 }
 
 // The kind tells the greatest number.
@@ -76,8 +78,8 @@ fn put_many(text: &mut Told, field: Field, word: &[u8])
     ensures { text.new ≡ text.old ++ many_text word.now field }
 {
     match field {
-        Field::Number => put_form(text, TaskIs, &[Cited(word)]),
-        _ => put_form(text, FieldIs, &[Name(field), Cited(word)]),
+        Field::Number => put_form(text, ": task @", &[Cited(word)]),
+        _ => put_form(text, ": @ is @", &[Name(field), Cited(word)]),
     }
 }
 
@@ -86,10 +88,11 @@ fn put_pair(text: &mut Told, evidence: Evidence<'_>)
     ensures { text.new ≡ text.old ++ pair_text evidence.entry }
 {
     match evidence {
-        Evidence::NamesNone => put_phrase(text, NamesNone),
-        Evidence::NamesBoth => put_phrase(text, NamesBoth),
+        Evidence::NamesNone => text.push_str(": it names neither a pickup nor a delivery"),
+        Evidence::NamesBoth => text.push_str(": it names both a pickup and a delivery"),
         Evidence::Absent(field, task) => {
-            put_form(text, Absent, &[Name(field), Number(u64::from(task))])
+            let values = [Name(field), Number(u64::from(task))];
+            put_form(text, ": its @, task @, is not there", &values)
         }
         Evidence::NamesOther {
             field,
@@ -99,11 +102,8 @@ fn put_pair(text: &mut Told, evidence: Evidence<'_>)
             back,
         } => {
             let (task, named) = (Number(u64::from(task)), Number(u64::from(named)));
-            put_form(
-                text,
-                NamesOther,
-                &[Name(field), task, Number(line), named, Name(back)],
-            )
+            let values = [Name(field), task, Number(line), named, Name(back)];
+            put_form(text, ": its @, task @ on line @, has @ as its @", &values)
         }
         Evidence::Demands {
             field,
@@ -115,7 +115,7 @@ fn put_pair(text: &mut Told, evidence: Evidence<'_>)
         } => {
             let (task, line) = (Number(u64::from(task)), Number(line));
             let (demand, own) = (Cited(demand.bytes()), Cited(own.bytes()));
-            let words = demands_phrase(is_negative);
+            let words = demands_words(is_negative);
             put_form(text, words, &[Name(field), task, line, demand, own])
         }
         other => put_key(text, other),
@@ -123,13 +123,13 @@ fn put_pair(text: &mut Told, evidence: Evidence<'_>)
 }
 
 // A pickup's demand that is below 0 is wrong whatever the other one is, and else their sum is.
-fn demands_phrase(is_negative: bool) -> Phrase
-    ensures { result ≡ demands_phrase is_negative }
+fn demands_words(is_negative: bool) -> &'static str
+    ensures { result.now ≡ demands_words is_negative }
 {
     if is_negative {
-        NegativePickup
+        ": its @, task @ on line @, has demand @, this one @: that of a pickup is not negative"
     } else {
-        SumNotZero
+        ": its @, task @ on line @, has demand @, this one @: their sum is not 0"
     }
 }
 
@@ -145,28 +145,28 @@ fn put_key(text: &mut Told, evidence: Evidence<'_>)
             lacks,
         } => {
             let (due, found) = (Number(due as u64), Number(found as u64));
-            let lacks = Number(u64::from(lacks));
-            put_form(text, NodeCounts, &[due, found, KeyName(section), lacks])
+            let values = [due, found, KeyName(section), Number(u64::from(lacks))];
+            put_form(text, ": @ due, @ found, @ lacks @ of its lines", &values)
         }
-        Evidence::BehindEnd => put_phrase(text, BehindEnd),
-        Evidence::Stray(None) => put_phrase(text, Stray),
-        Evidence::Stray(Some(nodes)) => { put_form(text, StrayNodes, &[Number(u64::from(nodes))]) }
-        Evidence::Key(key) => put_form(text, KeyIs, &[Cited(key.bytes())]),
+        Evidence::BehindEnd => text.push_str(
+            ": words stand behind -1, which ends the list of depots",
+        ),
+        Evidence::Stray(None) => text.push_str(": these numbers stand in no section"),
+        Evidence::Stray(Some(nodes)) => {
+            let words =
+                ": these numbers stand in no section, each of which has as many lines as DIMENSION says, @";
+            put_form(text, words, &[Number(u64::from(nodes))])
+        }
+        Evidence::Key(key) => put_form(text, ": @", &[Cited(key.bytes())]),
         Evidence::Value(key, value) => {
-            put_form(
-                text,
-                ValueIs,
-                &[KeyName(key), Cited(value.bytes()), Needed(key)],
-            )
+            let values = [KeyName(key), Cited(value.bytes()), Needed(key)];
+            put_form(text, ": @ is @, supported is @", &values)
         }
         Evidence::Unfinished(section, left) => {
-            put_form(
-                text,
-                Unfinished,
-                &[KeyName(section), Number(u64::from(left))],
-            )
+            let values = [KeyName(section), Number(u64::from(left))];
+            put_form(text, ": @ lacks @ of its lines", &values)
         }
-        Evidence::OpenDepots => put_phrase(text, InsideDepots),
+        Evidence::OpenDepots => text.push_str(": DEPOT_SECTION lacks its end, -1"),
         other => put_missing(text, other),
     }
 }
@@ -176,7 +176,7 @@ fn put_missing(text: &mut Told, evidence: Evidence<'_>)
     ensures { text.new ≡ text.old ++ missing_text evidence.entry }
 {
     match evidence {
-        Evidence::Unannounced => put_phrase(text, NotBefore),
+        Evidence::Unannounced => text.push_str(": DIMENSION has to stand before this section"),
         Evidence::Missing {
             dimension,
             capacity,
@@ -193,7 +193,7 @@ fn put_missing(text: &mut Told, evidence: Evidence<'_>)
                 Missing(Key::Demands, demands),
                 Missing(Key::Depots, depots),
             ];
-            put_form(text, MissingKeys, &keys)
+            put_form(text, ":@@@@@@", &keys)
         }
         _ => {}
     }

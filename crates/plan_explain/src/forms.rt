@@ -1,20 +1,28 @@
 //! Words with values in them.
-ghost use Rattle.std.specs.Prelude.{◌≡◌, ◌++◌, map};
-ghost use Rattle.plan_explain.specs.Forms.{filled, lacked_text, left, next_text, value_text};
-ghost use Rattle.plan_explain.specs.Phrases.{phrase};
+ghost use Rattle.std.specs.Prelude.{◌≡◌, ◌<◌, ◌++◌, map};
+ghost use Rattle.plan_explain.specs.Forms.{form, lacked_text, left, next_text, plain_byte, seat_text, text_if, value_text};
 
-use crate::cited::{put_shown, shown_byte};
+use crate::cited::put_shown;
 use crate::names::{field_name, key_name, supported_name};
-use crate::phrases::Phrase;
-use crate::sentences::put_mark;
 use instance_read::{Field, Key};
+use rule_breaches::Seat;
 use told_text::Told;
 
 /// What stands in the place of an `@`.
 #[derive(Clone, Copy)]
 pub(crate) enum Value<'a> {
+    Short(u32),
     Number(u64),
+    Long(u128),
     Signed(i64),
+    /// A number at the right of so many columns, or at the left.
+    Right(usize, u64),
+    RightLong(usize, u128),
+    RightSigned(usize, i64),
+    Left(usize, u64),
+    WordsIf(&'a str, bool),
+    /// Where a stop stands.
+    At(Option<Seat>),
     /// Bytes of the text.
     Cited(&'a [u8]),
     Name(Field),
@@ -23,16 +31,14 @@ pub(crate) enum Value<'a> {
     Needed(Key),
     /// A blank and a key, if that is missing.
     Missing(Key, bool),
-    WordsIf(Phrase, bool),
 }
 
-/// Appends the words of a phrase, with the next of these values in place of each `@`.
-pub(crate) fn put_form(text: &mut Told, words: Phrase, values: &[Value<'_>])
-    ensures { text.new ≡ text.old ++ filled (phrase words) (map value_text values.now) }
+/// Appends words of ASCII, with the next of these values in place of each `@`.
+pub(crate) fn put_form(text: &mut Told, words: &str, values: &[Value<'_>])
+    ensures { text.new ≡ text.old ++ form words.now (map value_text values.now) }
 {
-    let bytes = words.text().as_bytes();
     let mut rest = values;
-    for byte in bytes {
+    for byte in words.as_bytes() {
         rest = put_next(text, *byte, rest);
     }
 }
@@ -43,7 +49,7 @@ fn put_next<'a, 'b>(text: &mut Told, byte: u8, values: &'b [Value<'a>]) -> &'b [
     ensures rest { map value_text result.now ≡ left byte (map value_text values.now) }
 {
     if byte != b'@' {
-        text.push_ascii(shown_byte(byte));
+        text.push_ascii(plain_byte(byte));
         return values;
     }
     match values {
@@ -55,19 +61,55 @@ fn put_next<'a, 'b>(text: &mut Told, byte: u8, values: &'b [Value<'a>]) -> &'b [
     }
 }
 
+fn plain_byte(byte: u8) -> u8
+    ensures plain { result ≡ plain_byte byte }
+    ensures ascii { result < 128 }
+{
+    if byte < 128 { byte } else { b'?' }
+}
+
 fn put_value(text: &mut Told, value: Value<'_>)
     ensures { text.new ≡ text.old ++ value_text value.entry }
 {
     match value {
+        Value::Short(number) => text.push_number(number),
         Value::Number(number) => text.push_number(number),
+        Value::Long(number) => text.push_number(number),
         Value::Signed(number) => text.push_number(number),
+        Value::Right(width, number) => text.push_right(width, u128::from(number)),
+        Value::RightLong(width, number) => text.push_right(width, number),
+        Value::RightSigned(width, number) => text.push_right_signed(width, number),
+        Value::Left(width, number) => text.push_left(width, u128::from(number)),
+        Value::WordsIf(words, holds) => put_if(text, words, holds),
+        Value::At(seat) => put_seat(text, seat),
         Value::Cited(bytes) => put_shown(text, bytes),
         Value::Name(field) => text.push_str(field_name(field)),
         Value::KeyName(key) => text.push_str(key_name(key)),
         Value::Needed(key) => text.push_str(supported_name(key)),
         Value::Missing(key, is_missing) => put_lacked(text, key, is_missing),
-        Value::WordsIf(words, holds) => put_mark(text, holds, words),
     }
+}
+
+/// Appends words, if so.
+pub(crate) fn put_if(text: &mut Told, words: &str, holds: bool)
+    ensures { text.new ≡ text.old ++ text_if words.now holds }
+{
+    if holds {
+        text.push_str(words)
+    }
+}
+
+fn put_seat(text: &mut Told, seat: Option<Seat>)
+    ensures { text.new ≡ text.old ++ seat_text seat }
+{
+    let Some(Seat { route, place }) = seat else {
+        text.push_str("in no route");
+        return;
+    };
+    text.push_str("at place ");
+    text.push_number(place);
+    text.push_str(" of route ");
+    text.push_number(route);
 }
 
 fn put_lacked(text: &mut Told, key: Key, is_missing: bool)

@@ -1,18 +1,18 @@
-//! How often a rule is broken, and where else.
-ghost use Rattle.std.specs.Prelude.{◌≡◌, ◌++◌, All, IsTrue, OnOk, drop};
+//! How often a rule is broken, and where else; how often each rule behind it.
+ghost use Rattle.std.specs.Prelude.{◌≡◌, ◌<◌, ◌++◌, All, IfOk, IsTrue, OnOk, drop};
 ghost use Rattle.std.specs.List.{flat_map};
 ghost use Rattle.route_sched.specs.Route.{AreLiveOnce};
+ghost use Rattle.plan_audit.specs.Verdict.{rule_number};
 ghost use Rattle.rule_breaches.specs.Ways.{knows_ways};
-ghost use Rattle.plan_explain.specs.Further.{further_text, missing_stop_text, missing_text, place_text, places_text};
+ghost use Rattle.plan_explain.specs.Further.{count_of, count_text, further_text, is_counted, missing_stop_text, missing_text, other_text, place_text, places_text};
 
-use crate::firsts::first_of;
-use crate::forms::Value::Number;
+use crate::cited::first_of;
+use crate::forms::Value::{Number, Short};
 use crate::forms::put_form;
-use crate::phrases::Phrase;
-use crate::sentences::put_named;
 use plan_audit::Rule;
 use plan_types::{OutOfMemory, Problem, Route};
-use rule_breaches::{Breach, breaches_of, missing_stops};
+use route_sched::used_count;
+use rule_breaches::{Breach, breaches_of, knows_ways, missing_stops};
 use std::alloc::Global;
 use told_text::Told;
 
@@ -33,48 +33,43 @@ pub(crate) fn put_further(
     match rule {
         Rule::Missing => {
             let stops = missing_stops(alloc, problem, routes)?;
-            put_missing_stops(text, stops.as_slice());
+            put_missing(text, "stops in no route: @\n", stops.as_slice());
         }
         Rule::Fleet => {}
         Rule::Pin => {}
         Rule::PrintedCost => {}
         _ => {
             let found = breaches_of(alloc, problem, routes, rule)?;
-            put_places(text, found.as_slice());
+            put_places(text, "places that break this rule: @\n", found.as_slice());
         }
     }
     Ok(())
 }
 
-fn put_missing_stops(text: &mut Told, stops: &[u32])
-    ensures { text.new ≡ text.old ++ missing_text stops.now }
+#[tactic(auto, unfolding(crate::specs::Further::missing_text))]
+fn put_missing(text: &mut Told, words: &str, stops: &[u32])
+    ensures { text.new ≡ text.old ++ missing_text words.now stops.now }
 {
-    put_named(text, Phrase::Unserved, stops.len() as u64);
-    text.push_str("\n");
-    put_stop_lines(text, first_of(stops, TOLD));
+    let count = Number(stops.len() as u64);
+    put_form(text, words, &[count]);
+    put_missing_stops(text, first_of(stops, TOLD));
 }
 
-fn put_stop_lines(text: &mut Told, stops: &[u32])
+fn put_missing_stops(text: &mut Told, stops: &[u32])
     ensures { text.new ≡ text.old ++ flat_map missing_stop_text stops.now }
 {
     for stop in stops {
-        put_stop_line(text, *stop);
+        put_form(text, "  stop @\n", &[Short(*stop)]);
     }
 }
 
-fn put_stop_line(text: &mut Told, stop: u32)
-    ensures { text.new ≡ text.old ++ missing_stop_text stop }
+#[tactic(auto, unfolding(crate::specs::Further::places_text))]
+fn put_places(text: &mut Told, words: &str, found: &[Breach])
+    ensures { text.new ≡ text.old ++ places_text words.now found.now }
 {
-    put_named(text, Phrase::FurtherStop, u64::from(stop));
-    text.push_str("\n");
-}
-
-fn put_places(text: &mut Told, found: &[Breach])
-    ensures { text.new ≡ text.old ++ places_text found.now }
-{
-    put_named(text, Phrase::Broken, found.len() as u64);
-    text.push_str("\n");
-    put_place_lines(text, first_of(further(found), TOLD));
+    let count = Number(found.len() as u64);
+    put_form(text, words, &[count]);
+    put_further_places(text, first_of(further(found), TOLD));
 }
 
 // The places behind the first one.
@@ -87,18 +82,97 @@ fn further(found: &[Breach]) -> &[Breach]
     }
 }
 
-fn put_place_lines(text: &mut Told, found: &[Breach])
+fn put_further_places(text: &mut Told, found: &[Breach])
     ensures { text.new ≡ text.old ++ flat_map place_text found.now }
 {
     for breach in found {
-        put_place_line(text, *breach);
+        let seat = [
+            Number(breach.route),
+            Number(breach.place),
+            Short(breach.stop),
+        ];
+        put_form(text, "  route @ place @ stop @\n", &seat);
     }
 }
 
-fn put_place_line(text: &mut Told, breach: Breach)
-    ensures { text.new ≡ text.old ++ place_text breach }
+/// The rules that may be broken behind another one, but that on the printed cost.
+pub(crate) static RULES: [Rule; 8] = [
+    Rule::Twice,
+    Rule::Missing,
+    Rule::SplitPair,
+    Rule::DeliveryFirst,
+    Rule::Load,
+    Rule::Late,
+    Rule::LateReturn,
+    Rule::Fleet,
+];
+
+/// Appends of each of these rules that stands behind the one that is told how often it is broken, too.
+pub(crate) fn put_others(
+    alloc: Global,
+    text: &mut Told,
+    problem: &Problem,
+    routes: &[Route],
+    told: Rule,
+    rules: &[Rule],
+) -> Result<(), OutOfMemory>
+    requires { IsTrue (knows_ways told) → All (AreLiveOnce problem.now) routes.now }
+    ensures { OnOk result (text.new ≡ text.old
+        ++ flat_map (other_text problem.now routes.now told) rules.now) }
 {
-    let (place, stop) = (Number(breach.place), Number(u64::from(breach.stop)));
-    put_form(text, Phrase::Further, &[Number(breach.route), place, stop]);
-    text.push_str("\n");
+    for rule in rules {
+        put_other(alloc, text, problem, routes, told, *rule)?;
+    }
+    Ok(())
+}
+
+fn put_other(
+    alloc: Global,
+    text: &mut Told,
+    problem: &Problem,
+    routes: &[Route],
+    told: Rule,
+    rule: Rule,
+) -> Result<(), OutOfMemory>
+    requires { IsTrue (knows_ways told) → All (AreLiveOnce problem.now) routes.now }
+    ensures { OnOk result (text.new ≡ text.old
+        ++ other_text problem.now routes.now told rule) }
+{
+    if is_counted(told, rule) {
+        put_count(text, rule, count_of(alloc, problem, routes, rule)?);
+    }
+    Ok(())
+}
+
+fn is_counted(told: Rule, rule: Rule) -> bool
+    ensures { result ≡ is_counted told rule }
+{
+    told.number() < rule.number() && (rule.number() < 6 || knows_ways(told))
+}
+
+fn put_count(text: &mut Told, rule: Rule, count: u64)
+    ensures { text.new ≡ text.old ++ count_text rule count }
+{
+    if count == 0 {
+        return;
+    }
+    let values = [Number(u64::from(rule.number())), Number(count)];
+    put_form(text, "places that break rule @: @\n", &values);
+}
+
+// How many places break the rule; of rule 3 the stops in no route, of rule 9 the routes too many.
+fn count_of(
+    alloc: Global,
+    problem: &Problem,
+    routes: &[Route],
+    rule: Rule,
+) -> Result<u64, OutOfMemory>
+    requires { 5 < rule_number rule → All (AreLiveOnce problem.now) routes.now }
+    ensures { IfOk result (λ count. count ≡ count_of problem.now routes.now rule) }
+{
+    match rule {
+        Rule::Missing => Ok(missing_stops(alloc, problem, routes)?.len() as u64),
+        Rule::Fleet => Ok(used_count(routes).saturating_sub(u64::from(problem.fleet))),
+        _ => Ok(breaches_of(alloc, problem, routes, rule)?.len() as u64),
+    }
 }

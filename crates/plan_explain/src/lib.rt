@@ -15,25 +15,22 @@
 //! evidence that `instance_read` gives; here it is put into words. Words have `@` where a value stands (`put_form`).
 //!
 //! Modules, in reading order:
-//! - `phrases`, `names`: the words between the figures, the names of fields and keys
-//! - `rows`: what happens at the places of a route
-//! - `stop_visits`: the same with the ways between them and the services
+//! - `names`: the names of fields and keys
+//! - `forms`: words with values in them
+//! - `rows`, `stop_visits`: what happens at the places of a route, with the ways between them and the services
 //! - `tables`: a route as a table
 //! - `summaries`: a line for each route, and the sums
 //! - `sentences`, `shifts`: the sentence on a broken rule; numbers that are all one too high or too low
-//! - `firsts`: the first items of a list
-//! - `further`, `others`: all places that break a rule (`rule_breaches`), how they are told, and how many break each rule behind it
+//! - `further`: all places that break a rule (`rule_breaches`), how they are told, and how many break each rule behind it
 //! - `verdicts`: what is said of a verdict
 //! - `driven`: how far the routes of a refused text drive
-//! - `cited`, `numbers`: lines, bytes and words of a refused text
-//! - `forms`: words with values in them
+//! - `cited`: lines, words and bytes of a refused text
 //! - `evidence`: what is said of the evidence of a fault of an instance
 //! - `sol_faults`: what is said of a fault of a solution's text
-//! - `behind`: what stands behind the cost line of one
+//! - `behind`: what stands behind the cost line of one, which is not read
 //! - `unasked`: limits of an instance that are not asked
 //! - `notes`: a byte order mark, a text that looks like the other kind
 //! - `refused`: what is said of a text that is refused
-//! - `laws`: what is read of a solution's text
 //!
 //! Said by `specs/Explained.antt`, `Sentences.antt`, `Tables.antt`, `Further.antt`, `Summaries.antt` and `Refused.antt`. Proved:
 //! - `explain_verdict`: for each verdict on a printed solution the bytes are those of `verdict_text`
@@ -50,15 +47,10 @@ mod behind;
 mod cited;
 mod driven;
 mod evidence;
-mod firsts;
 mod forms;
 mod further;
-mod laws;
 mod names;
 mod notes;
-mod numbers;
-mod others;
-mod phrases;
 mod refused;
 mod rows;
 mod sentences;
@@ -70,12 +62,11 @@ mod tables;
 mod unasked;
 mod verdicts;
 
-pub use behind::line_behind_cost;
+pub use behind::{line_behind_cost, reading_ends_at_the_cost_line};
 pub use driven::{explain_driven, verdict_knows_ways};
-pub use laws::reading_ends_at_the_cost_line;
 pub use refused::{explain_instance_fault, explain_solution_fault};
-pub use rows::{Row, rows_of};
-pub use stop_visits::{StopVisit, set_off, stop_visits_of};
+pub use rows::Row;
+pub use stop_visits::{StopVisit, rows_of, set_off, stop_visits_of};
 pub use summaries::{Summary, summary_of, wait};
 pub use unasked::unasked_limit;
 pub use verdicts::explain_verdict;

@@ -5,8 +5,7 @@ ghost use Rattle.text_lines.specs.Lines.{lines_of};
 ghost use Rattle.plan_explain.specs.Notes.{has_nine_numbers, is_vrp_line, kind_note, mark_note};
 
 use crate::cited::is_key;
-use crate::phrases::Phrase;
-use crate::sentences::{put_mark, put_phrase};
+use crate::forms::put_if;
 use instance_read::has_no_number;
 use plan_types::Kind;
 use text_lines::{Lines, word_count};
@@ -17,7 +16,9 @@ pub(crate) fn put_mark_note(text: &mut Told, refused: &[u8])
     ensures { text.new ≡ text.old ++ mark_note refused.now }
 {
     match refused {
-        [0xef, 0xbb, 0xbf, ..] => put_phrase(text, Phrase::ByteOrderMark),
+        [0xef, 0xbb, 0xbf, ..] => text.push_str(
+            "the text begins with a byte order mark (EF BB BF): save it without, or by tail -c +4\n",
+        ),
         _ => {}
     }
 }
@@ -27,8 +28,16 @@ pub(crate) fn put_kind_note(text: &mut Told, kind: Kind, instance: &[u8])
     ensures { text.new ≡ text.old ++ kind_note kind instance.now }
 {
     match kind {
-        Kind::LiLim => put_mark(text, looks_vrp(instance), Phrase::LooksVrp),
-        Kind::Vrp => put_mark(text, looks_lilim(instance), Phrase::LooksLilim),
+        Kind::LiLim => put_if(
+            text,
+            "the text looks like a .vrp instance, and is read as lilim\n",
+            looks_vrp(instance),
+        ),
+        Kind::Vrp => put_if(
+            text,
+            "the text looks like a Li-Lim instance, and is read as vrp\n",
+            looks_lilim(instance),
+        ),
     }
 }
 

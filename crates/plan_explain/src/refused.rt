@@ -3,12 +3,11 @@
 ghost use Rattle.std.specs.Prelude.{◌≡◌, ◌++◌, IfOk, string_bytes};
 ghost use Rattle.plan_explain.specs.Refused.{instance_fault_text, instance_reason, instance_sentence, solution_fault_text, solution_reason, solution_sentence, too_many, under_sentence};
 
-use crate::cited::{line_at, put_line};
+use crate::cited::line_at;
 use crate::evidence::put_evidence;
-use crate::forms::Value::Number;
+use crate::forms::Value::{Cited, Number};
 use crate::forms::put_form;
 use crate::notes::{put_kind_note, put_mark_note};
-use crate::phrases::Phrase;
 use crate::sol_faults::put_sol_detail;
 use instance_read::{ReadFault, ReadFaultKind, evidence_of};
 use plan_types::{Kind, OutOfMemory};
@@ -54,7 +53,7 @@ pub fn explain_solution_fault(
 fn put_instance_sentence(answer: &mut Told, kind: Kind, text: &[u8], fault: ReadFault)
     ensures { answer.new ≡ answer.old ++ instance_sentence kind text.now fault }
 {
-    put_form(answer, Phrase::LineIs, &[Number(fault.line)]);
+    put_form(answer, "line @: ", &[Number(fault.line)]);
     answer.push_str(instance_reason(kind, fault.kind));
     put_evidence(answer, fault.kind, evidence_of(kind, text, fault));
 }
@@ -93,7 +92,7 @@ fn too_many(kind: Kind) -> &'static str
 fn put_solution_sentence(answer: &mut Told, text: &[u8], fault: SolFault)
     ensures { answer.new ≡ answer.old ++ solution_sentence text.now fault }
 {
-    put_form(answer, Phrase::LineIs, &[Number(fault.line)]);
+    put_form(answer, "line @: ", &[Number(fault.line)]);
     answer.push_str(solution_reason(fault.kind));
     put_sol_detail(answer, text, fault);
 }
@@ -116,6 +115,6 @@ fn put_line_under(answer: &mut Told, text: &[u8], number: u64)
 {
     answer.push_str("\n");
     if let Some(bytes) = line_at(text, number) {
-        put_line(answer, bytes);
+        put_form(answer, "@\n", &[Cited(bytes)]);
     }
 }

@@ -3,45 +3,16 @@ ghost use Rattle.std.specs.Prelude.{◌≡◌, ◌++◌, All};
 ghost use Rattle.std.specs.Fmt.{signed_decimal};
 ghost use Rattle.std.specs.Option.{option_copied};
 ghost use Rattle.route_sched.specs.Route.{AreLiveOnce};
-ghost use Rattle.route_sched.specs.Cost.{used_count};
-ghost use Rattle.plan_explain.specs.Phrases.{phrase, text_if};
-ghost use Rattle.plan_explain.specs.Sentences.{beside_text, cost_sentence, demand_text, early_sentence, fleet_sentence, last_stop, late_sentence, late_text, load_sentence, missing_sentence, pair_text, return_sentence, seat_text, split_sentence, stands_text, stop_text, twice_sentence, unknown_sentence, unknown_text};
+ghost use Rattle.plan_explain.specs.Sentences.{beside_text, cost_sentence, demand_text, demanded_text, early_sentence, fleet_sentence, last_stop, late_sentence, late_text, load_sentence, load_text, pair_sentence, return_sentence, stop_sentence, unknown_sentence, unknown_text};
 
-use crate::forms::Value::{Number, Signed};
+use crate::forms::Value::{At, Long, Number, Short, Signed};
 use crate::forms::put_form;
-use crate::phrases::Phrase;
 use crate::rows::Row;
 use crate::shifts::put_shift;
-use itoa::Integer;
 use plan_types::{Problem, Route, Stop};
 use route_sched::{total_distance, used_count};
-use rule_breaches::{Seat, first_seat, visit_behind};
-use sol_text::Solution;
+use rule_breaches::{first_seat, visit_behind};
 use told_text::Told;
-
-/// Appends words, and the number behind them.
-pub(crate) fn put_named<N: Integer>(text: &mut Told, words: Phrase, n: N)
-    ensures { text.new ≡ text.old ++ (phrase words ++ N.text n) }
-{
-    put_phrase(text, words);
-    text.push_number(n);
-}
-
-/// Appends words.
-pub(crate) fn put_phrase(text: &mut Told, words: Phrase)
-    ensures { text.new ≡ text.old ++ phrase words }
-{
-    text.push_str(words.text());
-}
-
-/// Appends words, if so.
-pub(crate) fn put_mark(text: &mut Told, holds: bool, words: Phrase)
-    ensures { text.new ≡ text.old ++ text_if holds words }
-{
-    if holds {
-        put_phrase(text, words)
-    }
-}
 
 /// Appends that a stop is of no request, and, where it is so, that all numbers seem to be one too high or too low.
 pub(crate) fn put_unknown(text: &mut Told, problem: &Problem, routes: &[Route], stop: u32)
@@ -55,83 +26,50 @@ fn put_unknown_stop(text: &mut Told, problem: &Problem, stop: u32)
     ensures { text.new ≡ text.old ++ unknown_text problem.now stop }
 {
     if stop == 0 {
-        put_phrase(text, Phrase::DepotInRoute);
+        text.push_str("unknown stop: stop 0 is the depot, which no route line has");
         return;
     }
-    let (stop, next) = (
-        Number(u64::from(stop)),
-        Number(u64::from(problem.next_number)),
-    );
-    put_form(text, Phrase::UnknownStop, &[stop, next]);
+    let words = "unknown stop: no request has stop @, the numbers of the instance are below @";
+    put_form(text, words, &[Short(stop), Short(problem.next_number)]);
 }
 
-/// Appends where a stop that stands twice stands first.
-pub(crate) fn put_twice(text: &mut Told, routes: &[Route], stop: u32)
-    ensures { text.new ≡ text.old ++ twice_sentence routes.now stop }
+/// Appends words on a stop and where it stands first.
+pub(crate) fn put_stop(text: &mut Told, words: &str, routes: &[Route], stop: u32)
+    ensures { text.new ≡ text.old ++ stop_sentence words.now routes.now stop }
 {
-    put_phrase(text, Phrase::VisitedTwice);
-    put_stands(text, routes, stop);
-    put_phrase(text, Phrase::First);
+    put_form(text, words, &[Short(stop), At(first_seat(routes, stop))]);
 }
 
-/// Appends that a stop is in no route, and where the other one of its pair is.
-pub(crate) fn put_missing(text: &mut Told, problem: &Problem, routes: &[Route], stop: u32)
-    ensures { text.new ≡ text.old ++ missing_sentence problem.now routes.now stop }
+/// The same, and where the other one of its pair is.
+pub(crate) fn put_pair(text: &mut Told, words: &str, problem: &Problem, routes: &[Route], stop: u32)
+    ensures { text.new ≡ text.old ++ pair_sentence words.now problem.now routes.now stop }
 {
-    put_phrase(text, Phrase::MissingStop);
-    put_pair(text, problem, routes, stop);
+    put_stop(text, words, routes, stop);
+    let words = "; the other stop of its pair, stop @, is @";
+    put_beside(text, words, routes, problem.partner_of(stop));
 }
 
-/// Appends where the stops of a split pair stand.
-pub(crate) fn put_split(text: &mut Told, problem: &Problem, routes: &[Route], stop: u32)
-    ensures { text.new ≡ text.old ++ split_sentence problem.now routes.now stop }
+/// The same of a delivery, and where its pickup is.
+pub(crate) fn put_early(
+    text: &mut Told,
+    words: &str,
+    problem: &Problem,
+    routes: &[Route],
+    stop: u32,
+)
+    ensures { text.new ≡ text.old ++ early_sentence words.now problem.now routes.now stop }
 {
-    put_phrase(text, Phrase::SplitPair);
-    put_pair(text, problem, routes, stop);
-}
-
-/// Appends where a delivery stands, and where its pickup does.
-pub(crate) fn put_early(text: &mut Told, problem: &Problem, routes: &[Route], stop: u32)
-    ensures { text.new ≡ text.old ++ early_sentence problem.now routes.now stop }
-{
-    put_phrase(text, Phrase::EarlyDelivery);
-    put_stands(text, routes, stop);
-    put_beside(text, routes, Phrase::ItsPickup, problem.pickup_of(stop));
-}
-
-fn put_pair(text: &mut Told, problem: &Problem, routes: &[Route], stop: u32)
-    ensures { text.new ≡ text.old ++ pair_text problem.now routes.now stop }
-{
-    put_stands(text, routes, stop);
-    put_beside(text, routes, Phrase::OtherStop, problem.partner_of(stop));
-}
-
-fn put_stands(text: &mut Told, routes: &[Route], stop: u32)
-    ensures { text.new ≡ text.old ++ stands_text routes.now stop }
-{
-    put_form(text, Phrase::StopIs, &[Number(u64::from(stop))]);
-    put_seat(text, first_seat(routes, stop));
+    put_stop(text, words, routes, stop);
+    let words = "; its pickup, stop @, is @";
+    put_beside(text, words, routes, problem.pickup_of(stop));
 }
 
 // Where another stop stands, if there is one.
-fn put_beside(text: &mut Told, routes: &[Route], words: Phrase, stop: Option<u32>)
-    ensures { text.new ≡ text.old ++ beside_text routes.now words stop }
+fn put_beside(text: &mut Told, words: &str, routes: &[Route], stop: Option<u32>)
+    ensures { text.new ≡ text.old ++ beside_text words.now routes.now stop }
 {
-    let Some(stop) = stop else {
-        return;
-    };
-    put_form(text, words, &[Number(u64::from(stop))]);
-    put_seat(text, first_seat(routes, stop));
-}
-
-fn put_seat(text: &mut Told, seat: Option<Seat>)
-    ensures { text.new ≡ text.old ++ seat_text seat }
-{
-    match seat {
-        None => put_phrase(text, Phrase::Nowhere),
-        Some(Seat { route, place }) => {
-            put_form(text, Phrase::AtPlace, &[Number(place), Number(route)])
-        }
+    if let Some(stop) = stop {
+        put_stop(text, words, routes, stop);
     }
 }
 
@@ -142,16 +80,23 @@ pub(crate) fn put_overload(text: &mut Told, problem: &Problem, row: Option<Row>)
     let Some(row) = row else {
         return;
     };
-    put_stop(text, problem, Phrase::Overload, row.stop);
-    let capacity = Number(u64::from(problem.capacity));
-    put_form(text, Phrase::LoadIs, &[Signed(row.load), capacity]);
+    put_demanded(text, "overload: after stop @", problem, row.stop);
+    put_load(text, ", the load is @, the capacity @", problem, &row);
 }
 
-// Words, and behind them a stop with its demand.
-fn put_stop(text: &mut Told, problem: &Problem, words: Phrase, stop: u32)
-    ensures { text.new ≡ text.old ++ stop_text problem.now words stop }
+#[tactic(auto, unfolding(crate::specs::Sentences::load_text))]
+fn put_load(text: &mut Told, words: &str, problem: &Problem, row: &Row)
+    ensures { text.new ≡ text.old ++ load_text words.now problem.now row.now }
 {
-    put_named(text, words, u64::from(stop));
+    put_form(text, words, &[Signed(row.load), Short(problem.capacity)]);
+}
+
+// Words on a stop, and its demand.
+#[tactic(auto, unfolding(crate::specs::Sentences::demanded_text))]
+fn put_demanded(text: &mut Told, words: &str, problem: &Problem, stop: u32)
+    ensures { text.new ≡ text.old ++ demanded_text words.now problem.now stop }
+{
+    put_form(text, words, &[Short(stop)]);
     put_demand(text, problem.stop(stop));
 }
 
@@ -161,7 +106,7 @@ fn put_demand(text: &mut Told, stop: Option<&Stop>)
     let Some(stop) = stop else {
         return;
     };
-    put_phrase(text, Phrase::DemandIs);
+    text.push_str(", demand ");
     put_demand_of(text, stop);
 }
 
@@ -175,10 +120,15 @@ fn put_demand_of(text: &mut Told, stop: &Stop)
 pub(crate) fn put_late(text: &mut Told, row: Option<Row>)
     ensures { text.new ≡ text.old ++ late_sentence row }
 {
-    let Some(row) = row else {
-        return;
-    };
-    put_lateness(text, Phrase::LateService, row.stop, row.start, row.latest);
+    if let Some(row) = row {
+        put_lateness(
+            text,
+            "late service: stop @ starts at @, latest @: late by @",
+            row.stop,
+            row.start,
+            row.latest,
+        );
+    }
 }
 
 /// Appends when the vehicle is back, and the depot's latest.
@@ -188,12 +138,13 @@ pub(crate) fn put_late_return(text: &mut Told, problem: &Problem, route: &[u32])
     ensures { text.new ≡ text.old ++ return_sentence problem.now route.now }
 {
     let back = visit_behind(problem, route, route.len()).start;
+    let latest = problem.depot.latest;
     put_lateness(
         text,
-        Phrase::LateReturn,
+        "late return: after stop @ the vehicle is back at @, latest @: late by @",
         last_stop(route),
         back,
-        problem.depot.latest,
+        latest,
     );
 }
 
@@ -209,12 +160,11 @@ fn last_stop(route: &[u32]) -> u32
 }
 
 // A stop, a time, the latest time, and by how much it is late.
-fn put_lateness(text: &mut Told, words: Phrase, stop: u32, start: u64, latest: u32)
-    ensures { text.new ≡ text.old ++ late_text words stop start latest }
+fn put_lateness(text: &mut Told, words: &str, stop: u32, start: u64, latest: u32)
+    ensures { text.new ≡ text.old ++ late_text words.now stop start latest }
 {
-    let (stop, latest) = (u64::from(stop), u64::from(latest));
-    let late = Number(start.saturating_sub(latest));
-    let values = [Number(stop), Number(start), Number(latest), late];
+    let late = Number(start.saturating_sub(u64::from(latest)));
+    let values = [Short(stop), Number(start), Short(latest), late];
     put_form(text, words, &values);
 }
 
@@ -222,17 +172,20 @@ fn put_lateness(text: &mut Told, words: Phrase, stop: u32, start: u64, latest: u
 pub(crate) fn put_fleet(text: &mut Told, problem: &Problem, routes: &[Route])
     ensures { text.new ≡ text.old ++ fleet_sentence problem.now routes.now }
 {
-    let (used, fleet) = (Number(used_count(routes)), Number(u64::from(problem.fleet)));
-    put_form(text, Phrase::TooManyVehicles, &[used, fleet]);
+    let words = "too many vehicles: @ are used, the fleet has @";
+    put_form(
+        text,
+        words,
+        &[Number(used_count(routes)), Short(problem.fleet)],
+    );
 }
 
 /// Appends the printed cost, and the distance driven.
-pub(crate) fn put_cost(text: &mut Told, problem: &Problem, solution: &Solution)
-    requires { All (AreLiveOnce problem.now) solution.now.routes }
-    ensures { text.new ≡ text.old ++ cost_sentence problem.now solution.now }
+pub(crate) fn put_cost(text: &mut Told, problem: &Problem, routes: &[Route], printed: u64)
+    requires { All (AreLiveOnce problem.now) routes.now }
+    ensures { text.new ≡ text.old ++ cost_sentence problem.now routes.now printed }
 {
-    let distance = total_distance(problem, solution.routes.as_slice());
-    put_named(text, Phrase::WrongCost, solution.cost);
-    put_phrase(text, Phrase::Driven);
-    text.push_number(distance);
+    let distance = total_distance(problem, routes);
+    let words = "wrong cost: @ is printed, the distance driven is @";
+    put_form(text, words, &[Number(printed), Long(distance)]);
 }

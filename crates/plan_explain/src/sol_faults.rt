@@ -3,15 +3,12 @@ ghost use Rattle.std.specs.Prelude.{◌≡◌, ◌++◌, find};
 ghost use Rattle.std.specs.List.{list_any};
 ghost use Rattle.std.specs.Option.{option_copied};
 ghost use Rattle.text_lines.specs.Words.{words_of};
-ghost use Rattle.plan_explain.specs.Numbers.{is_no_customer};
-ghost use Rattle.plan_explain.specs.SolFaults.{bad_cost_text, bad_customer_text, bad_line_text, begins_blank, first_word, is_indented, is_line_word, is_key_line, is_no_key_byte, is_unrounded, other_line_text, sol_detail, wrong_number_text};
+ghost use Rattle.plan_explain.specs.Cited.{is_no_customer};
+ghost use Rattle.plan_explain.specs.SolFaults.{bad_cost_text, bad_customer_text, bad_line_text, begins_blank, cost_text, first_word, is_indented, is_line_word, is_key_line, is_no_key_byte, is_unrounded, other_line_text, sol_detail, wrong_number_text};
 
-use crate::cited::line_at;
+use crate::cited::{is_fraction, is_no_customer, line_at};
 use crate::forms::Value::{Cited, Number, WordsIf};
-use crate::forms::put_form;
-use crate::numbers::{is_fraction, is_no_customer};
-use crate::phrases::Phrase;
-use crate::sentences::{put_mark, put_phrase};
+use crate::forms::{put_form, put_if};
 use instance_read::split_key;
 use sol_text::{SolFault, SolFaultKind, cost_tail};
 use text_lines::{Words, word_count};
@@ -33,20 +30,28 @@ pub(crate) fn put_sol_detail(text: &mut Told, solution: &[u8], fault: SolFault)
 fn put_bad_line(text: &mut Told, line: &[u8])
     ensures { text.new ≡ text.old ++ bad_line_text line.now }
 {
-    let Some(tail) = cost_tail(line) else {
-        put_other_line(text, line);
-        return;
-    };
-    put_form(text, Phrase::CostWords, &[Number(word_count(tail) as u64)]);
+    match cost_tail(line) {
+        Some(tail) => {
+            let found = Number(word_count(tail) as u64);
+            put_form(text, ": 1 due behind Cost, @ found", &[found])
+        }
+        None => put_other_line(text, line),
+    }
 }
 
 fn put_other_line(text: &mut Told, line: &[u8])
     ensures { text.new ≡ text.old ++ other_line_text line.now }
 {
     if is_indented(line) {
-        put_phrase(text, Phrase::IndentedLine);
+        text.push_str(
+            ": Route and Cost have to begin their lines, as they do behind: sed 's/^[[:blank:]]*//'",
+        );
     } else {
-        put_mark(text, is_key_line(line), Phrase::KeyLine);
+        put_if(
+            text,
+            ": a solution has no other keys, as it has none behind: grep -iE '^(route|cost)'",
+            is_key_line(line),
+        );
     }
 }
 
@@ -102,9 +107,22 @@ fn put_wrong_number(text: &mut Told, line: &[u8])
 fn put_bad_cost(text: &mut Told, word: &[u8])
     ensures { text.new ≡ text.old ++ bad_cost_text word.now }
 {
-    let fraction = WordsIf(Phrase::Fraction, is_fraction(word));
-    let rounded = WordsIf(Phrase::RoundedWays, is_unrounded(word));
-    put_form(text, Phrase::CostIs, &[Cited(word), fraction, rounded]);
+    put_cost(text, word, is_fraction(word), is_unrounded(word));
+}
+
+#[tactic(auto, unfolding(crate::specs::SolFaults::cost_text))]
+fn put_cost(text: &mut Told, word: &[u8], has_fraction: bool, is_unrounded: bool)
+    ensures { text.new ≡ text.old ++ cost_text word.now has_fraction is_unrounded }
+{
+    let fraction = WordsIf(", which has a fraction", has_fraction);
+    let note =
+        ". Each way is rounded to a whole number here; behind the word routes no cost is asked";
+    let words = ": the cost is @@, allowed are whole numbers in 0..18446744073709551615@";
+    put_form(
+        text,
+        words,
+        &[Cited(word), fraction, WordsIf(note, is_unrounded)],
+    );
 }
 
 // Whether the cost has a fraction, or an exponent.
@@ -117,9 +135,9 @@ fn is_unrounded(word: &[u8]) -> bool
 fn put_bad_customer(text: &mut Told, word: Option<&[u8]>)
     ensures { text.new ≡ text.old ++ bad_customer_text (option_copied word.entry) }
 {
-    match word {
-        Some(word) => put_form(text, Phrase::CustomerIs, &[Cited(word)]),
-        None => {}
+    if let Some(word) = word {
+        let words = ": a customer is @, allowed are digits alone, at most 4294967295";
+        put_form(text, words, &[Cited(word)]);
     }
 }
 
@@ -139,8 +157,5 @@ fn no_customer(tail: &[u8]) -> Option<&[u8]>
 fn first_word(line: &[u8]) -> &[u8]
     ensures { result.now ≡ first_word (words_of line.now) }
 {
-    match Words::new(line).next() {
-        Some(word) => word,
-        None => &[],
-    }
+    Words::new(line).next().unwrap_or(&[])
 }

@@ -1,10 +1,10 @@
 //! The places of a route, each with the way to it and the service there.
-ghost use Rattle.std.specs.Prelude.{◌≡◌, IfOk};
+ghost use Rattle.std.specs.Prelude.{◌≡◌, ◌+◌, ◌<◌, ◌^◌, IfOk, map};
 ghost use Rattle.route_sched.specs.Route.{AreLiveOnce};
-ghost use Rattle.plan_explain.specs.Rows.{stop_visit_with};
+ghost use Rattle.plan_explain.specs.Rows.{stop_visit_after};
 ghost use Rattle.plan_explain.specs.Tables.{stop_visits_of, rows_of, set_off};
 
-use crate::rows::{Row, rows_of};
+use crate::rows::Row;
 use plan_types::{OutOfMemory, Problem};
 use route_sched::{Visit, Visits};
 use std::alloc::Global;
@@ -28,42 +28,63 @@ pub fn stop_visits_of(
     requires { AreLiveOnce problem.now route.now }
     ensures { IfOk result (λ stop_visits. stop_visits.items ≡ stop_visits_of problem.now route.now) }
 {
-    let rows = rows_of(alloc, problem, route)?;
-    stop_visits_at(alloc, problem, route, rows.as_slice())
-}
-
-// The visits at these rows.
-fn stop_visits_at(
-    alloc: Global,
-    problem: &Problem,
-    route: &[u32],
-    rows: &[Row],
-) -> Result<Vec<StopVisit>, OutOfMemory>
-    requires route { AreLiveOnce problem.now route.now }
-    requires rows { rows.now ≡ rows_of problem.now route.now }
-    ensures { IfOk result (λ stop_visits. stop_visits.items ≡ stop_visits_of problem.now route.now) }
-{
     let mut stop_visits = Vec::new(alloc);
     let mut visits = Visits::new(problem, route);
-    for row in rows {
+    let mut last = Visit {
+        stop: problem.depot,
+        start: u64::from(problem.depot.earliest),
+        load: 0,
+        leg: 0,
+    };
+    for place in 0..route.len() + 1 {
         let visit = match visits.next() {
             Some(visit) => visit,
             None => unreachable!(),
         };
-        stop_visits.push(stop_visit_with(row, &visit))?;
+        stop_visits.push(stop_visit(place, &last, &visit))?;
+        last = visit;
     }
     Ok(stop_visits)
 }
 
-// The row of a visit with its leg and its service.
-fn stop_visit_with(row: &Row, visit: &Visit) -> StopVisit
-    ensures { result ≡ stop_visit_with row.now visit.now }
+// A visit straight after another one, which is at this place.
+fn stop_visit(place: usize, last: &Visit, visit: &Visit) -> StopVisit
+    requires place { place + 1 < 2 ^ 64 }
+    requires time { last.now.start + last.now.stop.service + visit.now.leg < 2 ^ 64 }
+    ensures { result ≡ stop_visit_after place last.now visit.now }
 {
     StopVisit {
-        row: *row,
+        row: Row {
+            place: place as u64 + 1,
+            stop: visit.stop.number,
+            arrival: last.start + u64::from(last.stop.service) + u64::from(visit.leg),
+            start: visit.start,
+            earliest: visit.stop.earliest,
+            latest: visit.stop.latest,
+            load: visit.load,
+        },
         leg: visit.leg,
         service: visit.stop.service,
     }
+}
+
+/// The rows of a route, the return last: its visits without ways and services.
+pub fn rows_of(alloc: Global, problem: &Problem, route: &[u32]) -> Result<Vec<Row>, OutOfMemory>
+    requires { AreLiveOnce problem.now route.now }
+    ensures { IfOk result (λ rows. rows.items ≡ rows_of problem.now route.now) }
+{
+    let visits = stop_visits_of(alloc, problem, route)?;
+    rows_at(alloc, visits.as_slice())
+}
+
+fn rows_at(alloc: Global, visits: &[StopVisit]) -> Result<Vec<Row>, OutOfMemory>
+    ensures { IfOk result (λ rows. rows.items ≡ map (λ h. h.row) visits.now) }
+{
+    let mut rows = Vec::new(alloc);
+    for visit in visits {
+        rows.push(visit.row)?;
+    }
+    Ok(rows)
 }
 
 /// When a vehicle that comes just when service starts leaves the place before.

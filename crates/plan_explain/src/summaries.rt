@@ -2,13 +2,13 @@
 ghost use Rattle.std.specs.Prelude.{◌≡◌, ◌++◌, ◌<◌, ◌^◌, All, IfOk, OnOk, fold, map, pos, sum_by};
 ghost use Rattle.std.specs.Int.{int_max};
 ghost use Rattle.route_sched.specs.Route.{AreLiveOnce};
-ghost use Rattle.plan_explain.specs.Summaries.{day_text, summary_line, summary_of, summary_text, sums_text, wait, waiting, way_text};
-ghost use Rattle.plan_explain.specs.Rows.{lines_from};
+ghost use Rattle.plan_explain.specs.Summaries.{lines_text, route_line, route_lines, summary_of, summary_text, sums_of, sums_text, wait, waiting};
 ghost use Rattle.plan_explain.specs.Tables.{rows_of};
 
-use crate::phrases::Phrase;
-use crate::rows::{Row, rows_of};
-use crate::sentences::put_phrase;
+use crate::forms::Value::{Right, RightLong, RightSigned};
+use crate::forms::put_form;
+use crate::rows::Row;
+use crate::stop_visits::rows_of;
 use plan_types::{OutOfMemory, Problem, Route};
 use route_sched::{route_distance, total_distance};
 use rule_breaches::visit_behind;
@@ -34,7 +34,6 @@ pub struct Summary {
 #[derive(Clone, Copy)]
 pub(crate) struct Sums {
     stops: u128,
-    distance: u128,
     waiting: u128,
 }
 
@@ -49,15 +48,9 @@ pub(crate) fn put_summary(
     ensures { OnOk result (text.new ≡ text.old ++ summary_text problem.now routes.now) }
 {
     let summaries = summaries(alloc, problem, routes)?;
-    let summaries = summaries.as_slice();
-    put_phrase(text, Phrase::RoutesHeading);
-    put_lines(text, summaries);
-    let sums = Sums {
-        stops: stops_in(summaries),
-        distance: total_distance(problem, routes),
-        waiting: waiting_in(summaries),
-    };
-    put_sums(text, &sums);
+    let heading = "route  stops   distance      load    set off     return    waiting\n";
+    let distance = total_distance(problem, routes);
+    put_lines(text, heading, summaries.as_slice(), distance);
     Ok(())
 }
 
@@ -124,40 +117,41 @@ pub fn wait(row: &Row) -> u64
     row.start.saturating_sub(row.arrival)
 }
 
-fn put_lines(text: &mut Told, summaries: &[Summary])
-    ensures { text.new ≡ text.old ++ lines_from 1 summaries.now }
+#[tactic(auto, unfolding(crate::specs::Summaries::lines_text))]
+fn put_lines(text: &mut Told, heading: &str, summaries: &[Summary], distance: u128)
+    ensures { text.new ≡ text.old ++ lines_text heading.now summaries.now distance }
+{
+    text.push_str(heading);
+    put_routes(text, summaries);
+    put_sums(text, sums_of(summaries), distance);
+}
+
+fn put_routes(text: &mut Told, summaries: &[Summary])
+    ensures { text.new ≡ text.old ++ route_lines 1 summaries.now }
 {
     for (route, summary) in summaries.iter().enumerate() {
-        put_line(text, route as u64 + 1, summary);
+        put_route(text, route as u64 + 1, summary);
     }
 }
 
-fn put_line(text: &mut Told, route: u64, summary: &Summary)
-    ensures { text.new ≡ text.old ++ summary_line route summary.now }
+fn put_route(text: &mut Told, route: u64, summary: &Summary)
+    ensures { text.new ≡ text.old ++ route_line route summary.now }
 {
-    put_way(text, route, summary);
-    put_day(text, summary);
+    let (route, stops) = (Right(5, route), Right(6, summary.stops));
+    let (distance, load) = (Right(10, summary.distance), RightSigned(9, summary.load));
+    let (set_off, back) = (Right(10, summary.set_off), Right(10, summary.back));
+    let waiting = Right(10, summary.waiting);
+    let values = [route, stops, distance, load, set_off, back, waiting];
+    put_form(text, "@ @ @ @ @ @ @\n", &values);
 }
 
-#[tactic(auto, unfolding(crate::specs::Summaries::way_text))]
-fn put_way(text: &mut Told, route: u64, summary: &Summary)
-    ensures { text.new ≡ text.old ++ way_text route summary.now }
+fn sums_of(summaries: &[Summary]) -> Sums
+    ensures { result ≡ sums_of summaries.now }
 {
-    text.push_cell(5, u128::from(route));
-    text.push_cell(6, u128::from(summary.stops));
-    text.push_cell(10, u128::from(summary.distance));
-    text.push_right_signed(9, summary.load);
-    text.push_str(" ");
-}
-
-#[tactic(auto, unfolding(crate::specs::Summaries::day_text))]
-fn put_day(text: &mut Told, summary: &Summary)
-    ensures { text.new ≡ text.old ++ day_text summary.now }
-{
-    text.push_cell(10, u128::from(summary.set_off));
-    text.push_cell(10, u128::from(summary.back));
-    text.push_right(10, u128::from(summary.waiting));
-    text.push_str("\n");
+    Sums {
+        stops: stops_in(summaries),
+        waiting: waiting_in(summaries),
+    }
 }
 
 fn stops_in(summaries: &[Summary]) -> u128
@@ -180,12 +174,10 @@ fn waiting_in(summaries: &[Summary]) -> u128
     waiting
 }
 
-fn put_sums(text: &mut Told, sums: &Sums)
-    ensures { text.new ≡ text.old ++ sums_text sums.now }
+fn put_sums(text: &mut Told, sums: Sums, distance: u128)
+    ensures { text.new ≡ text.old ++ sums_text sums distance }
 {
-    put_phrase(text, Phrase::Sum);
-    text.push_cell(6, sums.stops);
-    text.push_cell(10, sums.distance);
-    text.push_right(42, sums.waiting);
-    text.push_str("\n");
+    let (stops, waiting) = (RightLong(6, sums.stops), RightLong(42, sums.waiting));
+    let values = [stops, RightLong(10, distance), waiting];
+    put_form(text, "  sum @ @ @\n", &values);
 }

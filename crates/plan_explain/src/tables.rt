@@ -2,14 +2,10 @@
 ghost use Rattle.std.specs.Prelude.{◌≡◌, ◌++◌, OnOk};
 ghost use Rattle.std.specs.List.{flat_map};
 ghost use Rattle.route_sched.specs.Route.{AreLiveOnce};
-ghost use Rattle.text_lines.specs.Lines.{ended};
-ghost use Rattle.told_text.specs.Columns.{cell, right};
-ghost use Rattle.plan_explain.specs.Phrases.{phrase};
-ghost use Rattle.plan_explain.specs.Tables.{arrival_text, figures_text, heading, load_text, row_text, stop_rows, stops_table, table_text, times_text, window_text};
+ghost use Rattle.plan_explain.specs.Tables.{figures_text, heading, marks_text, row_text, stop_row, stop_rows, stops_table, table_text};
 
-use crate::phrases::Phrase;
-use crate::rows::Row;
-use crate::sentences::{put_mark, put_phrase};
+use crate::forms::Value::{Left, Right, RightSigned, WordsIf};
+use crate::forms::put_form;
 use crate::stop_visits::{StopVisit, stop_visits_of};
 use plan_types::{Kind, OutOfMemory, Problem};
 use rule_breaches::{is_late, is_overload};
@@ -27,17 +23,18 @@ pub(crate) fn put_table(
     ensures { OnOk result (text.new ≡ text.old ++ table_text problem.now route.now) }
 {
     let visits = stop_visits_of(alloc, problem, route)?;
-    put_phrase(text, heading(problem.kind));
+    text.push_str(heading(problem.kind));
     put_rows(text, problem, visits.as_slice());
     Ok(())
 }
 
-fn heading(kind: Kind) -> Phrase
-    ensures { phrase result ≡ heading kind }
+fn heading(kind: Kind) -> &'static str
+    ensures { result.now ≡ heading kind }
 {
     match kind {
-        Kind::LiLim => Phrase::TimesHeading,
-        Kind::Vrp => Phrase::LoadsHeading,
+        Kind::LiLim =>
+            "place   stop      leg    arrival      start         window          service      load\n",
+        Kind::Vrp => "place   stop      leg    arrival      load\n",
     }
 }
 
@@ -49,79 +46,51 @@ fn put_rows(text: &mut Told, problem: &Problem, visits: &[StopVisit])
     }
 }
 
-// A row, with a mark where the vehicle carries too much, and one where it is late.
 fn put_row(text: &mut Told, problem: &Problem, visit: &StopVisit)
     ensures { text.new ≡ text.old ++ row_text problem.now visit.now }
 {
     put_figures(text, problem.kind, visit);
-    put_mark(
-        text,
-        is_overload(problem, visit.row.load),
-        Phrase::MarkOverload,
-    );
-    let late = is_late(problem, visit.row.start, visit.row.latest);
-    put_mark(text, late, Phrase::MarkLate);
-    text.push_str("\n");
+    put_marks(text, problem, visit);
 }
 
 fn put_figures(text: &mut Told, kind: Kind, visit: &StopVisit)
     ensures { text.new ≡ text.old ++ figures_text kind visit.now }
 {
+    let row = &visit.row;
+    let (place, stop) = (Right(5, row.place), Right(6, u64::from(row.stop)));
+    let (leg, arrival) = (Right(8, u64::from(visit.leg)), Right(10, row.arrival));
+    let load = RightSigned(9, row.load);
     match kind {
         Kind::LiLim => {
-            put_times(text, visit);
-            put_window(text, &visit.row);
-            put_load(text, visit);
+            let start = Right(10, row.start);
+            let earliest = Right(10, u64::from(row.earliest));
+            let latest = Left(10, u64::from(row.latest));
+            let service = Right(8, u64::from(visit.service));
+            let values = [
+                place, stop, leg, arrival, start, earliest, latest, service, load,
+            ];
+            put_form(text, "@ @ @ @ @ @..@ @ @", &values)
         }
-        Kind::Vrp => {
-            put_arrival(text, visit);
-            text.push_right_signed(9, visit.row.load);
-        }
+        Kind::Vrp => put_form(text, "@ @ @ @ @", &[place, stop, leg, arrival, load]),
     }
 }
 
-#[tactic(auto, unfolding(crate::specs::Tables::times_text))]
-fn put_times(text: &mut Told, visit: &StopVisit)
-    ensures { text.new ≡ text.old ++ times_text visit.now }
+// The end of a row, with a mark where the vehicle carries too much, and one where it is late.
+fn put_marks(text: &mut Told, problem: &Problem, visit: &StopVisit)
+    ensures { text.new ≡ text.old ++ marks_text problem.now visit.now }
 {
-    put_arrival(text, visit);
-    text.push_cell(10, u128::from(visit.row.start));
+    let much = is_overload(problem, visit.row.load);
+    let late = is_late(problem, visit.row.start, visit.row.latest);
+    let marks = [WordsIf("  overload", much), WordsIf("  late", late)];
+    put_form(text, "@@\n", &marks);
 }
 
-// Where the vehicle comes, how far that is and when.
-#[tactic(auto, unfolding(crate::specs::Tables::arrival_text))]
-fn put_arrival(text: &mut Told, visit: &StopVisit)
-    ensures { text.new ≡ text.old ++ arrival_text visit.now }
+/// Appends the places of a route with their stops, without times, under this heading.
+#[tactic(auto, unfolding(crate::specs::Tables::stops_table))]
+pub(crate) fn put_stops(text: &mut Told, heading: &str, route: &[u32])
+    ensures { text.new ≡ text.old ++ stops_table heading.now route.now }
 {
-    text.push_cell(5, u128::from(visit.row.place));
-    text.push_cell(6, u128::from(visit.row.stop));
-    text.push_cell(8, u128::from(visit.leg));
-    text.push_cell(10, u128::from(visit.row.arrival));
-}
-
-#[tactic(auto, unfolding(crate::specs::Tables::window_text))]
-fn put_window(text: &mut Told, row: &Row)
-    ensures { text.new ≡ text.old ++ window_text row.now }
-{
-    text.push_right(10, u128::from(row.earliest));
-    text.push_str("..");
-    text.push_left(10, u128::from(row.latest));
-    text.push_str(" ");
-}
-
-#[tactic(auto, unfolding(crate::specs::Tables::load_text))]
-fn put_load(text: &mut Told, visit: &StopVisit)
-    ensures { text.new ≡ text.old ++ load_text visit.now }
-{
-    text.push_cell(8, u128::from(visit.service));
-    text.push_right_signed(9, visit.row.load);
-}
-
-/// Appends the places of a route with their stops, without times.
-pub(crate) fn put_stops(text: &mut Told, route: &[u32])
-    ensures { text.new ≡ text.old ++ stops_table route.now }
-{
-    put_phrase(text, Phrase::StopsHeading);
+    text.push_str(heading);
     put_stop_rows(text, route);
 }
 
@@ -129,14 +98,12 @@ fn put_stop_rows(text: &mut Told, route: &[u32])
     ensures { text.new ≡ text.old ++ stop_rows 1 route.now }
 {
     for (place, stop) in route.iter().enumerate() {
-        put_stop(text, place as u64 + 1, *stop);
+        put_stop_row(text, place as u64 + 1, *stop);
     }
 }
 
-fn put_stop(text: &mut Told, place: u64, stop: u32)
-    ensures { text.new ≡ text.old ++ ended (cell 5 place ++ right 6 stop) }
+fn put_stop_row(text: &mut Told, place: u64, stop: u32)
+    ensures { text.new ≡ text.old ++ stop_row place stop }
 {
-    text.push_cell(5, u128::from(place));
-    text.push_right(6, u128::from(stop));
-    text.push_str("\n");
+    put_form(text, "@ @\n", &[Right(5, place), Right(6, u64::from(stop))]);
 }

@@ -1,7 +1,7 @@
 //! Limits that a `.vrp` text may name and that nobody asks here.
 ghost use Rattle.std.specs.Prelude.{◌≡◌};
 ghost use Rattle.text_lines.specs.Lines.{lines_of};
-ghost use Rattle.plan_explain.specs.Unasked.{is_limit, is_of_fleet, is_of_length, is_of_size, limit_from, unasked_limit};
+ghost use Rattle.plan_explain.specs.Unasked.{is_limit, limit_from, unasked_limit};
 
 use crate::cited::is_key;
 use instance_read::split_key;
@@ -28,39 +28,22 @@ fn first_limit(text: &[u8]) -> Option<u64>
         if is_key(b"EOF", line) {
             return None;
         }
-        if is_limit(line) {
+        if is_limit(split_key(line).0) {
             return Some(number);
         }
     }
     None
 }
 
-fn is_limit(line: &[u8]) -> bool
-    ensures { result ≡ is_limit line.now }
+// How many vehicles there are, how long a route may be, how many stops it may have, and what it may risk.
+fn is_limit(key: &[u8]) -> bool
+    ensures { result ≡ is_limit key.now }
 {
-    let key = split_key(line).0;
-    is_of_fleet(key) || is_of_length(key) || is_of_size(key)
-}
-
-// How many vehicles there are.
-fn is_of_fleet(key: &[u8]) -> bool
-    ensures { result ≡ is_of_fleet key.now }
-{
-    key.eq_ignore_ascii_case(b"VEHICLES") || key.eq_ignore_ascii_case(b"SALESMEN")
-}
-
-// How long a route may be.
-fn is_of_length(key: &[u8]) -> bool
-    ensures { result ≡ is_of_length key.now }
-{
-    key.eq_ignore_ascii_case(b"MAX_DURATION") || key.eq_ignore_ascii_case(b"MAX_DISTANCE")
-}
-
-// How many stops a route may have, and what it may risk.
-fn is_of_size(key: &[u8]) -> bool
-    ensures { result ≡ is_of_size key.now }
-{
-    key.eq_ignore_ascii_case(b"MTSP_MIN_SIZE")
+    key.eq_ignore_ascii_case(b"VEHICLES")
+        || key.eq_ignore_ascii_case(b"SALESMEN")
+        || key.eq_ignore_ascii_case(b"MAX_DURATION")
+        || key.eq_ignore_ascii_case(b"MAX_DISTANCE")
+        || key.eq_ignore_ascii_case(b"MTSP_MIN_SIZE")
         || key.eq_ignore_ascii_case(b"MTSP_MAX_SIZE")
         || key.eq_ignore_ascii_case(b"RISK_THRESHOLD")
 }

@@ -1,18 +1,15 @@
 //! What is said of a verdict.
 ghost use Rattle.std.specs.Prelude.{◌≡◌, ◌++◌, ℕ, All, IfOk, IsTrue, OnOk, string_bytes};
 ghost use Rattle.route_sched.specs.Route.{AreLiveOnce};
-ghost use Rattle.plan_audit.specs.Verdict.{IsVerdict, printed, rule_number};
+ghost use Rattle.plan_audit.specs.Verdict.{IsVerdict, printed};
 ghost use Rattle.rule_breaches.specs.Ways.{knows_ways};
 ghost use Rattle.plan_explain.specs.Explained.{fault_text, route_shown, shown_text, verdict_text};
-ghost use Rattle.plan_explain.specs.Further.{further_text};
-ghost use Rattle.plan_explain.specs.Others.{others_text};
 ghost use Rattle.plan_explain.specs.Sentences.{route_told, row_told, sentence};
-ghost use Rattle.plan_audit.specs.declared.rules.Verdict.TheVariants.{Broken};
 
-use crate::further::put_further;
-use crate::others::put_others;
-use crate::rows::{Row, rows_of};
+use crate::further::{RULES, put_further, put_others};
+use crate::rows::Row;
 use crate::sentences as say;
+use crate::stop_visits::rows_of;
 use crate::summaries::put_summary;
 use crate::tables::{put_stops, put_table};
 use plan_audit::{Rule, Verdict};
@@ -51,8 +48,9 @@ fn put_verdict(
     ensures { OnOk result (text.new ≡ text.old
         ++ verdict_text problem.now solution.now verdict) }
 {
+    let routes = solution.routes.as_slice();
     match verdict {
-        Verdict::Pass(_) => put_summary(alloc, text, problem, solution.routes.as_slice()),
+        Verdict::Pass(_) => put_summary(alloc, text, problem, routes),
         Verdict::Broken {
             rule,
             route,
@@ -67,53 +65,38 @@ fn put_verdict(
                 route,
                 place,
                 stop,
+                printed: solution.cost,
             };
-            put_fault(alloc, text, problem, solution, &fault)
+            put_fault(alloc, text, problem, routes, &fault)
         }
     }
 }
 
-/// What a verdict tells of a broken rule; routes and places count from 1.
+/// What a verdict tells of a broken rule, and the printed cost; routes and places count from 1.
 #[derive(Clone, Copy)]
 pub(crate) struct Fault {
     pub rule: Rule,
     pub route: u64,
     pub place: u64,
     pub stop: u32,
+    pub printed: u64,
 }
 
 fn put_fault(
     alloc: Global,
     text: &mut Told,
     problem: &Problem,
-    solution: &Solution,
+    routes: &[Route],
     fault: &Fault,
 ) -> Result<(), OutOfMemory>
-    requires { (cost : ℕ) × IsVerdict problem.now (printed solution.now.routes cost)
-        (Broken (rule_number fault.now.rule) fault.now.route fault.now.place fault.now.stop) }
-    ensures { OnOk result (text.new ≡ text.old ++ fault_text problem.now solution.now fault.now) }
+    requires { IsTrue (knows_ways fault.now.rule) → All (AreLiveOnce problem.now) routes.now }
+    ensures { OnOk result (text.new ≡ text.old ++ fault_text problem.now routes.now fault.now) }
 {
-    let routes = solution.routes.as_slice();
-    put_sentence(alloc, text, problem, solution, fault)?;
+    put_sentence(alloc, text, problem, routes, fault)?;
     text.push_str("\n");
     put_shown(alloc, text, problem, routes, fault.rule, fault.route)?;
-    put_counts(alloc, text, problem, routes, fault.rule)
-}
-
-// How often and where else the rule is broken, and how often each rule behind it.
-fn put_counts(
-    alloc: Global,
-    text: &mut Told,
-    problem: &Problem,
-    routes: &[Route],
-    rule: Rule,
-) -> Result<(), OutOfMemory>
-    requires { IsTrue (knows_ways rule) → All (AreLiveOnce problem.now) routes.now }
-    ensures { OnOk result (text.new ≡ text.old ++ (further_text problem.now routes.now rule
-        ++ others_text problem.now routes.now rule)) }
-{
-    put_further(alloc, text, problem, routes, rule)?;
-    put_others(alloc, text, problem, routes, rule)
+    put_further(alloc, text, problem, routes, fault.rule)?;
+    put_others(alloc, text, problem, routes, fault.rule, &RULES)
 }
 
 // The sentence on a broken rule.
@@ -121,21 +104,22 @@ fn put_sentence(
     alloc: Global,
     text: &mut Told,
     problem: &Problem,
-    solution: &Solution,
+    routes: &[Route],
     fault: &Fault,
 ) -> Result<(), OutOfMemory>
-    requires { IsTrue (knows_ways fault.now.rule)
-        → All (AreLiveOnce problem.now) solution.now.routes }
-    ensures { OnOk result (text.new ≡ text.old ++ sentence problem.now solution.now fault.now) }
+    requires { IsTrue (knows_ways fault.now.rule) → All (AreLiveOnce problem.now) routes.now }
+    ensures { OnOk result (text.new ≡ text.old ++ sentence problem.now routes.now fault.now) }
 {
-    let routes = solution.routes.as_slice();
     let stops = route_told(routes, fault.route);
+    let stop = fault.stop;
     match fault.rule {
-        Rule::UnknownStop => say::put_unknown(text, problem, routes, fault.stop),
-        Rule::Twice => say::put_twice(text, routes, fault.stop),
-        Rule::Missing => say::put_missing(text, problem, routes, fault.stop),
-        Rule::SplitPair => say::put_split(text, problem, routes, fault.stop),
-        Rule::DeliveryFirst => say::put_early(text, problem, routes, fault.stop),
+        Rule::UnknownStop => say::put_unknown(text, problem, routes, stop),
+        Rule::Twice => say::put_stop(text, "visited twice: stop @ is @ already", routes, stop),
+        Rule::Missing => say::put_pair(text, "missing stop: stop @ is @", problem, routes, stop),
+        Rule::SplitPair => say::put_pair(text, "split pair: stop @ is @", problem, routes, stop),
+        Rule::DeliveryFirst => {
+            say::put_early(text, "early delivery: stop @ is @", problem, routes, stop)
+        }
         Rule::Load => {
             let row = row_told(alloc, problem, stops, fault.place)?;
             say::put_overload(text, problem, row);
@@ -147,7 +131,7 @@ fn put_sentence(
         Rule::LateReturn => say::put_late_return(text, problem, stops),
         Rule::Fleet => say::put_fleet(text, problem, routes),
         Rule::Pin => {}
-        Rule::PrintedCost => say::put_cost(text, problem, solution),
+        Rule::PrintedCost => say::put_cost(text, problem, routes, fault.printed),
     }
     Ok(())
 }
@@ -189,7 +173,7 @@ fn put_route_shown(
     if knows_ways(rule) {
         put_table(alloc, text, problem, stops)
     } else {
-        put_stops(text, stops);
+        put_stops(text, "place   stop\n", stops);
         Ok(())
     }
 }

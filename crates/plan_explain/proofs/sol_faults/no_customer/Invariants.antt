@@ -2,7 +2,7 @@
 use Rattle.std.proofs.Common.{◌≡◌}
 use Rattle.std.specs.Prelude.{find}
 use Rattle.text_lines.specs.Words.{words_of}
-use Rattle.plan_explain.specs.Numbers.{is_no_customer}
+use Rattle.plan_explain.specs.Cited.{is_no_customer}
 use Rattle.plan_explain.proofs.sol_faults.no_customer.Given as goal
 
 abbrev pub invariant-loop-word : goal.invariant-loop-word

@@ -1,8 +1,8 @@
+-- The sum so far is that of the routes so far, which are so many that it fits.
 use Rattle.std.proofs.Common.{◌≡◌, ◌≤◌, ◌*◌, ◌^◌, take}
 use Rattle.std.specs.List.{sum_by}
 use Rattle.plan_explain.proofs.summaries.stops_in.Given as goal
 
--- those of the routes so far
 abbrev pub invariant-loop-summary : goal.invariant-loop-summary
 invariant-loop-summary l = record {
   sum : l.stops ≡ sum_by (λ s. s.stops) (take l.summary-index l.summaries);

@@ -1,7 +1,7 @@
 use Rattle.std.proofs.Common.{◌≡◌, ◌++◌, drop}
 use Rattle.std.specs.List.{flat_map}
-use Rattle.plan_explain.specs.Others.{other_text}
-use Rattle.plan_explain.proofs.others.put_rules.Given as goal
+use Rattle.plan_explain.specs.Further.{other_text}
+use Rattle.plan_explain.proofs.further.put_others.Given as goal
 
 -- the text so far and that of the rules to come
 abbrev pub invariant-loop-rule : goal.invariant-loop-rule
