@@ -4,6 +4,7 @@ mod BoundLemmas
 mod CutLemmas
 mod FrontLemmas
 mod LeftOutLemmas
+mod LookLemmas
 mod MetLemmas
 mod MissingLemmas
 mod NearLemmas

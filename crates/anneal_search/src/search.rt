@@ -179,9 +179,9 @@ impl Annealing {
     }
 }
 
-// Whether so many steps save what fronts take: to make one takes as much as three looks at all routes or four.
+// Whether so many steps save what it takes to sort all stops: that is less than a step for each hundred.
 fn fronts_pay(problem: &Problem, count: u64) -> bool {
-    u64::from(problem.next_number) * 4 <= count
+    u64::from(problem.next_number) / 16 <= count
 }
 
 // Lets the candidate become the incumbent where it costs no more, and tells whether it has.

@@ -74,7 +74,7 @@ pub use laws::{
 };
 pub use lists::Lists;
 pub use near::{Threshold, is_near};
-pub use nearby::{Nearby, RoutePlace};
+pub use nearby::{Easting, Nearby, RoutePlace, east_of};
 pub use placing::{place_all, place_all_near};
 pub use search::{Found, search_step, search_steps, walk_on};
 pub use stream::{StepWords, words};

@@ -4,4 +4,7 @@ use Rattle.seeded_search.proofs.NearbyLemmas.{none_made}
 use Rattle.seeded_search.proofs.nearby.Nearby.build.Goals as goal
 
 pub returns : goal.returns
-returns c = none_made c.args.problem.now (record { fronts = c.in_ok-fronts.fronts; seats = c.in_ok-seats.seats }) (search rules)
+returns c = record {
+  fronts = none_made c.args.problem.now c.in_ok-fronts.fronts.items (search rules);
+  eastings = λ some. c.in_ok-eastings.ensures;
+}
