@@ -33,7 +33,9 @@ word_text TooManyStops field word limits = many_text word field
 word_text kind field word limits = form (codes ": @ is @") (field_name field ∷ shown_bytes word ∷ [])
 
 abbrev pub demands_words : Bool → List ℕ
-demands_words is_negative = if is_negative then codes ": its @, task @ on line @, has demand @, this one @: that of a pickup is not negative" else codes ": its @, task @ on line @, has demand @, this one @: their sum is not 0"
+demands_words is_negative =
+    if is_negative then codes ": its @, task @ on line @, has demand @, this one @: that of a pickup is not negative"
+    else codes ": its @, task @ on line @, has demand @, this one @: their sum is not 0"
 
 -- of what no line has
 abbrev pub missing_text : Evidence → List ℕ

@@ -1,7 +1,8 @@
 -- The names of the fields and keys of instances.
 use Rattle.std.specs.Prelude.{ℕ, List, [], codes}
 use Rattle.instance_read.specs.declared.evidence.Field.{Field}
-use Rattle.instance_read.specs.declared.evidence.Field.TheVariants.{Fleet, Capacity as CapacityField, Speed, Number, X, Y, Demand, Earliest, Latest, Service, Pickup, Delivery, Node, Depot, Value, Surplus}
+use Rattle.instance_read.specs.declared.evidence.Field.TheVariants.{Fleet, Capacity as CapacityField, Speed, Number, X, Y, Demand, Earliest, Latest, Service}
+use Rattle.instance_read.specs.declared.evidence.Field.TheVariants.{Pickup, Delivery, Node, Depot, Value, Surplus}
 use Rattle.instance_read.specs.declared.vrp_lines.Key.{Key}
 use Rattle.instance_read.specs.declared.vrp_lines.Key.TheVariants.{Dimension, Capacity, ProblemType, WeightType, Coordinates, Demands, Depots}
 

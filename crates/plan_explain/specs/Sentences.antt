@@ -48,7 +48,8 @@ shift_text p routes =
 -- rule 1
 abbrev pub unknown_text : Instance → ℕ → List ℕ
 unknown_text p n =
-    if n == 0 then codes "unknown stop: stop 0 is the depot, which no route line has" else form (codes "unknown stop: no request has stop @, the numbers of the instance are below @") (decimal n ∷ decimal p.next_number ∷ [])
+    if n == 0 then codes "unknown stop: stop 0 is the depot, which no route line has"
+    else form (codes "unknown stop: no request has stop @, the numbers of the instance are below @") (decimal n ∷ decimal p.next_number ∷ [])
 
 abbrev pub unknown_sentence : Instance → List (List ℕ) → ℕ → List ℕ
 unknown_sentence p routes n = unknown_text p n ++ shift_text p routes

@@ -40,7 +40,9 @@ abbrev pub is_key_line : List ℕ → Bool
 is_key_line line = list_any (λ b. b == 58) line && not (list_any is_no_key_byte (key_text line))
 
 abbrev pub other_line_text : List ℕ → List ℕ
-other_line_text line = if is_indented line then codes ": Route and Cost have to begin their lines, as they do behind: sed 's/^[[:blank:]]*//'" else text_if (codes ": a solution has no other keys, as it has none behind: grep -iE '^(route|cost)'") (is_key_line line)
+other_line_text line =
+    if is_indented line then codes ": Route and Cost have to begin their lines, as they do behind: sed 's/^[[:blank:]]*//'"
+    else text_if (codes ": a solution has no other keys, as it has none behind: grep -iE '^(route|cost)'") (is_key_line line)
 
 -- how many words stand behind `Cost`, where the line begins so; else how such a line is done without
 abbrev pub bad_line_by : List ℕ → Option (List ℕ) → List ℕ

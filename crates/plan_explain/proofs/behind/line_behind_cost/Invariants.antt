@@ -1,3 +1,4 @@
+-- The lines that are left, before or behind the cost line, have the answer of all.
 use Rattle.std.proofs.Common.{◌≡◌, ◌+◌, ◌≤◌, length}
 use Rattle.plan_explain.specs.Behind.{line_behind_cost}
 use Rattle.plan_explain.proofs.BehindLemmas.{filled_from}

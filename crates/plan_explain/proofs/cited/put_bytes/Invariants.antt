@@ -1,3 +1,4 @@
+-- The text has the bytes so far behind what it had.
 use Rattle.std.proofs.Common.{◌≡◌, ◌++◌, map, take}
 use Rattle.plan_explain.specs.Cited.{shown_byte}
 use Rattle.plan_explain.proofs.cited.put_bytes.Given as goal

@@ -1,3 +1,4 @@
+-- Where the ways are known, all stops are live and stand once.
 use Rattle.std.proofs.Common.{◌∙◌, sym}
 use Rattle.plan_explain.proofs.RouteLemmas.{live_driven}
 use Rattle.plan_explain.proofs.driven.put_driven.Goals as goal

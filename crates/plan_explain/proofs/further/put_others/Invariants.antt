@@ -1,3 +1,4 @@
+-- The text so far and that of the rules to come are the whole.
 use Rattle.std.proofs.Common.{◌≡◌, ◌++◌, drop}
 use Rattle.std.specs.List.{flat_map}
 use Rattle.plan_explain.specs.Further.{other_text}

@@ -1,3 +1,4 @@
+-- The last stop so far, and those that are left, have the last stop of all.
 use Rattle.std.proofs.Common.{◌≡◌, drop}
 use Rattle.plan_explain.specs.Sentences.{last_from, last_stop}
 use Rattle.plan_explain.proofs.sentences.last_stop.Given as goal

@@ -1,3 +1,4 @@
+-- What is waited at the next row is within the time, so the sum doesn't overflow.
 use Rattle.std.proofs.Common.{pos, arith}
 use Rattle.std.proofs.lemmas.List.Sums.{sum_by_more}
 use Rattle.plan_explain.specs.Summaries.{wait}
@@ -11,13 +12,17 @@ no_row = record { place = 0; stop = 0; arrival = 0; start = 0; earliest = 0; lat
 pub overflow_add-waiting : goal.overflow_add-waiting
 unfolding no_row
 overflow_add-waiting c =
-    let on = waits_on c.args.problem.now c.args.route.now c.args.rows.now c.loop-row.row-index no_row c.loop-row.waiting c.wait-waiting.result c.requires c.loop-row-test.true c.loop-row.invariant.bound c.wait-waiting.ensures.value in
+    let on =
+    waits_on c.args.problem.now c.args.route.now c.args.rows.now c.loop-row.row-index no_row c.loop-row.waiting c.wait-waiting.result
+    c.requires c.loop-row-test.true c.loop-row.invariant.bound c.wait-waiting.ensures.value in
     omega (arith, on.0, on.1, c.wait-waiting.ensures.fits)
 
 pub loop-row-preserved : goal.loop-row-preserved
 unfolding no_row
 loop-row-preserved c =
-    let on = waits_on c.args.problem.now c.args.route.now c.args.rows.now c.loop-row.row-index no_row c.loop-row.waiting c.wait-waiting.result c.requires c.loop-row-test.true c.loop-row.invariant.bound c.wait-waiting.ensures.value in
+    let on =
+    waits_on c.args.problem.now c.args.route.now c.args.rows.now c.loop-row.row-index no_row c.loop-row.waiting c.wait-waiting.result
+    c.requires c.loop-row-test.true c.loop-row.invariant.bound c.wait-waiting.ensures.value in
     record {
       sum = omega (arith, sum_by_more wait c.args.rows.now c.loop-row.row-index no_row c.loop-row-test.true, c.loop-row.invariant.sum, c.wait-waiting.ensures.value);
       bound = on.0;

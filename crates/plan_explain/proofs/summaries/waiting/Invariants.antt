@@ -1,3 +1,4 @@
+-- The sum of the rows so far is no more than the time.
 use Rattle.std.proofs.Common.{◌≡◌, ◌≤◌, take}
 use Rattle.std.specs.List.{sum_by}
 use Rattle.route_sched.specs.Schedule.{start}

@@ -1,3 +1,4 @@
+-- The text so far and that of the rows to come are the whole.
 use Rattle.std.proofs.Common.{◌≡◌, ◌++◌, drop}
 use Rattle.std.specs.List.{flat_map}
 use Rattle.plan_explain.specs.Tables.{row_text}

@@ -1,3 +1,4 @@
+-- The lines that are left have the answer of all, and they are few enough to count.
 use Rattle.std.proofs.Common.{◌≡◌, ◌+◌, ◌≤◌, length}
 use Rattle.text_lines.specs.Lines.{lines_of}
 use Rattle.plan_explain.specs.Unasked.{limit_from}

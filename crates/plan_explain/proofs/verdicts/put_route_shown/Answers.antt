@@ -1,3 +1,4 @@
+-- Where the ways are known, the stops of the route that is told are live and stand once.
 use Rattle.std.proofs.Common.{◌∙◌, sym, subst}
 use Rattle.route_sched.specs.Route.{AreLiveOnce}
 use Rattle.plan_explain.proofs.RouteLemmas.{told_live}
