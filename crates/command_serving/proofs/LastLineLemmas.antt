@@ -2,7 +2,8 @@
 use Rattle.std.proofs.Common.{◌≡◌, ◌∙◌, ℕ, zero, suc, ◌==◌, if◌then◌else◌, true, false, List, [], ◌∷◌, ◌++◌, Option, Some, None, refl, sym, ap, arith, append_assoc, append-nil}
 use Rattle.std.proofs.lemmas.Bool.{ne_eqb}
 use Rattle.text_lines.specs.Lines.{HasNoFeed}
-use Rattle.command_serving.specs.Strict.{HasNoLine, IsLastLine, IsLastLineBehind, last_behind}
+use Rattle.std.specs.Option.{option_and_then}
+use Rattle.command_serving.specs.Strict.{HasNoLine, IsLastLine, IsLastLineBehind, last_behind, stop_of, stopped_by}
 
 head_free : (b : ℕ) (bs : List ℕ) → HasNoFeed (b ∷ bs) → (b == 10) ≡ false
 head_free b bs none = ne_eqb b 10 (λ e. none (zero, omega arith, e))
@@ -51,3 +52,17 @@ is_last_behind front line rest free none = behind None [] front line rest free n
 
 pub has_none : HasNoLine
 has_none rest none = none_in None [] rest none
+
+-- bytes without a line feed end no line
+last_without_feed : (last : Option (List ℕ)) (begun text rest : List ℕ) → HasNoFeed rest → last_behind last begun (text ++ rest) ≡ last_behind last begun text
+unfolding last_behind
+last_without_feed last begun [] rest none = none_in last begun rest none
+last_without_feed last begun (b ∷ bs) rest none =
+    elim (b == 10) as (λ v. (if v then last_behind (Some begun) [] (bs ++ rest) else last_behind last (begun ++ b ∷ []) (bs ++ rest))
+    ≡ (if v then last_behind (Some begun) [] bs else last_behind last (begun ++ b ∷ []) bs)) [
+      | true ↦ last_without_feed (Some begun) [] bs rest none
+      | false ↦ last_without_feed last (begun ++ b ∷ []) bs rest none
+    ]
+
+pub stops_without_feed : (text rest : List ℕ) → HasNoFeed rest → stopped_by (text ++ rest) ≡ stopped_by text
+stops_without_feed text rest none = ap (option_and_then stop_of) (last_without_feed None [] text rest none)

@@ -3,6 +3,7 @@ pub mod ActLemmas
 pub mod AskedLemmas
 pub mod CauseLemmas
 pub mod CutLemmas
+pub mod EndLemmas
 pub mod InputLemmas
 pub mod LastLineLemmas
 pub mod ReplyLemmas

@@ -1,9 +1,14 @@
 -- Texts that are put one after another, and handed on.
-use Rattle.std.proofs.Common.{◌≡◌, ◌∙◌, ℕ, ◌+◌, List, [], ◌∷◌, ◌++◌, Result, Ok, Err, length, map, take, drop, refl, sym, ap, subst, append_assoc, append-nil, take-append-drop}
+use Rattle.std.proofs.Common.{◌≡◌, ◌∙◌, ℕ, ◌+◌, Bool, true, false, List, [], ◌∷◌, ◌++◌, None, Result, Ok, Err, length, map, take, drop, refl, sym, ap, subst, append_assoc, append-nil, take-append-drop}
 use lib.Seq.{take-append_seam}
 use Rattle.std.proofs.Math.Seq.{take-append-add}
 use Rattle.std.proofs.KnownBytes.{Appends-kept, Appends-nil, Appends-trans}
-use Rattle.command_serving.specs.Streams.{Event, Extends, Flushed, Flushes, HandsOn, IsPart, IsPutInPart, Put, Stays, Stream}
+use Rattle.std.specs.Prelude.{OnErr}
+use Rattle.std.proofs.lemmas.Grind.{flat_map-append}
+use Rattle.command_serving.specs.Streams.{Event, Extends, Flushed, Flushes, HandsOn, IsPart, IsPutInPart, Put, Stays, Stream, put_by, put_in}
+use Rattle.command_serving.specs.Strict.{Follows, LetsFollow}
+use Rattle.command_serving.specs.StrictValue.{FollowsSince}
+use Rattle.command_serving.specs.declared.strict.LastLines.{LastLines}
 
 pub extends_none : (x : Stream) → Extends x x [] []
 extends_none x = record { written = Appends-nil x.contents; noted = sym (append-nil x.events) }
@@ -48,3 +53,42 @@ extends_kept x y e p = record { written = Appends-kept x.contents x.contents y.c
 pub hands_nothing : {T E : Type 0} (r : Result T E) (x y : Stream) (n : ℕ) → Flushes x y r n → HandsOn x y r n []
 hands_nothing (Ok done) x y n p = record { texts = []; whole = refl; extends = extends_kept x y (Flushed n ∷ []) p }
 hands_nothing (Err fault) x y n p = record { len = 0; texts = []; part = refl; extends = extends_kept x y [] p }
+
+-- ---- of a strict writer
+
+lets_more : (text : List ℕ) (a b : List Event) → LetsFollow text a → LetsFollow (text ++ put_by a) b → LetsFollow text (a ++ b)
+lets_more text [] b la lb = subst (λ t. LetsFollow t b) (append-nil text) lb
+lets_more text (Put n t ∷ a) b la lb = lets_more (text ++ t) a b la (subst (λ t. LetsFollow t b) (sym (append_assoc text t (put_by a))) lb)
+lets_more text (Flushed n ∷ a) b la lb = (la.0, lets_more text a b la.1 lb)
+
+-- one event more
+put_more : (events : List Event) (event : Event) → put_by (events ++ event ∷ []) ≡ put_by events ++ put_in event
+put_more events event = flat_map-append put_in events (event ∷ []) ∙ ap (λ l. put_by events ++ l) (append-nil (put_in event))
+
+module _ (x y z : Stream) (l : LastLines) (f : FollowsSince x y l) where
+  pub follows_put : (m : LastLines) (n : ℕ) (t : List ℕ) → Extends y z (Put n t ∷ []) t → ((text : List ℕ) → Follows text l → Follows (text ++ t) m) → FollowsSince x z m
+  follows_put m n t put more =
+      let same : put_by f.events ++ t ≡ put_by (f.events ++ Put n t ∷ []) = sym (put_more f.events (Put n t)) in
+      record {
+        events = f.events ++ Put n t ∷ [];
+        put = subst (Extends x z (f.events ++ Put n t ∷ [])) same (extends_on x y z f.events (Put n t ∷ []) (put_by f.events) t f.put put);
+        follows = subst (λ text. Follows text m) same (more (put_by f.events) f.follows);
+        lets = lets_more [] f.events (Put n t ∷ []) f.lets tt;
+      }
+
+  follows_flush : (n : ℕ) → Stays y z (Flushed n ∷ []) → l.told ≡ None → FollowsSince x z l
+  follows_flush n stays none =
+      let same : put_by f.events ++ [] ≡ put_by (f.events ++ Flushed n ∷ []) = sym (put_more f.events (Flushed n)) in
+      let text : put_by f.events ≡ put_by (f.events ++ Flushed n ∷ []) = sym (append-nil (put_by f.events)) ∙ same in
+      record {
+        events = f.events ++ Flushed n ∷ [];
+        put = subst (Extends x z (f.events ++ Flushed n ∷ [])) same
+            (extends_on x y z f.events (Flushed n ∷ []) (put_by f.events) [] f.put (extends_kept y z (Flushed n ∷ []) stays));
+        follows = subst (λ text. Follows text l) text f.follows;
+        lets = lets_more [] f.events (Flushed n ∷ []) f.lets (sym f.follows.1 ∙ none, tt);
+      }
+
+  -- the flush of a writer that has not failed
+  pub follows_flushed : {T E : Type 0} (r : Result T E) (n : ℕ) (failed : Bool) → Flushes y z r n → OnErr r (failed ≡ true) → failed ≡ false → l.told ≡ None → FollowsSince x z l
+  follows_flushed (Ok done) n failed flushes told whole none = follows_flush n flushes none
+  follows_flushed (Err fault) n failed flushes told whole none = absurd (let h : true ≡ false = sym told ∙ whole in cc)

@@ -51,11 +51,11 @@ use Rattle.recover.specs.declared.replies.Reply.{Reply as SessionReply}
 use Rattle.sector_disk.specs.declared.sectors.Sectors as sectors
 use Rattle.command_serving.specs.Acts.{Act, Applied, Text, BeginsWith, IsTurn, Turn, acts_by, carried_if, carried_of, commands_of, events_by, events_in, kept_of, replies_of, text_by}
 use Rattle.command_serving.specs.Served.{AreTold, IsCutShort, as_serving, still}
-use Rattle.command_serving.specs.Streams.{Event, Flushed, Put, Stream}
+use Rattle.command_serving.specs.Streams.{Event, Flushed, Put, Stream, put_by, put_in}
 use Rattle.command_serving.specs.Serving.{IsAppliedOn}
 use Rattle.command_serving.specs.Stopped.{IsRunOfInput}
 use Rattle.command_serving.specs.declared.answering.ServeFault.{ServeFault}
-use Rattle.command_serving.specs.Timely.{AnswersComeAfter, TellsAcknowledged, calls_at, put_by, put_in}
+use Rattle.command_serving.specs.Timely.{AnswersComeAfter, TellsAcknowledged, calls_at}
 use Rattle.command_serving.proofs.ActLemmas.{begins_at_all, begins_behind, replies_both}
 use Rattle.command_serving.proofs.StoppedLemmas.{servings_are_runs}
 use Rattle.command_serving.proofs.TurnLemmas.{acts_both, begins_on, either_part, events_both, is_turn, told_both, told_once}
@@ -72,10 +72,10 @@ all_rest P (x ∷ xs) ys p = all_rest P xs ys p.1
 
 -- ---- the events of a turn
 
-put_both : (a b : List Event) → put_by (a ++ b) ≡ put_by a ++ put_by b
+pub put_both : (a b : List Event) → put_by (a ++ b) ≡ put_by a ++ put_by b
 put_both a b = flat_map-append put_in a b
 
-put_by_turn : (n : ℕ) (texts : List (List ℕ)) → put_by (map (Put n) texts ++ Flushed n ∷ []) ≡ concat texts
+pub put_by_turn : (n : ℕ) (texts : List (List ℕ)) → put_by (map (Put n) texts ++ Flushed n ∷ []) ≡ concat texts
 put_by_turn n [] = refl
 put_by_turn n (t ∷ texts) = ap (λ l. t ++ l) (put_by_turn n texts)
 

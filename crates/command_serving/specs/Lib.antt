@@ -4,6 +4,7 @@ pub mod Served
 pub mod Stopped
 pub mod Timely
 pub mod Causes
+pub mod Ending
 pub mod Streams
 pub mod Held
 pub mod Strict

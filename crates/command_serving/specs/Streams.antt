@@ -1,5 +1,5 @@
 -- What readers and writers do to bytes that are known, and what was done to a source and a sink.
-use Rattle.std.specs.Prelude.{◌≡◌, ◌⊎◌, ◌<◌, ◌≤◌, ◌++◌, ◌∷◌, [], ℕ, Bool, true, false, List, length, map, take, drop, Option, Some, None, Result, Ok, Err}
+use Rattle.std.specs.Prelude.{◌≡◌, ◌⊎◌, ◌<◌, ◌≤◌, ◌++◌, ◌∷◌, [], ℕ, Bool, true, false, List, flat_map, length, map, take, drop, Option, Some, None, Result, Ok, Err}
 use Rattle.std.specs.List.{concat}
 use Rattle.std.specs.Io.KnownBytes.{Appends, Consumes, IsAtEnd, Keeps}
 
@@ -8,6 +8,14 @@ use Rattle.std.specs.Io.KnownBytes.{Appends, Consumes, IsAtEnd, Keeps}
 pub data Event : Type 0 where
   Put : ℕ → List ℕ → Event
   Flushed : ℕ → Event
+
+-- what was put
+abbrev pub put_in : Event → List ℕ
+put_in (Put calls text) = text
+put_in (Flushed calls) = []
+
+abbrev pub put_by : List Event → List ℕ
+put_by events = flat_map put_in events
 
 -- what was done to a sink, in order, and what each read of a source gave that had room, the newest first
 pub record History : Type 0 where
@@ -45,20 +53,20 @@ pub record Given : Type 0 where
 abbrev pub IsInput : Given → List ℕ → Type 0
 IsInput given input = (given.known ≡ Some input) ⊎ ((text : List ℕ) × GaveText given.after text × (input ≡ left_behind given.before text))
 
--- What no call of a sink changes: the bytes that it held when it began to follow what is written, where it does and they are known, and the
--- reference that it writes through, where its writer is lent.
-pub record Origin : Type 0 where
-  pub held : Option (List ℕ)
-  pub lent : Option ℕ
-
--- a sink with a writer of its own, that held these bytes then
-abbrev pub began_with : Option (List ℕ) → Origin
-began_with held = record { held = held; lent = None }
-
 -- A sink: the bytes that it holds, where they are known, and what was done to it, in order.
 pub record Stream : Type 0 where
   pub contents : Option (List ℕ)
   pub events : List Event
+
+-- What no call of a sink changes: what it was when it began to follow what is written, where it does, and the reference that it writes through, where
+-- its writer is lent.
+pub record Origin : Type 0 where
+  pub before : Option Stream
+  pub lent : Option ℕ
+
+-- a sink with a writer of its own, that was this then
+abbrev pub began_with : Option Stream → Origin
+began_with before = record { before = before; lent = None }
 
 -- these events followed, by which this text was written
 pub record Extends (old new : Stream) (events : List Event) (text : List ℕ) : Type 0 where

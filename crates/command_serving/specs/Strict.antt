@@ -1,8 +1,8 @@
 -- What the last line of a text tells.
-use Rattle.std.specs.Prelude.{◌≡◌, ℕ, ◌==◌, if◌then◌else◌, Bool, true, false, List, [], ◌∷◌, ◌++◌, codes, bytes_eq, take, Option, Some, None}
+use Rattle.std.specs.Prelude.{◌≡◌, ℕ, ◌==◌, if◌then◌else◌, Bool, true, false, List, [], ◌∷◌, ◌++◌, codes, bytes_eq, take, Option, Some, None, ⊤}
 use Rattle.std.specs.Option.{option_and_then}
-use Rattle.std.specs.Io.KnownBytes.{Appends}
 use Rattle.text_lines.specs.Lines.{HasNoFeed}
+use Rattle.command_serving.specs.Streams.{Event, Extends, Flushed, Put, Stream, put_by}
 use Rattle.command_serving.specs.declared.strict.Stopped.{Stopped}
 use Rattle.command_serving.specs.declared.strict.Stopped.TheVariants.{Refused, DeviceFault}
 use Rattle.command_serving.specs.declared.strict.LastLines.{LastLines}
@@ -38,11 +38,18 @@ is_stopped (Some why) = true
 abbrev pub stopped_by : List ℕ → Option Stopped
 stopped_by text = option_and_then stop_of (last_line text)
 
--- What was written since the bytes before: its last whole line tells this.
-pub record TellsLast (before now : Option (List ℕ)) (told : Option Stopped) : Type 0 where
-  pub through : List ℕ
-  pub written : Appends before now through
-  pub tells : told ≡ stopped_by through
+-- Behind this text these followed: each time that all was handed on, the last whole line of what had been put let others follow.
+abbrev pub LetsFollow : List ℕ → List Event → Type 0
+LetsFollow text [] = ⊤
+LetsFollow text (Put calls more ∷ events) = LetsFollow (text ++ more) events
+LetsFollow text (Flushed calls ∷ events) = (stopped_by text ≡ None) × LetsFollow text events
+
+-- What was put since: its last whole line tells this, and each time that all was handed on the last one so far had let others follow.
+pub record TellsLast (before now : Stream) (told : Option Stopped) : Type 0 where
+  pub events : List Event
+  pub put : Extends before now events (put_by events)
+  pub tells : told ≡ stopped_by (put_by events)
+  pub lets : LetsFollow [] events
 
 -- what is kept of a text's last lines
 abbrev pub Follows : List ℕ → LastLines → Type 0

@@ -1,5 +1,5 @@
 -- Answers come only after what they tell.
-use Rattle.std.specs.Prelude.{◌≡◌, ◌≤◌, ℕ, List, [], ◌++◌, flat_map, length, Result, ⊤}
+use Rattle.std.specs.Prelude.{◌≡◌, ◌≤◌, ℕ, List, ◌++◌, length, Result, ⊤}
 use Rattle.std.specs.List.{AllByRecursion}
 use Rattle.command_text.specs.Answering.{Fate, served}
 use Rattle.command_text.specs.Cutting.{pieces_of}
@@ -10,21 +10,13 @@ use Rattle.sector_disk.specs.declared.sectors.Sectors as sectors
 use Rattle.command_serving.specs.Acts.{Act, BeginsWith, carried_of, fates_of, replies_of}
 use Rattle.command_serving.specs.Served.{Begins, EndsOrIsCut, as_serving}
 use Rattle.command_serving.specs.Stopped.{acts_of, asked_by}
-use Rattle.command_serving.specs.Streams.{Event, Flushed, Put, Stream}
+use Rattle.command_serving.specs.Streams.{Event, Flushed, Put, Stream, put_by}
 use Rattle.command_serving.specs.declared.answering.ServeFault.{ServeFault}
 
 -- when it was, in finished calls of the device
 abbrev pub calls_at : Event → ℕ
 calls_at (Put calls text) = calls
 calls_at (Flushed calls) = calls
-
--- what was put
-abbrev pub put_in : Event → List ℕ
-put_in (Put calls text) = text
-put_in (Flushed calls) = []
-
-abbrev pub put_by : List Event → List ℕ
-put_by events = flat_map put_in events
 
 -- What is told by this text rests on the first acts alone: it begins the answers, and what these carried out begins the commands, whatever becomes
 -- of later tries. The commands that they carried out are the first that the input asks for, and acknowledged when m calls have finished.

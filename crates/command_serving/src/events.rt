@@ -38,6 +38,14 @@ impl Events {
         Events::of()
     }
 
+    /// The same once more.
+    pub(crate) fn again(&self) -> Events
+        ensures events { result.events ≡ self.now.events }
+        ensures reads { result.reads ≡ self.now.reads }
+    {
+        self.of_same()
+    }
+
     /// A text was put, over this session.
     pub(crate) fn with_put<D: Sectors>(&self, session: &Session<D>, text: &[u8]) -> Events
         ensures events { result.events
@@ -70,6 +78,14 @@ impl Events {
         ensures reads { result.reads ≡ piece.now ∷ self.now.reads }
     {
         self.of_read(piece)
+    }
+
+    fn of_same(&self) -> Events
+        ghost history: { History }
+        requires { history ≡ record { events = self.now.events; reads = self.now.reads } }
+        ensures { (result.events ≡ history.events) × (result.reads ≡ history.reads) }
+    {
+        Events::of()
     }
 
     fn of_put<D: Sectors>(&self, _session: &Session<D>, _text: &[u8]) -> Events

@@ -1,5 +1,6 @@
 //! What is known of served inputs, from the promises of `serve` and of `open` alone.
 ghost use Rattle.command_serving.specs.Causes.{FaultsAreTold, SpentAtTheLast};
+ghost use Rattle.command_serving.specs.Ending.{AnswersEndServings};
 ghost use Rattle.command_serving.specs.Stopped.{ServedHeadline, ServingsAreRuns};
 ghost use Rattle.command_serving.specs.Timely.{AnswersComeAfter};
 
@@ -23,3 +24,9 @@ pub fn stopped_servings_recover<D: Sectors, E: Sectors>()
 {
     recovery_keeps_every_acknowledged_command::<D, E>();
 }
+
+/// A strict serving carries out nothing behind the answer whose last line ends it: all that it did was told before, by answers that let
+/// others follow, but for one act at most, which that answer tells; and what would be answered next is what stands behind it.
+pub fn nothing_is_done_behind_a_refusal<D: Sectors>()
+    ensures { AnswersEndServings D.Sectors }
+{}

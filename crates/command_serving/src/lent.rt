@@ -44,7 +44,7 @@ impl<W: Write> Sink for Lent<'_, W> {
 
     ghost has_failed = { λ s. s.has_failed };
 
-    ghost origin = { λ s. record { held = None; lent = Some s.writer.ghost_name } };
+    ghost origin = { λ s. record { before = None; lent = Some s.writer.ghost_name } };
 
     fn put<D: Sectors>(&mut self, session: &Session<D>, text: &[u8]) -> Result<(), Failed> {
         match write_text(self.writer, text) {

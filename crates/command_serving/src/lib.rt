@@ -23,9 +23,9 @@
 //! - `answering`: `serve_source`, and a function for each kind of line
 //! - `hints`: what is logged beside the answer to a command, for people
 //! - `lent`: `serve`
-//! - `laws`: what stops leave of a serving, and the causes of its answers
+//! - `laws`: what stops leave of a serving, the causes of its answers, and where a strict one ends
 //!
-//! Said by `specs/Served.antt`, `Acts.antt`, `Stopped.antt`, `Timely.antt`, `Causes.antt`, `Streams.antt` and
+//! Said by `specs/Served.antt`, `Acts.antt`, `Stopped.antt`, `Timely.antt`, `Causes.antt`, `Ending.antt`, `Streams.antt` and
 //! `Strict.antt`. Proved of `serve_source`, for an input as it is known beforehand, and for each text that begins with what its reads gave,
 //! up to an end (`IsInputOf`, `GaveText`), as what they gave does itself:
 //! - `serves`, after `Ok` (`IsServed`): all is served, what is appended is the answer to the input, and the state
@@ -47,9 +47,10 @@
 //!   where the sink has failed
 //! - `most` (`IsTaken`), after `Ok`: less than 10^12 bytes of the input were taken, which are all, or those up to a line that ends
 //!   the serving. So `ReadFault` must come where 10^12 bytes are taken
-//! - `Strict::stopped`: what the last whole line tells that went through it (`TellsLast`, of `specs/Strict.antt`), unless the
-//!   writer has failed (`last_lines_are_ended` says what that line is); a `flush` that is `Ok` follows a line that tells neither, so serving over it ends behind the first
-//!   answer that does
+//! - `Strict::stopped`: what the last whole line tells that was put to it (`TellsLast`, of `specs/Strict.antt`), unless the
+//!   writer has failed (`last_lines_are_ended` says what that line is); a `flush` that is `Ok` follows a line that tells neither
+//! - `nothing_is_done_behind_a_refusal` (`AnswersEndServings`): so a serving over it ends at the first answer that does. All acts but one
+//!   at most were told before it, that one by this answer, and what would be answered next is what stands behind it
 //! - `origin`: where a sink began to follow what is written, and through which reference, no serving changes, so of a `Strict` the
 //!   last line is that of the answers, and `serve` tells what a writer that was lent holds
 //! - `serve`: of these clauses `moments`, and `serves` and `most` of an input that is known beforehand; std says of no call when it
@@ -72,7 +73,7 @@ mod streams;
 mod strict;
 
 pub use answering::{ServeFault, serve_source};
-pub use laws::{fates_have_causes, stopped_servings_recover};
+pub use laws::{fates_have_causes, nothing_is_done_behind_a_refusal, stopped_servings_recover};
 pub use lent::serve;
 pub use streams::{Failed, Noted, Sink, Source, Watched, write_text};
 pub use strict::{Stopped, Strict, last_lines_are_ended};

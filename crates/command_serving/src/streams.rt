@@ -4,7 +4,7 @@
 //! fault has a cause which a contract can name. Nor does std know a byte of standard input: so what reads gave is noted, for
 //! clauses alone, and what is said of an input is said of each text that begins with it, up to an end. A slice of bytes is a
 //! source that never fails.
-ghost use Rattle.std.specs.Prelude.{◌≡◌, ◌<◌, ◌≤◌, [], ℕ, List, Option, Bool, true, false, None, Some, IfOk, IfSome, IsNone, OnErr, length, take};
+ghost use Rattle.std.specs.Prelude.{◌≡◌, ◌<◌, ◌≤◌, [], ℕ, List, Option, Bool, true, false, None, Some, IfOk, IfSome, IsNone, OnErr, OnOk, length, take};
 ghost use Rattle.std.specs.Io.{ReadsAtMost, WritesAtMost};
 ghost use Rattle.std.specs.Io.KnownBytes.{Appends, Keeps, ReadConsumes, WriteAppends};
 ghost use Rattle.command_serving.specs.Streams.{Flushes, GaveText, Origin, Puts, ReadsSome, Stream, WritesSome, WritesUpTo, began_with, ended_by, left_behind};
@@ -68,6 +68,7 @@ pub trait Sink {
         ensures flushes { Flushes (stream self.old) (stream self.new) result
             (D.calls session.now.device) }
         ensures failed { OnErr result (has_failed self.new ≡ true) }
+        ensures kept { OnOk result (has_failed self.new ≡ has_failed self.old) }
         ensures origin { origin self.new ≡ origin self.old };
 }
 
@@ -226,6 +227,7 @@ impl<W: Write> Watched<W> {
         ensures kept { Keeps (W.contents self.old.inner) (W.contents self.new.inner) }
         ensures log { self.new.log ≡ self.old.log }
         ensures failed { OnErr result (self.new.has_failed ≡ true) }
+        ensures passes { OnOk result (self.new.has_failed ≡ self.old.has_failed) }
         ensures noted { self.new.has_failed ≡ false → self.old.has_failed ≡ false }
     {
         if self.inner.flush().is_err() {
@@ -250,6 +252,7 @@ impl<W: Write> Sink for Watched<W> {
         ensures puts { Puts (held W.contents self.old) (held W.contents self.new) result
             (D.calls session.now.device) text.now }
         ensures failed { OnErr result (self.new.has_failed ≡ true) }
+        ensures passes { OnOk result (self.new.has_failed ≡ self.old.has_failed) }
         ensures noted { self.new.has_failed ≡ false → self.old.has_failed ≡ false }
     {
         match write_text(&mut self.inner, text) {
@@ -269,6 +272,7 @@ impl<W: Write> Sink for Watched<W> {
         ensures flushes { Flushes (held W.contents self.old) (held W.contents self.new) result
             (D.calls session.now.device) }
         ensures failed { OnErr result (self.new.has_failed ≡ true) }
+        ensures kept { OnOk result (self.new.has_failed ≡ self.old.has_failed) }
         ensures noted { self.new.has_failed ≡ false → self.old.has_failed ≡ false }
     {
         self.hand_on()?;

@@ -1,16 +1,14 @@
 //! A writer that lets no answer follow a refusal.
-ghost use Rattle.std.specs.Prelude.{◌≡◌, ◌++◌, bytes_eq, ◌∷◌, ◌||◌, ℕ, List, Option, [], false, true, None, OnErr, OnOk};
-ghost use Rattle.std.specs.Io.{WritesAtMost};
-ghost use Rattle.std.specs.Io.KnownBytes.{Keeps, WriteAppends};
+ghost use Rattle.std.specs.Prelude.{◌≡◌, ◌++◌, bytes_eq, ◌∷◌, ◌||◌, ℕ, List, Option, [], false, true, None, Some, OnErr, OnOk};
 ghost use Rattle.command_serving.specs.Streams.{Flushes, Puts, began_with};
 ghost use Rattle.command_serving.specs.Strict.{Follows, HasNoLine, IsLastLine, IsLastLineBehind, TellsLast, is_stopped, stop_of};
 
+use crate::events::Events;
 use crate::streams::{Failed, Sink, Watched};
 use arrayvec::ArrayVec;
 use ghost_values::{Ghost, ListOf};
 use recover::Session;
 use sector_disk::Sectors;
-use std::io;
 use std::io::Write;
 use std::marker::Model;
 
@@ -94,6 +92,8 @@ pub struct Strict<W: Write> {
     last_lines: LastLines,
     // What the writer held when it was made strict, where that is known.
     since: Ghost<Option<ListOf<u8>>>,
+    // What had been done to it then.
+    begun: Events,
 }
 
 impl<W: Write> Model for Strict<W> {
@@ -103,19 +103,22 @@ impl<W: Write> Model for Strict<W> {
 
     ghost view = { λ s. record {
       writer = s.writer;
-      before = s.since.value;
+      before = record { contents = s.since.value; events = s.begun.events };
       told = s.last_lines.told;
     } };
 
-    ghost invariant = { λ s. IsStrict W.contents s.writer s.since.value s.last_lines };
+    ghost invariant = { λ s. IsStrict W.contents s.writer
+        (record { contents = s.since.value; events = s.begun.events }) s.last_lines };
 }
 
 impl<W: Write> Strict<W> {
+    ghost use Rattle.command_serving.specs.Held.{held};
+
     /// Follows what is written from now on.
     pub fn new(writer: Watched<W>) -> Strict<W>
         ensures { result ≡ record {
           writer = writer;
-          before = W.contents writer.inner;
+          before = held W.contents writer;
           told = None;
         } }
     {
@@ -124,14 +127,20 @@ impl<W: Write> Strict<W> {
 
     // So, where this is what it holds.
     fn since(writer: Watched<W>) -> Strict<W>
-        ghost held: { Option (List ℕ) }
-        requires { W.contents writer.inner ≡ held }
-        ensures { result ≡ record { writer = writer; before = held; told = None } }
+        ghost bytes: { Option (List ℕ) }
+        requires { W.contents writer.inner ≡ bytes }
+        ensures { result ≡ record {
+          writer = writer;
+          before = record { contents = bytes; events = writer.log.events };
+          told = None;
+        } }
     {
+        let begun = writer.log.again();
         Strict {
             writer,
             last_lines: LastLines::new(),
             since: Ghost::of(),
+            begun,
         }
     }
 
@@ -139,7 +148,7 @@ impl<W: Write> Strict<W> {
     pub fn stopped(&self) -> Option<Stopped>
         ensures told { result ≡ self.now.told }
         ensures last { self.now.writer.has_failed ≡ false
-            → TellsLast self.now.before (W.contents self.now.writer.inner) result }
+            → TellsLast self.now.before (held W.contents self.now.writer) result }
     {
         self.last_lines.told
     }
@@ -175,14 +184,14 @@ impl<W: Write> Sink for Strict<W> {
 
     ghost has_failed = { λ s. s.writer.has_failed || is_stopped s.told };
 
-    ghost origin = { λ s. began_with s.before };
+    ghost origin = { λ s. began_with (Some s.before) };
 
     fn put<D: Sectors>(&mut self, session: &Session<D>, text: &[u8]) -> Result<(), Failed>
         ensures puts { Puts (held W.contents self.old.writer) (held W.contents self.new.writer)
             result (D.calls session.now.device) text.now }
         ensures failed { OnErr result
             (self.new.writer.has_failed || is_stopped self.new.told ≡ true) }
-        ensures origin { began_with self.new.before ≡ began_with self.old.before }
+        ensures origin { began_with (Some self.new.before) ≡ began_with (Some self.old.before) }
     {
         self.writer.put(session, text)?;
         self.last_lines.take_all(text);
@@ -194,7 +203,9 @@ impl<W: Write> Sink for Strict<W> {
             (held W.contents self.new.writer) result (D.calls session.now.device) }
         ensures failed { OnErr result
             (self.new.writer.has_failed || is_stopped self.new.told ≡ true) }
-        ensures origin { began_with self.new.before ≡ began_with self.old.before }
+        ensures origin { began_with (Some self.new.before) ≡ began_with (Some self.old.before) }
+        ensures kept { OnOk result (self.new.writer.has_failed || is_stopped self.new.told
+            ≡ self.old.writer.has_failed || is_stopped self.old.told) }
         ensures told { self.new.told ≡ self.old.told }
         ensures lets { OnOk result (self.new.told ≡ None) }
     {
@@ -206,34 +217,5 @@ impl<W: Write> Sink for Strict<W> {
                 Err(Failed)
             }
         }
-    }
-}
-
-/// Hands each call on; a line that is written so counts too.
-impl<W: Write> Write for Strict<W> {
-    ghost contents = { λ s. W.contents s.writer.inner };
-
-    fn write(&mut self, buf: &[u8]) -> io::Result<usize>
-        ensures bound { WritesAtMost result buf.now }
-        ensures bytes { WriteAppends (W.contents self.old.writer.inner)
-            (W.contents self.new.writer.inner) result buf.now }
-        ensures since { self.new.before ≡ self.old.before }
-        ensures has_failed { self.new.writer.has_failed ≡ self.old.writer.has_failed }
-        ensures log { self.new.writer.log ≡ self.old.writer.log }
-    {
-        let len = self.writer.inner.write(buf)?;
-        self.last_lines.take_all(&buf[..len]);
-        Ok(len)
-    }
-
-    fn flush(&mut self) -> io::Result<()>
-        ensures bytes { Keeps (W.contents self.old.writer.inner)
-            (W.contents self.new.writer.inner) }
-        ensures since { self.new.before ≡ self.old.before }
-        ensures told { self.new.told ≡ self.old.told }
-        ensures has_failed { self.new.writer.has_failed ≡ self.old.writer.has_failed }
-        ensures log { self.new.writer.log ≡ self.old.writer.log }
-    {
-        self.writer.inner.flush()
     }
 }

@@ -1,4 +1,5 @@
 -- The lemma files, which upper crates may cite.
+pub mod AdoptLemmas
 pub mod DoubtLemmas
 pub mod OkLemmas
 pub mod OpenLemmas

@@ -10,8 +10,8 @@ use Rattle.command_core.specs.Effects.{effect}
 use Rattle.command_core.specs.Runs.{after}
 use Rattle.command_core.specs.declared.commands.Command.{Command}
 use Rattle.command_core.specs.declared.states.State.{State}
-use Rattle.command_serving.specs.Streams.{Event, Put, Stream}
-use Rattle.command_serving.specs.Timely.{calls_at, put_by}
+use Rattle.command_serving.specs.Streams.{Event, Put, Stream, put_by}
+use Rattle.command_serving.specs.Timely.{calls_at}
 use Rattle.command_text.specs.Answers.{line}
 use Rattle.planner_cli.specs.Acknowledged.{IsDoneBeforeOk, IsMadeBeforeOk, IsPutBy}
 use Rattle.planner_cli.specs.Telling.{TellsDone}

@@ -10,8 +10,8 @@ use Rattle.command_core.specs.declared.states.State.{State}
 use Rattle.command_serving.specs.Acts.{Act, commands_of, kept_of, replies_of}
 use Rattle.command_serving.specs.Serving.{IsAppliedOn}
 use Rattle.command_serving.specs.Stopped.{IsRunOfInput, ServedHeadline, ServingsAreRuns, asked_by}
-use Rattle.command_serving.specs.Streams.{left_behind, text_given}
-use Rattle.command_serving.specs.Timely.{AnswersComeAfter, TellsAcknowledged, put_by}
+use Rattle.command_serving.specs.Streams.{left_behind, text_given, put_by}
+use Rattle.command_serving.specs.Timely.{AnswersComeAfter, TellsAcknowledged}
 use Rattle.command_serving.proofs.ActLemmas.{honest_before}
 use Rattle.command_serving.proofs.StoppedLemmas.{recovered_of, weaker}
 use Rattle.command_text.specs.Cutting.{pieces_of}

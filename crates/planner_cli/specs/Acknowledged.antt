@@ -8,8 +8,8 @@ use Rattle.checkpoint.specs.declared.places.Place.{Place}
 use Rattle.command_core.specs.Effects.{effect}
 use Rattle.command_core.specs.declared.commands.Command.{Command}
 use Rattle.command_core.specs.declared.states.State.{State}
-use Rattle.command_serving.specs.Streams.{Event, Stream}
-use Rattle.command_serving.specs.Timely.{calls_at, put_by}
+use Rattle.command_serving.specs.Streams.{Event, Stream, put_by}
+use Rattle.command_serving.specs.Timely.{calls_at}
 use Rattle.planner_cli.specs.Formatting.{IsMadeWith}
 use Rattle.planner_cli.specs.Telling.{TellsDone}
 use Rattle.recover.specs.Applying.{IsApplied}

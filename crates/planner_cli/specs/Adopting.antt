@@ -1,6 +1,6 @@
 -- What the word `adopt` does: it reads a solution, and makes it the plan of the store in a file. `told` is the status that goes with what was printed,
 -- if it could be; whatever came of that, the rest is so. Of a store that was asked for no more than a first part of what is told was put then.
-use Rattle.std.specs.Prelude.{◌≡◌, ◌⊎◌, ℕ, List, ◌∷◌, codes, Result, Ok, Err, IfOk, MatchResult}
+use Rattle.std.specs.Prelude.{◌≡◌, ◌≢◌, ◌⊎◌, ℕ, List, ◌∷◌, codes, Result, Ok, Err, IfOk, MatchResult}
 use Rattle.std.specs.declared.io.ErrorKind.{ErrorKind}
 use Rattle.plan_types.specs.declared.plans.Plan.{Plan}
 use Rattle.plan_seats.specs.Seating.{IsFoundUnlessMemory}
@@ -71,6 +71,8 @@ module _ {D X : Type 0} (on : sectors.Ghosts D) where
     pub reply : Reply
     pub applied : IsApplied on.len on.calls on.faults on.honest on.clock on.possible_since on.possible old (Adopt plan) reply new
     pub tells : TellsAnswer adopt_status reply.answer (on.calls new.device) before after told
+    -- the auditor has passed the solution, so it is a plan of the store: `no NotAPlan` comes behind a line that tells what is broken alone
+    pub is_plan : reply.answer ≢ Err (denial.Core NotAPlan)
 
   -- The solution that the text is becomes the plan of the session; or it is none for it, and the session stays as it is.
   abbrev pub AdoptsOver : SessionValue D → List ℕ → Stream → Stream → SessionValue D → Result ℕ X → Type 0

@@ -14,6 +14,7 @@ pub mod Running
 pub mod SolvedList
 pub mod Solving
 pub mod Statuses
+pub mod Strictly
 pub mod Telling
 pub mod Timetabled
 pub mod Upgrading

@@ -7,8 +7,8 @@ use Rattle.checkpoint.specs.declared.faults.StoreFault.{StoreFault}
 use Rattle.command_core.specs.declared.states.State.{State}
 use Rattle.command_serving.specs.Acts.{Act, carried_of, replies_of}
 use Rattle.command_serving.specs.Stopped.{acts_of, asked_by}
-use Rattle.command_serving.specs.Streams.{Event, Given, IsInput, Stream}
-use Rattle.command_serving.specs.Timely.{TellsAcknowledged, calls_at, put_by}
+use Rattle.command_serving.specs.Streams.{Event, Given, IsInput, Stream, put_by}
+use Rattle.command_serving.specs.Timely.{TellsAcknowledged, calls_at}
 use Rattle.command_text.specs.Cutting.{pieces_of}
 use Rattle.command_text.specs.Readings.{IsReading, Reading}
 use Rattle.planner_cli.specs.Running.{IsOpened, ServesSession}

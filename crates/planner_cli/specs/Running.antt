@@ -69,8 +69,8 @@ pub record IsEnded {D : Type 0} (on : sectors.Ghosts D) (old : SessionValue D) (
   pub serves : (input : List ℕ) → IsInput given input → Serves on served old input opened answered reader_failed (writer_failed || is_stopped stopped) new
   pub plain : is_strict ≡ false → stopped ≡ None
   pub moments : RunsLeave on old new
-  -- what the last whole line of the answers tells, unless the writer has failed
-  pub last : is_strict ≡ true → writer_failed ≡ false → TellsLast opened.contents answered.contents stopped
+  -- what the last whole line of the answers tells, and that those handed on before let others follow, unless the writer has failed
+  pub last : is_strict ≡ true → writer_failed ≡ false → TellsLast opened answered stopped
 
 -- By the answer that a strict serving ended at, if it did.
 abbrev pub TellsEnded : {T : Type 0} → Result T ServeFault → Option Stopped → Option (List ℕ) → Option (List ℕ) → ℕ → Type 0

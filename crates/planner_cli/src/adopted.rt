@@ -16,7 +16,7 @@ use auditor_cli::{ReadFiles, tell_unread};
 use command_core::{Command, Refusal, State};
 use command_serving::Watched;
 use command_text::Answer;
-use plan_seats::{Unseated, seated_plan};
+use plan_seats::{Unseated, seated_plan, seated_plans_pass};
 use plan_types::Plan;
 use recover::{Denial, Opened, Session};
 use sector_disk::{DiskCall, Disks, FileCalls, FileDevice, HostFile, Sectors, Start};
@@ -102,6 +102,8 @@ fn adopt_over<R: Eprint, D: Sectors, W: Write>(
     ensures adopts { AdoptsOver D.Sectors session.old text.now
         (held W.contents output.old) (held W.contents output.new) session.new result }
 {
+    // What the auditor passes passes with the pins, so that the store takes it as a plan.
+    seated_plans_pass();
     match plan_over(alloc, session.state(), text) {
         Ok(plan) => {
             let reply = session.apply(alloc, Command::Adopt(plan));

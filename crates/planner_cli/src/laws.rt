@@ -1,8 +1,9 @@
 //! What is known of stops within the word `run`, from its promises and those of `open` alone, and of what other words tell by `ok`.
 ghost use Rattle.planner_cli.specs.Acknowledged.{IsDoneBeforeOk, IsMadeBeforeOk};
 ghost use Rattle.planner_cli.specs.Recovering.{EachInputIsSome, OfTheReading, RunHeadline, RunKeepsAnswers, RunsAreLinked, ServedRunHeadline, ServedRunKeepsAnswers};
+ghost use Rattle.planner_cli.specs.Strictly.{StrictRunsEnd};
 
-use command_serving::stopped_servings_recover;
+use command_serving::{nothing_is_done_behind_a_refusal, stopped_servings_recover};
 use command_text::texts_have_a_reading;
 use recover::recovery_keeps_every_acknowledged_command;
 use sector_disk::Sectors;
@@ -39,3 +40,10 @@ pub fn told_stores_are_durable<D: Sectors>()
     ensures made { IsMadeBeforeOk D.Sectors }
     ensures done { IsDoneBeforeOk D.Sectors }
 {}
+
+/// A strict run that ends at an answer, while its output has not failed, has done nothing behind this answer.
+pub fn strict_runs_end_at_an_answer<D: Sectors>()
+    ensures { StrictRunsEnd D.Sectors }
+{
+    nothing_is_done_behind_a_refusal::<D>();
+}

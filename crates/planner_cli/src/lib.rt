@@ -17,7 +17,7 @@
 //! - `doubted`: the same for `run`, which tells the first reason to doubt a store
 //! - `drawn`, `timetabled`: the words `draw` and `timetable`
 //! - `solved`, `solved_list`: the words `solve` and `solves`
-//! - `laws`: what stops leave of the word `run`, and behind an `ok` of other words
+//! - `laws`: what stops leave of the word `run`, where a strict one ends, and what stands behind an `ok` of other words
 //! - `progress`: how far a long command of `run` is, on standard error
 //! - `stores`: the words `format`, `run` and `upgrade`
 //! - `made`: the opening of a store in a file that is made for it
@@ -52,6 +52,7 @@
 //!   moment of `run` over a device, opening it gives the state after a first part of the commands of its input, with every one
 //!   acknowledged by then, so with every one whose `ok` or `at` was handed on, and at most one more; each input is one (`EachInputIsSome`)
 //! - `stopped_runs_are_linked` (`RunsAreLinked`): a run that was stopped behind its opening, and the opening of the next one, are a link
+//! - `strict_runs_end_at_an_answer` (`StrictRunsEnd`): nothing is done behind the answer that ends a strict run
 //! - `open_session` (`IsForetold`), by which `run` and `load` open: before a search step is repeated, the line of how many are
 //!   stands on standard error, and nothing where none are, unless a write of it failed
 //! - `open_warned` (`IsWarned`), by which `run` opens: before that the first reason to doubt the store stands on standard error, in the words
@@ -70,7 +71,8 @@
 //!   without a byte (`wants_file`), and formatted only where opening told that it holds no store (`IsMadeReady` of `open_new`)
 //! - `adopt_read` (`TellsAdopt`): the solution's file is read before the store is opened where it stands. The plan that its text is over
 //!   the store's instance and pins is offered to the session by `Adopt`, of which all is said that `apply` promises, so that behind `ok`
-//!   each image that a stop may leave stands for the state with this plan; else the session stays as it is
+//!   each image that a stop may leave stands for the state with this plan; else the session stays as it is. `no NotAPlan` stands behind
+//!   the line of what is broken alone (`is_plan` of `IsAnswered`)
 //! - `write_store` (`WritesStore`): the text of the instance that the store's image stands for, by reading alone, or that its format
 //!   can't say it
 //! - `check_store` (`ChecksStore`): whether the image of a store that stands for a state agrees with itself (`AreDoubtsOf`,
@@ -106,5 +108,8 @@ pub use auditor_cli::{
 pub use caused::{Caused, tell_causes};
 pub use command_line::{Invocation, Loading, Paths, Solving, SolvingList, read_words};
 pub use command_serving::{Failed, ServeFault, Sink, Source, Watched, serve, serve_source};
-pub use laws::{stopped_runs_are_linked, stopped_runs_recover, told_stores_are_durable};
+pub use laws::{
+    stopped_runs_are_linked, stopped_runs_recover, strict_runs_end_at_an_answer,
+    told_stores_are_durable,
+};
 pub use program::{Streams, run_words};

@@ -374,7 +374,7 @@ fn serve_strictly<R: Eprint, D: Sectors + Drop, I: Read, W: Write>(
 fn stop_of<W: Write>(answers: &Strict<W>) -> Option<Stopped>
     ensures stop { result ≡ stop_unless answers.now.writer.has_failed answers.now.told }
     ensures last { answers.now.writer.has_failed ≡ false
-        → TellsLast answers.now.before (W.contents answers.now.writer.inner) result }
+        → TellsLast answers.now.before (held W.contents answers.now.writer) result }
 {
     if answers.has_failed() {
         return None;

@@ -1,5 +1,6 @@
 -- Served up to an answer that lets none follow.
 use Rattle.std.proofs.Common.{◌≡◌, ◌∙◌, true≢false, length, ap, subst, sym}
+use Rattle.std.proofs.lemmas.Option.{same_Some}
 use Rattle.command_serving.specs.Held.{held}
 use Rattle.command_serving.specs.Strict.{TellsLast}
 use Rattle.planner_cli.proofs.TellLemmas.{served_between, stopped_out}
@@ -23,7 +24,8 @@ returns g c =
       last = λ strict whole.
           let answers = c.serve_source-served.new.writer in
           let told = c.stop_of-stopped.ensures.last (sym (ap (λ w. w.has_failed) c.into_inner.ensures) ∙ whole) in
-          let opened : answers.before ≡ g.W.Write.contents c.args.output.inner = ap (λ o. o.held) c.serve_source-served.ensures.origin ∙ ap (λ s. s.before) c.new-answers.ensures in
-          subst (λ b. TellsLast b (g.W.Write.contents c.into_inner.result.inner) c.stop_of-stopped.result) opened
-          (subst (λ a. TellsLast answers.before a c.stop_of-stopped.result) (sym (ap (λ w. g.W.Write.contents w.inner) c.into_inner.ensures)) told);
+          let opened : answers.before ≡ held g.W.Write.contents c.args.output =
+          same_Some _ _ (ap (λ o. o.before) c.serve_source-served.ensures.origin) ∙ ap (λ s. s.before) c.new-answers.ensures in
+          subst (λ b. TellsLast b (held g.W.Write.contents c.into_inner.result) c.stop_of-stopped.result) opened
+          (subst (λ a. TellsLast answers.before a c.stop_of-stopped.result) (sym (ap (held g.W.Write.contents) c.into_inner.ensures)) told);
     }

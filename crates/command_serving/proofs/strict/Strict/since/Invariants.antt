@@ -2,4 +2,4 @@
 use Rattle.command_serving.proofs.strict.Strict.since.Given as goal
 
 abbrev pub ghost-of : goal.ghost-of
-ghost-of g a = g.held
+ghost-of g a = g.bytes
