@@ -15,8 +15,9 @@ fail() {
 }
 
 # As the kit's, it wants the sources of each crate that crates.txt names. A library that does not stand takes half a second, at whose
-# ends the file `done` names it, and the one that the file `refused` names is refused. A build takes as long, and leaves a program that
-# answers `pass 1`. A trial answers what the file `tried` holds. The file `slow` tells other seconds for libraries and trials.
+# ends the file `done` names it, and the one that the file `refused` names is refused. A build takes two seconds, since ./planner looks
+# once a second whether a trial has answered, and leaves a program that answers `pass 1`. A trial answers what the file `tried` holds.
+# The file `slow` tells other seconds for libraries and trials.
 mkdir -p "$folder/tree/tools" "$folder/tree/crates/run_words" "$folder/bin" "$folder/tmp"
 cp -R -- "$top/planner" "$top/install" "$top/clean" "$top/man" "$top/examples" "$folder/tree"
 cp -- "$top/tools/build_program.py" "$top/tools/answer_words.sh" "$folder/tree/tools"
@@ -53,7 +54,7 @@ case $1 in
         echo "ended $name" >>"$FAKE/done"
         ;;
     run)
-        sleep 0.5
+        sleep 2
         mkdir -p out
         printf '#!/bin/sh\necho pass 1\nexit 1\n' >"out/$name"
         chmod 755 "out/$name"
