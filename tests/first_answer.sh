@@ -157,7 +157,8 @@ wait "$!"
 cat >"$folder/interrupt.py" <<'END'
 import os, pathlib, signal, subprocess, sys, time
 number, is_sent_to_all, done = int(sys.argv[1]), sys.argv[2] == "all", pathlib.Path(sys.argv[3])
-signal.signal(signal.SIGINT, signal.SIG_DFL)
+for ignored in signal.SIGINT, signal.SIGHUP:
+    signal.signal(ignored, signal.SIG_DFL)
 process = subprocess.Popen(sys.argv[4:], start_new_session=True)
 while not done.exists():
     time.sleep(0.05)
