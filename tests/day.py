@@ -308,6 +308,9 @@ def check_forms(folder):
     blank = "," * orders.split("\r\n", maxsplit=1)[0].count(",")
     forms = {
         "line feeds": orders.replace("\r\n", "\n"),
+        "carriage returns": orders.replace("\r\n", "\r"),
+        "carriage returns behind a byte order mark": "\ufeff" + orders[:-2].replace("\r\n", "\r"),
+        "carriage returns, and a name on two lines": orders.replace("\r\n", "\r").replace("Mill Lane Bakery, 4", "Mill Lane Bakery,\n4"),
         "no last line end": orders[:-2],
         "a byte order mark": "\ufeff" + orders,
         "quotes everywhere": rewritten(orders, quoting=csv.QUOTE_ALL),
@@ -317,6 +320,7 @@ def check_forms(folder):
         "a further column": rewritten(orders, lambda row: row + ["note, with a comma"]),
         "capitals in the header": orders.replace("pickup lat", "Pickup LAT"),
         "blank rows": orders.replace("\r\n", f"\r\n{blank}\r\n\r\n"),
+        "a header on two lines": orders.replace("pickup phone", '"pickup\rphone"'),
         "a name on two lines": orders.replace("Mill Lane Bakery, 4", "Mill Lane Bakery,\r\n4"),
         "blanks around fields": rewritten(orders, lambda row: [f" {it}  " for it in row]),
         "hours of two digits": re.sub(r",(\d:\d\d)", r",0\1", orders),
@@ -424,7 +428,7 @@ BAD_ROWS = [
 ]
 BAD_ORDERS = [
     ("", "Missing 1: there is no header"),
-    ("\n", "\norders ".join(f'NoColumn 1: no column is "{it}"' for it in COLUMNS.split(","))),
+    ("a,b\n", "\norders ".join(f'NoColumn 1: no column is "{it}"' for it in COLUMNS.split(","))),
     (COLUMNS + "\n", "Missing 2: there is no order"),
     (SMALL.replace("delivery to", "until"), 'NoColumn 1: no column is "delivery to"'),
     (SMALL.replace("delivery minutes", "delivery minutes,Boxes"), 'Repeated 1: two columns are "Boxes"'),
@@ -432,6 +436,26 @@ BAD_ORDERS = [
     # A line counts also where nothing is on it, and where a name or the header goes on over it.
     (SMALL.replace("A,", "\nA,", 1).replace("Mill", '"The\nMill"', 1).replace("B,5", "B,7"), "Range 5: boxes: 7 is not from 0 to 5"),
     (SMALL.replace("delivery phone", '"Delivery\n phone"').replace("A,4", "A,7"), "Range 3: boxes: 7 is not from 0 to 5"),
+    (SMALL.replace("B,5", "B,7").replace("\n", "\r"), "Range 3: boxes: 7 is not from 0 to 5"),
+]
+# What else a spreadsheet saves, and what is told of it, with one of these mistakes. original-awk ends a text at a byte of 0.
+UTF_16, NO_COMMA, OTHER_FILE = (
+    "is in UTF-16",
+    "has neither a comma nor a semicolon in its first line, the header",
+    "is a file of a spreadsheet program",
+)
+NO_TABLES = [
+    (("\ufeff" + SMALL).encode("utf-16-le"), (UTF_16,)),
+    (("\ufeff" + SMALL).encode("utf-16-be"), (UTF_16,)),
+    (SMALL.encode("utf-16-le"), (UTF_16, NO_COMMA)),
+    (SMALL.encode("utf-16-be"), (UTF_16, NO_COMMA)),
+    (SMALL.replace("\n", "\r\n").encode("utf-16-be"), (UTF_16, NO_COMMA)),
+    (SMALL.replace("\n", "\r").encode("utf-16-le"), (UTF_16, NO_COMMA)),
+    (("\ufeff" + SMALL.replace(",", "\t")).encode("utf-16-le"), (UTF_16,)),
+    (SMALL.replace(",", "\t"), (NO_COMMA,)),
+    ("\n" + SMALL, (NO_COMMA,)),
+    (b"PK\x03\x04\x14\x00\x06\x00,\n", (OTHER_FILE,)),
+    (b"\xd0\xcf\x11\xe0\xa1\xb1\x1a\xe1;\n", (OTHER_FILE,)),
 ]
 # All faults are told at once: those of rows that are cut wrong first, then those of fields. A quote that is not closed takes 20 lines along.
 MANY_FAULTS = SMALL.replace("A,4", "A,x").replace("8:10", "8-10") + "C,1\n" + 'D,"1\n' + 22 * "E,1\n"
@@ -492,10 +516,26 @@ def refused(name, table, words, told):
     expect(f"{name}, where {told}", ask(*words), (2, "", f"{table} {told}\n"))
 
 
+def check_no_tables(folder, town, small):
+    """One fault is told of each, as of orders and as of settings, which names the file and says how to save it."""
+    for text, mistakes in NO_TABLES:
+        path = write(folder, "saved.csv", text)
+        for table, words in ("orders", [town, path]), ("settings", [path, small]):
+            told = ask("instance", *words)
+            if told not in [(2, "", f'{table} NoTable 1: "{path}" {it}; save it as CSV, in UTF-8\n') for it in mistakes]:
+                fail(f"{text[:9]!r} as {table}: {told}")
+    with open(path, "rb") as file:
+        told = f"orders NoTable 1: standard input {OTHER_FILE}; save it as CSV, in UTF-8\n"
+        expect("standard input that is no table", ask("instance", town, "-", stdin=file), (2, "", told))
+
+
 def check_refused(folder):
     """The third part and the fourth; gives how many tables were refused."""
     town, small = write(folder, "town.csv", HEAD + TOWN), write(folder, "small.csv", SMALL)
     expect("the small table", ask("instance", town, small), (0, INSTANCE, ""))
+    returns = write(folder, "returns.csv", (HEAD + TOWN).replace("\n", "\r"))
+    expect("settings with carriage returns", ask("instance", returns, small), (0, INSTANCE, ""))
+    check_no_tables(folder, town, small)
     bad = [(SMALL.replace(SECOND, SECOND.replace(*change, 1)), told) for change, told in BAD_ROWS] + BAD_ORDERS
     for text, told in bad:
         refused("orders", "orders", ["instance", town, write(folder, "bad.csv", text)], told)
@@ -518,7 +558,7 @@ def check_refused(folder):
     expect("a folder", ask("instance", folder, small), (3, "", f"cannot read {folder}\n"))
     for words in [], ["instance"], ["instance", town, small, small], ["sheets", town, small], ["draw", town, small]:
         expect(f"{words}", ask(*words)[:2], (64, ""))
-    return len(bad) + 1 + len(BAD_SETTINGS) + len(BAD_TIMETABLES) + 1
+    return len(bad) + 1 + len(BAD_SETTINGS) + len(BAD_TIMETABLES) + 1 + 2 * len(NO_TABLES) + 1
 
 
 def check_most(folder):

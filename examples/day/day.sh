@@ -7,8 +7,8 @@
 # Sheets are pages of text, for `lp -o landscape`.
 #
 # SETTINGS and ORDERS are tables as a spreadsheet exports them (CSV): a header; fields between commas or, where the header has them,
-# semicolons; quotes around a field that has one of these; lines that end with CR LF or LF. Columns may stand in any order, and further
-# ones are not read. A path that is - is standard input. settings.csv and orders.csv beside this script show all columns.
+# semicolons; quotes around a field that has one of these; lines that end with CR LF, LF or CR. Columns may stand in any order, and
+# further ones are not read. A path that is - is standard input. settings.csv and orders.csv beside this script show all columns.
 #
 # The order on row i is pickup 2 i - 1 and delivery 2 i of the instance. A time is as 9:30, an empty one the day's begin or end.
 #
@@ -98,11 +98,15 @@ function quoted(text) {
 
 # Reads a table, and returns how many rows it has: without the header, and without those of empty fields. cell[table, row, column] is a
 # field, line_of[table, row] the line on which the row begins, end_of[table] the line behind the last one.
-function read_table(table, path, columns,    line, first, rows) {
+function read_table(table, path, columns,    name, line, first, rows, mistake) {
+    name = path == "-" ? "standard input" : quoted(path)
     path = source(path)
     line = next_record(path, 0)
+    mistake = mistaken(record)
     if (line == 0)
         refuse(table, "Missing", 1, "there is no header")
+    else if (mistake != "")
+        refuse(table, "NoTable", 1, name " " mistake "; save it as CSV, in UTF-8")
     else
         read_header(table, columns)
     if (faults)
@@ -115,20 +119,51 @@ function read_table(table, path, columns,    line, first, rows) {
     return rows
 }
 
+# What was saved in place of a table, by the first line; "" where that may be a header. An awk whose texts end at a byte of 0 finds no
+# comma in UTF-16.
+function mistaken(text) {
+    if (text ~ /^(PK\003\004|\320\317\021\340)/)
+        return "is a file of a spreadsheet program"
+    if (text ~ /^(\377\376|\376\377)/ || text ~ /[^\001-\377]/)
+        return "is in UTF-16"
+    if (text !~ /[,;]/)
+        return "has neither a comma nor a semicolon in its first line, the header"
+    return ""
+}
+
 # The next line into `record`, with those over which its quotes stay open. Returns the number of the last line that was read, 0 at the end.
-function next_record(path, line,    first, is_open, more) {
+function next_record(path, line,    first, is_open) {
     record = ""
-    if ((getline record < path) < 1)
+    if (!next_line(path, line))
         return 0
+    record = text_of_line
     line += 1
-    sub(/\r$/, "", record)
     is_open = quotes(record) % 2
-    for (first = line; is_open && line - first < MOST_LINES && (getline more < path) > 0; line += 1) {
-        sub(/\r$/, "", more)
-        is_open = (is_open + quotes(more)) % 2
-        record = record " " more
+    for (first = line; is_open && line - first < MOST_LINES && next_line(path, line); line += 1) {
+        is_open = (is_open + quotes(text_of_line)) % 2
+        record = record " " text_of_line
     }
     return line
+}
+
+# The next line into `text_of_line`, behind so many others; 0 at the end. Where CR stands within the first one, each CR ends a line.
+function next_line(path, line) {
+    if (line == 0)
+        piece = pieces = ends_by_cr = 0
+    if (piece >= pieces) {
+        if ((getline text_of_line < path) < 1)
+            return 0
+        sub(/\r$/, "", text_of_line)
+        if (line == 0)
+            ends_by_cr = text_of_line ~ /\r[^\r]/
+        if (!ends_by_cr)
+            return 1
+        pieces = split(text_of_line, piece_at, "\r")
+        piece = 0
+    }
+    piece += 1
+    text_of_line = piece_at[piece]
+    return 1
 }
 
 function quotes(text) {
@@ -527,7 +562,7 @@ function print_rest(    row, count) {
         printf "\norder %s, %s, stops %d and %d\n", order[row], counted(boxes[row], "box", "boxes"), 2 * row - 1, 2 * row
         printf "  pick up %s  %s  %s\n", window(2 * row - 1), phone[2 * row - 1], place[2 * row - 1]
         printf "  deliver %s  %s  %s\n", window(2 * row), phone[2 * row], place[2 * row]
-        printf "%s", reason[2 * row - 1] != "" ? reason[2 * row - 1] : "  withdrawn\n"
+        printf "%s", (reason[2 * row - 1] != "" ? reason[2 * row - 1] : "  withdrawn\n")
     }
     if (count)
         print "day.sh: orders in no van: " count | "cat 1>&2"
