@@ -1,8 +1,8 @@
 -- What the words of a `.vrp` line make.
-use Rattle.std.proofs.Common.{◌≡◌, ℕ, ◌<◌, Bool, true, false, List, [], ◌∷◌, length, get_or, Option, Some, None, refl, sym, ap, ⊎_elim, ◌∙◌, arith, ℤ, pos, negsuc}
+use Rattle.std.proofs.Common.{◌≡◌, ℕ, ◌<◌, Bool, true, false, List, [], ◌∷◌, length, get_or, Option, Some, None, refl, sym, ap, ◌∙◌, arith, ℤ, pos, negsuc}
 use Rattle.std.specs.Prelude.{int_lt, ◌||◌}
 use Rattle.std.specs.Int.RustNames.{unsigned_abs}
-use Rattle.std.proofs.lemmas.Bool.{or_parts, or_cases, false≢true}
+use Rattle.std.proofs.lemmas.Bool.{or_parts, false≢true}
 use Rattle.std.proofs.Math.Bool.{or-false}
 use Rattle.text_lines.specs.Numbers.{number_of}
 use Rattle.instance_read.specs.declared.faults.ReadFaultKind.{ReadFaultKind}
@@ -46,10 +46,6 @@ one_beyond : (limits : ℤ × ℤ) (words : List (List ℕ)) → any_beyond (lim
 one_beyond limits [] = refl
 one_beyond limits (w ∷ words) = or-false (is_that (is_beyond limits) (number_of w))
 
-low : (number : Option ℤ) → is_that (λ z. int_lt (pos 40001) z) number ≡ false → is_that (is_beyond (pos 2, pos 40001)) number ≡ true → is_that (λ z. int_lt z (pos 2)) number ≡ true
-low None few e = absurd (false≢true e)
-low (Some z) few e = ⊎_elim (λ below. below) (λ above. absurd (false≢true (sym few ∙ above))) (or_cases (int_lt z (pos 2)) (int_lt (pos 40001) z) e)
-
 -- The value of a CAPACITY.
 module _ (stands : Bool) (words : List (List ℕ)) where
   capacity_like : (k : ReadFaultKind) → rank k < 9 → capacity_fault stands words k ≡ numbers_fault 1 ((pos 0, pos 1000000) ∷ []) words k
@@ -74,10 +70,6 @@ module _ (stands : Bool) (words : List (List ℕ)) where
     capacity_none e k = capacity_below 14 (λ _. e) k (rank_small k)
 
 -- The value of a DIMENSION.
-pub below_two : (words : List (List ℕ)) → is_that (λ z. int_lt (pos 40001) z) (field words 0) ≡ false → any_beyond ((pos 2, pos 40001) ∷ []) words ≡ true
-    → is_that (λ z. int_lt z (pos 2)) (field words 0) ≡ true
-below_two words few e = low (field words 0) few (sym (one_beyond (pos 2, pos 40001) words) ∙ e)
-
 module _ (stands : Bool) (words : List (List ℕ)) where
   module _ (values : List ℤ) (h : HasNumbers 1 ((pos 2, pos 40001) ∷ []) words values) where
     in_limits : (int_lt (get_or values 0 (pos 0)) (pos 2) ≡ false) × (int_lt (pos 40001) (get_or values 0 (pos 0)) ≡ false)

@@ -1,5 +1,5 @@
 -- What a line of a `.vrp` text has of its fault.
-use Rattle.std.specs.Prelude.{ℕ, ◌==◌, Bool, true, false, if◌then◌else◌, List, [], ◌∷◌, length, Option, Some, None, ℤ, pos, neg_ℤ, unwrap_or}
+use Rattle.std.specs.Prelude.{ℕ, ◌==◌, if◌then◌else◌, List, [], ◌∷◌, length, Option, Some, None, ℤ, pos, neg_ℤ, unwrap_or}
 use Rattle.std.specs.Int.RustNames.{unsigned_abs}
 use Rattle.std.specs.Option.{option_map}
 use Rattle.text_lines.specs.Numbers.{first_number, within}
@@ -59,19 +59,20 @@ unsupported line value ProblemType = evidence.Value ProblemType value
 unsupported line value WeightType = evidence.Value WeightType value
 unsupported line value _ = evidence.Key (key_text line)
 
--- no line before that of EOF has this key
-abbrev pub lacks : Key → List Row → Bool
-lacks key [] = true
-lacks key (row ∷ rows) =
-    if key_number (key_of row) == key_number key then false
-    else if key_number (key_of row) == key_number End then true else lacks key rows
+-- this key, unless a line before that of EOF has it
+abbrev pub unless_there : Key → List Row → Option Key
+unless_there key [] = Some key
+unless_there key (row ∷ rows) =
+    if key_number (key_of row) == key_number key then None
+    else if key_number (key_of row) == key_number End then Some key else unless_there key rows
 
 -- what is missing at a line with this key: DIMENSION before a section, or the keys that no line has
 abbrev pub missing_evidence : List Row → Key → Evidence
 missing_evidence rows Coordinates = evidence.Unannounced
 missing_evidence rows Demands = evidence.Unannounced
 missing_evidence rows _ =
-    evidence.Missing (lacks Dimension rows) (lacks Capacity rows) (lacks WeightType rows) (lacks Coordinates rows) (lacks Demands rows) (lacks Depots rows)
+    evidence.Missing (unless_there Dimension rows ∷ unless_there Capacity rows ∷ unless_there WeightType rows
+    ∷ unless_there Coordinates rows ∷ unless_there Demands rows ∷ unless_there Depots rows ∷ [])
 
 -- of the value of a key, or of numbers that are in no section
 abbrev pub value_evidence : ReadFaultKind → Option ℤ → List (List ℕ) → Key → Evidence

@@ -129,15 +129,8 @@ pub enum Evidence<'a> {
     Stray(Option<u32>),
     /// A section of nodes begins before DIMENSION.
     Unannounced,
-    /// Which of DIMENSION, CAPACITY, EDGE_WEIGHT_TYPE and the sections of coordinates, demands and depots no line has.
-    Missing {
-        dimension: bool,
-        capacity: bool,
-        weights: bool,
-        coordinates: bool,
-        demands: bool,
-        depots: bool,
-    },
+    /// The keys that no line has, of DIMENSION, CAPACITY, EDGE_WEIGHT_TYPE and those of coordinates, demands and depots.
+    Missing([Option<Key>; 6]),
     /// A key that is not supported, or stands twice.
     Key(Excerpt<'a>),
     /// A key that has to have another value than this one.

@@ -5,7 +5,7 @@ ghost use Rattle.std.specs.Option.{option_map};
 ghost use Rattle.text_lines.specs.Words.{words_of};
 ghost use Rattle.instance_read.specs.RowViews.{row_view};
 ghost use Rattle.instance_read.specs.Rows.{rows_of};
-ghost use Rattle.instance_read.specs.VrpEvidence.{announced, announced_after, depot_evidence, key_evidence, lacks, line_from, missing_evidence, node_evidence, unsupported, value_evidence, vrp_evidence};
+ghost use Rattle.instance_read.specs.VrpEvidence.{announced, announced_after, depot_evidence, key_evidence, line_from, missing_evidence, node_evidence, unless_there, unsupported, value_evidence, vrp_evidence};
 ghost use Rattle.instance_read.specs.VrpLines.{key_of, place_after};
 ghost use Rattle.instance_read.specs.declared.vrp_lines.Section.TheVariants.{Outside};
 
@@ -183,29 +183,29 @@ fn missing_evidence<'a>(text: &'a [u8], key: Key) -> Evidence<'a>
 {
     match key {
         Key::Coordinates | Key::Demands => Evidence::Unannounced,
-        _ => Evidence::Missing {
-            dimension: lacks(text, Key::Dimension),
-            capacity: lacks(text, Key::Capacity),
-            weights: lacks(text, Key::WeightType),
-            coordinates: lacks(text, Key::Coordinates),
-            demands: lacks(text, Key::Demands),
-            depots: lacks(text, Key::Depots),
-        },
+        _ => Evidence::Missing([
+            unless_there(text, Key::Dimension),
+            unless_there(text, Key::Capacity),
+            unless_there(text, Key::WeightType),
+            unless_there(text, Key::Coordinates),
+            unless_there(text, Key::Demands),
+            unless_there(text, Key::Depots),
+        ]),
     }
 }
 
-// Whether no line before the one of EOF has this key.
-fn lacks(text: &[u8], key: Key) -> bool
-    ensures { result ≡ lacks key (rows_of text.now) }
+// This key, unless a line before the one of EOF has it.
+fn unless_there(text: &[u8], key: Key) -> Option<Key>
+    ensures { result ≡ unless_there key (rows_of text.now) }
 {
     for line in NumberedLines::new(text) {
         let here = key_of(&line);
         if here == key {
-            return false;
+            return None;
         }
         if here == Key::End {
-            return true;
+            break;
         }
     }
-    true
+    Some(key)
 }

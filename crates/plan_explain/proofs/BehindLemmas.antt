@@ -17,14 +17,6 @@ abbrev pub filled_from : Bool → ℕ → List (List ℕ) → Option ℕ
 filled_from true n lines = first_filled n lines
 filled_from false n lines = filled_behind n lines
 
-pub one_word : (words : List (List ℕ)) → (length words == 1) ≡ is_some (only_word words)
-one_word [] = refl
-one_word (w ∷ []) = refl
-one_word (w ∷ v ∷ ws) = elim (eqb_tells (length (w ∷ v ∷ ws)) 1) [
-  | inl t ↦ absurd (let e = t.1 in omega arith)
-  | inr t ↦ t.0
-]
-
 none_some : {X : Type 0} (x : X) → None ≡ Some x → ⊥
 none_some x e = absurd cc
 
@@ -38,52 +30,43 @@ read_at line lines is = rw is refl
 read_on : (line : List ℕ) (lines : List (List ℕ)) → is_cost_line line ≡ false → up_to_cost (line ∷ lines) ≡ line ∷ up_to_cost lines
 read_on line lines is = rw is refl
 
-counts_read : (lines : List (List ℕ)) (k : ℕ) → LineCounts lines k → LineCounts (up_to_cost lines) k × (line_at (up_to_cost lines) k ≡ line_at lines k)
-counts_read [] k counts = absurd (let few = counts.0 in omega arith)
-counts_read (line ∷ lines) zero counts = ((omega arith, tt), refl)
-counts_read (line ∷ lines) (suc k) counts =
-    let apart = counts.1.0 in
-    let few = counts.0 in
-    let rest = counts_read lines k (omega arith, counts.1.1) in
-    let within = rest.0.0 in
-    subst (λ (ls : List (List ℕ)). LineCounts ls (suc k) × (line_at ls (suc k) ≡ line_at (line ∷ lines) (suc k))) (sym (read_on line lines apart)) ((omega arith, (apart, rest.0.1)), rest.1)
+-- what is read of two texts behind a line that is no cost line
+behind_same : (line other : List ℕ) (lines others : List (List ℕ)) → up_to_cost (line ∷ lines) ≡ up_to_cost (other ∷ others) → is_cost_line line ≡ false
+    → (line ≡ other) × (is_cost_line other ≡ false) × (up_to_cost lines ≡ up_to_cost others)
+behind_same line other lines others same apart =
+    let head : line ≡ other = cc in
+    let too = ap is_cost_line (sym head) ∙ apart in
+    let more : line ∷ up_to_cost lines ≡ other ∷ up_to_cost others = sym (read_on line lines apart) ∙ same ∙ read_on other others too in
+    (head, too, cc)
 
-read_counts : (lines : List (List ℕ)) (k : ℕ) → LineCounts (up_to_cost lines) k → LineCounts lines k × (line_at (up_to_cost lines) k ≡ line_at lines k)
-read_counts [] k counts = absurd (let few = counts.0 in omega arith)
-read_counts (line ∷ lines) zero counts = ((omega arith, tt), refl)
-read_counts (line ∷ lines) (suc k) counts =
-    let apart = counts.1.0 in
-    let same = read_on line lines apart in
-    let counts_on : LineCounts (line ∷ up_to_cost lines) (suc k) = subst (λ (ls : List (List ℕ)). LineCounts ls (suc k)) same counts in
-    let few = counts_on.0 in
-    let rest = read_counts lines k (omega arith, counts_on.1.1) in
+counts_same : (lines others : List (List ℕ)) (k : ℕ) → up_to_cost lines ≡ up_to_cost others → LineCounts lines k → LineCounts others k × (line_at others k ≡ line_at lines k)
+counts_same [] others k same counts = absurd (let few = counts.0 in omega arith)
+counts_same (line ∷ lines) [] k same counts = absurd cc
+counts_same (line ∷ lines) (other ∷ others) zero same counts = ((omega arith, tt), cc)
+counts_same (line ∷ lines) (other ∷ others) (suc k) same counts =
+    let behind = behind_same line other lines others same counts.1.0 in
+    let few = counts.0 in
+    let rest = counts_same lines others k behind.2 (omega arith, counts.1.1) in
     let within = rest.0.0 in
-    ((omega arith, (apart, rest.0.1)), ap (λ (ls : List (List ℕ)). line_at ls (suc k)) same ∙ rest.1)
+    ((omega arith, (behind.1, rest.0.1)), rest.1)
 
 -- without a cost line all is read
-all_read : (lines : List (List ℕ)) → HasNoCost lines → up_to_cost lines ≡ lines
-all_read [] none = refl
-all_read (line ∷ lines) none = read_on line lines none.0 ∙ ap (λ (ls : List (List ℕ)). line ∷ ls) (all_read lines none.1)
-
-none_read : (lines : List (List ℕ)) → HasNoCost (up_to_cost lines) → HasNoCost lines
-none_read [] none = tt
-none_read (line ∷ lines) none =
-    let same = read_on line lines none.0 in
-    let rest : HasNoCost (line ∷ up_to_cost lines) = subst HasNoCost same none in
-    (none.0, none_read lines rest.1)
+all_same : (lines others : List (List ℕ)) → up_to_cost lines ≡ up_to_cost others → HasNoCost lines → lines ≡ others
+all_same [] [] same none = refl
+all_same [] (other ∷ others) same none = absurd cc
+all_same (line ∷ lines) [] same none = absurd cc
+all_same (line ∷ lines) (other ∷ others) same none =
+    let behind = behind_same line other lines others same none.0 in
+    let head = behind.0 in
+    let rest = all_same lines others behind.2 none.1 in
+    cc
 
 -- ---- so the faults are those of the lines that are read
-to_read : (lines : List (List ℕ)) (k : ℕ) (kind : SolFaultKind) → FaultAmong lines k kind → FaultAmong (up_to_cost lines) k kind
-to_read lines k BadLine fault = let read = counts_read lines k fault.0 in (read.0, ap is_bad_line read.1 ∙ fault.1)
-to_read lines k BadNumber fault = let read = counts_read lines k fault.0 in (read.0, ap has_bad_number read.1 ∙ fault.1)
-to_read lines k NoCost fault = let same = all_read lines fault.1 in (fault.0 ∙ ap length (sym same), subst HasNoCost (sym same) fault.1)
-to_read lines k OutOfMemory fault = fault
-
-from_read : (lines : List (List ℕ)) (k : ℕ) (kind : SolFaultKind) → FaultAmong (up_to_cost lines) k kind → FaultAmong lines k kind
-from_read lines k BadLine fault = let read = read_counts lines k fault.0 in (read.0, ap is_bad_line (sym read.1) ∙ fault.1)
-from_read lines k BadNumber fault = let read = read_counts lines k fault.0 in (read.0, ap has_bad_number (sym read.1) ∙ fault.1)
-from_read lines k NoCost fault = let none = none_read lines fault.1 in (fault.0 ∙ ap length (all_read lines none), none)
-from_read lines k OutOfMemory fault = fault
+fault_same : (lines others : List (List ℕ)) (k : ℕ) (kind : SolFaultKind) → up_to_cost lines ≡ up_to_cost others → FaultAmong lines k kind → FaultAmong others k kind
+fault_same lines others k BadLine same fault = let read = counts_same lines others k same fault.0 in (read.0, ap is_bad_line read.1 ∙ fault.1)
+fault_same lines others k BadNumber same fault = let read = counts_same lines others k same fault.0 in (read.0, ap has_bad_number read.1 ∙ fault.1)
+fault_same lines others k NoCost same fault = subst (λ (ls : List (List ℕ)). FaultAmong ls k NoCost) (all_same lines others same fault.1) fault
+fault_same lines others k OutOfMemory same fault = fault
 
 -- ---- and the solution
 find_read : (lines : List (List ℕ)) → find is_cost_line (up_to_cost lines) ≡ find is_cost_line lines
@@ -111,8 +94,7 @@ solution_read lines = rw (find_read lines, routes_read lines) refl
 -- ---- texts of which the same is read
 module _ (text other : List ℕ) (same : up_to_cost (lines_of text) ≡ up_to_cost (lines_of other)) where
   fault_to : (line : ℕ) (kind : SolFaultKind) → Fault text line kind → Fault other line kind
-  fault_to line kind fault =
-      (fault.0, fault.1, from_read (lines_of other) fault.0 kind (subst (λ (ls : List (List ℕ)). FaultAmong ls fault.0 kind) same (to_read (lines_of text) fault.0 kind fault.2)))
+  fault_to line kind fault = (fault.0, fault.1, fault_same (lines_of text) (lines_of other) fault.0 kind same fault.2)
 
   solution_same : solution_among (lines_of text) ≡ solution_among (lines_of other)
   solution_same = sym (solution_read (lines_of text)) ∙ ap solution_among same ∙ solution_read (lines_of other)

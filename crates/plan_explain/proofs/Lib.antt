@@ -2,4 +2,3 @@
 pub mod BehindLemmas
 pub mod RouteLemmas
 pub mod RowLemmas
-pub mod SummaryLemmas

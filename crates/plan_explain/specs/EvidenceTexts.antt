@@ -1,49 +1,46 @@
 -- What is said of the evidence of a fault of an instance behind its kind.
-use Rattle.std.specs.Prelude.{ℕ, Bool, List, [], ◌∷◌, Option, Some, None, ℤ, decimal, if◌then◌else◌, codes}
+use Rattle.std.specs.Prelude.{ℕ, Bool, List, [], ◌∷◌, ◌++◌, Option, Some, None, ℤ, decimal, if◌then◌else◌, codes}
 use Rattle.std.specs.Fmt.{signed_decimal}
+use Rattle.std.specs.List.{flat_map}
 use Rattle.instance_read.specs.declared.evidence.Evidence.{Evidence}
 use Rattle.instance_read.specs.declared.evidence.Evidence.TheVariants as found
 use Rattle.instance_read.specs.declared.evidence.Field.{Field}
 use Rattle.instance_read.specs.declared.evidence.Field.TheVariants as fields
 use Rattle.instance_read.specs.declared.faults.ReadFaultKind.{ReadFaultKind}
 use Rattle.instance_read.specs.declared.faults.ReadFaultKind.TheVariants.{BadNumber, Range, TooManyStops}
-use Rattle.instance_read.specs.declared.vrp_lines.Key.TheVariants as keys
+use Rattle.instance_read.specs.declared.vrp_lines.Key.{Key}
 use Rattle.plan_explain.specs.Cited.{is_fraction, shown_bytes}
 use Rattle.plan_explain.specs.Names.{field_name, key_name, supported_name}
-use Rattle.plan_explain.specs.Forms.{form, lacked_text, text_if}
-
-abbrev pub beyond_text : Field → List ℕ → Option (ℤ × ℤ) → List ℕ
-beyond_text field word None = []
-beyond_text field word (Some limits) = form (codes ": @ is @, its limits are @..@") (field_name field ∷ shown_bytes word ∷ signed_decimal limits.0 ∷ signed_decimal limits.1 ∷ [])
+use Rattle.plan_explain.specs.Forms.{form, text_if}
 
 -- the kind tells the greatest number
 abbrev pub many_text : List ℕ → Field → List ℕ
 many_text word fields.Number = form (codes ": task @") (shown_bytes word ∷ [])
 many_text word field = form (codes ": @ is @") (field_name field ∷ shown_bytes word ∷ [])
 
-unfoldable pub no_number_text : Field → List ℕ → Bool → List ℕ
-no_number_text field word has_fraction =
-    form (codes ": @ is @@") (field_name field ∷ shown_bytes word ∷ text_if (codes ", which has a fraction") has_fraction ∷ [])
+-- why a word is at fault: its fraction, or its limits
+abbrev pub reason_text : ReadFaultKind → List ℕ → Option (ℤ × ℤ) → List ℕ
+reason_text BadNumber word limits = text_if (codes ", which has a fraction") (is_fraction word)
+reason_text Range word (Some limits) = form (codes ", its limits are @..@") (signed_decimal limits.0 ∷ signed_decimal limits.1 ∷ [])
+reason_text _ word limits = []
 
 -- of the first word at fault
 abbrev pub word_text : ReadFaultKind → Field → List ℕ → Option (ℤ × ℤ) → List ℕ
-word_text BadNumber field word limits = no_number_text field word (is_fraction word)
-word_text Range field word limits = beyond_text field word limits
 word_text TooManyStops field word limits = many_text word field
-word_text kind field word limits = form (codes ": @ is @") (field_name field ∷ shown_bytes word ∷ [])
+word_text kind field word limits = form (codes ": @ is @") (field_name field ∷ shown_bytes word ∷ []) ++ reason_text kind word limits
 
 abbrev pub demands_words : Bool → List ℕ
 demands_words is_negative =
     if is_negative then codes ": its @, task @ on line @, has demand @, this one @: that of a pickup is not negative"
     else codes ": its @, task @ on line @, has demand @, this one @: their sum is not 0"
 
--- of what no line has
-abbrev pub missing_text : Evidence → List ℕ
-missing_text found.Unannounced = codes ": DIMENSION has to stand before this section"
-missing_text (found.Missing dimension capacity weights coordinates demands depots) =
-    form (codes ":@@@@@@") (lacked_text keys.Dimension dimension ∷ lacked_text keys.Capacity capacity ∷ lacked_text keys.WeightType weights
-    ∷ lacked_text keys.Coordinates coordinates ∷ lacked_text keys.Demands demands ∷ lacked_text keys.Depots depots ∷ [])
-missing_text _ = []
+-- the keys that no line has
+abbrev pub key_behind : Option Key → List ℕ
+key_behind None = []
+key_behind (Some key) = form (codes " @") (key_name key ∷ [])
+
+abbrev pub missing_text : List (Option Key) → List ℕ
+missing_text keys = codes ":" ++ flat_map key_behind keys
 
 -- of keys and sections
 abbrev pub key_text : Evidence → List ℕ
@@ -55,7 +52,9 @@ key_text (found.Key key) = form (codes ": @") (shown_bytes key ∷ [])
 key_text (found.Value key value) = form (codes ": @ is @, supported is @") (key_name key ∷ shown_bytes value ∷ supported_name key ∷ [])
 key_text (found.Unfinished section left) = form (codes ": @ lacks @ of its lines") (key_name section ∷ decimal left ∷ [])
 key_text found.OpenDepots = codes ": DEPOT_SECTION lacks its end, -1"
-key_text evidence = missing_text evidence
+key_text found.Unannounced = codes ": DIMENSION has to stand before this section"
+key_text (found.Missing keys) = missing_text keys
+key_text _ = []
 
 -- of a task and the one that it names
 abbrev pub pair_text : Evidence → List ℕ

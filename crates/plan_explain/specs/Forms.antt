@@ -1,13 +1,14 @@
 -- Words with values in them.
 use Rattle.std.specs.Prelude.{ℕ, ◌++◌, ◌==◌, nat_lt, Bool, List, [], ◌∷◌, Option, Some, None, codes, decimal, if◌then◌else◌}
 use Rattle.std.specs.Fmt.{signed_decimal}
-use Rattle.instance_read.specs.declared.vrp_lines.Key.{Key}
+use Rattle.std.specs.Option.{option_copied}
+use Rattle.plan_types.specs.declared.requests.Stop.{Stop}
 use Rattle.rule_breaches.specs.declared.seats.Seat.{Seat}
 use Rattle.told_text.specs.Columns.{left as at_left, right, right_signed}
 use Rattle.plan_explain.specs.Cited.{shown_bytes}
 use Rattle.plan_explain.specs.Names.{field_name, key_name, supported_name}
 use Rattle.plan_explain.specs.declared.forms.Value.{Value}
-use Rattle.plan_explain.specs.declared.forms.Value.TheVariants.{At, Cited, KeyName, Left, Long, Missing, Name, Needed, Number, Right, RightLong, RightSigned, Short, Signed, WordsIf}
+use Rattle.plan_explain.specs.declared.forms.Value.TheVariants.{At, Cited, Demand, KeyName, Left, Long, Name, Needed, Number, Right, RightLong, RightSigned, Short, Signed, WordsIf}
 
 abbrev pub text_if : List ℕ → Bool → List ℕ
 text_if words holds = if holds then words else []
@@ -17,9 +18,10 @@ abbrev pub seat_text : Option Seat → List ℕ
 seat_text None = codes "in no route"
 seat_text (Some s) = codes "at place " ++ decimal s.place ++ codes " of route " ++ decimal s.route
 
--- a blank and the key, if it is missing
-abbrev pub lacked_text : Key → Bool → List ℕ
-lacked_text key is_missing = if is_missing then codes " " ++ key_name key else []
+-- a stop's demand
+abbrev pub demand_text : Option Stop → List ℕ
+demand_text None = []
+demand_text (Some s) = codes ", demand " ++ signed_decimal s.demand
 
 abbrev pub value_text : Value → List ℕ
 value_text (Short n) = decimal n
@@ -36,7 +38,7 @@ value_text (Cited bytes) = shown_bytes bytes.now
 value_text (Name field) = field_name field
 value_text (KeyName key) = key_name key
 value_text (Needed key) = supported_name key
-value_text (Missing key is_missing) = lacked_text key is_missing
+value_text (Demand stop) = demand_text (option_copied stop)
 
 -- words are of ASCII
 abbrev pub plain_byte : ℕ → ℕ

@@ -1,8 +1,7 @@
 -- The sentence on a broken rule, with its figures. Routes and places count from 1.
-use Rattle.std.specs.Prelude.{ℕ, ◌+◌, ◌-◌, ◌==◌, nat_lt, not, Bool, true, is_none, if◌then◌else◌, List, [], ◌∷◌, ◌++◌, length, Option, Some, None, unwrap_or, decimal, codes}
+use Rattle.std.specs.Prelude.{ℕ, ◌+◌, ◌-◌, ◌==◌, ◌||◌, nat_lt, not, Bool, true, is_none, if◌then◌else◌, List, [], ◌∷◌, ◌++◌, length, Option, Some, None, unwrap_or, slice_get, decimal, codes}
 use Rattle.std.specs.Fmt.{signed_decimal}
 use Rattle.std.specs.List.{list_any}
-use Rattle.plan_types.specs.declared.requests.Stop.{Stop}
 use Rattle.plan_types.specs.Instance.{Instance, partner_at, pickup_at, stop_at}
 use Rattle.route_sched.specs.Schedule.{start}
 use Rattle.route_sched.specs.Cost.{total_length, used_count}
@@ -10,7 +9,7 @@ use Rattle.plan_audit.specs.Rules.{item_at}
 use Rattle.plan_audit.specs.declared.rules.Rule.{Rule}
 use Rattle.plan_audit.specs.declared.rules.Rule.TheVariants as rules
 use Rattle.rule_breaches.specs.Seats.{first_seat}
-use Rattle.plan_explain.specs.Forms.{form, seat_text, text_if}
+use Rattle.plan_explain.specs.Forms.{demand_text, form, seat_text, text_if}
 use Rattle.plan_explain.specs.Tables.{rows_of}
 use Rattle.plan_explain.specs.declared.rows.Row.{Row}
 use Rattle.plan_explain.specs.declared.shifts.Shift.{Shift}
@@ -33,7 +32,7 @@ beside_text phrase routes (Some m) = stop_sentence phrase routes m
 -- a number that is one too high, or one too low, is of no request when that is mended
 abbrev pub is_off : Instance → Shift → ℕ → Bool
 is_off p TooHigh n = is_none (stop_at p (n - 1))
-is_off p TooLow n = if nat_lt n p.next_number then is_none (stop_at p (n + 1)) else true
+is_off p TooLow n = not (nat_lt n p.next_number) || is_none (stop_at p (n + 1))
 
 -- some stop of the routes is so
 abbrev pub is_some_off : Instance → Shift → List (List ℕ) → Bool
@@ -63,21 +62,13 @@ abbrev pub early_sentence : List ℕ → Instance → List (List ℕ) → ℕ �
 early_sentence phrase p routes n =
     stop_sentence phrase routes n ++ beside_text (codes "; its pickup, stop @, is @") routes (pickup_at p n)
 
--- a stop's demand
-abbrev pub demand_text : Option Stop → List ℕ
-demand_text None = []
-demand_text (Some s) = codes ", demand " ++ signed_decimal s.demand
-
-unfoldable pub demanded_text : List ℕ → Instance → ℕ → List ℕ
-demanded_text phrase p n = form phrase (decimal n ∷ []) ++ demand_text (stop_at p n)
-
 unfoldable pub load_text : List ℕ → Instance → Row → List ℕ
-load_text phrase p row = form phrase (signed_decimal row.load ∷ decimal p.capacity ∷ [])
+load_text phrase p row = form phrase (decimal row.stop ∷ demand_text (stop_at p row.stop) ∷ signed_decimal row.load ∷ decimal p.capacity ∷ [])
 
 -- 6 and 7, by the row of the place that is told
 abbrev pub load_sentence : Instance → Option Row → List ℕ
 load_sentence p None = []
-load_sentence p (Some row) = demanded_text (codes "overload: after stop @") p row.stop ++ load_text (codes ", the load is @, the capacity @") p row
+load_sentence p (Some row) = load_text (codes "overload: after stop @@, the load is @, the capacity @") p row
 
 -- a stop, a time, the latest time, and by how much it is late
 abbrev pub late_text : List ℕ → ℕ → ℕ → ℕ → List ℕ
@@ -87,14 +78,9 @@ abbrev pub late_sentence : Option Row → List ℕ
 late_sentence None = []
 late_sentence (Some row) = late_text (codes "late service: stop @ starts at @, latest @: late by @") row.stop row.start row.latest
 
--- the last of these stops; this one, where there is none
-abbrev pub last_from : ℕ → List ℕ → ℕ
-last_from n [] = n
-last_from n (m ∷ route) = last_from m route
-
 -- the last stop of a route; 0 where it has none
 abbrev pub last_stop : List ℕ → ℕ
-last_stop route = last_from 0 route
+last_stop route = unwrap_or (slice_get route (length route - 1)) 0
 
 -- 8: the last stop, and when the vehicle is back behind it
 unfoldable pub return_sentence : Instance → List ℕ → List ℕ

@@ -61,9 +61,6 @@ cost_text word has_fraction is_unrounded = form (codes ": the cost is @@, allowe
     ∷ text_if (codes ", which has a fraction") has_fraction
     ∷ text_if (codes ". Each way is rounded to a whole number here; behind the word routes no cost is asked") is_unrounded ∷ [])
 
-abbrev pub bad_cost_text : List ℕ → List ℕ
-bad_cost_text word = cost_text word (is_fraction word) (is_unrounded word)
-
 -- the first word that is no customer, if there is one
 abbrev pub bad_customer_text : Option (List ℕ) → List ℕ
 bad_customer_text None = []
@@ -71,7 +68,7 @@ bad_customer_text (Some word) = form (codes ": a customer is @, allowed are digi
 
 -- the cost, or a customer of those behind the colon of a route line
 abbrev pub number_text : Option (List ℕ) → List ℕ → List ℕ
-number_text (Some tail) line = bad_cost_text (first_word (words_of tail))
+number_text (Some tail) line = let word = first_word (words_of tail) in cost_text word (is_fraction word) (is_unrounded word)
 number_text None line = bad_customer_text (find is_no_customer (words_of (value_text line)))
 
 abbrev pub wrong_number_text : List ℕ → List ℕ

@@ -9,7 +9,6 @@ use Rattle.plan_explain.specs.Forms.{form}
 use Rattle.plan_explain.specs.Tables.{rows_of}
 use Rattle.plan_explain.specs.declared.rows.Row.{Row}
 use Rattle.plan_explain.specs.declared.summaries.Summary.{Summary}
-use Rattle.plan_explain.specs.declared.summaries.Sums.{Sums}
 
 -- how long the vehicle waits there
 abbrev pub wait : Row → ℕ
@@ -42,16 +41,13 @@ abbrev pub route_lines : ℕ → List Summary → List ℕ
 route_lines k [] = []
 route_lines k (s ∷ ss) = route_line k s ++ route_lines (k + 1) ss
 
--- the sums of stops and waiting times
-abbrev pub sums_of : List Summary → Sums
-sums_of ss = record { stops = sum_by (λ (s : Summary). s.stops) ss; waiting = sum_by (λ (s : Summary). s.waiting) ss }
-
--- in their columns, with that of distances
-abbrev pub sums_text : Sums → ℕ → List ℕ
-sums_text sums distance = form (codes "  sum @ @ @\n") (right 6 sums.stops ∷ right 10 distance ∷ right 42 sums.waiting ∷ [])
+-- the sums, in their columns
+abbrev pub sums_text : ℕ → ℕ → ℕ → List ℕ
+sums_text stops distance waiting = form (codes "  sum @ @ @\n") (right 6 stops ∷ right 10 distance ∷ right 42 waiting ∷ [])
 
 unfoldable pub lines_text : List ℕ → List Summary → ℕ → List ℕ
-lines_text heading ss distance = heading ++ route_lines 1 ss ++ sums_text (sums_of ss) distance
+lines_text heading ss distance =
+    heading ++ route_lines 1 ss ++ sums_text (sum_by (λ (s : Summary). s.stops) ss) distance (sum_by (λ (s : Summary). s.waiting) ss)
 
 abbrev pub summary_text : Instance → List (List ℕ) → List ℕ
 summary_text p routes =

@@ -1,10 +1,10 @@
 //! What is said of the evidence of a fault of an instance, behind its kind.
 ghost use Rattle.std.specs.Prelude.{◌≡◌, ◌++◌};
-ghost use Rattle.plan_explain.specs.EvidenceTexts.{beyond_text, demands_words, evidence_text, key_text, many_text, missing_text, no_number_text, pair_text, word_text};
+ghost use Rattle.plan_explain.specs.EvidenceTexts.{demands_words, evidence_text, key_behind, key_text, many_text, missing_text, pair_text, reason_text, word_text};
 
 use crate::cited::is_fraction;
-use crate::forms::Value::{Cited, KeyName, Missing, Name, Needed, Number, Signed, WordsIf};
-use crate::forms::put_form;
+use crate::forms::Value::{Cited, KeyName, Name, Needed, Number, Signed};
+use crate::forms::{put_form, put_if};
 use instance_read::{Evidence, Field, Key, Limits, ReadFaultKind};
 use told_text::Told;
 
@@ -47,30 +47,26 @@ fn put_word(text: &mut Told, kind: ReadFaultKind, field: Field, word: &[u8], lim
     ensures { text.new ≡ text.old ++ word_text kind field word.now limits }
 {
     match kind {
-        ReadFaultKind::BadNumber => put_no_number(text, field, word, is_fraction(word)),
-        ReadFaultKind::Range => put_beyond(text, field, word, limits),
         ReadFaultKind::TooManyStops => put_many(text, field, word),
-        _ => put_form(text, ": @ is @", &[Name(field), Cited(word)]),
+        _ => {
+            put_form(text, ": @ is @", &[Name(field), Cited(word)]);
+            put_reason(text, kind, word, limits)
+        }
     }
 }
 
-#[tactic(auto, unfolding(crate::specs::EvidenceTexts::no_number_text))]
-fn put_no_number(text: &mut Told, field: Field, word: &[u8], has_fraction: bool)
-    ensures { text.new ≡ text.old ++ no_number_text field word.now has_fraction }
+// Why a word is at fault: its fraction, or its limits.
+fn put_reason(text: &mut Told, kind: ReadFaultKind, word: &[u8], limits: Option<Limits>)
+    ensures { text.new ≡ text.old ++ reason_text kind word.now limits }
 {
-    let fraction = WordsIf(", which has a fraction", has_fraction);
-    put_form(text, ": @ is @@", &[Name(field), Cited(word), fraction])
-}
-
-fn put_beyond(text: &mut Told, field: Field, word: &[u8], limits: Option<Limits>)
-    ensures { text.new ≡ text.old ++ beyond_text field word.now limits }
-{
-    let Some((least, most)) = limits else {
-        return;
-    };
-    let (least, most) = (Signed(i64::from(least)), Signed(i64::from(most)));
-    let values = [Name(field), Cited(word), least, most];
-    put_form(text, ": @ is @, its limits are @..@", &values);
+    match (kind, limits) {
+        (ReadFaultKind::BadNumber, _) => put_if(text, ", which has a fraction", is_fraction(word)),
+        (ReadFaultKind::Range, Some((least, most))) => {
+            let (least, most) = (Signed(i64::from(least)), Signed(i64::from(most)));
+            put_form(text, ", its limits are @..@", &[least, most])
+        }
+        _ => {}
+    }
 }
 
 // The kind tells the greatest number.
@@ -167,34 +163,26 @@ fn put_key(text: &mut Told, evidence: Evidence<'_>)
             put_form(text, ": @ lacks @ of its lines", &values)
         }
         Evidence::OpenDepots => text.push_str(": DEPOT_SECTION lacks its end, -1"),
-        other => put_missing(text, other),
+        Evidence::Unannounced => text.push_str(": DIMENSION has to stand before this section"),
+        Evidence::Missing(keys) => put_missing(text, &keys),
+        _ => {}
     }
 }
 
-// Of what no line has.
-fn put_missing(text: &mut Told, evidence: Evidence<'_>)
-    ensures { text.new ≡ text.old ++ missing_text evidence.entry }
+// The keys that no line has.
+fn put_missing(text: &mut Told, keys: &[Option<Key>])
+    ensures { text.new ≡ text.old ++ missing_text keys.now }
 {
-    match evidence {
-        Evidence::Unannounced => text.push_str(": DIMENSION has to stand before this section"),
-        Evidence::Missing {
-            dimension,
-            capacity,
-            weights,
-            coordinates,
-            demands,
-            depots,
-        } => {
-            let keys = [
-                Missing(Key::Dimension, dimension),
-                Missing(Key::Capacity, capacity),
-                Missing(Key::WeightType, weights),
-                Missing(Key::Coordinates, coordinates),
-                Missing(Key::Demands, demands),
-                Missing(Key::Depots, depots),
-            ];
-            put_form(text, ":@@@@@@", &keys)
-        }
-        _ => {}
+    text.push_str(":");
+    for key in keys {
+        put_key_behind(text, *key);
+    }
+}
+
+fn put_key_behind(text: &mut Told, key: Option<Key>)
+    ensures { text.new ≡ text.old ++ key_behind key }
+{
+    if let Some(key) = key {
+        put_form(text, " @", &[KeyName(key)]);
     }
 }

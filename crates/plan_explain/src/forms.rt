@@ -1,10 +1,13 @@
 //! Words with values in them.
 ghost use Rattle.std.specs.Prelude.{◌≡◌, ◌<◌, ◌++◌, map};
-ghost use Rattle.plan_explain.specs.Forms.{form, lacked_text, left, next_text, plain_byte, seat_text, text_if, value_text};
+ghost use Rattle.std.specs.Fmt.{signed_decimal};
+ghost use Rattle.std.specs.Option.{option_copied};
+ghost use Rattle.plan_explain.specs.Forms.{demand_text, form, left, next_text, plain_byte, seat_text, text_if, value_text};
 
 use crate::cited::put_shown;
 use crate::names::{field_name, key_name, supported_name};
 use instance_read::{Field, Key};
+use plan_types::Stop;
 use rule_breaches::Seat;
 use told_text::Told;
 
@@ -29,8 +32,8 @@ pub(crate) enum Value<'a> {
     KeyName(Key),
     /// The value that a key has to have.
     Needed(Key),
-    /// A blank and a key, if that is missing.
-    Missing(Key, bool),
+    /// A stop's demand, if there is a stop.
+    Demand(Option<&'a Stop>),
 }
 
 /// Appends words of ASCII, with the next of these values in place of each `@`.
@@ -86,7 +89,7 @@ fn put_value(text: &mut Told, value: Value<'_>)
         Value::Name(field) => text.push_str(field_name(field)),
         Value::KeyName(key) => text.push_str(key_name(key)),
         Value::Needed(key) => text.push_str(supported_name(key)),
-        Value::Missing(key, is_missing) => put_lacked(text, key, is_missing),
+        Value::Demand(stop) => put_demand(text, stop),
     }
 }
 
@@ -112,11 +115,17 @@ fn put_seat(text: &mut Told, seat: Option<Seat>)
     text.push_number(route);
 }
 
-fn put_lacked(text: &mut Told, key: Key, is_missing: bool)
-    ensures { text.new ≡ text.old ++ lacked_text key is_missing }
+fn put_demand(text: &mut Told, stop: Option<&Stop>)
+    ensures { text.new ≡ text.old ++ demand_text (option_copied stop.entry) }
 {
-    if is_missing {
-        text.push_str(" ");
-        text.push_str(key_name(key));
+    if let Some(stop) = stop {
+        text.push_str(", demand ");
+        put_demand_of(text, stop);
     }
+}
+
+fn put_demand_of(text: &mut Told, stop: &Stop)
+    ensures { text.new ≡ text.old ++ signed_decimal stop.now.demand }
+{
+    text.push_number(i64::from(stop.demand));
 }

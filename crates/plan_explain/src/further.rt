@@ -86,11 +86,8 @@ fn put_further_places(text: &mut Told, found: &[Breach])
     ensures { text.new ≡ text.old ++ flat_map place_text found.now }
 {
     for breach in found {
-        let seat = [
-            Number(breach.route),
-            Number(breach.place),
-            Short(breach.stop),
-        ];
+        let (route, place) = (Number(breach.route), Number(breach.place));
+        let seat = [route, place, Short(breach.stop)];
         put_form(text, "  route @ place @ stop @\n", &seat);
     }
 }

@@ -1,15 +1,13 @@
 //! The sentence on a broken rule.
 ghost use Rattle.std.specs.Prelude.{◌≡◌, ◌++◌, All};
-ghost use Rattle.std.specs.Fmt.{signed_decimal};
-ghost use Rattle.std.specs.Option.{option_copied};
 ghost use Rattle.route_sched.specs.Route.{AreLiveOnce};
-ghost use Rattle.plan_explain.specs.Sentences.{beside_text, cost_sentence, demand_text, demanded_text, early_sentence, fleet_sentence, last_stop, late_sentence, late_text, load_sentence, load_text, pair_sentence, return_sentence, stop_sentence, unknown_sentence, unknown_text};
+ghost use Rattle.plan_explain.specs.Sentences.{beside_text, cost_sentence, early_sentence, fleet_sentence, last_stop, late_sentence, late_text, load_sentence, load_text, pair_sentence, return_sentence, stop_sentence, unknown_sentence, unknown_text};
 
-use crate::forms::Value::{At, Long, Number, Short, Signed};
+use crate::forms::Value::{At, Demand, Long, Number, Short, Signed};
 use crate::forms::put_form;
 use crate::rows::Row;
 use crate::shifts::put_shift;
-use plan_types::{Problem, Route, Stop};
+use plan_types::{Problem, Route};
 use route_sched::{total_distance, used_count};
 use rule_breaches::{first_seat, visit_behind};
 use told_text::Told;
@@ -77,43 +75,19 @@ fn put_beside(text: &mut Told, words: &str, routes: &[Route], stop: Option<u32>)
 pub(crate) fn put_overload(text: &mut Told, problem: &Problem, row: Option<Row>)
     ensures { text.new ≡ text.old ++ load_sentence problem.now row }
 {
-    let Some(row) = row else {
-        return;
-    };
-    put_demanded(text, "overload: after stop @", problem, row.stop);
-    put_load(text, ", the load is @, the capacity @", problem, &row);
+    if let Some(row) = row {
+        let words = "overload: after stop @@, the load is @, the capacity @";
+        put_load(text, words, problem, &row);
+    }
 }
 
 #[tactic(auto, unfolding(crate::specs::Sentences::load_text))]
 fn put_load(text: &mut Told, words: &str, problem: &Problem, row: &Row)
     ensures { text.new ≡ text.old ++ load_text words.now problem.now row.now }
 {
-    put_form(text, words, &[Signed(row.load), Short(problem.capacity)]);
-}
-
-// Words on a stop, and its demand.
-#[tactic(auto, unfolding(crate::specs::Sentences::demanded_text))]
-fn put_demanded(text: &mut Told, words: &str, problem: &Problem, stop: u32)
-    ensures { text.new ≡ text.old ++ demanded_text words.now problem.now stop }
-{
-    put_form(text, words, &[Short(stop)]);
-    put_demand(text, problem.stop(stop));
-}
-
-fn put_demand(text: &mut Told, stop: Option<&Stop>)
-    ensures { text.new ≡ text.old ++ demand_text (option_copied stop.entry) }
-{
-    let Some(stop) = stop else {
-        return;
-    };
-    text.push_str(", demand ");
-    put_demand_of(text, stop);
-}
-
-fn put_demand_of(text: &mut Told, stop: &Stop)
-    ensures { text.new ≡ text.old ++ signed_decimal stop.now.demand }
-{
-    text.push_number(i64::from(stop.demand));
+    let (stop, demand) = (Short(row.stop), Demand(problem.stop(row.stop)));
+    let values = [stop, demand, Signed(row.load), Short(problem.capacity)];
+    put_form(text, words, &values);
 }
 
 /// Appends the start of service at the place of this row, and the latest there.
@@ -121,13 +95,8 @@ pub(crate) fn put_late(text: &mut Told, row: Option<Row>)
     ensures { text.new ≡ text.old ++ late_sentence row }
 {
     if let Some(row) = row {
-        put_lateness(
-            text,
-            "late service: stop @ starts at @, latest @: late by @",
-            row.stop,
-            row.start,
-            row.latest,
-        );
+        let words = "late service: stop @ starts at @, latest @: late by @";
+        put_lateness(text, words, row.stop, row.start, row.latest);
     }
 }
 
@@ -139,24 +108,15 @@ pub(crate) fn put_late_return(text: &mut Told, problem: &Problem, route: &[u32])
 {
     let back = visit_behind(problem, route, route.len()).start;
     let latest = problem.depot.latest;
-    put_lateness(
-        text,
-        "late return: after stop @ the vehicle is back at @, latest @: late by @",
-        last_stop(route),
-        back,
-        latest,
-    );
+    let words = "late return: after stop @ the vehicle is back at @, latest @: late by @";
+    put_lateness(text, words, last_stop(route), back, latest);
 }
 
 // The last stop of a route; 0 where it has none.
 fn last_stop(route: &[u32]) -> u32
     ensures { result ≡ last_stop route.now }
 {
-    let mut last = 0;
-    for stop in route {
-        last = *stop;
-    }
-    last
+    route.last().copied().unwrap_or(0)
 }
 
 // A stop, a time, the latest time, and by how much it is late.
@@ -173,11 +133,8 @@ pub(crate) fn put_fleet(text: &mut Told, problem: &Problem, routes: &[Route])
     ensures { text.new ≡ text.old ++ fleet_sentence problem.now routes.now }
 {
     let words = "too many vehicles: @ are used, the fleet has @";
-    put_form(
-        text,
-        words,
-        &[Number(used_count(routes)), Short(problem.fleet)],
-    );
+    let values = [Number(used_count(routes)), Short(problem.fleet)];
+    put_form(text, words, &values);
 }
 
 /// Appends the printed cost, and the distance driven.

@@ -46,7 +46,7 @@ fn is_off(problem: &Problem, shift: Shift, stop: u32) -> bool
 {
     match shift {
         Shift::TooHigh => is_off_below(problem, stop),
-        Shift::TooLow => is_off_above(problem, stop),
+        Shift::TooLow => stop >= problem.next_number || problem.stop(stop + 1).is_none(),
     }
 }
 
@@ -54,14 +54,4 @@ fn is_off_below(problem: &Problem, stop: u32) -> bool
     ensures { result ≡ is_off problem.now Shift.TooHigh stop }
 {
     problem.stop(stop.saturating_sub(1)).is_none()
-}
-
-fn is_off_above(problem: &Problem, stop: u32) -> bool
-    ensures { result ≡ is_off problem.now Shift.TooLow stop }
-{
-    if stop < problem.next_number {
-        problem.stop(stop + 1).is_none()
-    } else {
-        true
-    }
 }

@@ -4,7 +4,7 @@ ghost use Rattle.std.specs.List.{list_any};
 ghost use Rattle.std.specs.Option.{option_copied};
 ghost use Rattle.text_lines.specs.Words.{words_of};
 ghost use Rattle.plan_explain.specs.Cited.{is_no_customer};
-ghost use Rattle.plan_explain.specs.SolFaults.{bad_cost_text, bad_customer_text, bad_line_text, begins_blank, cost_text, first_word, is_indented, is_line_word, is_key_line, is_no_key_byte, is_unrounded, other_line_text, sol_detail, wrong_number_text};
+ghost use Rattle.plan_explain.specs.SolFaults.{bad_customer_text, bad_line_text, begins_blank, cost_text, first_word, is_indented, is_line_word, is_key_line, is_no_key_byte, is_unrounded, other_line_text, sol_detail, wrong_number_text};
 
 use crate::cited::{is_fraction, is_no_customer, line_at};
 use crate::forms::Value::{Cited, Number, WordsIf};
@@ -47,11 +47,9 @@ fn put_other_line(text: &mut Told, line: &[u8])
             ": Route and Cost have to begin their lines, as they do behind: sed 's/^[[:blank:]]*//'",
         );
     } else {
-        put_if(
-            text,
-            ": a solution has no other keys, as it has none behind: grep -iE '^(route|cost)'",
-            is_key_line(line),
-        );
+        let words =
+            ": a solution has no other keys, as it has none behind: grep -iE '^(route|cost)'";
+        put_if(text, words, is_key_line(line));
     }
 }
 
@@ -86,28 +84,19 @@ fn is_key_line(line: &[u8]) -> bool
 fn has_no_key_byte(key: &[u8]) -> bool
     ensures { result ≡ list_any is_no_key_byte key.now }
 {
-    key.iter().any(|byte| is_no_key_byte(*byte))
-}
-
-fn is_no_key_byte(byte: u8) -> bool
-    ensures { result ≡ is_no_key_byte byte }
-{
-    byte.is_ascii_digit() || byte == b'#'
+    key.iter().any(|byte| matches!(*byte, b'0'..=b'9' | b'#'))
 }
 
 fn put_wrong_number(text: &mut Told, line: &[u8])
     ensures { text.new ≡ text.old ++ wrong_number_text line.now }
 {
     match cost_tail(line) {
-        Some(tail) => put_bad_cost(text, first_word(tail)),
+        Some(tail) => {
+            let word = first_word(tail);
+            put_cost(text, word, is_fraction(word), is_unrounded(word))
+        }
         None => put_bad_customer(text, no_customer(split_key(line).1)),
     }
-}
-
-fn put_bad_cost(text: &mut Told, word: &[u8])
-    ensures { text.new ≡ text.old ++ bad_cost_text word.now }
-{
-    put_cost(text, word, is_fraction(word), is_unrounded(word));
 }
 
 #[tactic(auto, unfolding(crate::specs::SolFaults::cost_text))]
@@ -117,12 +106,9 @@ fn put_cost(text: &mut Told, word: &[u8], has_fraction: bool, is_unrounded: bool
     let fraction = WordsIf(", which has a fraction", has_fraction);
     let note =
         ". Each way is rounded to a whole number here; behind the word routes no cost is asked";
+    let values = [Cited(word), fraction, WordsIf(note, is_unrounded)];
     let words = ": the cost is @@, allowed are whole numbers in 0..18446744073709551615@";
-    put_form(
-        text,
-        words,
-        &[Cited(word), fraction, WordsIf(note, is_unrounded)],
-    );
+    put_form(text, words, &values);
 }
 
 // Whether the cost has a fraction, or an exponent.

@@ -1,7 +1,7 @@
 //! The places of a route, each with the way to it and the service there.
 ghost use Rattle.std.specs.Prelude.{◌≡◌, ◌+◌, ◌<◌, ◌^◌, IfOk, map};
 ghost use Rattle.route_sched.specs.Route.{AreLiveOnce};
-ghost use Rattle.plan_explain.specs.Rows.{stop_visit_after};
+ghost use Rattle.plan_explain.specs.Rows.{stop_visit_at};
 ghost use Rattle.plan_explain.specs.Tables.{stop_visits_of, rows_of, set_off};
 
 use crate::rows::Row;
@@ -51,7 +51,8 @@ pub fn stop_visits_of(
 fn stop_visit(place: usize, last: &Visit, visit: &Visit) -> StopVisit
     requires place { place + 1 < 2 ^ 64 }
     requires time { last.now.start + last.now.stop.service + visit.now.leg < 2 ^ 64 }
-    ensures { result ≡ stop_visit_after place last.now visit.now }
+    ensures { result ≡ stop_visit_at (place + 1)
+        (last.now.start + last.now.stop.service + visit.now.leg) visit.now }
 {
     StopVisit {
         row: Row {

@@ -2,7 +2,7 @@
 ghost use Rattle.std.specs.Prelude.{◌≡◌, ◌++◌, ◌<◌, ◌^◌, All, IfOk, OnOk, fold, map, pos, sum_by};
 ghost use Rattle.std.specs.Int.{int_max};
 ghost use Rattle.route_sched.specs.Route.{AreLiveOnce};
-ghost use Rattle.plan_explain.specs.Summaries.{lines_text, route_line, route_lines, summary_of, summary_text, sums_of, sums_text, wait, waiting};
+ghost use Rattle.plan_explain.specs.Summaries.{lines_text, route_line, route_lines, summary_of, summary_text, sums_text, wait, waiting};
 ghost use Rattle.plan_explain.specs.Tables.{rows_of};
 
 use crate::forms::Value::{Right, RightLong, RightSigned};
@@ -28,13 +28,6 @@ pub struct Summary {
     pub back: u64,
     /// How long the vehicle waits.
     pub waiting: u64,
-}
-
-/// What some routes come to together.
-#[derive(Clone, Copy)]
-pub(crate) struct Sums {
-    stops: u128,
-    waiting: u128,
 }
 
 /// Appends a line for each route, and the sums.
@@ -123,7 +116,7 @@ fn put_lines(text: &mut Told, heading: &str, summaries: &[Summary], distance: u1
 {
     text.push_str(heading);
     put_routes(text, summaries);
-    put_sums(text, sums_of(summaries), distance);
+    put_sums(text, stops_in(summaries), distance, waiting_in(summaries));
 }
 
 fn put_routes(text: &mut Told, summaries: &[Summary])
@@ -143,15 +136,6 @@ fn put_route(text: &mut Told, route: u64, summary: &Summary)
     let waiting = Right(10, summary.waiting);
     let values = [route, stops, distance, load, set_off, back, waiting];
     put_form(text, "@ @ @ @ @ @ @\n", &values);
-}
-
-fn sums_of(summaries: &[Summary]) -> Sums
-    ensures { result ≡ sums_of summaries.now }
-{
-    Sums {
-        stops: stops_in(summaries),
-        waiting: waiting_in(summaries),
-    }
 }
 
 fn stops_in(summaries: &[Summary]) -> u128
@@ -174,10 +158,10 @@ fn waiting_in(summaries: &[Summary]) -> u128
     waiting
 }
 
-fn put_sums(text: &mut Told, sums: Sums, distance: u128)
-    ensures { text.new ≡ text.old ++ sums_text sums distance }
+fn put_sums(text: &mut Told, stops: u128, distance: u128, waiting: u128)
+    ensures { text.new ≡ text.old ++ sums_text stops distance waiting }
 {
-    let (stops, waiting) = (RightLong(6, sums.stops), RightLong(42, sums.waiting));
+    let (stops, waiting) = (RightLong(6, stops), RightLong(42, waiting));
     let values = [stops, RightLong(10, distance), waiting];
     put_form(text, "  sum @ @ @\n", &values);
 }

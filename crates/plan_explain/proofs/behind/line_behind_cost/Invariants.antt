@@ -4,7 +4,6 @@ use Rattle.plan_explain.specs.Behind.{line_behind_cost}
 use Rattle.plan_explain.proofs.BehindLemmas.{filled_from}
 use Rattle.plan_explain.proofs.behind.line_behind_cost.Given as goal
 
--- the lines that are left have the answer of all
 abbrev pub invariant-loop-line : goal.invariant-loop-line
 invariant-loop-line l = record {
   few : l.number + length l.line-iterator ≤ length l.text;

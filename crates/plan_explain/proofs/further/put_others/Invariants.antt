@@ -4,6 +4,5 @@ use Rattle.std.specs.List.{flat_map}
 use Rattle.plan_explain.specs.Further.{other_text}
 use Rattle.plan_explain.proofs.further.put_others.Given as goal
 
--- the text so far and that of the rules to come
 abbrev pub invariant-loop-rule : goal.invariant-loop-rule
 invariant-loop-rule l = l.text ++ flat_map (other_text l.problem l.routes l.told) (drop l.rule-index l.rules) ≡ l.fn.text ++ flat_map (other_text l.problem l.routes l.told) l.rules

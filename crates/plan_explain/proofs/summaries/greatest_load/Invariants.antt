@@ -3,6 +3,5 @@ use Rattle.std.proofs.Common.{◌≡◌, fold, map, pos, take}
 use Rattle.std.specs.Int.{int_max}
 use Rattle.plan_explain.proofs.summaries.greatest_load.Given as goal
 
--- that of the rows so far
 abbrev pub invariant-loop-row : goal.invariant-loop-row
 invariant-loop-row l = l.greatest ≡ fold int_max (pos 0) (map (λ r. r.load) (take l.row-index l.rows))

@@ -2,7 +2,7 @@
 use Rattle.std.proofs.Common.{pos, arith}
 use Rattle.std.proofs.lemmas.List.Sums.{sum_by_more}
 use Rattle.plan_explain.specs.Summaries.{wait}
-use Rattle.plan_explain.proofs.SummaryLemmas.{waits_on}
+use Rattle.plan_explain.proofs.RowLemmas.{waits_on}
 use Rattle.plan_explain.specs.declared.rows.Row.{Row}
 use Rattle.plan_explain.proofs.summaries.waiting.Goals as goal
 

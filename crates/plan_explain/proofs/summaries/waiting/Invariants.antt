@@ -5,7 +5,6 @@ use Rattle.route_sched.specs.Schedule.{start}
 use Rattle.plan_explain.specs.Summaries.{wait}
 use Rattle.plan_explain.proofs.summaries.waiting.Given as goal
 
--- that of the rows so far is never more than the time
 abbrev pub invariant-loop-row : goal.invariant-loop-row
 invariant-loop-row l = record {
   sum : l.waiting ≡ sum_by wait (take l.row-index l.rows);

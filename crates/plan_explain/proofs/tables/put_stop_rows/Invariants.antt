@@ -3,6 +3,5 @@ use Rattle.std.proofs.Common.{◌≡◌, ◌+◌, ◌++◌, drop}
 use Rattle.plan_explain.specs.Tables.{stop_rows}
 use Rattle.plan_explain.proofs.tables.put_stop_rows.Given as goal
 
--- the text so far and that of the places to come
 abbrev pub invariant-loop-place : goal.invariant-loop-place
 invariant-loop-place l = l.text ++ stop_rows (l.place + 1) (drop l.place l.route) ≡ l.fn.text ++ stop_rows 1 l.route

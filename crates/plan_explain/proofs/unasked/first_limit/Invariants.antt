@@ -4,7 +4,6 @@ use Rattle.text_lines.specs.Lines.{lines_of}
 use Rattle.plan_explain.specs.Unasked.{limit_from}
 use Rattle.plan_explain.proofs.unasked.first_limit.Given as goal
 
--- the lines that are left have the answer of all
 abbrev pub invariant-loop-line : goal.invariant-loop-line
 invariant-loop-line l = record {
   few : l.number + length l.line-iterator ≤ length l.text;
