@@ -17,16 +17,13 @@ no_stops : (p : Instance) → AreLiveOnce p []
 unfolding IsDistinct
 no_stops p = record { live = λ k d lt. absurd (omega arith); distinct = tt }
 
-item_live : (p : Instance) (routes : List (List ℕ)) (k : ℕ) → All (AreLiveOnce p) routes → AreLiveOnce p (unwrap_or (slice_get routes k) [])
-item_live p routes k live = elim (slice_get_cases routes k).1 [
-  | inl t ↦ subst (AreLiveOnce p) (sym (ap (λ o. unwrap_or o []) t.2)) (subst (AreLiveOnce p) t.3 (live k t.0 t.1))
-  | inr t ↦ subst (AreLiveOnce p) (sym (ap (λ o. unwrap_or o []) t.1)) (no_stops p)
-]
-
 -- its stops are live and stand once, if all are
 pub told_live : (p : Instance) (routes : List (List ℕ)) (r : ℕ) → All (AreLiveOnce p) routes → AreLiveOnce p (route_told routes r)
 told_live p routes zero live = no_stops p
-told_live p routes (suc k) live = item_live p routes k live
+told_live p routes (suc k) live = elim (slice_get_cases routes k).1 [
+  | inl t ↦ subst (AreLiveOnce p) (sym (ap (λ o. unwrap_or o []) t.2)) (subst (AreLiveOnce p) t.3 (live k t.0 t.1))
+  | inr t ↦ subst (AreLiveOnce p) (sym (ap (λ o. unwrap_or o []) t.1)) (no_stops p)
+]
 
 -- where the ways are known, all stops are live and stand once
 pub live_driven : (p : Instance) (routes : List (List ℕ)) (cost : ℕ) (v : Verdict) → verdict_knows_ways v ≡ true → IsVerdict p (printed routes cost) v → All (AreLiveOnce p) routes

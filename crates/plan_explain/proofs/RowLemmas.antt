@@ -9,9 +9,8 @@ use Rattle.route_sched.specs.Visiting.{visit_after, visits_from}
 use Rattle.route_sched.specs.declared.visits.Visit.{Visit}
 use Rattle.plan_audit.proofs.VisitLemmas.{visits_from-step}
 use Rattle.route_sched.proofs.Steps.{start-next}
-use Rattle.plan_explain.specs.Rows.{stop_visit_at}
 use Rattle.plan_explain.specs.Summaries.{wait}
-use Rattle.plan_explain.specs.Tables.{arrival, stop_visit_behind, row_behind, rows_of}
+use Rattle.plan_explain.specs.Tables.{arrival, stop_visit_at, stop_visit_behind, row_behind, rows_of}
 use Rattle.plan_explain.specs.declared.rows.Row.{Row}
 
 -- nobody is served before the arrival

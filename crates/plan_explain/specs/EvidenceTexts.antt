@@ -10,8 +10,7 @@ use Rattle.instance_read.specs.declared.faults.ReadFaultKind.{ReadFaultKind}
 use Rattle.instance_read.specs.declared.faults.ReadFaultKind.TheVariants.{BadNumber, Range, TooManyStops}
 use Rattle.instance_read.specs.declared.vrp_lines.Key.{Key}
 use Rattle.plan_explain.specs.Cited.{is_fraction, shown_bytes}
-use Rattle.plan_explain.specs.Names.{field_name, key_name, supported_name}
-use Rattle.plan_explain.specs.Forms.{form, text_if}
+use Rattle.plan_explain.specs.Forms.{field_name, form, key_name, supported_name, text_if}
 
 -- the kind tells the greatest number
 abbrev pub many_text : List ℕ → Field → List ℕ

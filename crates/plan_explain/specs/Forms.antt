@@ -2,11 +2,14 @@
 use Rattle.std.specs.Prelude.{ℕ, ◌++◌, ◌==◌, nat_lt, Bool, List, [], ◌∷◌, Option, Some, None, codes, decimal, if◌then◌else◌}
 use Rattle.std.specs.Fmt.{signed_decimal}
 use Rattle.std.specs.Option.{option_copied}
+use Rattle.instance_read.specs.declared.evidence.Field.{Field}
+use Rattle.instance_read.specs.declared.evidence.Field.TheVariants as fields
+use Rattle.instance_read.specs.declared.vrp_lines.Key.{Key}
+use Rattle.instance_read.specs.declared.vrp_lines.Key.TheVariants as keys
 use Rattle.plan_types.specs.declared.requests.Stop.{Stop}
 use Rattle.rule_breaches.specs.declared.seats.Seat.{Seat}
 use Rattle.told_text.specs.Columns.{left as at_left, right, right_signed}
 use Rattle.plan_explain.specs.Cited.{shown_bytes}
-use Rattle.plan_explain.specs.Names.{field_name, key_name, supported_name}
 use Rattle.plan_explain.specs.declared.forms.Value.{Value}
 use Rattle.plan_explain.specs.declared.forms.Value.TheVariants.{At, Cited, Demand, KeyName, Left, Long, Name, Needed, Number, Right, RightLong, RightSigned, Short, Signed, WordsIf}
 
@@ -22,6 +25,39 @@ seat_text (Some s) = codes "at place " ++ decimal s.place ++ codes " of route " 
 abbrev pub demand_text : Option Stop → List ℕ
 demand_text None = []
 demand_text (Some s) = codes ", demand " ++ signed_decimal s.demand
+
+unfoldable pub key_name : Key → List ℕ
+key_name keys.Dimension = codes "DIMENSION"
+key_name keys.Capacity = codes "CAPACITY"
+key_name keys.ProblemType = codes "TYPE"
+key_name keys.WeightType = codes "EDGE_WEIGHT_TYPE"
+key_name keys.Coordinates = codes "NODE_COORD_SECTION"
+key_name keys.Demands = codes "DEMAND_SECTION"
+key_name keys.Depots = codes "DEPOT_SECTION"
+key_name _ = []
+
+unfoldable pub field_name : Field → List ℕ
+field_name fields.Fleet = codes "fleet"
+field_name fields.Capacity = codes "capacity"
+field_name fields.Speed = codes "speed"
+field_name fields.Number = codes "number"
+field_name fields.X = codes "x"
+field_name fields.Y = codes "y"
+field_name fields.Demand = codes "demand"
+field_name fields.Earliest = codes "earliest"
+field_name fields.Latest = codes "latest"
+field_name fields.Service = codes "service"
+field_name fields.Pickup = codes "pickup"
+field_name fields.Delivery = codes "delivery"
+field_name fields.Node = codes "node"
+field_name fields.Depot = codes "depot"
+field_name (fields.Value key) = key_name key
+field_name fields.Surplus = codes "a word"
+
+-- the value that a key has to have
+unfoldable pub supported_name : Key → List ℕ
+supported_name keys.ProblemType = codes "CVRP"
+supported_name _ = codes "EUC_2D"
 
 abbrev pub value_text : Value → List ℕ
 value_text (Short n) = decimal n

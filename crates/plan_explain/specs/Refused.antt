@@ -1,20 +1,22 @@
 -- What is said of a text that is refused: the sentence of its fault, then the line that the fault names, then what is said of it as a whole.
-use Rattle.std.specs.Prelude.{ℕ, List, [], ◌∷◌, ◌++◌, codes, Option, Some, None, decimal}
+use Rattle.std.specs.Prelude.{ℕ, ◌==◌, ◌&&◌, ◌||◌, not, Bool, false, List, [], ◌∷◌, ◌++◌, length, codes, Option, Some, None, decimal}
+use Rattle.std.specs.List.{list_any}
 use Rattle.text_lines.specs.Lines.{lines_of}
+use Rattle.text_lines.specs.Words.{words_of}
 use Rattle.plan_types.specs.declared.requests.Kind.{Kind}
 use Rattle.plan_types.specs.declared.requests.Kind.TheVariants.{LiLim, Vrp}
 use Rattle.plan_audit.specs.Rules.{item_at}
 use Rattle.instance_read.specs.Evidence.{evidence_of}
+use Rattle.instance_read.specs.Fields.{has_no_number}
 use Rattle.instance_read.specs.declared.faults.ReadFault.{ReadFault}
 use Rattle.instance_read.specs.declared.faults.ReadFaultKind.{ReadFaultKind}
 use Rattle.instance_read.specs.declared.faults.ReadFaultKind.TheVariants as faults
 use Rattle.sol_text.specs.declared.faults.SolFault.{SolFault}
 use Rattle.sol_text.specs.declared.faults.SolFaultKind.{SolFaultKind}
 use Rattle.sol_text.specs.declared.faults.SolFaultKind.TheVariants as sol_faults
-use Rattle.plan_explain.specs.Cited.{shown_bytes}
+use Rattle.plan_explain.specs.Cited.{is_key, shown_bytes}
 use Rattle.plan_explain.specs.EvidenceTexts.{evidence_text}
-use Rattle.plan_explain.specs.Notes.{kind_note, mark_note}
-use Rattle.plan_explain.specs.Forms.{form}
+use Rattle.plan_explain.specs.Forms.{form, text_if}
 use Rattle.plan_explain.specs.SolFaults.{sol_detail}
 
 -- one task's number is above the greatest; the nodes that are announced are too many
@@ -61,6 +63,27 @@ cited_line (Some bytes) = form (codes "@\n") (shown_bytes bytes ∷ [])
 -- the end of a sentence's line, and under it the line that it names; lines count from 1
 abbrev pub under_sentence : List ℕ → ℕ → List ℕ
 under_sentence text number = codes "\n" ++ cited_line (item_at (lines_of text) number)
+
+-- U+FEFF in UTF-8 is first
+abbrev pub has_mark : List ℕ → Bool
+has_mark (a ∷ b ∷ c ∷ rest) = a == 239 && b == 187 && c == 191
+has_mark _ = false
+
+abbrev pub mark_note : List ℕ → List ℕ
+mark_note text = text_if (codes "the text begins with a byte order mark (EF BB BF): save it without, or by tail -c +4\n") (has_mark text)
+
+-- the line announces nodes or their coordinates
+abbrev pub is_vrp_line : List ℕ → Bool
+is_vrp_line line = is_key (codes "DIMENSION") line || is_key (codes "NODE_COORD_SECTION") line
+
+-- the line has the nine numbers of a task
+abbrev pub has_nine_numbers : List ℕ → Bool
+has_nine_numbers line = length (words_of line) == 9 && not (has_no_number (words_of line))
+
+-- an instance that is read as this kind looks like the other one
+abbrev pub kind_note : Kind → List ℕ → List ℕ
+kind_note LiLim text = text_if (codes "the text looks like a .vrp instance, and is read as lilim\n") (list_any is_vrp_line (lines_of text))
+kind_note Vrp text = text_if (codes "the text looks like a Li-Lim instance, and is read as vrp\n") (list_any has_nine_numbers (lines_of text))
 
 -- what is said of an instance that was read as this kind and has this fault
 abbrev pub instance_fault_text : Kind → List ℕ → ReadFault → List ℕ

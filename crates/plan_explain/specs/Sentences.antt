@@ -12,8 +12,8 @@ use Rattle.rule_breaches.specs.Seats.{first_seat}
 use Rattle.plan_explain.specs.Forms.{demand_text, form, seat_text, text_if}
 use Rattle.plan_explain.specs.Tables.{rows_of}
 use Rattle.plan_explain.specs.declared.rows.Row.{Row}
-use Rattle.plan_explain.specs.declared.shifts.Shift.{Shift}
-use Rattle.plan_explain.specs.declared.shifts.Shift.TheVariants.{TooHigh, TooLow}
+use Rattle.plan_explain.specs.declared.sentences.Shift.{Shift}
+use Rattle.plan_explain.specs.declared.sentences.Shift.TheVariants.{TooHigh, TooLow}
 use Rattle.plan_explain.specs.declared.verdicts.Fault.{Fault}
 
 -- the stops of a route; route 0 has none

@@ -45,12 +45,9 @@ other_line_text line =
     else text_if (codes ": a solution has no other keys, as it has none behind: grep -iE '^(route|cost)'") (is_key_line line)
 
 -- how many words stand behind `Cost`, where the line begins so; else how such a line is done without
-abbrev pub bad_line_by : List ℕ → Option (List ℕ) → List ℕ
-bad_line_by line None = other_line_text line
-bad_line_by line (Some tail) = form (codes ": 1 due behind Cost, @ found") (decimal (length (words_of tail)) ∷ [])
-
-abbrev pub bad_line_text : List ℕ → List ℕ
-bad_line_text line = bad_line_by line (cost_tail line)
+abbrev pub bad_line_text : List ℕ → Option (List ℕ) → List ℕ
+bad_line_text line None = other_line_text line
+bad_line_text line (Some tail) = form (codes ": 1 due behind Cost, @ found") (decimal (length (words_of tail)) ∷ [])
 
 -- the cost has a fraction, or an exponent
 abbrev pub is_unrounded : List ℕ → Bool
@@ -67,12 +64,9 @@ bad_customer_text None = []
 bad_customer_text (Some word) = form (codes ": a customer is @, allowed are digits alone, at most 4294967295") (shown_bytes word ∷ [])
 
 -- the cost, or a customer of those behind the colon of a route line
-abbrev pub number_text : Option (List ℕ) → List ℕ → List ℕ
-number_text (Some tail) line = let word = first_word (words_of tail) in cost_text word (is_fraction word) (is_unrounded word)
-number_text None line = bad_customer_text (find is_no_customer (words_of (value_text line)))
-
-abbrev pub wrong_number_text : List ℕ → List ℕ
-wrong_number_text line = number_text (cost_tail line) line
+abbrev pub wrong_number_text : List ℕ → Option (List ℕ) → List ℕ
+wrong_number_text line (Some tail) = let word = first_word (words_of tail) in cost_text word (is_fraction word) (is_unrounded word)
+wrong_number_text line None = bad_customer_text (find is_no_customer (words_of (value_text line)))
 
 -- the line with this number; empty where the text has none
 abbrev pub told_line : List ℕ → ℕ → List ℕ
@@ -80,6 +74,6 @@ told_line text n = unwrap_or (item_at (lines_of text) n) []
 
 -- what line n has of a fault
 abbrev pub sol_detail : List ℕ → ℕ → SolFaultKind → List ℕ
-sol_detail text n BadLine = bad_line_text (told_line text n)
-sol_detail text n BadNumber = wrong_number_text (told_line text n)
+sol_detail text n BadLine = let line = told_line text n in bad_line_text line (cost_tail line)
+sol_detail text n BadNumber = let line = told_line text n in wrong_number_text line (cost_tail line)
 sol_detail text n _ = []

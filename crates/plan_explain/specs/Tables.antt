@@ -1,11 +1,12 @@
 -- A route as a table: a row for each place, the return to the depot last. Places count from 1.
-use Rattle.std.specs.Prelude.{ℕ, ◌+◌, ◌-◌, List, [], ◌∷◌, ◌++◌, map, length, codes}
+use Rattle.std.specs.Prelude.{ℕ, ◌+◌, ◌-◌, Bool, List, [], ◌∷◌, ◌++◌, map, length, codes}
 use Rattle.std.specs.List.{flat_map, range_with_len}
 use Rattle.plan_types.specs.Instance.{Instance}
 use Rattle.plan_types.specs.declared.requests.Kind.{Kind}
 use Rattle.plan_types.specs.declared.requests.Kind.TheVariants.{LiLim, Vrp}
 use Rattle.route_sched.specs.Route.{place}
 use Rattle.route_sched.specs.Schedule.{leg, load, start}
+use Rattle.route_sched.specs.declared.visits.Visit.{Visit}
 use Rattle.told_text.specs.Columns.{left, right, right_signed}
 use Rattle.plan_explain.specs.Forms.{form, text_if}
 use Rattle.rule_breaches.specs.Limits.{is_late, is_overload}
@@ -36,6 +37,22 @@ rows_of p route = map (row_behind p route) (range_with_len 0 (length route + 1))
 abbrev pub stop_visit_behind : Instance → List ℕ → ℕ → StopVisit
 stop_visit_behind p route k = record { row = row_behind p route k; leg = leg p route k; service = (place p route (k + 1)).service }
 
+-- a visit at place k, to which the vehicle comes at this time
+abbrev pub stop_visit_at : ℕ → ℕ → Visit → StopVisit
+stop_visit_at k arrival visit = record {
+  row = record {
+    place = k;
+    stop = visit.stop.number;
+    arrival = arrival;
+    start = visit.start;
+    earliest = visit.stop.earliest;
+    latest = visit.stop.latest;
+    load = visit.load;
+  };
+  leg = visit.leg;
+  service = visit.stop.service;
+}
+
 -- those of a route
 abbrev pub stop_visits_of : Instance → List ℕ → List StopVisit
 stop_visits_of p route = map (stop_visit_behind p route) (range_with_len 0 (length route + 1))
@@ -49,17 +66,16 @@ abbrev pub heading : Kind → List ℕ
 heading LiLim = codes "place   stop      leg    arrival      start         window          service      load\n"
 heading Vrp = codes "place   stop      leg    arrival      load\n"
 
-abbrev pub figures_text : Kind → StopVisit → List ℕ
-figures_text LiLim h = form (codes "@ @ @ @ @ @..@ @ @") (right 5 h.row.place ∷ right 6 h.row.stop ∷ right 8 h.leg ∷ right 10 h.row.arrival
-    ∷ right 10 h.row.start ∷ right 10 h.row.earliest ∷ left 10 h.row.latest ∷ right 8 h.service ∷ right_signed 9 h.row.load ∷ [])
-figures_text Vrp h = form (codes "@ @ @ @ @") (right 5 h.row.place ∷ right 6 h.row.stop ∷ right 8 h.leg ∷ right 10 h.row.arrival ∷ right_signed 9 h.row.load ∷ [])
-
--- a mark where the vehicle carries too much, and one where it is late
-abbrev pub marks_text : Instance → StopVisit → List ℕ
-marks_text p h = form (codes "@@\n") (text_if (codes "  overload") (is_overload p h.row.load) ∷ text_if (codes "  late") (is_late p h.row.start h.row.latest) ∷ [])
+-- with a mark where the vehicle carries too much, and one where it is late
+unfoldable pub figures_text : Kind → StopVisit → Bool → Bool → List ℕ
+figures_text LiLim h much late = form (codes "@ @ @ @ @ @..@ @ @@@\n") (right 5 h.row.place ∷ right 6 h.row.stop ∷ right 8 h.leg ∷ right 10 h.row.arrival
+    ∷ right 10 h.row.start ∷ right 10 h.row.earliest ∷ left 10 h.row.latest ∷ right 8 h.service ∷ right_signed 9 h.row.load
+    ∷ text_if (codes "  overload") much ∷ text_if (codes "  late") late ∷ [])
+figures_text Vrp h much late = form (codes "@ @ @ @ @@@\n") (right 5 h.row.place ∷ right 6 h.row.stop ∷ right 8 h.leg ∷ right 10 h.row.arrival
+    ∷ right_signed 9 h.row.load ∷ text_if (codes "  overload") much ∷ text_if (codes "  late") late ∷ [])
 
 abbrev pub row_text : Instance → StopVisit → List ℕ
-row_text p h = figures_text p.kind h ++ marks_text p h
+row_text p h = figures_text p.kind h (is_overload p h.row.load) (is_late p h.row.start h.row.latest)
 
 abbrev pub table_text : Instance → List ℕ → List ℕ
 table_text p route = heading p.kind ++ flat_map (row_text p) (stop_visits_of p route)

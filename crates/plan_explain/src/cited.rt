@@ -5,10 +5,10 @@ ghost use Rattle.std.specs.Prelude.{◌≡◌, ◌<◌, ◌++◌, map, take};
 ghost use Rattle.std.specs.Option.{option_copied};
 ghost use Rattle.text_lines.specs.Lines.{lines_of};
 ghost use Rattle.plan_audit.specs.Rules.{item_at};
-ghost use Rattle.plan_explain.specs.Cited.{is_fraction, is_key, is_no_customer, shown_byte, shown_bytes};
+ghost use Rattle.plan_explain.specs.Cited.{is_fraction, is_key, shown_byte, shown_bytes};
 
 use instance_read::split_key;
-use text_lines::{Lines, digits_len, digits_to_u32};
+use text_lines::{Lines, digits_len};
 use told_text::Told;
 
 /// How many bytes of a line or of a word are shown.
@@ -76,12 +76,4 @@ pub(crate) fn is_fraction(word: &[u8]) -> bool
         [b'.', digits @ ..] => !digits.is_empty() && digits_len(digits) == digits.len(),
         _ => false,
     }
-}
-
-/// Whether a word is no number of a customer.
-#[tactic(auto, unfolding(sol_text::specs::Values::customer_of))]
-pub(crate) fn is_no_customer(word: &[u8]) -> bool
-    ensures { result ≡ is_no_customer word.now }
-{
-    digits_to_u32(word).is_none()
 }

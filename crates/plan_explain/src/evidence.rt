@@ -1,6 +1,6 @@
 //! What is said of the evidence of a fault of an instance, behind its kind.
 ghost use Rattle.std.specs.Prelude.{◌≡◌, ◌++◌};
-ghost use Rattle.plan_explain.specs.EvidenceTexts.{demands_words, evidence_text, key_behind, key_text, many_text, missing_text, pair_text, reason_text, word_text};
+ghost use Rattle.plan_explain.specs.EvidenceTexts.{demands_words, evidence_text, key_text, many_text, missing_text, pair_text, reason_text, word_text};
 
 use crate::cited::is_fraction;
 use crate::forms::Value::{Cited, KeyName, Name, Needed, Number, Signed};
@@ -175,14 +175,8 @@ fn put_missing(text: &mut Told, keys: &[Option<Key>])
 {
     text.push_str(":");
     for key in keys {
-        put_key_behind(text, *key);
-    }
-}
-
-fn put_key_behind(text: &mut Told, key: Option<Key>)
-    ensures { text.new ≡ text.old ++ key_behind key }
-{
-    if let Some(key) = key {
-        put_form(text, " @", &[KeyName(key)]);
+        if let Some(key) = key {
+            put_form(text, " @", &[KeyName(*key)]);
+        }
     }
 }

@@ -1,11 +1,9 @@
-//! Words with values in them.
+//! Words with values in them, as the names of the fields and keys of instances.
 ghost use Rattle.std.specs.Prelude.{◌≡◌, ◌<◌, ◌++◌, map};
-ghost use Rattle.std.specs.Fmt.{signed_decimal};
 ghost use Rattle.std.specs.Option.{option_copied};
-ghost use Rattle.plan_explain.specs.Forms.{demand_text, form, left, next_text, plain_byte, seat_text, text_if, value_text};
+ghost use Rattle.plan_explain.specs.Forms.{demand_text, field_name, form, key_name, left, next_text, plain_byte, seat_text, supported_name, text_if, value_text};
 
 use crate::cited::put_shown;
-use crate::names::{field_name, key_name, supported_name};
 use instance_read::{Field, Key};
 use plan_types::Stop;
 use rule_breaches::Seat;
@@ -51,17 +49,15 @@ fn put_next<'a, 'b>(text: &mut Told, byte: u8, values: &'b [Value<'a>]) -> &'b [
     ensures text { text.new ≡ text.old ++ next_text byte (map value_text values.now) }
     ensures rest { map value_text result.now ≡ left byte (map value_text values.now) }
 {
-    if byte != b'@' {
-        text.push_ascii(plain_byte(byte));
-        return values;
-    }
     match values {
+        _ if byte != b'@' => text.push_ascii(plain_byte(byte)),
+        [] => {}
         [value, rest @ ..] => {
             put_value(text, *value);
-            rest
+            return rest;
         }
-        [] => values,
     }
+    values
 }
 
 fn plain_byte(byte: u8) -> u8
@@ -120,12 +116,59 @@ fn put_demand(text: &mut Told, stop: Option<&Stop>)
 {
     if let Some(stop) = stop {
         text.push_str(", demand ");
-        put_demand_of(text, stop);
+        text.push_number(i64::from(stop.demand));
     }
 }
 
-fn put_demand_of(text: &mut Told, stop: &Stop)
-    ensures { text.new ≡ text.old ++ signed_decimal stop.now.demand }
+// The name of a field.
+#[tactic(auto, unfolding(crate::specs::Forms::field_name))]
+fn field_name(field: Field) -> &'static str
+    ensures { result.now ≡ field_name field }
 {
-    text.push_number(i64::from(stop.demand));
+    match field {
+        Field::Fleet => "fleet",
+        Field::Capacity => "capacity",
+        Field::Speed => "speed",
+        Field::Number => "number",
+        Field::X => "x",
+        Field::Y => "y",
+        Field::Demand => "demand",
+        Field::Earliest => "earliest",
+        Field::Latest => "latest",
+        Field::Service => "service",
+        Field::Pickup => "pickup",
+        Field::Delivery => "delivery",
+        Field::Node => "node",
+        Field::Depot => "depot",
+        Field::Value(key) => key_name(key),
+        Field::Surplus => "a word",
+    }
+}
+
+// A key that values or sections are told by.
+#[tactic(auto, unfolding(crate::specs::Forms::key_name))]
+fn key_name(key: Key) -> &'static str
+    ensures { result.now ≡ key_name key }
+{
+    match key {
+        Key::Dimension => "DIMENSION",
+        Key::Capacity => "CAPACITY",
+        Key::ProblemType => "TYPE",
+        Key::WeightType => "EDGE_WEIGHT_TYPE",
+        Key::Coordinates => "NODE_COORD_SECTION",
+        Key::Demands => "DEMAND_SECTION",
+        Key::Depots => "DEPOT_SECTION",
+        _ => "",
+    }
+}
+
+// The value that a key has to have.
+#[tactic(auto, unfolding(crate::specs::Forms::supported_name))]
+fn supported_name(key: Key) -> &'static str
+    ensures { result.now ≡ supported_name key }
+{
+    match key {
+        Key::ProblemType => "CVRP",
+        _ => "EUC_2D",
+    }
 }

@@ -35,9 +35,7 @@ pub(crate) fn put_further(
             let stops = missing_stops(alloc, problem, routes)?;
             put_missing(text, "stops in no route: @\n", stops.as_slice());
         }
-        Rule::Fleet => {}
-        Rule::Pin => {}
-        Rule::PrintedCost => {}
+        Rule::Fleet | Rule::Pin | Rule::PrintedCost => {}
         _ => {
             let found = breaches_of(alloc, problem, routes, rule)?;
             put_places(text, "places that break this rule: @\n", found.as_slice());
@@ -69,17 +67,14 @@ fn put_places(text: &mut Told, words: &str, found: &[Breach])
 {
     let count = Number(found.len() as u64);
     put_form(text, words, &[count]);
-    put_further_places(text, first_of(further(found), TOLD));
+    put_further_places(text, first_of(behind_first(found), TOLD));
 }
 
-// The places behind the first one.
-fn further(found: &[Breach]) -> &[Breach]
+#[tactic(auto, using(std::proofs::lemmas::List::drop_min))]
+fn behind_first(found: &[Breach]) -> &[Breach]
     ensures { result.now ≡ drop 1 found.now }
 {
-    match found {
-        [_, rest @ ..] => rest,
-        [] => &[],
-    }
+    &found[1.min(found.len())..]
 }
 
 fn put_further_places(text: &mut Told, found: &[Breach])
@@ -150,11 +145,10 @@ fn is_counted(told: Rule, rule: Rule) -> bool
 fn put_count(text: &mut Told, rule: Rule, count: u64)
     ensures { text.new ≡ text.old ++ count_text rule count }
 {
-    if count == 0 {
-        return;
+    if count != 0 {
+        let values = [Number(u64::from(rule.number())), Number(count)];
+        put_form(text, "places that break rule @: @\n", &values);
     }
-    let values = [Number(u64::from(rule.number())), Number(count)];
-    put_form(text, "places that break rule @: @\n", &values);
 }
 
 // How many places break the rule; of rule 3 the stops in no route, of rule 9 the routes too many.

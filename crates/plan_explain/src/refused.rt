@@ -1,18 +1,20 @@
 //! What is said of a text that is refused: the sentence of its fault, under it the line that the fault names, and what is said of the
 //! text as a whole.
 ghost use Rattle.std.specs.Prelude.{◌≡◌, ◌++◌, IfOk, string_bytes};
-ghost use Rattle.plan_explain.specs.Refused.{instance_fault_text, instance_reason, instance_sentence, solution_fault_text, solution_reason, solution_sentence, too_many, under_sentence};
+ghost use Rattle.std.specs.List.{list_any};
+ghost use Rattle.text_lines.specs.Lines.{lines_of};
+ghost use Rattle.plan_explain.specs.Refused.{has_nine_numbers, instance_fault_text, instance_reason, instance_sentence, is_vrp_line, kind_note, mark_note, solution_fault_text, solution_reason, solution_sentence, too_many, under_sentence};
 
-use crate::cited::line_at;
+use crate::cited::{is_key, line_at};
 use crate::evidence::put_evidence;
 use crate::forms::Value::{Cited, Number};
-use crate::forms::put_form;
-use crate::notes::{put_kind_note, put_mark_note};
+use crate::forms::{put_form, put_if};
 use crate::sol_faults::put_sol_detail;
-use instance_read::{ReadFault, ReadFaultKind, evidence_of};
+use instance_read::{ReadFault, ReadFaultKind, evidence_of, has_no_number};
 use plan_types::{Kind, OutOfMemory};
 use sol_text::{SolFault, SolFaultKind};
 use std::alloc::Global;
+use text_lines::{Lines, word_count};
 use told_text::Told;
 
 /// The sentence on a fault of the text of an instance that was read as this kind, and under it the line that the fault names, if the
@@ -117,4 +119,44 @@ fn put_line_under(answer: &mut Told, text: &[u8], number: u64)
     if let Some(bytes) = line_at(text, number) {
         put_form(answer, "@\n", &[Cited(bytes)]);
     }
+}
+
+// Appends that a text begins with a byte order mark, if it does.
+fn put_mark_note(text: &mut Told, refused: &[u8])
+    ensures { text.new ≡ text.old ++ mark_note refused.now }
+{
+    let words =
+        "the text begins with a byte order mark (EF BB BF): save it without, or by tail -c +4\n";
+    put_if(text, words, matches!(refused, [0xef, 0xbb, 0xbf, ..]));
+}
+
+// Appends that an instance that is read as this kind looks like the other one, if it does.
+fn put_kind_note(text: &mut Told, kind: Kind, instance: &[u8])
+    ensures { text.new ≡ text.old ++ kind_note kind instance.now }
+{
+    match kind {
+        Kind::LiLim => {
+            let words = "the text looks like a .vrp instance, and is read as lilim\n";
+            put_if(text, words, looks_vrp(instance))
+        }
+        Kind::Vrp => {
+            let words = "the text looks like a Li-Lim instance, and is read as vrp\n";
+            put_if(text, words, looks_lilim(instance))
+        }
+    }
+}
+
+// Whether a line announces nodes or their coordinates.
+fn looks_vrp(instance: &[u8]) -> bool
+    ensures { result ≡ list_any is_vrp_line (lines_of instance.now) }
+{
+    Lines::new(instance).any(|line| is_key(b"DIMENSION", line)
+        || is_key(b"NODE_COORD_SECTION", line))
+}
+
+// Whether a line has the nine numbers of a task.
+fn looks_lilim(instance: &[u8]) -> bool
+    ensures { result ≡ list_any has_nine_numbers (lines_of instance.now) }
+{
+    Lines::new(instance).any(|line| word_count(line) == 9 && !has_no_number(line))
 }

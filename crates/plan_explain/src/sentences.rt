@@ -1,12 +1,12 @@
 //! The sentence on a broken rule.
 ghost use Rattle.std.specs.Prelude.{◌≡◌, ◌++◌, All};
+ghost use Rattle.std.specs.List.{list_any};
 ghost use Rattle.route_sched.specs.Route.{AreLiveOnce};
-ghost use Rattle.plan_explain.specs.Sentences.{beside_text, cost_sentence, early_sentence, fleet_sentence, last_stop, late_sentence, late_text, load_sentence, load_text, pair_sentence, return_sentence, stop_sentence, unknown_sentence, unknown_text};
+ghost use Rattle.plan_explain.specs.Sentences.{beside_text, cost_sentence, early_sentence, fleet_sentence, is_off, is_some_off, late_sentence, late_text, load_sentence, load_text, pair_sentence, return_sentence, shift_text, stop_sentence, unknown_sentence, unknown_text};
 
 use crate::forms::Value::{At, Demand, Long, Number, Short, Signed};
 use crate::forms::put_form;
 use crate::rows::Row;
-use crate::shifts::put_shift;
 use plan_types::{Problem, Route};
 use route_sched::{total_distance, used_count};
 use rule_breaches::{first_seat, visit_behind};
@@ -29,6 +29,56 @@ fn put_unknown_stop(text: &mut Told, problem: &Problem, stop: u32)
     }
     let words = "unknown stop: no request has stop @, the numbers of the instance are below @";
     put_form(text, words, &[Short(stop), Short(problem.next_number)]);
+}
+
+/// How the numbers of stops may be wrong, by one.
+#[derive(Clone, Copy)]
+pub(crate) enum Shift {
+    TooHigh,
+    TooLow,
+}
+
+// Appends that all numbers seem to be one too high, or one too low, if they do.
+fn put_shift(text: &mut Told, problem: &Problem, routes: &[Route])
+    ensures { text.new ≡ text.old ++ shift_text problem.now routes.now }
+{
+    if !is_some_off(problem, Shift::TooHigh, routes) {
+        text.push_str(". Each stop less 1 is one of the instance: are the numbers one too high?");
+    } else if !is_some_off(problem, Shift::TooLow, routes) {
+        text.push_str(
+            ". Each stop and 1 more is one of the instance: are the numbers one too low?",
+        );
+    }
+}
+
+// Whether some stop is of no request when its number is mended.
+fn is_some_off(problem: &Problem, shift: Shift, routes: &[Route]) -> bool
+    ensures { result ≡ is_some_off problem.now shift routes.now }
+{
+    routes
+        .iter()
+        .any(|route| is_route_off(problem, shift, route.as_slice()))
+}
+
+fn is_route_off(problem: &Problem, shift: Shift, route: &[u32]) -> bool
+    ensures { result ≡ list_any (is_off problem.now shift) route.now }
+{
+    route.iter().any(|stop| is_off(problem, shift, *stop))
+}
+
+fn is_off(problem: &Problem, shift: Shift, stop: u32) -> bool
+    ensures { result ≡ is_off problem.now shift stop }
+{
+    match shift {
+        Shift::TooHigh => is_off_below(problem, stop),
+        Shift::TooLow => stop >= problem.next_number || problem.stop(stop + 1).is_none(),
+    }
+}
+
+fn is_off_below(problem: &Problem, stop: u32) -> bool
+    ensures { result ≡ is_off problem.now Shift.TooHigh stop }
+{
+    problem.stop(stop.saturating_sub(1)).is_none()
 }
 
 /// Appends words on a stop and where it stands first.
@@ -109,14 +159,9 @@ pub(crate) fn put_late_return(text: &mut Told, problem: &Problem, route: &[u32])
     let back = visit_behind(problem, route, route.len()).start;
     let latest = problem.depot.latest;
     let words = "late return: after stop @ the vehicle is back at @, latest @: late by @";
-    put_lateness(text, words, last_stop(route), back, latest);
-}
-
-// The last stop of a route; 0 where it has none.
-fn last_stop(route: &[u32]) -> u32
-    ensures { result ≡ last_stop route.now }
-{
-    route.last().copied().unwrap_or(0)
+    // No stop where the route has none.
+    let last = route.last().copied().unwrap_or(0);
+    put_lateness(text, words, last, back, latest);
 }
 
 // A stop, a time, the latest time, and by how much it is late.

@@ -3,15 +3,16 @@ ghost use Rattle.std.specs.Prelude.{◌≡◌, ◌++◌, find};
 ghost use Rattle.std.specs.List.{list_any};
 ghost use Rattle.std.specs.Option.{option_copied};
 ghost use Rattle.text_lines.specs.Words.{words_of};
+ghost use Rattle.sol_text.specs.LineShapes.{cost_tail};
 ghost use Rattle.plan_explain.specs.Cited.{is_no_customer};
-ghost use Rattle.plan_explain.specs.SolFaults.{bad_customer_text, bad_line_text, begins_blank, cost_text, first_word, is_indented, is_line_word, is_key_line, is_no_key_byte, is_unrounded, other_line_text, sol_detail, wrong_number_text};
+ghost use Rattle.plan_explain.specs.SolFaults.{bad_customer_text, bad_line_text, cost_text, first_word, is_indented, is_line_word, is_key_line, is_no_key_byte, is_unrounded, other_line_text, sol_detail, wrong_number_text};
 
-use crate::cited::{is_fraction, is_no_customer, line_at};
+use crate::cited::{is_fraction, line_at};
 use crate::forms::Value::{Cited, Number, WordsIf};
 use crate::forms::{put_form, put_if};
 use instance_read::split_key;
 use sol_text::{SolFault, SolFaultKind, cost_tail};
-use text_lines::{Words, word_count};
+use text_lines::{Words, digits_to_u32, word_count};
 use told_text::Told;
 
 /// Appends what the line that the fault names has of it.
@@ -28,7 +29,7 @@ pub(crate) fn put_sol_detail(text: &mut Told, solution: &[u8], fault: SolFault)
 
 // How many words a cost line has, or how another line is done without.
 fn put_bad_line(text: &mut Told, line: &[u8])
-    ensures { text.new ≡ text.old ++ bad_line_text line.now }
+    ensures { text.new ≡ text.old ++ bad_line_text line.now (cost_tail line.now) }
 {
     match cost_tail(line) {
         Some(tail) => {
@@ -57,13 +58,7 @@ fn put_other_line(text: &mut Told, line: &[u8])
 fn is_indented(line: &[u8]) -> bool
     ensures { result ≡ is_indented line.now }
 {
-    begins_blank(line) && is_line_word(first_word(line))
-}
-
-fn begins_blank(line: &[u8]) -> bool
-    ensures { result ≡ begins_blank line.now }
-{
-    matches!(line, [b' ' | b'\t', ..])
+    matches!(line, [b' ' | b'\t', ..]) && is_line_word(first_word(line))
 }
 
 fn is_line_word(word: &[u8]) -> bool
@@ -88,7 +83,7 @@ fn has_no_key_byte(key: &[u8]) -> bool
 }
 
 fn put_wrong_number(text: &mut Told, line: &[u8])
-    ensures { text.new ≡ text.old ++ wrong_number_text line.now }
+    ensures { text.new ≡ text.old ++ wrong_number_text line.now (cost_tail line.now) }
 {
     match cost_tail(line) {
         Some(tail) => {
@@ -128,11 +123,12 @@ fn put_bad_customer(text: &mut Told, word: Option<&[u8]>)
 }
 
 // The first word that is no number of a customer.
+#[tactic(auto, unfolding(sol_text::specs::Values::customer_of))]
 fn no_customer(tail: &[u8]) -> Option<&[u8]>
     ensures { option_copied result ≡ find is_no_customer (words_of tail.now) }
 {
     for word in Words::new(tail) {
-        if is_no_customer(word) {
+        if digits_to_u32(word).is_none() {
             return Some(word);
         }
     }

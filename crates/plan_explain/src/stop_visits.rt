@@ -1,8 +1,7 @@
 //! The places of a route, each with the way to it and the service there.
 ghost use Rattle.std.specs.Prelude.{◌≡◌, ◌+◌, ◌<◌, ◌^◌, IfOk, map};
 ghost use Rattle.route_sched.specs.Route.{AreLiveOnce};
-ghost use Rattle.plan_explain.specs.Rows.{stop_visit_at};
-ghost use Rattle.plan_explain.specs.Tables.{stop_visits_of, rows_of, set_off};
+ghost use Rattle.plan_explain.specs.Tables.{stop_visit_at, stop_visits_of, rows_of, set_off};
 
 use crate::rows::Row;
 use plan_types::{OutOfMemory, Problem};

@@ -2,7 +2,7 @@
 ghost use Rattle.std.specs.Prelude.{◌≡◌, ◌++◌, OnOk};
 ghost use Rattle.std.specs.List.{flat_map};
 ghost use Rattle.route_sched.specs.Route.{AreLiveOnce};
-ghost use Rattle.plan_explain.specs.Tables.{figures_text, heading, marks_text, row_text, stop_row, stop_rows, stops_table, table_text};
+ghost use Rattle.plan_explain.specs.Tables.{figures_text, heading, row_text, stop_row, stop_rows, stops_table, table_text};
 
 use crate::forms::Value::{Left, Right, RightSigned, WordsIf};
 use crate::forms::put_form;
@@ -49,17 +49,21 @@ fn put_rows(text: &mut Told, problem: &Problem, visits: &[StopVisit])
 fn put_row(text: &mut Told, problem: &Problem, visit: &StopVisit)
     ensures { text.new ≡ text.old ++ row_text problem.now visit.now }
 {
-    put_figures(text, problem.kind, visit);
-    put_marks(text, problem, visit);
+    let much = is_overload(problem, visit.row.load);
+    let late = is_late(problem, visit.row.start, visit.row.latest);
+    put_figures(text, problem.kind, visit, much, late);
 }
 
-fn put_figures(text: &mut Told, kind: Kind, visit: &StopVisit)
-    ensures { text.new ≡ text.old ++ figures_text kind visit.now }
+// The figures of a row, with a mark where the vehicle carries too much, and one where it is late.
+#[tactic(auto, unfolding(crate::specs::Tables::figures_text))]
+fn put_figures(text: &mut Told, kind: Kind, visit: &StopVisit, much: bool, late: bool)
+    ensures { text.new ≡ text.old ++ figures_text kind visit.now much late }
 {
     let row = &visit.row;
     let (place, stop) = (Right(5, row.place), Right(6, u64::from(row.stop)));
     let (leg, arrival) = (Right(8, u64::from(visit.leg)), Right(10, row.arrival));
     let load = RightSigned(9, row.load);
+    let (much, late) = (WordsIf("  overload", much), WordsIf("  late", late));
     match kind {
         Kind::LiLim => {
             let start = Right(10, row.start);
@@ -67,22 +71,15 @@ fn put_figures(text: &mut Told, kind: Kind, visit: &StopVisit)
             let latest = Left(10, u64::from(row.latest));
             let service = Right(8, u64::from(visit.service));
             let values = [
-                place, stop, leg, arrival, start, earliest, latest, service, load,
+                place, stop, leg, arrival, start, earliest, latest, service, load, much, late,
             ];
-            put_form(text, "@ @ @ @ @ @..@ @ @", &values)
+            put_form(text, "@ @ @ @ @ @..@ @ @@@\n", &values)
         }
-        Kind::Vrp => put_form(text, "@ @ @ @ @", &[place, stop, leg, arrival, load]),
+        Kind::Vrp => {
+            let values = [place, stop, leg, arrival, load, much, late];
+            put_form(text, "@ @ @ @ @@@\n", &values)
+        }
     }
-}
-
-// The end of a row, with a mark where the vehicle carries too much, and one where it is late.
-fn put_marks(text: &mut Told, problem: &Problem, visit: &StopVisit)
-    ensures { text.new ≡ text.old ++ marks_text problem.now visit.now }
-{
-    let much = is_overload(problem, visit.row.load);
-    let late = is_late(problem, visit.row.start, visit.row.latest);
-    let marks = [WordsIf("  overload", much), WordsIf("  late", late)];
-    put_form(text, "@@\n", &marks);
 }
 
 /// Appends the places of a route with their stops, without times, under this heading.

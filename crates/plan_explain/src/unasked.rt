@@ -1,12 +1,14 @@
-//! Limits that a `.vrp` text may name and that nobody asks here.
+//! What of a text is not asked: limits that a `.vrp` text may name, and what stands behind the cost line of a solution's text.
 ghost use Rattle.std.specs.Prelude.{◌≡◌};
 ghost use Rattle.text_lines.specs.Lines.{lines_of};
+ghost use Rattle.plan_explain.specs.Behind.{ReadingEndsAtCost, ToldLinesAreUnread, line_behind_cost};
 ghost use Rattle.plan_explain.specs.Unasked.{is_limit, limit_from, unasked_limit};
 
 use crate::cited::is_key;
 use instance_read::split_key;
 use plan_types::Kind;
-use text_lines::Lines;
+use sol_text::cost_word;
+use text_lines::{Lines, is_blank_line};
 
 /// The number of the first line of an instance, from 1, whose key names a limit that is not asked: of vehicles, or of the length of a
 /// route. None of a Li-Lim instance, which has no keys. Source: keys of LKH, and of extensions of TSPLIB.
@@ -47,3 +49,30 @@ fn is_limit(key: &[u8]) -> bool
         || key.eq_ignore_ascii_case(b"MTSP_MAX_SIZE")
         || key.eq_ignore_ascii_case(b"RISK_THRESHOLD")
 }
+
+/// The number of the first line behind the cost line of a solution's text that has more than blanks and tabs, from 1; none where nothing
+/// stands there. The reader of solutions passes it over.
+pub fn line_behind_cost(text: &[u8]) -> Option<u64>
+    ensures { result ≡ line_behind_cost text.now }
+{
+    let mut number = 0;
+    let mut is_behind = false;
+    for line in Lines::new(text) {
+        number += 1;
+        if is_behind {
+            if !is_blank_line(line) {
+                return Some(number);
+            }
+        } else {
+            is_behind = cost_word(line).is_some();
+        }
+    }
+    None
+}
+
+/// The reader of solutions ends at the first cost line: texts with the same lines up to it spell the same, or have the same first fault. The
+/// line that `line_behind_cost` tells stands behind it.
+pub fn reading_ends_at_the_cost_line()
+    ensures ends { ReadingEndsAtCost }
+    ensures unread { ToldLinesAreUnread }
+{}

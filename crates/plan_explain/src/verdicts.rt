@@ -1,11 +1,13 @@
-//! What is said of a verdict.
+//! What is said of a verdict, and how far the routes of a text drive that is refused for its cost.
 ghost use Rattle.std.specs.Prelude.{◌≡◌, ◌++◌, ℕ, All, IfOk, IsTrue, OnOk, string_bytes};
 ghost use Rattle.route_sched.specs.Route.{AreLiveOnce};
 ghost use Rattle.plan_audit.specs.Verdict.{IsVerdict, printed};
 ghost use Rattle.rule_breaches.specs.Ways.{knows_ways};
-ghost use Rattle.plan_explain.specs.Explained.{fault_text, route_shown, shown_text, verdict_text};
+ghost use Rattle.plan_explain.specs.Explained.{driven_text, fault_text, route_shown, shown_text, verdict_knows_ways, verdict_text};
 ghost use Rattle.plan_explain.specs.Sentences.{route_told, row_told, sentence};
 
+use crate::forms::Value::Long;
+use crate::forms::put_form;
 use crate::further::{RULES, put_further, put_others};
 use crate::rows::Row;
 use crate::sentences as say;
@@ -14,6 +16,7 @@ use crate::summaries::put_summary;
 use crate::tables::{put_stops, put_table};
 use plan_audit::{Rule, Verdict};
 use plan_types::{OutOfMemory, Problem, Route};
+use route_sched::total_distance;
 use rule_breaches::knows_ways;
 use sol_text::Solution;
 use std::alloc::Global;
@@ -111,7 +114,7 @@ fn put_sentence(
     ensures { OnOk result (text.new ≡ text.old ++ sentence problem.now routes.now fault.now) }
 {
     let stops = route_told(routes, fault.route);
-    let stop = fault.stop;
+    let (place, stop) = (fault.place, fault.stop);
     match fault.rule {
         Rule::UnknownStop => say::put_unknown(text, problem, routes, stop),
         Rule::Twice => say::put_stop(text, "visited twice: stop @ is @ already", routes, stop),
@@ -120,14 +123,8 @@ fn put_sentence(
         Rule::DeliveryFirst => {
             say::put_early(text, "early delivery: stop @ is @", problem, routes, stop)
         }
-        Rule::Load => {
-            let row = row_told(alloc, problem, stops, fault.place)?;
-            say::put_overload(text, problem, row);
-        }
-        Rule::Late => {
-            let row = row_told(alloc, problem, stops, fault.place)?;
-            say::put_late(text, row);
-        }
+        Rule::Load => say::put_overload(text, problem, row_told(alloc, problem, stops, place)?),
+        Rule::Late => say::put_late(text, row_told(alloc, problem, stops, place)?),
         Rule::LateReturn => say::put_late_return(text, problem, stops),
         Rule::Fleet => say::put_fleet(text, problem, routes),
         Rule::Pin => {}
@@ -206,4 +203,45 @@ fn row_told(
     }
     let rows = rows_of(alloc, problem, route)?;
     Ok(rows.as_slice().get(place as usize - 1).copied())
+}
+
+/// How far routes drive, as a line, in the problem's unit; none where a stop is unknown or stands twice, since nobody knows it
+/// then. The verdict is that on these routes, whatever cost they are printed with.
+pub fn explain_driven(
+    alloc: Global,
+    problem: &Problem,
+    routes: &[Route],
+    verdict: Verdict,
+) -> Result<String, OutOfMemory>
+    requires { (cost : ℕ) × IsVerdict problem.now (printed routes.now cost) verdict }
+    ensures { IfOk result (λ text. string_bytes text
+        ≡ driven_text problem.now routes.now verdict) }
+{
+    let mut text = Told::new(alloc);
+    put_driven(&mut text, problem, routes, verdict);
+    text.into_string()
+}
+
+fn put_driven(text: &mut Told, problem: &Problem, routes: &[Route], verdict: Verdict)
+    requires { (cost : ℕ) × IsVerdict problem.now (printed routes.now cost) verdict }
+    ensures { text.new ≡ text.old ++ driven_text problem.now routes.now verdict }
+{
+    if verdict_knows_ways(verdict) {
+        let distance = Long(total_distance(problem, routes));
+        let words = "distance that the routes drive, each way rounded: @\n";
+        put_form(text, words, &[distance]);
+    }
+}
+
+/// Whether no stop of routes with this verdict is unknown or stands twice: then the vehicles' ways are known.
+pub fn verdict_knows_ways(verdict: Verdict) -> bool
+    ensures { result ≡ verdict_knows_ways verdict }
+{
+    match verdict {
+        Verdict::Pass(_) => true,
+        Verdict::Broken { rule, .. } => match Rule::of_number(rule) {
+            Some(rule) => knows_ways(rule),
+            None => false,
+        },
+    }
 }

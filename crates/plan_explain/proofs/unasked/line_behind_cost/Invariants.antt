@@ -2,7 +2,7 @@
 use Rattle.std.proofs.Common.{◌≡◌, ◌+◌, ◌≤◌, length}
 use Rattle.plan_explain.specs.Behind.{line_behind_cost}
 use Rattle.plan_explain.proofs.BehindLemmas.{filled_from}
-use Rattle.plan_explain.proofs.behind.line_behind_cost.Given as goal
+use Rattle.plan_explain.proofs.unasked.line_behind_cost.Given as goal
 
 abbrev pub invariant-loop-line : goal.invariant-loop-line
 invariant-loop-line l = record {

@@ -1,6 +1,6 @@
 -- What is read ends at the first cost line, and the line that is told stands behind it.
 use Rattle.plan_explain.proofs.BehindLemmas.{reading_ends_at_cost, told_are_unread}
-use Rattle.plan_explain.proofs.behind.reading_ends_at_the_cost_line.Goals as goal
+use Rattle.plan_explain.proofs.unasked.reading_ends_at_the_cost_line.Goals as goal
 
 pub returns-clause-ends : goal.returns-clause-ends
 returns-clause-ends c = reading_ends_at_cost
