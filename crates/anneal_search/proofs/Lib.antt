@@ -11,6 +11,7 @@ mod NearLemmas
 mod NearestLemmas
 mod OrderLemmas
 pub mod PlacedLemmas
+mod PlannedLemmas
 pub mod RequestCounts
 pub mod SortLemmas
 mod SeatLemmas

@@ -1,10 +1,10 @@
 -- What the loops of a step go by, and what annealing keeps of its plans from step to step.
-use Rattle.std.specs.Prelude.{◌≡◌, ℕ, ◌+◌, ◌-◌, ◌==◌, nat_lt, ◌<◌, ◌≤◌, Bool, List, [], ◌∷◌, Option, Some, None, IfSome, IsTrue, length, slice_get, if◌then◌else◌}
+use Rattle.std.specs.Prelude.{◌≡◌, ℕ, ◌+◌, ◌-◌, ◌==◌, nat_lt, ◌<◌, ◌≤◌, Bool, true, List, [], ◌∷◌, All, Option, Some, None, IfSome, IsTrue, length, slice_get, if◌then◌else◌}
 use Rattle.std.specs.Option.{option_or}
 use Rattle.plan_types.specs.Cost.{cost_at_most}
 use Rattle.plan_types.specs.Instance.{Instance}
 use Rattle.plan_types.specs.declared.requests.Stop.{Stop}
-use Rattle.route_sched.specs.Cost.{cost_of}
+use Rattle.route_sched.specs.Cost.{cost_of, has_stop}
 use Rattle.move_ops.specs.Drafts.{base_of, draft_of}
 use Rattle.move_ops.specs.Insertion.{of_vehicle}
 use Rattle.move_ops.specs.Moves.{removed}
@@ -49,6 +49,10 @@ found_from p center vehicle limit found place (n ∷ ns) =
 -- it stands in the route of its vehicle
 abbrev pub IsInRoute : List (List ℕ) → Near → Type 0
 IsInRoute routes near = near.place < length (of_vehicle routes near.vehicle)
+
+-- each of these stops is one of the plan
+abbrev pub ArePlanned : List (List ℕ) → List ℕ → Type 0
+ArePlanned routes stops = All (λ n. has_stop routes n ≡ true) stops
 
 -- the string is one of a route of n stops, and what it keeps stands in it
 pub record IsCutOf (n : ℕ) (cut : Cut) : Type 0 where

@@ -5,12 +5,12 @@ ghost use Rattle.std.specs.Option.{option_copied};
 ghost use Rattle.plan_types.specs.Instance.{stop_at};
 ghost use Rattle.plan_types.specs.Limits.{IsStop};
 ghost use Rattle.nint_dist.specs.Distance.{IsPlaced};
-ghost use Rattle.route_sched.specs.Cost.{used_count};
+ghost use Rattle.route_sched.specs.Cost.{has_stop, used_count};
 ghost use Rattle.move_ops.specs.Drafts.{draft_of, IsDraftOf};
 ghost use Rattle.seeded_search.specs.Nearby.{AreFronts};
 ghost use Rattle.seeded_search.specs.Steps.{movable_names};
 ghost use Rattle.anneal_search.specs.Strings.{longest, route_count, placed_cut, cut_of, cut_stops, strings_of, seed, stop_drawn, movable_at, movable_of, ruined_around, ruined_names};
-ghost use Rattle.anneal_search.specs.Going.{IsCutOf, IsInRoute};
+ghost use Rattle.anneal_search.specs.Going.{ArePlanned, IsCutOf, IsInRoute};
 
 use crate::around::routes_around;
 use crate::draws::{Drawn, draw};
@@ -236,7 +236,8 @@ fn movable_of(
     draft: &Draft,
     stops: &[u32],
 ) -> Result<Vec<u32>, OutOfMemory>
-    requires { IsDraftOf problem.now pins.now.routes draft.now }
+    requires draft { IsDraftOf problem.now pins.now.routes draft.now }
+    requires planned { ArePlanned (draft_of draft.now) stops.now }
     ensures { IfOk result (λ names. names.items
         ≡ movable_of problem.now pins.now.routes (draft_of draft.now) stops.now) }
 {
@@ -249,15 +250,17 @@ fn movable_of(
     Ok(names)
 }
 
+// Its request is planned, since the stop is: whether a stop of it is pinned is left to ask.
 fn movable_at(problem: &Problem, pins: &Pins, draft: &Draft, stop: u32) -> Option<u32>
-    requires { IsDraftOf problem.now pins.now.routes draft.now }
+    requires draft { IsDraftOf problem.now pins.now.routes draft.now }
+    requires planned { has_stop (draft_of draft.now) stop ≡ true }
     ensures { result ≡ movable_at problem.now pins.now.routes (draft_of draft.now) stop }
 {
     let name = problem.name_of(stop)?;
     let request = request_named(problem, name)?;
-    if draft.is_movable(problem, pins, &request) {
-        Some(name)
-    } else {
+    if draft.is_pinned(problem, pins, &request) {
         None
+    } else {
+        Some(name)
     }
 }

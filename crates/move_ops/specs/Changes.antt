@@ -1,6 +1,6 @@
 -- Routes of a plan that others take the place of.
 use Rattle.std.specs.Prelude.{◌≡◌, ℕ, ◌+◌, ◌==◌, not, ◌≤◌, ◌^◌, if◌then◌else◌, true, false, All, List, [], ◌∷◌, length, filter, map, Option, Some, MatchOption}
-use Rattle.std.specs.List.{AllByRecursion}
+use Rattle.std.specs.List.{AllByRecursion, list_all}
 use Rattle.plan_types.specs.Instance.{Instance}
 use Rattle.plan_types.specs.Request.{request_name}
 use Rattle.plan_types.specs.declared.requests.Request.{Request}
@@ -10,7 +10,7 @@ use Rattle.plan_audit.specs.Passes.{has, passes, feasible_alone}
 use Rattle.slack_tables.specs.Course.{Course, course_of, route_of, IsCourseIn}
 use Rattle.slack_tables.specs.Insertion.{KeepsLimits}
 use Rattle.move_ops.specs.Insertion.{Insertion, with_route, with_request_at, of_vehicle, inserted, are_places, put_in}
-use Rattle.move_ops.specs.Moves.{is_of_named, without_named}
+use Rattle.move_ops.specs.Moves.{is_movable_name, is_of_named, without_named}
 use Rattle.move_ops.specs.Pairing.{are_paired}
 use Rattle.move_ops.specs.declared.changes.Change.{Change}
 
@@ -90,6 +90,12 @@ pub record Notes (routes : List (List ℕ)) (asked : ℕ → Type 0) (before aft
   pub within : AreIn routes before → AreIn routes after
   pub stays : (v : ℕ) → has before v ≡ true → has after v ≡ true
   pub found : AreVehiclesOf routes asked after
+
+-- each of these requests can be moved, and the list has the vehicles of their stops
+pub record AreVehiclesToChange (p : Instance) (pins routes : List (List ℕ)) (names vs : List ℕ) : Type 0 where
+  pub movable : list_all (is_movable_name p pins routes) names ≡ true
+  pub within : AreIn routes vs
+  pub found : AreVehiclesOf routes (λ n. is_of_named p names n ≡ true) vs
 
 -- how many vehicles a route uses, one or none
 abbrev pub used : List ℕ → ℕ

@@ -209,12 +209,12 @@ impl Draft {
         requires { IsDraftOf problem.now pins.now.routes self.now }
         ensures { result ≡ is_movable pins.now.routes (draft_of self.now) request.now }
     {
-        self.is_planned(request) && !self.is_pinned(pins, request)
+        self.is_planned(request) && !self.is_pinned(problem, pins, request)
     }
 
-    fn is_pinned(&self, pins: &Pins, request: &Request) -> bool
-        requires { (n : ℕ) → n < length self.now.pinned
-            → slice_index_or self.now.pinned n false ≡ has_stop pins.now.routes n }
+    /// Whether a stop of the request is pinned.
+    pub fn is_pinned(&self, problem: &Problem, pins: &Pins, request: &Request) -> bool
+        requires { IsDraftOf problem.now pins.now.routes self.now }
         ensures { result ≡ is_planned pins.now.routes request.now }
     {
         match request {

@@ -6,11 +6,10 @@
 //! (`Tour::remade_if_feasible`), which drives it once; the memory of a table whose route is refused goes back
 //! to the allocator.
 ghost use Rattle.std.specs.Prelude.{◌≡◌, ◌≤◌, ◌+◌, ◌∷◌, [], length, nat_eq, true, false, ℕ, All, IsSome, IfSome, IfOk, OnOk, OnErr, MatchOption};
-ghost use Rattle.route_sched.specs.Cost.{has_stop};
-ghost use Rattle.move_ops.specs.Changes.{changes_of, distinct_count, removals, with_routes, AreCourses, AreIn, AreToursOf, AreVehiclesOf, IsChange, IsRemoval, Notes};
+ghost use Rattle.route_sched.specs.Cost.{has_stop, is_planned};
+ghost use Rattle.move_ops.specs.Changes.{changes_of, distinct_count, removals, with_routes, AreCourses, AreIn, AreToursOf, AreVehiclesToChange, IsChange, IsRemoval, Notes};
 ghost use Rattle.move_ops.specs.Moves.{removed, without_named, is_of_named, is_movable_name};
 ghost use Rattle.std.specs.List.{concat, list_all, IsDistinct};
-ghost use Rattle.plan_types.specs.Instance.{IsInstance};
 ghost use Rattle.plan_types.specs.Request.{stop_in};
 ghost use Rattle.plan_audit.specs.Passes.{feasible_alone, has};
 ghost use Rattle.route_sched.specs.Route.{AreLiveOnce};
@@ -133,10 +132,9 @@ impl Draft {
         tests_say_feasible();
         requests_stand_by_name();
         requests_are_found_by_stop();
-        if !self.are_movable(problem, pins, names) {
+        let Some(vehicles) = self.vehicles_of(problem, pins, names)? else {
             return Ok(None);
-        }
-        let vehicles = self.vehicles_of(problem, names)?;
+        };
         self.tours_without(problem, names, &vehicles)
     }
 
@@ -178,97 +176,93 @@ impl Draft {
         Ok(Some(tours))
     }
 
-    // The vehicles of the named requests' stops.
-    fn vehicles_of(&self, problem: &Problem, names: &[u32]) -> Result<Vec<u64>, OutOfMemory>
-        requires valid { IsInstance problem.now }
+    // The vehicles of the named requests' stops, where each of these requests can be moved.
+    fn vehicles_of(
+        &self,
+        problem: &Problem,
+        pins: &Pins,
+        names: &[u32],
+    ) -> Result<Option<Vec<u64>>, OutOfMemory>
+        requires draft { IsDraftOf problem.now pins.now.routes self.now }
         requires once { IsDistinct nat_eq (concat (draft_of self.now)) }
-        ensures within { IfOk result (λ vehicles. AreIn (draft_of self.now) vehicles.items) }
-        ensures found { IfOk result (λ vehicles. AreVehiclesOf (draft_of self.now)
-            (λ n. is_of_named problem.now names.now n ≡ true) vehicles.items) }
+        ensures { IfOk result (λ o. MatchOption o
+            (list_all (is_movable_name problem.now pins.now.routes (draft_of self.now)) names.now
+            ≡ false)
+            (λ vehicles. AreVehiclesToChange problem.now pins.now.routes (draft_of self.now) names.now
+            vehicles.items)) }
     {
         let mut vehicles = Vec::with_capacity(*self.tours.allocator(), names.len())?;
         for name in names {
-            self.note_named(problem, *name, &mut vehicles)?;
+            if !self.note_named(problem, pins, *name, &mut vehicles)? {
+                return Ok(None);
+            }
         }
-        Ok(vehicles)
+        Ok(Some(vehicles))
     }
 
+    // Adds the vehicles of its stops, where the request can be moved; answers whether it can.
     fn note_named(
         &self,
         problem: &Problem,
+        pins: &Pins,
         name: u32,
         vehicles: &mut Vec<u64>,
-    ) -> Result<(), OutOfMemory>
-        requires valid { IsInstance problem.now }
+    ) -> Result<bool, OutOfMemory>
+        requires draft { IsDraftOf problem.now pins.now.routes self.now }
         requires once { IsDistinct nat_eq (concat (draft_of self.now)) }
-        ensures { OnOk result (Notes (draft_of self.now)
+        ensures movable { IfOk result (λ is. is
+            ≡ is_movable_name problem.now pins.now.routes (draft_of self.now) name) }
+        ensures noted { IfOk result (λ is. is ≡ true → Notes (draft_of self.now)
             (λ n. is_of_named problem.now (name ∷ []) n ≡ true)
             vehicles.old.items vehicles.new.items) }
     {
         requests_stand_by_name();
-        match request_named(problem, name) {
-            Some(request) => self.note_request(&request, vehicles),
-            None => Ok(()),
+        let Some(request) = request_named(problem, name) else {
+            return Ok(false);
+        };
+        if self.is_pinned(problem, pins, &request) {
+            return Ok(false);
         }
+        self.note_request(&request, vehicles)
     }
 
-    /// Adds the vehicles of the request's stops.
+    /// Adds the vehicles of the request's stops; answers whether it has any, so whether it is planned.
     pub(crate) fn note_request(
         &self,
         request: &Request,
         vehicles: &mut Vec<u64>,
-    ) -> Result<(), OutOfMemory>
+    ) -> Result<bool, OutOfMemory>
         requires { IsDistinct nat_eq (concat (draft_of self.now)) }
-        ensures { OnOk result (Notes (draft_of self.now) (λ n. IsSome (stop_in n request.now))
-            vehicles.old.items vehicles.new.items) }
+        ensures planned { IfOk result (λ is. is ≡ is_planned (draft_of self.now) request.now) }
+        ensures noted { OnOk result (Notes (draft_of self.now)
+            (λ n. IsSome (stop_in n request.now)) vehicles.old.items vehicles.new.items) }
     {
         match request {
             Request::Single(stop) => self.note(stop.number, vehicles),
             Request::Pair(pickup, delivery) => {
-                self.note(pickup.number, vehicles)?;
-                self.note(delivery.number, vehicles)
+                let is_picked_up = self.note(pickup.number, vehicles)?;
+                let is_delivered = self.note(delivery.number, vehicles)?;
+                Ok(is_picked_up || is_delivered)
             }
         }
     }
 
-    fn note(&self, stop: u32, vehicles: &mut Vec<u64>) -> Result<(), OutOfMemory>
+    // Adds the vehicle of the stop; answers whether it has one.
+    fn note(&self, stop: u32, vehicles: &mut Vec<u64>) -> Result<bool, OutOfMemory>
         requires { IsDistinct nat_eq (concat (draft_of self.now)) }
-        ensures { OnOk result (Notes (draft_of self.now) (λ n. n ≡ stop)
+        ensures planned { IfOk result (λ is. is ≡ has_stop (draft_of self.now) stop) }
+        ensures noted { OnOk result (Notes (draft_of self.now) (λ n. n ≡ stop)
             vehicles.old.items vehicles.new.items) }
     {
         let vehicle = self.vehicle_of(stop);
         if vehicle == 0 {
-            return Ok(());
+            return Ok(false);
         }
         if is_among(vehicles, vehicle) {
-            return Ok(());
+            return Ok(true);
         }
         vehicles.push(vehicle)?;
-        Ok(())
-    }
-
-    // Whether each name is of a request that can be moved.
-    fn are_movable(&self, problem: &Problem, pins: &Pins, names: &[u32]) -> bool
-        requires { IsDraftOf problem.now pins.now.routes self.now }
-        ensures { result ≡ list_all (is_movable_name problem.now pins.now.routes
-            (draft_of self.now)) names.now }
-    {
-        for name in names {
-            if !self.is_movable_name(problem, pins, *name) {
-                return false;
-            }
-        }
-        true
-    }
-
-    fn is_movable_name(&self, problem: &Problem, pins: &Pins, name: u32) -> bool
-        requires { IsDraftOf problem.now pins.now.routes self.now }
-        ensures { result ≡ is_movable_name problem.now pins.now.routes (draft_of self.now) name }
-    {
-        match request_named(problem, name) {
-            Some(request) => self.is_movable(problem, pins, &request),
-            None => false,
-        }
+        Ok(true)
     }
 }
 
