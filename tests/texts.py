@@ -772,7 +772,7 @@ REFUSED_SOLUTIONS = [
     ),
     (
         b"Route #1: 1\n",
-        "line 2: there is no cost line\n"
+        "line 2: there is no cost line; behind the word routes no cost is asked\n"
         "distance that the routes drive, each way rounded: 10\n",
     ),
 ]

@@ -8,7 +8,7 @@ use Rattle.text_lines.specs.Words.{is_blank, words_of}
 use Rattle.instance_read.specs.VrpLines.{key_text, value_text}
 use Rattle.sol_text.specs.LineShapes.{cost_tail}
 use Rattle.sol_text.specs.declared.faults.SolFaultKind.{SolFaultKind}
-use Rattle.sol_text.specs.declared.faults.SolFaultKind.TheVariants.{BadLine, BadNumber}
+use Rattle.sol_text.specs.declared.faults.SolFaultKind.TheVariants.{BadLine, BadNumber, NoCost, OutOfMemory}
 use Rattle.plan_explain.specs.Cited.{is_fraction, is_no_customer, shown_bytes}
 use Rattle.plan_audit.specs.Rules.{item_at}
 use Rattle.plan_explain.specs.Forms.{form, text_if}
@@ -76,4 +76,5 @@ told_line text n = unwrap_or (item_at (lines_of text) n) []
 abbrev pub sol_detail : List ℕ → ℕ → SolFaultKind → List ℕ
 sol_detail text n BadLine = let line = told_line text n in bad_line_text line (cost_tail line)
 sol_detail text n BadNumber = let line = told_line text n in wrong_number_text line (cost_tail line)
-sol_detail text n _ = []
+sol_detail text n NoCost = codes "; behind the word routes no cost is asked"
+sol_detail text n OutOfMemory = []

@@ -23,7 +23,8 @@ pub(crate) fn put_sol_detail(text: &mut Told, solution: &[u8], fault: SolFault)
     match fault.kind {
         SolFaultKind::BadLine => put_bad_line(text, line),
         SolFaultKind::BadNumber => put_wrong_number(text, line),
-        _ => {}
+        SolFaultKind::NoCost => text.push_str("; behind the word routes no cost is asked"),
+        SolFaultKind::OutOfMemory => {}
     }
 }
 
