@@ -470,9 +470,10 @@ SESSIONS = [
         ("pin 1 2", ""),
         ("why 5", "alone: a vehicle can serve it\nvehicle 1: fits at places 3 and 4\nfleet: 1 of 1 vehicles are used\n"),
     ]),
-    ("a pair that would be too much", "lilim", SMALL_VEHICLE, [
+    # Beside stop 1 it would be 1 too much; behind stop 2, which comes before that, it is late.
+    ("a pair that would be late, or too much", "lilim", SMALL_VEHICLE, [
         ("build", ""),
-        ("why 3", "alone: a vehicle can serve it\nvehicle 1: behind stop 1 it would carry 1 too much\nfleet: 1 of 1 vehicles are used\n"),
+        ("why 3", "alone: a vehicle can serve it\nvehicle 1: stop 3 would start 12 late\nfleet: 1 of 1 vehicles are used\n"),
     ]),
     ("a pair by which the return would be late", "lilim", SHORT_DAY, [
         ("build", ""),

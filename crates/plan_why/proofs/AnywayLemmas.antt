@@ -1,7 +1,7 @@
 -- A pickup that is late, or behind which the vehicle comes late by more than 1, misses something wherever the delivery is put in behind it.
 -- What then drives no less than the best, which misses no more, leaves the best as it is.
-use Rattle.std.proofs.Common.{◌≡◌, ◌∙◌, ℕ, zero, suc, ◌⊎◌, inl, inr, Bool, true, ◌||◌, ◌+◌, ◌-◌, ◌<◌, ◌≤◌, min, List, []}
-use Rattle.std.proofs.Common.{map, length, get_or, Some, refl, sym, ap, subst, arith}
+use Rattle.std.proofs.Common.{◌≡◌, ◌∙◌, ℕ, zero, suc, inl, inr, Bool, true, ◌||◌, ◌+◌, ◌-◌, ◌<◌, ◌≤◌, min, List, []}
+use Rattle.std.proofs.Common.{map, take, length, get_or, Some, false, refl, sym, ap, subst, arith}
 use Rattle.std.specs.List.{insert, list_any, range_with_len}
 use Rattle.std.proofs.Math.Bool.{or-true}
 use Rattle.std.proofs.lemmas.Bool.{cases_lt, lt-ltb, ltb-true}
@@ -16,14 +16,16 @@ use Rattle.route_sched.specs.Schedule.{leg, route_length, start}
 use Rattle.route_sched.proofs.Steps.{start-next}
 use Rattle.plan_explain.specs.Tables.{row_behind, rows_of}
 use Rattle.plan_explain.specs.declared.rows.Row.{Row}
-use Rattle.plan_why.specs.Missed.{excess_of, is_late, miss_of}
-use Rattle.plan_why.specs.Puts.{IsDetour, IsLateAnyway, IsNumberOf, IsTour, put_row, route_with}
+use Rattle.plan_why.specs.Missed.{excess_of, is_late, is_overload, miss_of, misses_less}
+use Rattle.plan_why.specs.Puts.{IsDetour, IsLateAnyway, IsNumberOf, IsTour, found_in, least_of, put_row, route_with}
 use Rattle.plan_why.specs.Trials.{best_from, is_better, judged, trial_at}
 use Rattle.plan_why.specs.declared.puts.Detour.{Detour}
+use Rattle.plan_why.specs.declared.puts.Found.{Found}
 use Rattle.plan_why.specs.declared.puts.Tour.{Tour}
 use Rattle.plan_why.specs.declared.trials.Trial.{Trial}
-use Rattle.plan_why.proofs.BestLemmas.{not_better}
-use Rattle.plan_why.proofs.LatestLemmas.{by_least, late_missed}
+use Rattle.plan_why.proofs.BestLemmas.{by_distance, by_excess, by_miss, no_worse, not_better}
+use Rattle.plan_why.proofs.LatestLemmas.{late_missed}
+use Rattle.plan_why.proofs.LeastLemmas.{least_stays}
 use Rattle.plan_why.proofs.PutLemmas.{leg_behind, length_is, place_before, place_behind, place_here, row_at, row_told, start_before}
 use Rattle.plan_why.proofs.TrialLemmas.{none_better, trial_with}
 
@@ -212,20 +214,46 @@ module _ (p : Instance) (t : Tour) (at : ℕ) (tour : IsTour p t) (one : 1 ≤ a
       ]
 
 -- ---- so the best so far stays beside all places of the delivery
-module _ (p : Instance) (t : Tour) (place : ℕ) (tour : IsTour p t) (within : place ≤ length t.route.now + 1) (from : 1 < place) (detour : Detour)
-    (ways : IsDetour p t (place - 1) detour) (saves : DetoursSaveAtMostOne) where
-  pub stays_beside_all : (a b : Stop) (best : Trial) → IsNumberOf p t a.number → best.distance < route_length p (route_with t (place - 1) a.number) →
-      (excess_of best.miss ≡ 0) ⊎ ((excess_of best.miss ≡ 1) ×
-      ((later : ℕ) → place - 1 < later → later ≤ length t.route.now + 1 →
-      1 ≤ excess_of (miss_of p (insert (route_with t (place - 1) a.number) later b.number)))) →
-      best_from (Some best) (map (trial_at p t.route.now (Pair a b)) (map (λ j. (place, j)) (range_with_len (place + 1) (length t.route.now + 2 - place)))) ≡ Some best
-  stays_beside_all a b best is far misses = none_better p t.route.now a b best place (place + 1) (length t.route.now + 2 - place) (λ j first last.
-      let picked = route_with t (place - 1) a.number in
-      let new = insert picked (j - 1) b.number in
-      let same : trial_at p t.route.now (Pair a b) (place, j) ≡ judged p new place (j - 1 + 1) = sym (trial_with p t.route.now a b picked place j (omega (arith, first)) refl) in
-      let least = no_shorter p t.route.now a.number b.number (place - 1) (j - 1) (omega (arith, from)) (omega (arith, within)) (omega (arith, first)) (omega (arith, last)) saves in
-      let longer : best.distance ≤ route_length p new = omega (arith, far, least) in
-      ap (λ t. is_better t best) same ∙ not_better (judged p new place (j - 1 + 1)) best (elim misses [
-        | inl none ↦ by_least best (judged p new place (j - 1 + 1)) longer (omega (arith, none))
-        | inr some ↦ by_least best (judged p new place (j - 1 + 1)) longer (let more = some.1 (j - 1) (omega (arith, first)) (omega (arith, last)) in omega (arith, some.0, more))
-      ]))
+module _ (p : Instance) (t : Tour) (place : ℕ) (within : place ≤ length t.route.now + 1) (from : 1 < place) (a b : Stop) (best : Trial) where
+  abbrev with_pickup : List ℕ
+  with_pickup = route_with t (place - 1) a.number
+
+  -- what comes of the delivery behind so many stops
+  abbrev beside : ℕ → Trial
+  beside later = judged p (insert with_pickup later b.number) place (later + 1)
+
+  abbrev Stays : Type 0
+  Stays = best_from (Some best) (map (trial_at p t.route.now (Pair a b)) (map (λ j. (place, j)) (range_with_len (place + 1) (length t.route.now + 2 - place)))) ≡ Some best
+
+  stays : ((later : ℕ) → place - 1 < later → later ≤ length t.route.now + 1 → no_worse best (beside later)) → Stays
+  stays worse = none_better p t.route.now a b best place (place + 1) (length t.route.now + 2 - place) (λ j first last.
+      let same : trial_at p t.route.now (Pair a b) (place, j) ≡ beside (j - 1) = sym (trial_with p t.route.now a b with_pickup place j (omega (arith, first)) refl) in
+      ap (λ t. is_better t best) same ∙ not_better (beside (j - 1)) best (worse (j - 1) (omega (arith, first)) (omega (arith, last))))
+
+  -- each misses what was found up to the pickup at least
+  least_beside : (found : Found) (later : ℕ) → found ≡ found_in p (take (place - 1 + 1) (rows_of p with_pickup)) → place - 1 < later → later ≤ length t.route.now + 1 →
+      misses_less (beside later).miss (least_of found) ≡ false
+  least_beside found later is first last =
+      let longer = length-insert t.route.now (place - 1) a.number (omega (arith, from, within)) in
+      subst (λ f. misses_less (beside later).miss (least_of f) ≡ false) (sym is)
+      (least_stays p with_pickup b.number later (place - 1 + 1) (omega (arith, first)) (omega (arith, last, longer)) (omega (arith, first)))
+
+  longer_beside : (later : ℕ) → DetoursSaveAtMostOne → best.distance < route_length p with_pickup → place - 1 < later → later ≤ length t.route.now + 1 → best.distance ≤ (beside later).distance
+  longer_beside later saves far first last =
+      let least = no_shorter p t.route.now a.number b.number (place - 1) later (omega (arith, from)) (omega (arith, within)) first last saves in
+      omega (arith, far, least)
+
+  pub stays_by_miss : (found : Found) → found ≡ found_in p (take (place - 1 + 1) (rows_of p with_pickup)) → misses_less best.miss (least_of found) ≡ true → Stays
+  stays_by_miss found is less = stays (λ later first last. by_miss best (beside later) (least_of found) less (least_beside found later is first last))
+
+  pub stays_by_distance : (found : Found) → found ≡ found_in p (take (place - 1 + 1) (rows_of p with_pickup)) → misses_less (least_of found) best.miss ≡ false →
+      DetoursSaveAtMostOne → best.distance < route_length p with_pickup → Stays
+  stays_by_distance found is no_more saves far = stays (λ later first last.
+      by_distance best (beside later) (least_of found) no_more (least_beside found later is first last) (longer_beside later saves far first last))
+
+  pub stays_by_lateness : is_overload best.miss ≡ false → excess_of best.miss ≡ 1 →
+      ((later : ℕ) → place - 1 < later → later ≤ length t.route.now + 1 → 1 ≤ excess_of (miss_of p (insert with_pickup later b.number))) →
+      DetoursSaveAtMostOne → best.distance < route_length p with_pickup → Stays
+  stays_by_lateness light one misses saves far = stays (λ later first last.
+      let more = misses later first last in
+      by_excess best (beside later) light (omega (arith, one, more)) (longer_beside later saves far first last))

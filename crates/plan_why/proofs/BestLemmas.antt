@@ -1,93 +1,214 @@
--- The best of some trials.
-use Rattle.std.proofs.Common.{◌≡◌, ◌∙◌, ℕ, suc, ◌<◌, ◌≤◌, ◌⊎◌, inl, inr, Bool, true, false, ltb, eqb, ◌&&◌, ◌||◌, List, [], ◌∷◌, Some, None, refl, sym, ap, arith}
+-- The best of some trials: by the kind of what they miss, then by its excess, then by distance.
+use Rattle.std.proofs.Common.{◌≡◌, ◌∙◌, ℕ, suc, ◌<◌, ◌≤◌, ◌⊎◌, inl, inr, Bool, true, false, not, if◌then◌else◌, ltb, ◌&&◌, ◌||◌, List, [], ◌∷◌, Option, Some, None, refl, sym, ap, arith}
+use Rattle.std.specs.Prelude.{⊤}
 use Rattle.std.specs.List.{AllByRecursion}
-use Rattle.std.proofs.lemmas.Bool.{cases_Bool, cases_lt}
-use Rattle.std.proofs.lemmas.Bool.Decides.{eqb_tells, leb_tells}
+use Rattle.std.proofs.lemmas.Bool.{cases_Bool, cases_lt, false≢true}
+use Rattle.std.proofs.lemmas.Bool.Decides.{leb_tells}
 use Rattle.move_ops.proofs.Times.{none_some, some_same}
-use Rattle.plan_why.specs.Laws.{NoneIsBetter}
-use Rattle.plan_why.specs.Missed.{excess_of}
+use Rattle.plan_why.specs.Laws.{NoneIsBetter, OverloadIsToldLast}
+use Rattle.plan_why.specs.Missed.{excess_of, is_overload, misses_less}
 use Rattle.plan_why.specs.Trials.{best_from, better, is_better, trials}
+use Rattle.plan_why.specs.declared.missed.Miss.{Miss}
 use Rattle.plan_why.specs.declared.trials.Trial.{Trial}
 
--- the test of two pairs of numbers, and what it says
-abbrev before : ℕ → ℕ → ℕ → ℕ → Bool
-before e d f g = ltb e f || (eqb e f && ltb d g)
+-- ---- kinds, an excess each and a distance each
+-- the tests: whether one misses less than another, and whether it is better
+abbrev pub less : Bool → ℕ → Bool → ℕ → Bool
+less x e y f = if x then y && ltb e f else (y || ltb e f)
 
-abbrev AtMost : ℕ → ℕ → ℕ → ℕ → Type 0
-AtMost e d f g = (e < f) ⊎ ((e ≡ f) × (d ≤ g))
+abbrev before : Bool → ℕ → ℕ → Bool → ℕ → ℕ → Bool
+before x e d y f g = less x e y f || (not (less y f x e) && ltb d g)
 
-not_before : (e d f g : ℕ) → before e d f g ≡ false → AtMost f g e d
-not_before e d f g h = elim (leb_tells (suc e) f) [
-  | inl t ↦ absurd (let k : true ≡ false = rw t.0 at h in cc)
-  | inr t ↦ elim (eqb_tells e f) [
-    | inl s ↦ elim (leb_tells (suc d) g) [
-      | inl u ↦ absurd (let k : true ≡ false = rw (t.0, s.0, u.0) at h in cc)
-      | inr u ↦ inr (sym s.1, omega (arith, u.1))
-    ]
-    | inr s ↦ elim (cases_lt f e) [
-      | inl less ↦ inl less
-      | inr more ↦ absurd (s.1 (omega (arith, more, t.1)))
-    ]
-  ]
-]
+-- what they say: an overload is behind all that is none, and of one kind the numbers tell
+abbrev pub ByKind : Bool → Bool → Type 0 → Type 0
+ByKind false false R = R
+ByKind false true R = ⊤
+ByKind true false R = ⊥
+ByKind true true R = R
 
-was_before : (e d f g : ℕ) → before e d f g ≡ true → AtMost e d f g
-was_before e d f g h = elim (leb_tells (suc e) f) [
+abbrev pub Least : ℕ → ℕ → ℕ → ℕ → Type 0
+Least e d f g = (e < f) ⊎ ((e ≡ f) × (d ≤ g))
+
+abbrev pub AtMost : Bool → ℕ → ℕ → Bool → ℕ → ℕ → Type 0
+AtMost x e d y f g = ByKind x y (Least e d f g)
+
+lower : (e d f g : ℕ) → ltb e f ≡ true → Least e d f g
+lower e d f g h = elim (leb_tells (suc e) f) [
   | inl t ↦ inl (omega (arith, t.1))
-  | inr t ↦ elim (eqb_tells e f) [
-    | inl s ↦ elim (leb_tells (suc d) g) [
-      | inl u ↦ inr (s.1, omega (arith, u.1))
-      | inr u ↦ absurd (let k : false ≡ true = rw (t.0, s.0, u.0) at h in cc)
-    ]
-    | inr s ↦ absurd (let k : false ≡ true = rw (t.0, s.0) at h in cc)
+  | inr t ↦ absurd (false≢true (sym t.0 ∙ h))
+]
+
+no_higher : (e d f g : ℕ) → ltb f e ≡ false → d ≤ g → Least e d f g
+no_higher e d f g h most = elim (leb_tells (suc f) e) [
+  | inl t ↦ absurd (false≢true (sym h ∙ t.0))
+  | inr t ↦ elim (cases_lt e f) [
+    | inl first ↦ inl first
+    | inr back ↦ inr (omega (arith, t.1, back), most)
   ]
 ]
 
-is_not_before : (e d f g : ℕ) → AtMost f g e d → before e d f g ≡ false
-is_not_before e d f g (inl less) = elim (leb_tells (suc e) f) [
-  | inl t ↦ absurd (omega (arith, t.1, less))
-  | inr t ↦ elim (eqb_tells e f) [
-    | inl s ↦ absurd (omega (arith, s.1, less))
-    | inr s ↦ rw (t.0, s.0) refl
+-- who misses less is better whatever the distances are
+by_less : (x : Bool) (e d : ℕ) (y : Bool) (f g : ℕ) → less x e y f ≡ true → AtMost x e d y f g
+by_less false e d false f g h = lower e d f g h
+by_less false e d true f g h = tt
+by_less true e d false f g h = absurd (false≢true h)
+by_less true e d true f g h = lower e d f g h
+
+by_way : (x : Bool) (e d : ℕ) (y : Bool) (f g : ℕ) → less y f x e ≡ false → d ≤ g → AtMost x e d y f g
+by_way false e d false f g h most = no_higher e d f g h most
+by_way false e d true f g h most = tt
+by_way true e d false f g h most = absurd (false≢true (sym h))
+by_way true e d true f g h most = no_higher e d f g h most
+
+pub no_less : (x : Bool) (e : ℕ) → less x e x e ≡ false
+no_less x e = elim (leb_tells (suc e) e) [
+  | inl t ↦ absurd (omega (arith, t.1))
+  | inr t ↦ of_kind x t.0
+]
+  where
+    of_kind : (x : Bool) → ltb e e ≡ false → less x e x e ≡ false
+    of_kind false h = h
+    of_kind true h = h
+
+pub not_less_than_none : (x : Bool) (e : ℕ) → less x e false 0 ≡ false
+not_less_than_none true e = refl
+not_less_than_none false e = elim (leb_tells (suc e) 0) [
+  | inl t ↦ absurd (omega (arith, t.1))
+  | inr t ↦ t.0
+]
+
+distance_tells : (d g : ℕ) (t : Bool) → ltb d g ≡ t → ((t ≡ true) × (d ≤ g)) ⊎ ((t ≡ false) × (g ≤ d))
+distance_tells d g t h = elim (leb_tells (suc d) g) [
+  | inl u ↦ inl (sym h ∙ u.0, omega (arith, u.1))
+  | inr u ↦ inr (sym h ∙ u.0, omega (arith, u.1))
+]
+
+was_before : (x : Bool) (e d : ℕ) (y : Bool) (f g : ℕ) → before x e d y f g ≡ true → AtMost x e d y f g
+was_before x e d y f g h = elim (cases_Bool (less x e y f)) [
+  | inl first ↦ by_less x e d y f g first
+  | inr level ↦ elim (cases_Bool (less y f x e)) [
+    | inl back ↦ absurd (let k : false ≡ true = rw (level, back) at h in cc)
+    | inr even ↦ elim (distance_tells d g (ltb d g) refl) [
+      | inl u ↦ by_way x e d y f g even u.1
+      | inr u ↦ absurd (let k : false ≡ true = rw (level, even, u.0) at h in cc)
+    ]
   ]
 ]
-is_not_before e d f g (inr both) = elim (leb_tells (suc e) f) [
+
+not_before : (x : Bool) (e d : ℕ) (y : Bool) (f g : ℕ) → before x e d y f g ≡ false → AtMost y f g x e d
+not_before x e d y f g h = elim (cases_Bool (less x e y f)) [
+  | inl first ↦ absurd (let k : true ≡ false = rw first at h in cc)
+  | inr level ↦ elim (cases_Bool (less y f x e)) [
+    | inl back ↦ by_less y f g x e d back
+    | inr even ↦ elim (distance_tells d g (ltb d g) refl) [
+      | inl u ↦ absurd (let k : true ≡ false = rw (level, even, u.0) at h in cc)
+      | inr u ↦ by_way y f g x e d level u.1
+    ]
+  ]
+]
+
+is_not_least : (e d f g : ℕ) → Least f g e d → (ltb e f || (not (ltb f e) && ltb d g)) ≡ false
+is_not_least e d f g (inl less) = elim (leb_tells (suc e) f) [
+  | inl t ↦ absurd (omega (arith, t.1, less))
+  | inr t ↦ elim (leb_tells (suc f) e) [
+    | inl s ↦ rw (t.0, s.0) refl
+    | inr s ↦ absurd (omega (arith, s.1, less))
+  ]
+]
+is_not_least e d f g (inr both) = elim (leb_tells (suc e) f) [
   | inl t ↦ absurd (omega (arith, t.1, both.0))
   | inr t ↦ elim (leb_tells (suc d) g) [
     | inl u ↦ absurd (omega (arith, u.1, both.1))
-    | inr u ↦ elim (eqb_tells e f) [
-      | inl s ↦ rw (t.0, s.0, u.0) refl
-      | inr s ↦ rw (t.0, s.0) refl
+    | inr u ↦ elim (leb_tells (suc f) e) [
+      | inl s ↦ rw (t.0, s.0) refl
+      | inr s ↦ rw (t.0, s.0, u.0) refl
     ]
   ]
 ]
 
-joined : (e d f g x y : ℕ) → AtMost e d f g → AtMost f g x y → AtMost e d x y
-joined e d f g x y (inl a) (inl b) = inl (omega (arith, a, b))
-joined e d f g x y (inl a) (inr b) = inl (omega (arith, a, b.0))
-joined e d f g x y (inr a) (inl b) = inl (omega (arith, a.0, b))
-joined e d f g x y (inr a) (inr b) = inr (a.0 ∙ b.0, omega (arith, a.1, b.1))
+is_not_before : (x : Bool) (e d : ℕ) (y : Bool) (f g : ℕ) → AtMost y f g x e d → before x e d y f g ≡ false
+is_not_before false e d false f g most = is_not_least e d f g most
+is_not_before false e d true f g most = absurd most
+is_not_before true e d false f g most = refl
+is_not_before true e d true f g most = is_not_least e d f g most
 
+both_least : (e d f g h k : ℕ) → Least e d f g → Least f g h k → Least e d h k
+both_least e d f g h k (inl a) (inl b) = inl (omega (arith, a, b))
+both_least e d f g h k (inl a) (inr b) = inl (omega (arith, a, b.0))
+both_least e d f g h k (inr a) (inl b) = inl (omega (arith, a.0, b))
+both_least e d f g h k (inr a) (inr b) = inr (a.0 ∙ b.0, omega (arith, a.1, b.1))
+
+joined : (x : Bool) (e d : ℕ) (y : Bool) (f g : ℕ) (z : Bool) (h k : ℕ) → AtMost x e d y f g → AtMost y f g z h k → AtMost x e d z h k
+joined false e d false f g false h k a b = both_least e d f g h k a b
+joined false e d false f g true h k a b = tt
+joined false e d true f g false h k a b = absurd b
+joined false e d true f g true h k a b = tt
+joined true e d false f g z h k a b = absurd a
+joined true e d true f g false h k a b = absurd b
+joined true e d true f g true h k a b = both_least e d f g h k a b
+
+-- ---- trials
 -- one is no worse than another where this is not better
-abbrev no_worse : (t u : Trial) → Type 0
-no_worse t u = AtMost (excess_of t.miss) t.distance (excess_of u.miss) u.distance
+abbrev pub no_worse : (t u : Trial) → Type 0
+no_worse t u = AtMost (is_overload t.miss) (excess_of t.miss) t.distance (is_overload u.miss) (excess_of u.miss) u.distance
 
 pub not_better : (t u : Trial) → no_worse u t → is_better t u ≡ false
-not_better t u most = is_not_before (excess_of t.miss) t.distance (excess_of u.miss) u.distance most
+not_better t u most = is_not_before (is_overload t.miss) (excess_of t.miss) t.distance (is_overload u.miss) (excess_of u.miss) u.distance most
+
+no_worse_both : (t u v : Trial) → no_worse t u → no_worse u v → no_worse t v
+no_worse_both t u v =
+    joined (is_overload t.miss) (excess_of t.miss) t.distance (is_overload u.miss) (excess_of u.miss) u.distance (is_overload v.miss) (excess_of v.miss) v.distance
+
+-- where it misses less than the least that another misses; or no more, on no longer a way
+pub by_miss : (t u : Trial) (least : Option Miss) → misses_less t.miss least ≡ true → misses_less u.miss least ≡ false → no_worse t u
+by_miss t u least less_is more =
+    joined (is_overload t.miss) (excess_of t.miss) t.distance (is_overload least) (excess_of least) u.distance (is_overload u.miss) (excess_of u.miss) u.distance
+    (by_less (is_overload t.miss) (excess_of t.miss) t.distance (is_overload least) (excess_of least) u.distance less_is)
+    (by_way (is_overload least) (excess_of least) u.distance (is_overload u.miss) (excess_of u.miss) u.distance more (omega arith))
+
+pub by_distance : (t u : Trial) (least : Option Miss) → misses_less least t.miss ≡ false → misses_less u.miss least ≡ false → t.distance ≤ u.distance → no_worse t u
+by_distance t u least no_more more longer =
+    joined (is_overload t.miss) (excess_of t.miss) t.distance (is_overload least) (excess_of least) u.distance (is_overload u.miss) (excess_of u.miss) u.distance
+    (by_way (is_overload t.miss) (excess_of t.miss) t.distance (is_overload least) (excess_of least) u.distance no_more longer)
+    (by_way (is_overload least) (excess_of least) u.distance (is_overload u.miss) (excess_of u.miss) u.distance more (omega arith))
+
+-- a time that is exceeded by no more than anything else, on no longer a way
+pub by_excess : (t u : Trial) → is_overload t.miss ≡ false → excess_of t.miss ≤ excess_of u.miss → t.distance ≤ u.distance → no_worse t u
+by_excess t u light most longer = of_kind (is_overload t.miss) (is_overload u.miss) light
+  where
+    least : Least (excess_of t.miss) t.distance (excess_of u.miss) u.distance
+    least = elim (cases_lt (excess_of t.miss) (excess_of u.miss)) [
+      | inl first ↦ inl first
+      | inr back ↦ inr (omega (arith, most, back), longer)
+    ]
+
+    of_kind : (x y : Bool) → x ≡ false → AtMost x (excess_of t.miss) t.distance y (excess_of u.miss) u.distance
+    of_kind true y h = absurd (false≢true (sym h))
+    of_kind false false h = least
+    of_kind false true h = tt
+
+-- then it stays
+pub best_stays : (best t : Trial) → no_worse best t → better (Some best) t ≡ Some best
+best_stays best t most = kept (not_better t best most)
+  where
+    kept : is_better t best ≡ false → better (Some best) t ≡ Some best
+    kept fails = rw fails refl
 
 -- the best of what was best so far and these is no worse than each of them
 best_is : (best last : Trial) (ts : List Trial) → best_from (Some best) ts ≡ Some last → no_worse last best × AllByRecursion (λ t. is_better t last ≡ false) ts
-best_is best last [] e = let same : best ≡ last = some_same best last e in (inr (ap (λ (t : Trial). excess_of t.miss) (sym same), omega (arith, ap (λ (t : Trial). t.distance) same)), tt)
+best_is best last [] e = let same : best ≡ last = some_same best last e in (same_worse best last same, tt)
+  where
+    same_worse : (t u : Trial) → t ≡ u → no_worse u t
+    same_worse t u same =
+        rw same (by_way (is_overload u.miss) (excess_of u.miss) u.distance (is_overload u.miss) (excess_of u.miss) u.distance (no_less (is_overload u.miss) (excess_of u.miss)) (omega arith))
 best_is best last (t ∷ ts) e = elim (cases_Bool (is_better t best)) [
   | inl holds ↦ (
       let rest = best_is t last ts (ap (λ o. best_from o ts) (sym (taken holds)) ∙ e) in
-      let first = joined (excess_of last.miss) last.distance (excess_of t.miss) t.distance (excess_of best.miss) best.distance rest.0
-      (was_before (excess_of t.miss) t.distance (excess_of best.miss) best.distance holds) in
+      let first = no_worse_both last t best rest.0 (was_before (is_overload t.miss) (excess_of t.miss) t.distance (is_overload best.miss) (excess_of best.miss) best.distance holds) in
       (first, (not_better t last rest.0, rest.1)))
   | inr fails ↦ (
       let rest = best_is best last ts (ap (λ o. best_from o ts) (sym (left fails)) ∙ e) in
-      let this = joined (excess_of last.miss) last.distance (excess_of best.miss) best.distance (excess_of t.miss) t.distance rest.0
-      (not_before (excess_of t.miss) t.distance (excess_of best.miss) best.distance fails) in
+      let this = no_worse_both last best t rest.0 (not_before (is_overload t.miss) (excess_of t.miss) t.distance (is_overload best.miss) (excess_of best.miss) best.distance fails) in
       (rest.0, (not_better t last this, rest.1)))
 ]
   where
@@ -103,3 +224,26 @@ best_of (t ∷ ts) last e = let rest = best_is t last ts e in (not_better t last
 
 pub none_is_better : NoneIsBetter
 none_is_better p route r kept best e = best_of (trials p route r kept) best e
+
+-- so an overload is the least of those that each trial misses
+as_heavy : (best t : Trial) → is_overload best.miss ≡ true → is_better t best ≡ false → (is_overload t.miss ≡ true) × (excess_of best.miss ≤ excess_of t.miss)
+as_heavy best t heavy fails =
+    of_kind (is_overload best.miss) (is_overload t.miss) heavy
+    (not_before (is_overload t.miss) (excess_of t.miss) t.distance (is_overload best.miss) (excess_of best.miss) best.distance fails)
+  where
+    least : (e d f g : ℕ) → Least e d f g → e ≤ f
+    least e d f g (inl less) = omega (arith, less)
+    least e d f g (inr both) = omega (arith, both.0)
+
+    of_kind : (x y : Bool) → x ≡ true → AtMost x (excess_of best.miss) best.distance y (excess_of t.miss) t.distance → (y ≡ true) × (excess_of best.miss ≤ excess_of t.miss)
+    of_kind false y h most = absurd (false≢true h)
+    of_kind true false h most = absurd most
+    of_kind true true h most = (refl, least (excess_of best.miss) best.distance (excess_of t.miss) t.distance most)
+
+all_as_heavy : (best : Trial) (ts : List Trial) → is_overload best.miss ≡ true → AllByRecursion (λ t. is_better t best ≡ false) ts →
+    AllByRecursion (λ t. (is_overload t.miss ≡ true) × (excess_of best.miss ≤ excess_of t.miss)) ts
+all_as_heavy best [] heavy none = tt
+all_as_heavy best (t ∷ ts) heavy none = (as_heavy best t heavy none.0, all_as_heavy best ts heavy none.1)
+
+pub overload_is_last : OverloadIsToldLast
+overload_is_last p route r kept best e heavy = all_as_heavy best (trials p route r kept) heavy (none_is_better p route r kept best e)

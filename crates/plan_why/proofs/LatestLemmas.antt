@@ -1,5 +1,5 @@
--- A vehicle that comes too late somewhere misses something, and what misses something is no better than what misses the least that there is.
-use Rattle.std.proofs.Common.{◌≡◌, ◌∙◌, ℕ, ◌⊎◌, inl, inr, Bool, true, false, ◌+◌, ◌-◌, ◌<◌, ◌≤◌, ◌||◌, max, min, ℤ, pos, negsuc}
+-- A vehicle that comes too late somewhere misses something, which is 1 at least.
+use Rattle.std.proofs.Common.{◌≡◌, ◌∙◌, ℕ, ◌⊎◌, inl, inr, true, ◌+◌, ◌-◌, ◌<◌, ◌≤◌, ◌||◌, max, min, ℤ, pos, negsuc}
 use Rattle.std.proofs.Common.{List, [], ◌∷◌, ◌++◌, length, drop, get_or, Option, Some, None, not, refl, sym, take, ap, subst, arith}
 use Rattle.std.specs.Prelude.{int_lt, unsigned_abs, ◌==◌}
 use Rattle.std.specs.List.{list_any}
@@ -14,13 +14,10 @@ use Rattle.plan_explain.specs.declared.rows.Row.{Row}
 use Rattle.plan_why.specs.Latests.{IsLatest, rows_from}
 use Rattle.plan_why.specs.Missed.{excess_of, is_heavy, is_late, lateness_in, miss_in, miss_of, overload_in}
 use Rattle.plan_why.specs.Moved.{moved_from, moved_row}
-use Rattle.plan_why.specs.Trials.{better, is_better}
 use Rattle.plan_why.specs.declared.missed.Miss.{Miss}
-use Rattle.plan_why.specs.declared.trials.Trial.{Trial}
 use Rattle.plan_why.specs.Puts.{IsDetour, IsNumberOf, IsTour, arrival_with, put_row, route_with}
 use Rattle.plan_why.specs.declared.puts.Detour.{Detour}
 use Rattle.plan_why.specs.declared.puts.Tour.{Tour}
-use Rattle.plan_why.proofs.BestLemmas.{not_better}
 use Rattle.plan_why.proofs.PutLemmas.{rows_told}
 
 -- ---- late here, or behind
@@ -107,22 +104,3 @@ missed_told p t at tour one within detour ways number is d arrival kind comes la
     ap (λ b. is_late row || b) (ap (list_any is_late) moved ∙ tour.latests.each at 0 (omega arith) below arrival change later) ∙ or-true (is_late row) in
     subst (λ rs. 1 ≤ excess_of (miss_in p rs)) (rows_told p t at tour one within detour ways number is d d row arrival refl comes)
     (late_missed p (take at rows) (row ∷ moved_from arrival before change (drop at rows)) kind late)
-
--- ---- so the best so far stays
-pub by_least : (best t : Trial) → best.distance ≤ t.distance → excess_of best.miss ≤ excess_of t.miss →
-    (excess_of best.miss < excess_of t.miss) ⊎ ((excess_of best.miss ≡ excess_of t.miss) × (best.distance ≤ t.distance))
-by_least best t longer most = elim (cases_lt (excess_of best.miss) (excess_of t.miss)) [
-  | inl less ↦ inl less
-  | inr back ↦ inr (omega (arith, most, back), longer)
-]
-
-pub best_stays : (best t : Trial) → best.distance ≤ t.distance → (excess_of best.miss ≡ 0) ⊎ ((excess_of best.miss ≡ 1) × (1 ≤ excess_of t.miss)) → better (Some best) t ≡ Some best
-best_stays best t longer misses = kept (is_better t best) refl (not_better t best (order misses))
-  where
-    kept : (b : Bool) → is_better t best ≡ b → is_better t best ≡ false → better (Some best) t ≡ Some best
-    kept b is fails = rw fails refl
-
-    order : (excess_of best.miss ≡ 0) ⊎ ((excess_of best.miss ≡ 1) × (1 ≤ excess_of t.miss)) →
-        (excess_of best.miss < excess_of t.miss) ⊎ ((excess_of best.miss ≡ excess_of t.miss) × (best.distance ≤ t.distance))
-    order (inl none) = by_least best t longer (omega (arith, none))
-    order (inr one) = by_least best t longer (omega (arith, one.0, one.1))

@@ -4,6 +4,7 @@ pub mod AnywayLemmas
 pub mod BestLemmas
 pub mod FaultLemmas
 pub mod LatestLemmas
+pub mod LeastLemmas
 pub mod MayTake
 pub mod PutLemmas
 pub mod TrialLemmas

@@ -5,9 +5,9 @@ use Rattle.std.specs.List.{find, insert, range_with_len}
 use Rattle.std.specs.Option.{option_map, option_or}
 use Rattle.std.proofs.lemmas.Bool.{cases_Bool}
 use Rattle.std.proofs.lemmas.Int.{ints}
-use Rattle.std.proofs.lemmas.List.{drop-drop, take-append-drop, take-take, take_more}
+use Rattle.std.proofs.lemmas.List.{drop-drop, length-take, take_more}
 use Rattle.std.proofs.lemmas.List.Edits.{get_or-insert_at, get_or-insert_below, get_or-insert_above, insert_end, length-insert}
-use Rattle.std.proofs.Math.Seq.{take-append_seam}
+use Rattle.std.proofs.Math.Seq.{take-append-add, take-append_seam}
 use Rattle.std.proofs.lemmas.List.Folds.{find-append}
 use Rattle.std.proofs.lemmas.List.FromFn.{get_or-map-range_with_len, take-map-range_with_len}
 use Rattle.plan_types.specs.Instance.{Instance}
@@ -52,10 +52,10 @@ map_or : {X Y : Type 0} (f : X → Y) (a b : Option X) → option_map f (option_
 map_or f None b = refl
 map_or f (Some x) b = refl
 
-over_both : (capacity : ℕ) (xs ys : List Row) → overload_in capacity (xs ++ ys) ≡ option_or (overload_in capacity xs) (overload_in capacity ys)
+pub over_both : (capacity : ℕ) (xs ys : List Row) → overload_in capacity (xs ++ ys) ≡ option_or (overload_in capacity xs) (overload_in capacity ys)
 over_both capacity xs ys = ap (option_map (overload_at capacity)) (find-append (is_heavy capacity) xs ys) ∙ map_or (overload_at capacity) (find (is_heavy capacity) xs) (find (is_heavy capacity) ys)
 
-late_both : (kind : Kind) (xs ys : List Row) → lateness_in kind (xs ++ ys) ≡ option_or (lateness_in kind xs) (lateness_in kind ys)
+pub late_both : (kind : Kind) (xs ys : List Row) → lateness_in kind (xs ++ ys) ≡ option_or (lateness_in kind xs) (lateness_in kind ys)
 late_both LiLim xs ys = ap (option_map lateness_at) (find-append is_late xs ys) ∙ map_or lateness_at (find is_late xs) (find is_late ys)
 late_both Vrp xs ys = refl
 
@@ -161,6 +161,12 @@ module _ (p : Instance) (route : List ℕ) (number m : ℕ) (s : Stop) (one : 1 
       same_row _ _ _ _ _ _ _ _ _ _ refl (place_before (k + 1) (omega arith))
       (rw (start_before k (omega arith), leg_before k (omega arith)) (ap (λ (s : Stop). start p route k + s.service + leg p route k) (place_before k (omega arith))))
       (start_before (k + 1) (omega arith)) (load_before (k + 1) (omega arith))
+
+  pub rows_kept : (at : ℕ) → at ≤ m → take at (rows_of p new) ≡ take at (rows_of p route)
+  rows_kept at most =
+      take-map-range_with_len (row_behind p new) 0 (length new + 1) at (omega (arith, long))
+      ∙ map_range_same (row_behind p new) (row_behind p route) 0 at (λ k from to. row_before k from (omega (arith, most, to)))
+      ∙ sym (take-map-range_with_len (row_behind p route) 0 (length route + 1) at (omega arith))
 
   -- the new stop comes behind the row of place m
   module _ (here : Row) (place_is : here.place ≡ m) (start_is : here.start ≡ start p route m) (load_is : here.load ≡ load p route m) where
@@ -307,6 +313,19 @@ module _ (p : Instance) (t : Tour) (at : ℕ) (tour : IsTour p t) (one : 1 ≤ a
       ∙ ap (λ l. map (row_behind p route) (range_with_len 0 at) ++ (row_behind p tried at ∷ l)) moved
       ∙ sym (rows_are p route number at s one within is comes reached)
 
+  -- what is found up to the stop
+  pub found_told : (front : Found) (d row : Row) → front ≡ found_in p (take at t.rows.now) → row ≡ put_row (get_or t.rows.now (at - 1) d) detour.service detour.to t.stop.now →
+      found_then front (found_in p (row ∷ [])) ≡ found_in p (take (at + 1) (rows_of p (route_with t at number)))
+  found_told front d row front_is row_is =
+      let before = take at t.rows.now in
+      let comes = row.start + t.stop.now.service + detour.from in
+      let behind = moved_from comes (get_or t.rows.now at d).arrival t.stop.now.demand (drop at t.rows.now) in
+      let count : at + 1 ≡ length before + 1 = omega (arith, within, tour.long, length-take at t.rows.now) in
+      let first : take (at + 1) (before ++ (row ∷ behind)) ≡ before ++ (row ∷ []) = ap (λ n. take n (before ++ (row ∷ behind))) count ∙ take-append-add before (row ∷ behind) 1 in
+      ap (λ f. found_then f (found_in p (row ∷ []))) front_is
+      ∙ sym (found_both p before (row ∷ []))
+      ∙ ap (found_in p) (sym first ∙ ap (take (at + 1)) (rows_told d d row comes row_is refl))
+
   pub miss_told : (front found : Found) (d e row : Row) (comes : ℕ) (miss : Option Miss) → front ≡ found_in p (take at t.rows.now) →
       row ≡ put_row (get_or t.rows.now (at - 1) d) detour.service detour.to t.stop.now → comes ≡ row.start + t.stop.now.service + detour.from → found ≡ found_then front (found_in p (row ∷ [])) →
       miss ≡ miss_behind p found comes (get_or t.rows.now at e).arrival t.stop.now.demand (drop at t.rows.now) → miss ≡ miss_of p (route_with t at number)
@@ -335,28 +354,6 @@ light_later p t a b most light =
 
 pub found_more : (p : Instance) (rows : List Row) (k : ℕ) (d : Row) → k < length rows → found_then (found_in p (take k rows)) (found_in p (get_or rows k d ∷ [])) ≡ found_in p (take (k + 1) rows)
 found_more p rows k d below = sym (ap (found_in p) (take_more rows k d below) ∙ found_both p (take k rows) (get_or rows k d ∷ []))
-
--- ---- what is settled before the stop
-module _ (p : Instance) (t : Tour) (tour : IsTour p t) (number : ℕ) (is : IsNumberOf p t number) where
-  -- a load that was found exceeded stays the first limit
-  pub over_stays : (at later : ℕ) (m : Miss) → 1 ≤ at → at ≤ later → later ≤ length t.route.now → overload_in p.capacity (take at t.rows.now) ≡ Some m → miss_of p (route_with t later number) ≡ Some m
-  over_stays at later m one most within found =
-      let route = t.route.now in
-      let new = route_with t later number in
-      let behind = row_behind p new later ∷ moved_from (arrival p new (later + 1)) (arrival p route later) t.stop.now.demand
-      (map (row_behind p route) (range_with_len later (length route + 1 - later))) in
-      let taken : take later t.rows.now ≡ map (row_behind p route) (range_with_len 0 later) = ap (take later) tour.rows
-      ∙ take-map-range_with_len (row_behind p route) 0 (length route + 1) later (omega arith) in
-      let first : take at (take later t.rows.now) ≡ take at t.rows.now = take-take at later t.rows.now most in
-      let parts : take later t.rows.now ≡ take at t.rows.now ++ drop at (take later t.rows.now) = sym (take-append-drop at (take later t.rows.now))
-      ∙ ap (λ l. l ++ drop at (take later t.rows.now)) first in
-      let front : overload_in p.capacity (take later t.rows.now) ≡ Some m =
-      ap (overload_in p.capacity) parts ∙ over_both p.capacity (take at t.rows.now) (drop at (take later t.rows.now))
-      ∙ ap (λ o. option_or o (overload_in p.capacity (drop at (take later t.rows.now)))) found in
-      let all : overload_in p.capacity (rows_of p new) ≡ Some m =
-      ap (overload_in p.capacity) (rows_are p route number later t.stop.now (omega arith) within is (arrival p new (later + 1)) refl ∙ ap (λ l. l ++ behind) (sym taken))
-      ∙ over_both p.capacity (take later t.rows.now) behind ∙ ap (λ o. option_or o (overload_in p.capacity behind)) front in
-      ap (λ o. option_or o (lateness_in p.kind (rows_of p new))) all
 
 -- ---- a stop at the end
 pub take_last : (xs : List ℕ) (n m y : ℕ) → n ≡ length xs → m ≡ length xs → take n (insert xs m y) ≡ xs

@@ -1,16 +1,17 @@
 -- Trials place by place.
-use Rattle.std.proofs.Common.{◌≡◌, ◌∙◌, ℕ, suc, ◌+◌, ◌-◌, ◌<◌, List, [], ◌∷◌, ◌++◌, map, length, ◌≤◌, zero, inl, Bool, true, false, take, subst, Option, Some, None, refl, sym, ap, arith}
+use Rattle.std.proofs.Common.{◌≡◌, ◌∙◌, ℕ, suc, ◌+◌, ◌-◌, ◌<◌, List, [], ◌∷◌, ◌++◌, map, length, ◌≤◌, zero, Bool, true, false, take, subst, Option, Some, None, refl, sym, ap, arith}
 use Rattle.std.specs.List.{flat_map, insert, range_with_len}
-use Rattle.std.proofs.lemmas.Bool.{leb-true}
 use Rattle.plan_types.specs.Instance.{Instance}
 use Rattle.plan_types.specs.declared.requests.Request.TheVariants.{Pair, Single}
 use Rattle.plan_types.specs.declared.requests.Stop.{Stop}
 use Rattle.route_sched.specs.Schedule.{route_length}
-use Rattle.plan_why.specs.Missed.{excess, excess_of, miss_of, overload_in}
-use Rattle.plan_why.specs.Puts.{IsNumberOf, IsTour, is_settled}
+use Rattle.plan_explain.specs.Tables.{rows_of}
+use Rattle.plan_why.specs.Missed.{miss_of, misses_less}
+use Rattle.plan_why.specs.Puts.{found_in, is_settled, least_of}
+use Rattle.plan_why.specs.declared.puts.Found.{Found}
 use Rattle.plan_why.specs.declared.puts.Tour.{Tour}
-use Rattle.plan_why.proofs.BestLemmas.{not_better}
-use Rattle.plan_why.proofs.PutLemmas.{over_stays}
+use Rattle.plan_why.proofs.BestLemmas.{by_miss, not_better}
+use Rattle.plan_why.proofs.LeastLemmas.{least_stays}
 use Rattle.move_ops.specs.Insertion.{inserted}
 use Rattle.plan_why.specs.Trials.{best_from, better, is_better, judged, trial_at}
 use Rattle.plan_why.specs.declared.missed.Miss.{Miss}
@@ -82,20 +83,20 @@ module _ (p : Instance) (route : List ℕ) where
             better (Some best) (trial_at p route (Pair a b) (i, behind)) ≡ Some best
         kept t is fails = rw fails refl
 
-    -- a limit that is exceeded by more than the best so far, and comes first wherever the delivery is put in
-    pub settled : (tour : Tour) (over : Option Miss) (best all : Option Trial) (i behind : ℕ) → IsTour p tour → IsNumberOf p tour b.number →
-        tour.route.now ≡ inserted (Single a) i i route → over ≡ overload_in p.capacity (take (behind - 1) tour.rows.now) →
-        2 ≤ behind → length tour.route.now ≡ length route + 1 → is_settled over best ≡ true → best_from best (deliveries i behind) ≡ all → best ≡ all
-    settled tour over None all i behind is number picked found from long worse so_far = absurd (let e : false ≡ true = worse in cc)
-    settled tour None (Some best) all i behind is number picked found from long worse so_far = absurd (let e : false ≡ true = worse in cc)
-    settled tour (Some m) (Some best) all i behind is number picked found from long worse so_far =
-        let less : excess_of best.miss < excess m = leb-true _ _ worse in
-        let over : overload_in p.capacity (take (behind - 1) tour.rows.now) ≡ Some m = sym found in
+    -- the best so far that misses less than what was found, wherever the delivery is put in behind that
+    pub settled : (tour : Tour) (front : Found) (best all : Option Trial) (i behind : ℕ) → tour.rows.now ≡ rows_of p tour.route.now →
+        tour.route.now ≡ inserted (Single a) i i route → front ≡ found_in p (take (behind - 1) tour.rows.now) →
+        2 ≤ behind → length tour.route.now ≡ length route + 1 → is_settled front best ≡ true → best_from best (deliveries i behind) ≡ all → best ≡ all
+    settled tour front None all i behind rows picked found from long worse so_far = absurd (let e : false ≡ true = worse in cc)
+    settled tour front (Some best) all i behind rows picked found from long worse so_far =
+        let before = found_in p (take (behind - 1) (rows_of p tour.route.now)) in
+        let front_is : front ≡ before = found ∙ ap (λ rs. found_in p (take (behind - 1) rs)) rows in
+        let less : misses_less best.miss (least_of before) ≡ true = subst (λ f. misses_less best.miss (least_of f) ≡ true) front_is worse in
         sym (none_better best i behind (length route + 3 - behind) (λ j at within.
-        let same : trial_at p route (Pair a b) (i, j) ≡ judged p (insert tour.route.now (j - 1) b.number) i (j - 1 + 1) = sym (trial_with tour.route.now i j (omega arith) picked) in
-        let misses : miss_of p (insert tour.route.now (j - 1) b.number) ≡ Some m = over_stays p tour is b.number number (behind - 1) (j - 1) m (omega arith) (omega arith) (omega arith) over in
-        let more : excess_of best.miss < excess_of (judged p (insert tour.route.now (j - 1) b.number) i (j - 1 + 1)).miss = subst (λ o. excess_of best.miss < excess_of o) (sym misses) less in
-        ap (λ t. is_better t best) same ∙ not_better (judged p (insert tour.route.now (j - 1) b.number) i (j - 1 + 1)) best (inl more))) ∙ so_far
+        let next = judged p (insert tour.route.now (j - 1) b.number) i (j - 1 + 1) in
+        let same : trial_at p route (Pair a b) (i, j) ≡ next = sym (trial_with tour.route.now i j (omega arith) picked) in
+        let more = least_stays p tour.route.now b.number (j - 1) (behind - 1) (omega arith) (omega arith) (omega arith) in
+        ap (λ t. is_better t best) same ∙ not_better next best (by_miss best next (least_of before) less more))) ∙ so_far
 
     -- the places with the pickup at this one
     abbrev pub places_at : ℕ → List (ℕ × ℕ)

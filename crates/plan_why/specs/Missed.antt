@@ -1,6 +1,6 @@
 -- The first limit that a route exceeds: the capacity at any stop (rule 6 of the auditor), then the latest start at a stop (7) or of
 -- the return (8).
-use Rattle.std.specs.Prelude.{ℕ, ◌-◌, ◌==◌, not, ◌&&◌, nat_lt, int_lt, pos, unsigned_abs, Bool, if◌then◌else◌, List, Option, Some, None}
+use Rattle.std.specs.Prelude.{ℕ, ◌-◌, ◌==◌, not, ◌&&◌, ◌||◌, nat_lt, int_lt, pos, unsigned_abs, Bool, false, true, if◌then◌else◌, List, Option, Some, None}
 use Rattle.std.specs.List.{find}
 use Rattle.std.specs.Option.{option_map, option_or}
 use Rattle.plan_types.specs.Instance.{Instance}
@@ -52,3 +52,19 @@ excess m = m.figure - m.most
 abbrev pub excess_of : Option Miss → ℕ
 excess_of None = 0
 excess_of (Some m) = excess m
+
+-- a vehicle carries more than it can
+abbrev pub is_load : Limit → Bool
+is_load Capacity = true
+is_load Start = false
+is_load Return = false
+
+abbrev pub is_overload : Option Miss → Bool
+is_overload None = false
+is_overload (Some m) = is_load m.limit
+
+-- One misses less than another: each overload is more than all that is none, and of one kind the excess tells. So loads and times are not
+-- compared with one another.
+abbrev pub misses_less : Option Miss → Option Miss → Bool
+misses_less a b =
+    if is_overload a then is_overload b && nat_lt (excess_of a) (excess_of b) else (is_overload b || nat_lt (excess_of a) (excess_of b))

@@ -1,5 +1,5 @@
 -- One stop more in a route whose rows are known: those before it stay, it gets a row of its own, and those behind it are moved.
-use Rattle.std.specs.Prelude.{◌≡◌, ◌⊎◌, ℕ, ◌+◌, ◌-◌, ◌<◌, max, ℤ, pos, ◌+ℤ◌, List, map, length, drop, slice_index_or, Option, None, Some, Bool, false, true, nat_lt}
+use Rattle.std.specs.Prelude.{◌≡◌, ◌⊎◌, ℕ, ◌+◌, ◌-◌, ◌<◌, max, ℤ, pos, ◌+ℤ◌, List, map, length, drop, slice_index_or, Option, None, Some, Bool, false, true}
 use Rattle.std.specs.List.{insert}
 use Rattle.std.specs.Option.{option_or}
 use Rattle.plan_types.specs.Instance.{Instance}
@@ -10,7 +10,7 @@ use Rattle.route_sched.specs.Route.{AreLiveOnce, place, stop_numbered}
 use Rattle.route_sched.specs.Schedule.{leg, route_length}
 use Rattle.plan_explain.specs.Tables.{rows_of}
 use Rattle.plan_explain.specs.declared.rows.Row.{Row}
-use Rattle.plan_why.specs.Missed.{excess, excess_of, is_late, lateness_in, overload_in}
+use Rattle.plan_why.specs.Missed.{is_late, lateness_in, misses_less, overload_in}
 use Rattle.plan_why.specs.Latests.{AreLatests}
 use Rattle.plan_why.specs.Moved.{moved_from}
 use Rattle.plan_why.specs.declared.missed.Miss.{Miss}
@@ -98,8 +98,11 @@ pub record IsPicked (p : Instance) (base : Tour) (place : ℕ) (picked : List �
 abbrev pub IsLight : Instance → Tour → ℕ → Type 0
 IsLight p tour at = overload_in p.capacity (laden tour.stop.now.demand (drop at tour.rows.now)) ≡ None
 
--- what was found exceeds a limit by more than the best trial so far
-abbrev pub is_settled : Option Miss → Option Trial → Bool
-is_settled over None = false
-is_settled None (Some best) = false
-is_settled (Some m) (Some best) = nat_lt (excess_of best.miss) (excess m)
+-- what a route misses at least that begins with the rows where this was found
+abbrev pub least_of : Found → Option Miss
+least_of f = option_or f.over f.late
+
+-- so the best trial so far misses less than each that goes on from what was found
+abbrev pub is_settled : Found → Option Trial → Bool
+is_settled front None = false
+is_settled front (Some best) = misses_less best.miss (least_of front)

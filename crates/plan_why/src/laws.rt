@@ -1,5 +1,5 @@
 //! What the best trial means, and what is told of a request alone, without code.
-ghost use Rattle.plan_why.specs.Laws.{AloneIsJudgedByRules, AloneTellsFault, NoneIsBetter};
+ghost use Rattle.plan_why.specs.Laws.{AloneIsJudgedByRules, AloneTellsFault, NoneIsBetter, OverloadIsToldLast};
 
 use plan_audit::tests_say_feasible;
 use plan_types::{requests_are_found_by_stop, requests_stand_by_name};
@@ -7,6 +7,11 @@ use plan_types::{requests_are_found_by_stop, requests_stand_by_name};
 /// No trial of a request in a route misses less than the one that is told, or as much on a shorter way.
 pub fn no_trial_is_better()
     ensures { NoneIsBetter }
+{}
+
+/// That a vehicle would carry too much is told only where it would wherever the request is put, and the least of it.
+pub fn overloads_are_told_last()
+    ensures { OverloadIsToldLast }
 {}
 
 /// What is told of a request alone rests on the auditor's rules: a vehicle that serves nothing else exceeds no limit exactly where the

@@ -1,8 +1,8 @@
 //! The first limit that a route exceeds.
-ghost use Rattle.std.specs.Prelude.{◌≡◌, IfOk};
+ghost use Rattle.std.specs.Prelude.{◌≡◌, ◌==◌, ◌&&◌, not, IfOk};
 ghost use Rattle.plan_types.specs.declared.requests.Kind.TheVariants.{LiLim};
 ghost use Rattle.route_sched.specs.Route.{AreLiveOnce};
-ghost use Rattle.plan_why.specs.Missed.{excess, excess_of, is_heavy, is_late, lateness_at, lateness_in, miss_in, miss_of, overload_at, overload_in, time_limit};
+ghost use Rattle.plan_why.specs.Missed.{excess, excess_of, is_heavy, is_late, is_load, is_overload, lateness_at, lateness_in, miss_in, miss_of, misses_less, overload_at, overload_in, time_limit};
 
 use plan_explain::{Row, rows_of};
 use plan_types::{Kind, OutOfMemory, Problem};
@@ -47,6 +47,45 @@ pub(crate) fn excess_of(miss: &Option<Miss>) -> u64
     match miss {
         Some(miss) => miss.excess(),
         None => 0,
+    }
+}
+
+/// Whether a vehicle carries more than it can.
+pub(crate) fn is_overload(miss: &Option<Miss>) -> bool
+    ensures { result ≡ is_overload miss.now }
+{
+    match miss {
+        Some(miss) => is_load(miss.limit),
+        None => false,
+    }
+}
+
+fn is_load(limit: Limit) -> bool
+    ensures { result ≡ is_load limit }
+{
+    match limit {
+        Limit::Capacity => true,
+        Limit::Start => false,
+        Limit::Return => false,
+    }
+}
+
+/// Whether a time is exceeded by 1, which is the least that is missed.
+pub(crate) fn is_late_by_one(miss: &Option<Miss>) -> bool
+    ensures { result ≡ (not (is_overload miss.now) && (excess_of miss.now == 1)) }
+{
+    !is_overload(miss) && excess_of(miss) == 1
+}
+
+/// Whether one misses less than another: each overload is more than all that is none, and of one kind the excess tells.
+pub(crate) fn misses_less(miss: &Option<Miss>, other: &Option<Miss>) -> bool
+    ensures { result ≡ misses_less miss.now other.now }
+{
+    let is_closer = excess_of(miss) < excess_of(other);
+    if is_overload(miss) {
+        is_overload(other) && is_closer
+    } else {
+        is_overload(other) || is_closer
     }
 }
 

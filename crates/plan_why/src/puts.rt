@@ -9,7 +9,7 @@ ghost use Rattle.plan_explain.specs.Tables.{rows_of};
 ghost use Rattle.plan_explain.specs.declared.rows.Row.{Row};
 ghost use Rattle.plan_why.specs.Missed.{excess_of, lateness_in, miss_of, overload_in};
 ghost use Rattle.plan_why.specs.Moved.{moved_from, moved_row};
-ghost use Rattle.plan_why.specs.Puts.{IsDetour, IsLight, IsNumberOf, IsTour, arrival_with, IsLateAnyway, found_in, found_then, laden, miss_behind, put_row, route_with};
+ghost use Rattle.plan_why.specs.Puts.{IsDetour, IsLight, IsNumberOf, IsTour, arrival_with, IsLateAnyway, found_in, found_then, laden, least_of, miss_behind, put_row, route_with};
 
 use crate::missed::{Miss, is_heavy, is_late, lateness_at, lateness_in, overload_at, overload_in};
 use nint_dist::{detours_save_at_most_one, dist};
@@ -36,6 +36,16 @@ impl Found {
         Found {
             over: self.over.or(next.over),
             late: self.late.or(next.late),
+        }
+    }
+
+    /// What a route misses at least that begins with the rows where this was found.
+    pub(crate) fn least(&self) -> &Option<Miss>
+        ensures { result.now ≡ least_of self.now }
+    {
+        match self.over {
+            Some(_) => &self.over,
+            None => &self.late,
         }
     }
 }
@@ -190,6 +200,7 @@ pub(crate) struct Detour {
 }
 
 impl Detour {
+    #[inline(always)]
     pub(crate) fn of(problem: &Problem, tour: &Tour<'_>, at: usize) -> Detour
         requires tour { IsTour problem.now tour.now }
         requires within { at ≤ length tour.now.route.now }
@@ -231,6 +242,26 @@ pub(crate) fn miss_with(
     let found = front.then(found_in(problem, &[row]));
     let miss = miss_behind(problem, found, rows, at, arrival, stop, are_light)?;
     Some(miss)
+}
+
+/// What is found up to the stop, put in behind the first `at` stops of the route, where this was found at these; `None` says nothing.
+pub(crate) fn found_with(
+    problem: &Problem,
+    tour: &Tour<'_>,
+    front: Found,
+    detour: &Detour,
+    at: usize,
+) -> Option<Found>
+    requires tour { IsTour problem.now tour.now }
+    requires within { (1 ≤ at) × (at ≤ length tour.now.route.now) }
+    requires front { front ≡ found_in problem.now (take at tour.now.rows.now) }
+    requires detour { IsDetour problem.now tour.now at detour.now }
+    ensures { IfSome result (λ found. (number : ℕ) → IsNumberOf problem.now tour.now number
+        → found ≡ found_in problem.now
+        (take (at + 1) (rows_of problem.now (route_with tour.now at number)))) }
+{
+    let row = put_row(&tour.rows[at - 1], detour.service, detour.to, tour.stop)?;
+    Some(front.then(found_in(problem, &[row])))
 }
 
 /// Whether the bounds of the rows tell that the route exceeds a limit with the stop put in there.

@@ -8,13 +8,13 @@ ghost use Rattle.plan_types.specs.declared.requests.Request.TheVariants.{Pair, S
 ghost use Rattle.plan_types.specs.declared.requests.Stop.{Stop};
 ghost use Rattle.move_ops.specs.Insertion.{inserted};
 ghost use Rattle.plan_why.specs.Puts.{IsBase, IsDetour, IsLight, IsNumberOf, IsPicked, IsTour, found_in, is_settled, route_with};
-ghost use Rattle.plan_why.specs.Trials.{MayTake, best_from, best_trial, better, is_better, judged, trial_at};
+ghost use Rattle.plan_why.specs.Trials.{MayTake, best_from, best_trial, best_with, better, is_better, judged, trial_at};
 
 use crate::latests::latests_of;
-use crate::missed::{Miss, excess_of, miss_of};
+use crate::missed::{Miss, is_late_by_one, miss_of, misses_less};
 use crate::puts::{
-    Detour, Found, Tour, are_light, distance_with, found_at, found_in, is_missed, is_missed_anyway,
-    miss_with, rows_with,
+    Detour, Found, Tour, are_light, distance_with, found_at, found_in, found_with, is_missed,
+    is_missed_anyway, miss_with, rows_with,
 };
 use nint_dist::detours_save_at_most_one;
 use plan_explain::{Row, rows_of};
@@ -115,9 +115,13 @@ fn best_pickup(
         ≡ best_trial problem.now route.now (Pair pickup.now delivery.now) kept) }
 {
     let mut best = None;
-    for front in kept..route.len() + 1 {
-        let place = front + 1;
-        best = best_delivery(alloc, problem, route, pickup, delivery, base, place, best)?;
+    let mut front = found_in(problem, &base.rows[..kept.min(base.rows.len())]);
+    for at in kept..route.len() + 1 {
+        let place = at + 1;
+        if !is_passed(problem, base, front, place, &best) {
+            best = best_delivery(alloc, problem, route, pickup, delivery, base, place, best)?;
+        }
+        front = front.then(found_at(problem, &base.rows[at]));
     }
     Ok(best)
 }
@@ -141,9 +145,6 @@ fn best_delivery(
         (map (trial_at problem.now route.now (Pair pickup.now delivery.now))
         (map (λ j. (place, j)) (range_with_len (place + 1) (length route.now + 2 - place))))) }
 {
-    if is_passed(problem, base, place, &so_far) {
-        return Ok(so_far);
-    }
     // The delivery at the end, so that the front is the route with the pickup alone.
     let whole = with_pair(alloc, route, pickup, delivery, place, route.len() + 2)?;
     let stop = stop_behind(problem, whole.as_slice(), route.len() + 1);
@@ -162,11 +163,19 @@ fn best_delivery(
     )
 }
 
-// Whether the best so far stays the best beside all with the stop of the tour at this place, as the pickup: each drives no less, since a
-// way over the delivery is shorter by 1 at most, and misses no less than the pickup's place alone is known to miss.
-fn is_passed(problem: &Problem, base: &Tour<'_>, place: usize, best: &Option<Trial>) -> bool
+// Whether the best so far stays the best beside all with the stop of the tour at this place, as the pickup, where this was found before it.
+// Each misses what is found up to the pickup at least. It drives no less than with the pickup alone, but for 1, by which a way over the
+// delivery may be shorter.
+fn is_passed(
+    problem: &Problem,
+    base: &Tour<'_>,
+    front: Found,
+    place: usize,
+    best: &Option<Trial>,
+) -> bool
     requires base { IsTour problem.now base.now }
     requires within { (1 ≤ place) × (place ≤ length base.now.route.now + 1) }
+    requires front { front ≡ found_in problem.now (take (place - 1) base.now.rows.now) }
     ensures { result ≡ true → (a b : Stop) → IsNumberOf problem.now base.now a.number
         → best.now ≡ best_from best.now (map (trial_at problem.now base.now.route.now (Pair a b))
         (map (λ j. (place, j)) (range_with_len (place + 1)
@@ -180,17 +189,22 @@ fn is_passed(problem: &Problem, base: &Tour<'_>, place: usize, best: &Option<Tri
         return false;
     }
     let detour = Detour::of(problem, base, place - 1);
+    let Some(found) = found_with(problem, base, front, &detour, place - 1) else {
+        return false;
+    };
+    if misses_less(&best.miss, found.least()) {
+        return true;
+    }
     let Some(distance) = distance_with(base.distance, &detour) else {
         return false;
     };
     if distance <= best.distance {
         return false;
     }
-    match excess_of(&best.miss) {
-        0 => true,
-        1 => is_missed_anyway(problem, base, &detour, place - 1),
-        _ => false,
+    if !misses_less(found.least(), &best.miss) {
+        return true;
     }
+    is_late_by_one(&best.miss) && is_missed_anyway(problem, base, &detour, place - 1)
 }
 
 // The rows of the route with the pickup at this place.
@@ -260,8 +274,9 @@ fn best_behind(
         if is_settled(&front, &best) {
             return Ok(best);
         }
-        best = match better_with(problem, tour, front, place, behind - 1, are_light, best) {
-            Some(best) => best,
+        best = match known_with(problem, tour, front, place, behind - 1, are_light, &best) {
+            Some(None) => best,
+            Some(Some(trial)) => better(best, trial),
             None => {
                 let trial = pair_trial(alloc, problem, route, pickup, delivery, place, behind)?;
                 better(best, trial)
@@ -272,37 +287,39 @@ fn best_behind(
     Ok(best)
 }
 
-// Whether what was found exceeds a limit by more than the best so far does, and comes first wherever the delivery is put in behind it.
+// Whether the best so far misses less than each that goes on from what was found.
 fn is_settled(front: &Found, best: &Option<Trial>) -> bool
-    ensures { result ≡ is_settled front.now.over best.now }
+    ensures { result ≡ is_settled front.now best.now }
 {
-    match (&front.over, best) {
-        (Some(over), Some(best)) => excess_of(&best.miss) < over.excess(),
-        _ => false,
+    match best {
+        Some(best) => misses_less(&best.miss, front.least()),
+        None => false,
     }
 }
 
-// The better of the best so far and what comes of the tour with its stop behind the first `at` stops; `None` says nothing.
-fn better_with(
+// What comes of the tour with its stop behind the first `at` stops: `None` says nothing, `Some(None)` that it is no better than the best
+// so far.
+fn known_with(
     problem: &Problem,
     tour: &Tour<'_>,
     front: Found,
     pickup: usize,
     at: usize,
     are_light: bool,
-    best: Option<Trial>,
+    best: &Option<Trial>,
 ) -> Option<Option<Trial>>
     requires tour { IsTour problem.now tour.now }
     requires within { (1 ≤ at) × (at ≤ length tour.now.route.now) }
     requires front { front ≡ found_in problem.now (take at tour.now.rows.now) }
     requires light { are_light ≡ true → IsLight problem.now tour.now at }
-    ensures { IfSome result (λ new. (number : ℕ) → IsNumberOf problem.now tour.now number
-        → new ≡ better best (judged problem.now (route_with tour.now at number) pickup (at + 1))) }
+    ensures { IfSome result (λ known. (number : ℕ) → IsNumberOf problem.now tour.now number
+        → best_with best.now known
+        ≡ better best.now (judged problem.now (route_with tour.now at number) pickup (at + 1))) }
 {
     let detour = Detour::of(problem, tour, at);
     let distance = distance_with(tour.distance, &detour)?;
-    if is_beaten(problem, tour, &detour, at, distance, &best) {
-        return Some(best);
+    if is_beaten(problem, tour, &detour, at, distance, best) {
+        return Some(None);
     }
     let miss = miss_with(problem, tour, front, &detour, at, are_light)?;
     let trial = Trial {
@@ -311,8 +328,7 @@ fn better_with(
         pickup: pickup as u64,
         delivery: at as u64 + 1,
     };
-    let new = better(best, trial);
-    Some(new)
+    Some(Some(trial))
 }
 
 // Whether the best so far stays the best beside what comes of the tour with its stop there, which drives so far: it misses no more than
@@ -340,10 +356,9 @@ fn is_beaten(
     if distance < best.distance {
         return false;
     }
-    match excess_of(&best.miss) {
-        0 => true,
-        1 => is_missed(problem, tour, detour, at),
-        _ => false,
+    match &best.miss {
+        None => true,
+        Some(_) => is_late_by_one(&best.miss) && is_missed(problem, tour, detour, at),
     }
 }
 
@@ -456,10 +471,10 @@ fn better(best: Option<Trial>, trial: Trial) -> Option<Trial>
     }
 }
 
-// Whether one misses less than the other, or as much on a shorter way.
+// Whether one misses less than the other, or no more on a shorter way.
 fn is_better(trial: &Trial, other: &Trial) -> bool
     ensures { result ≡ is_better trial.now other.now }
 {
-    let (excess, least) = (excess_of(&trial.miss), excess_of(&other.miss));
-    excess < least || (excess == least && trial.distance < other.distance)
+    misses_less(&trial.miss, &other.miss)
+        || (!misses_less(&other.miss, &trial.miss) && trial.distance < other.distance)
 }

@@ -1,26 +1,14 @@
 -- The route with the pickup alone, in front of a delivery at the end, is a tour whose rows and distance are known.
-use Rattle.std.proofs.Common.{◌≡◌, ◌∙◌, ◌+◌, ◌-◌, ap, map, sym, subst, arith, take, length}
-use Rattle.std.specs.List.{insert, range_with_len}
-use Rattle.plan_types.specs.declared.requests.Request.TheVariants.{Pair}
+use Rattle.std.proofs.Common.{◌≡◌, ◌∙◌, ◌+◌, ◌-◌, ap, sym, subst, arith, take, length}
+use Rattle.std.specs.List.{insert}
 use Rattle.std.proofs.lemmas.List.Edits.{length-insert}
 use Rattle.std.proofs.lemmas.List.FromFn.{length-map-range_with_len}
 use Rattle.route_sched.specs.Route.{AreLiveOnce, place}
 use Rattle.route_sched.proofs.LiveStops.{front_once}
 use Rattle.plan_explain.specs.Tables.{row_behind}
 use Rattle.plan_why.specs.Latests.{AreLatests}
-use Rattle.plan_why.specs.Trials.{best_from, trial_at}
 use Rattle.plan_why.proofs.PutLemmas.{place_put, take_last}
 use Rattle.plan_why.proofs.trials.best_delivery.Goals as goal
-
-pub returns-then-is_passed : goal.returns-then-is_passed
-returns-then-is_passed c =
-    let p = c.args.problem.now in
-    let a = c.args.pickup.now in
-    let b = c.args.delivery.now in
-    let place = c.args.place in
-    let so_far = c.args.so_far in
-    subst (λ r. so_far ≡ best_from so_far (map (trial_at p r (Pair a b)) (map (λ j. (place, j)) (range_with_len (place + 1) (length r + 2 - place))))) c.requires.base.same
-    (c.is_passed.ensures c.if-is_passed.true a b c.requires.base.number)
 
 pub picked_rows-requires-clause-once : goal.picked_rows-requires-clause-once
 picked_rows-requires-clause-once c =

@@ -1,28 +1,37 @@
 -- What is no shorter than the best, and misses as much at least, leaves the best as it is.
-use Rattle.std.proofs.Common.{◌∙◌, ◌≤◌, ◌+◌, inl, inr, sym, arith}
+use Rattle.std.proofs.Common.{◌≡◌, ◌∙◌, ◌≤◌, ◌+◌, ◌==◌, false, not, ap, sym, arith}
+use Rattle.std.proofs.lemmas.Bool.{and_parts, eqb-true, not-true}
 use Rattle.route_sched.specs.Schedule.{route_length}
+use Rattle.plan_why.specs.Missed.{excess_of, is_overload}
 use Rattle.plan_why.specs.Puts.{route_with}
 use Rattle.plan_why.specs.Trials.{judged}
-use Rattle.plan_why.proofs.LatestLemmas.{best_stays}
+use Rattle.plan_why.proofs.BestLemmas.{best_stays, by_excess}
 use Rattle.plan_why.proofs.PutLemmas.{distance_told}
 use Rattle.plan_why.proofs.trials.is_beaten.Goals as goal
 
-pub returns-in-0 : goal.returns-in-0
-returns-in-0 c = λ beaten number pickup is.
+pub returns-in-None : goal.returns-in-None
+returns-in-None c = λ beaten number pickup is.
     let p = c.args.problem.now in
     let tour = c.args.tour.now in
     let at = c.args.at in
     let best = c.in-Some.best in
+    let trial = judged p (route_with tour at number) pickup (at + 1) in
     let far = distance_told p tour at c.requires.tour c.requires.within.0 c.requires.within.1 c.args.detour.now c.requires.detour number is c.args.distance c.requires.far in
     let longer : best.distance ≤ route_length p (route_with tour at number) = omega (arith, far, c.if-distance-best.false) in
-    rw c.in-Some.is (sym (best_stays best (judged p (route_with tour at number) pickup (at + 1)) longer (inl (sym c.excess_of.ensures ∙ c.in-0.is))))
+    let light : is_overload best.miss ≡ false = ap is_overload c.in-None.is in
+    let nothing : excess_of best.miss ≡ 0 = ap excess_of c.in-None.is in
+    rw c.in-Some.is (sym (best_stays best trial (by_excess best trial light (omega (arith, nothing)) longer)))
 
-pub returns-in-1 : goal.returns-in-1
-returns-in-1 c = λ beaten number pickup is.
+pub returns-then-is_late_by_one : goal.returns-then-is_late_by_one
+returns-then-is_late_by_one c = λ beaten number pickup is.
     let p = c.args.problem.now in
     let tour = c.args.tour.now in
     let at = c.args.at in
     let best = c.in-Some.best in
+    let trial = judged p (route_with tour at number) pickup (at + 1) in
     let far = distance_told p tour at c.requires.tour c.requires.within.0 c.requires.within.1 c.args.detour.now c.requires.detour number is c.args.distance c.requires.far in
     let longer : best.distance ≤ route_length p (route_with tour at number) = omega (arith, far, c.if-distance-best.false) in
-    rw c.in-Some.is (sym (best_stays best (judged p (route_with tour at number) pickup (at + 1)) longer (inr (sym c.excess_of.ensures ∙ c.in-1.is, c.is_missed.ensures beaten number is))))
+    let one = and_parts (not (is_overload best.miss)) (excess_of best.miss == 1) (sym c.is_late_by_one.ensures ∙ c.if-is_late_by_one.true) in
+    let excess : excess_of best.miss ≡ 1 = eqb-true _ _ one.1 in
+    let more = c.is_missed.ensures beaten number is in
+    rw c.in-Some.is (sym (best_stays best trial (by_excess best trial (not-true _ one.0) (omega (arith, excess, more)) longer)))
