@@ -573,7 +573,13 @@ def check_remains(folder):
     gone = "it begins as a store, and its end is gone: take a whole copy"
     damaged = "it begins as a store, and its headers are damaged: take a whole copy"
     nothing = "nothing in it begins as a store: it is another file, was cut off as it was made, or its headers are damaged"
-    within = "it ends within a sector of 512 bytes, so it is no whole store: take a whole copy"
+    zeros = "zeros stand where a store begins: if `load` was cut off as it made it, it holds nothing yet: remove it, and load again"
+    empty = "it is empty: `planner load STORE KIND INSTANCE` makes a store in it"
+    text = "it is a text and no store: `planner load STORE KIND INSTANCE` makes one of an instance, in a new file"
+    within = (
+        "it ends within a sector of 512 bytes, so it is no whole store: `planner load STORE KIND INSTANCE` makes one of an instance, in a new file; "
+        "of a store take a whole copy"
+    )
     # A header but for its length, which is above that of the largest state.
     too_long = b"PDRSTORE" + (2).to_bytes(4, "big") + sequence(1) + (2_097_153).to_bytes(8, "big")
     for length, damages, line, hint in [
@@ -584,7 +590,17 @@ def check_remains(folder):
         (STORE_BYTES - 512, [(512, b"X")], "NotFormatted", nothing),
         (1_024, [], "NotFormatted", gone),
         (512, [], "NotFormatted", nothing),
-        (0, [], "NotFormatted", nothing),
+        (0, [], "NotFormatted", empty),
+        # As a `load` leaves it that was killed once the file had its length.
+        (STORE_BYTES, [(512, bytes(512))], "NotFormatted", zeros),
+        (1_024, [(512, bytes(512))], "NotFormatted", zeros),
+        (STORE_BYTES, [(511, b"1"), (512, bytes(512))], "NotFormatted", nothing),
+        (STORE_BYTES, [(512, bytes(28))], "NotFormatted", zeros),
+        # An instance, of which no byte is a control character, and one with such a byte at the end of its first sector.
+        (512, [(0, contents(INSTANCE)[:512])], "NotFormatted", text),
+        (1_024, [(0, contents(INSTANCE)[:1_024])], "NotFormatted", text),
+        (STORE_BYTES, [(0, ("NAME : L\u00fcbeck\t\r\n" + 512 * "1").encode()[:512] + bytes(512))], "NotFormatted", text),
+        (512, [(0, contents(INSTANCE)[:511] + b"\x1f")], "NotFormatted", nothing),
         (STORE_BYTES - 1, [], "BadLength", within),
         (511, [], "BadLength", within),
     ]:

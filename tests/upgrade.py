@@ -89,12 +89,13 @@ def check_files(folder):
     expect(0, "ok", "", "upgrade", old, new)
     holds(old, old_store())
     check_new(new)
-    expect(2, "store BadVersion", "", "run", old)
+    expect(2, "store BadVersion", f"{old}: it is of another version: `planner upgrade OLD NEW` takes a store of version 1 over into a new one", "run", old)
     # a store that is there already is replaced, also by one that was upgraded before
     expect(0, "ok", "", "upgrade", old, new)
     check_new(new)
     newer = os.path.join(folder, "newer.store")
-    expect(2, "store BadVersion", "", "upgrade", new, newer)
+    needless = f"{new}: it is not of version 1: a store of version 2 needs no upgrade, `run` opens it as it is"
+    expect(2, "store BadVersion", needless, "upgrade", new, newer)
     expect_none(newer)
     write(new, b"a note")
     expect(0, "ok", "", "upgrade", old, new)

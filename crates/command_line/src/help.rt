@@ -117,8 +117,9 @@ pub(crate) const CHECK_ANSWERS: &str =
     suspect RecordsMixed   it opens, but a record is newer than the one before: the last commands may be gone (status 2)\n  \
     store NAME             why it can't be opened, as `run` tells it (status 2, 3 or 4)\n  \
     cannot read PATH       the file can't be opened to be read (status 3)\n\n\
-    No store is suspect that this program alone has written, whenever it was stopped, but one over which a `format` or an `upgrade`\n\
-    was cut off. Of a suspect store, take a copy that is `ok`. `run` opens it all the same, and tells the first reason on standard error.";
+    A new store is not suspect, nor is what a stop within the commit of a command leaves of one that was not; a stop within a `format`\n\
+    or an `upgrade` over another store may leave a suspect one. Of such a store, take a copy that is `ok`. `run` opens it all the same,\n\
+    and tells the first reason on standard error.";
 
 pub(crate) const UPGRADE_ABOUT: &str = "Takes a store of version 1 over into a new one";
 

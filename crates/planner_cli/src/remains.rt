@@ -1,4 +1,5 @@
-//! What is told, for people, of a file that is opened as a store and holds none: what it may be, and the cure.
+//! What is told, for people, of a file that is opened as a store and holds none of the version that is written: what it may be, and
+//! the cure.
 //!
 //! It stands on standard error, of which no clause speaks.
 ghost use Rattle.std.specs.Prelude.{◌↔◌, ◌≡◌, IsTrue, take};
@@ -17,7 +18,13 @@ enum Remains {
     Front,
     /// Something begins as a header, and the file is as long as a store.
     Header,
-    /// Nothing begins as a header.
+    /// The file has no byte.
+    Empty,
+    /// Zeros stand where a store has its headers.
+    Zeros,
+    /// It begins as a text.
+    Text,
+    /// None of these.
     Nothing,
 }
 
@@ -28,6 +35,13 @@ impl Remains {
             Remains::Front => "it begins as a store, and its end is gone: take a whole copy",
             Remains::Header =>
                 "it begins as a store, and its headers are damaged: take a whole copy",
+            Remains::Empty => "it is empty: `planner load STORE KIND INSTANCE` makes a store in it",
+            Remains::Zeros => {
+                "zeros stand where a store begins: if `load` was cut off as it made it, it holds nothing yet: remove it, and load again"
+            }
+            Remains::Text => {
+                "it is a text and no store: `planner load STORE KIND INSTANCE` makes one of an instance, in a new file"
+            }
             Remains::Nothing => {
                 "nothing in it begins as a store: it is another file, was cut off as it was made, or its headers are damaged"
             }
@@ -35,46 +49,94 @@ impl Remains {
     }
 }
 
+/// What a sector may be, by its bytes.
+#[derive(Clone, Copy)]
+enum Content {
+    Header,
+    Zeros,
+    Text,
+    Other,
+}
+
 /// Tells what a file that is no device over whole sectors may be.
 pub(crate) fn tell_length<R: Eprint>(rt: &R, path: &str, fault: FileFault) {
     if let FileFault::BadLength = fault {
         let _ = eprintln!(rt;
-            "planner: {path}: it ends within a sector of 512 bytes, so it is no whole store: take a whole copy"
+            "planner: {path}: it ends within a sector of 512 bytes, so it is no whole store: `planner load STORE KIND INSTANCE` makes one of an instance, in a new file; of a store take a whole copy"
         );
     }
 }
 
-/// Tells what a device that holds no store may be the remains of.
+/// Tells what a device that holds no store, or one of another version, may be the remains of.
 pub(crate) fn tell_remains<R: Eprint, D: Sectors>(
     rt: &R,
     path: &str,
     fault: StoreFault,
     device: &mut D,
 ) {
-    if let StoreFault::NotFormatted = fault {
-        let hint = remains_on(device).hint();
-        let _ = eprintln!(rt; "planner: {path}: {hint}");
+    match fault {
+        StoreFault::NotFormatted => {
+            let hint = remains_on(device).hint();
+            let _ = eprintln!(rt; "planner: {path}: {hint}");
+        }
+        StoreFault::BadVersion => {
+            let _ = eprintln!(rt;
+                "planner: {path}: it is of another version: `planner upgrade OLD NEW` takes a store of version 1 over into a new one"
+            );
+        }
+        _ => {}
+    }
+}
+
+/// Tells of a store that is not of version 1 that it needs no upgrade.
+pub(crate) fn tell_current<R: Eprint>(rt: &R, path: &str, fault: StoreFault) {
+    if let StoreFault::BadVersion = fault {
+        let _ = eprintln!(rt;
+            "planner: {path}: it is not of version 1: a store of version 2 needs no upgrade, `run` opens it as it is"
+        );
     }
 }
 
 fn remains_on<D: Sectors>(device: &mut D) -> Remains {
-    if !has_magic_at(device, 0) && !has_magic_at(device, 1) {
-        return Remains::Nothing;
+    if device.len() == 0 {
+        return Remains::Empty;
     }
-    if device.len() < SECTORS {
-        Remains::Front
-    } else {
-        Remains::Header
+    let first = content_at(device, 0);
+    let second = content_at(device, 1);
+    match (first, second, device.len() < SECTORS) {
+        (Content::Header, _, true) | (_, Content::Header, true) => Remains::Front,
+        (Content::Header, _, false) | (_, Content::Header, false) => Remains::Header,
+        (Content::Zeros, Content::Zeros, _) => Remains::Zeros,
+        (Content::Text, _, _) => Remains::Text,
+        _ => Remains::Nothing,
     }
 }
 
-// Whether the device has this sector, and reads tell that it begins as a header.
-fn has_magic_at<D: Sectors>(device: &mut D, index: u64) -> bool {
+// What the device has in this sector, as far as it can be read.
+fn content_at<D: Sectors>(device: &mut D, index: u64) -> Content {
     let mut sector = [0; SECTOR_SIZE];
     if index < device.len() && device.read(index, &mut sector).is_ok() {
-        return has_magic(&sector);
+        return content_of(&sector);
     }
-    false
+    Content::Other
+}
+
+fn content_of(sector: &[u8; SECTOR_SIZE]) -> Content {
+    if has_magic(sector) {
+        return Content::Header;
+    }
+    if sector.iter().all(|byte| *byte == 0) {
+        return Content::Zeros;
+    }
+    if sector.iter().all(|byte| is_of_text(*byte)) {
+        return Content::Text;
+    }
+    Content::Other
+}
+
+// Whether a text may have this byte: no control character has one but tabs and ends of lines.
+fn is_of_text(byte: u8) -> bool {
+    matches!(byte, b'\t' | b'\n' | b'\r' | b' '..=0xff)
 }
 
 // Whether a sector begins as a header.

@@ -18,6 +18,7 @@ ghost use Rattle.planner_cli.specs.Running.{IsEnded, RunsSession, RunsStore, Ser
 use crate::doubted::open_doubted;
 use crate::opened::{close_store, tell_unopened};
 use crate::progress::Progress;
+use crate::remains::tell_current;
 use crate::telling::{
     tell_cause, tell_format, tell_new_refusal, tell_refusal, tell_store_fault, tell_text,
     tell_upgrade,
@@ -224,7 +225,10 @@ where
     tell_cause(rt, old, device.cause());
     match read {
         Ok(state) => make_upgraded(rt, disks, start, new, &state, output),
-        Err(fault) => tell_store_fault(output, fault),
+        Err(fault) => {
+            tell_current(rt, old, fault);
+            tell_store_fault(output, fault)
+        }
     }
 }
 
