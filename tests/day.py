@@ -456,7 +456,12 @@ NO_TABLES = [
     ("\n" + SMALL, (NO_COMMA,)),
     (b"PK\x03\x04\x14\x00\x06\x00,\n", (OTHER_FILE,)),
     (b"\xd0\xcf\x11\xe0\xa1\xb1\x1a\xe1;\n", (OTHER_FILE,)),
+    (SMALL.replace("order", "order,n\xba").encode("cp1252"), ("is not in UTF-8",)),
 ]
+# Rows in the letters of Windows, and bytes that are in no letter of UTF-8: the first such line is told, and with it the other faults.
+OTHER_LETTERS = [b"Caf\xe9", b"M\xfchle", b"\x80 5", b"\xa9", b"\xc3", b"\xc3\xc3", b"\xe2\x82", b"\xf0\x9f\x9a", b"\xc0\xaf", b"\xff"]
+# Of two, three and four bytes.
+ALL_LETTERS = "Caf\xe9 \u20ac \U0001f69a \u4e2d\uffff\u0800\x7f"
 # All faults are told at once: those of rows that are cut wrong first, then those of fields. A quote that is not closed takes 20 lines along.
 MANY_FAULTS = SMALL.replace("A,4", "A,x").replace("8:10", "8-10") + "C,1\n" + 'D,"1\n' + 22 * "E,1\n"
 MANY_TOLD = "\norders ".join(
@@ -493,6 +498,8 @@ OTHERWISE = "is otherwise by these orders and settings"
 BAD_TIMETABLES = [
     ("partial 1 1 132", "broken 7 route 1 place 1 stop 1", "NoPlan 1: broken 7 route 1 place 1 stop 1"),
     ("partial 1 1 132", "solution NoCost 2", "NoPlan 1: solution NoCost 2"),
+    ("partial 1 1 132", "store NotFormatted", "NoPlan 1: store NotFormatted"),
+    (ALONE, "Route #1: 1 2\nCost 132\n", "BadLine 1: it is of no timetable that was made with `tabs`"),
     (ALONE, "", "Truncated 1: its end is missing"),
     (ALONE.split("\n", maxsplit=1)[1], "", "Truncated 2: its end is missing"),
     (ALONE[ALONE.index("stop\t2\t3") :], "", "Truncated 5: its end is missing"),
@@ -524,6 +531,13 @@ def check_no_tables(folder, town, small):
             told = ask("instance", *words)
             if told not in [(2, "", f'{table} NoTable 1: "{path}" {it}; save it as CSV, in UTF-8\n') for it in mistakes]:
                 fail(f"{text[:9]!r} as {table}: {told}")
+    for letters in OTHER_LETTERS:
+        path = write(folder, "letters.csv", SMALL.encode().replace(b"Mill", letters).replace(b"8:10", b"8-10"))
+        told = f'NoTable 2: "{path}" is not in UTF-8; save it as CSV, in UTF-8\norders BadTime 3: delivery to: "8-10" is no time as 9:30'
+        refused(f"{letters!r}", "orders", ["instance", town, path], told)
+    letters = write(folder, "letters.csv", SMALL.replace("Mill", ALL_LETTERS))
+    expect("letters of UTF-8", ask("instance", town, letters), (0, INSTANCE, ""))
+    path = write(folder, "saved.csv", NO_TABLES[-2][0])
     with open(path, "rb") as file:
         told = f"orders NoTable 1: standard input {OTHER_FILE}; save it as CSV, in UTF-8\n"
         expect("standard input that is no table", ask("instance", town, "-", stdin=file), (2, "", told))
@@ -558,7 +572,7 @@ def check_refused(folder):
     expect("a folder", ask("instance", folder, small), (3, "", f"cannot read {folder}\n"))
     for words in [], ["instance"], ["instance", town, small, small], ["sheets", town, small], ["draw", town, small]:
         expect(f"{words}", ask(*words)[:2], (64, ""))
-    return len(bad) + 1 + len(BAD_SETTINGS) + len(BAD_TIMETABLES) + 1 + 2 * len(NO_TABLES) + 1
+    return len(bad) + 1 + len(BAD_SETTINGS) + len(BAD_TIMETABLES) + 1 + 2 * len(NO_TABLES) + 1 + len(OTHER_LETTERS)
 
 
 def check_most(folder):

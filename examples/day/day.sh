@@ -98,7 +98,7 @@ function quoted(text) {
 
 # Reads a table, and returns how many rows it has: without the header, and without those of empty fields. cell[table, row, column] is a
 # field, line_of[table, row] the line on which the row begins, end_of[table] the line behind the last one.
-function read_table(table, path, columns,    name, line, first, rows, mistake) {
+function read_table(table, path, columns,    name, line, first, rows, mistake, is_refused) {
     name = path == "-" ? "standard input" : quoted(path)
     path = source(path)
     line = next_record(path, 0)
@@ -112,9 +112,14 @@ function read_table(table, path, columns,    name, line, first, rows, mistake) {
     if (faults)
         return 0
     rows = 0
-    for (first = line + 1; (line = next_record(path, line)) > 0; first = line + 1)
+    for (first = line + 1; (line = next_record(path, line)) > 0; first = line + 1) {
+        if (!is_refused && !is_utf_8(record)) {
+            refuse(table, "NoTable", first, name " is not in UTF-8; save it as CSV, in UTF-8")
+            is_refused = 1
+        }
         if (record !~ /^[,; \t]*$/)
             rows += read_row(table, rows + 1, first)
+    }
     end_of[table] = first
     return rows
 }
@@ -126,9 +131,17 @@ function mistaken(text) {
         return "is a file of a spreadsheet program"
     if (text ~ /^(\377\376|\376\377)/ || text ~ /[^\001-\377]/)
         return "is in UTF-16"
+    if (!is_utf_8(text))
+        return "is not in UTF-8"
     if (text !~ /[,;]/)
         return "has neither a comma nor a semicolon in its first line, the header"
     return ""
+}
+
+# Whether each letter is one of UTF-8, by its first byte and how many follow. The names of places are printed as they are.
+function is_utf_8(text) {
+    gsub(/[\302-\337][\200-\277]|[\340-\357][\200-\277][\200-\277]|[\360-\364][\200-\277][\200-\277][\200-\277]/, "", text)
+    return text !~ /[\200-\377]/
 }
 
 # The next line into `record`, with those over which its quotes stay open. Returns the number of the last line that was read, 0 at the end.
@@ -426,13 +439,15 @@ function with_orders(text,    named) {
     return named text
 }
 
-# The first line says how many vehicles the plan uses.
+# The first line says how many vehicles the plan uses, or why there is no timetable.
 function read_verdict(text,    part) {
     if (text ~ /^(pass|partial) [0-9]+ [0-9]+ [0-9]+$/) {
         split(text, part, " ")
         vans_told = part[3]
-    } else
+    } else if (text ~ /^(broken|instance|solution|store|no|cannot read|out of memory)( |$)/)
         refuse("timetable", "NoPlan", 1, text)
+    else
+        refuse("timetable", "BadLine", 1, "it is of no timetable that was made with `tabs`")
 }
 
 function begin_van(line, number) {
