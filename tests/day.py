@@ -428,7 +428,7 @@ BAD_ROWS = [
 ]
 BAD_ORDERS = [
     ("", "Missing 1: there is no header"),
-    ("a,b\n", "\norders ".join(f'NoColumn 1: no column is "{it}"' for it in COLUMNS.split(","))),
+    ("a,boxes\n", "\norders ".join(f'NoColumn 1: no column is "{it}"' for it in COLUMNS.split(",") if it != "boxes")),
     (COLUMNS + "\n", "Missing 2: there is no order"),
     (SMALL.replace("delivery to", "until"), 'NoColumn 1: no column is "delivery to"'),
     (SMALL.replace("delivery minutes", "delivery minutes,Boxes"), 'Repeated 1: two columns are "Boxes"'),
@@ -531,6 +531,11 @@ def check_no_tables(folder, town, small):
             told = ask("instance", *words)
             if told not in [(2, "", f'{table} NoTable 1: "{path}" {it}; save it as CSV, in UTF-8\n') for it in mistakes]:
                 fail(f"{text[:9]!r} as {table}: {told}")
+    # A title, and one table for the other.
+    none = "has none of the columns in its first line, the header"
+    titled = write(folder, "titled.csv", f"Orders of Monday,,\n{SMALL}")
+    refused("a title", "orders", ["instance", town, titled], f'NoTable 1: "{titled}" {none}')
+    refused("orders as settings", "settings", ["instance", small, town], f'NoTable 1: "{small}" {none}')
     for letters in OTHER_LETTERS:
         path = write(folder, "letters.csv", SMALL.encode().replace(b"Mill", letters).replace(b"8:10", b"8-10"))
         told = f'NoTable 2: "{path}" is not in UTF-8; save it as CSV, in UTF-8\norders BadTime 3: delivery to: "8-10" is no time as 9:30'
@@ -572,7 +577,7 @@ def check_refused(folder):
     expect("a folder", ask("instance", folder, small), (3, "", f"cannot read {folder}\n"))
     for words in [], ["instance"], ["instance", town, small, small], ["sheets", town, small], ["draw", town, small]:
         expect(f"{words}", ask(*words)[:2], (64, ""))
-    return len(bad) + 1 + len(BAD_SETTINGS) + len(BAD_TIMETABLES) + 1 + 2 * len(NO_TABLES) + 1 + len(OTHER_LETTERS)
+    return len(bad) + 1 + len(BAD_SETTINGS) + len(BAD_TIMETABLES) + 1 + 2 * len(NO_TABLES) + 3 + len(OTHER_LETTERS)
 
 
 def check_most(folder):

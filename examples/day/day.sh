@@ -108,7 +108,7 @@ function read_table(table, path, columns,    name, line, first, rows, mistake, i
     else if (mistake != "")
         refuse(table, "NoTable", 1, name " " mistake "; save it as CSV, in UTF-8")
     else
-        read_header(table, columns)
+        read_header(table, name, columns)
     if (faults)
         return 0
     rows = 0
@@ -183,8 +183,8 @@ function quotes(text) {
     return gsub(/"/, "", text)
 }
 
-# Which column stands where. Those between bars have to be there.
-function read_header(table, columns,    i, count, wanted, column) {
+# Which column stands where. Those between bars have to be there; where none is, one fault says so.
+function read_header(table, name, columns,    i, count, wanted, column, found) {
     sub(/^\357\273\277/, "", record)        # a byte order mark
     separator[table] = record ~ /;/ ? ";" : ","
     count = width_of[table] = cut(record, separator[table])
@@ -197,7 +197,11 @@ function read_header(table, columns,    i, count, wanted, column) {
         has_column[table, tolower(field[i])]
     }
     wanted = split(columns, column, "|")
-    for (i = 1; i <= wanted && count > 0; i += 1)
+    for (i = 1; i <= wanted; i += 1)
+        found += ((table, column[i]) in has_column)
+    if (count > 0 && !found)
+        refuse(table, "NoTable", 1, name " has none of the columns in its first line, the header")
+    for (i = 1; i <= wanted && found; i += 1)
         if (!((table, column[i]) in has_column))
             refuse(table, "NoColumn", 1, "no column is " quoted(column[i]))
 }
