@@ -379,6 +379,8 @@ stop\t2\t3\t0\treturn\t-\t29324\t29379\t29379\t0\t0\t28800\t32400\t32400\t0\t-
 unplanned\t3
 why\t3\talone: stop 4 would start at 29861, latest 29400
 why\t3\tvehicle 2: behind stop 1 it would carry 4 too much
+why\t3\tvehicle 2: stop 4 would start 461 late
+why\t3\tvehicle 2: would be back 1 late
 """
 ALONE_SHEETS = """\
 Van 2: leaves 8:04, back 8:09, 2 stops, 1 km, up to 4 of 5 boxes
@@ -388,13 +390,15 @@ arrive  begin  leave  window       order  task       phone  place
   8:05   8:05   8:06  8:05-8:30    A      pick up 4  1      Mill
   8:06   8:06   8:08  8:00-9:00    A      deliver 4  2      Shop
   8:09                                                      Yard
-\fIn no van. Below each order stands why, with times in seconds since midnight.
+\fIn no van. Below each order stands why.
 
 order B, 5 boxes, stops 3 and 4
   pick up 8:00-9:00  1  Mill
   deliver 8:00-8:10  3  Farm
-    alone: stop 4 (order B) would start at 29861, latest 29400
-    vehicle 2: behind stop 1 (order A) it would carry 4 too much
+    alone: stop 4 (order B) would start at 8:18, latest 8:10
+    vehicle 2: behind stop 1 (order A) it would carry 4 boxes too many
+    vehicle 2: stop 4 (order B) would start 8 minutes late
+    vehicle 2: would be back 1 minute late
 """
 # The same with a name that has a tab and goes over two lines, and one whose letters have more bytes.
 LONG_NAMES = SMALL.replace("Shop", '"The  Shop,\tMain\r\nStreet"').replace("A,", "Ä1,", 1)

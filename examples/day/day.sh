@@ -425,7 +425,7 @@ function read_timetable(path,    line, part) {
         else if (part[1] == "stop")
             read_place(line, part)
         else if (part[1] == "why")
-            reason[part[2]] = reason[part[2]] "    " with_orders(part[3]) "\n"
+            reason[part[2]] = reason[part[2]] "    " with_orders(with_units(part[3])) "\n"
         else if (part[1] != "unplanned")
             refuse("timetable", "BadLine", line, "it is of no timetable that was made with `tabs`")
     }
@@ -441,6 +441,25 @@ function with_orders(text,    named) {
         text = substr(text, RSTART + RLENGTH)
     }
     return named text
+}
+
+# A line of `why` with times of the day, and with what its other figures count. A time that is too late is rounded up, since its limit
+# may be in the same minute.
+function with_units(text,    part) {
+    if (match(text, / at [0-9]+, latest [0-9]+$/)) {
+        split(substr(text, RSTART), part, /[ ,]+/)
+        return substr(text, 1, RSTART) "at " told(60 * minutes(part[3])) ", latest " told(part[5])
+    }
+    if (match(text, / [0-9]+ late$/))
+        return substr(text, 1, RSTART) counted(minutes(substr(text, RSTART + 1) + 0), "minute", "minutes") " late"
+    if (match(text, / [0-9]+ too much$/))
+        return substr(text, 1, RSTART) counted(substr(text, RSTART + 1) + 0, "box", "boxes") " too many"
+    return text
+}
+
+# Whole minutes, the last one begun.
+function minutes(seconds) {
+    return int((seconds + 59) / 60)
 }
 
 # The first line says how many vehicles the plan uses, or why there is no timetable.
@@ -577,7 +596,7 @@ function print_rest(    row, count) {
             continue
         count += 1
         if (count == 1)
-            printf "%sIn no van. Below each order stands why, with times in seconds since midnight.\n", used ? "\f" : ""
+            printf "%sIn no van. Below each order stands why.\n", used ? "\f" : ""
         printf "\norder %s, %s, stops %d and %d\n", order[row], counted(boxes[row], "box", "boxes"), 2 * row - 1, 2 * row
         printf "  pick up %s  %s  %s\n", window(2 * row - 1), phone[2 * row - 1], place[2 * row - 1]
         printf "  deliver %s  %s  %s\n", window(2 * row), phone[2 * row], place[2 * row]
