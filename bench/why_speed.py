@@ -7,22 +7,23 @@ and `loose`. At `open`, `full` and `back` their windows too are the whole day, a
 that nearly all fits, or with the longest route's, so that nothing fits into that. At `full` a few stops at its end may be late too; at `back` all
 windows end long after the day, so that each trial there is late by the return alone, and by more than 1.
 
-The time is that of a table with them, less that of one without, by the program that `./planner` builds.
+The time is the processor's for a table with them, less that for one without, by the program that `./planner` builds.
 
     bench/why_speed.py [STOPS ROUTES]..
 """
 
 import math
 import pathlib
+import resource
 import subprocess
 import sys
 import tempfile
-import time
 
 TOP = pathlib.Path(__file__).resolve().parent.parent
 PROGRAM = TOP / "crates" / "planner" / "out" / "planner"
 SIZES = [(1_000, 50), (1_000, 10), (1_000, 1)]
 PAIRS, SIDE, SERVICE = 100, 1_000, 10
+RUNS, LONG = 3, 5
 # Of each kind: what a vehicle carries, how long the day is behind the last return, and how long service may start behind the day.
 KINDS = {"tight": (40, 200, 0), "loose": (40, 200, 0), "open": (1_000, 100_000, 0), "full": (1_000, 0, 0), "back": (1_000, 0, 100_000)}
 
@@ -85,13 +86,20 @@ def problem(kind, stops, routes, pairs):
 
 
 def seconds(folder, texts):
-    """How long the table takes, and how many lines it has."""
+    """What the table takes of the processor, at least in three runs where they are short, and how many lines it has."""
     paths = [folder / "instance", folder / "plan"]
     for path, text in zip(paths, texts):
         path.write_text(text)
-    began = time.monotonic()
-    got = subprocess.run([PROGRAM, "timetable", "lilim", *paths], check=False, capture_output=True, text=True)
-    return time.monotonic() - began, got.stdout.count("\n")
+    least = None
+    for _ in range(RUNS):
+        before = resource.getrusage(resource.RUSAGE_CHILDREN)
+        got = subprocess.run([PROGRAM, "timetable", "lilim", *paths], check=False, capture_output=True, text=True)
+        after = resource.getrusage(resource.RUSAGE_CHILDREN)
+        took = after.ru_utime + after.ru_stime - before.ru_utime - before.ru_stime
+        least = took if least is None else min(least, took)
+        if took > LONG:
+            break
+    return least, got.stdout.count("\n")
 
 
 def main(words):
