@@ -240,7 +240,7 @@ def check_load(folder):
         got = subprocess.run([PROGRAM, "load", store, "lilim", INSTANCE], capture_output=True)
         if got.returncode == 0 or contents(store) != begun:
             fail(f"load over a file of {len(begun)} bytes: status {got.returncode}, {got.stdout!r}")
-    # As a load leaves it that was stopped: README's cure is to remove it.
+    # As a load leaves it that was stopped: README's cure is to move it aside.
     for begun in (bytes(4096), bytes(len(empty))):
         with open(store, "wb") as file:
             file.write(begun)
@@ -573,7 +573,7 @@ def check_remains(folder):
     gone = "it begins as a store, and its end is gone: take a whole copy"
     damaged = "it begins as a store, and its headers are damaged: take a whole copy"
     nothing = "nothing in it begins as a store: it is another file, was cut off as it was made, or its headers are damaged"
-    zeros = "zeros stand where a store begins: if `load` was cut off as it made it, it holds nothing yet: remove it, and load again"
+    zeros = "zeros stand where a store begins: if `load` was cut off as it made it, nothing is lost: move it aside, and load again; else take a whole copy"
     empty = "it is empty: `planner load STORE KIND INSTANCE` makes a store in it"
     text = "it is a text and no store: `planner load STORE KIND INSTANCE` makes one of an instance, in a new file"
     within = (

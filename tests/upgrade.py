@@ -149,9 +149,14 @@ def check_refusals(folder):
         fail("the new store was made where there is no old one")
     expect(3, "cannot read /dev/null", "/dev/null: it is no plain file", "upgrade", "/dev/null", new)
     write(old, old_store()[: 801 * SECTOR])
-    expect(2, "store NotFormatted", "", "upgrade", old, new)
+    none = "no store of version 1 is in it: it is another file, its end is gone, or its headers are damaged: take a whole copy"
+    expect(2, "store NotFormatted", f"{old}: {none}", "upgrade", old, new)
     write(old, old_store()[:-1])
-    expect(2, "store BadLength", "", "upgrade", old, new)
+    within = (
+        "it ends within a sector of 512 bytes, so it is no whole store: `planner load STORE KIND INSTANCE` makes one of an instance, in a new file; "
+        "of a store take a whole copy"
+    )
+    expect(2, "store BadLength", f"{old}: {within}", "upgrade", old, new)
     write(old, old_store())
     nowhere = os.path.join(folder, "no", "new.store")
     expect(3, f"cannot read {nowhere}", f"{nowhere}: {NO_FILE}", "upgrade", old, nowhere)

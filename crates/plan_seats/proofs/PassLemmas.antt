@@ -1,5 +1,6 @@
 -- A solution that passes as it is printed passes as a plan, at the same cost, once its routes have vehicles.
-use Rattle.std.proofs.Common.{◌≡◌, ℕ, suc, ◌+◌, ◌≤◌, ◌&&◌, ◌||◌, Bool, true, false, cond, not, eqb, nat_eq, List, [], ◌∷◌, length, Option, Some, None, is_some, refl, sym, ap, subst, ◌∙◌, inl, inr, arith}
+use Rattle.std.proofs.Common.{◌≡◌, ℕ, suc, ◌+◌, ◌≤◌, ◌&&◌, ◌||◌, Bool, true, false, cond, not, eqb, nat_eq, List, [], ◌∷◌, length, Option, Some, None, is_some}
+use Rattle.std.proofs.Common.{refl, sym, ap, subst, ◌∙◌, inl, inr, arith}
 use Rattle.std.specs.List.{AllByRecursion, IsDistinct, concat, count_by, list_all, list_any, sum_by}
 use Rattle.std.proofs.lemmas.Bool.{and_from, and_parts, eq-eqb, ne_eqb}
 use Rattle.std.proofs.lemmas.Bool.Decides.{eqb_tells}

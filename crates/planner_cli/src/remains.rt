@@ -37,7 +37,7 @@ impl Remains {
                 "it begins as a store, and its headers are damaged: take a whole copy",
             Remains::Empty => "it is empty: `planner load STORE KIND INSTANCE` makes a store in it",
             Remains::Zeros => {
-                "zeros stand where a store begins: if `load` was cut off as it made it, it holds nothing yet: remove it, and load again"
+                "zeros stand where a store begins: if `load` was cut off as it made it, nothing is lost: move it aside, and load again; else take a whole copy"
             }
             Remains::Text => {
                 "it is a text and no store: `planner load STORE KIND INSTANCE` makes one of an instance, in a new file"
@@ -88,12 +88,20 @@ pub(crate) fn tell_remains<R: Eprint, D: Sectors>(
     }
 }
 
-/// Tells of a store that is not of version 1 that it needs no upgrade.
-pub(crate) fn tell_current<R: Eprint>(rt: &R, path: &str, fault: StoreFault) {
-    if let StoreFault::BadVersion = fault {
-        let _ = eprintln!(rt;
-            "planner: {path}: it is not of version 1: a store of version 2 needs no upgrade, `run` opens it as it is"
-        );
+/// Tells of a file in which no store of version 1 is what it may be, and the cure.
+pub(crate) fn tell_not_old<R: Eprint>(rt: &R, path: &str, fault: StoreFault) {
+    match fault {
+        StoreFault::NotFormatted => {
+            let _ = eprintln!(rt;
+                "planner: {path}: no store of version 1 is in it: it is another file, its end is gone, or its headers are damaged: take a whole copy"
+            );
+        }
+        StoreFault::BadVersion => {
+            let _ = eprintln!(rt;
+                "planner: {path}: it is not of version 1: a store of version 2 needs no upgrade, `run` opens it as it is"
+            );
+        }
+        _ => {}
     }
 }
 

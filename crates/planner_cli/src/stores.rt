@@ -18,7 +18,7 @@ ghost use Rattle.planner_cli.specs.Running.{IsEnded, RunsSession, RunsStore, Ser
 use crate::doubted::open_doubted;
 use crate::opened::{close_store, tell_unopened};
 use crate::progress::Progress;
-use crate::remains::tell_current;
+use crate::remains::{tell_length, tell_not_old};
 use crate::telling::{
     tell_cause, tell_format, tell_new_refusal, tell_refusal, tell_store_fault, tell_text,
     tell_upgrade,
@@ -199,7 +199,10 @@ where
 {
     match disks.take(old, start) {
         Ok(device) => upgrade_onto(rt, disks, device, start_of_new, old, new, output),
-        Err(refusal) => tell_refusal(rt, output, old, refusal),
+        Err(refusal) => {
+            tell_length(rt, old, refusal.fault);
+            tell_refusal(rt, output, old, refusal)
+        }
     }
 }
 
@@ -226,7 +229,7 @@ where
     match read {
         Ok(state) => make_upgraded(rt, disks, start, new, &state, output),
         Err(fault) => {
-            tell_current(rt, old, fault);
+            tell_not_old(rt, old, fault);
             tell_store_fault(output, fault)
         }
     }
