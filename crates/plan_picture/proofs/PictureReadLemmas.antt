@@ -97,7 +97,9 @@ sheet_goes : Goes (unquoted (codes "svg") []) sheet_text (inside picture_names)
 unfolding sheet_text style
 sheet_goes =
     let a = unquoted (codes "svg") [] in
-    goes_on a (style styles.LineStyle ++ style styles.TextStyle) (style styles.BarStyle) (goes_on a (style styles.LineStyle) (style styles.TextStyle) refl refl) refl
+    goes_on a (style styles.PairStyle ++ style styles.LineStyle ++ style styles.TextStyle) (style styles.BarStyle)
+    (goes_on a (style styles.PairStyle ++ style styles.LineStyle) (style styles.TextStyle)
+    (goes_on a (style styles.PairStyle) (style styles.LineStyle) refl refl) refl) refl
 
 shapes_go : Goes (inside picture_names) shapes_text (inside picture_names)
 unfolding shapes_text style

@@ -145,7 +145,7 @@ key_text LiLim = pair_key
 key_text Vrp = stop_key
 
 unfoldable pub sheet_text : List ℕ
-sheet_text = style styles.LineStyle ++ style styles.TextStyle ++ style styles.BarStyle
+sheet_text = style styles.PairStyle ++ style styles.LineStyle ++ style styles.TextStyle ++ style styles.BarStyle
 
 unfoldable pub shapes_text : List ℕ
 shapes_text = style styles.ArrowShape ++ style styles.DepotShape ++ style styles.PairShapes ++ (style styles.RingShapes ++ style styles.Paper)

@@ -5,8 +5,9 @@ use Rattle.plan_picture.specs.declared.styles.Style.TheVariants as styles
 
 unfoldable pub style : Style → List ℕ
 style styles.Letters = codes " font-family='sans-serif' font-size='14'"
+style styles.PairStyle = codes ">\n<style>.pairs{fill:none;stroke:#777;stroke-width:.5em;stroke-dasharray:2em 2em}"
 style styles.LineStyle = codes
-    ">\n<style>.pairs{fill:none;stroke:#777;stroke-width:.5em;stroke-dasharray:2em 2em}.legs{fill:none;stroke-width:1em;stroke-linejoin:round;marker-mid:url(#arrow)}.depot{stroke-width:.7em;stroke-opacity:.25}g.broken{stroke-width:1.5em;stroke-dasharray:5em 2em}"
+    ".legs{fill:none;stroke-width:1em;stroke-linejoin:round;marker-mid:url(#arrow)}.depot{stroke-width:.7em;stroke-opacity:.25}g.broken{stroke-width:1.5em;stroke-dasharray:5em 2em}"
 style styles.TextStyle = codes
     ".badge{font-size:5em;font-weight:bold;fill:white}.number{font-size:4em;stroke:white;stroke-width:.3em;paint-order:stroke}.bad,text.broken{fill:#d00}.heading,.time{fill:#666}.at{font-weight:bold}"
 style styles.BarStyle = codes ".drive{fill:#8bd}.wait{fill:#fc6}.serve{fill:#063}.window{fill:#999}.late{fill:#e00}</style>\n"

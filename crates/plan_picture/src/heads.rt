@@ -49,6 +49,7 @@ impl Svg {
     fn put_sheet(&mut self)
         ensures { self.new ≡ self.old ++ sheet_text }
     {
+        self.put_style(Style::PairStyle);
         self.put_style(Style::LineStyle);
         self.put_style(Style::TextStyle);
         self.put_style(Style::BarStyle);

@@ -6,6 +6,7 @@ ghost use Rattle.plan_picture.specs.Styles.{style};
 #[derive(Clone, Copy)]
 pub(crate) enum Style {
     Letters,
+    PairStyle,
     LineStyle,
     TextStyle,
     BarStyle,
@@ -28,8 +29,10 @@ impl Style {
     {
         match self {
             Style::Letters => " font-family='sans-serif' font-size='14'",
+            Style::PairStyle =>
+                ">\n<style>.pairs{fill:none;stroke:#777;stroke-width:.5em;stroke-dasharray:2em 2em}",
             Style::LineStyle =>
-                ">\n<style>.pairs{fill:none;stroke:#777;stroke-width:.5em;stroke-dasharray:2em 2em}.legs{fill:none;stroke-width:1em;stroke-linejoin:round;marker-mid:url(#arrow)}.depot{stroke-width:.7em;stroke-opacity:.25}g.broken{stroke-width:1.5em;stroke-dasharray:5em 2em}",
+                ".legs{fill:none;stroke-width:1em;stroke-linejoin:round;marker-mid:url(#arrow)}.depot{stroke-width:.7em;stroke-opacity:.25}g.broken{stroke-width:1.5em;stroke-dasharray:5em 2em}",
             Style::TextStyle =>
                 ".badge{font-size:5em;font-weight:bold;fill:white}.number{font-size:4em;stroke:white;stroke-width:.3em;paint-order:stroke}.bad,text.broken{fill:#d00}.heading,.time{fill:#666}.at{font-weight:bold}",
             Style::BarStyle =>
