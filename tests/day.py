@@ -276,7 +276,7 @@ def check_further(folder, store):
     """By README's commands this order becomes the last row of the table and a line for the store: it is on the sheets, with all that were there."""
     orders = write(folder, "orders.csv", f"{read(ORDERS)}{FURTHER}\r\n")
     block = re.search(r"^```sh\n(examples/day/day.sh [^`]* > order.line\n[^`]*)^```$", read(README), flags=re.MULTILINE)
-    words = block[1].replace("day.store", store).replace("anneal 20000", "anneal 500")
+    words = block[1].replace("town.store", store).replace("anneal 20000", "anneal 500")
     told = subprocess.run(["sh", "-e", "-c", f"{words}./planner timetable {store} tabs > day.tabs"], cwd=folder, capture_output=True, check=False)
     if (told.returncode, told.stdout.split()[-1:]) != (0, [b"ok"]):
         fail(f"a further order: status {told.returncode}, {told.stdout!r}, {told.stderr!r}")

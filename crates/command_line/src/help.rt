@@ -207,7 +207,7 @@ pub(crate) const SOLVE_ANSWERS: &str =
     "It builds a plan, looks for a better one, and prints the text of the solution (status 0).\n\
     A plan that leaves requests out is printed without a cost line (status 1).\n\
     On standard error it prints:\n  \
-    at STEPS UNPLANNED VEHICLES DISTANCE    how far it is, at the start and about each twentieth of the steps\n  \
+    at STEPS UNPLANNED VEHICLES DISTANCE    how far it is, at the start and about each twentieth of the steps; up to 524,288 tries are one go\n  \
     unplanned N: R1 R2 ..                   how many requests are in no route, and which (status 1)\n  \
     why R: WORDS                            of each of them what `why R` of `run` tells\n  \
     instance NAME LINE                      the first fault of the instance's text (status 2)\n  \

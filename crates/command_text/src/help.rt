@@ -22,7 +22,7 @@ pub const HELP: &str = "Each line asks for one thing:\n  \
     timetable, timetable V     when each vehicle, or vehicle V, is where\n  \
     why R                      where and when the request with stop R is served, or why it is in no route\n  \
     next                       tells `next N`: the next request gets the number N, of a pair its pickup\n  \
-    checkpoint                 writes the whole state anew, so that the next run has no steps to repeat\n  \
+    checkpoint                 writes the whole state anew, so that the next run repeats no step made by now\n  \
     help                       these lines\n\n\
     Each answer ends with one of these lines:\n  \
     ok                         it is done, and stays so, whenever the program or the machine stops\n  \
