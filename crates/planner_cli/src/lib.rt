@@ -15,6 +15,7 @@
 //! - `remains`: what a file that holds no store may be, on standard error
 //! - `opened`: the opening of a store, and why there is none, for the words that open one
 //! - `doubted`: the same for `run`, which tells the first reason to doubt a store
+//! - `looked`: the looking into a store, for the words that only read one
 //! - `drawn`, `timetabled`: the words `draw` and `timetable`
 //! - `solved`, `solved_list`: the words `solve` and `solves`
 //! - `laws`: what stops leave of the word `run`, where a strict one ends, and what stands behind an `ok` of other words
@@ -28,13 +29,14 @@
 //!
 //! Said by `specs/Program.antt`, and word by word by `Adopting.antt`, `Checked.antt`, `Doubted.antt`, `Drawn.antt`, `Solving.antt`, `SolvedList.antt`, `Formatting.antt`, `Foretold.antt`,
 //! `Loading.antt`, `Running.antt`, `Timetabled.antt`, `Upgrading.antt` and `Written.antt`, which statuses by `Statuses.antt`, the opening of a store in a
-//! file by `Opened.antt`, what is durable behind `ok` by `Acknowledged.antt`; of the words of an audit by the files of `auditor_cli`. Proved:
+//! file by `Opened.antt`, to be read by `Looked.antt`, what is durable behind `ok` by `Acknowledged.antt`, what a stop of `run` leaves by
+//! `Recovering.antt`, how a strict one ends by `Strictly.antt`, lines by `Telling.antt`; of the words of an audit by the files of `auditor_cli`. Proved:
 //! - `run_words`, of words without hyphen that ask for something (`EndsWith`): which files were read, and in which order, of a
 //!   list the list first (`AreReadFor`); that none but `solves` makes a file beside a store (`AreMadeFor`); which stores were opened
 //!   where they stand and which were made, by their paths (`AreAskedFor`, and what `load`, `adopt` and `upgrade` do); what was written to
 //!   the output and to the errors, and the status that goes with it, from what these files gave (`Does`), but for an answer that
 //!   could not be printed; that the input is read by `run` alone. Of words that ask for nothing (`TellsUsage`): no file is read
-//!   or made, help goes to the output alone, a mistake to the errors alone
+//!   or made, help leaves the errors as they were, a mistake the output
 //! - `draw_read` (`TellsDrawn`), `solve_read` (`TellsTask`): the picture; the text of a solution, or why there is none, behind the
 //!   line of a limit that is not asked, if the instance names one
 //! - `solves_read` (`SolvesList`): of each line what was written where, which is what `solve` prints, or why nothing was; the
