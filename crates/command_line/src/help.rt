@@ -27,7 +27,8 @@ pub(crate) const AUDIT_ANSWERS: &str = "It prints one line:\n  \
     solution NAME LINE                  the first fault of the solution's text (status 2)\n  \
     cannot read PATH                    the file can't be read (status 3)\n  \
     out of memory                       (status 4)\n\n\
-    What stands behind the cost line is not read; standard error names its first line that is not blank.\n\n\
+    What stands behind the cost line is not read; standard error names its first line that is not blank, as it does\n\
+    the first line of a `.vrp` text that names a limit which no rule asks.\n\n\
     With `routes` as the last word the routes alone are judged, by rules 1 to 9, and DISTANCE is what they drive: the\n\
     solution needs no cost line, and the number of one that it has is not read.\n\n\
     Routes, places and lines count from 1. The rules:\n  \
