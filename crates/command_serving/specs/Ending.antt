@@ -41,7 +41,7 @@ pub record EndsAtAnAnswer {D : Type 0} (reading : Reading) (old : SessionValue D
   pub split : pieces ≡ front ++ (begun ++ behind)
   pub one : length begun ≤ 1
   pub says : (later : List Fate) → served reading (as_serving old (fates_of acts ++ later)) pieces
-    ≡ preceded (told.before ++ told.answer) (carried_of acts) (still reading steps behind (as_serving new later))
+      ≡ preceded (told.before ++ told.answer) (carried_of acts) (still reading steps behind (as_serving new later))
 
 module _ {D : Type 0} (on : sectors.Ghosts D) where
   -- law: where the last whole line that a strict serving put lets none follow, it ends at the answer that has this line
