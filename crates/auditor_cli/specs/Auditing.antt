@@ -1,6 +1,6 @@
 -- What the words that ask for an audit do: which files they read, what they write to the output and to the errors, and which status they end
 -- with.
-use Rattle.std.specs.Prelude.{◌≡◌, ◌⊎◌, ℕ, false, List, Option, codes}
+use Rattle.std.specs.Prelude.{◌≡◌, ◌⊎◌, ℕ, true, List, Option, codes}
 use Rattle.std.specs.Io.KnownBytes.{Appends}
 use Rattle.clap.specs.Words.{Text}
 use Rattle.command_line.specs.Asked.{Asked, IsUsageStatus, asks_help, audit, audits, built_in, explain}
@@ -55,10 +55,11 @@ pub record Works (asked : Asked) (old new : Seen) (status : ℕ) : Type 0 where
 abbrev pub EndsWith : Asked → Seen → Seen → ℕ → Type 0
 EndsWith asked old new status = Works asked old new status ⊎ ((status ≡ 4) × (new ≡ old))
 
--- The words ask for nothing. No file is read, help goes to the output alone, and what is wrong with the words to the errors alone.
+-- The words ask for nothing. No file is read; help leaves the errors as they were, and what is wrong with the words the output. The status is
+-- that of a mistake, but 0 where help was asked for.
 pub record TellsUsage (asked : List Text) (old new : Seen) (status : ℕ) : Type 0 where
   pub files : new.files ≡ old.files
   pub help : status ≡ 0 → new.errors ≡ old.errors
   pub mistake : status ≡ 64 → new.output ≡ old.output
   pub memory : status ≡ 4 → new ≡ old
-  pub statuses : asks_help asked ≡ false → IsUsageStatus status
+  pub statuses : ((status ≡ 0) × (asks_help asked ≡ true)) ⊎ IsUsageStatus status

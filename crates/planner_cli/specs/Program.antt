@@ -1,6 +1,6 @@
 -- What the program does with its words: which files it reads and makes, what it writes to the output and to the errors, and which status it
 -- ends with.
-use Rattle.std.specs.Prelude.{◌≡◌, ◌⊎◌, ℕ, Bool, false, List, ◌∷◌, Option, Result, IfOk, MatchResult}
+use Rattle.std.specs.Prelude.{◌≡◌, ◌⊎◌, ℕ, Bool, true, List, ◌∷◌, Option, Result, IfOk, MatchResult}
 use Rattle.std.specs.declared.io.Error.{Error}
 use Rattle.clap.specs.Words.{Text}
 use Rattle.command_line.specs.Asked.{Asked, IsUsageStatus, adopt, asks_help, audit, audits, built_in, check}
@@ -187,7 +187,8 @@ module _ {D N : Type 0} (on_old : sectors.Ghosts D) (on_new : sectors.Ghosts N) 
   abbrev pub EndsWith : Asked → World → World → ℕ → Type 0
   EndsWith asked old new status = Works asked old new status ⊎ ((status ≡ 4) × (new ≡ old))
 
--- The words ask for nothing. Help goes to the output alone, and what is wrong with the words to the errors alone.
+-- The words ask for nothing. Help leaves the errors as they were, and what is wrong with the words the output. The status is that of a
+-- mistake, but 0 where help was asked for.
 pub record TellsUsage (asked : List Text) (old new : World) (status : ℕ) : Type 0 where
   pub files : new.files ≡ old.files
   pub new_files : new.new_files ≡ old.new_files
@@ -197,4 +198,4 @@ pub record TellsUsage (asked : List Text) (old new : World) (status : ℕ) : Typ
   pub help : status ≡ 0 → new.errors ≡ old.errors
   pub mistake : status ≡ 64 → new.output ≡ old.output
   pub memory : status ≡ 4 → new ≡ old
-  pub statuses : asks_help asked ≡ false → IsUsageStatus status
+  pub statuses : ((status ≡ 0) × (asks_help asked ≡ true)) ⊎ IsUsageStatus status

@@ -36,7 +36,7 @@
 //!   where they stand and which were made, by their paths (`AreAskedFor`, and what `load`, `adopt` and `upgrade` do); what was written to
 //!   the output and to the errors, and the status that goes with it, from what these files gave (`Does`), but for an answer that
 //!   could not be printed; that the input is read by `run` alone. Of words that ask for nothing (`TellsUsage`): no file is read
-//!   or made, help leaves the errors as they were, a mistake the output
+//!   or made, help leaves the errors as they were, a mistake the output, and 0 is the status of help alone
 //! - `draw_read` (`TellsDrawn`), `solve_read` (`TellsTask`): the picture; the text of a solution, or why there is none, behind the
 //!   line of a limit that is not asked, if the instance names one
 //! - `solves_read` (`SolvesList`): of each line what was written where, which is what `solve` prints, or why nothing was; the

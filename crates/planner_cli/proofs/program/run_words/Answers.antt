@@ -2,7 +2,7 @@
 use Rattle.std.proofs.Common.{◌≡◌, inl, inr, refl, sym, subst}
 use Rattle.command_line.specs.Asked.{asked_of}
 use Rattle.clap.specs.Words.{kind_of}
-use Rattle.auditor_cli.proofs.UsageLemmas.{no_memory_told}
+use Rattle.auditor_cli.proofs.UsageLemmas.{no_memory_told, usage_told}
 use Rattle.planner_cli.proofs.TellLemmas.{status_can}
 use Rattle.planner_cli.proofs.program.run_words.Goals as goal
 
@@ -35,3 +35,20 @@ returns-in-Err-clause-does g c = λ a positional asks.
           inr (told.0, rw (told.1, told.2) refl)
       | inr none ↦ absurd (let both = none.0 in cc)
     ]
+
+pub returns-in-Err-clause-usage : goal.returns-in-Err-clause-usage
+returns-in-Err-clause-usage g c = λ positional none.
+    let usage = c.tell_usage-told.ensures in
+    let told = usage_told _ (kind_of c.in-Err.error) c.tell_usage-told.result c.status_of-in-Err.result c.args.streams.output _ c.args.streams.errors _ (c.in-Err.ensures positional)
+    usage.status usage.output usage.errors c.status_of-in-Err.ensures in
+    record {
+      files = refl;
+      new_files = refl;
+      disks = refl;
+      input = refl;
+      reads = refl;
+      help = λ z. rw (told.0 z) refl;
+      mistake = λ z. rw (told.1 z) refl;
+      memory = λ z. let both = told.2 z in rw (both.0, both.1) refl;
+      statuses = told.3;
+    }
