@@ -245,6 +245,7 @@ def check_commands(folder):
         check_sheet(day, sheet, seen)
     expect("the stops on all sheets", sorted(it for van in seen.values() for it in van), sorted(day.stops))
     check_store(folder, day)
+    check_frozen(folder)
     return len(sheets)
 
 
@@ -266,6 +267,18 @@ def check_store(folder, day):
     expect("the last page", rest.splitlines()[2], f"order {left[0][0]}, {day.boxes[left[0][0]]} boxes, stops 3 and 4")
     expect("how the last page ends", rest.splitlines()[5:], ["  withdrawn"])
     check_further(folder, store)
+
+
+def check_frozen(folder):
+    """README's figure: how many stops of the day's plan are pinned at 9:30."""
+    for words, lines in (("load frozen.store lilim day.txt", ""), ("adopt frozen.store day.sol", ""), ("run frozen.store strict", "freeze 34200\nshow\n")):
+        told = subprocess.run(["sh", "-c", f"./planner {words}"], cwd=folder, input=lines, capture_output=True, text=True, check=False)
+        expect(words, told.returncode, 0)
+    frozen, shown = told.stdout.split("ok\n")[:2]
+    pinned = sum(int(line.split()[2]) for line in frozen.splitlines() if line.startswith("pin "))
+    stops = sum(len(line.split(": ")[1].split()) for line in shown.splitlines() if line.startswith("vehicle "))
+    figure = re.search(r"9:30 pins (\d+) of (\d+) stops", read(README))
+    expect("README's figure of pins at 9:30", (pinned, stops), tuple(int(it) for it in figure.groups()))
 
 
 # An order of the middle of the day.
