@@ -14,10 +14,10 @@ use Rattle.command_core.specs.declared.states.State.{State}
 use Rattle.command_core.specs.declared.states.State.TheVariants.{Empty, Loaded}
 use Rattle.command_text.specs.Answers.{at_text, line}
 use Rattle.plan_solve.specs.Solved.{above, marks, twentieths}
-use Rattle.plan_solve.specs.Telling.{marks_left, told}
+use Rattle.plan_solve.specs.Telling.{HasSearched, marks_left, told}
 
 pub same_job : (a b : JobValue) → Loaded a ≡ Loaded b → a ≡ b
-same_job a b h = cc
+same_job a b e = cc
 
 module _ (add_up : SearchesAddUp) (many : RunsAreOneSearch) where
   none_searched : (j : JobValue) → searched j 0 ≡ j
@@ -70,6 +70,7 @@ pub record IsTelling (begun : JobValue) (steps : ℕ) (before now : Option (List
 module _ (add_up : SearchesAddUp) (many : RunsAreOneSearch) (begun : JobValue) (steps : ℕ) (before : Option (List ℕ)) where
   pub begins : (now : Option (List ℕ)) (is_told : Bool) (planner : State) (j : JobValue) → planner ≡ Loaded begun → planner ≡ Loaded j → (is_told ≡ true → Appends before now (line (at_text j)))
       → IsTelling begun steps before now is_told planner 0 0
+  unfolding marks
   begins now is_told planner j is holds written =
       let none : begun ≡ searched begun 0 = sym (none_searched add_up many begun) in
       let same : j ≡ searched begun 0 = same_job j begun (sym holds ∙ is) ∙ none in
@@ -114,14 +115,15 @@ module _ (add_up : SearchesAddUp) (many : RunsAreOneSearch) (begun : JobValue) (
         parts = omega (arith, less);
       }
 
-  pub ends : (now : Option (List ℕ)) (is_told : Bool) (planner : State) (j : JobValue) (done parts : ℕ) → IsTelling begun steps before now is_told planner done parts → 20 ≤ parts → planner ≡ Loaded j
-      → (j ≡ searched begun steps) × (is_told ≡ true → Appends before now (told begun (marks steps)))
-  ends now is_told planner j done parts h all holds =
+  pub ends : (now : Option (List ℕ)) (is_told : Bool) (planner : State) (done parts : ℕ) → IsTelling begun steps before now is_told planner done parts → 20 ≤ parts
+      → HasSearched before now begun steps planner is_told
+  ends now is_told planner done parts h all =
       let last : parts ≡ 20 = let most = h.parts in omega (arith, most, all) in
-      let is : done ≡ steps = h.done ∙ ap (twentieths steps) last ∙ twenty steps in (
-        same_job j (searched begun done) (sym holds ∙ h.made) ∙ ap (searched begun) is,
-        λ t. subst (Appends before now) (sym (append-nil h.lines) ∙ ap (λ k. h.lines ++ told begun (marks_left steps done k)) (sym last) ∙ h.whole) (h.written t),
-      )
+      let is : done ≡ steps = h.done ∙ ap (twentieths steps) last ∙ twenty steps in record {
+        made = h.made ∙ ap (λ n. Loaded (searched begun n)) is;
+        written =
+            λ t. subst (Appends before now) (sym (append-nil h.lines) ∙ ap (λ k. h.lines ++ told begun (marks_left steps done k)) (sym last) ∙ h.whole) (h.written t);
+      }
     where
       twenty : (n : ℕ) → twentieths n 20 ≡ n
       twenty n = omega arith

@@ -48,7 +48,7 @@ above last [] = []
 above last (n ∷ ns) = if nat_lt last n then n ∷ above n ns else above last ns
 
 -- after which steps a line tells how far the search is: none, and each twentieth of them
-abbrev pub marks : ℕ → List ℕ
+unfoldable pub marks : ℕ → List ℕ
 marks steps = 0 ∷ above 0 (map (twentieths steps) (range_with_len 1 20))
 
 -- `at STEPS UNPLANNED VEHICLES DISTANCE` at each mark

@@ -1,5 +1,5 @@
 -- The parts of a solving: what is found of a problem, and what is still to be told.
-use Rattle.std.specs.Prelude.{◌≡◌, ℕ, ◌+◌, ◌-◌, true, List, map, Option}
+use Rattle.std.specs.Prelude.{◌≡◌, ℕ, ◌+◌, ◌-◌, Bool, true, List, map, Option}
 use Rattle.std.specs.List.{flat_map, range_with_len}
 use Rattle.std.specs.Io.KnownBytes.{Appends}
 use Rattle.plan_types.specs.Instance.{Instance}
@@ -8,8 +8,10 @@ use Rattle.instance_read.specs.declared.faults.ReadFaultKind.{ReadFaultKind}
 use Rattle.instance_read.specs.declared.faults.ReadFaultKind.TheVariants as read_fault
 use Rattle.command_core.specs.Effects.{searched}
 use Rattle.command_core.specs.Job.{JobValue}
+use Rattle.command_core.specs.declared.states.State.{State}
+use Rattle.command_core.specs.declared.states.State.TheVariants.{Loaded}
 use Rattle.command_text.specs.Answers.{at_text, line}
-use Rattle.plan_solve.specs.Solved.{TellsPlan, above, progress, solved, twentieths}
+use Rattle.plan_solve.specs.Solved.{TellsPlan, above, marks, progress, solved, twentieths}
 use Rattle.plan_solve.specs.declared.faults.SolveFault.{SolveFault}
 use Rattle.plan_solve.specs.declared.faults.SolveFault.TheVariants as fault
 use Rattle.plan_solve.specs.declared.solving.Solved.{Solved}
@@ -40,3 +42,8 @@ marks_left steps last k = above last (map (twentieths steps) (range_with_len (k 
 pub record HasWalked (before now : Option (List ℕ)) (job : JobValue) (lines : List ℕ) (walk : Walk) : Type 0 where
   pub made : walk.job ≡ job
   pub told : walk.is_told ≡ true → Appends before now lines
+
+-- the planner has the job after so many steps of the search, and the lines are written unless one could not be
+pub record HasSearched (before now : Option (List ℕ)) (begun : JobValue) (steps : ℕ) (planner : State) (is_told : Bool) : Type 0 where
+  pub made : planner ≡ Loaded (searched begun steps)
+  pub written : is_told ≡ true → Appends before now (told begun (marks steps))

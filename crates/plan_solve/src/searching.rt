@@ -2,7 +2,9 @@
 ghost use Rattle.std.specs.Prelude.{◌≡◌, IfOk, OnOk};
 ghost use Rattle.command_core.specs.Effects.{effect};
 ghost use Rattle.plan_solve.specs.Solved.{search_lines, searched_with};
-ghost use Rattle.plan_solve.specs.Telling.{HasWalked};
+ghost use Rattle.plan_solve.specs.Telling.{HasSearched, HasWalked};
+ghost use Rattle.command_core.specs.Job.{JobValue};
+ghost use Rattle.command_core.specs.declared.states.State.TheVariants.{Loaded};
 
 use crate::carrying::{carry_out, into_job, job_of};
 use crate::marks::{PARTS, twentieths};
@@ -25,23 +27,38 @@ pub(crate) fn search_telling<W: Write>(
         (HasWalked (W.contents progress.old) (W.contents progress.new)
         (searched_with deviation begun steps) (search_lines deviation begun steps)) }
 {
-    searches_add_up();
     let mut planner = Planner::new(State::Loaded(begun));
     carry_out(alloc, &mut planner, Command::Deviation(deviation))?;
-    let mut is_told = tell(true, job_of(&planner)?, progress);
+    let is_told = search_parts(alloc, &mut planner, steps, progress)?;
+    let job = into_job(planner)?;
+    Ok(Walk { job, is_told })
+}
+
+// So many steps of the search from the job that the planner has; whether each line was written.
+fn search_parts<W: Write>(
+    alloc: Global,
+    planner: &mut Planner,
+    steps: u32,
+    progress: &mut W,
+) -> Result<bool, OutOfMemory>
+    ensures { IfOk result (λ is_told. (begun : JobValue) → planner.old ≡ Loaded begun
+        → HasSearched (W.contents progress.old) (W.contents progress.new)
+        begun steps planner.new is_told) }
+{
+    searches_add_up();
+    let mut is_told = tell(true, job_of(planner)?, progress);
     let mut done = 0;
     let mut parts = 0;
     while parts < PARTS {
         parts += 1;
         let mark = twentieths(steps, parts);
         if done < mark {
-            search(alloc, &mut planner, mark - done)?;
-            is_told = tell(is_told, job_of(&planner)?, progress);
+            search(alloc, planner, mark - done)?;
+            is_told = tell(is_told, job_of(planner)?, progress);
             done = mark;
         }
     }
-    let job = into_job(planner)?;
-    Ok(Walk { job, is_told })
+    Ok(is_told)
 }
 
 // So many more steps of the search, piece by piece.

@@ -1,49 +1,13 @@
--- Each part of the search goes on from the last mark, and behind the last part all is told.
-use Rattle.std.proofs.Common.{◌≡◌, ◌∙◌, ◌+◌, ◌-◌, ◌<◌, ◌≤◌, ap, subst, sym}
+-- The search goes on from the job with the deviation, and the planner's job is the one behind it.
+use Rattle.std.proofs.Common.{◌∙◌, ap, sym}
 use Rattle.command_core.specs.Effects.{effect, with_deviation}
-use Rattle.command_core.specs.declared.commands.Command.TheVariants.{Deviation, Search}
-use Rattle.plan_solve.specs.Solved.{twentieths}
-use Rattle.plan_solve.proofs.SearchLemmas.{IsTelling, begins, ends, passes, tells}
+use Rattle.command_core.specs.declared.commands.Command.TheVariants.{Deviation}
+use Rattle.plan_solve.proofs.SearchLemmas.{same_job}
 use Rattle.plan_solve.proofs.searching.search_telling.Goals as goal
-
-pub loop-parts-init : goal.loop-parts-init
-loop-parts-init g c =
-    let law = c.searches_add_up.ensures in
-    let begun = with_deviation c.args.begun c.args.deviation in
-    let before = g.W.Write.contents c.args.progress.now in
-    let now = g.W.Write.contents c.tell-is_told.new.progress in
-    begins law.two law.many begun c.args.steps before now c.tell-is_told.result _ _
-    (c.in_ok-carry_out.ensures ∙ ap (λ s. effect s (Deviation c.args.deviation)) c.new-planner.ensures) c.in_ok-job_of.ensures
-    (λ t. (c.tell-is_told.ensures t).1)
-
-pub loop-parts-preserved-then-done-mark : goal.loop-parts-preserved-then-done-mark
-loop-parts-preserved-then-done-mark g c =
-    let law = c.searches_add_up.ensures in
-    let l = c.loop-parts in
-    let begun = with_deviation c.args.begun c.args.deviation in
-    let before = g.W.Write.contents c.args.progress.now in
-    let now = g.W.Write.contents l.progress in
-    let next = g.W.Write.contents c.tell-is_told-then-done-mark.new.progress in
-    let later = c.tell-is_told-then-done-mark.result in
-    let is : c.twentieths-mark.result ≡ twentieths c.args.steps (l.parts + 1) = c.twentieths-mark.ensures in
-    subst (λ m. IsTelling begun c.args.steps before next later c.search.new.planner m (l.parts + 1)) (sym is)
-    (tells law.two law.many begun c.args.steps before now next l.is_told later l.planner _ _ l.done l.parts l.invariant c.loop-parts-test.true (subst (λ m. l.done < m) is c.if-done-mark.true)
-    (c.in_ok-search.ensures ∙ ap (λ m. effect l.planner (Search (m - l.done))) is) c.in_ok-job_of-2.ensures c.tell-is_told-then-done-mark.ensures)
-
-pub loop-parts-preserved : goal.loop-parts-preserved
-loop-parts-preserved g c =
-    let law = c.searches_add_up.ensures in
-    let l = c.loop-parts in
-    let begun = with_deviation c.args.begun c.args.deviation in
-    let is : c.twentieths-mark.result ≡ twentieths c.args.steps (l.parts + 1) = c.twentieths-mark.ensures in
-    passes law.two law.many begun c.args.steps (g.W.Write.contents c.args.progress.now) (g.W.Write.contents l.progress) l.is_told l.planner l.done l.parts l.invariant c.loop-parts-test.true
-    (subst (λ m. m ≤ l.done) is c.if-done-mark.false)
 
 pub returns : goal.returns
 returns g c =
-    let law = c.searches_add_up.ensures in
-    let l = c.loop-parts in
     let begun = with_deviation c.args.begun c.args.deviation in
-    let all = ends law.two law.many begun c.args.steps (g.W.Write.contents c.args.progress.now)
-    (g.W.Write.contents l.progress) l.is_told l.planner _ l.done l.parts l.invariant c.loop-parts-test.false c.in_ok-job.ensures in
-    record { made = all.0; told = all.1 }
+    let holds = c.in_ok-carry_out.ensures ∙ ap (λ s. effect s (Deviation c.args.deviation)) c.new-planner.ensures in
+    let made = c.in_ok-is_told.ensures begun holds in
+    record { made = same_job _ _ (sym c.in_ok-job.ensures ∙ made.made); told = made.written }
