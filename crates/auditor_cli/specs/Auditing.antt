@@ -56,7 +56,7 @@ abbrev pub EndsWith : Asked → Seen → Seen → ℕ → Type 0
 EndsWith asked old new status = Works asked old new status ⊎ ((status ≡ 4) × (new ≡ old))
 
 -- The words ask for nothing. No file is read; help leaves the errors as they were, and what is wrong with the words the output. The status is
--- that of a mistake, but 0 where help was asked for.
+-- one of those of such words, or 0, which comes only where help was asked for.
 pub record TellsUsage (asked : List Text) (old new : Seen) (status : ℕ) : Type 0 where
   pub files : new.files ≡ old.files
   pub help : status ≡ 0 → new.errors ≡ old.errors

@@ -187,8 +187,8 @@ module _ {D N : Type 0} (on_old : sectors.Ghosts D) (on_new : sectors.Ghosts N) 
   abbrev pub EndsWith : Asked → World → World → ℕ → Type 0
   EndsWith asked old new status = Works asked old new status ⊎ ((status ≡ 4) × (new ≡ old))
 
--- The words ask for nothing. Help leaves the errors as they were, and what is wrong with the words the output. The status is that of a
--- mistake, but 0 where help was asked for.
+-- The words ask for nothing. Help leaves the errors as they were, and what is wrong with the words the output. The status is one of those of
+-- such words, or 0, which comes only where help was asked for.
 pub record TellsUsage (asked : List Text) (old new : World) (status : ℕ) : Type 0 where
   pub files : new.files ≡ old.files
   pub new_files : new.new_files ≡ old.new_files
