@@ -1,5 +1,5 @@
 //! The whole answer.
-ghost use Rattle.std.specs.Prelude.{◌≡◌, ◌++◌, ◌+◌, true, false, All, IfOk, IfSome, OnOk, string_bytes};
+ghost use Rattle.std.specs.Prelude.{◌≡◌, ◌++◌, ◌+◌, true, false, All, IfOk, IfSome, OnErr, OnOk, string_bytes};
 ghost use Rattle.std.specs.Option.{option_copied, option_map};
 ghost use Rattle.plan_types.specs.Instance.{request_with};
 ghost use Rattle.route_sched.specs.Cost.{is_planned};
@@ -74,12 +74,32 @@ pub fn reason(
         ≡ reason_text lead problem.now pins.now routes.now name) }
 {
     let mut text = Told::new(alloc);
-    put_reason(alloc, &mut text, lead, problem, pins, routes, name)?;
+    put_lines(alloc, &mut text, lead, problem, pins, routes, name)?;
     text.into_string()
 }
 
-/// Appends the same to a text.
+/// Appends the same to a text, which is as before where memory is refused.
 pub fn put_reason(
+    alloc: Global,
+    text: &mut Told,
+    lead: Lead,
+    problem: &Problem,
+    pins: &[Route],
+    routes: &[Route],
+    name: u32,
+) -> Result<(), OutOfMemory>
+    requires { All (AreLiveOnce problem.now) routes.now }
+    ensures told { OnOk result (text.new ≡ text.old
+        ++ reason_text lead problem.now pins.now routes.now name) }
+    ensures refused { OnErr result (text.new ≡ text.old) }
+{
+    let reason = reason(alloc, lead, problem, pins, routes, name)?;
+    text.push_str(reason.as_str());
+    Ok(())
+}
+
+// Appends the lines of `reason`, or a part of them where memory is refused.
+fn put_lines(
     alloc: Global,
     text: &mut Told,
     lead: Lead,

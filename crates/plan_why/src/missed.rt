@@ -9,7 +9,7 @@ use plan_types::{Kind, OutOfMemory, Problem};
 use std::alloc::Global;
 
 /// What a route may exceed.
-#[derive(Clone, Copy, Debug, PartialEq, Eq)]
+#[derive(Clone, Copy)]
 pub(crate) enum Limit {
     /// What a vehicle can carry.
     Capacity,
@@ -20,7 +20,7 @@ pub(crate) enum Limit {
 }
 
 /// A limit that is exceeded.
-#[derive(Clone, Copy, Debug, PartialEq, Eq)]
+#[derive(Clone, Copy)]
 pub(crate) struct Miss {
     pub limit: Limit,
     /// Where; 0 is the depot.

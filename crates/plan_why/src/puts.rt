@@ -22,7 +22,7 @@ use std::alloc::Global;
 const MOST_LOAD: u64 = 1 << 60;
 
 /// The first load and the first time that rows exceed.
-#[derive(Clone, Copy, Debug, PartialEq, Eq)]
+#[derive(Clone, Copy)]
 pub(crate) struct Found {
     pub over: Option<Miss>,
     pub late: Option<Miss>,
@@ -177,7 +177,7 @@ fn put_row(here: &Row, service: u32, way: u32, stop: &Stop) -> Option<Row>
 }
 
 /// What is known of a route, and a stop that it may get.
-#[derive(Clone, Copy, Debug)]
+#[derive(Clone, Copy)]
 pub(crate) struct Tour<'a> {
     pub route: &'a [u32],
     pub rows: &'a [Row],
@@ -189,7 +189,7 @@ pub(crate) struct Tour<'a> {
 }
 
 /// The ways to the stop and on, behind the first `at` stops of the route.
-#[derive(Clone, Copy, Debug, PartialEq, Eq)]
+#[derive(Clone, Copy)]
 pub(crate) struct Detour {
     /// The service before it.
     pub service: u32,

@@ -23,7 +23,7 @@ use route_sched::{route_distance, stop_behind};
 use std::alloc::Global;
 
 /// What comes of a request at a place of a route.
-#[derive(Clone, Copy, Debug, PartialEq, Eq)]
+#[derive(Clone, Copy)]
 pub(crate) struct Trial {
     pub miss: Option<Miss>,
     /// How far the vehicle drives then.

@@ -5,7 +5,7 @@ ghost use Rattle.plan_why.specs.Words.{word, word_and_number};
 use told_text::Told;
 
 /// What stands before or behind a number.
-#[derive(Clone, Copy, Debug, PartialEq, Eq)]
+#[derive(Clone, Copy)]
 pub(crate) enum Word {
     AloneStop,
     AloneBack,
