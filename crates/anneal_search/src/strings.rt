@@ -118,7 +118,7 @@ fn longest(draft: &Draft) -> usize
 }
 
 // How many stops the routes have, and how many routes are not empty.
-#[derive(Clone, Copy, Debug, PartialEq, Eq)]
+#[derive(Clone, Copy)]
 struct Totals {
     stops: u128,
     used: u64,

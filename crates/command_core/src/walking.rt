@@ -15,7 +15,7 @@ use seeded_search::{Found, Walk, walk_on};
 use std::alloc::Global;
 
 /// So many steps of the search, or of annealing.
-#[derive(Clone, Copy, Debug, PartialEq, Eq)]
+#[derive(Clone, Copy)]
 pub(crate) enum Asked {
     Search(u16),
     Anneal(u32),

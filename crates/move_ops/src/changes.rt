@@ -9,7 +9,7 @@ use crate::tour::{Tour, tour_of};
 use plan_types::{Problem, Route};
 
 /// Another route for a vehicle.
-#[derive(Debug, Drop)]
+#[derive(Drop)]
 pub(crate) struct Change {
     pub(crate) vehicle: u32,
     pub(crate) route: Route,

@@ -10,14 +10,14 @@ ghost use Rattle.plan_audit.specs.declared.faults.Told.{Told};
 use plan_types::Route;
 
 /// A place of a route that breaks a rule, and the stop to tell.
-#[derive(Clone, Copy, Debug, PartialEq, Eq)]
+#[derive(Clone, Copy)]
 pub(crate) struct Told {
     pub place: usize,
     pub stop: u32,
 }
 
 /// A place of a plan that breaks a rule, and the stop to tell.
-#[derive(Clone, Copy, Debug, PartialEq, Eq)]
+#[derive(Clone, Copy)]
 pub(crate) struct Fault {
     pub route: usize,
     pub place: usize,

@@ -7,7 +7,7 @@ use plan_types::{OutOfMemory, Route};
 use std::alloc::Global;
 
 /// A place of a plan; routes and places count from 0.
-#[derive(Clone, Copy, Debug, PartialEq, Eq)]
+#[derive(Clone, Copy)]
 pub(crate) struct Seat {
     pub route: usize,
     pub place: usize,

@@ -13,7 +13,7 @@ use slack_tables::RouteTable;
 use std::alloc::Global;
 
 /// What a vehicle does at a place.
-#[derive(Clone, Copy, Debug, PartialEq, Eq)]
+#[derive(Clone, Copy)]
 pub(crate) enum Role {
     Pickup,
     Delivery,
@@ -22,7 +22,7 @@ pub(crate) enum Role {
 }
 
 /// What is told of a place.
-#[derive(Clone, Copy, Debug, PartialEq, Eq)]
+#[derive(Clone, Copy)]
 pub(crate) struct Entry {
     pub visit: StopVisit,
     pub role: Role,

@@ -5,7 +5,7 @@ ghost use Rattle.plan_timetable.specs.Words.{in_form, word};
 use crate::forms::Form;
 
 /// What stands before a number, in place of one, or in a line of its own.
-#[derive(Clone, Copy, Debug, PartialEq, Eq)]
+#[derive(Clone, Copy)]
 pub(crate) enum Word {
     Vehicle,
     Stops,

@@ -6,14 +6,14 @@ ghost use Rattle.slack_tables.specs.Ride.{is_in_time};
 use plan_types::{Kind, Stop};
 
 /// What a vehicle must keep at each place: its capacity, and in a problem of kind `LiLim` the windows.
-#[derive(Clone, Copy, Debug, PartialEq, Eq)]
+#[derive(Clone, Copy, Debug)]
 pub(crate) struct Limits {
     pub kind: Kind,
     pub capacity: u32,
 }
 
 /// How far a vehicle has come on its route.
-#[derive(Clone, Copy, Debug, PartialEq, Eq)]
+#[derive(Clone, Copy, Debug)]
 pub(crate) struct Progress {
     /// The stop where it is, or the depot.
     pub stop: Stop,
@@ -26,7 +26,7 @@ pub(crate) struct Progress {
 }
 
 /// A place of a route, and what is known of all that is behind it.
-#[derive(Clone, Copy, Debug, PartialEq, Eq)]
+#[derive(Clone, Copy, Debug)]
 pub(crate) struct Row {
     pub at: Progress,
     /// The latest start of service here from which no later window and no return is missed; the

@@ -15,7 +15,7 @@ use plan_types::Stop;
 use route_sched::load_behind;
 
 /// When and with what a vehicle is somewhere, and how far it has come.
-#[derive(Clone, Copy, Debug, PartialEq, Eq)]
+#[derive(Clone, Copy)]
 pub(crate) struct Ride {
     pub start: u64,
     pub load: i64,
@@ -126,7 +126,7 @@ fn goes_on(limits: Limits, from: &Ride, service: u32, leg: u64, tail: &Row) -> b
 }
 
 /// The way to a stop between two places, and from it.
-#[derive(Clone, Copy, Debug, PartialEq, Eq)]
+#[derive(Clone, Copy)]
 pub(crate) struct Detour {
     pub to: u64,
     pub from: u64,

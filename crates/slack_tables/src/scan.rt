@@ -51,7 +51,7 @@ pub fn best_places_are_one()
 {}
 
 // The first of the additions seen so far, and the distance that the next one has to be below.
-#[derive(Clone, Copy, Debug, PartialEq, Eq)]
+#[derive(Clone, Copy)]
 struct Best {
     bound: i64,
     found: Option<Addition>,
@@ -238,7 +238,7 @@ fn best_with_room(
 }
 
 // A pair, the way from its pickup to its delivery, and what a vehicle must keep.
-#[derive(Clone, Copy, Debug, PartialEq, Eq)]
+#[derive(Clone, Copy)]
 struct Trip {
     limits: Limits,
     pickup: Stop,
@@ -340,7 +340,7 @@ fn is_dear(least: &[i64], i: usize, near: u64, apart: u64, base: u64, below: i64
 }
 
 // A vehicle on its way with the pickup on board.
-#[derive(Clone, Copy, Debug, PartialEq, Eq)]
+#[derive(Clone, Copy)]
 struct Underway {
     ride: Ride,
     // The service at the stop where it is.

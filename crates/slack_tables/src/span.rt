@@ -29,7 +29,7 @@ use plan_types::Stop;
 
 /// The coordinates between which the stops of a route lie, the longest way from one of them to the
 /// next, the longer of the ways between them and the depot, and what the vehicle carries at the end.
-#[derive(Clone, Copy, Debug, PartialEq, Eq)]
+#[derive(Clone, Copy, Debug)]
 pub(crate) struct Span {
     west: i32,
     east: i32,
@@ -41,7 +41,7 @@ pub(crate) struct Span {
 }
 
 // No way from a stop to one inside a span is shorter than `inside`, and none to the depot than `home`.
-#[derive(Clone, Copy, Debug, PartialEq, Eq)]
+#[derive(Clone, Copy)]
 struct Nearest {
     inside: u64,
     home: u64,

@@ -25,7 +25,7 @@ fn stands_at(stop: &Stop, other: &Stop) -> bool
 }
 
 /// Where a table has the stop at which the vehicle is, or, where it is not seen there, the place that was seen last.
-#[derive(Clone, Copy, Debug, PartialEq, Eq)]
+#[derive(Clone, Copy)]
 pub(crate) struct Seen {
     pub place: usize,
     pub is_here: bool,
