@@ -16,9 +16,8 @@ use Rattle.command_text.specs.declared.steps.Steps.{Steps}
 use Rattle.command_text.specs.declared.steps.Steps.TheVariants as makes
 use Rattle.command_text.proofs.AgainLemmas.{uncut}
 use Rattle.plan_solve.specs.Solved.{IsWhatLineLeaves, IsWhatStagesMake, anneal_lines, annealed, begun, commands_from, job_behind, line_behind, lines_behind, parts_made}
-use Rattle.plan_solve.specs.Telling.{HasWalked}
+use Rattle.plan_solve.specs.Telling.{HasMade}
 use Rattle.plan_solve.specs.declared.annealing.Told.{Told}
-use Rattle.plan_solve.specs.declared.telling.Walk.{Walk}
 use Rattle.plan_solve.proofs.SearchLemmas.{same_job}
 
 -- Behind some commands: those that are left lead the planner's job to where all lead; the lines so far and those that are left are all, and
@@ -77,12 +76,11 @@ module _ (begun : JobValue) (steps : ℕ) (before : Option (List ℕ)) where
             ∙ ap (λ cs. h.lines ++ lines_behind steps told.parts h.job cs) (sym follow) ∙ h.whole;
       }
 
-  pub ends : (now : Option (List ℕ)) (told : Told) (planner : State) (left : Steps) (walk : Walk) → IsAnnealing begun steps before now told planner left → commands_of left planner ≡ []
-      → planner ≡ Loaded walk.job → walk.is_told ≡ told.is_told → HasWalked before now (annealed begun steps) (anneal_lines begun steps) walk
-  ends now told planner left walk h none holds is_told = record {
-    made = same_job walk.job h.job (sym holds ∙ h.is) ∙ ap (job_behind h.job) (sym none) ∙ h.made;
-    told =
-        λ t. subst (Appends before now) (sym (append-nil h.lines) ∙ ap (λ cs. h.lines ++ lines_behind steps told.parts h.job cs) (sym none) ∙ h.whole) (h.written (sym is_told ∙ t));
+  pub ends : (now : Option (List ℕ)) (told : Told) (planner : State) (left : Steps) → IsAnnealing begun steps before now told planner left → commands_of left planner ≡ []
+      → HasMade before now (annealed begun steps) (anneal_lines begun steps) planner told.is_told
+  ends now told planner left h none = record {
+    made = h.is ∙ ap Loaded (ap (job_behind h.job) (sym none) ∙ h.made);
+    written = λ t. subst (Appends before now) (sym (append-nil h.lines) ∙ ap (λ cs. h.lines ++ lines_behind steps told.parts h.job cs) (sym none) ∙ h.whole) (h.written t);
   }
 
 -- ---- laws

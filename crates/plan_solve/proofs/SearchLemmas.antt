@@ -14,7 +14,7 @@ use Rattle.command_core.specs.declared.states.State.{State}
 use Rattle.command_core.specs.declared.states.State.TheVariants.{Empty, Loaded}
 use Rattle.command_text.specs.Answers.{at_text, line}
 use Rattle.plan_solve.specs.Solved.{above, marks, twentieths}
-use Rattle.plan_solve.specs.Telling.{HasSearched, marks_left, told}
+use Rattle.plan_solve.specs.Telling.{HasMade, marks_left, told}
 
 pub same_job : (a b : JobValue) → Loaded a ≡ Loaded b → a ≡ b
 same_job a b e = cc
@@ -116,7 +116,7 @@ module _ (add_up : SearchesAddUp) (many : RunsAreOneSearch) (begun : JobValue) (
       }
 
   pub ends : (now : Option (List ℕ)) (is_told : Bool) (planner : State) (done parts : ℕ) → IsTelling begun steps before now is_told planner done parts → 20 ≤ parts
-      → HasSearched before now begun steps planner is_told
+      → HasMade before now (searched begun steps) (told begun (marks steps)) planner is_told
   ends now is_told planner done parts h all =
       let last : parts ≡ 20 = let most = h.parts in omega (arith, most, all) in
       let is : done ≡ steps = h.done ∙ ap (twentieths steps) last ∙ twenty steps in record {

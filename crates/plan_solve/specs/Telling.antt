@@ -43,7 +43,7 @@ pub record HasWalked (before now : Option (List ℕ)) (job : JobValue) (lines : 
   pub made : walk.job ≡ job
   pub told : walk.is_told ≡ true → Appends before now lines
 
--- the planner has the job after so many steps of the search, and the lines are written unless one could not be
-pub record HasSearched (before now : Option (List ℕ)) (begun : JobValue) (steps : ℕ) (planner : State) (is_told : Bool) : Type 0 where
-  pub made : planner ≡ Loaded (searched begun steps)
-  pub written : is_told ≡ true → Appends before now (told begun (marks steps))
+-- the planner has this job, and the lines are written unless one could not be
+pub record HasMade (before now : Option (List ℕ)) (job : JobValue) (lines : List ℕ) (planner : State) (is_told : Bool) : Type 0 where
+  pub made : planner ≡ Loaded job
+  pub written : is_told ≡ true → Appends before now lines

@@ -3,9 +3,11 @@
 ghost use Rattle.std.specs.Prelude.{◌≡◌, true, max, IfOk};
 ghost use Rattle.std.specs.Io.KnownBytes.{Appends};
 ghost use Rattle.plan_solve.specs.Solved.{anneal_lines, annealed, line_behind, parts_made};
-ghost use Rattle.plan_solve.specs.Telling.{HasWalked};
+ghost use Rattle.plan_solve.specs.Telling.{HasMade, HasWalked};
+ghost use Rattle.command_core.specs.Job.{JobValue};
+ghost use Rattle.command_core.specs.declared.states.State.TheVariants.{Loaded};
 
-use crate::carrying::{carry_out, into_job, job_of};
+use crate::carrying::{carry_out, job_of};
 use crate::telling::{Walk, tell};
 use command_core::{Job, Planner, State};
 use command_text::{Steps, next_command};
@@ -14,7 +16,7 @@ use std::alloc::Global;
 use std::io::Write;
 
 /// How far a solving is told.
-#[derive(Clone, Copy, Debug, PartialEq, Eq)]
+#[derive(Clone, Copy)]
 struct Told {
     /// Whether each line of progress was written.
     is_told: bool,
@@ -33,22 +35,33 @@ pub(crate) fn anneal_telling<W: Write>(
         (annealed begun steps) (anneal_lines begun steps)) }
 {
     let mut planner = Planner::new(State::Loaded(begun));
-    let is_told = tell(true, job_of(&planner)?, progress);
+    let told = anneal_stages(alloc, &mut planner, steps, progress);
+    Walk::of(planner, told)
+}
+
+// The steps from the job that the planner has; whether each line was written.
+fn anneal_stages<W: Write>(
+    alloc: Global,
+    planner: &mut Planner,
+    steps: u32,
+    progress: &mut W,
+) -> Result<bool, OutOfMemory>
+    ensures { IfOk result (λ is_told. (begun : JobValue) → planner.old ≡ Loaded begun
+        → HasMade (W.contents progress.old) (W.contents progress.new)
+        (annealed begun steps) (anneal_lines begun steps) planner.new is_told) }
+{
+    let is_told = tell(true, job_of(planner)?, progress);
     let mut told = Told { is_told, parts: 0 };
     let mut left = Steps::Stages {
         from: 0,
         to: u64::from(steps),
     };
     while let Some((command, behind)) = next_command(left, planner.state()) {
-        carry_out(alloc, &mut planner, command)?;
-        told = tell_more(told, job_of(&planner)?, steps, progress);
+        carry_out(alloc, planner, command)?;
+        told = tell_more(told, job_of(planner)?, steps, progress);
         left = behind;
     }
-    let job = into_job(planner)?;
-    Ok(Walk {
-        job,
-        is_told: told.is_told,
-    })
+    Ok(told.is_told)
 }
 
 // A line where the job has made more twentieths of all steps than at the last line.

@@ -1,12 +1,12 @@
 //! The search, with a line before its steps and at each twentieth of them.
 ghost use Rattle.std.specs.Prelude.{◌≡◌, IfOk, OnOk};
-ghost use Rattle.command_core.specs.Effects.{effect};
-ghost use Rattle.plan_solve.specs.Solved.{search_lines, searched_with};
-ghost use Rattle.plan_solve.specs.Telling.{HasSearched, HasWalked};
+ghost use Rattle.command_core.specs.Effects.{effect, searched};
+ghost use Rattle.plan_solve.specs.Solved.{marks, search_lines, searched_with};
+ghost use Rattle.plan_solve.specs.Telling.{HasMade, HasWalked, told};
 ghost use Rattle.command_core.specs.Job.{JobValue};
 ghost use Rattle.command_core.specs.declared.states.State.TheVariants.{Loaded};
 
-use crate::carrying::{carry_out, into_job, job_of};
+use crate::carrying::{carry_out, job_of};
 use crate::marks::{PARTS, twentieths};
 use crate::telling::{Walk, tell};
 use command_core::{Command, Job, Planner, State, searches_add_up};
@@ -28,10 +28,25 @@ pub(crate) fn search_telling<W: Write>(
         (searched_with deviation begun steps) (search_lines deviation begun steps)) }
 {
     let mut planner = Planner::new(State::Loaded(begun));
-    carry_out(alloc, &mut planner, Command::Deviation(deviation))?;
-    let is_told = search_parts(alloc, &mut planner, steps, progress)?;
-    let job = into_job(planner)?;
-    Ok(Walk { job, is_told })
+    let told = search_with(alloc, &mut planner, deviation, steps, progress);
+    Walk::of(planner, told)
+}
+
+// The same from the job that the planner has; whether each line was written.
+fn search_with<W: Write>(
+    alloc: Global,
+    planner: &mut Planner,
+    deviation: u32,
+    steps: u32,
+    progress: &mut W,
+) -> Result<bool, OutOfMemory>
+    ensures { IfOk result (λ is_told. (begun : JobValue) → planner.old ≡ Loaded begun
+        → HasMade (W.contents progress.old) (W.contents progress.new)
+        (searched_with deviation begun steps) (search_lines deviation begun steps)
+        planner.new is_told) }
+{
+    carry_out(alloc, planner, Command::Deviation(deviation))?;
+    search_parts(alloc, planner, steps, progress)
 }
 
 // So many steps of the search from the job that the planner has; whether each line was written.
@@ -42,8 +57,8 @@ fn search_parts<W: Write>(
     progress: &mut W,
 ) -> Result<bool, OutOfMemory>
     ensures { IfOk result (λ is_told. (begun : JobValue) → planner.old ≡ Loaded begun
-        → HasSearched (W.contents progress.old) (W.contents progress.new)
-        begun steps planner.new is_told) }
+        → HasMade (W.contents progress.old) (W.contents progress.new)
+        (searched begun steps) (told begun (marks steps)) planner.new is_told) }
 {
     searches_add_up();
     let mut is_told = tell(true, job_of(planner)?, progress);

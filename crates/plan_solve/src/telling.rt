@@ -1,10 +1,13 @@
 //! A line of progress, and what a solving leaves.
-ghost use Rattle.std.specs.Prelude.{◌≡◌, true};
+ghost use Rattle.std.specs.Prelude.{◌≡◌, true, Ok, IfOk};
 ghost use Rattle.std.specs.Io.KnownBytes.{Appends};
+ghost use Rattle.command_core.specs.declared.states.State.TheVariants.{Loaded};
 ghost use Rattle.command_text.specs.Answers.{at_text, line};
 
-use command_core::Job;
+use crate::carrying::into_job;
+use command_core::{Job, Planner};
 use command_text::at_line;
+use plan_types::OutOfMemory;
 use std::io::Write;
 
 /// A solving behind its last step.
@@ -13,6 +16,17 @@ pub(crate) struct Walk {
     pub job: Job,
     /// Whether each line of progress was written.
     pub is_told: bool,
+}
+
+impl Walk {
+    /// Of a planner that has made its steps, if none was refused, and whether each line was written.
+    pub fn of(planner: Planner, told: Result<bool, OutOfMemory>) -> Result<Walk, OutOfMemory>
+        ensures { IfOk result (λ walk. (planner ≡ Loaded walk.job) × (told ≡ Ok walk.is_told)) }
+    {
+        let is_told = told?;
+        let job = into_job(planner)?;
+        Ok(Walk { job, is_told })
+    }
 }
 
 /// Writes how far the solving is, and flushes it, unless a line before it could not be written. Whether it and those before it were
