@@ -63,7 +63,7 @@ impl From<Failed> for ServeFault {
 }
 
 /// Whether there is more to serve.
-#[derive(Clone, Copy, PartialEq, Eq)]
+#[derive(Clone, Copy)]
 enum Goes {
     On,
     ToEnd,

@@ -14,7 +14,7 @@ use std::fmt;
 use std::fmt::{Display, Formatter};
 
 /// What may be logged beside the answer to a command.
-#[derive(Clone, Copy, Debug, PartialEq, Eq)]
+#[derive(Clone, Copy)]
 pub(crate) enum Hint {
     Nothing,
     /// Whom a build leaves out.

@@ -10,7 +10,7 @@ use text_lines::{Number, Words};
 const MOST: usize = 11;
 
 /// An integer, where an `i32` holds it, and where a `u64` does.
-#[derive(Clone, Copy, Debug, PartialEq, Eq)]
+#[derive(Clone, Copy)]
 pub(crate) struct Field {
     pub(crate) signed: Option<i32>,
     pub(crate) unsigned: Option<u64>,
@@ -45,7 +45,7 @@ fn integer(word: &[u8]) -> Option<Field>
 }
 
 /// The numbers of a line, as many as a command may have.
-#[derive(Debug, Drop)]
+#[derive(Drop)]
 pub(crate) struct Fields {
     fields: [Field; 11],
     used: usize,

@@ -11,7 +11,7 @@ use plan_types::Kind;
 use plan_types::limits::MAX_TIME;
 
 /// What the first word of a line names.
-#[derive(Clone, Copy, Debug, PartialEq, Eq)]
+#[derive(Clone, Copy)]
 pub(crate) enum Verb {
     Load,
     Adopt,

@@ -25,7 +25,7 @@ use std::io;
 use std::io::Write;
 
 /// Why a solution is no plan of a store, before it is offered to the store.
-#[derive(Clone, Copy, Debug)]
+#[derive(Clone, Copy)]
 pub(crate) enum Unadopted {
     /// The store holds no instance.
     NoInstance,

@@ -24,7 +24,7 @@ use std::io;
 use std::io::Write;
 
 /// What comes of drawing a solution.
-#[derive(Debug, Drop)]
+#[derive(Drop)]
 pub(crate) enum Drawing {
     /// The picture, as SVG.
     Picture(Vec<u8>),

@@ -33,7 +33,7 @@ use std::io::Write;
 
 /// What is told of a solution: an answer with the timetable under it, and which requests a partial
 /// plan leaves out.
-#[derive(Debug, Drop)]
+#[derive(Drop)]
 pub(crate) struct Sheet {
     pub explanation: Explanation,
     pub left_out: Vec<u32>,

@@ -20,7 +20,7 @@ use state_codec::recorded_fields_have_room;
 use std::alloc::Global;
 
 /// Why a command was not committed, where the store had a place for it.
-#[derive(Clone, Copy, Debug, PartialEq, Eq)]
+#[derive(Clone, Copy)]
 pub(crate) enum CommitFault {
     OutOfMemory,
     DeviceFault,
