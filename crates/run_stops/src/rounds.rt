@@ -156,7 +156,7 @@ fn answers_of(alloc: Global, run: &Run) -> io::Result<Vec<Result<(), Denial>>> {
 }
 
 /// What a round left, beside its answers.
-#[derive(Clone, Copy, PartialEq, Eq)]
+#[derive(Clone, Copy)]
 enum Outcome {
     /// The state after all acknowledged commands, and no call failed.
     Whole,
