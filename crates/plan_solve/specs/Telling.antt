@@ -11,7 +11,7 @@ use Rattle.command_core.specs.Job.{JobValue}
 use Rattle.command_core.specs.declared.states.State.{State}
 use Rattle.command_core.specs.declared.states.State.TheVariants.{Loaded}
 use Rattle.command_text.specs.Answers.{at_text, line}
-use Rattle.plan_solve.specs.Solved.{TellsPlan, above, marks, progress, solved, twentieths}
+use Rattle.plan_solve.specs.Solved.{TellsPlan, above, progress, solved, twentieths}
 use Rattle.plan_solve.specs.declared.faults.SolveFault.{SolveFault}
 use Rattle.plan_solve.specs.declared.faults.SolveFault.TheVariants as fault
 use Rattle.plan_solve.specs.declared.solving.Solved.{Solved}
