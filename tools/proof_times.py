@@ -1,13 +1,12 @@
 #!/usr/bin/env python3
 """How long each function of a crate takes to prove: tools/proof_times.py CRATE [--test], of its tests with --test.
 
-Prints seconds of the clock, the most first, and their share. A function that takes a tenth of them is worth another form. The libraries
-below have to be proved, as `rt check CRATE` does.
+Prints seconds of the clock, the most first, their share, and the dearest modules that the prover makes of it: `Lts` is what the borrow
+checker leaves, which grows with ways out times live values, `Proof` what answers the goals. The libraries below have to be proved, as
+`rt check CRATE` does.
 
-The crate is proved from nothing in a copy, two modules at a time, by copies of the prover that write down what they found of each module.
-strace sees when: a module took the time since its copy began, or wrote the one before. A function has some eight modules. Where a
-large one names no function early on, it is told by what it names: a type then stands for a function over it. The whole takes about twice
-as long as a check, and beside other work all figures are larger.
+The crate is proved from nothing in a copy, one module behind another, over a folder where the prover keeps each module as it ends with
+it: a module took the time since the one before was kept. Beside other work all figures are larger.
 """
 import collections
 import pathlib
@@ -16,10 +15,13 @@ import shutil
 import subprocess
 import sys
 import tempfile
+import time
 
 TOP = pathlib.Path(__file__).resolve().parent.parent
 CRATES = TOP / "crates"
 SHOWN = 30
+# What the prover does before it has ended with a first module: it reads the crate and the libraries.
+BEFORE = ("(reading)", "")
 # The modules that the prover makes of a function, below its own name.
 OF_A_FUNCTION = {
     *("Answers", "Code", "Given", "Goals", "Invariants", "Key", "Kinds", "Layout", "Lts", "Met"),
@@ -36,7 +38,7 @@ def libraries_of(name):
 def command_of(kit, name, words):
     """The check of the crate in the folder where it runs, over the libraries as they are proved."""
     root = "src/main.rt" if (CRATES / name / "src" / "main.rt").is_file() else "src/lib.rt"
-    command = [kit / "bin" / "rattle", "check", "--crate-name", name, root, "--jobs", "2", *words]
+    command = [kit / "bin" / "rattle", "check", "--crate-name", name, root, "--jobs", "1", *words]
     for library in libraries_of(name):
         own = CRATES / library / "out" / "rlib" / f"{library}.rlib"
         command += ["--extern", f"{library}={own if own.is_dir() else kit / 'rlibs' / f'{library}.rlib'}"]
@@ -45,31 +47,21 @@ def command_of(kit, name, words):
     return [*command, "--antt-project", kit / "rattle" / "logic" / "antt-project.json", "--logic-built", kit / "logic_built"]
 
 
-def function_of(name, record):
-    """The function of which a module's record names most modules, or what it names most where it names those of none."""
-    functions, others = collections.Counter(), collections.Counter()
-    for path in set(re.findall(rf"Rattle-{name}-(?:proofs|specs)\.([\w.+]+)", record)):
-        parts = [it for it in path.split(".") if it != "contracts"]
-        end = next((at for at, part in enumerate(parts) if part in OF_A_FUNCTION), None)
-        (others if end is None else functions)[".".join(parts[:end])] += 1
-    found = functions or others
-    return found.most_common(1)[0][0] if found else None
+def part_of(name, module):
+    """The function, type or file that a module is of, and which of its modules it is."""
+    path = re.sub(rf"^Rattle-{name}(-proofs|-specs)?\.?(proofs\.|specs\.)?(contracts\.)?", "", module)
+    parts = path.split(".")
+    end = next((at for at, part in enumerate(parts) if part in OF_A_FUNCTION), None)
+    return (path or name, "") if end is None else (".".join(parts[:end]), parts[end])
 
 
-def seconds_by_function(name, trace):
-    """The seconds between the records of each copy, summed by what they are records of."""
-    last, seconds = {}, collections.Counter()
-    with open(trace, errors="replace") as lines:
-        for line in lines:
-            call = re.match(r"(\d+)\s+([\d.]+) (pwrite64|set_robust_list)\(", line)
-            if not call:
-                continue
-            # A copy's first call tells when it began.
-            copy, time = call[1], float(call[2])
-            function = function_of(name, line) if "at_stake" in line else None
-            if function:
-                seconds[function] += time - last.get(copy, time)
-            last[copy] = time
+def seconds_by_part(name, began, kept):
+    """The seconds until each module was kept, summed by what it is of and by which module it is."""
+    seconds = collections.defaultdict(collections.Counter)
+    for at, module in sorted((it.stat().st_mtime, it.stem) for it in kept.glob("*/*.oantt")):
+        part, kind = part_of(name, module) if seconds else BEFORE
+        seconds[part][kind] += at - began
+        began = at
     return seconds
 
 
@@ -78,20 +70,22 @@ def main():
     if not (CRATES / name / "src").is_dir() or not libraries_of(name) or words not in ([], ["--test"]):
         print(__doc__, file=sys.stderr)
         return 64
-    rt, strace = shutil.which("rt"), shutil.which("strace")
-    if not rt or not strace:
-        print("rt and strace are wanted", file=sys.stderr)
+    rt = shutil.which("rt")
+    if not rt:
+        print("rt is wanted", file=sys.stderr)
         return 69
     with tempfile.TemporaryDirectory() as folder:
-        copy, trace = pathlib.Path(folder) / name, pathlib.Path(folder) / "trace"
+        copy, kept = pathlib.Path(folder) / name, pathlib.Path(folder) / "kept"
         shutil.copytree(CRATES / name, copy, ignore=shutil.ignore_patterns("out"))
-        watch = [strace, "--seccomp-bpf", "-f", "-ttt", "-s", "200000", "-e", "trace=pwrite64,set_robust_list", "-e", "signal=none", "-o", trace]
-        command = command_of(pathlib.Path(rt).resolve().parent.parent, name, words)
-        done = subprocess.run([*watch, *command], cwd=copy, stdout=subprocess.PIPE, stderr=subprocess.STDOUT, text=True)
-        seconds = seconds_by_function(name, trace)
+        command = [*command_of(pathlib.Path(rt).resolve().parent.parent, name, words), "--incremental", kept]
+        began = time.time()
+        done = subprocess.run(command, cwd=copy, stdout=subprocess.PIPE, stderr=subprocess.STDOUT, text=True)
+        seconds = seconds_by_part(name, began, kept)
     print(done.stdout.strip().split("\n")[-1])
-    for function, of_it in seconds.most_common(SHOWN):
-        print(f"{of_it:7.1f} s {of_it / seconds.total():6.1%}  {function}")
+    total = sum(it.total() for it in seconds.values())
+    for part, of_it in sorted(seconds.items(), key=lambda it: -it[1].total())[:SHOWN]:
+        dearest = ", ".join(f"{kind} {of_kind:.1f}" for kind, of_kind in of_it.most_common(2) if kind)
+        print(f"{of_it.total():7.1f} s {of_it.total() / total:6.1%}  {part}  {dearest}")
     return done.returncode
 
 

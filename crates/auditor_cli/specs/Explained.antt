@@ -23,6 +23,12 @@ driven_by (Judged problem plan verdict) = driven_text problem plan.routes verdic
 driven_by (BadSolution fault) = []
 driven_by (BadInstance fault) = []
 
+-- it tells how far the routes of a solution drive, whatever cost it prints
+pub record TellsDriven (kind : Kind) (instance solution text : List ℕ) : Type 0 where
+  pub routes : Examined
+  pub are_routes : IsExaminedBy true kind instance solution routes
+  pub driven : text ≡ driven_by routes
+
 -- what is said of a solution that has this fault, and how far its routes drive
 pub record RestsOnFault (kind : Kind) (instance solution : List ℕ) (fault : SolFault) (text : List ℕ) : Type 0 where
   pub routes : Examined
@@ -57,15 +63,19 @@ explanation_status (Err e) = 4
 abbrev pub TellsExplanation : {E : Type 0} → Result Explanation E → Option (List ℕ) → Option (List ℕ) → ℕ → Type 0
 TellsExplanation explained before after status = (status ≡ explanation_status explained) × Appends before after (explanation_text explained)
 
--- two texts are read and explained: the answer is that of their audit
-pub record TellsBoth (routes_alone : Bool) (k : Kind) (instance solution : List ℕ) (was now : List FileRead) (before after : Option (List ℕ)) (status : ℕ) : Type 0 where
-  pub x : List ℕ
-  pub y : List ℕ
-  pub read : AreBothRead instance solution x y was now
+-- two texts are explained: the answer is that of their audit
+pub record TellsTexts (routes_alone : Bool) (k : Kind) (x y : List ℕ) (before after : Option (List ℕ)) (status : ℕ) : Type 0 where
   pub explained : Result Explanation AllocError
   pub answers : IfOk explained (λ explanation. IsAnswerBy routes_alone k x y explanation.answer)
   pub explains : IfOk explained (IsExplanation routes_alone k x y)
   pub told : TellsExplanation explained before after status
+
+-- two files are read, and their texts explained
+pub record TellsBoth (routes_alone : Bool) (k : Kind) (instance solution : List ℕ) (was now : List FileRead) (before after : Option (List ℕ)) (status : ℕ) : Type 0 where
+  pub x : List ℕ
+  pub y : List ℕ
+  pub read : AreBothRead instance solution x y was now
+  pub texts : TellsTexts routes_alone k x y before after status
 
 -- or one can't be read
 pub record TellsNotRead (instance solution : List ℕ) (was now : List FileRead) (before after : Option (List ℕ)) (status : ℕ) : Type 0 where

@@ -14,6 +14,10 @@ abbrev pub IsToldOfTextsBy : (List ℕ → List ℕ → AuditAnswer → Type 0) 
 IsToldOfTextsBy IsAnswered instance solution text status =
     (answer : Result AuditAnswer AllocError) × IfOk answer (IsAnswered instance solution) × (text ≡ answer_line answer) × (status ≡ answer_status answer)
 
+abbrev pub TellsTextsBy : (List ℕ → List ℕ → AuditAnswer → Type 0) → List ℕ → List ℕ → Option (List ℕ) → Option (List ℕ) → ℕ → Type 0
+TellsTextsBy IsAnswered instance solution before after status =
+    (text : List ℕ) × IsToldOfTextsBy IsAnswered instance solution text status × Appends before after text
+
 -- both files were read, the instance first, and these are their texts
 abbrev pub AreBothRead : List ℕ → List ℕ → List ℕ → List ℕ → List FileRead → List FileRead → Type 0
 AreBothRead instance solution x y was now = now ≡ (solution, Ok y) ∷ (instance, Ok x) ∷ was

@@ -1,14 +1,17 @@
 //! The audit of two files.
-ghost use Rattle.std.specs.Prelude.{◌≡◌, ◌≤◌, IfOk, MatchResult};
+ghost use Rattle.std.specs.Prelude.{◌≡◌, ◌≤◌, ◌++◌, IfOk, MatchResult};
+ghost use Rattle.std.specs.Io.KnownBytes.{Appends};
 ghost use Rattle.std.specs.IoError.{error_kind};
-ghost use Rattle.auditor_cli.specs.Behind.{TellsBehind};
-ghost use Rattle.auditor_cli.specs.Files.{AreBothRead, AreReadInTurn, IsUnread, TellsFiles};
+ghost use Rattle.auditor_cli.specs.Answer.{IsAnswerBy};
+ghost use Rattle.auditor_cli.specs.Behind.{TellsBehind, behind_line, limit_line};
+ghost use Rattle.auditor_cli.specs.Files.{AreBothRead, AreReadInTurn, IsUnread, TellsFiles, TellsTextsBy};
 
 use crate::audit::audit_by;
 use crate::behind::tell_texts;
 use crate::files::ReadFiles;
 use crate::telling::{tell_audit, tell_unread};
 use command_line::Paths;
+use plan_types::Kind;
 use std::alloc::Global;
 use std::io;
 use std::io::{ErrorKind, Write};
@@ -73,12 +76,46 @@ pub fn audit_noted<F: ReadFiles, W: Write, E: Write>(
         (F.reads files.old) (F.reads files.new)
         (E.contents errors.old) (E.contents errors.new)) }
 {
-    let both = match read_both(paths, files) {
-        Ok(both) => both,
-        Err(unread) => return tell_unread(output, unread.path, unread.kind),
-    };
-    let answer = audit_by(alloc, paths.kind, routes_alone, &both.0, &both.1);
-    let status = tell_audit(output, &answer)?;
-    tell_texts(paths, &both.0, &both.1, errors)?;
+    match read_both(paths, files) {
+        Ok(both) => tell_both(alloc, paths, routes_alone, &both.0, &both.1, output, errors),
+        Err(unread) => tell_unread(output, unread.path, unread.kind),
+    }
+}
+
+// Tells the audit of both texts, and on `errors` what is not asked of them.
+fn tell_both<W: Write, E: Write>(
+    alloc: Global,
+    paths: Paths<'_>,
+    routes_alone: bool,
+    instance: &[u8],
+    solution: &[u8],
+    output: &mut W,
+    errors: &mut E,
+) -> io::Result<u8>
+    ensures status { IfOk result (λ status. status ≤ 4) }
+    ensures told { IfOk result (λ status. TellsTextsBy (IsAnswerBy routes_alone paths.entry.kind)
+        instance.now solution.now (W.contents output.old) (W.contents output.new) status
+        × Appends (E.contents errors.old) (E.contents errors.new)
+        (behind_line paths.entry.solution.now solution.now
+        ++ limit_line paths.entry.kind paths.entry.instance.now instance.now)) }
+{
+    let status = tell_answer(alloc, paths.kind, routes_alone, instance, solution, output)?;
+    tell_texts(paths, instance, solution, errors)?;
     Ok(status)
+}
+
+// Tells the audit of both texts.
+fn tell_answer<W: Write>(
+    alloc: Global,
+    kind: Kind,
+    routes_alone: bool,
+    instance: &[u8],
+    solution: &[u8],
+    output: &mut W,
+) -> io::Result<u8>
+    ensures status { IfOk result (λ status. status ≤ 4) }
+    ensures told { IfOk result (TellsTextsBy (IsAnswerBy routes_alone kind)
+        instance.now solution.now (W.contents output.old) (W.contents output.new)) }
+{
+    tell_audit(output, &audit_by(alloc, kind, routes_alone, instance, solution))
 }

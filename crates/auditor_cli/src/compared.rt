@@ -1,10 +1,11 @@
 //! The audit of two files that a list names, beside a best-known cost of the instance.
 ghost use Rattle.std.specs.Prelude.{◌≡◌, ◌≤◌, ◌++◌, IfOk};
+ghost use Rattle.std.specs.Io.KnownBytes.{Appends};
 ghost use Rattle.best_known.specs.BestKnown.{comparison_text};
 ghost use Rattle.auditor_cli.specs.AnswerText.{pass_text};
 ghost use Rattle.auditor_cli.specs.Behind.{TellsOfSolution, listed_line};
 ghost use Rattle.auditor_cli.specs.Compared.{IsComparedAnswer, IsListedAnswer, compared_answer, compared_verdict};
-ghost use Rattle.auditor_cli.specs.Files.{AreReadInTurn, TellsFilesBy};
+ghost use Rattle.auditor_cli.specs.Files.{AreReadInTurn, TellsFilesBy, TellsTextsBy};
 
 use crate::answer::{AuditAnswer, AuditLine, pass_line};
 use crate::audit::{Examined, answer_of, audit_by, examine_by, verdict_told};
@@ -53,14 +54,61 @@ pub(crate) fn compare_read<F: ReadFiles, W: Write, E: Write>(
         (F.reads files.old) (F.reads files.new)
         (E.contents errors.old) (E.contents errors.new)) }
 {
-    let both = match read_both(pair.paths, files) {
-        Ok(both) => both,
-        Err(unread) => return tell_unread(output, unread.path, unread.kind),
-    };
-    let answer = listed_answer(alloc, pair, routes_alone, &both.0, &both.1);
-    let status = tell_audit(output, &answer)?;
-    tell_listed_behind(place, pair.paths.solution, &both.1, errors)?;
+    match read_both(pair.paths, files) {
+        Ok(both) => tell_listed(
+            alloc,
+            pair,
+            place,
+            routes_alone,
+            &both.0,
+            &both.1,
+            output,
+            errors,
+        ),
+        Err(unread) => tell_unread(output, unread.path, unread.kind),
+    }
+}
+
+// Tells the audit of both texts, and on `errors` what stands behind the cost line of the solution.
+fn tell_listed<W: Write, E: Write>(
+    alloc: Global,
+    pair: &ListedPair<'_>,
+    place: ListLine<'_>,
+    routes_alone: bool,
+    instance: &[u8],
+    solution: &[u8],
+    output: &mut W,
+    errors: &mut E,
+) -> io::Result<u8>
+    ensures status { IfOk result (λ status. status ≤ 4) }
+    ensures told { IfOk result (λ status. TellsTextsBy
+        (IsListedAnswer routes_alone pair.now.paths.kind pair.now.best)
+        instance.now solution.now (W.contents output.old) (W.contents output.new) status
+        × Appends (E.contents errors.old) (E.contents errors.new)
+        (listed_line place.entry.list.now place.entry.number pair.now.paths.solution.now
+        solution.now)) }
+{
+    let status = tell_answer(alloc, pair, routes_alone, instance, solution, output)?;
+    tell_listed_behind(place, pair.paths.solution, solution, errors)?;
     Ok(status)
+}
+
+// Tells the audit of both texts.
+fn tell_answer<W: Write>(
+    alloc: Global,
+    pair: &ListedPair<'_>,
+    routes_alone: bool,
+    instance: &[u8],
+    solution: &[u8],
+    output: &mut W,
+) -> io::Result<u8>
+    ensures status { IfOk result (λ status. status ≤ 4) }
+    ensures told { IfOk result (TellsTextsBy
+        (IsListedAnswer routes_alone pair.now.paths.kind pair.now.best)
+        instance.now solution.now (W.contents output.old) (W.contents output.new)) }
+{
+    let answer = listed_answer(alloc, pair, routes_alone, instance, solution);
+    tell_audit(output, &answer)
 }
 
 // Audits a solution's text against an instance's text.

@@ -1,10 +1,10 @@
 //! The audit of two files, and what it rests on.
-ghost use Rattle.std.specs.Prelude.{◌≡◌, ◌≤◌, IfOk, string_bytes};
+ghost use Rattle.std.specs.Prelude.{◌≡◌, ◌≤◌, ◌++◌, IfOk, string_bytes};
 ghost use Rattle.std.specs.Io.KnownBytes.{Appends};
 ghost use Rattle.auditor_cli.specs.Answer.{IsAnswerBy};
-ghost use Rattle.auditor_cli.specs.Behind.{TellsBehind};
-ghost use Rattle.auditor_cli.specs.Examined.{HasVerdictOfSome};
-ghost use Rattle.auditor_cli.specs.Explained.{IsExplanation, RestsOn, RestsOnFault, TellsExplained, TellsExplanation, driven_by, told_text};
+ghost use Rattle.auditor_cli.specs.Behind.{TellsBehind, behind_line, limit_line};
+ghost use Rattle.auditor_cli.specs.Examined.{HasVerdictOfSome, answer_of};
+ghost use Rattle.auditor_cli.specs.Explained.{IsExplanation, RestsOn, RestsOnFault, TellsDriven, TellsExplained, TellsExplanation, TellsTexts, driven_by, told_text};
 ghost use Rattle.auditor_cli.specs.Files.{AreReadInTurn};
 
 use crate::answer::AuditAnswer;
@@ -51,14 +51,49 @@ pub fn explain_read<F: ReadFiles, W: Write, E: Write>(
         (F.reads files.old) (F.reads files.new)
         (E.contents errors.old) (E.contents errors.new)) }
 {
-    let both = match read_both(paths, files) {
-        Ok(both) => both,
-        Err(unread) => return tell_unread(output, unread.path, unread.kind),
-    };
-    let explained = explain(alloc, paths.kind, routes_alone, &both.0, &both.1);
-    let status = tell_explanation(output, &explained)?;
-    tell_texts(paths, &both.0, &both.1, errors)?;
+    match read_both(paths, files) {
+        Ok(both) => tell_both(alloc, paths, routes_alone, &both.0, &both.1, output, errors),
+        Err(unread) => tell_unread(output, unread.path, unread.kind),
+    }
+}
+
+// Tells the audit of both texts and what it rests on, and on `errors` what is not asked of them.
+fn tell_both<W: Write, E: Write>(
+    alloc: Global,
+    paths: Paths<'_>,
+    routes_alone: bool,
+    instance: &[u8],
+    solution: &[u8],
+    output: &mut W,
+    errors: &mut E,
+) -> io::Result<u8>
+    ensures status { IfOk result (λ status. status ≤ 4) }
+    ensures told { IfOk result (λ status. TellsTexts routes_alone paths.entry.kind
+        instance.now solution.now (W.contents output.old) (W.contents output.new) status
+        × Appends (E.contents errors.old) (E.contents errors.new)
+        (behind_line paths.entry.solution.now solution.now
+        ++ limit_line paths.entry.kind paths.entry.instance.now instance.now)) }
+{
+    let status = tell_texts_explained(alloc, paths.kind, routes_alone, instance, solution, output)?;
+    tell_texts(paths, instance, solution, errors)?;
     Ok(status)
+}
+
+// Tells the audit of both texts and what it rests on.
+fn tell_texts_explained<W: Write>(
+    alloc: Global,
+    kind: Kind,
+    routes_alone: bool,
+    instance: &[u8],
+    solution: &[u8],
+    output: &mut W,
+) -> io::Result<u8>
+    ensures status { IfOk result (λ status. status ≤ 4) }
+    ensures told { IfOk result (TellsTexts routes_alone kind
+        instance.now solution.now (W.contents output.old) (W.contents output.new)) }
+{
+    let explained = explain(alloc, kind, routes_alone, instance, solution);
+    tell_explanation(output, &explained)
 }
 
 /// Tells an answer with its lines, or want of memory.
@@ -100,8 +135,24 @@ fn explain(
 {
     routes_are_judged_by_true_cost();
     let examined = examine_by(alloc, kind, routes_alone, instance, solution)?;
-    let answer = answer_of(alloc, &examined)?;
-    let text = rests_on(alloc, kind, instance, solution, &examined)?;
+    explanation_of(alloc, kind, instance, solution, &examined)
+}
+
+// The answer for what two texts are, and what it rests on.
+fn explanation_of(
+    alloc: Global,
+    kind: Kind,
+    instance: &[u8],
+    solution: &[u8],
+    examined: &Examined,
+) -> Result<Explanation, OutOfMemory>
+    requires { HasVerdictOfSome examined.now }
+    ensures answer { IfOk result (λ explanation. explanation.answer ≡ answer_of examined.now) }
+    ensures rests { IfOk result (λ explanation. RestsOn kind instance.now solution.now
+        examined.now (string_bytes explanation.text)) }
+{
+    let answer = answer_of(alloc, examined)?;
+    let text = rests_on(alloc, kind, instance, solution, examined)?;
     Ok(Explanation { answer, text })
 }
 
@@ -135,12 +186,25 @@ fn rests_on_fault(
     ensures { IfOk result (λ text. RestsOnFault kind instance.now solution.now fault
         (string_bytes text)) }
 {
-    routes_are_judged_by_true_cost();
-    let routes = examine_by(alloc, kind, true, instance, solution)?;
     let mut text = explain_solution_fault(alloc, solution, fault)?;
-    let driven = driven_by(alloc, &routes)?;
+    let driven = routes_driven(alloc, kind, instance, solution)?;
     text.push_str(driven.as_str())?;
     Ok(text)
+}
+
+// How far the routes of the solution alone drive, where they can be read.
+fn routes_driven(
+    alloc: Global,
+    kind: Kind,
+    instance: &[u8],
+    solution: &[u8],
+) -> Result<String, OutOfMemory>
+    ensures { IfOk result (λ text. TellsDriven kind instance.now solution.now
+        (string_bytes text)) }
+{
+    routes_are_judged_by_true_cost();
+    let routes = examine_by(alloc, kind, true, instance, solution)?;
+    driven_by(alloc, &routes)
 }
 
 // How far these routes drive, where they could be read.

@@ -108,6 +108,7 @@ use Rattle.command_line.specs.Asked.{
   Asked,
   IsRefusal,
   PathsAsked,
+  ReadsMatches,
   ReadsWords,
   adopt_asked,
   adopt_in,
@@ -880,6 +881,12 @@ parsed command texts m h p no_fault matches =
 pub passed_up : (words : List Text) (r : Result Invocation Error) (e : Error) → IsErrAnd r (λ y. y ≡ e) → IsRefusal words e → ReadsWords words r
 passed_up words (Ok x) e is h = absurd is
 passed_up words (Err y) e is h = subst (λ (z : Error). IsRefusal words z) (sym is) h
+
+-- what is read of the matches is what is read of the words that they are of
+pub read_of : (words : List Text) (told : Option Asked) (r : Result Invocation Error) → asked_by words ≡ told → ReadsMatches told r → ReadsWords words r
+read_of words told (Ok invocation) same read = same ∙ read
+read_of words told (Err error) same (inl memory) = inl memory
+read_of words told (Err error) same (inr refused) = inr (same ∙ refused.0, inr refused.1)
 
 -- ---- the subcommand's name and its rows
 

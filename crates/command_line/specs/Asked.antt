@@ -484,6 +484,12 @@ usage_status_of _ = 64
 abbrev pub IsRefusal : List Text → Error → Type 0
 IsRefusal words error = (kind_of error ≡ OutOfMemory) ⊎ ((asked_by words ≡ None) × ((asks_help words ≡ true) ⊎ (usage_status_of (kind_of error) ≡ 64)))
 
+-- what is read is what the subcommand asks for; an error other than for want of memory comes only where it asks for nothing
+abbrev pub ReadsMatches : Option Asked → Result Invocation Error → Type 0
+ReadsMatches told r = MatchResult r
+    (λ invocation. told ≡ Some (asked_of invocation))
+    (λ error. (kind_of error ≡ OutOfMemory) ⊎ ((told ≡ None) × (usage_status_of (kind_of error) ≡ 64)))
+
 -- what is read is what the words ask for
 abbrev pub ReadsWords : List Text → Result Invocation Error → Type 0
 ReadsWords words r = MatchResult r (λ invocation. asked_by words ≡ Some (asked_of invocation)) (IsRefusal words)

@@ -3,11 +3,12 @@
 //! Words that begin with a hyphen are `clap`'s, and the contract speaks of the other ones, since an exact clause
 //! would have to speak of UTF-8 within each word. `--` alone counts as no words, as `clap` has it.
 ghost use Rattle.std.specs.Prelude.{drop, map};
-ghost use Rattle.command_line.specs.Asked.{ArePositional, ReadsWords};
+ghost use Rattle.clap.specs.Words.{subcommand_rows_of};
+ghost use Rattle.command_line.specs.Asked.{ArePositional, ReadsMatches, ReadsWords, told_of};
 
 use crate::commands::{bad_words, planner_command};
 use crate::matches::asked_words;
-use clap::Error;
+use clap::{ArgMatches, Error};
 use plan_types::Kind;
 use std::alloc::Global;
 use std::convert::AsStr;
@@ -53,7 +54,7 @@ pub struct Loading<'a> {
 }
 
 /// What the words of the command line ask for.
-#[derive(Clone, Copy, Debug)]
+#[derive(Clone, Copy)]
 pub enum Invocation<'a> {
     /// No words: the audit of the two texts that are built in.
     BuiltIn,
@@ -144,8 +145,18 @@ pub fn read_words<'a, S: AsStr>(
         ArePositional asked → ReadsWords asked result }
 {
     let matches = planner_command(alloc, lines)?.try_get_matches_from(words)?;
-    match asked_words(&matches) {
+    asked_or_refused(alloc, &matches)
+}
+
+// What the words ask for, by what `clap` matched, or the error for words that it let pass.
+fn asked_or_refused<'a>(
+    alloc: Global,
+    matches: &ArgMatches<'a>,
+) -> Result<Invocation<'a>, Error>
+    ensures { ReadsMatches (told_of (subcommand_rows_of matches.now)) result }
+{
+    match asked_words(matches) {
         Some(invocation) => Ok(invocation),
-        None => Err(bad_words(alloc, &matches)?),
+        None => Err(bad_words(alloc, matches)?),
     }
 }

@@ -1,11 +1,11 @@
 -- What each read gave, and what is told of it.
-use Rattle.std.proofs.Common.{◌++◌, subst, inl, inr}
+use Rattle.std.proofs.Common.{◌≡◌, ◌++◌, subst, inl, inr}
 use Rattle.std.proofs.KnownBytes.{Appends-nil}
 use Rattle.std.proofs.lemmas.Result.{IfOk-weaker}
 use Rattle.std.specs.Io.KnownBytes.{Appends}
 use Rattle.auditor_cli.specs.Answer.{IsAnswerBy}
 use Rattle.auditor_cli.specs.Behind.{behind_line, limit_line}
-use Rattle.auditor_cli.proofs.FileLemmas.{read_told, unread_told}
+use Rattle.auditor_cli.proofs.FileLemmas.{texts_told, unread_told}
 use Rattle.auditor_cli.proofs.audited.audit_noted.Goals as goal
 
 pub returns-in-Err-clause-told : goal.returns-in-Err-clause-told
@@ -19,17 +19,25 @@ returns-in-Err-clause-told g c =
     ))
     c.tell_unread.ensures
 
-pub returns-clause-told : goal.returns-clause-told
-returns-clause-told g c =
+pub returns-in-Ok-clause-told : goal.returns-in-Ok-clause-told
+returns-in-Ok-clause-told g c =
     let both = c.in-Ok.both in
     let paths = c.args.paths in
     let before = g.E.Write.contents c.args.errors.now in
-    let after = g.E.Write.contents c.tell_texts.new.errors in
-    let behind = subst (λ x. Appends before after (behind_line paths.solution.now both.1.items ++ limit_line paths.kind paths.instance.now x)) c.deref-3.ensures.value
-    (subst (λ y. Appends before after (behind_line paths.solution.now y ++ limit_line paths.kind paths.instance.now c.deref-3.result.now)) c.deref-4.ensures.value c.in_ok-tell_texts.ensures) in (
-      read_told
-          (IsAnswerBy c.args.routes_alone c.args.paths.kind) c.args.paths.instance.now c.args.paths.solution.now _ _ _ _ c.in_ok-status.status both.0.items
-          both.1.items c.deref.result.now c.deref-2.result.now c.audit_by-answer.result c.deref.ensures.value c.deref-2.ensures.value c.in-Ok.ensures
-          c.audit_by-answer.ensures.answer c.in_ok-status.ensures,
-      inl (both.0.items, both.1.items, c.in-Ok.ensures, behind),
-    )
+    let after = g.E.Write.contents c.tell_both.new.errors in
+    let x = c.deref.result.now in
+    let y = c.deref-in-Ok.result.now in
+    let is_x : x ≡ both.0.items = c.deref.ensures.value in
+    let is_y : y ≡ both.1.items = c.deref-in-Ok.ensures.value in
+    IfOk-weaker c.tell_both.result _ _
+    (λ status told. (
+      texts_told (IsAnswerBy c.args.routes_alone paths.kind) paths.instance.now paths.solution.now _ _ _ _ status both.0.items both.1.items x y is_x is_y c.in-Ok.ensures told.0,
+      inl (
+        both.0.items,
+        both.1.items,
+        c.in-Ok.ensures,
+        subst (λ t. Appends before after (behind_line paths.solution.now both.1.items ++ limit_line paths.kind paths.instance.now t)) is_x
+        (subst (λ t. Appends before after (behind_line paths.solution.now t ++ limit_line paths.kind paths.instance.now x)) is_y told.1),
+      ),
+    ))
+    c.tell_both.ensures.told

@@ -1,7 +1,7 @@
 -- Routes without a cost have the verdict of the same routes with their true cost.
 use Rattle.std.proofs.Common.{true}
 use Rattle.auditor_cli.proofs.ExaminedLemmas.{has_verdict}
-use Rattle.auditor_cli.proofs.explained.rests_on_fault.Goals as goal
+use Rattle.auditor_cli.proofs.explained.routes_driven.Goals as goal
 
 pub driven_by-requires : goal.driven_by-requires
 driven_by-requires c =
