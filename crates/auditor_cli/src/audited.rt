@@ -117,5 +117,8 @@ fn tell_answer<W: Write>(
     ensures told { IfOk result (TellsTextsBy (IsAnswerBy routes_alone kind)
         instance.now solution.now (W.contents output.old) (W.contents output.new)) }
 {
-    tell_audit(output, &audit_by(alloc, kind, routes_alone, instance, solution))
+    tell_audit(
+        output,
+        &audit_by(alloc, kind, routes_alone, instance, solution),
+    )
 }

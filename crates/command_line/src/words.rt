@@ -149,10 +149,7 @@ pub fn read_words<'a, S: AsStr>(
 }
 
 // What the words ask for, by what `clap` matched, or the error for words that it let pass.
-fn asked_or_refused<'a>(
-    alloc: Global,
-    matches: &ArgMatches<'a>,
-) -> Result<Invocation<'a>, Error>
+fn asked_or_refused<'a>(alloc: Global, matches: &ArgMatches<'a>) -> Result<Invocation<'a>, Error>
     ensures { ReadsMatches (told_of (subcommand_rows_of matches.now)) result }
 {
     match asked_words(matches) {

@@ -1,9 +1,9 @@
 //! Commands that a planner carries out. Those of a solving are never refused but for want of memory.
-ghost use Rattle.std.specs.Prelude.{◌≡◌, IfOk, OnOk};
+ghost use Rattle.std.specs.Prelude.{◌≡◌, IfErr, IfOk, OnOk};
 ghost use Rattle.command_core.specs.Effects.{effect};
 ghost use Rattle.command_core.specs.declared.states.State.TheVariants.{Loaded};
 
-use command_core::{Command, Job, Planner, State};
+use command_core::{Change, Command, Job, Planner, Refusal, State};
 use plan_types::OutOfMemory;
 use std::alloc::{AllocError, Global};
 
@@ -15,7 +15,14 @@ pub(crate) fn carry_out(
 ) -> Result<(), OutOfMemory>
     ensures { OnOk result (planner.new ≡ effect planner.old command) }
 {
-    match planner.change(alloc, &command) {
+    unless_refused(planner.change(alloc, &command))
+}
+
+// What was refused was so for want of memory.
+fn unless_refused(changed: Result<Change, Refusal>) -> Result<(), OutOfMemory>
+    ensures { OnOk result (IfErr changed (λ _. ⊥)) }
+{
+    match changed {
         Ok(_) => Ok(()),
         Err(_) => Err(AllocError),
     }
@@ -28,6 +35,19 @@ pub(crate) fn job_of(planner: &Planner) -> Result<&Job, OutOfMemory>
     match planner.state() {
         State::Loaded(job) => Ok(job),
         State::Empty => Err(AllocError),
+    }
+}
+
+/// The job of a planner that has made its steps, if none was refused.
+pub(crate) fn job_behind(
+    planner: Planner,
+    made: Result<(), OutOfMemory>,
+) -> Result<Job, OutOfMemory>
+    ensures { IfOk result (λ job. (planner ≡ Loaded job) × IfErr made (λ _. ⊥)) }
+{
+    match made {
+        Ok(()) => into_job(planner),
+        Err(error) => Err(error),
     }
 }
 

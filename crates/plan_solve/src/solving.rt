@@ -1,10 +1,12 @@
 //! From an instance's text to a plan's.
-ghost use Rattle.std.specs.Prelude.{◌≡◌, IfOk, MatchResult};
+ghost use Rattle.std.specs.Prelude.{◌≡◌, IfOk, MatchResult, OnOk};
+ghost use Rattle.command_core.specs.Effects.{effect};
+ghost use Rattle.command_core.specs.declared.commands.Command.TheVariants.{Build, Load};
 ghost use Rattle.plan_solve.specs.Solved.{Fails, IsSolved, begun, deviation_of, lines_from, solved_from};
 ghost use Rattle.plan_solve.specs.Telling.{HasWalked, IsFound, refused};
 
 use crate::annealing::anneal_telling;
-use crate::carrying::{carry_out, into_job};
+use crate::carrying::{carry_out, job_behind};
 use crate::faults::SolveFault;
 use crate::printing::answer;
 use crate::searching::search_telling;
@@ -84,9 +86,21 @@ fn build(alloc: Global, problem: Problem, seed: u64) -> Result<Job, OutOfMemory>
     ensures { IfOk result (λ job. job ≡ begun problem seed) }
 {
     let mut planner = Planner::new(State::Empty);
-    carry_out(alloc, &mut planner, Command::Load(problem, seed))?;
-    carry_out(alloc, &mut planner, Command::Build)?;
-    into_job(planner)
+    let built = build_on(alloc, &mut planner, problem, seed);
+    job_behind(planner, built)
+}
+
+// The same by a planner.
+fn build_on(
+    alloc: Global,
+    planner: &mut Planner,
+    problem: Problem,
+    seed: u64,
+) -> Result<(), OutOfMemory>
+    ensures { OnOk result (planner.new ≡ effect (effect planner.old (Load problem seed)) Build) }
+{
+    carry_out(alloc, planner, Command::Load(problem, seed))?;
+    carry_out(alloc, planner, Command::Build)
 }
 
 fn refused(fault: ReadFault) -> SolveFault

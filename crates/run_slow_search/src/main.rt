@@ -10,6 +10,9 @@
 //! Modules: `plans` (plans, told slowly), `steps` (a step by the table of its operators).
 #![tactic(auto)]
 
+ghost use Rattle.std.specs.Prelude.{◌≡◌, ◌<◌, ◌^◌, true};
+ghost use Rattle.plan_audit.specs.Passes.{passes};
+
 mod plans;
 mod steps;
 
@@ -20,10 +23,10 @@ use seeded_search::{Found, search_step, search_steps, words};
 use std::alloc::Global;
 use std::rt::Files;
 use std::{fs, io};
-use steps::step;
+use steps::{copies_of, step};
 
 /// A search whose steps are made twice.
-#[derive(Drop)]
+#[derive(Clone, Copy)]
 struct Task<'a> {
     is_vrp: bool,
     path: &'a str,
@@ -62,18 +65,32 @@ fn task_of(line: &str) -> Option<Task<'_>> {
 
 fn run<R: Print + Files + Alloc>(rt: &R, alloc: Global, task: &Task) -> io::Result<()> {
     let text = fs::read(rt, task.path)?;
-    match read(alloc, task, &text) {
-        Ok(problem) => match compared(alloc, task, &problem) {
-            Ok(Outcome::Alike { changes, cost }) => {
-                println!(rt;
-                    "alike; the working plan changed {changes} times; cost {} {} {}",
-                    cost.unplanned, cost.vehicles, cost.distance
-                )
-            }
-            Ok(Outcome::Differs { step }) => println!(rt; "step {step} differs"),
-            Err(_) => println!(rt; "out of memory"),
-        },
+    print_read(rt, alloc, task, &read(alloc, task, &text))
+}
+
+// What comes of the search over the problem that was read.
+fn print_read<R: Print>(
+    rt: &R,
+    alloc: Global,
+    task: &Task,
+    read: &Result<Problem, ReadFault>,
+) -> io::Result<()> {
+    match read {
+        Ok(problem) => print_outcome(rt, compared(alloc, task, problem)),
         Err(fault) => println!(rt; "{fault}"),
+    }
+}
+
+fn print_outcome<R: Print>(rt: &R, outcome: Result<Outcome, OutOfMemory>) -> io::Result<()> {
+    match outcome {
+        Ok(Outcome::Alike { changes, cost }) => {
+            println!(rt;
+                "alike; the working plan changed {changes} times; cost {} {} {}",
+                cost.unplanned, cost.vehicles, cost.distance
+            )
+        }
+        Ok(Outcome::Differs { step }) => println!(rt; "step {step} differs"),
+        Err(_) => println!(rt; "out of memory"),
     }
 }
 
@@ -86,7 +103,7 @@ fn read(alloc: Global, task: &Task, text: &[u8]) -> Result<Problem, ReadFault> {
 }
 
 /// What comes of a comparison.
-#[derive(Drop)]
+#[derive(Clone, Copy)]
 enum Outcome {
     Alike { changes: u32, cost: Cost },
     Differs { step: u64 },
@@ -95,29 +112,65 @@ enum Outcome {
 // Makes each step in both ways.
 fn compared(alloc: Global, task: &Task, problem: &Problem) -> Result<Outcome, OutOfMemory> {
     let (pins, begun) = begin(alloc, task, problem)?;
-    let mut found = Found {
-        plan: begun.copy()?,
-        work: begun.copy()?,
-    };
+    compared_from(alloc, task, problem, &pins, &begun)
+}
+
+// The same from this plan.
+fn compared_from(
+    alloc: Global,
+    task: &Task,
+    problem: &Problem,
+    pins: &Pins,
+    begun: &Plan,
+) -> Result<Outcome, OutOfMemory> {
+    let mut found = copies_of(begun, begun)?;
+    compared_on(alloc, task, problem, pins, begun, &mut found)
+}
+
+// The same; both plans become those of the last step that is alike.
+fn compared_on(
+    alloc: Global,
+    task: &Task,
+    problem: &Problem,
+    pins: &Pins,
+    begun: &Plan,
+    found: &mut Found,
+) -> Result<Outcome, OutOfMemory> {
     let mut changes: u32 = 0;
     for done in 0..task.steps {
         let number = task.first.saturating_add(u64::from(done));
-        let Some(next) = one_step(alloc, task, problem, &pins, &found, number)? else {
-            return Ok(Outcome::Differs { step: number });
-        };
-        if !are_same(&next.work, &found.work) {
-            changes = changes.saturating_add(1);
+        match advance(alloc, task, problem, pins, found, number)? {
+            Some(is_changed) => changes = changes.saturating_add(u32::from(is_changed)),
+            None => return Ok(Outcome::Differs { step: number }),
         }
-        found = next;
     }
-    let Some((all, cost)) = searched(alloc, task, problem, &pins, &begun)? else {
-        return Ok(Outcome::Differs { step: task.first });
-    };
-    if are_same(&all.plan, &found.plan) && are_same(&all.work, &found.work) {
-        Ok(Outcome::Alike { changes, cost })
-    } else {
-        Ok(Outcome::Differs { step: task.first })
+    match searched(alloc, task, problem, pins, begun, found)? {
+        Some(cost) => Ok(Outcome::Alike { changes, cost }),
+        None => Ok(Outcome::Differs { step: task.first }),
     }
+}
+
+// Makes a step in both ways; whether it changed the working plan, where they are alike.
+fn advance(
+    alloc: Global,
+    task: &Task,
+    problem: &Problem,
+    pins: &Pins,
+    found: &mut Found,
+    number: u64,
+) -> Result<Option<bool>, OutOfMemory> {
+    match one_step(alloc, task, problem, pins, found, number)? {
+        Some(next) => {
+            let is_changed = !are_same(&next.work, &found.work);
+            *found = next;
+            Ok(Some(is_changed))
+        }
+        None => Ok(None),
+    }
+}
+
+fn are_both_same(one: &Found, other: &Found) -> bool {
+    are_same(&one.plan, &other.plan) && are_same(&one.work, &other.work)
 }
 
 // A plan and its pins: the first stops of each route.
@@ -147,6 +200,23 @@ fn one_step(
     }
     let words = words(task.seed, number);
     let slow = step(alloc, problem, pins, found, &best, task.deviation, &words)?;
+    next_alike(alloc, task, problem, pins, found, number, &slow)
+}
+
+// What the search makes of both plans, where it is this.
+fn next_alike(
+    alloc: Global,
+    task: &Task,
+    problem: &Problem,
+    pins: &Pins,
+    found: &Found,
+    number: u64,
+    slow: &Found,
+) -> Result<Option<Found>, OutOfMemory>
+    requires plan { passes problem.now pins.now.routes found.now.plan.routes ≡ true }
+    requires work { passes problem.now pins.now.routes found.now.work.routes ≡ true }
+    requires number { number < 2 ^ 60 }
+{
     let next = search_step(
         alloc,
         problem,
@@ -157,21 +227,22 @@ fn one_step(
         task.seed,
         number,
     )?;
-    if are_same(&slow.plan, &next.plan) && are_same(&slow.work, &next.work) {
+    if are_both_same(slow, &next) {
         Ok(Some(next))
     } else {
         Ok(None)
     }
 }
 
-// All steps at once, and what the incumbent then costs.
+// What the incumbent costs behind all steps at once, where both plans are then these.
 fn searched(
     alloc: Global,
     task: &Task,
     problem: &Problem,
     pins: &Pins,
     plan: &Plan,
-) -> Result<Option<(Found, Cost)>, OutOfMemory> {
+    found: &Found,
+) -> Result<Option<Cost>, OutOfMemory> {
     let count = u64::from(task.steps);
     if task.first >= 1 << 60 || count > (1 << 60) - task.first {
         return Ok(None);
@@ -179,7 +250,7 @@ fn searched(
     if cost(alloc, problem, pins, plan)?.is_none() {
         return Ok(None);
     }
-    let found = search_steps(
+    let all = search_steps(
         alloc,
         problem,
         pins,
@@ -190,8 +261,9 @@ fn searched(
         task.first,
         count,
     )?;
-    match cost(alloc, problem, pins, &found.plan)? {
-        Some(cost) => Ok(Some((found, cost))),
-        None => Ok(None),
+    if are_both_same(&all, found) {
+        cost(alloc, problem, pins, &all.plan)
+    } else {
+        Ok(None)
     }
 }

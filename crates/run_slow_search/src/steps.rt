@@ -20,29 +20,46 @@ pub(crate) fn step(
 ) -> Result<Found, OutOfMemory>
     requires { passes problem.now pins.now.routes found.now.work.routes ≡ true }
 {
-    let mut new = Found {
-        plan: found.plan.copy()?,
-        work: found.work.copy()?,
-    };
     let work = Work {
         problem,
         pins,
         plan: &found.work,
         words,
     };
-    let Some(candidate) = work.candidate(alloc)? else {
-        return Ok(new);
-    };
-    let Some(cost) = cost(alloc, problem, pins, &candidate)? else {
-        return Ok(new);
-    };
-    if cost <= *best {
-        new.plan = candidate.copy()?;
+    match work.candidate(alloc)? {
+        Some(candidate) => judged(alloc, problem, pins, found, best, deviation, &candidate),
+        None => copies_of(&found.plan, &found.work),
     }
-    if is_near(&cost, best, deviation) {
-        new.work = candidate;
+}
+
+// Both plans behind a candidate.
+fn judged(
+    alloc: Global,
+    problem: &Problem,
+    pins: &Pins,
+    found: &Found,
+    best: &Cost,
+    deviation: u32,
+    candidate: &Plan,
+) -> Result<Found, OutOfMemory> {
+    let (mut plan, mut work) = (&found.plan, &found.work);
+    if let Some(cost) = cost(alloc, problem, pins, candidate)? {
+        if cost <= *best {
+            plan = candidate;
+        }
+        if is_near(&cost, best, deviation) {
+            work = candidate;
+        }
     }
-    Ok(new)
+    copies_of(plan, work)
+}
+
+/// An incumbent and a working plan, copied.
+pub(crate) fn copies_of(plan: &Plan, work: &Plan) -> Result<Found, OutOfMemory> {
+    Ok(Found {
+        plan: plan.copy()?,
+        work: work.copy()?,
+    })
 }
 
 fn is_near(cost: &Cost, best: &Cost, deviation: u32) -> bool {
@@ -74,37 +91,46 @@ impl Work<'_> {
 
     fn relocated(&self, alloc: Global) -> Result<Option<Plan>, OutOfMemory> {
         let names = self.movable(alloc)?;
-        let Some(name) = names.get(picked(self.words[1], names.len())) else {
-            return Ok(None);
-        };
-        let Some(left) = remove(alloc, self.problem, self.pins, self.plan, &[*name])? else {
-            return Ok(None);
-        };
-        Ok(Some(self.placed(alloc, left, *name)?))
+        match names.get(picked(self.words[1], names.len())) {
+            Some(name) => self.replaced(alloc, &[*name]),
+            None => Ok(None),
+        }
     }
 
     fn exchanged(&self, alloc: Global) -> Result<Option<Plan>, OutOfMemory> {
         let names = self.movable(alloc)?;
-        let one = names.get(picked(self.words[1], names.len())).copied();
-        let other = names.get(picked(self.words[2], names.len())).copied();
-        let (Some(one), Some(other)) = (one, other) else {
-            return Ok(None);
-        };
-        exchange(alloc, self.problem, self.pins, self.plan, one, other)
+        let one = names.get(picked(self.words[1], names.len()));
+        let other = names.get(picked(self.words[2], names.len()));
+        match (one, other) {
+            (Some(one), Some(other)) => {
+                exchange(alloc, self.problem, self.pins, self.plan, *one, *other)
+            }
+            _ => Ok(None),
+        }
     }
 
     fn crossed(&self, alloc: Global) -> Result<Option<Plan>, OutOfMemory> {
+        let used = self.used(alloc)?;
+        let a = used.get(picked(self.words[1], used.len()));
+        let b = used.get(picked(self.words[2], used.len()));
+        match (a, b) {
+            (Some(a), Some(b)) => self.crossed_at(alloc, *a, *b),
+            _ => Ok(None),
+        }
+    }
+
+    // The vehicles that are used, from 0.
+    fn used(&self, alloc: Global) -> Result<Vec<usize>, OutOfMemory> {
         let mut used = Vec::new(alloc);
         for (index, route) in self.plan.routes.as_slice().iter().enumerate() {
             if !route.as_slice().is_empty() {
                 used.push(index)?;
             }
         }
-        let a = used.get(picked(self.words[1], used.len())).copied();
-        let b = used.get(picked(self.words[2], used.len())).copied();
-        let (Some(a), Some(b)) = (a, b) else {
-            return Ok(None);
-        };
+        Ok(used)
+    }
+
+    fn crossed_at(&self, alloc: Global, a: usize, b: usize) -> Result<Option<Plan>, OutOfMemory> {
         two_opt_star(
             alloc,
             self.problem,
@@ -122,22 +148,41 @@ impl Work<'_> {
         if drawn.is_empty() {
             return Ok(None);
         }
-        let Some(mut plan) = remove(alloc, self.problem, self.pins, self.plan, &drawn)? else {
-            return Ok(None);
-        };
-        for name in &drawn {
+        match self.replaced(alloc, &drawn)? {
+            Some(plan) => Ok(Some(self.with_others(alloc, plan)?)),
+            None => Ok(None),
+        }
+    }
+
+    // The plan with these requests removed and put in again one by one.
+    fn replaced(&self, alloc: Global, names: &[u32]) -> Result<Option<Plan>, OutOfMemory> {
+        match remove(alloc, self.problem, self.pins, self.plan, names)? {
+            Some(left) => Ok(Some(self.with(alloc, left, names)?)),
+            None => Ok(None),
+        }
+    }
+
+    // The plan with these requests put in one by one.
+    fn with(&self, alloc: Global, plan: Plan, names: &[u32]) -> Result<Plan, OutOfMemory> {
+        let mut plan = plan;
+        for name in names {
             plan = self.placed(alloc, plan, *name)?;
         }
+        Ok(plan)
+    }
+
+    // The plan with those put in that the working plan has not. Those drawn had their turn.
+    fn with_others(&self, alloc: Global, plan: Plan) -> Result<Plan, OutOfMemory> {
         let problem = self.problem;
+        let mut plan = plan;
         for index in 0..problem.requests.len() {
             if let Some((name, request)) = problem.requests.get_index(index) {
-                // Those drawn had their turn.
                 if !has(&self.plan.routes, request) {
                     plan = self.placed(alloc, plan, *name)?;
                 }
             }
         }
-        Ok(Some(plan))
+        Ok(plan)
     }
 
     // The planned requests without a pinned stop, by rising name.

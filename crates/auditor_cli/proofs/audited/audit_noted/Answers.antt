@@ -37,7 +37,7 @@ returns-in-Ok-clause-told g c =
         both.1.items,
         c.in-Ok.ensures,
         subst (λ t. Appends before after (behind_line paths.solution.now both.1.items ++ limit_line paths.kind paths.instance.now t)) is_x
-        (subst (λ t. Appends before after (behind_line paths.solution.now t ++ limit_line paths.kind paths.instance.now x)) is_y told.1),
+            (subst (λ t. Appends before after (behind_line paths.solution.now t ++ limit_line paths.kind paths.instance.now x)) is_y told.1),
       ),
     ))
     c.tell_both.ensures.told

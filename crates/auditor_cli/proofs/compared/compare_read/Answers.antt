@@ -36,7 +36,7 @@ returns-in-Ok-clause-told g c =
         both.1.items,
         c.in-Ok.ensures,
         subst (λ t. Appends (g.E.Write.contents c.args.errors.now) (g.E.Write.contents c.tell_listed.new.errors)
-        (listed_line c.args.place.list.now c.args.place.number pair.paths.solution.now t)) is_y told.1,
+            (listed_line c.args.place.list.now c.args.place.number pair.paths.solution.now t)) is_y told.1,
       ),
     ))
     c.tell_listed.ensures.told

@@ -35,15 +35,15 @@ returns-in-Ok-clause-told g c =
         y = both.1.items;
         read = c.in-Ok.ensures;
         texts =
-          subst (λ t. TellsTexts c.args.routes_alone paths.kind t both.1.items told_before told_after status) is_x
-          (subst (λ t. TellsTexts c.args.routes_alone paths.kind x t told_before told_after status) is_y told.0);
+            subst (λ t. TellsTexts c.args.routes_alone paths.kind t both.1.items told_before told_after status) is_x
+            (subst (λ t. TellsTexts c.args.routes_alone paths.kind x t told_before told_after status) is_y told.0);
       }),
       inl (
         both.0.items,
         both.1.items,
         c.in-Ok.ensures,
         subst (λ t. Appends before after (behind_line paths.solution.now both.1.items ++ limit_line paths.kind paths.instance.now t)) is_x
-        (subst (λ t. Appends before after (behind_line paths.solution.now t ++ limit_line paths.kind paths.instance.now x)) is_y told.1),
+            (subst (λ t. Appends before after (behind_line paths.solution.now t ++ limit_line paths.kind paths.instance.now x)) is_y told.1),
       ),
     ))
     c.tell_both.ensures.told
