@@ -1,0 +1,117 @@
+#!/usr/bin/env python3
+"""How long the gates of two commits take, both from nothing, at the same time and each with half of the processors.
+
+What slows the machine then slows both. Where one ends first, the other goes on with its half. Prints the seconds of each gate by the clock
+and of the processor, how it ended, and the processor's seconds of each crate's proof, tests and edits, these with the proof that they begin
+with, as seen every two seconds. What each gate said is kept in the folder that is told first.
+
+    bench/gate_times.py OLD NEW [CRATE..]
+
+With crates, which both commits have to have, it is the gate over them and those below.
+"""
+
+import collections
+import os
+import pathlib
+import re
+import subprocess
+import sys
+import tempfile
+import threading
+import time
+
+TOP = pathlib.Path(__file__).resolve().parent.parent
+TICK = os.sysconf("SC_CLK_TCK")
+EVERY = 2
+
+
+class Gate:
+    """A gate that runs in a clone of a commit."""
+
+    def __init__(self, folder, commit, crates):
+        self.clone = folder / commit[:12]
+        subprocess.run(["git", "clone", "-q", TOP, self.clone], check=True)
+        subprocess.run(["git", "checkout", "-q", commit], cwd=self.clone, check=True)
+        lanes = {"RT_JOBS": str(max(1, (os.cpu_count() or 2) // 2))}
+        self.began, self.seconds, self.used, self.tasks = time.monotonic(), None, None, {}
+        with open(folder / f"{commit[:12]}.log", "w") as log:
+            words = ["rt", "ci", "--anew", *crates]
+            self.process = subprocess.Popen(words, cwd=self.clone, env=os.environ | lanes, stdout=log, stderr=log)
+        self.waiting = threading.Thread(target=self.wait)
+        self.waiting.start()
+
+    def wait(self):
+        _, status, used = os.wait4(self.process.pid, 0)
+        self.seconds = time.monotonic() - self.began
+        self.used, self.status = used.ru_utime + used.ru_stime, os.waitstatus_to_exitcode(status)
+
+    def note(self, process):
+        """Keeps the seconds of a check, by its crate and what it is of."""
+        name = re.search(r"--crate-name ([a-z_]+)", process["words"])
+        if name:
+            is_edit, is_test = "/rt-edit" in process["folder"], " --test" in process["words"]
+            self.tasks[process["key"]] = name[1], "edits" if is_edit else "tests" if is_test else "proof", process["seconds"]
+
+    def by_task(self):
+        sums = collections.Counter()
+        for crate, kind, seconds in self.tasks.values():
+            sums[crate, kind] += seconds
+        return sums
+
+
+def processes():
+    """The checks that run, by their numbers."""
+    found = {}
+    for folder in pathlib.Path("/proc").glob("[0-9]*"):
+        try:
+            fields = (folder / "stat").read_text().rpartition(")")[2].split()
+            words = (folder / "cmdline").read_bytes().replace(b"\0", b" ").decode(errors="replace")
+            # The user's and the system's seconds, of its own and of those that it has waited for.
+            seconds = sum(int(it) for it in fields[11:15]) / TICK
+            found[int(folder.name)] = {
+                "above": int(fields[1]), "key": (folder.name, fields[19]), "words": words, "seconds": seconds, "folder": os.readlink(folder / "cwd")
+            }
+        except (OSError, IndexError):
+            # It has ended meanwhile.
+            continue
+    return found
+
+
+def is_check(process):
+    return bool(process) and re.match(r"\S*/rattle (check|build) ", process["words"]) is not None
+
+
+def note_all(gates):
+    found = processes()
+    for process in found.values():
+        # A copy's seconds are those of the check that made it.
+        if not is_check(process) or is_check(found.get(process["above"])):
+            continue
+        above = process["above"]
+        while above in found and all(above != gate.process.pid for gate in gates):
+            above = found[above]["above"]
+        for gate in gates:
+            if above == gate.process.pid:
+                gate.note(process)
+
+
+def main():
+    if len(sys.argv) < 3:
+        print(__doc__, file=sys.stderr)
+        return 64
+    folder = pathlib.Path(tempfile.mkdtemp(prefix="gates-"))
+    print(folder, flush=True)
+    gates = [Gate(folder, commit, sys.argv[3:]) for commit in sys.argv[1:3]]
+    while any(gate.waiting.is_alive() for gate in gates):
+        note_all(gates)
+        time.sleep(EVERY)
+    for commit, gate in zip(sys.argv[1:3], gates):
+        print(f"{commit}: {gate.seconds:.0f} s, of the processor {gate.used:.0f} s, status {gate.status}")
+    old, new = (gate.by_task() for gate in gates)
+    for crate, kind in sorted(old | new):
+        print(f"{crate:16} {kind:6} {old[crate, kind]:7.0f} {new[crate, kind]:7.0f}")
+    return 0
+
+
+if __name__ == "__main__":
+    sys.exit(main())
