@@ -26,11 +26,15 @@ pub(crate) fn print_failures<R: Print>(rt: &R, alloc: Global) -> io::Result<()> 
 // The five commands with each call of the device failing once, reads counted: a sync and two reads for opening, four calls for a
 // snapshot, two for a record.
 fn row_of(alloc: Global, call: u64) -> io::Result<[u64; 5]> {
+    let (openings, ended) = ended_with_a_failed_call(alloc, call)?;
+    Ok(numbers_of(openings, &ended, &states_of(alloc, Example::Five)?))
+}
+
+// How often the store was opened, and how the five commands ended.
+fn ended_with_a_failed_call(alloc: Global, call: u64) -> io::Result<(u64, Ended)> {
     let commands = commands_of(alloc, Example::Five)?;
     let (openings, session) = opened_with_a_failed_call(alloc, call)?;
-    let ended = Ended::of(alloc, session, commands, &[])?;
-    let states = states_of(alloc, Example::Five)?;
-    Ok(numbers_of(openings, &ended, &states))
+    Ok((openings, Ended::of(alloc, session, commands, &[])?))
 }
 
 fn numbers_of(openings: u64, ended: &Ended, states: &[Vec<u8>]) -> [u64; 5] {
@@ -57,11 +61,24 @@ fn opened_with_a_failed_call(alloc: Global, call: u64) -> io::Result<(u64, Sessi
 // Opening settles a build whose sync failed: a stop right behind that opening leaves the state after it too, though the record was
 // never synced before.
 fn settled(alloc: Global) -> io::Result<[u64; 2]> {
-    let (first, mut device) = opened_state(alloc, built_without_a_sync(alloc)?)?;
+    settled_among(alloc, &states_of(alloc, Example::Five)?)
+}
+
+fn settled_among(alloc: Global, states: &[Vec<u8>]) -> io::Result<[u64; 2]> {
+    let (first, mut device) = opened_among(alloc, built_without_a_sync(alloc)?, states)?;
     device.crash(&[]);
-    let (second, _) = opened_state(alloc, device)?;
-    let states = states_of(alloc, Example::Five)?;
-    Ok([place_of(&states, &first), place_of(&states, &second)])
+    let (second, _) = opened_among(alloc, device, states)?;
+    Ok([first, second])
+}
+
+// Which of these states opening gives, and the device behind it.
+fn opened_among(
+    alloc: Global,
+    device: MemDevice,
+    states: &[Vec<u8>],
+) -> io::Result<(u64, MemDevice)> {
+    let (bytes, device) = opened_state(alloc, device)?;
+    Ok((place_of(states, &bytes), device))
 }
 
 // The device behind a load and a build whose sync fails.

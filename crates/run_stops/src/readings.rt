@@ -77,14 +77,23 @@ fn place_of(held: Held) -> usize {
 }
 
 fn stopped_small_run(alloc: Global, calls: u64, choice: u32) -> io::Result<Held> {
-    let mut device = MemDevice::new(alloc, SECTORS)?;
+    let choices = choices_of(alloc, &[0, 1, 2, 3, 4], choice)?;
+    small_run_stopped(alloc, &mut MemDevice::new(alloc, SECTORS)?, calls, &choices)
+}
+
+fn small_run_stopped(
+    alloc: Global,
+    device: &mut MemDevice,
+    calls: u64,
+    choices: &[u32],
+) -> io::Result<Held> {
     device.fuse(calls);
-    let is_finished = small_run(alloc, &mut device).is_ok();
+    let is_finished = small_run(alloc, device).is_ok();
     if is_finished != (calls == 16) {
         return Err(failed());
     }
-    device.crash(&choices_of(alloc, &[0, 1, 2, 3, 4], choice)?);
-    agreed(alloc, &mut device)
+    device.crash(choices);
+    agreed(alloc, device)
 }
 
 // A format over a store with a record, stopped when so many calls have finished, for each choice of the headers and of the first record.
@@ -98,39 +107,70 @@ fn row_of_formats(alloc: Global, state: &State, calls: u64) -> io::Result<[u64; 
 }
 
 fn stopped_format(alloc: Global, state: &State, calls: u64, choice: u32) -> io::Result<Held> {
-    let mut device = recorded_store(alloc, state)?;
+    let choices = choices_of(alloc, &[0, 1, 2], choice)?;
+    format_stopped(alloc, &mut recorded_store(alloc, state)?, calls, &choices)
+}
+
+fn format_stopped(
+    alloc: Global,
+    device: &mut MemDevice,
+    calls: u64,
+    choices: &[u32],
+) -> io::Result<Held> {
     device.fuse(calls);
-    if format(alloc, &mut device).is_ok() {
+    if format(alloc, device).is_ok() {
         return Err(failed());
     }
-    device.crash(&choices_of(alloc, &[0, 1, 2], choice)?);
-    agreed(alloc, &mut device)
+    device.crash(choices);
+    agreed(alloc, device)
 }
 
 // A store of this state, and a record.
 fn recorded_store(alloc: Global, state: &State) -> io::Result<MemDevice> {
     let mut device = MemDevice::new(alloc, SECTORS)?;
-    let Ok(place) = formatted(alloc, &mut device, state) else {
-        return Err(failed());
-    };
-    if recorded(&mut device, place, &Command::Build).is_err() {
-        return Err(failed());
+    match recorded_behind_a_format(alloc, &mut device, state) {
+        Ok(_) => Ok(device),
+        Err(_) => Err(failed()),
     }
-    Ok(device)
+}
+
+fn recorded_behind_a_format<D: Sectors>(
+    alloc: Global,
+    device: &mut D,
+    state: &State,
+) -> Result<Place, StoreFault> {
+    let place = formatted(alloc, device, state)?;
+    recorded(device, place, &Command::Build)
 }
 
 // A snapshot over a store of the same state, stopped when so many calls have finished. Every second sector is kept.
 fn stopped_snapshot(alloc: Global, state: &State, calls: u64) -> io::Result<Held> {
-    let mut device = MemDevice::new(alloc, SECTORS)?;
-    let Ok(place) = formatted(alloc, &mut device, state) else {
+    let choices = every_second(alloc)?;
+    snapshot_stopped(
+        alloc,
+        &mut MemDevice::new(alloc, SECTORS)?,
+        state,
+        calls,
+        &choices,
+    )
+}
+
+fn snapshot_stopped(
+    alloc: Global,
+    device: &mut MemDevice,
+    state: &State,
+    calls: u64,
+    choices: &[u32],
+) -> io::Result<Held> {
+    let Ok(place) = formatted(alloc, device, state) else {
         return Err(failed());
     };
     device.fuse(calls);
-    if saved(alloc, &mut device, place, state).is_ok() {
+    if saved(alloc, device, place, state).is_ok() {
         return Err(failed());
     }
-    device.crash(&every_second(alloc)?);
-    agreed(alloc, &mut device)
+    device.crash(choices);
+    agreed(alloc, device)
 }
 
 fn every_second(alloc: Global) -> io::Result<Vec<u32>> {
@@ -144,7 +184,10 @@ fn every_second(alloc: Global) -> io::Result<Vec<u32>> {
 // Where the store stands by both readings, which say the same.
 fn agreed(alloc: Global, device: &mut MemDevice) -> io::Result<Held> {
     let slow = read_plainly(alloc, device)?;
-    let fast = read_quickly(alloc, device)?;
+    agreed_with(&slow, &read_quickly(alloc, device)?)
+}
+
+fn agreed_with(slow: &Described, fast: &Described) -> io::Result<Held> {
     if slow.text.as_str() != fast.text.as_str() {
         return Err(failed());
     }

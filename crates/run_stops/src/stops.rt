@@ -4,9 +4,9 @@ use crate::examples::{Example, bytes_of, commands_of, failed, states_of};
 use crate::tables::print_row;
 use checkpoint::{SECTORS, doubts_about, format};
 use command_core::Command;
-use recover::{Denial, Opened, Reply, Session};
+use recover::{Denial, Opened, Reply, Run, Session};
 use sector_disk::MemDevice;
-use std::alloc::Global;
+use std::alloc::{AllocError, Global};
 use std::io;
 
 /// A table of stops: those of an example by finished calls, with each choice of the sectors that it writes.
@@ -68,12 +68,16 @@ fn print_table<R: Print>(rt: &R, alloc: Global, table: &Table) -> io::Result<()>
 // What the stops after so many calls come to.
 fn row_of(alloc: Global, table: &Table, calls: u64) -> io::Result<[u64; 6]> {
     let states = states_of(alloc, table.example)?;
+    Ok(tally_of(alloc, table, calls, &states)?.row())
+}
+
+// The same over the states before the commands and after each.
+fn tally_of(alloc: Global, table: &Table, calls: u64, states: &[Vec<u8>]) -> io::Result<Tally> {
     let mut tally = Tally::default();
     for choice in 0..table.choices {
-        let ended = stopped(alloc, table, calls, choice)?;
-        tally.add(&ended, &states);
+        tally.add(&stopped(alloc, table, calls, choice)?, states);
     }
-    Ok(tally.row())
+    Ok(tally)
 }
 
 /// A device with a new store.
@@ -150,10 +154,23 @@ impl Ended {
         let mut device = session.close();
         device.crash(choices);
         let is_doubted = is_doubted(alloc, &mut device);
-        Ended::with(alloc, &run?.replies, &open(alloc, device)?, is_doubted?)
+        Ended::with(alloc, &run, &open(alloc, device), is_doubted)
     }
 
+    // What was answered, and what opening gave, where all of it could be had.
     fn with(
+        alloc: Global,
+        run: &Result<Run, AllocError>,
+        opened: &io::Result<Opened<MemDevice>>,
+        is_doubted: io::Result<bool>,
+    ) -> io::Result<Ended> {
+        match (run, opened) {
+            (Ok(run), Ok(opened)) => Ended::found(alloc, &run.replies, opened, is_doubted?),
+            _ => Err(failed()),
+        }
+    }
+
+    fn found(
         alloc: Global,
         replies: &[Reply],
         opened: &Opened<MemDevice>,
@@ -205,9 +222,12 @@ fn is_state(states: &[Vec<u8>], number: u64, bytes: &[u8]) -> bool {
 // Runs the example over a new store whose device fails once so many calls have finished behind its opening, and stops it then.
 fn stopped(alloc: Global, table: &Table, calls: u64, choice: u32) -> io::Result<Ended> {
     let choices = choices_of(alloc, table.written, choice)?;
+    stopped_with(alloc, table, calls, &choices)
+}
+
+fn stopped_with(alloc: Global, table: &Table, calls: u64, choices: &[u32]) -> io::Result<Ended> {
     let commands = commands_of(alloc, table.example)?;
-    let session = fused(alloc, calls)?;
-    Ended::of(alloc, session, commands, &choices)
+    Ended::of(alloc, fused(alloc, calls)?, commands, choices)
 }
 
 // A new store, opened, whose device fails once so many calls have finished behind that.

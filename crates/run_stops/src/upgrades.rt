@@ -179,8 +179,10 @@ fn add_stop(
     row: &mut [u64],
 ) -> io::Result<()> {
     let (old, new) = stopped(alloc, calls, choice)?;
-    count(row, outcome_of(alloc, new, state)?.place());
-    if stands_for(alloc, old, state)? {
+    let outcome = outcome_of(alloc, new, state);
+    let stands = stands_for(alloc, old, state);
+    count(row, outcome?.place());
+    if stands? {
         count(row, 3);
     }
     Ok(())
@@ -189,12 +191,16 @@ fn add_stop(
 // Both devices behind an upgrade that stopped with this choice once so many calls of the new one had finished.
 fn stopped(alloc: Global, calls: u64, choice: u32) -> io::Result<(MemDevice, MemDevice)> {
     let choices = choices_of(alloc, &WRITTEN, choice)?;
+    stopped_with(alloc, calls, &choices)
+}
+
+fn stopped_with(alloc: Global, calls: u64, choices: &[u32]) -> io::Result<(MemDevice, MemDevice)> {
     let mut old = old_store(alloc)?;
     let mut new = other_store(alloc)?;
     new.fuse(calls);
     let _ = tried(alloc, &mut old, &mut new);
-    old.crash(&choices);
-    new.crash(&choices);
+    old.crash(choices);
+    new.crash(choices);
     Ok((old, new))
 }
 
