@@ -74,9 +74,7 @@ pub(crate) fn served_by_a_faulty_device(
     calls: u64,
     input: &[u8],
 ) -> Option<Stopped> {
-    let mut device = new_device(alloc)?;
-    device.fail_once(calls);
-    let mut session = opened(alloc, device)?;
+    let mut session = opened_on_a_faulty_device(alloc, calls)?;
     let served = serve_input(
         alloc,
         &mut session,
@@ -84,14 +82,35 @@ pub(crate) fn served_by_a_faulty_device(
         Pieces::whole(),
         Limited::whole(alloc),
     );
-    let mut again = opened(alloc, session.close())?;
-    let opened_text = shown(alloc, &mut again);
-    let mut device = again.close();
+    match shown_twice(alloc, session.close()) {
+        Some((opened, stopped)) => Some(Stopped {
+            served,
+            opened,
+            stopped,
+        }),
+        None => None,
+    }
+}
+
+fn opened_on_a_faulty_device(alloc: Global, calls: u64) -> Option<Session<MemDevice>> {
+    let mut device = new_device(alloc)?;
+    device.fail_once(calls);
+    opened(alloc, device)
+}
+
+// What `show` answers in the next session, and in the one after a stop.
+fn shown_twice(alloc: Global, device: MemDevice) -> Option<(Vec<u8>, Vec<u8>)> {
+    let (first, mut device) = shown_anew(alloc, device)?;
     device.crash(&[1, 1, 1, 1, 1, 1, 1, 1]);
-    let mut last = opened(alloc, device)?;
-    Some(Stopped {
-        served,
-        opened: opened_text,
-        stopped: shown(alloc, &mut last),
-    })
+    match shown_anew(alloc, device) {
+        Some((second, _)) => Some((first, second)),
+        None => None,
+    }
+}
+
+// What `show` answers in a session over the device, and the device behind it.
+fn shown_anew(alloc: Global, device: MemDevice) -> Option<(Vec<u8>, MemDevice)> {
+    let mut session = opened(alloc, device)?;
+    let text = shown(alloc, &mut session);
+    Some((text, session.close()))
 }
