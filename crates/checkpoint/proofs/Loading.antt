@@ -3,6 +3,7 @@ use Rattle.std.proofs.Common.{
   ◌≡◌,
   inl,
   inr,
+  ⊎_elim,
   ℕ,
   zero,
   suc,
@@ -128,6 +129,19 @@ module _ (version : Version) (sectors : ℕ) (front image : List ℕ) (whole : I
   pub past_there : (state : State) (commands : List Command) → HasRecords version front header.sequence commands → ¬ HaveNumbers version state commands
       → HasBadJournal version image header.sequence state
   past_there state commands has past = record { commands = commands; records = records_there commands has; why = inr past }
+
+  bad_here : (state : State) → HasBadJournal version front header.sequence state → HasBadJournal version image header.sequence state
+  bad_here state bad = ⊎_elim (stray_there state bad.commands bad.records) (past_there state bad.commands bad.records) bad.why
+
+  -- what the front's journal is refused for, that of the image is
+  pub bad_there : (state : State) (fault : StoreFault) → UnlessUnread (λ fault. HasBadJournal version front header.sequence state) fault
+      → UnlessUnread (λ fault. HasBadJournal version image header.sequence state) fault
+  bad_there state store.DeviceFault bad = tt
+  bad_there state store.OutOfMemory bad = tt
+  bad_there state store.NotFormatted bad = bad_here state bad
+  bad_there state store.BadVersion bad = bad_here state bad
+  bad_there state (store.Codec fault) bad = bad_here state bad
+  bad_there state store.Spent bad = bad_here state bad
 
   pub holds_there : (state : State) (commands : List Command) (used : ℕ)
       → snapshot_in (layout_of version) image header.sequence header.length ≡ state_bytes version state → IsStateOf version state → IsState state

@@ -17,5 +17,6 @@ pub mod Making
 pub mod Names
 pub mod Laws
 -- of private functions alone
+pub mod Journals
 pub mod Puts
 pub mod Encoding

@@ -15,6 +15,7 @@ ghost use Rattle.state_codec.specs.Refused.{Decodes};
 ghost use Rattle.checkpoint.specs.Holds.{Holds, layout_of};
 ghost use Rattle.checkpoint.specs.Holdless.{HasNoHeader, IsOfLoad, HasBadJournal, HoldsNothing, IsOfBytes, told_of, IsOfHeadersOrUnread, IsOfJournal, UnlessUnread};
 ghost use Rattle.checkpoint.specs.Loads.{IsLoaded};
+ghost use Rattle.checkpoint.specs.Journals.{HasJournal};
 ghost use Rattle.checkpoint.specs.Refused.{IsOfReading, faults_after_reading};
 
 use crate::encoding::keeps_facts;
@@ -127,22 +128,42 @@ pub(crate) fn with_journal(
         (UnlessUnread (λ fault. HasBadJournal version image header.sequence state)) }
 {
     keeps_facts(&state);
-    let commands = match leading_commands(alloc, version, front, header.sequence) {
+    match journal(alloc, version, front, header.sequence, &state) {
+        Ok(commands) => Ok(Loaded {
+            place: Place {
+                sequence: header.sequence,
+                used: commands.len() as u32,
+            },
+            state,
+            commands,
+        }),
+        Err(fault) => Err(fault),
+    }
+}
+
+// The commands of the journal of a sequence, if it is one of this state.
+fn journal(
+    alloc: Global,
+    version: Version,
+    front: &[u8],
+    sequence: u64,
+    state: &State,
+) -> Result<Vec<Command>, StoreFault>
+    requires { length front.now ≡ 512 * front_sectors }
+    ensures fails { IfErr result IsOfJournal }
+    ensures found { MatchResult result
+        (λ commands. HasJournal version front.now sequence state.now commands.items)
+        (UnlessUnread (λ fault. HasBadJournal version front.now sequence state.now)) }
+{
+    let commands = match leading_commands(alloc, version, front, sequence) {
         Ok(commands) => commands,
         Err(_) => return Err(StoreFault::OutOfMemory),
     };
-    match stray_from(front, commands.len(), header.sequence) {
+    match stray_from(front, commands.len(), sequence) {
         Some(_) => Err(StoreFault::Codec(CodecFault::BadField)),
         None => {
-            if have_numbers(version, &state, &commands) {
-                Ok(Loaded {
-                    place: Place {
-                        sequence: header.sequence,
-                        used: commands.len() as u32,
-                    },
-                    state,
-                    commands,
-                })
+            if have_numbers(version, state, &commands) {
+                Ok(commands)
             } else {
                 Err(StoreFault::Codec(CodecFault::BadField))
             }
