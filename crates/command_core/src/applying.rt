@@ -63,7 +63,7 @@ fn changed_within(state: &State, change: JobChange) -> Result<State, Refusal>
     ensures err { IfErr result (λ r. r ≡ Refusal.OutOfMemory) }
 {
     let mut new = state.copy()?;
-    Change::Within(change).put_in(&mut new);
+    drop(Change::Within(change).put_in(&mut new));
     Ok(new)
 }
 

@@ -106,6 +106,6 @@ impl Planner {
         ensures { self.new ≡ with_change before self.old }
     {
         self.walk = None;
-        before.put_in(&mut self.state);
+        drop(before.put_in(&mut self.state));
     }
 }
