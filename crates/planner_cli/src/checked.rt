@@ -4,9 +4,9 @@ ghost use Rattle.std.specs.Io.KnownBytes.{Appends};
 ghost use Rattle.sector_disk.specs.Disks.{IsSharedAt};
 ghost use Rattle.planner_cli.specs.Checked.{ChecksStore, TellsChecked, TellsDoubts, doubt_lines, suspect_text};
 
-use crate::looked::{Looked, look_into_store};
+use crate::looked::{leave_store, look_into_store};
 use crate::opened::tell_unopened;
-use crate::telling::{tell_cause, tell_store_fault};
+use crate::telling::tell_store_fault;
 use auditor_cli::status::{DONE, REFUSED};
 use auditor_cli::write_line;
 use checkpoint::{Doubt, Doubts, doubts_about};
@@ -35,9 +35,9 @@ where
 {
     match look_into_store(rt, disks, start, store, errors) {
         Ok(looked) => {
-            let Looked { mut device, .. } = looked;
-            let told = check_device(rt.alloc(), &mut device, output);
-            tell_cause(rt, store, device.cause());
+            let mut looked = looked;
+            let told = check_device(rt.alloc(), &mut looked.device, output);
+            leave_store(rt, store, looked);
             told
         }
         Err(unopened) => tell_unopened(rt, output, store, unopened),
