@@ -64,4 +64,5 @@ pub(crate) fn look_into_store<R: AllocGlobal, X: Disks, T: Start, E: Write>(
 /// Closes the store. Where its device has failed, standard error has what the system said of that call.
 pub(crate) fn leave_store<R: Eprint, T: Start>(rt: &R, store: &str, looked: Looked<FileDevice<T>>) {
     tell_cause(rt, store, looked.device.cause());
+    drop(looked);
 }

@@ -55,8 +55,9 @@ pub(crate) fn repeat(
 {
     let mut planner = Planner::new(snapshot);
     for command in commands {
-        if let Err(refusal) = planner.change(alloc, command) {
-            return Err(fault_of(refusal));
+        match planner.change(alloc, command) {
+            Ok(before) => drop(before),
+            Err(refusal) => return Err(fault_of(refusal)),
         }
     }
     Ok(planner.into_state())

@@ -162,6 +162,7 @@ impl<D: Sectors> Session<D> {
         ) {
             Ok(place) => {
                 self.place = place;
+                drop(before);
                 Ok(())
             }
             Err(CommitFault::OutOfMemory) => {

@@ -79,7 +79,9 @@ pub fn upgrade<D: Sectors, E: Sectors>(
         Ok(state) => state,
         Err(fault) => return Err(UpgradeFault::Old(fault)),
     };
-    match format_with(alloc, new, &state) {
+    let made = format_with(alloc, new, &state);
+    drop(state);
+    match made {
         Ok(place) => Ok(place),
         Err(fault) => Err(UpgradeFault::New(fault)),
     }

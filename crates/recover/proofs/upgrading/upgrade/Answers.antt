@@ -4,10 +4,10 @@ use Rattle.recover.proofs.StepLemmas.{held_new}
 use Rattle.recover.proofs.Upgrades.{is_made}
 use Rattle.recover.proofs.upgrading.upgrade.Goals as goal
 
-pub returns-in-Ok-format_with-clause-makes : goal.returns-in-Ok-format_with-clause-makes
-returns-in-Ok-format_with-clause-makes g c =
+pub returns-in-Ok-made-clause-makes : goal.returns-in-Ok-made-clause-makes
+returns-in-Ok-made-clause-makes g c =
     let state = c.in-Ok.state in
-    let made = c.in-Ok-format_with.ensures in
+    let made = c.in-Ok-made.ensures in
     record {
       state = state;
       stood = c.in-Ok.ensures.found;
@@ -17,8 +17,8 @@ returns-in-Ok-format_with-clause-makes g c =
       stands = λ honest image left. held_new state first_place image ((made.formats honest).after image left);
     }
 
-pub returns-clause-makes : goal.returns-clause-makes
-returns-clause-makes g c =
-    is_made g.D.Sectors g.E.Sectors c.in-Err-format_with.fault c.args.old.now c.read_version_1.new.old c.args.new.now c.format_with.new.device c.in-Ok.state
+pub returns-in-Err-made-clause-makes : goal.returns-in-Err-made-clause-makes
+returns-in-Err-made-clause-makes g c =
+    is_made g.D.Sectors g.E.Sectors c.in-Err-made.fault c.args.old.now c.read_version_1.new.old c.args.new.now c.format_with-made.new.device c.in-Ok.state
     c.in-Ok.ensures.found
-    (λ honest. (c.in-Err-format_with.ensures.formats honest).moments)
+    (λ honest. (c.in-Err-made.ensures.formats honest).moments)

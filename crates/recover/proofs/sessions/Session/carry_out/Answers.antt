@@ -13,16 +13,7 @@ use Rattle.recover.specs.Sessions.{SessionValue, AllHold, IsSession}
 use Rattle.recover.specs.Applying.{calls_of, place_after, spent, IsDone, IsBetween}
 use Rattle.recover.specs.Committing.{IsInStep, CommitsState, LeavesDevice}
 use Rattle.recover.proofs.SessionLemmas.{undenied, place_fits, stands_of, leaves_ok, leaves_fault, still}
-use Rattle.recover.proofs.sessions.Session.carry_out.Goals.{
-  After-change_accepted,
-  After-commit,
-  in-Whole+in-Loaded-1,
-  in-Whole+in-Empty-1,
-  in-Within+in-Pinned-1,
-  in-Within+in-Working-1,
-  in-Within+in-Plans-1,
-  in-Within+in-Nothing-1,
-}
+use Rattle.recover.proofs.sessions.Session.carry_out.Goals.{After-change_accepted, After-commit}
 use Rattle.recover.proofs.sessions.Session.carry_out.Goals as goal
 use Rattle.recover.proofs.sessions.Session.carry_out.Given as given
 
@@ -107,56 +98,27 @@ invariant_of-self-in-Ok-commit g c =
           (rw c.in-Ok-commit.is at (steps g (goal.at.invariant_of-self-in-Ok-commit g c).After-commit honest).after);
     })
 
--- the session after a commit, whatever the change was that is dropped then
-committed : (g : given.Over) (c : goal.Joined-before g)
-    → c.match-before.self ≡ record {
-      device = c.commit.new.device;
-      state = c.change_accepted.new.self;
-      place = c.in-Ok-commit.place;
-      is_broken = c.self.inside.is_broken;
-    }
-committed g c = elim c.match-before.branch [
-  | in-Whole+in-Loaded-1 w ↦ w.self-is
-  | in-Whole+in-Empty-1 w ↦ w.self-is
-  | in-Within+in-Pinned-1 w ↦ w.self-is
-  | in-Within+in-Working-1 w ↦ w.self-is
-  | in-Within+in-Plans-1 w ↦ w.self-is
-  | in-Within+in-Nothing-1 w ↦ w.self-is
-]
-
 pub returns-in-Ok-commit-clause-makes : goal.returns-in-Ok-commit-clause-makes
 returns-in-Ok-commit-clause-makes g c =
-    let command = c.args.command.now in
-    subst (λ (new : SessionValue _). IsDone c.args.self.now command new) (sym (committed g c))
-    (subst (λ (old : SessionValue _). IsDone old command
+    subst (λ (old : SessionValue _). IsDone old c.args.command.now
     (record { device = c.commit.new.device; state = c.change_accepted.new.self; place = c.in-Ok-commit.place; is_broken = c.self.inside.is_broken }))
     c.self.view_is (record {
       accepted = c.in-Ok.ensures.ok.accepted;
       state = c.in-Ok.ensures.ok.effect;
       place = c.in-Ok-commit.ensures.place;
       is_broken = whole g (goal.at.returns-in-Ok-commit-clause-makes g c).After-change_accepted;
-    }))
+    })
 
 pub returns-in-Ok-commit-clause-moments : goal.returns-in-Ok-commit-clause-moments
 returns-in-Ok-commit-clause-moments g c =
     let d = g.D.Sectors in
     let i = c.self.inside in
-    let command = c.args.command.now in
-    subst (λ (new : SessionValue _). d.honest new.device
-    → Throughout d.clock d.possible_since c.args.self.now.device new.device
-    (RunLeaves c.args.self.now.state (command ∷ []) (record { answer = Ok tt; calls = d.calls new.device } ∷ []))) (sym (committed g c))
-    (leaves g (goal.at.returns-in-Ok-commit-clause-moments g c).After-commit (Ok tt)
-    (λ m image step. leaves_ok i.planner command c.in-Ok.ensures.ok.accepted c.state.result.now (c.state.ensures ∙ c.in-Ok.ensures.ok.effect) (d.calls i.device)
-    (calls_of i.place command) (d.calls c.commit.new.device) m image step tt c.in-Ok-commit.ensures.called.finished))
+    leaves g (goal.at.returns-in-Ok-commit-clause-moments g c).After-commit (Ok tt)
+    (λ m image step. leaves_ok i.planner c.args.command.now c.in-Ok.ensures.ok.accepted c.state.result.now (c.state.ensures ∙ c.in-Ok.ensures.ok.effect) (d.calls i.device)
+    (calls_of i.place c.args.command.now) (d.calls c.commit.new.device) m image step tt c.in-Ok-commit.ensures.called.finished)
 
 pub returns-in-Ok-commit-clause-counts : goal.returns-in-Ok-commit-clause-counts
-returns-in-Ok-commit-clause-counts g c =
-    let d = g.D.Sectors in
-    let s = c.args.self.now in
-    subst (λ (new : SessionValue _). d.honest new.device
-    → Throughout d.clock d.possible_since s.device new.device (IsBetween (d.calls s.device) (d.calls s.device + calls_of s.place c.args.command.now)))
-    (sym (committed g c))
-    (between g (goal.at.returns-in-Ok-commit-clause-counts g c).After-commit)
+returns-in-Ok-commit-clause-counts g c = between g (goal.at.returns-in-Ok-commit-clause-counts g c).After-commit
 
 -- want of memory for a snapshot
 pub returns-in-Err-OutOfMemory-clause-moments : goal.returns-in-Err-OutOfMemory-clause-moments
