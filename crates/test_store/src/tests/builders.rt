@@ -1,6 +1,7 @@
 //! What the examples share: sectors, states as bytes, and stores.
 
 use checkpoint::{format, format_with};
+use command_core::State;
 use recover::{Opened, Session};
 use sector_disk::{DeviceFault, MemDevice, SECTOR_SIZE, Sectors};
 use state_codec::decode_state;
@@ -82,8 +83,11 @@ pub fn loaded_store(alloc: Global) -> Result<MemDevice, Fail> {
 }
 
 fn format_loaded(alloc: Global, device: &mut MemDevice) -> Result<(), Fail> {
-    let state = decode_state(alloc, &LOADED)?;
-    format_with(alloc, device, &state)?;
+    format_as(alloc, device, &decode_state(alloc, &LOADED)?)
+}
+
+fn format_as(alloc: Global, device: &mut MemDevice, state: &State) -> Result<(), Fail> {
+    format_with(alloc, device, state)?;
     Ok(())
 }
 
@@ -91,5 +95,13 @@ pub fn open(alloc: Global, device: MemDevice) -> Result<Opened<MemDevice>, Fail>
     match Session::open(alloc, device) {
         Ok(opened) => Ok(opened),
         Err((fault, _)) => Err(fault.into()),
+    }
+}
+
+/// Why a device was given back, and how many of its calls had finished; `None` where it was not.
+pub fn refusal<T: Drop, F>(outcome: Result<T, (F, MemDevice)>) -> Option<(F, u64)> {
+    match outcome {
+        Ok(_) => None,
+        Err((fault, device)) => Some((fault, device.calls())),
     }
 }

@@ -1,6 +1,6 @@
 //! Sessions over a store: commands, stops and recovery.
 
-use crate::tests::builders::{LOADED, SECTORS, empty_store, loaded_store, open};
+use crate::tests::builders::{LOADED, SECTORS, empty_store, loaded_store, open, refusal};
 use checkpoint::{Place, StoreFault, commit_record};
 use command_core::{Command, Job, Refusal, State};
 use recover::{Denial, Run, Session};
@@ -24,10 +24,7 @@ fn load_of(job: Job) -> Command {
 
 // Why the device is not opened, and how many calls have finished.
 fn refused(alloc: Global, device: MemDevice) -> Option<(StoreFault, u64)> {
-    match Session::open(alloc, device) {
-        Ok(_) => None,
-        Err((fault, device)) => Some((fault, device.calls())),
-    }
+    refusal(Session::open(alloc, device))
 }
 
 // How many search steps the state has made, and how many requests it has.
@@ -161,12 +158,18 @@ fn a_record_that_the_state_refuses(rt: HostRuntime) -> Result<(), Fail> {
     Ok(())
 }
 
+// What a store that was just made answers to `checkpoint`, and the device's count then.
+fn answer_of_an_empty_store(alloc: Global) -> Result<(Result<(), Denial>, u64), Fail> {
+    let mut opened = open(alloc, empty_store(alloc)?)?;
+    Ok(answer(alloc, &mut opened.session, Command::Checkpoint))
+}
+
 #[test]
 fn an_empty_state_refuses(rt: HostRuntime) -> Result<(), Fail> {
-    let mut session = open(rt.alloc(), empty_store(rt.alloc())?)?.session;
     let no_instance = Denial::Core(Refusal::NoInstance);
-    let checkpoint = answer(rt.alloc(), &mut session, Command::Checkpoint);
-    assert!(rt; checkpoint == (Err(no_instance), 7));
+    let (answer, calls) = answer_of_an_empty_store(rt.alloc())?;
+    assert!(rt; answer == Err(no_instance));
+    assert!(rt; calls == 7);
     assert!(rt; no_instance.name() == "NoInstance");
     Ok(())
 }

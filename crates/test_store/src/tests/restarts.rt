@@ -2,7 +2,7 @@
 //!
 //! An opening is one call, a search of 256 steps or of 44 two: its record is written and then synced.
 
-use crate::tests::builders::{SECTORS, empty_store};
+use crate::tests::builders::{SECTORS, empty_store, refusal};
 use crate::tests::rounds::{Step, commands_of};
 use checkpoint::StoreFault;
 use command_core::State;
@@ -175,10 +175,7 @@ fn refused(
     all: &[Given],
 ) -> Result<Option<(RoundsFault, u64)>, Fail> {
     let restarts = restarts_of(alloc, all)?;
-    match run_restarts(alloc, device, restarts) {
-        Ok(_) => Ok(None),
-        Err((fault, device)) => Ok(Some((fault, device.calls()))),
-    }
+    Ok(refusal(run_restarts(alloc, device, restarts)))
 }
 
 // Each of three openings syncs once.
