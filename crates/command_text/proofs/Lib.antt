@@ -12,3 +12,4 @@ pub mod SeatLemmas
 pub mod StagingLemmas
 pub mod StateLemmas
 pub mod StepLemmas
+pub mod VerbLemmas

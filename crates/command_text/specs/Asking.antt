@@ -181,31 +181,40 @@ abbrev pub adopt_of : Option (List Field) → Asked
 adopt_of (Some (len ∷ [])) = text_within purpose.Adopt (below 16777217 len.unsigned)
 adopt_of _ = BadText
 
--- the command that a word names
+-- the commands by their names
+abbrev pub the_verbs : List (List ℕ × Verb)
+the_verbs =
+    (codes "load", verb.Load) ∷
+    (codes "adopt", verb.Adopt) ∷
+    (codes "add", verb.Add) ∷
+    (codes "add1", verb.Add1) ∷
+    (codes "withdraw", verb.Withdraw) ∷
+    (codes "pin", verb.Pin) ∷
+    (codes "unpin", verb.Unpin) ∷
+    (codes "freeze", verb.Freeze) ∷
+    (codes "build", verb.Build) ∷
+    (codes "checkpoint", verb.Checkpoint) ∷
+    (codes "search", verb.Search) ∷
+    (codes "reach", verb.Reach) ∷
+    (codes "deviation", verb.Deviation) ∷
+    (codes "anneal", verb.Anneal) ∷
+    (codes "reduce", verb.Reduce) ∷
+    (codes "print", verb.Print) ∷
+    (codes "instance", verb.Instance) ∷
+    (codes "show", verb.Show) ∷
+    (codes "timetable", verb.Timetable) ∷
+    (codes "why", verb.Why) ∷
+    (codes "next", verb.Next) ∷
+    (codes "help", verb.Help) ∷
+    []
+
+-- the command that a word names, among these and among all
+unfoldable pub verb_among : List (List ℕ × Verb) → List ℕ → Option Verb
+verb_among [] word = None
+verb_among (named ∷ rest) word = if bytes_eq named.0 word then Some named.1 else verb_among rest word
+
 unfoldable pub verb_named : List ℕ → Option Verb
-verb_named word =
-    if bytes_eq (codes "load") word then Some verb.Load else
-    if bytes_eq (codes "adopt") word then Some verb.Adopt else
-    if bytes_eq (codes "add") word then Some verb.Add else
-    if bytes_eq (codes "add1") word then Some verb.Add1 else
-    if bytes_eq (codes "withdraw") word then Some verb.Withdraw else
-    if bytes_eq (codes "pin") word then Some verb.Pin else
-    if bytes_eq (codes "unpin") word then Some verb.Unpin else
-    if bytes_eq (codes "freeze") word then Some verb.Freeze else
-    if bytes_eq (codes "build") word then Some verb.Build else
-    if bytes_eq (codes "checkpoint") word then Some verb.Checkpoint else
-    if bytes_eq (codes "search") word then Some verb.Search else
-    if bytes_eq (codes "reach") word then Some verb.Reach else
-    if bytes_eq (codes "deviation") word then Some verb.Deviation else
-    if bytes_eq (codes "anneal") word then Some verb.Anneal else
-    if bytes_eq (codes "reduce") word then Some verb.Reduce else
-    if bytes_eq (codes "print") word then Some verb.Print else
-    if bytes_eq (codes "instance") word then Some verb.Instance else
-    if bytes_eq (codes "show") word then Some verb.Show else
-    if bytes_eq (codes "timetable") word then Some verb.Timetable else
-    if bytes_eq (codes "why") word then Some verb.Why else
-    if bytes_eq (codes "next") word then Some verb.Next else
-    if bytes_eq (codes "help") word then Some verb.Help else None
+verb_named word = verb_among the_verbs word
 
 -- what the words behind a command's name make of it
 abbrev pub verb_asked : Option Verb → List (List ℕ) → Asked

@@ -1,6 +1,6 @@
 //! The lines but those that announce a text: their names, and what each asks for with its numbers.
-ghost use Rattle.std.specs.Prelude.{◌≡◌, bytes_eq};
-ghost use Rattle.command_text.specs.Asking.{add1_of, add_of, anneal_of, bare_asked, count_of, double_asked, freeze_of, kind_named, pin_of, plain_or, reach_of, reduce_of, search_of, single_asked, spot_asked, spot_of, spots_asked, stages_of, steps_or, verb_named};
+ghost use Rattle.std.specs.Prelude.{◌≡◌, bytes_eq, map};
+ghost use Rattle.command_text.specs.Asking.{add1_of, add_of, anneal_of, bare_asked, count_of, double_asked, freeze_of, kind_named, pin_of, plain_or, reach_of, reduce_of, search_of, single_asked, spot_asked, spot_of, spots_asked, stages_of, steps_or, verb_among, verb_named};
 
 use crate::asked::{Asked, MAX_SEARCH};
 use crate::fields::Field;
@@ -37,76 +37,47 @@ pub(crate) enum Verb {
     Help,
 }
 
+/// The commands by their names.
+const VERBS: [(&[u8], Verb); 22] = [
+    (b"load", Verb::Load),
+    (b"adopt", Verb::Adopt),
+    (b"add", Verb::Add),
+    (b"add1", Verb::Add1),
+    (b"withdraw", Verb::Withdraw),
+    (b"pin", Verb::Pin),
+    (b"unpin", Verb::Unpin),
+    (b"freeze", Verb::Freeze),
+    (b"build", Verb::Build),
+    (b"checkpoint", Verb::Checkpoint),
+    (b"search", Verb::Search),
+    (b"reach", Verb::Reach),
+    (b"deviation", Verb::Deviation),
+    (b"anneal", Verb::Anneal),
+    (b"reduce", Verb::Reduce),
+    (b"print", Verb::Print),
+    (b"instance", Verb::Instance),
+    (b"show", Verb::Show),
+    (b"timetable", Verb::Timetable),
+    (b"why", Verb::Why),
+    (b"next", Verb::Next),
+    (b"help", Verb::Help),
+];
+
 /// The command that a word names.
-#[tactic(auto, unfolding(crate::specs::Asking::verb_named))]
 pub(crate) fn verb_named(word: &[u8]) -> Option<Verb>
     ensures { result ≡ verb_named word.now }
 {
-    if is_word(word, b"load") {
-        return Some(Verb::Load);
-    }
-    if is_word(word, b"adopt") {
-        return Some(Verb::Adopt);
-    }
-    if is_word(word, b"add") {
-        return Some(Verb::Add);
-    }
-    if is_word(word, b"add1") {
-        return Some(Verb::Add1);
-    }
-    if is_word(word, b"withdraw") {
-        return Some(Verb::Withdraw);
-    }
-    if is_word(word, b"pin") {
-        return Some(Verb::Pin);
-    }
-    if is_word(word, b"unpin") {
-        return Some(Verb::Unpin);
-    }
-    if is_word(word, b"freeze") {
-        return Some(Verb::Freeze);
-    }
-    if is_word(word, b"build") {
-        return Some(Verb::Build);
-    }
-    if is_word(word, b"checkpoint") {
-        return Some(Verb::Checkpoint);
-    }
-    if is_word(word, b"search") {
-        return Some(Verb::Search);
-    }
-    if is_word(word, b"reach") {
-        return Some(Verb::Reach);
-    }
-    if is_word(word, b"deviation") {
-        return Some(Verb::Deviation);
-    }
-    if is_word(word, b"anneal") {
-        return Some(Verb::Anneal);
-    }
-    if is_word(word, b"reduce") {
-        return Some(Verb::Reduce);
-    }
-    if is_word(word, b"print") {
-        return Some(Verb::Print);
-    }
-    if is_word(word, b"instance") {
-        return Some(Verb::Instance);
-    }
-    if is_word(word, b"show") {
-        return Some(Verb::Show);
-    }
-    if is_word(word, b"timetable") {
-        return Some(Verb::Timetable);
-    }
-    if is_word(word, b"why") {
-        return Some(Verb::Why);
-    }
-    if is_word(word, b"next") {
-        return Some(Verb::Next);
-    }
-    if is_word(word, b"help") {
-        return Some(Verb::Help);
+    verb_among(&VERBS, word)
+}
+
+// The command that the word names among these.
+fn verb_among(verbs: &[(&[u8], Verb)], word: &[u8]) -> Option<Verb>
+    ensures { result ≡ verb_among (map (λ named. (named.0.now, named.1)) verbs.now) word.now }
+{
+    for (name, verb) in verbs {
+        if is_word(word, name) {
+            return Some(*verb);
+        }
     }
     None
 }
