@@ -22,6 +22,7 @@ use plans::{are_same, built, cost, pins_of};
 use seeded_search::{Found, search_step, search_steps, words};
 use std::alloc::Global;
 use std::rt::Files;
+use std::str::Split;
 use std::{fs, io};
 use steps::{copies_of, step};
 
@@ -51,16 +52,29 @@ fn main(rt: HostRuntime) -> io::Result<()> {
 
 fn task_of(line: &str) -> Option<Task<'_>> {
     let mut words = line.split(' ');
+    let is_vrp = words.next()? == "vrp";
+    let path = words.next()?;
+    let is_spread = words.next()? == "spread";
+    let [seed, pinned, deviation, first, steps] = numbers_of(words)?;
     Some(Task {
-        is_vrp: words.next()? == "vrp",
-        path: words.next()?,
-        is_spread: words.next()? == "spread",
-        seed: words.next()?.parse().ok()?,
-        pinned: words.next()?.parse().ok()?,
-        deviation: words.next()?.parse().ok()?,
-        first: words.next()?.parse().ok()?,
-        steps: words.next()?.parse().ok()?,
+        is_vrp,
+        path,
+        is_spread,
+        seed,
+        pinned: pinned as usize,
+        deviation: u32::try_from(deviation).ok()?,
+        first,
+        steps: u32::try_from(steps).ok()?,
     })
+}
+
+// The numbers that the next five words are.
+fn numbers_of(mut words: Split<'_, char>) -> Option<[u64; 5]> {
+    let mut numbers = [0; 5];
+    for number in &mut numbers {
+        *number = words.next()?.parse().ok()?;
+    }
+    Some(numbers)
 }
 
 fn run<R: Print + Files + Alloc>(rt: &R, alloc: Global, task: &Task) -> io::Result<()> {

@@ -79,6 +79,14 @@ pub(crate) fn failed() -> io::Error {
     io::ErrorKind::InvalidData.into()
 }
 
+/// What a call gave, or that failure in place of its fault.
+pub(crate) fn given<T: Drop, F: Drop>(outcome: Result<T, F>) -> io::Result<T> {
+    match outcome {
+        Ok(value) => Ok(value),
+        Err(_) => Err(failed()),
+    }
+}
+
 /// The commands of an example.
 pub(crate) fn commands_of(alloc: Global, example: Example) -> io::Result<Vec<Command>> {
     let mut commands = Vec::new(alloc);
@@ -122,19 +130,13 @@ pub(crate) fn load_three(alloc: Global) -> io::Result<Command> {
 }
 
 fn load_vrp(alloc: Global, text: &[u8]) -> io::Result<Command> {
-    match read_vrp(alloc, text) {
-        Ok(problem) => Ok(Command::Load(problem, 0)),
-        Err(_) => Err(failed()),
-    }
+    Ok(Command::Load(given(read_vrp(alloc, text))?, 0))
 }
 
 // The command that loads 20 pairs for two vehicles: a state of 54 + 20 * 57 + 2 * 8 + 2 * 4 = 1,218 bytes, so three sectors.
 fn load_pairs(alloc: Global) -> io::Result<Command> {
     let text = text_of_pairs(alloc)?;
-    match read_lilim(alloc, &text) {
-        Ok(problem) => Ok(Command::Load(problem, 0)),
-        Err(_) => Err(failed()),
-    }
+    Ok(Command::Load(given(read_lilim(alloc, &text))?, 0))
 }
 
 fn text_of_pairs(alloc: Global) -> io::Result<Vec<u8>> {
@@ -192,8 +194,5 @@ pub(crate) fn bytes_of(alloc: Global, state: &State) -> io::Result<Vec<u8>> {
 
 /// The state after a command that is accepted.
 pub(crate) fn applied(alloc: Global, state: &State, command: &Command) -> io::Result<State> {
-    match apply(alloc, state, command) {
-        Ok(next) => Ok(next),
-        Err(_) => Err(failed()),
-    }
+    given(apply(alloc, state, command))
 }

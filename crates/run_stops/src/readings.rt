@@ -6,7 +6,7 @@ ghost use Rattle.checkpoint.specs.Changes.{HasRecordRoom};
 ghost use Rattle.checkpoint.specs.Layouts.{version_2, last_sequence, sectors_in};
 ghost use Rattle.checkpoint.specs.Places.{first_place, behind_record, behind_snapshot};
 
-use crate::examples::{Example, applied, commands_of, failed};
+use crate::examples::{Example, applied, commands_of, failed, given};
 use crate::images::held;
 use crate::stops::choices_of;
 use crate::tables::{count, print_row};
@@ -33,7 +33,10 @@ pub(crate) fn print_readings<R: Print>(rt: &R, alloc: Global) -> io::Result<()> 
     for calls in 0..17 {
         print_row(rt, calls, &row_of_small_runs(alloc, calls)?)?;
     }
-    print_wide_readings(rt, alloc, &wide_state(alloc)?)
+    let state = wide_state(alloc)?;
+    let printed = print_wide_readings(rt, alloc, &state);
+    drop(state);
+    printed
 }
 
 // The same of stores with this state.
@@ -128,10 +131,8 @@ fn format_stopped(
 // A store of this state, and a record.
 fn recorded_store(alloc: Global, state: &State) -> io::Result<MemDevice> {
     let mut device = MemDevice::new(alloc, SECTORS)?;
-    match recorded_behind_a_format(alloc, &mut device, state) {
-        Ok(_) => Ok(device),
-        Err(_) => Err(failed()),
-    }
+    given(recorded_behind_a_format(alloc, &mut device, state))?;
+    Ok(device)
 }
 
 fn recorded_behind_a_format<D: Sectors>(

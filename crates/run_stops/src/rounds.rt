@@ -1,6 +1,6 @@
 //! Lists of rounds by a generator: what each round leaves is what the fold over rounds allows.
 
-use crate::examples::{advance, applied, bytes_of, failed, load_three};
+use crate::examples::{advance, applied, bytes_of, given, load_three};
 use crate::stops::{fresh, opened_state};
 use crate::tables::{count, print_row};
 use checkpoint::SECTORS;
@@ -135,10 +135,8 @@ fn left_by(
     list: u64,
     place: u64,
 ) -> io::Result<(Left, MemDevice)> {
-    match run_round(alloc, device, round_of(alloc, list, place)?) {
-        Ok((run, device)) => left_of(alloc, &run, device),
-        Err(_) => Err(failed()),
-    }
+    let (run, device) = given(run_round(alloc, device, round_of(alloc, list, place)?))?;
+    left_of(alloc, &run, device)
 }
 
 fn left_of(alloc: Global, run: &Run, device: MemDevice) -> io::Result<(Left, MemDevice)> {
@@ -194,7 +192,11 @@ fn outcome_of(
 ) -> io::Result<Outcome> {
     let commands = commands_of(alloc, &mut Random::of_round(list, place), place)?;
     match decode_state(alloc, begun) {
-        Ok(mut state) => repeated(alloc, &mut state, &commands, left),
+        Ok(mut state) => {
+            let outcome = repeated(alloc, &mut state, &commands, left);
+            drop(state);
+            outcome
+        }
         Err(_) => Ok(Outcome::Other),
     }
 }
@@ -236,7 +238,10 @@ fn broken_off(alloc: Global, state: &State, command: &Command, left: &Left) -> i
 }
 
 fn is_left_with(alloc: Global, state: &State, command: &Command, left: &Left) -> io::Result<bool> {
-    is_left(alloc, &applied(alloc, state, command)?, left)
+    let state = applied(alloc, state, command)?;
+    let is_left = is_left(alloc, &state, left);
+    drop(state);
+    is_left
 }
 
 // How many rounds a list has, 1..=8.
@@ -287,10 +292,10 @@ fn add_round(
 // The state that `run_rounds` leaves of all rounds of a list.
 fn left_by_all(alloc: Global, list: u64) -> io::Result<Vec<u8>> {
     let rounds = rounds_of(alloc, list)?;
-    match run_rounds(alloc, fresh(alloc)?, rounds) {
-        Ok(rounds) => bytes_of(alloc, rounds.session.state()),
-        Err(_) => Err(failed()),
-    }
+    let rounds = given(run_rounds(alloc, fresh(alloc)?, rounds))?;
+    let bytes = bytes_of(alloc, rounds.session.state());
+    drop(rounds);
+    bytes
 }
 
 fn rounds_of(alloc: Global, list: u64) -> io::Result<Vec<Round>> {

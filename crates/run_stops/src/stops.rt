@@ -1,6 +1,6 @@
 //! Runs that are stopped, and what opening their device gives.
 
-use crate::examples::{Example, bytes_of, commands_of, failed, states_of};
+use crate::examples::{Example, bytes_of, commands_of, failed, given, states_of};
 use crate::tables::print_row;
 use checkpoint::{SECTORS, doubts_about, format};
 use command_core::Command;
@@ -83,18 +83,13 @@ fn tally_of(alloc: Global, table: &Table, calls: u64, states: &[Vec<u8>]) -> io:
 /// A device with a new store.
 pub(crate) fn fresh(alloc: Global) -> io::Result<MemDevice> {
     let mut device = MemDevice::new(alloc, SECTORS)?;
-    match format(alloc, &mut device) {
-        Ok(_) => Ok(device),
-        Err(_) => Err(failed()),
-    }
+    given(format(alloc, &mut device))?;
+    Ok(device)
 }
 
 /// The device, opened.
 pub(crate) fn open(alloc: Global, device: MemDevice) -> io::Result<Opened<MemDevice>> {
-    match Session::open(alloc, device) {
-        Ok(opened) => Ok(opened),
-        Err(_) => Err(failed()),
-    }
+    given(Session::open(alloc, device))
 }
 
 /// The state that opening gives, as bytes, and the device behind it.
@@ -154,7 +149,10 @@ impl Ended {
         let mut device = session.close();
         device.crash(choices);
         let is_doubted = is_doubted(alloc, &mut device);
-        Ended::with(alloc, &run, &open(alloc, device), is_doubted)
+        let opened = open(alloc, device);
+        let ended = Ended::with(alloc, &run, &opened, is_doubted);
+        drop(opened);
+        ended
     }
 
     // What was answered, and what opening gave, where all of it could be had.
@@ -189,10 +187,7 @@ impl Ended {
 
 // Whether there is a reason to doubt the store on the device.
 fn is_doubted(alloc: Global, device: &mut MemDevice) -> io::Result<bool> {
-    match doubts_about(alloc, device) {
-        Ok(doubts) => Ok(!doubts.is_empty()),
-        Err(_) => Err(failed()),
-    }
+    Ok(!given(doubts_about(alloc, device))?.is_empty())
 }
 
 // How many commands were answered so.

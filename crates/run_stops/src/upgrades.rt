@@ -124,9 +124,18 @@ impl Outcome {
 // What opening it gives, where this is the state.
 fn outcome_of(alloc: Global, device: MemDevice, state: &[u8]) -> io::Result<Outcome> {
     match Session::open(alloc, device) {
-        Ok(opened) => outcome_of_opened(alloc, &opened, state),
-        Err((StoreFault::NotFormatted, _)) => Ok(Outcome::NotFormatted),
-        Err(_) => Ok(Outcome::Other),
+        Ok(opened) => {
+            let outcome = outcome_of_opened(alloc, &opened, state);
+            drop(opened);
+            outcome
+        }
+        Err((fault, device)) => {
+            drop(device);
+            Ok(match fault {
+                StoreFault::NotFormatted => Outcome::NotFormatted,
+                _ => Outcome::Other,
+            })
+        }
     }
 }
 

@@ -50,6 +50,7 @@ fn serve(alloc: Global, calls: Calls) -> Result<Served, Fail> {
     let mut reader = Watched::new(Terminal { calls, made: 0 });
     let mut writer = Watched::new(Vec::new(alloc));
     let fault = serve_source(&Discard, alloc, &mut session, &mut reader, &mut writer).err();
+    drop(session);
     Ok(Served {
         text: writer.into_inner(),
         fault,

@@ -8,10 +8,13 @@ use std::process::Abort;
 use std::test::Fail;
 
 fn goal_of(line: &[u8]) -> Option<Goal> {
-    match read_line(line) {
-        Asked::Steps(goal) => Some(goal),
+    let asked = read_line(line);
+    let goal = match &asked {
+        Asked::Steps(goal) => Some(*goal),
         _ => None,
-    }
+    };
+    drop(asked);
+    goal
 }
 
 const GREATEST_STEP: u64 = 1_152_921_504_606_846_976;
@@ -32,10 +35,13 @@ fn reads_as_many_steps_as_there_are(rt: HostRuntime) {
 }
 
 fn deviation_of(line: &[u8]) -> Option<u32> {
-    match read_line(line) {
-        Asked::Plain(Command::Deviation(deviation)) => Some(deviation),
+    let asked = read_line(line);
+    let deviation = match &asked {
+        Asked::Plain(Command::Deviation(deviation)) => Some(*deviation),
         _ => None,
-    }
+    };
+    drop(asked);
+    deviation
 }
 
 // What is too far for the state is refused by its command, not by the line.

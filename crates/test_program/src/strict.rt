@@ -57,7 +57,9 @@ fn first_wrong(alloc: Global, session: &Session<MemDevice>, puts: &[Put]) -> Opt
 
 fn first_wrong_put(alloc: Global) -> Result<Option<usize>, Fail> {
     let session = opened(alloc, new_device(alloc)?).ok_or("a session")?;
-    Ok(first_wrong(alloc, &session, &PUTS))
+    let wrong = first_wrong(alloc, &session, &PUTS);
+    drop(session);
+    Ok(wrong)
 }
 
 #[test]
@@ -73,10 +75,7 @@ pub(crate) fn new_device(alloc: Global) -> Result<MemDevice, Fail> {
 }
 
 pub(crate) fn opened(alloc: Global, device: MemDevice) -> Option<Session<MemDevice>> {
-    match Session::open(alloc, device) {
-        Ok(opened) => Some(opened.session),
-        Err(_) => None,
-    }
+    Some(Session::open(alloc, device).ok()?.session)
 }
 
 /// What came of an input.
@@ -110,7 +109,9 @@ fn served_by_a_faulty_device(alloc: Global) -> Result<Served, Fail> {
         match Session::open(alloc, device) {
             Ok(opened) => {
                 let mut session = opened.session;
-                return Ok(serve_strictly(alloc, &mut session, ONE_PAIR));
+                let served = serve_strictly(alloc, &mut session, ONE_PAIR);
+                drop(session);
+                return Ok(served);
             }
             Err((_, given_back)) => device = given_back,
         }
