@@ -118,7 +118,7 @@ module _ (version : Version) (sectors : ℕ) (front image : List ℕ) (whole : I
     ends = λ inside command recorded is. has.ends inside command recorded (sym (same (length commands) inside) ∙ is);
   }
 
-  pub stray_there : (state : State) (commands : List Command) → HasRecords version front header.sequence commands
+  stray_there : (state : State) (commands : List Command) → HasRecords version front header.sequence commands
       → HasStrayFrom (length commands) front header.sequence → HasBadJournal version image header.sequence state
   stray_there state commands has stray = record {
     commands = commands;
@@ -126,7 +126,7 @@ module _ (version : Version) (sectors : ℕ) (front image : List ℕ) (whole : I
     why = inl (stray.0, stray.1, stray.2, subst (λ (s : List ℕ). header.sequence ≤ begins_with s) (sym (same stray.0 stray.2)) stray.3);
   }
 
-  pub past_there : (state : State) (commands : List Command) → HasRecords version front header.sequence commands → ¬ HaveNumbers version state commands
+  past_there : (state : State) (commands : List Command) → HasRecords version front header.sequence commands → ¬ HaveNumbers version state commands
       → HasBadJournal version image header.sequence state
   past_there state commands has past = record { commands = commands; records = records_there commands has; why = inr past }
 

@@ -1,5 +1,5 @@
 -- What the word `check` does: it tells whether a store that opens agrees with itself.
-use Rattle.std.specs.Prelude.{◌≡◌, ℕ, Bool, List, [], ◌++◌, codes, Option, Result, IfErr, MatchResult, if◌then◌else◌}
+use Rattle.std.specs.Prelude.{◌≡◌, ℕ, List, [], ◌++◌, codes, Option, Result, IfErr, MatchResult, if◌then◌else◌}
 use Rattle.std.specs.Io.KnownBytes.{Appends}
 use Rattle.checkpoint.specs.Doubts.{AreDoubtsOf, has_doubt, has_none}
 use Rattle.checkpoint.specs.Holdless.{HasNoHeader, IsOfHeadersOrUnread, UnlessUnread}

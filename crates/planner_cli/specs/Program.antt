@@ -170,10 +170,8 @@ module _ {D N : Type 0} (on_old : sectors.Ghosts D) (on_new : sectors.Ghosts N) 
       IfOk told (TellsTimetable paths.kind (form_of is_tabbed) paths.instance paths.solution old.files new.files old.output.contents new.output.contents old.errors new.errors)
   Does (store_timetable store is_tabbed) old new told = IfOk told (TimetablesStore on_old IsShared store (form_of is_tabbed) old.output.contents new.output.contents)
 
-  -- The words were read. Where an answer could not be printed, the status is 3; what `format`, `load`, `adopt` and `upgrade` did is said all the same.
-  pub record Works (asked : Asked) (old new : World) (status : ℕ) : Type 0 where
-    pub told : Result ℕ Error
-    pub ends : MatchResult told (λ printed. status ≡ printed) (λ error. status ≡ 3)
+  -- What was asked for is done, and all else is left as it was, whatever came of the answer.
+  pub record IsDone {X : Type 0} (asked : Asked) (old new : World) (told : Result ℕ X) : Type 0 where
     pub does : Does asked old new told
     pub serves : ServesFor on_old IsOld asked old new
     pub reads : AreReadFor asked old.files new.files
@@ -181,6 +179,12 @@ module _ {D N : Type 0} (on_old : sectors.Ghosts D) (on_new : sectors.Ghosts N) 
     pub asks : AreAskedFor asked old.disks new.disks
     pub input : IsInputKept asked old new
     pub errors : AreErrorsKept asked old new
+
+  -- The words were read. Where an answer could not be printed, the status is 3; what `format`, `load`, `adopt` and `upgrade` did is said all the same.
+  pub record Works (asked : Asked) (old new : World) (status : ℕ) : Type 0 where
+    pub told : Result ℕ Error
+    pub ends : MatchResult told (λ printed. status ≡ printed) (λ error. status ≡ 3)
+    pub done : IsDone asked old new told
     pub statuses : CanEndWith asked status
 
   -- or there was no memory to read them, and nothing was done

@@ -6,7 +6,7 @@ ghost use Rattle.std.specs.Prelude.{◌≡◌, ◌≤◌, ◌∷◌, IfOk, drop,
 ghost use Rattle.command_line.specs.Asked.{ArePositional, Asked, asked_by, asked_of};
 ghost use Rattle.command_serving.specs.Held.{given_by, held};
 ghost use Rattle.sector_disk.specs.Disks.{IsMadeAt, IsSharedAt, IsTakenAt};
-ghost use Rattle.planner_cli.specs.Program.{AreAskedFor, AreErrorsKept, AreMadeFor, AreReadFor, Does, EndsWith, IsInputKept, ServesFor, TellsUsage, seen};
+ghost use Rattle.planner_cli.specs.Program.{EndsWith, IsDone, TellsUsage, seen};
 ghost use Rattle.planner_cli.specs.Running.{RunsStore, ServesStore};
 ghost use Rattle.planner_cli.specs.Statuses.{CanEndWith};
 
@@ -131,21 +131,7 @@ fn do_asked<
 where
     R: Eprint + AllocGlobal,
     ensures status { IfOk result.0 (CanEndWith (asked_of invocation.entry)) }
-    ensures reads { AreReadFor (asked_of invocation.entry) (F.reads files.old) (F.reads files.new) }
-    ensures makes { AreMadeFor (asked_of invocation.entry) (N.writes new_files.old)
-        (N.writes new_files.new) }
-    ensures asks { AreAskedFor (asked_of invocation.entry) (X.asked disks.old) (X.asked disks.new) }
-    ensures input { IsInputKept (asked_of invocation.entry)
-        (seen F.reads N.writes X.asked I.remaining W.contents E.contents files.old new_files.old
-        disks.old streams)
-        (seen F.reads N.writes X.asked I.remaining W.contents E.contents files.new new_files.new
-        disks.new result.1) }
-    ensures errors { AreErrorsKept (asked_of invocation.entry)
-        (seen F.reads N.writes X.asked I.remaining W.contents E.contents files.old new_files.old
-        disks.old streams)
-        (seen F.reads N.writes X.asked I.remaining W.contents E.contents files.new new_files.new
-        disks.new result.1) }
-    ensures does { Does ⟦<FileDevice<T> as Sectors>⟧ ⟦<FileDevice<U> as Sectors>⟧
+    ensures done { IsDone ⟦<FileDevice<T> as Sectors>⟧ ⟦<FileDevice<U> as Sectors>⟧
         (IsTakenAt ⟦<HostFile as FileCalls>⟧.entries)
         (IsSharedAt ⟦<HostFile as FileCalls>⟧.entries) (IsMadeAt ⟦<HostFile as FileCalls>⟧.entries)
         (IsMadeAt ⟦<HostFile as FileCalls>⟧.entries) (asked_of invocation.entry)
@@ -153,12 +139,6 @@ where
         disks.old streams)
         (seen F.reads N.writes X.asked I.remaining W.contents E.contents files.new new_files.new
         disks.new result.1) result.0 }
-    ensures serves { ServesFor ⟦<FileDevice<T> as Sectors>⟧
-        (IsTakenAt ⟦<HostFile as FileCalls>⟧.entries) (asked_of invocation.entry)
-        (seen F.reads N.writes X.asked I.remaining W.contents E.contents files.old new_files.old
-        disks.old streams)
-        (seen F.reads N.writes X.asked I.remaining W.contents E.contents files.new new_files.new
-        disks.new result.1) }
 {
     let mut streams = streams;
     let alloc = rt.alloc();

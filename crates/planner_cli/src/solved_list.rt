@@ -167,7 +167,9 @@ impl Solver<'_> {
         };
         tell_limit(self.tasks.kind, instance, &text, errors)?;
         let found = self.find(&text);
-        self.place(&text, path, &found, new_files, output)
+        let told = self.place(&text, path, &found, new_files, output);
+        drop(found);
+        told
     }
 
     // Solves the instance's text. How far it is is told nowhere.

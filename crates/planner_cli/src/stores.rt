@@ -227,8 +227,14 @@ where
     let read = read_version_1(rt.alloc(), &mut device);
     tell_cause(rt, old, device.cause());
     match read {
-        Ok(state) => make_upgraded(rt, disks, start, new, &state, output),
+        Ok(state) => {
+            let told = make_upgraded(rt, disks, start, new, &state, output);
+            drop(state);
+            drop(device);
+            told
+        }
         Err(fault) => {
+            drop(device);
             tell_not_old(rt, old, fault);
             tell_store_fault(output, fault)
         }

@@ -1,5 +1,5 @@
 -- The session was empty, and answered the command, or holds an instance.
-use Rattle.std.proofs.Common.{◌≡◌, List, ℕ, false, inl, inr, rules}
+use Rattle.std.proofs.Common.{◌≡◌, List, ℕ, false, inr, rules}
 use Rattle.command_core.specs.declared.states.State.TheVariants.{Empty}
 use Rattle.planner_cli.specs.Loading.{holds_instance}
 use Rattle.planner_cli.proofs.TellLemmas.{begun, is_empty}

@@ -1,5 +1,5 @@
 -- The words were read; or, where they ask for something, there was no memory for them, and then nothing is told.
-use Rattle.std.proofs.Common.{◌≡◌, inl, inr, refl, sym, subst}
+use Rattle.std.proofs.Common.{◌≡◌, inl, inr, refl}
 use Rattle.command_line.specs.Asked.{asked_of}
 use Rattle.clap.specs.Words.{kind_of}
 use Rattle.auditor_cli.proofs.UsageLemmas.{no_memory_told, usage_told}
@@ -15,13 +15,7 @@ returns-in-Ok-clause-does g c = λ a positional asks.
     rw same (inl (record {
       told = told;
       ends = c.status_of.ensures;
-      does = done.does;
-      serves = done.serves;
-      reads = done.reads;
-      makes = done.makes;
-      asks = done.asks;
-      input = done.input;
-      errors = done.errors;
+      done = done.done;
       statuses = status_can (asked_of c.in-Ok.invocation) told _ done.status c.status_of.ensures;
     }))
 

@@ -1,5 +1,5 @@
 -- The words are the same, or they differ.
-use Rattle.std.proofs.Common.{inl, inr, refl, rules}
+use Rattle.std.proofs.Common.{inr, rules}
 use Rattle.std.specs.Prelude.{◌≢◌}
 use Rattle.planner_cli.proofs.stores.upgrade_store.Goals as goal
 

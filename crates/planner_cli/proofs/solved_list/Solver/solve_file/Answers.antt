@@ -34,14 +34,14 @@ returns-clause-does g c =
     let x = c.in-Ok.text.items in
     let found = c.find-found.result in
     let made = g.N.WriteFiles.writes c.args.new_files.now in
-    let left = g.N.WriteFiles.writes c.place.new.new_files in
+    let left = g.N.WriteFiles.writes c.place-told.new.new_files in
     let finds = subst (λ t. Finds tasks t found) c.deref-2.ensures.value c.find-found.ensures in
     let errors = g.E.Write.contents c.args.errors.now in
     let noted = g.E.Write.contents c.tell_limit.new.errors in
     let limit = subst (λ t. Appends errors noted (limit_line tasks.kind instance t)) c.deref.ensures.value c.in_ok-tell_limit.ensures in
     record {
-      kept = (((instance, Ok x) ∷ [], c.in-Ok.ensures), c.place.ensures.does.kept);
-      told = IfOk-weaker c.place.result _ _
+      kept = (((instance, Ok x) ∷ [], c.in-Ok.ensures), c.place-told.ensures.does.kept);
+      told = IfOk-weaker c.place-told.result _ _
           (λ status told. (
             told.0,
             inr (inr (record {
@@ -53,5 +53,5 @@ returns-clause-does g c =
               placed = subst (λ t. IsPlaced tasks.kind t c.args.path.now found made left told.0 status) c.deref-3.ensures.value told.1;
             })),
             told.2,
-          )) c.place.ensures.does.told;
+          )) c.place-told.ensures.does.told;
     }
