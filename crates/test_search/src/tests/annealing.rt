@@ -303,8 +303,9 @@ fn step_by_step(alloc: Global, case: &Case, step: u64) -> Result<Vec<u32>, Fail>
         40,
         1,
         step + 1,
-    )?;
-    both(alloc, &second)
+    );
+    drop(first);
+    both(alloc, &second?)
 }
 
 // Whether two steps from this one on find what one does and then the next.
@@ -318,7 +319,10 @@ fn goes_on(alloc: Global, case: &Case, step: u64) -> Result<bool, Fail> {
 }
 
 fn goes_on_from(alloc: Global, step: u64) -> Result<bool, Fail> {
-    goes_on(alloc, &case_of(alloc, CUSTOMERS, &[], BUILT)?, step)
+    let case = case_of(alloc, CUSTOMERS, &[], BUILT)?;
+    let goes_on = goes_on(alloc, &case, step);
+    drop(case);
+    goes_on
 }
 
 #[test]

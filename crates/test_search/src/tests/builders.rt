@@ -40,32 +40,50 @@ fn customers(
     Ok(problem)
 }
 
+// A problem of these requests, with a capacity of 10.
+fn problem_with(
+    alloc: Global,
+    kind: Kind,
+    fleet: u32,
+    requests: &[Request],
+) -> Result<Problem, Fail> {
+    let depot = stop_at(0, (0, 0), 0, 100);
+    let mut problem = Problem::new(alloc, kind, depot, 10, fleet)?;
+    for request in requests {
+        problem.put(*request)?;
+    }
+    Ok(problem)
+}
+
+// A pickup of one good and its delivery at the same place.
+fn pair_at(number: u32, place: (i32, i32), latest: u32) -> Request {
+    let pickup = stop_at(number, place, 1, latest);
+    Request::Pair(pickup, stop_at(number.saturating_add(1), place, -1, 50))
+}
+
 // Two pairs on two places, with a fleet of one. The second pickup is reached in time only by way of the first place.
 fn pairs(alloc: Global) -> Result<Problem, Fail> {
-    let depot = stop_at(0, (0, 0), 0, 100);
-    let mut problem = Problem::new(alloc, Kind::LiLim, depot, 10, 1)?;
-    let pickup = stop_at(1, (1, 1), 1, 50);
-    problem.put(Request::Pair(pickup, stop_at(2, (1, 1), -1, 50)))?;
-    let pickup = stop_at(3, (2, 2), 1, 2);
-    problem.put(Request::Pair(pickup, stop_at(4, (2, 2), -1, 50)))?;
-    Ok(problem)
+    let requests = [pair_at(1, (1, 1), 50), pair_at(3, (2, 2), 2)];
+    problem_with(alloc, Kind::LiLim, 1, &requests)
 }
 
 // The two pairs, and one like the first, of stops 5 and 6.
 fn three_pairs(alloc: Global) -> Result<Problem, Fail> {
-    let mut problem = pairs(alloc)?;
-    let pickup = stop_at(5, (1, 1), 1, 50);
-    problem.put(Request::Pair(pickup, stop_at(6, (1, 1), -1, 50)))?;
-    Ok(problem)
+    let requests = [
+        pair_at(1, (1, 1), 50),
+        pair_at(3, (2, 2), 2),
+        pair_at(5, (1, 1), 50),
+    ];
+    problem_with(alloc, Kind::LiLim, 1, &requests)
 }
 
 // The depot between two customers. From one to the other it is farther than over the depot, by rounded distances.
 fn opposite(alloc: Global, kind: Kind) -> Result<Problem, Fail> {
-    let depot = stop_at(0, (0, 0), 0, 100);
-    let mut problem = Problem::new(alloc, kind, depot, 10, 3)?;
-    problem.put(Request::Single(stop_at(1, (1, 1), 1, 100)))?;
-    problem.put(Request::Single(stop_at(2, (-1, -1), 1, 100)))?;
-    Ok(problem)
+    let requests = [
+        Request::Single(stop_at(1, (1, 1), 1, 100)),
+        Request::Single(stop_at(2, (-1, -1), 1, 100)),
+    ];
+    problem_with(alloc, kind, 3, &requests)
 }
 
 /// Six pairs, the pickup first: place, goods and window.

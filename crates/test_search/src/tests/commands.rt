@@ -1,6 +1,7 @@
 //! Commands, by what they make of states and how states refuse them.
 use crate::tests::builders::{Given, problem_of};
 use command_core::{Command, Refusal, Spot, State, apply};
+use plan_types::Problem;
 use std::alloc::Global;
 use std::test::Fail;
 
@@ -51,16 +52,26 @@ fn applied(alloc: Global, state: &State, command: Command) -> Result<State, Refu
     apply(alloc, state, &command)
 }
 
+fn load(alloc: Global, problem: Problem) -> Result<State, Refusal> {
+    applied(alloc, &State::Empty, Command::Load(problem, 0))
+}
+
 fn loaded(alloc: Global, given: Given) -> Result<State, Fail> {
-    let problem = problem_of(alloc, given)?;
-    Ok(applied(alloc, &State::Empty, Command::Load(problem, 0))?)
+    Ok(load(alloc, problem_of(alloc, given)?)?)
+}
+
+// The state after one more command.
+fn next(alloc: Global, state: State, step: Step) -> Result<State, Refusal> {
+    let next = applied(alloc, &state, command(step));
+    drop(state);
+    next
 }
 
 // The state after these commands, one after another.
 fn after(alloc: Global, begun: State, steps: &[Step]) -> Result<State, Fail> {
     let mut state = begun;
     for step in steps {
-        state = applied(alloc, &state, command(*step))?;
+        state = next(alloc, state, *step)?;
     }
     Ok(state)
 }

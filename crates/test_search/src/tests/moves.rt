@@ -223,7 +223,11 @@ fn after(alloc: Global, case: &Case, made: Move) -> Result<Vec<u32>, Fail> {
         return Ok(vec![in alloc; 9]?);
     }
     match moved(alloc, case, made)? {
-        Some(new) => stops_of(alloc, &new.routes),
+        Some(new) => {
+            let stops = stops_of(alloc, &new.routes);
+            drop(new);
+            stops
+        }
         None => Ok(Vec::new(alloc)),
     }
 }
@@ -247,7 +251,10 @@ fn astray(alloc: Global, case: &Case, moves: &[(Move, &[u32])]) -> Result<usize,
 // How many of the example's moves make another plan than it says.
 fn astray_of(alloc: Global, example: &Example) -> Result<usize, Fail> {
     let (given, pins, plan, moves) = *example;
-    astray(alloc, &case_of(alloc, given, pins, plan)?, moves)
+    let case = case_of(alloc, given, pins, plan)?;
+    let astray = astray(alloc, &case, moves);
+    drop(case);
+    astray
 }
 
 // Whether each of the examples' moves makes the plan that it says.
@@ -261,10 +268,25 @@ fn are_made(alloc: Global, examples: &[Example]) -> Result<bool, Fail> {
 }
 
 #[test]
-fn moves_made(rt: HostRuntime) -> Result<(), Fail> {
+fn insertions_made(rt: HostRuntime) -> Result<(), Fail> {
     assert!(rt; are_made(rt.alloc(), &INSERTIONS)?);
+    Ok(())
+}
+
+#[test]
+fn removals_made(rt: HostRuntime) -> Result<(), Fail> {
     assert!(rt; are_made(rt.alloc(), &REMOVALS)?);
+    Ok(())
+}
+
+#[test]
+fn crossings_made(rt: HostRuntime) -> Result<(), Fail> {
     assert!(rt; are_made(rt.alloc(), &CROSSINGS)?);
+    Ok(())
+}
+
+#[test]
+fn exchanges_made(rt: HostRuntime) -> Result<(), Fail> {
     assert!(rt; are_made(rt.alloc(), &EXCHANGES)?);
     Ok(())
 }
@@ -291,11 +313,17 @@ fn stops_named(alloc: Global, problem: &Problem, name: u32) -> Result<Vec<u32>, 
     Ok(stops)
 }
 
+fn stops_named_in(alloc: Global, given: Given, name: u32) -> Result<Vec<u32>, Fail> {
+    let problem = problem_of(alloc, given)?;
+    let stops = stops_named(alloc, &problem, name);
+    drop(problem);
+    stops
+}
+
 #[test]
 fn requests_named(rt: HostRuntime) -> Result<(), Fail> {
     for (given, name, expected) in NAMED {
-        let problem = problem_of(rt.alloc(), given)?;
-        assert!(rt; stops_named(rt.alloc(), &problem, name)?.as_slice() == expected);
+        assert!(rt; stops_named_in(rt.alloc(), given, name)?.as_slice() == expected);
     }
     Ok(())
 }

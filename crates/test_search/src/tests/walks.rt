@@ -63,7 +63,11 @@ pub(crate) fn found(alloc: Global, case: &Case, walk: Walk) -> Result<Vec<u32>, 
         return Ok(Vec::new(alloc));
     }
     match steps_of(alloc, case, walk)? {
-        Some(found) => both(alloc, &found),
+        Some(found) => {
+            let stops = both(alloc, &found);
+            drop(found);
+            stops
+        }
         None => Ok(Vec::new(alloc)),
     }
 }
@@ -76,7 +80,10 @@ pub(crate) fn found_from(
     plan: &[u32],
     walk: Walk,
 ) -> Result<Vec<u32>, Fail> {
-    found(alloc, &case_of(alloc, given, pins, plan)?, walk)
+    let case = case_of(alloc, given, pins, plan)?;
+    let found = found(alloc, &case, walk);
+    drop(case);
+    found
 }
 
 /// Whether the example's steps find its routes.

@@ -29,13 +29,20 @@ const BUILT_AND_REDUCED: [(u32, u32, &[u32]); 6] = [
     ),
 ];
 
-// The plan of what is built, behind so many steps.
-fn reduced(alloc: Global, fleet: u32, count: u32) -> Result<Vec<u32>, Fail> {
-    let steps = [Step::Build, Step::Reduce(count)];
-    match after(alloc, loaded(alloc, Given::SixPairs(fleet))?, &steps)? {
+fn planned(alloc: Global, state: &State) -> Result<Vec<u32>, Fail> {
+    match state {
         State::Loaded(job) => stops_of(alloc, &job.plan.routes),
         State::Empty => Ok(Vec::new(alloc)),
     }
+}
+
+// The plan of what is built, behind so many steps.
+fn reduced(alloc: Global, fleet: u32, count: u32) -> Result<Vec<u32>, Fail> {
+    let steps = [Step::Build, Step::Reduce(count)];
+    let state = after(alloc, loaded(alloc, Given::SixPairs(fleet))?, &steps)?;
+    let planned = planned(alloc, &state);
+    drop(state);
+    planned
 }
 
 #[test]

@@ -45,7 +45,9 @@ fn of_what_is_not_loaded(rt: HostRuntime) {
 // The refusal of a command on two pairs with a plan.
 fn refusal_of(alloc: Global, step: Step) -> Result<Option<Refusal>, Fail> {
     let state = after(alloc, loaded(alloc, Given::Pairs)?, &[Step::Build])?;
-    Ok(refusal(alloc, &state, step))
+    let refusal = refusal(alloc, &state, step);
+    drop(state);
+    Ok(refusal)
 }
 
 #[test]
@@ -97,7 +99,9 @@ const OF_THE_LAST_STEPS: [(u64, Step, Option<Refusal>); 8] = [
 
 fn late_refusal(alloc: Global, left: u64, step: Step) -> Result<Option<Refusal>, Fail> {
     let state = near_the_last_step(alloc, left)?;
-    Ok(refusal(alloc, &state, step))
+    let refusal = refusal(alloc, &state, step);
+    drop(state);
+    Ok(refusal)
 }
 
 #[test]

@@ -2,9 +2,9 @@
 ghost use Rattle.std.specs.Prelude.{◌≡◌, true, IfOk};
 ghost use Rattle.plan_audit.specs.Passes.{passes};
 
-use super::{Step, after, applied, loaded};
+use super::{Step, after, load, loaded};
 use crate::tests::builders::{Given, grid, is_passing, one_route};
-use command_core::{Command, Job, Refusal, State, unplanned_names};
+use command_core::{Job, Refusal, State, unplanned_names};
 use plan_types::{Pins, Plan, Problem};
 use std::alloc::Global;
 use std::test::Fail;
@@ -38,17 +38,27 @@ fn passing_copy(alloc: Global, problem: &Problem, pins: &Pins, plan: &Plan) -> R
 
 // The job with this plan, where it passes.
 fn with_plan(alloc: Global, job: Job, plan: Plan) -> Result<State, Fail> {
-    let work = passing_copy(alloc, &job.problem, &job.pins, &plan)?;
-    Ok(State::Loaded(with_plans(job, plan, work)))
+    match passing_copy(alloc, &job.problem, &job.pins, &plan) {
+        Ok(work) => Ok(State::Loaded(with_plans(job, plan, work))),
+        Err(fail) => {
+            drop(job);
+            Err(fail)
+        }
+    }
+}
+
+fn planned(alloc: Global, state: State, plan: Plan) -> Result<State, Fail> {
+    match state {
+        State::Loaded(job) => with_plan(alloc, job, plan),
+        State::Empty => Ok(State::Empty),
+    }
 }
 
 // As many requests as there can be but one and as many vehicles, and one route of all stops.
 fn largest(alloc: Global) -> Result<State, Fail> {
+    let plan = one_route(alloc, 39_999, 40_000)?;
     let problem = grid(alloc, 39_999, 1_000_000, 40_000)?;
-    match applied(alloc, &State::Empty, Command::Load(problem, 0))? {
-        State::Loaded(job) => with_plan(alloc, job, one_route(alloc, 39_999, 40_000)?),
-        State::Empty => Ok(State::Empty),
-    }
+    planned(alloc, load(alloc, problem)?, plan)
 }
 
 // How many requests there are, the next number, and the steps made; zeros before the first Load.
@@ -84,14 +94,19 @@ const ON_THE_LARGEST: [Step; 4] = [
 // A second state like the largest.
 fn copied(alloc: Global) -> Result<State, Fail> {
     let state = largest(alloc)?;
-    Ok(state.copy()?)
+    let copy = state.copy();
+    drop(state);
+    Ok(copy?)
 }
 
 // Whether the commands on a copy of the largest state make what is wanted of it.
 fn is_changed(alloc: Global) -> Result<bool, Fail> {
     let state = after(alloc, copied(alloc)?, &ON_THE_LARGEST)?;
-    let names = unplanned(alloc, &state)?;
-    Ok(numbers(&state) == (39_999, 40_001, 0) && names.as_slice() == [40_000].as_slice())
+    let numbers = numbers(&state);
+    let names = unplanned(alloc, &state);
+    drop(state);
+    let names = names?;
+    Ok(numbers == (39_999, 40_001, 0) && names.as_slice() == [40_000].as_slice())
 }
 
 #[test]
@@ -111,7 +126,10 @@ fn shown(alloc: Global, state: &State) -> Result<String, Fail> {
 }
 
 fn shown_of_a_copy(alloc: Global, state: &State) -> Result<String, Fail> {
-    shown(alloc, &state.copy()?)
+    let copy = state.copy()?;
+    let shown = shown(alloc, &copy);
+    drop(copy);
+    shown
 }
 
 // Whether a copy of the state shows what the state does.
@@ -121,7 +139,10 @@ fn is_copied(alloc: Global, state: &State) -> Result<bool, Fail> {
 }
 
 fn is_pinned_copied(alloc: Global) -> Result<bool, Fail> {
-    is_copied(alloc, &pinned(alloc)?)
+    let state = pinned(alloc)?;
+    let is_copied = is_copied(alloc, &state);
+    drop(state);
+    is_copied
 }
 
 #[test]

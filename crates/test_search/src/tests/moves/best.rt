@@ -93,7 +93,10 @@ const EXAMPLES: [Example; 11] = [
 // Whether the example's place is the best.
 fn is_best(alloc: Global, example: &Example) -> Result<bool, Fail> {
     let (given, pins, plan, name, place) = *example;
-    Ok(best(alloc, &case_of(alloc, given, pins, plan)?, name)? == place)
+    let case = case_of(alloc, given, pins, plan)?;
+    let best = best(alloc, &case, name);
+    drop(case);
+    Ok(best? == place)
 }
 
 #[test]
@@ -111,7 +114,10 @@ fn best_in_one_route(
     stops: u32,
     name: u32,
 ) -> Result<Option<Insertion>, Fail> {
-    best(alloc, &case_of_one_route(alloc, given, stops)?, name)
+    let case = case_of_one_route(alloc, given, stops)?;
+    let best = best(alloc, &case, name);
+    drop(case);
+    best
 }
 
 #[test]

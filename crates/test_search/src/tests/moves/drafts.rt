@@ -78,7 +78,7 @@ type Example = (Given, &'static [u32], Edit, bool, &'static [u32]);
 /// Two customers 3 from one another, and between them, at the depot, a third.
 const DETOUR: Given = Given::Customers(10, 1, &[(1, 1, 1), (-1, -1, 1), (0, 0, 1)]);
 
-const EXAMPLES: [Example; 20] = [
+const RELOCATIONS_AND_EXCHANGES: [Example; 8] = [
     (
         FOUR,
         &[1, 0, 2, 3, 0, 4, 0, 0],
@@ -100,20 +100,6 @@ const EXAMPLES: [Example; 20] = [
         false,
         &[1, 0, 2, 3, 0, 4, 0, 0, 0, 54, 0, 1, 0, 2, 3, 0, 4, 0, 0],
     ),
-    (
-        FOUR,
-        &[1, 0, 2, 3, 0, 4, 0, 0],
-        Edit::Cross(2, 0, 3, 1),
-        false,
-        &[1, 0, 0, 4, 2, 3, 0, 0, 1, 44, 44, 1, 0, 2, 3, 0, 4, 0, 0],
-    ),
-    (
-        FOUR,
-        &[1, 0, 2, 3, 0, 4, 0, 0],
-        Edit::Cross(2, 0, 3, 1),
-        true,
-        &[1, 0, 0, 4, 2, 3, 0, 0, 1, 44, 44, 1, 0, 0, 4, 2, 3, 0, 0],
-    ),
     // 3 and 1 in one another's routes: 6 + 6, and 10 + 6 + 10.
     (
         FOUR,
@@ -129,22 +115,6 @@ const EXAMPLES: [Example; 20] = [
         Edit::Exchange(3, 2),
         false,
         &[1, 0, 3, 2, 0, 4, 0, 0, 1, 54, 0, 1, 0, 2, 3, 0, 4, 0, 0],
-    ),
-    // A vehicle more, for 3: 10 + 10, and 6 + 6.
-    (
-        FOUR,
-        &[1, 0, 2, 3, 0, 4, 0, 0],
-        Edit::Cross(2, 1, 4, 0),
-        false,
-        &[1, 0, 2, 0, 4, 0, 3, 0, 1, 62, 62, 1, 0, 2, 3, 0, 4, 0, 0],
-    ),
-    // A cut behind the end.
-    (
-        FOUR,
-        &[1, 0, 2, 3, 0, 4, 0, 0],
-        Edit::Cross(2, 3, 1, 0),
-        false,
-        &[1, 0, 2, 3, 0, 4, 0, 0, 0, 54, 0, 1, 0, 2, 3, 0, 4, 0, 0],
     ),
     (
         Given::Pairs,
@@ -168,6 +138,42 @@ const EXAMPLES: [Example; 20] = [
         false,
         &[1, 3, 4, 2, 0, 0, 4, 0, 1, 3, 4, 2, 0],
     ),
+];
+
+const CROSSINGS: [Example; 4] = [
+    (
+        FOUR,
+        &[1, 0, 2, 3, 0, 4, 0, 0],
+        Edit::Cross(2, 0, 3, 1),
+        false,
+        &[1, 0, 0, 4, 2, 3, 0, 0, 1, 44, 44, 1, 0, 2, 3, 0, 4, 0, 0],
+    ),
+    (
+        FOUR,
+        &[1, 0, 2, 3, 0, 4, 0, 0],
+        Edit::Cross(2, 0, 3, 1),
+        true,
+        &[1, 0, 0, 4, 2, 3, 0, 0, 1, 44, 44, 1, 0, 0, 4, 2, 3, 0, 0],
+    ),
+    // A vehicle more, for 3: 10 + 10, and 6 + 6.
+    (
+        FOUR,
+        &[1, 0, 2, 3, 0, 4, 0, 0],
+        Edit::Cross(2, 1, 4, 0),
+        false,
+        &[1, 0, 2, 0, 4, 0, 3, 0, 1, 62, 62, 1, 0, 2, 3, 0, 4, 0, 0],
+    ),
+    // A cut behind the end.
+    (
+        FOUR,
+        &[1, 0, 2, 3, 0, 4, 0, 0],
+        Edit::Cross(2, 3, 1, 0),
+        false,
+        &[1, 0, 2, 3, 0, 4, 0, 0, 0, 54, 0, 1, 0, 2, 3, 0, 4, 0, 0],
+    ),
+];
+
+const PLACINGS: [Example; 8] = [
     // In the used route 2 adds 1 + 3 + 1 - 2. A vehicle more would add 2, and is opened only where none is counted.
     (
         Given::Opposite(Kind::LiLim),
@@ -260,23 +266,43 @@ fn told(alloc: Global, case: &Case, made: Edit, is_taken: bool) -> Result<Vec<u3
         plan,
     } = case;
     let mut draft = Draft::build(alloc, problem, pins, plan)?;
-    left(alloc, &mut draft, problem, pins, made, is_taken)
+    let left = left(alloc, &mut draft, problem, pins, made, is_taken);
+    drop(draft);
+    left
 }
 
 fn told_of(alloc: Global, example: &Example) -> Result<Vec<u32>, Fail> {
     let (given, plan, made, is_taken, _) = *example;
-    told(alloc, &case_of(alloc, given, &[], plan)?, made, is_taken)
+    let case = case_of(alloc, given, &[], plan)?;
+    let told = told(alloc, &case, made, is_taken);
+    drop(case);
+    told
 }
 
-// Whether the example's edit is told.
-fn is_edited(alloc: Global, example: &Example) -> Result<bool, Fail> {
-    Ok(told_of(alloc, example)?.as_slice() == example.4)
+// Whether each example's edit is told.
+fn are_edited(alloc: Global, examples: &[Example]) -> Result<bool, Fail> {
+    for example in examples {
+        if told_of(alloc, example)?.as_slice() != example.4 {
+            return Ok(false);
+        }
+    }
+    Ok(true)
 }
 
 #[test]
-fn drafts_edited(rt: HostRuntime) -> Result<(), Fail> {
-    for example in &EXAMPLES {
-        assert!(rt; is_edited(rt.alloc(), example)?);
-    }
+fn drafts_relocated_and_exchanged(rt: HostRuntime) -> Result<(), Fail> {
+    assert!(rt; are_edited(rt.alloc(), &RELOCATIONS_AND_EXCHANGES)?);
+    Ok(())
+}
+
+#[test]
+fn drafts_crossed(rt: HostRuntime) -> Result<(), Fail> {
+    assert!(rt; are_edited(rt.alloc(), &CROSSINGS)?);
+    Ok(())
+}
+
+#[test]
+fn drafts_with_a_request_more(rt: HostRuntime) -> Result<(), Fail> {
+    assert!(rt; are_edited(rt.alloc(), &PLACINGS)?);
     Ok(())
 }

@@ -46,9 +46,25 @@ fn refreshes(
         return Ok(false);
     }
     let mut tables = Tables::build(alloc, problem, before)?;
-    tables.refresh(problem, after, vehicles)?;
-    let built = Tables::build(alloc, problem, after)?;
-    Ok(format!(in alloc; "{tables:?}")? == format!(in alloc; "{built:?}")?)
+    let refreshed = tables.refresh(problem, after, vehicles);
+    let shown = shown(alloc, &tables);
+    drop(tables);
+    let shown = shown?;
+    refreshed?;
+    Ok(shown == shown_anew(alloc, problem, after)?)
+}
+
+fn shown(alloc: Global, tables: &Tables) -> Result<String, Fail> {
+    Ok(format!(in alloc; "{tables:?}")?)
+}
+
+fn shown_anew(alloc: Global, problem: &Problem, plan: &Plan) -> Result<String, Fail>
+    requires { passes problem.now [] plan.now.routes ≡ true }
+{
+    let tables = Tables::build(alloc, problem, plan)?;
+    let shown = shown(alloc, &tables);
+    drop(tables);
+    shown
 }
 
 fn are_vehicles(problem: &Problem, vehicles: &[u32]) -> bool
@@ -140,14 +156,16 @@ fn is_built_anew(alloc: Global, example: &Example) -> Result<bool, Fail> {
     let (given, before, after, vehicles) = *example;
     let after = plan_of(alloc, after)?;
     let case = case_of(alloc, given, &[], before)?;
-    is_refreshed(
+    let is_refreshed = is_refreshed(
         alloc,
         &case.problem,
         &case.pins,
         &case.plan,
         &after,
         vehicles,
-    )
+    );
+    drop(case);
+    is_refreshed
 }
 
 #[test]
