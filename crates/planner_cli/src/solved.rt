@@ -49,7 +49,9 @@ pub(crate) fn solve_read<F: ReadFiles, W: Write, E: Write>(
         task.deviation,
         errors,
     );
-    tell_solved(alloc, &solved, output, errors)
+    let told = tell_solved(alloc, &solved, output, errors);
+    drop(solved);
+    told
 }
 
 // Tells the plan, or why there is none.

@@ -33,5 +33,5 @@ returns-clause-told g c =
     let searched = g.E.Write.contents c.solve-solved.new.progress in
     let solves = subst (λ x. MatchResult found (IsSolved task.kind x task.seed task.steps task.deviation noted searched) (Fails task.kind x noted searched)) c.deref-2.ensures.value
     c.solve-solved.ensures in
-    IfOk-weaker c.tell_solved.result _ _
-    (λ status told. inl (c.in-Ok.text.items, noted, c.in-Ok.ensures, limit, record { found = found; searched = searched; solves = solves; told = told })) c.tell_solved.ensures.told
+    IfOk-weaker c.tell_solved-told.result _ _
+    (λ status told. inl (c.in-Ok.text.items, noted, c.in-Ok.ensures, limit, record { found = found; searched = searched; solves = solves; told = told })) c.tell_solved-told.ensures.told
