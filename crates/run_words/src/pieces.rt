@@ -96,10 +96,10 @@ fn text_of(alloc: Global, parts: &[&str]) -> Result<Vec<u8>, AllocError> {
 
 // What comes of the input over a new store.
 fn served(alloc: Global, input: &[u8], pieces: Pieces, limited: Limited) -> Option<Served> {
-    let Some(mut session) = new_store(alloc) else {
-        return None;
-    };
-    Some(serve_input(alloc, &mut session, input, pieces, limited))
+    let mut session = new_store(alloc)?;
+    let served = serve_input(alloc, &mut session, input, pieces, limited);
+    drop(session);
+    Some(served)
 }
 
 // What comes of the first part, of the first two, and so on.

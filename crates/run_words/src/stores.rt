@@ -31,10 +31,7 @@ fn new_device(alloc: Global) -> Option<MemDevice> {
 }
 
 fn opened(alloc: Global, device: MemDevice) -> Option<Session<MemDevice>> {
-    match Session::open(alloc, device) {
-        Ok(opened) => Some(opened.session),
-        Err(_) => None,
-    }
+    Some(Session::open(alloc, device).ok()?.session)
 }
 
 /// A session over a new store.
@@ -102,10 +99,9 @@ fn opened_on_a_faulty_device(alloc: Global, calls: u64) -> Option<Session<MemDev
 fn shown_twice(alloc: Global, device: MemDevice) -> Option<(Vec<u8>, Vec<u8>)> {
     let (first, mut device) = shown_anew(alloc, device)?;
     device.crash(&[1, 1, 1, 1, 1, 1, 1, 1]);
-    match shown_anew(alloc, device) {
-        Some((second, _)) => Some((first, second)),
-        None => None,
-    }
+    let (second, device) = shown_anew(alloc, device)?;
+    drop(device);
+    Some((first, second))
 }
 
 // What `show` answers in a session over the device, and the device behind it.

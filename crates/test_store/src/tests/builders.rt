@@ -83,7 +83,10 @@ pub fn loaded_store(alloc: Global) -> Result<MemDevice, Fail> {
 }
 
 fn format_loaded(alloc: Global, device: &mut MemDevice) -> Result<(), Fail> {
-    format_as(alloc, device, &decode_state(alloc, &LOADED)?)
+    let state = decode_state(alloc, &LOADED)?;
+    let formatted = format_as(alloc, device, &state);
+    drop(state);
+    formatted
 }
 
 fn format_as(alloc: Global, device: &mut MemDevice, state: &State) -> Result<(), Fail> {

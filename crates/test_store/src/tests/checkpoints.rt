@@ -169,13 +169,16 @@ fn records_are_loaded(rt: HostRuntime) -> Result<(), Fail> {
     assert!(rt; loaded.place == place);
     let commands = loaded.commands.as_slice();
     assert!(rt; matches!(commands, [Command::Search(256), Command::Pin(1, 2)]));
+    drop(loaded);
     Ok(())
 }
 
 // Where the store of a device stands that is read by this version, or why it holds none.
 fn place_in(alloc: Global, mut device: MemDevice, version: Version) -> Result<Place, StoreFault> {
     let loaded = load(alloc, &mut device, version)?;
-    Ok(loaded.place)
+    let place = loaded.place;
+    drop(loaded);
+    Ok(place)
 }
 
 #[test]
@@ -250,6 +253,7 @@ fn a_record_of_the_old_sequence_is_left(rt: HostRuntime) -> Result<(), Fail> {
     let loaded = held_by(rt.alloc(), device)?;
     assert!(rt; loaded.place == place);
     assert!(rt; loaded.commands.is_empty());
+    drop(loaded);
     Ok(())
 }
 

@@ -20,6 +20,7 @@ fn a_file_is_made(rt: HostRuntime) -> Result<(), Fail> {
     assert!(rt; device.len() == 802);
     assert!(rt; device.calls() == 0);
     assert!(rt; device.faults() == 0);
+    drop(device);
     Ok(fs::remove_file(&rt, path)?)
 }
 
@@ -31,6 +32,7 @@ fn a_file_is_written(rt: HostRuntime) -> Result<(), Fail> {
     device.sync()?;
     assert!(rt; device.calls() == 2);
     assert!(rt; device.faults() == 0);
+    drop(device);
     Ok(fs::remove_file(&rt, path)?)
 }
 
@@ -51,6 +53,7 @@ fn a_file_is_opened_again(rt: HostRuntime) -> Result<(), Fail> {
     device.read(799, &mut zeros)?;
     let mut sevens = [1; 1024];
     device.read(800, &mut sevens)?;
+    drop(device);
     assert!(rt; zeros == [0; 512]);
     assert!(rt; sevens == [7; 1024]);
     Ok(fs::remove_file(&rt, path)?)
@@ -165,5 +168,6 @@ fn a_failed_read_counts(rt: HostRuntime) -> Result<(), Fail> {
     assert!(rt; write_sector(&rt, &mut device, 0, &[1; 512]).is_ok());
     assert!(rt; device.calls() == 1);
     assert!(rt; device.faults() == 1);
+    drop(device);
     Ok(fs::remove_file(&rt, path)?)
 }

@@ -95,7 +95,9 @@ fn searched(alloc: Global, times: u32) -> Result<Session<MemDevice>, Fail> {
 // How many steps opening repeats, and the steps and requests of the state.
 fn opened_counts(alloc: Global, device: MemDevice) -> Result<(u64, (u64, usize)), Fail> {
     let opened = open(alloc, device)?;
-    Ok((opened.replayed, counts(opened.session.state())))
+    let told = (opened.replayed, counts(opened.session.state()));
+    drop(opened);
+    Ok(told)
 }
 
 // What annealing makes of a store goes into it as a snapshot, with four calls, and is not made again.
@@ -127,6 +129,7 @@ fn a_session_breaks_with_its_device(rt: HostRuntime) -> Result<(), Fail> {
     assert!(rt; session.is_broken());
     let next = answer(rt.alloc(), &mut session, Command::Search(1));
     assert!(rt; next == (Err(Denial::Broken), 8));
+    drop(session);
     Ok(())
 }
 
@@ -160,8 +163,10 @@ fn a_record_that_the_state_refuses(rt: HostRuntime) -> Result<(), Fail> {
 
 // What a store that was just made answers to `checkpoint`, and the device's count then.
 fn answer_of_an_empty_store(alloc: Global) -> Result<(Result<(), Denial>, u64), Fail> {
-    let mut opened = open(alloc, empty_store(alloc)?)?;
-    Ok(answer(alloc, &mut opened.session, Command::Checkpoint))
+    let mut session = open(alloc, empty_store(alloc)?)?.session;
+    let answer = answer(alloc, &mut session, Command::Checkpoint);
+    drop(session);
+    Ok(answer)
 }
 
 #[test]

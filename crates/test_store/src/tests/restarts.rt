@@ -109,8 +109,10 @@ fn come(restarts: &Restarts, wanted: &[i64], stand: u64) -> bool {
 
 // Whether over an empty store this comes of each restart, and so many search steps stand.
 fn leave(alloc: Global, all: &[Given], wanted: &[i64], stand: u64) -> Result<bool, Fail> {
-    let device = empty_store(alloc)?;
-    Ok(come(&run_all(alloc, device, all)?, wanted, stand))
+    let restarts = run_all(alloc, empty_store(alloc)?, all)?;
+    let have_come = come(&restarts, wanted, stand);
+    drop(restarts);
+    Ok(have_come)
 }
 
 // The second search's record is not written: 1 + 2 calls were made.
@@ -159,7 +161,9 @@ fn goes_on(alloc: Global) -> Result<bool, Fail> {
     let mut device = empty_store(alloc)?;
     device.fail_once(0);
     let restarts = run_all(alloc, device, &[BEGIN, BEGIN])?;
-    Ok(come(&restarts, &[NOT_OPENED, 2], 0))
+    let have_come = come(&restarts, &[NOT_OPENED, 2], 0);
+    drop(restarts);
+    Ok(have_come)
 }
 
 #[test]

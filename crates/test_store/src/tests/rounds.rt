@@ -2,7 +2,7 @@
 
 use crate::tests::builders::{SECTORS, empty_store, refusal};
 use checkpoint::StoreFault;
-use command_core::{Command, State, apply};
+use command_core::{Command, Refusal, State, apply};
 use instance_read::read_vrp;
 use recover::{Denial, Halt, Round, Rounds, RoundsFault, Run, run_round, run_rounds};
 use sector_disk::{MemDevice, Sectors};
@@ -93,14 +93,23 @@ fn bytes_of(alloc: Global, state: &State) -> Result<Vec<u8>, Fail> {
 // The state that the three rounds leave.
 fn cut(alloc: Global) -> Result<Vec<u8>, Fail> {
     let rounds = run_over_none(alloc, &IN_ROUNDS)?;
-    bytes_of(alloc, rounds.session.state())
+    let bytes = bytes_of(alloc, rounds.session.state());
+    drop(rounds);
+    bytes
+}
+
+// The state after one more command.
+fn next(alloc: Global, state: State, command: &Command) -> Result<State, Refusal> {
+    let next = apply(alloc, &state, command);
+    drop(state);
+    next
 }
 
 // The state after commands, without a store.
 fn state_after(alloc: Global, commands: &[Command]) -> Result<State, Fail> {
     let mut state = State::Empty;
     for command in commands {
-        state = apply(alloc, &state, command)?;
+        state = next(alloc, state, command)?;
     }
     Ok(state)
 }
@@ -108,7 +117,10 @@ fn state_after(alloc: Global, commands: &[Command]) -> Result<State, Fail> {
 // The state after as many steps at once.
 fn uncut(alloc: Global) -> Result<Vec<u8>, Fail> {
     let commands = commands_of(alloc, &AT_ONCE)?;
-    bytes_of(alloc, &state_after(alloc, &commands)?)
+    let state = state_after(alloc, &commands)?;
+    let bytes = bytes_of(alloc, &state);
+    drop(state);
+    bytes
 }
 
 // Whether both are the same.
@@ -145,6 +157,7 @@ fn is_second_broken_off(runs: &[Run]) -> bool {
 fn a_stop_breaks_a_round_off(rt: HostRuntime) -> Result<(), Fail> {
     let rounds = run_over_none(rt.alloc(), &IN_ROUNDS)?;
     assert!(rt; is_second_broken_off(&rounds.runs));
+    drop(rounds);
     Ok(())
 }
 
@@ -165,6 +178,7 @@ fn no_rounds_leave_the_state(rt: HostRuntime) -> Result<(), Fail> {
     let rounds = run_over_none(alloc, &[])?;
     assert!(rt; rounds.runs.is_empty());
     assert!(rt; matches!(rounds.session.state(), State::Empty));
+    drop(rounds);
     Ok(())
 }
 

@@ -74,15 +74,22 @@ fn has_spots(problem: &Problem, spots: &[Spot]) -> bool {
     true
 }
 
-// Whether a text is read as a problem with these figures and stops, whose depot has no demand and no service.
+// Whether it has these figures and stops, and a depot without demand and service.
+fn has_figures(problem: &Problem, kind: Kind, figures: Figures, spots: &[Spot]) -> bool {
+    problem.kind == kind
+        && problem.depot.demand == 0
+        && problem.depot.service == 0
+        && figures_of(problem) == figures
+        && has_spots(problem, spots)
+}
+
+// Whether a text is read as such a problem.
 fn is_read_as(alloc: Global, kind: Kind, text: &[u8], figures: Figures, spots: &[Spot]) -> bool {
     match read_instance(alloc, kind, text) {
         Ok(problem) => {
-            problem.kind == kind
-                && problem.depot.demand == 0
-                && problem.depot.service == 0
-                && figures_of(&problem) == figures
-                && has_spots(&problem, spots)
+            let has_figures = has_figures(&problem, kind, figures, spots);
+            drop(problem);
+            has_figures
         }
         Err(_) => false,
     }
