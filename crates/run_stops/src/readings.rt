@@ -197,11 +197,17 @@ fn agreed_with(slow: &Described, fast: &Described) -> io::Result<Held> {
 
 fn read_plainly(alloc: Global, device: &mut MemDevice) -> io::Result<Described> {
     let image = image_of(alloc, device)?;
-    told(alloc, &held(alloc, &image))
+    let held = held(alloc, &image);
+    let told = told(alloc, &held);
+    drop(held);
+    told
 }
 
 fn read_quickly(alloc: Global, device: &mut MemDevice) -> io::Result<Described> {
-    told(alloc, &load_latest(alloc, device))
+    let loaded = load_latest(alloc, device);
+    let told = told(alloc, &loaded);
+    drop(loaded);
+    told
 }
 
 // The bytes that reads give.
