@@ -14,7 +14,7 @@ use Rattle.auditor_cli.specs.AnswerText.{partial_text}
 use Rattle.auditor_cli.specs.Examined.{AreRoutesExamined, IsBadSolution, IsExamined}
 use Rattle.auditor_cli.specs.declared.answer.AuditAnswer.{AuditAnswer}
 use Rattle.auditor_cli.specs.declared.audit.Examined.{Examined}
-use Rattle.auditor_cli.specs.declared.audit.Examined.TheVariants.{BadInstance, BadSolution, Judged}
+use Rattle.auditor_cli.specs.declared.audit.Examined.TheVariants.{BadSolution, Judged}
 use Rattle.auditor_cli.specs.declared.partial.PartialPlan.{PartialPlan}
 use Rattle.auditor_cli.specs.declared.partial.PlanExamined.{PlanExamined}
 use Rattle.auditor_cli.specs.declared.partial.PlanExamined.TheVariants.{Partial, Whole}
