@@ -3,7 +3,7 @@
 
 What slows the machine then slows both. Where one ends first, the other goes on with its half. Prints the seconds of each gate by the clock
 and of the processor, how it ended, and the processor's seconds of each crate's proof, tests and edits, these with the proof that they begin
-with, as seen every two seconds. What each gate said is kept in the folder that is told first.
+with, as seen every two seconds. What each gate said is kept in the folder that is told first, and each minute the seconds so far.
 
     bench/gate_times.py OLD NEW [CRATE..]
 
@@ -23,6 +23,7 @@ import time
 TOP = pathlib.Path(__file__).resolve().parent.parent
 TICK = os.sysconf("SC_CLK_TCK")
 EVERY = 2
+KEPT_EVERY = 60
 
 
 class Gate:
@@ -95,6 +96,12 @@ def note_all(gates):
                 gate.note(process)
 
 
+def rows(gates):
+    """A line for each crate and task that one of the gates has begun, with the seconds of both."""
+    old, new = (gate.by_task() for gate in gates)
+    return "".join(f"{crate:16} {kind:6} {old[crate, kind]:7.0f} {new[crate, kind]:7.0f}\n" for crate, kind in sorted(old | new))
+
+
 def main():
     if len(sys.argv) < 3:
         print(__doc__, file=sys.stderr)
@@ -102,14 +109,16 @@ def main():
     folder = pathlib.Path(tempfile.mkdtemp(prefix="gates-"))
     print(folder, flush=True)
     gates = [Gate(folder, commit, sys.argv[3:]) for commit in sys.argv[1:3]]
+    kept = 0
     while any(gate.waiting.is_alive() for gate in gates):
         note_all(gates)
+        if time.monotonic() > kept + KEPT_EVERY:
+            kept = time.monotonic()
+            (folder / "so_far.txt").write_text(rows(gates))
         time.sleep(EVERY)
     for commit, gate in zip(sys.argv[1:3], gates):
         print(f"{commit}: {gate.seconds:.0f} s, of the processor {gate.used:.0f} s, status {gate.status}")
-    old, new = (gate.by_task() for gate in gates)
-    for crate, kind in sorted(old | new):
-        print(f"{crate:16} {kind:6} {old[crate, kind]:7.0f} {new[crate, kind]:7.0f}")
+    print(rows(gates), end="")
     return 0
 
 
