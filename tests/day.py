@@ -250,7 +250,7 @@ def check_commands(folder):
 
 
 def check_store(folder, day):
-    """Sheets of a store's plan, from which the second order is withdrawn: it is on the last page, as withdrawn."""
+    """Sheets of a store's plan, from which the second order is withdrawn: it is on the last page, as not in the plan."""
     load, timetable = re.findall(r"`(\./planner [^`]*)`", section_of_readme())
     store = load.split()[2]
     for words, lines in ((load, ""), (f"./planner run {store} strict", "build\nanneal 1000\nwithdraw 3\n"), (f"{timetable} > day.tabs", "")):
@@ -265,7 +265,7 @@ def check_store(folder, day):
     left = [it for it in day.stops if it not in sum(seen.values(), [])]
     expect("what is in no van", left, list(day.stops)[2:4])
     expect("the last page", rest.splitlines()[2], f"order {left[0][0]}, {day.boxes[left[0][0]]} boxes, stops 3 and 4")
-    expect("how the last page ends", rest.splitlines()[5:], ["  withdrawn"])
+    expect("how the last page ends", rest.splitlines()[5:], ["  not in this plan: withdrawn, or not added to it yet"])
     check_further(folder, store)
 
 
@@ -286,10 +286,14 @@ FURTHER = '4801,2,"Petals, 18 Bishopthorpe Road",01632 960107,53.9499,-1.0861,10
 
 
 def check_further(folder, store):
-    """By README's commands this order becomes the last row of the table and a line for the store: it is on the sheets, with all that were there."""
-    orders = write(folder, "orders.csv", f"{read(ORDERS)}{FURTHER}\r\n")
-    block = re.search(r"^```sh\n(examples/day/day.sh [^`]* > order.line\n[^`]*)^```$", read(README), flags=re.MULTILINE)
+    """By README's commands this order becomes the last row of the table and a line for the store: it is on the sheets, with all that were there.
+    With a row that is refused they do nothing."""
+    block = re.search(r"^```sh\n(examples/day/day.sh [^`]* > order.line &&\n[^`]*)^```$", read(README), flags=re.MULTILINE)
     words = block[1].replace("town.store", store).replace("anneal 20000", "anneal 500")
+    write(folder, "orders.csv", f"{read(ORDERS)}{FURTHER.replace('15:00', '9:00')}\r\n")
+    told = subprocess.run(["sh", "-c", words], cwd=folder, capture_output=True, check=False)
+    expect("a further order that is refused", (told.returncode, told.stdout), (1, b""))
+    orders = write(folder, "orders.csv", f"{read(ORDERS)}{FURTHER}\r\n")
     told = subprocess.run(["sh", "-e", "-c", f"{words}./planner timetable {store} tabs > day.tabs"], cwd=folder, capture_output=True, check=False)
     if (told.returncode, told.stdout.split()[-1:]) != (0, [b"ok"]):
         fail(f"a further order: status {told.returncode}, {told.stdout!r}, {told.stderr!r}")
@@ -520,6 +524,7 @@ BAD_TIMETABLES = [
     (ALONE, "", "Truncated 1: its end is missing"),
     (ALONE.split("\n", maxsplit=1)[1], "", "Truncated 2: its end is missing"),
     (ALONE[ALONE.index("stop\t2\t3") :], "", "Truncated 5: its end is missing"),
+    (ALONE[ALONE.index("unplanned") :], "", "Truncated 6: its end is missing"),
     ("28833\t29100", "28834\t29100", f"OtherOrders 3: stop 1 {OTHERWISE}"),
     ("29204\t29204", "29204\t29205", f"OtherOrders 4: stop 2 {OTHERWISE}"),
     ("29379\t29379", "29378\t29378", f"OtherOrders 5: stop 0 {OTHERWISE}"),

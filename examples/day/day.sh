@@ -57,6 +57,7 @@ BEGIN {
     MOST_LINES = 20         # of one row, beside its first; a quote that is open longer was forgotten
     faults = 0
     used = 0                # vans of the timetable
+    left = 0                # orders that it leaves out
 
     read_settings(ENVIRON["SETTINGS"])
     if (!faults)
@@ -426,10 +427,12 @@ function read_timetable(path,    line, part) {
             read_place(line, part)
         else if (part[1] == "why")
             reason[part[2]] = reason[part[2]] "    " with_orders(with_units(part[3])) "\n"
-        else if (part[1] != "unplanned")
+        else if (part[1] == "unplanned")
+            left += 1
+        else
             refuse("timetable", "BadLine", line, "it is of no timetable that was made with `tabs`")
     }
-    if (!faults && (line == 1 || used != vans_told || is_open))
+    if (!faults && (line == 1 || used != vans_told || left != left_told || is_open))
         refuse("timetable", "Truncated", line, "its end is missing")
 }
 
@@ -462,10 +465,11 @@ function minutes(seconds) {
     return int((seconds + 59) / 60)
 }
 
-# The first line says how many vehicles the plan uses, or why there is no timetable.
+# The first line says how many orders are left out and how many vehicles the plan uses, or why there is no timetable.
 function read_verdict(text,    part) {
     if (text ~ /^(pass|partial) [0-9]+ [0-9]+ [0-9]+$/) {
         split(text, part, " ")
+        left_told = part[2]
         vans_told = part[3]
     } else if (text ~ /^(broken|instance|solution|store|no|cannot read|out of memory)( |$)/)
         refuse("timetable", "NoPlan", 1, text)
@@ -600,7 +604,7 @@ function print_rest(    row, count) {
         printf "\norder %s, %s, stops %d and %d\n", order[row], counted(boxes[row], "box", "boxes"), 2 * row - 1, 2 * row
         printf "  pick up %s  %s  %s\n", window(2 * row - 1), phone[2 * row - 1], place[2 * row - 1]
         printf "  deliver %s  %s  %s\n", window(2 * row), phone[2 * row], place[2 * row]
-        printf "%s", (reason[2 * row - 1] != "" ? reason[2 * row - 1] : "  withdrawn\n")
+        printf "%s", (reason[2 * row - 1] != "" ? reason[2 * row - 1] : "  not in this plan: withdrawn, or not added to it yet\n")
     }
     if (count)
         print "day.sh: orders in no van: " count | "cat 1>&2"
