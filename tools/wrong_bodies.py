@@ -78,7 +78,8 @@ def main():
     if unknown:
         print(f"no crate with wrong-bodies/: {' '.join(unknown)}\n{__doc__}", file=sys.stderr)
         return 64
-    return max([attempt(it) for it in names], default=0)
+    # Each is tried, and a status is below 0 where a signal ended it.
+    return int(any([attempt(it) for it in names]))
 
 
 sys.exit(main())
