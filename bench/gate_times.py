@@ -14,6 +14,7 @@ import collections
 import os
 import pathlib
 import re
+import shutil
 import subprocess
 import sys
 import tempfile
@@ -26,18 +27,23 @@ EVERY = 2
 KEPT_EVERY = 60
 
 
+def cloned(commit, folder):
+    """A clone of the commit in this folder."""
+    number = subprocess.run(["git", "rev-parse", "--verify", f"{commit}^{{commit}}"], cwd=TOP, check=True, capture_output=True, text=True)
+    subprocess.run(["git", "clone", "-q", TOP, folder], check=True)
+    subprocess.run(["git", "checkout", "-q", number.stdout.strip()], cwd=folder, check=True)
+    return folder
+
+
 class Gate:
     """A gate that runs in a clone of a commit."""
 
-    def __init__(self, folder, commit, crates):
-        self.clone = folder / commit[:12]
-        subprocess.run(["git", "clone", "-q", TOP, self.clone], check=True)
-        subprocess.run(["git", "checkout", "-q", commit], cwd=self.clone, check=True)
+    def __init__(self, clone, crates):
         lanes = {"RT_JOBS": str(max(1, (os.cpu_count() or 2) // 2))}
         self.began, self.seconds, self.used, self.tasks = time.monotonic(), None, None, {}
-        with open(folder / f"{commit[:12]}.log", "w") as log:
+        with open(clone.with_suffix(".log"), "w") as log:
             words = ["rt", "ci", "--anew", *crates]
-            self.process = subprocess.Popen(words, cwd=self.clone, env=os.environ | lanes, stdout=log, stderr=log)
+            self.process = subprocess.Popen(words, cwd=clone, env=os.environ | lanes, stdout=log, stderr=log)
         self.waiting = threading.Thread(target=self.wait)
         self.waiting.start()
 
@@ -108,7 +114,9 @@ def main():
         return 64
     folder = pathlib.Path(tempfile.mkdtemp(prefix="gates-"))
     print(folder, flush=True)
-    gates = [Gate(folder, commit, sys.argv[3:]) for commit in sys.argv[1:3]]
+    # Both stand before a gate begins.
+    clones = [cloned(commit, folder / name) for commit, name in zip(sys.argv[1:3], ("old", "new"))]
+    gates = [Gate(clone, sys.argv[3:]) for clone in clones]
     kept = 0
     while any(gate.waiting.is_alive() for gate in gates):
         note_all(gates)
@@ -119,6 +127,8 @@ def main():
     for commit, gate in zip(sys.argv[1:3], gates):
         print(f"{commit}: {gate.seconds:.0f} s, of the processor {gate.used:.0f} s, status {gate.status}")
     print(rows(gates), end="")
+    for clone in clones:
+        shutil.rmtree(clone)
     return 0
 
 

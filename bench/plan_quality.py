@@ -14,6 +14,7 @@ import argparse
 import os
 import pathlib
 import subprocess
+import sys
 import tempfile
 from concurrent.futures import ThreadPoolExecutor
 
@@ -36,8 +37,10 @@ def solved(kind, path, steps, seed):
         _, status, usage = os.wait4(process.pid, 0)
         process.returncode = os.waitstatus_to_exitcode(status)
         seconds = usage.ru_utime + usage.ru_stime
-        if process.returncode:
+        if process.returncode == 1:
             return None, seconds
+        if process.returncode:
+            sys.exit(f"{path}: status {process.returncode}")
         plan.seek(0)
         audit = subprocess.run([PROGRAM, "audit", kind, path, "-"], stdin=plan, capture_output=True, check=True)
     _, _, vehicles, distance = audit.stdout.split()

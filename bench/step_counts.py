@@ -17,7 +17,8 @@ import subprocess
 import sys
 import tempfile
 
-from search_speed import PROGRAM, SEED, output
+sys.dont_write_bytecode = True
+from search_speed import PROGRAM, SEED, output  # noqa: E402
 
 SIZES = [100, 400, 1000]
 DEVIATION = 30

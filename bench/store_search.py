@@ -14,7 +14,8 @@ import sys
 import tempfile
 import time
 
-from search_speed import PROGRAM, SEED, TOP, ours
+sys.dont_write_bytecode = True
+from search_speed import PROGRAM, SEED, TOP, ours  # noqa: E402
 
 SIZES = [400, 1000, 4000]
 STEPS = 100_000

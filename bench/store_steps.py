@@ -18,7 +18,8 @@ import sys
 import tempfile
 import time
 
-from search_speed import PROGRAM, SEED, output
+sys.dont_write_bytecode = True
+from search_speed import PROGRAM, SEED, output  # noqa: E402
 
 SIZES = [100, 400, 1000, 4000]
 DEVIATION = 30

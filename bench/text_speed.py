@@ -8,6 +8,7 @@ A time is the difference of two sessions on one store, one with the lines that a
 """
 
 import pathlib
+import re
 import subprocess
 import sys
 import tempfile
@@ -58,7 +59,10 @@ def session(folder, lines):
     """Seconds that a session on the store takes, and what it prints."""
     began = time.monotonic()
     got = subprocess.run([PROGRAM, "run", folder / STORE], input=lines, check=True, capture_output=True)
-    return time.monotonic() - began, got.stdout
+    took = time.monotonic() - began
+    if re.search(rb"^(no|fault) ", got.stdout, re.MULTILINE):
+        sys.exit(f"refused: {got.stdout[-200:]!r}")
+    return took, got.stdout
 
 
 def each(folder, before, line, repeats):

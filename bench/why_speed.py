@@ -95,6 +95,8 @@ def seconds(folder, texts):
         before = resource.getrusage(resource.RUSAGE_CHILDREN)
         got = subprocess.run([PROGRAM, "timetable", "lilim", *paths], check=False, capture_output=True, text=True)
         after = resource.getrusage(resource.RUSAGE_CHILDREN)
+        if got.returncode not in (0, 1):
+            sys.exit(f"timetable: status {got.returncode}: {got.stderr}")
         took = after.ru_utime + after.ru_stime - before.ru_utime - before.ru_stime
         least = took if least is None else min(least, took)
         if took > LONG:

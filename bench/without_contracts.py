@@ -15,7 +15,8 @@ import subprocess
 import sys
 import tempfile
 
-from search_speed import SEED, TOP, output
+sys.dont_write_bytecode = True
+from search_speed import SEED, TOP, output  # noqa: E402
 
 CRATES = """plan_types nint_dist text_lines instance_read route_sched sol_text plan_audit slack_tables move_ops seeded_search
     anneal_search anneal_stages fleet_tries""".split()

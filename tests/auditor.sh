@@ -10,6 +10,8 @@ built=$top/crates/auditor/out/auditor
 [ -x "$built" ] || "$top/tools/build_program.py" auditor >/dev/null || exit 1
 folder=$(mktemp -d) || exit 1
 trap 'rm -rf -- "$folder"' EXIT
+trap 'exit 130' INT
+trap 'exit 143' TERM
 # Where the auditor alone is built, ./planner hands the words of an audit on to it.
 mkdir -p -- "$folder/tree/crates/auditor/src" "$folder/tree/crates/auditor/out" || exit 1
 cp -- "$top/planner" "$folder/tree"

@@ -16,6 +16,7 @@
    - any file or crate of the row: of names in its other columns that can be no plain word, as they have an underscore or a capital within
    A definition, and what another column names, may stand in a crate below. What is declared is a function, type, case, field, constant or
    definition, and a clause's label in the column of clauses alone.
+7. The manual page has the words of the program's help, in its synopsis and under a heading each, and the lines of `run`.
 """
 import functools
 import pathlib
@@ -428,6 +429,21 @@ def check_linked():
             complain(path, 1, "README.md has no link to it")
 
 
+def check_manual():
+    path = TOP / "man" / "planner.1"
+    synopsis, _, commands = path.read_text(encoding="utf-8").partition(".SH COMMANDS")
+    told = (TOP / "crates" / "run_words" / "stdout").read_text(encoding="utf-8")
+    words = re.findall(r"^  (\w+) ", told.partition("\nCommands:\n")[2].partition("\n\n")[0], flags=re.MULTILINE)
+    shown = list(dict.fromkeys(re.findall(r"^\.B planner (\w+)", synopsis, flags=re.MULTILINE)))
+    if sorted(shown) != sorted(words):
+        complain(path, 1, f"the synopsis has other words than help: {sorted(set(shown) ^ set(words))}")
+    lines = told.partition("\nEach line asks for one thing:\n")[2].partition("\n\n")[0]
+    asked = {name for line in lines.splitlines() for name in re.findall(r"(?:^  |, )([a-z]\w*)", line[:28])}
+    for word in sorted({*words, *asked}):
+        if not re.search(rf'^\.(?:B|BI|BR) "?(?:[^"\n]*, )?(?:" ", )?{word}\b', commands, flags=re.MULTILINE):
+            complain(path, 1, f"it says nothing of {word}")
+
+
 def main():
     words, paths, declared = read_tree()
     for path in DOCUMENTS:
@@ -438,6 +454,7 @@ def main():
     check_crates()
     check_heads()
     check_linked()
+    check_manual()
     for it in problems:
         print(it)
     print(f"docs: {len(DOCUMENTS)} documents, {len(problems)} faults")

@@ -7,11 +7,13 @@ set -u
 top=$(CDPATH='' cd -- "$(dirname -- "$0")/.." && pwd -P)
 folder=$(mktemp -d) || exit 1
 trap 'rm -rf -- "$folder"' EXIT
-failures=0
+trap 'exit 130' INT
+trap 'exit 143' TERM
 
 fail() {
     echo "first_answer: $*"
-    failures=$((failures + 1))
+    # A file, since some fail in the last part of a pipe.
+    : >"$folder/failed"
 }
 
 # As the kit's, it wants the sources of each crate that crates.txt names. A library that does not stand takes half a second, at whose
@@ -129,10 +131,19 @@ told=$(grep '^planner: proving [a-z]* (' "$folder/errors" | tr '\n' ' ')
 [ "$told" = 'planner: proving low (1 of 4) planner: proving left (2 of 4) planner: proving right (3 of 4) planner: proving planner (4 of 4) ' ] ||
     fail "it tells '$told'"
 order=$(sed 's/ left$/ one/; s/ right$/ one/' "$folder/done" | tr '\n' ' ')
-if [ "$(getconf _NPROCESSORS_ONLN)" -gt 1 ]; then
+# Side by side where there are two cores, and 4 GB for each.
+lanes=$(awk -v cores="$(nproc)" '/^MemAvailable/ { free = int($2 / 4000000); print free < cores ? free : cores }' /proc/meminfo)
+if [ "${lanes:-0}" -gt 1 ]; then
     [ "$order" = 'begun low ended low begun one begun one ended one ended one ' ] || fail "the order is '$order'"
 fi
 [ -z "$(find "$folder/tree" -name lanes)" ] || fail 'lanes are left'
+
+# A program that is older than a source is built anew.
+sleep 1
+: >"$folder/tree/crates/left/src/main.rt"
+rm -- "$folder/tree/crates/left/out/rlib/stamp"
+ask solve lilim a.txt 1 >/dev/null 2>"$folder/errors"
+grep -q '^planner: proving planner ' "$folder/errors" || fail "an older program answers: $(cat "$folder/errors")"
 
 # A library that is refused is told, and what stands is kept.
 forget
@@ -161,6 +172,8 @@ for ignored in signal.SIGINT, signal.SIGHUP:
     signal.signal(ignored, signal.SIG_DFL)
 process = subprocess.Popen(sys.argv[4:], start_new_session=True)
 while not done.exists():
+    if process.poll() is not None:
+        sys.exit("it ends before it begins")
     time.sleep(0.05)
 # The first library and the trial have begun.
 time.sleep(0.3)
@@ -232,10 +245,14 @@ chmod 755 "$folder/tree/crates/auditor/out/auditor"
 [ ! -e "$folder/prefix/bin/planner" ] || fail 'the auditor is installed as the whole program'
 mkdir -p "$folder/tree/crates/planner/out"
 cp -- "$folder/tree/crates/auditor/out/auditor" "$folder/tree/crates/planner/out/planner"
+# A program that runs goes on, and another one stands in its place.
+cp -- "$(command -v sleep)" "$folder/prefix/bin/planner"
+"$folder/prefix/bin/planner" 30 &
 "$folder/tree/install" "$folder/prefix" >"$folder/output" || fail 'the program is not installed'
-for it in bin/planner share/man/man1/planner.1; do
-    [ -e "$folder/prefix/$it" ] || fail "install leaves out $it"
-done
+kill "$!" || fail 'a program that runs is ended'
+cmp -s -- "$folder/tree/crates/planner/out/planner" "$folder/prefix/bin/planner" || fail 'another program is installed'
+cmp -s -- "$top/man/planner.1" "$folder/prefix/share/man/man1/planner.1" || fail 'another page is installed'
+[ "$(ls -A "$folder/prefix/bin" | tr '\n' ' ')" = 'auditor planner ' ] || fail 'install leaves more than programs'
 
 # Cleaning leaves the programs alone.
 forget
@@ -249,5 +266,5 @@ mkdir -p "$folder/tree/crates/low/out/rlib"
 left=$(cd -- "$folder/tree/crates" && find . -type f -path '*/out/*' | sort | tr '\n' ' ')
 [ "$left" = './auditor/out/auditor ./planner/out/planner ' ] || fail "clean leaves '$left'"
 
-[ "$failures" = 0 ] || exit 1
+[ ! -e "$folder/failed" ] || exit 1
 echo 'first_answer: the trial and the program answer as they should'

@@ -12,6 +12,8 @@ if [ ! -x "$program" ]; then
 fi
 folder=$(mktemp -d) || exit 1
 trap 'rm -rf -- "$folder"' EXIT
+trap 'exit 130' INT
+trap 'exit 143' TERM
 failures=0
 cd -- "$folder" || exit 1
 ln -s -- "$program" planner

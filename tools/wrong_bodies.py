@@ -44,7 +44,7 @@ def look():
     edits = [edit for folder in ("must-fail", "wrong-bodies") for edit in sorted(CRATES.glob(f"*/{folder}/*.edit"))]
     faults = [f"{edit.relative_to(TOP)}: {fault}" for edit in edits if (fault := fault_of(edit))]
     print("\n".join(faults) if faults else f"wrong bodies: each of {len(edits)} can be applied")
-    return 1 if faults else 0
+    return 1 if faults or not edits else 0
 
 
 def give_tree(folder, name):
