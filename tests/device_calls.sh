@@ -21,6 +21,8 @@ if [ ! -x "$program" ]; then
 fi
 folder=$(mktemp -d) || exit 1
 trap 'rm -rf -- "$folder"' EXIT
+trap 'exit 130' INT
+trap 'exit 143' TERM
 store=$folder/new.store
 
 # The calls of the program with these words on the store and its folder, one a line, by what was opened for them.
@@ -105,6 +107,15 @@ calls_of format "$store" >"$folder/got"
 
 if ! diff "$folder/wanted" "$folder/got"; then
     echo "device_calls: the calls (>) are not those that are wanted (<)"
+    exit 1
+fi
+
+# How many search steps are repeated is told before the store is opened for them, which begins by a sync.
+cp -- "$store" "$folder/steps.store" || exit 1
+echo 'search 300' | "$program" run "$folder/steps.store" >"$folder/answers" || exit 1
+strace -o "$folder/calls" -e trace=write,fdatasync "$program" run "$folder/steps.store" </dev/null >"$folder/answers" 2>/dev/null || exit 1
+if ! awk '/^write\(2, "planner: repeating / { told = 1 } /^fdatasync/ { exit } END { exit !told }' "$folder/calls"; then
+    echo "device_calls: that steps are repeated is told behind them"
     exit 1
 fi
 

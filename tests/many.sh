@@ -1,6 +1,6 @@
 #!/bin/sh
-# Solves an instance by four seeds side by side, as README has it, and takes the best plan by `audits`: with GNU parallel where it is
-# installed, else with xargs. Each plan has to be the one that its seed alone gives.
+# Solves an instance by four seeds side by side, by README's commands with fewer steps, and takes the best plan by `audits`: with GNU
+# parallel where it is installed, else with xargs. Each plan has to be the one that its seed alone gives.
 set -u
 
 top=$(CDPATH='' cd -- "$(dirname -- "$0")/.." && pwd -P) || exit 1
@@ -12,6 +12,8 @@ if [ "$("$top/planner")" != 'pass 0 1 20' ]; then
 fi
 folder=$(mktemp -d) || exit 1
 trap 'rm -rf -- "$folder"' EXIT
+trap 'exit 130' INT
+trap 'exit 143' TERM
 failures=0
 
 fail() {
@@ -22,26 +24,31 @@ fail() {
 cd -- "$folder" || exit 1
 cp -- "$top/examples/lc101.txt" .
 ln -s -- "$program" planner
-if parallel --version 2>/dev/null | grep -q 'GNU parallel'; then
-    by='GNU parallel'
-    seq 4 | parallel './planner solve lilim lc101.txt 200 {} > lc101.{}.sol 2> lc101.{}.told'
-else
+PATH=$folder:$PATH
+sed -n '/^Other seeds find other plans/,/^```$/p' "$top/README.md" | sed -n '/^```sh$/,/^```$/p' |
+    sed -e '1d;$d' -e 's/^seq 16 /seq 4 /; s/ 1000000 / 200 /' >commands
+by='GNU parallel'
+if ! parallel --version 2>/dev/null | grep -q 'GNU parallel'; then
     by=xargs
-    seq 4 | xargs -P 4 -I SEED sh -c './planner solve lilim lc101.txt 200 SEED > lc101.SEED.sol 2> lc101.SEED.told'
+    sed 's/ parallel / xargs -P 4 -I {} sh -c /' commands >with_xargs && mv with_xargs commands
 fi
+sed 1q commands >solving
+sed 1d commands >ranking
+sh ./solving 2>told || fail "README's command of several seeds ends with $?: $(cat told)"
 
 for seed in 1 2 3 4; do
-    ./planner solve lilim lc101.txt 200 "$seed" >alone 2>told
+    planner solve lilim lc101.txt 200 "$seed" >alone 2>told
     cmp -s alone "lc101.$seed.sol" || fail "seed $seed has another plan beside others"
-    [ "$(tail -n 1 "lc101.$seed.told" | cut -d ' ' -f 1,2)" = 'at 200' ] || fail "seed $seed did not make its steps"
+    [ "$(tail -n 1 told | cut -d ' ' -f 1,2)" = 'at 200' ] || fail "seed $seed did not make its steps"
 done
 # A text that can't be read is no pass, so it is none of the best.
 echo 'Route #1: 1' >lc101.5.sol
 for path in lc101.*.sol; do
     printf 'lc101.txt\t%s\n' "$path"
-done | ./planner audits lilim - | grep 'pass ' | sort -t ' ' -k 2,2n -k 3,3n -k 4,4n >ranking
-[ "$(wc -l <ranking)" -eq 4 ] || fail "not four plans pass: $(cat ranking)"
-[ "$(head -n 1 ranking | cut -f 1,3)" = "$(printf 'lc101.txt\tpass 0 10 829')" ] || fail "the best is $(head -n 1 ranking)"
+done | planner audits lilim - >told
+[ "$(grep -c 'pass ' told)" -eq 4 ] || fail "not four plans pass: $(cat told)"
+best=$(sh ./ranking)
+[ "$(printf '%s' "$best" | cut -f 1,3)" = "$(printf 'lc101.txt\tpass 0 10 829')" ] || fail "the best is $best"
 
 if [ "$failures" -gt 0 ]; then
     echo "many: $failures failed"

@@ -18,6 +18,21 @@ PROGRAM = os.path.join(TOP, "crates", "planner", "out", "planner")
 EXAMPLES = os.path.join(TOP, "examples")
 README = open(os.path.join(TOP, "README.md"), encoding="utf-8").read()
 # A block of commands, and the block behind it where one shows what they print.
+# How the blocks begin that are run here, and those of other tests; the last one is run by none.
+RUN = (
+    "./planner ",
+    "split -n l/4",
+    "awk -F",
+    "for it in pdp_100",
+    "order() {",
+    "echo print",
+    "examples/day/day.sh instance ",
+    "awk '{ sub(",
+    "seq 16 | parallel '",
+    "now=600",
+    "cp day.store day.copy",
+    "seq 16 | parallel --sshlogin",
+)
 BLOCK = re.compile(r"^```sh\n(.*?)^```\n(?:\n```\n(.*?)^```\n)?", re.MULTILINE | re.DOTALL)
 
 
@@ -39,12 +54,17 @@ def run(folder, commands):
     return got.stdout
 
 
-def block(first):
+def check_blocks():
+    """Each block of commands is one that a test runs."""
+    want("the blocks of commands", [commands.split("\n")[0] for commands, _ in BLOCK.findall(README) if not commands.startswith(RUN)], [])
+
+
+def block(first, steps="2000"):
     """The commands of the block that begins so, with fewer steps, and the lines that README shows behind it."""
     found = [(commands, shown) for commands, shown in BLOCK.findall(README) if commands.startswith(first)]
     want(f"blocks that begin with {first!r}", len(found), 1)
     commands, shown = found[0]
-    return re.sub(r"\b10+0000\b", "2000", commands), shown.splitlines()
+    return re.sub(r"\b10+0000\b", steps or r"\g<0>", commands), shown.splitlines()
 
 
 def holds(what, printed, shown):
@@ -130,10 +150,13 @@ def check_day(folder):
 
 
 def check_night(folder):
-    printed = run(folder, block("./planner load night.store")[0]).splitlines()
-    want("a night", (printed[0], printed[1], printed[-1]), ("ok", "opened 0", "ok"))
+    """With all its steps, since README shows what they find."""
+    commands, shown = block("./planner load night.store", None)
+    printed = run(folder, commands)
+    want("a night", printed.split("\n", 1)[0], "ok")
+    holds("a night", printed.split("\n", 1)[1], shown)
     stored = run(folder, "echo print | ./planner run night.store | sed '1d;$d'")
-    want("its plan", stored, run(folder, "./planner solve vrp examples/E-n51-k5.vrp 2000 1"))
+    want("its plan", stored, run(folder, "./planner solve vrp examples/E-n51-k5.vrp 1000000 1"))
     print("readme: a night of annealing ends with the plan of solve")
 
 
@@ -141,6 +164,7 @@ def main():
     if not os.access(PROGRAM, os.X_OK):
         print(f"skipped: readme, since {PROGRAM} is not built (rt ci builds it)")
         return
+    check_blocks()
     with tempfile.TemporaryDirectory() as above:
         for name, check in [("audits", check_audits), ("best", check_best_known), ("solve", check_solve), ("day", check_day), ("night", check_night)]:
             check(new_folder(above, name))

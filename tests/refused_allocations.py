@@ -133,6 +133,8 @@ def end_of_session(store, wanted, environment):
         if status != 4:
             fail(f"command {done}: {answer!r}, status {status}")
         end = "status 4"
+    elif status not in (0, 4):
+        fail(f"all commands were done, and then status {status}")
     if shown(store) not in wanted.shown[done : done + 1 + (done < len(COMMANDS))]:
         fail(f"{done} commands were acknowledged, then {shown(store)!r}")
     return end, int(made)

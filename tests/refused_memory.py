@@ -20,6 +20,7 @@ sys.dont_write_bytecode = True
 from audit_speed import PROGRAM, make_lilim, make_vrp  # noqa: E402
 
 STEP = 64 * 1024
+MOST = 4 * 1024**3
 OUT_OF_MEMORY = (4, "out of memory\n")
 
 
@@ -35,6 +36,8 @@ def least_start():
     limit = STEP
     while answer_within(limit, [PROGRAM]) != (0, "pass 0 1 20\n"):
         limit += STEP
+        if limit > MOST:
+            sys.exit(f"the program does not start within {MOST} bytes")
     return limit
 
 
@@ -46,11 +49,11 @@ def audit_within_limits(kind, text, solution, wanted):
         printed.write_text(solution, encoding="ascii")
         words = [PROGRAM, "audit", kind, instance, printed]
         limit, answers = least_start(), collections.Counter()
-        while answers[wanted] < 10:
+        while answers[wanted] < 10 and limit < MOST:
             answers[answer_within(limit, words)] += 1
             limit += STEP
     refused = answers.pop(OUT_OF_MEMORY, 0)
-    if set(answers) != {wanted}:
+    if set(answers) != {wanted} or not refused:
         sys.exit(f"{kind}: {dict(answers)}, wanted {wanted}")
     print(f"{kind}: {refused} times out of memory, then {wanted[1].strip()}")
 

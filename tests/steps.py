@@ -13,7 +13,8 @@ import subprocess
 import sys
 import tempfile
 
-from routes import LATEST, PROGRAM, Instance, Stop, distance
+sys.dont_write_bytecode = True
+from routes import LATEST, PROGRAM, Instance, Stop, distance  # noqa: E402
 
 SEED, INSTANCES = 61, 3
 WORD = 2**32
@@ -413,8 +414,9 @@ def compare(draw, folder, kind):
     got = [line for line in told(folder, lines) if line.split()[0] in heads]
     if got != wanted:
         at = next((at for at, (one, other) in enumerate(zip(got, wanted)) if one != other), min(len(got), len(wanted)))
-        (folder.parent / "steps.failed").write_text("".join(lines))
-        sys.exit(f"steps: {kind}, seed {seed}: {got[at : at + 1]}, wanted {wanted[at : at + 1]}")
+        with tempfile.NamedTemporaryFile("w", prefix="steps-", delete=False) as file:
+            file.writelines(lines)
+        sys.exit(f"steps: {kind}, seed {seed}: {got[at : at + 1]}, wanted {wanted[at : at + 1]}; the lines stand in {file.name}")
     return steps
 
 

@@ -314,7 +314,7 @@ def check_stops(folder, stops):
     wanted = plan_at_once(folder)
     store = os.path.join(folder, "stopped.store")
     rng = random.Random(stops)
-    made, begun = 0, 0
+    made, begun, heard = 0, 0, 0
     known = 0
     while made < stops:
         if known >= STEPS or begun == 0:
@@ -330,10 +330,13 @@ def check_stops(folder, stops):
         steps = int(re.search(r"^steps (\d+) ", shown, re.M).group(1))
         if steps < max(acknowledged, known):
             fail(f"stop {made}: {max(acknowledged, known)} steps were acknowledged, {steps} are there")
+        heard += acknowledged > known
         known = steps
         status, line = audit(printed + "\n", folder)
         if status != 0:
             fail(f"stop {made}: the plan does not pass: {line}")
+    if heard < stops // 20:
+        fail(f"only {heard} of {made} stops came behind an answer")
     run(store, b"reach %d\n" % STEPS)
     if run(store, b"show\n") != wanted:
         fail("the search that was stopped has another plan than the one at once")
@@ -341,9 +344,10 @@ def check_stops(folder, stops):
 
 
 def told_behind_syncs(calls, store):
-    """How many answers were written, none of `ok` and `at` before what was written to the store is synced, and the folder of a file that is made."""
+    """How many syncs of the store had returned as each line was written, none of `ok` and `at` before what was written to it is synced, and the
+    folder of a file that is made."""
     names = {f'"{store}"': "file", f'"{os.path.dirname(store)}"': "folder"}
-    kinds, unsynced, told = {}, set(), 0
+    kinds, unsynced, syncs, told = {}, set(), 0, []
     with open(calls) as file:
         for line in file:
             call, _, rest = line.partition("(")
@@ -359,8 +363,11 @@ def told_behind_syncs(calls, store):
                 if not line.rstrip().endswith("= 0"):
                     fail(f"calls: a sync failed: {line.strip()}")
                 unsynced.discard(kinds[descriptor])
+                syncs += kinds[descriptor] == "file"
             elif line.startswith("write(1, "):
-                told += 1
+                # A line is written in pieces; it is told by its last one.
+                if re.match(r'write\(1, ".*\\n"', line):
+                    told.append(syncs)
                 if unsynced and re.match(r'write\(1, "(ok|at )', line):
                     fail(f"calls: told where {' and '.join(sorted(unsynced))} are not synced: {line.strip()}")
     return told
@@ -371,10 +378,11 @@ def check_told(folder):
     store, calls, solution = (os.path.join(folder, name) for name in ("told.store", "calls", "told.sol"))
     with open(solution, "wb") as file:
         file.write(subprocess.run([PROGRAM, "solve", "lilim", INSTANCE, "100", "7"], capture_output=True, check=True).stdout)
-    for words in (["format", store], ["load", store, "lilim", INSTANCE, "7"], ["adopt", store, solution]):
+    # A file that is made, and a store in it; an opening and a snapshot.
+    for words, syncs in (["format", store], 4), (["load", store, "lilim", INSTANCE, "7"], 3), (["adopt", store, solution], 3):
         trace = ["strace", "-o", calls, "-e", "trace=openat,ftruncate,pwrite64,fdatasync,fsync,write"]
         got = subprocess.run([*trace, PROGRAM, *words], capture_output=True)
-        if (got.returncode, got.stdout, told_behind_syncs(calls, store)) != (0, b"ok\n", 1):
+        if (got.returncode, got.stdout, told_behind_syncs(calls, store)) != (0, b"ok\n", [syncs]):
             fail(f"calls: {words[0]}: status {got.returncode}, {got.stdout!r}")
     os.remove(store)
     print("store: no `ok` of format, load and adopt is written before its syncs have returned")
@@ -396,8 +404,9 @@ def check_calls(folder):
         check=True,
     )
     told = told_behind_syncs(calls, store)
-    if told < 9:
-        fail(f"calls: only {told} answers were seen")
+    # The opening; a load, of two syncs; a build and three pieces, of one each, and `ok`; a pin that is refused; an unpin; a checkpoint; `show`.
+    if told[:10] != [1, 3, 4, 5, 6, 7, 7, 7, 8, 10] or set(told[10:]) != {10}:
+        fail(f"calls: so many syncs had returned as each answer was written: {told}")
     print("store: no answer is written before its sync has returned")
     check_told(folder)
 

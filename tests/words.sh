@@ -11,7 +11,10 @@ if [ "$("$top/planner")" != 'pass 0 1 20' ]; then
     exit 1
 fi
 folder=$(mktemp -d) || exit 1
-trap 'rm -rf -- "$folder"' EXIT
+waits=
+trap '[ -z "$waits" ] || kill "$waits" 2>/dev/null; rm -rf -- "$folder"' EXIT
+trap 'exit 130' INT
+trap 'exit 143' TERM
 failures=0
 full='planner: output: No space left on device (os error 28)'
 
@@ -292,7 +295,7 @@ for words in audits solves; do
         "$solved/$words.sol" "$second" "$solved/$words-2.sol" "$solved/$words-3.sol" "$folder/late" "$solved/late.sol" >"$folder/tasks"
     # shellcheck disable=SC2086 # no word where there are no steps
     "$program" "$words" lilim "$folder/tasks" $steps >"$folder/output" 2>/dev/null &
-    told=$!
+    waits=$!
     wanted=$(printf 'one-pair.txt\t%s\tpass 0 1 20\n%s\t%s\t%s\none-pair.sol\t%s\tinstance FieldCount 1\nbad line\n' \
         "$solved/$words.sol" "$second" "$solved/$words-2.sol" "$answer" "$solved/$words-3.sol")
     tries=0
@@ -303,7 +306,8 @@ for words in audits solves; do
     [ "$(head -n 4 "$folder/output")" = "$wanted" ] || fail "$words: an answer waits for the next file"
     timeout 10 sh -c 'cat one-pair.txt >"$1"' sh "$folder/late"
     [ "$words" = solves ] || rm -f -- "$solved/late.sol"
-    wait "$told"
+    wait "$waits"
+    waits=
 done
 
 # The picture of a store's plan is that of its printed solution: the vehicles that are not used stand behind the others here.
