@@ -1,6 +1,6 @@
 -- The headline of a serving. Stopped at any moment of it, with any choice that the device allows, recovery gives the state after a first part of
--- the commands that its input asks for, which holds every acknowledged one, and at most one more. Its plan passes the auditor, and costs no more
--- than any incumbent since the last change of requests or pins.
+-- the commands that it kept, which holds every acknowledged one, and at most one more; and these are the first that its input asks for. Its plan
+-- passes the auditor, and costs no more than any incumbent since the last change of requests or pins.
 use Rattle.std.specs.Prelude.{◌≡◌, ℕ, false, List, ◌++◌, Result, Ok, Err, ⊤}
 use Rattle.command_core.specs.declared.commands.Command.{Command}
 use Rattle.command_core.specs.declared.states.State.{State}
@@ -29,6 +29,13 @@ asked_commands reading session pieces fates = (served reading (as_serving sessio
 -- and where they have the fates of these acts, had the device not failed
 abbrev pub asked_by : {D : Type 0} → Reading → SessionValue D → List Piece → List Act → List Command
 asked_by reading session pieces acts = asked_commands reading session pieces (unfailed (fates_of acts))
+
+-- The conclusion. What these acts kept is a first part of what the input asks for, and the state given is the one after a first part of that: all that
+-- was acknowledged when m calls had finished, and at most one more.
+abbrev pub GivesFirstPartOf : {D : Type 0} → Reading → SessionValue D → List ℕ → List Act → ℕ → Result State StoreFault → Type 0
+GivesFirstPartOf reading old input acts m outcome =
+    BeginsWith (kept_of acts) (asked_by reading old (pieces_of input) acts)
+    × GivesUnlessFailed (IsRecovered old.state (kept_of acts) (acked m (replies_of acts))) outcome
 
 module _ {D : Type 0} (on : sectors.Ghosts D) where
   -- At each moment from old to new each image stands for the state after a first part of the commands that were kept, with all that were
@@ -68,5 +75,4 @@ module _ {D E : Type 0} (on : sectors.Ghosts D) (again : sectors.Ghosts E) where
       → on.possible_since new.device (on.clock old.device) m image
       -- an opening of a device whose reads give it, and that has answered as the model says
       → again.seen device ≡ image → again.honest left → GivesWhatStands again device outcome left
-      → let acts = acts_of on r reading old input before after_it new served in
-      GivesUnlessFailed (IsRecovered old.state (asked_by reading old (pieces_of input) acts) (acked m (replies_of acts))) outcome
+      → GivesFirstPartOf reading old input (acts_of on r reading old input before after_it new served) m outcome

@@ -14,7 +14,7 @@ pub fn fates_have_causes<D: Sectors>()
 {}
 
 /// Stopped at any moment of a serving, with any choice that the device allows, recovery gives the state after a first
-/// part of the commands that the input asks for, which holds every acknowledged one, and at most one more. Whether it
+/// part of the commands that were kept, which holds every acknowledged one, and at most one more; the input asks for these first. Whether it
 /// ended or was cut short, what the serving did is a run of these commands. What was put, and so what was handed on, by the
 /// time that m calls had finished tells commands alone that are acknowledged then.
 pub fn stopped_servings_recover<D: Sectors, E: Sectors>()

@@ -9,12 +9,11 @@ use Rattle.command_core.specs.declared.commands.Command.{Command}
 use Rattle.command_core.specs.declared.states.State.{State}
 use Rattle.command_serving.specs.Acts.{Act, commands_of, kept_of, replies_of}
 use Rattle.command_serving.specs.Serving.{IsAppliedOn}
-use Rattle.command_serving.specs.Stopped.{IsRunOfInput, ServedHeadline, ServingsAreRuns, asked_by}
+use Rattle.command_serving.specs.Stopped.{IsRunOfInput, ServedHeadline, ServingsAreRuns}
 use Rattle.command_serving.specs.Streams.{left_behind, text_given, put_by}
 use Rattle.command_serving.specs.Timely.{AnswersComeAfter, TellsAcknowledged}
 use Rattle.command_serving.proofs.ActLemmas.{honest_before}
-use Rattle.command_serving.proofs.StoppedLemmas.{recovered_of, weaker}
-use Rattle.command_text.specs.Cutting.{pieces_of}
+use Rattle.command_serving.proofs.StoppedLemmas.{weaker}
 use Rattle.command_text.specs.Readings.{IsReading, Reading}
 use Rattle.planner_cli.specs.Recovering.{EachInputIsSome, GivesFirstPart, HoldsWhatWasTold, KeepsAnswersSince, Run}
 use Rattle.planner_cli.specs.Recovering.{RunHeadline, RunKeepsAnswers, RunsAreLinked, RunsOver, ServedRunHeadline, ServedRunKeepsAnswers, acts_in}
@@ -117,12 +116,11 @@ run_headline on again reading reads law runs run device m image other left outco
     let new = is.new in
     let done : IsRunOfInput on reading session run.input acts new =
     runs reading session new run.input is.runs.opened is.runs.answered is.runs.served ((is.runs.ends.serves run.input is.is_input).serves reading reads) in
-    let asked = asked_by reading session (pieces_of run.input) acts in
     let leaves = from_before on device session new is.replayed (commands_of acts) (replies_of acts) is.opened done.run
-    (is.runs.ends.moments (commands_of acts) (replies_of acts) done.run is.opened.whole) stood in
-    weaker (IsRecovered session.state (kept_of acts) (acked m (replies_of acts))) (IsRecovered session.state asked (acked m (replies_of acts)))
-    (λ given found. recovered_of session.state (kept_of acts) asked (acked m (replies_of acts)) given done.asks found) outcome
-    (law (record session { device = device }) new (commands_of acts) (replies_of acts) m image other left outcome is.opened.whole honest leaves stop given settled opens)
+    (is.runs.ends.moments (commands_of acts) (replies_of acts) done.run is.opened.whole) stood in (
+      done.asks,
+      law (record session { device = device }) new (commands_of acts) (replies_of acts) m image other left outcome is.opened.whole honest leaves stop given settled opens,
+    )
 
 pub served_run_headline : {D E : Type 0} (on : sectors.Ghosts D) (again : sectors.Ghosts E) (reading : Reading) (reads : IsReading reading)
     → ServedHeadline on again → ServedRunHeadline on again reading reads
@@ -134,7 +132,8 @@ served_run_headline on again reading reads law run device m image other left out
 pub runs_are_linked : {D E : Type 0} (on : sectors.Ghosts D) (again : sectors.Ghosts E) (reading : Reading) (reads : IsReading reading)
     → ServedRunHeadline on again reading reads → RunsAreLinked on again reading reads
 runs_are_linked on again reading reads law run device m image next session replayed is honest stop given opened settled =
-    (law run device m image next session.device (Ok session.state) is honest stop given settled opened.opens, refl)
+    let part = law run device m image next session.device (Ok session.state) is honest stop given settled opened.opens in
+    (part.0, (part.1, refl))
 
 -- an input of which nothing is known but what its reads gave
 pub input_read : EachInputIsSome
@@ -159,9 +158,9 @@ keeps_answers on again reading reads told_law since run device is law m image ot
     sym runs.noted ∙ done ∙ ap (λ l. l ++ (events ++ others)) (sym (append-nil run.before.events) ∙ sym runs.tells_opened.noted) in
     let told : TellsAcknowledged reading is.session run.input acts m (put_by events) =
     told_law reading is.session is.new run.input runs.opened runs.answered runs.served m events others ((runs.ends.serves run.input is.is_input).serves reading reads) noted timely in
-    weaker (IsRecovered is.session.state (asked_by reading is.session (pieces_of run.input) acts) (acked m (replies_of acts))) (HoldsWhatWasTold on again reading reads run device is m (put_by events))
-    (λ given found. record { told = told; recovered = found; holds = omega (arith, told.acknowledged, found.all_acknowledged) }) outcome
-    (law m image other left outcome stop given settled opens)
+    let part = law m image other left outcome stop given settled opens in
+    weaker (IsRecovered is.session.state (kept_of acts) (acked m (replies_of acts))) (HoldsWhatWasTold on again reading reads run device is m (put_by events))
+    (λ given found. record { told = told; asks = part.0; recovered = found; holds = omega (arith, told.acknowledged, found.all_acknowledged) }) outcome part.1
 
 pub run_keeps_answers : {D E : Type 0} (on : sectors.Ghosts D) (again : sectors.Ghosts E) (reading : Reading) (reads : IsReading reading)
     → AnswersComeAfter on → RunHeadline on again reading reads → RunKeepsAnswers on again reading reads

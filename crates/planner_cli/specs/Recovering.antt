@@ -1,12 +1,12 @@
 -- The headline of the word `run`. Stopped at any moment since the device was handed to it, with any choice that the device allows, opening the
--- device gives the state after a first part of the commands of its input, which holds every acknowledged one, and at most one more. Its plan
--- passes the auditor, and costs no more than any incumbent since the last change of requests or pins.
+-- device gives the state after a first part of the commands that it kept, which holds every acknowledged one, and at most one more; and these are the
+-- first that its input asks for. Its plan passes the auditor, and costs no more than any incumbent since the last change of requests or pins.
 use Rattle.std.specs.Prelude.{◌≡◌, ◌≤◌, ℕ, Bool, List, [], ◌∷◌, ◌++◌, length, Result}
 use Rattle.std.specs.List.{AllByRecursion}
 use Rattle.checkpoint.specs.declared.faults.StoreFault.{StoreFault}
 use Rattle.command_core.specs.declared.states.State.{State}
-use Rattle.command_serving.specs.Acts.{Act, carried_of, replies_of}
-use Rattle.command_serving.specs.Stopped.{acts_of, asked_by}
+use Rattle.command_serving.specs.Acts.{Act, BeginsWith, carried_of, kept_of, replies_of}
+use Rattle.command_serving.specs.Stopped.{GivesFirstPartOf, acts_of, asked_by}
 use Rattle.command_serving.specs.Streams.{Event, Given, IsInput, Stream, put_by}
 use Rattle.command_serving.specs.Timely.{TellsAcknowledged, calls_at}
 use Rattle.command_text.specs.Cutting.{pieces_of}
@@ -59,9 +59,7 @@ module _ {D : Type 0} (on : sectors.Ghosts D) where
 module _ {D E : Type 0} (on : sectors.Ghosts D) (again : sectors.Ghosts E) (reading : Reading) (reads : IsReading reading) where
   -- the conclusion: of a run that was stopped when m calls had finished
   abbrev pub GivesFirstPart : (run : Run) (device : D) → RunsOver on run device → ℕ → Result State StoreFault → Type 0
-  GivesFirstPart run device is m outcome =
-      let acts = acts_in on reading reads run device is in
-      GivesUnlessFailed (IsRecovered is.session.state (asked_by reading is.session (pieces_of run.input) acts) (acked m (replies_of acts))) outcome
+  GivesFirstPart run device is m outcome = GivesFirstPartOf reading is.session run.input (acts_in on reading reads run device is) m outcome
 
   -- Law: behind the opening, for every device. Within it each image is one of those before (`moments` of `IsOpened`, and of `IsRefused`).
   abbrev pub ServedRunHeadline : Type 0
@@ -78,9 +76,10 @@ module _ {D E : Type 0} (on : sectors.Ghosts D) (again : sectors.Ghosts E) (read
   abbrev pub restart_of : (run : Run) (device : D) → RunsOver on run device → ℕ → State → Restart
   restart_of run device is m given =
       let acts = acts_in on reading reads run device is in
-      record { commands = asked_by reading is.session (pieces_of run.input) acts; acknowledged = acked m (replies_of acts); given = given }
+      record { commands = kept_of acts; acknowledged = acked m (replies_of acts); given = given }
 
-  -- Law: a run that was stopped, and the opening of the next one, are a link. So runs join over any stops (`LinksLeadOn`).
+  -- Law: a run that was stopped, and the opening of the next one, are a link, by what the run kept of what its input asks for. So runs join over any
+  -- stops (`LinksLeadOn`).
   abbrev pub RunsAreLinked : Type 0
   RunsAreLinked = (run : Run) (device : D) (m : ℕ) (image : List ℕ) (next : E) (session : SessionValue E) (replayed : ℕ)
       -- a run over a device that has answered as the model says
@@ -89,7 +88,9 @@ module _ {D E : Type 0} (on : sectors.Ghosts D) (again : sectors.Ghosts E) (read
       → on.possible_since is.new.device (on.clock is.session.device) m image
       -- the next one was opened over a device whose reads gave it, and that has answered as the model says
       → again.seen next ≡ image → IsOpened again next session replayed → again.honest session.device
-      → AreLinked is.session.state (restart_of run device is m session.state ∷ []) session.state
+      → let link = restart_of run device is m session.state in
+      BeginsWith link.commands (asked_by reading is.session (pieces_of run.input) (acts_in on reading reads run device is))
+      × AreLinked is.session.state (link ∷ []) session.state
 
   -- law: the opening included, where each image that a stop might have left before stands for the state that was opened, as format, session and
   -- stop leave it
@@ -103,11 +104,11 @@ module _ {D E : Type 0} (on : sectors.Ghosts D) (again : sectors.Ghosts E) (read
       → GivesFirstPart run device is m outcome
 
   -- What this text tells is held: it tells commands alone that are acknowledged when m calls have finished, and the state that is given is the one
-  -- after so many commands at least.
+  -- after so many of the kept commands at least.
   pub record HoldsWhatWasTold (run : Run) (device : D) (is : RunsOver on run device) (m : ℕ) (text : List ℕ) (given : State) : Type 0 where
     pub told : TellsAcknowledged reading is.session run.input (acts_in on reading reads run device is) m text
-    pub recovered : IsRecovered is.session.state (asked_by reading is.session (pieces_of run.input) (acts_in on reading reads run device is))
-        (acked m (replies_of (acts_in on reading reads run device is))) given
+    pub asks : BeginsWith (kept_of (acts_in on reading reads run device is)) (asked_by reading is.session (pieces_of run.input) (acts_in on reading reads run device is))
+    pub recovered : IsRecovered is.session.state (kept_of (acts_in on reading reads run device is)) (acked m (replies_of (acts_in on reading reads run device is))) given
     pub holds : length (carried_of told.first) ≤ recovered.count
 
   -- So it is of what was put to the output, and may have been handed on, by the time of a stop at a moment since this one, when m calls had finished.

@@ -9,7 +9,7 @@ use recover::recovery_keeps_every_acknowledged_command;
 use sector_disk::Sectors;
 
 /// Stopped at any moment of `run` over a device, with any choice that the device allows, opening it gives the state after a
-/// first part of the commands of its input, which holds every acknowledged one, and at most one more. Of stops within the
+/// first part of the commands of its input that were kept, which holds every acknowledged one, and at most one more. Of stops within the
 /// opening it is so where each image that a stop might have left before stands for the state that is opened. Each command whose
 /// answer was put to the output by then, and so each whose `ok` or `at` was handed on, is among them; behind the opening this is so
 /// whatever images were possible before, as behind a kill within a commit. What the texts of instances spell is told by the one

@@ -51,7 +51,7 @@
 //!   session stands behind `opened N`; 3 where the reader or the writer failed, with `cannot read input` for the
 //!   reader. Whatever the status (`ServesStore`): what it read and put is of that serving, as far as it came
 //! - `stopped_runs_recover` (`ServedRunHeadline`, `RunHeadline`, `RunKeepsAnswers`, `ServedRunKeepsAnswers`): stopped at any
-//!   moment of `run` over a device, opening it gives the state after a first part of the commands of its input, with every one
+//!   moment of `run` over a device, opening it gives the state after a first part of the commands of its input that were kept, with every one
 //!   acknowledged by then, so with every one whose `ok` or `at` was handed on, and at most one more; each input is one (`EachInputIsSome`)
 //! - `stopped_runs_are_linked` (`RunsAreLinked`): a run that was stopped behind its opening, and the opening of the next one, are a link
 //! - `strict_runs_end_at_an_answer` (`StrictRunsEnd`): nothing is done behind the answer that ends a strict run
