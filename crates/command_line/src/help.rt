@@ -48,7 +48,7 @@ pub(crate) const FORMAT_ABOUT: &str = "Makes an empty store, in a new file or in
 
 pub(crate) const FORMAT_ANSWERS: &str = "It prints one line:\n  \
     ok                  the store is empty, and safe on the disk (status 0)\n  \
-    cannot read PATH    the file can't be opened to be read and written (status 3)\n  \
+    cannot read PATH    the file can't be opened or made, as where the disk is full (status 3)\n  \
     store InUse         another program has the store open (status 3)\n  \
     store DeviceFault   a write or a sync failed; format it again: the file may be no store (status 3)\n  \
     store OutOfMemory   (status 4)\n\n\
@@ -129,7 +129,7 @@ pub(crate) const UPGRADE_ANSWERS: &str =
     the file holds. OLD stays as it is. It prints one line:\n  \
     ok                the new store is safe on the disk (status 0)\n  \
     same store        both words name one file; nothing was touched (status 64)\n  \
-    cannot read PATH  the file can't be opened to be read and written (status 3)\n  \
+    cannot read PATH  the file can't be opened or made, as where the disk is full (status 3)\n  \
     store NAME        why OLD was not read, as `run` tells it (status 2, 3 or 4)\n  \
     new NAME          why NEW was not made: DeviceFault, InUse or OutOfMemory (status 3 or 4)";
 
@@ -192,8 +192,8 @@ pub(crate) const DRAW_ANSWERS: &str =
     "Its words are STORE [ROUTE] or KIND INSTANCE SOLUTION [ROUTE]. It prints a picture of the depot, the stops, and each\n\
     route with its figures; of a lilim instance also the day of each vehicle. With ROUTE it draws one route alone,\n\
     larger: routes count from 1, and of a store ROUTE is a vehicle, up to the last one that is used. What breaks a rule\n\
-    is drawn too, and marked; so is a plan that leaves requests out, as `solve` prints one without a cost line, and\n\
-    standard error names these (status 0). Where there is no picture, it prints on standard error:\n  \
+    is drawn too, and marked; so is a plan that leaves requests out, as `solve` prints one without a cost line: of a\n\
+    solution, standard error names these (status 0). Where there is no picture, it prints on standard error:\n  \
     instance NAME LINE  the first fault of the instance's text (status 2)\n  \
     solution NAME LINE  the first fault of the solution's text (status 2)\n  \
     store NAME          why the store was not opened, as `run` tells it (status 2, 3 or 4)\n  \

@@ -10,11 +10,11 @@ pub const HELP: &str = "Each line asks for one thing:\n  \
     search N, reach N          N search steps, or as many as are left to step N\n  \
     anneal N                   N annealing steps, which find better plans\n  \
     anneal FROM TO             annealing by stages from step FROM to TO; said again, it goes on where it was cut off\n  \
-    reduce N                   N steps that look for plans with fewer vehicles, or with fewer requests left out\n  \
+    reduce N                   N steps that look for plans with fewer vehicles, or that leave out less; of vrp, annealing\n  \
     deviation D                steps may go on from a plan up to D longer than the best one, of `anneal` than the last\n  \
     add Q X Y E L S X Y E L S  a new pair: demand; x, y, earliest and latest start, service of pickup and delivery\n  \
     add1 Q X Y E L S           a new request of one stop, by the same numbers\n  \
-    withdraw R                 takes out the request with this name\n  \
+    withdraw R                 takes out the request with this name; `show` tells others that it leaves unplanned\n  \
     pin V K, unpin V           fixes the first K stops of vehicle V; lets go of those it had\n  \
     freeze T                   pins what has begun by time T: the stops that each vehicle has set off to\n  \
     show, print                the requests, pins, routes and cost; the plan as a solution's text\n  \
@@ -33,12 +33,12 @@ pub const HELP: &str = "Each line asks for one thing:\n  \
     which stand whatever is answered behind them, and the plan's requests left out, vehicles and distance. So `freeze`\n\
     tells `pin V K` for each pin that it makes longer. `steps S place P` of `show` are the steps so far, and the random\n\
     numbers that they drew, 16 each.\n\n\
-    The names of refusals:\n  \
-    BadLine        there is no such line, it has a word too many or too few, or one that is no integer\n  \
-    Truncated      the input ends before LEN bytes; the run ends\n  \
+    The names of refusals, of which BadLine, Truncated and Range of `load` and `adopt` end the run:\n  \
+    BadLine        there is no such line, it has a word too many or too few, one that is no integer, or above 1,024 bytes\n  \
+    Truncated      the input ends before LEN bytes\n  \
     Broken         the disk failed before in this run\n  \
     NoInstance     nothing is loaded yet\n  \
-    Range          a number is outside its limits, or a window ends before it begins\n  \
+    Range          a number is outside its limits, there is no such vehicle, or a window ends before it begins\n  \
     NoSuchRequest  no request has this name, a pair's is the number of its pickup; of `why`: none has this stop\n  \
     Pinned         a stop of the request is pinned; of `adopt`: no route begins with the pin of a vehicle\n  \
     NoSuchPlace    there is no such vehicle, or its route has fewer stops\n  \
