@@ -55,7 +55,7 @@ def run(folder, commands):
 
 
 def check_blocks():
-    """Each block of commands is one that a test runs."""
+    """Each block of commands begins as one that a test runs."""
     want("the blocks of commands", [commands.split("\n")[0] for commands, _ in BLOCK.findall(README) if not commands.startswith(RUN)], [])
 
 
