@@ -5,8 +5,8 @@ ghost use Rattle.anneal_search.specs.StringLaws.{StringsLieAround, NearestAreLea
 
 use plan_types::costs_are_in_order;
 
-/// A string has its route's nearest stop, lies within the route, and takes out no more stops than it may; a stop that it keeps stands
-/// within it.
+/// A string has its route's nearest stop, lies within the route, and takes out no more stops than it may, beside one that it keeps, which
+/// stands within it.
 pub fn strings_lie_around()
     ensures { StringsLieAround }
 {}
@@ -16,7 +16,8 @@ pub fn nearest_are_least()
     ensures { NearestAreLeast }
 {}
 
-/// The routes of which the first are cut are all that have stops, rising by distance and number of their nearest stops.
+/// The routes of which the first are cut are those of all used vehicles, each with its nearest stop, rising by the distance and number of
+/// these stops.
 pub fn routes_are_rising()
     ensures { RoutesAreRising }
 {}

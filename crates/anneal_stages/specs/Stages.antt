@@ -2,8 +2,9 @@
 use Rattle.std.specs.Prelude.{◌≡◌, ℕ, zero, suc, ◌+◌, ◌-◌, ◌*◌, ◌/◌, ◌<◌, ◌≤◌, nat_lt, ◌==◌, min, if◌then◌else◌, List, [], ◌∷◌, length, slice_index_or, Option, Some, None}
 use Rattle.plan_types.specs.Instance.{Instance, numbers_among}
 use Rattle.route_sched.specs.Cost.{total_length}
+use Rattle.plan_types.specs.Limits.{most_deviation}
 
--- how far the working plan may be from the incumbent in each stage, in hundredths of the incumbent's mean leg
+-- how much longer than the working plan a step's plan may be in each stage, in hundredths of the incumbent's mean leg
 abbrev pub hundredths : List ℕ
 hundredths = 150 ∷ 122 ∷ 99 ∷ 81 ∷ 66 ∷ 54 ∷ 44 ∷ 35 ∷ 29 ∷ 24 ∷ 19 ∷ 16 ∷ 13 ∷ 10 ∷ 8 ∷ 7 ∷ 6 ∷ 5 ∷ 4 ∷ 3 ∷ []
 
@@ -23,11 +24,11 @@ stage_among from to n k (suc left) = if nat_lt n (boundary from to (k + 1)) then
 abbrev pub stage_of : ℕ → ℕ → ℕ → Option ℕ
 stage_of from to n = if nat_lt n from then None else stage_among from to n 0 20
 
--- so many hundredths of the mean leg of these routes, by the stops of all requests: at most 1,000,000,000
+-- so many hundredths of the mean leg of these routes, by the stops of all requests: at most the greatest deviation
 abbrev pub share : Instance → List (List ℕ) → ℕ → ℕ
 share p routes c =
     let n = length (numbers_among p.requests) in
-    if n == 0 then 0 else min (total_length p routes * c / (100 * n)) 1000000000
+    if n == 0 then 0 else min (total_length p routes * c / (100 * n)) most_deviation
 
 -- law: the stage of a step begins with it or before, and ends behind it
 abbrev pub StagesHoldTheirSteps : Type 0

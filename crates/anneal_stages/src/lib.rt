@@ -1,5 +1,5 @@
-//! The twenty stages that annealing goes through: where each begins, and how far the working plan may be from the
-//! incumbent in it.
+//! The twenty stages that annealing goes through: where each begins, and how much longer than the working plan a step's
+//! plan may be in it.
 //!
 //! Entry functions: `boundary`, `hundredths`, `stage_of` and `share`; called by `command_text`, for the line `anneal` and
 //! the word `solve`; `fleet_tries` takes `share` alone, for the deviation of its tries.

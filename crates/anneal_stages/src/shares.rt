@@ -4,27 +4,26 @@ ghost use Rattle.std.specs.Option.{option_map_or};
 ghost use Rattle.plan_types.specs.Instance.{numbers_among};
 ghost use Rattle.plan_types.specs.Request.{stops_of};
 ghost use Rattle.route_sched.specs.Route.{IsPlan};
+ghost use Rattle.plan_types.specs.Limits.{most_deviation};
 ghost use Rattle.anneal_stages.specs.Stages.{share};
 
+use plan_types::limits::MAX_DEVIATION;
 use plan_types::{Plan, Problem, Request};
 use route_sched::plan_cost;
 
-/// The greatest share, in the unit of distance.
-const MOST: u128 = 1_000_000_000;
-
 /// So many hundredths of the plan's mean leg, which is its distance by the stops of all requests: rounded down, in the unit of distance, at
-/// most 1,000,000,000, and 0 where there are no stops.
+/// most the greatest deviation, and 0 where there are no stops.
 pub fn share(problem: &Problem, plan: &Plan, hundredths: u32) -> u32
     requires { IsPlan problem.now plan.now.routes }
     ensures value { result ≡ share problem.now plan.now.routes hundredths }
-    ensures most { result ≤ 1000000000 }
+    ensures most { result ≤ most_deviation }
 {
     let stops = stop_count(problem);
     if stops == 0 {
         return 0;
     }
     let distance = u128::from(plan_cost(problem, plan).distance);
-    (distance * u128::from(hundredths) / (100 * stops)).min(MOST) as u32
+    (distance * u128::from(hundredths) / (100 * stops)).min(u128::from(MAX_DEVIATION)) as u32
 }
 
 // How many stops the requests have.

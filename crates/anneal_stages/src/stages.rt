@@ -9,7 +9,7 @@ const HUNDREDTHS: [u32; 20] = [
     150, 122, 99, 81, 66, 54, 44, 35, 29, 24, 19, 16, 13, 10, 8, 7, 6, 5, 4, 3,
 ];
 
-/// How far the working plan may be from the incumbent in a stage, counted from 0, in hundredths of the incumbent's mean leg.
+/// How much longer than the working plan a step's plan may be in a stage, counted from 0, in hundredths of the incumbent's mean leg.
 pub fn hundredths(stage: u32) -> u32
     requires { stage < 20 }
     ensures { result ≡ hundredths_of stage }

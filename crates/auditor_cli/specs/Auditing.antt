@@ -3,7 +3,7 @@
 use Rattle.std.specs.Prelude.{◌≡◌, ◌⊎◌, ℕ, true, List, Option, codes}
 use Rattle.std.specs.Io.KnownBytes.{Appends}
 use Rattle.clap.specs.Words.{Text}
-use Rattle.command_line.specs.Asked.{Asked, IsUsageStatus, asks_help, audit, audits, built_in, explain}
+use Rattle.command_line.specs.Asked.{WordsAsked, IsUsageStatus, asks_help, audit, audits, built_in, explain}
 use Rattle.plan_types.specs.declared.requests.Kind.TheVariants.{LiLim}
 use Rattle.text_lines.specs.Lines.{ended}
 use Rattle.auditor_cli.specs.Behind.{TellsBehind}
@@ -23,7 +23,7 @@ abbrev pub seen : List FileRead → Option (List ℕ) → Option (List ℕ) → 
 seen files output errors = record { files = files; output = output; errors = errors }
 
 -- which files a word reads, also where an answer can't be printed
-abbrev pub AreReadFor : Asked → List FileRead → List FileRead → Type 0
+abbrev pub AreReadFor : WordsAsked → List FileRead → List FileRead → Type 0
 AreReadFor (audit paths routes_alone) was now = AreReadInTurn paths.instance paths.solution was now
 AreReadFor (audits kind list routes_alone) was now = IsReadFirst list was now
 AreReadFor (explain paths routes_alone) was now = AreReadInTurn paths.instance paths.solution was now
@@ -34,7 +34,7 @@ abbrev pub elsewhere_line : List ℕ
 elsewhere_line = ended (codes "auditor: only planner does that; here are audit, audits and explain")
 
 -- what was asked for was done and told, and this is the status that goes with it
-abbrev pub Does : Asked → Seen → Seen → ℕ → Type 0
+abbrev pub Does : WordsAsked → Seen → Seen → ℕ → Type 0
 Does built_in old new status = TellsAudit LiLim example_instance example_solution old.output new.output status × (new.errors ≡ old.errors)
 Does (audit paths routes_alone) old new status =
     TellsFiles routes_alone paths.kind paths.instance paths.solution old.files new.files old.output new.output status
@@ -47,12 +47,12 @@ Does (explain paths routes_alone) old new status =
 Does _ old new status = (status ≡ 64) × ((new.output ≡ old.output) × Appends old.errors new.errors elsewhere_line)
 
 -- The words were read. Where an answer could not be printed, the status is 3.
-pub record Works (asked : Asked) (old new : Seen) (status : ℕ) : Type 0 where
+pub record Works (asked : WordsAsked) (old new : Seen) (status : ℕ) : Type 0 where
   pub does : Does asked old new status ⊎ (status ≡ 3)
   pub reads : AreReadFor asked old.files new.files
 
 -- or there was no memory to read them, and nothing was done
-abbrev pub EndsWith : Asked → Seen → Seen → ℕ → Type 0
+abbrev pub EndsWith : WordsAsked → Seen → Seen → ℕ → Type 0
 EndsWith asked old new status = Works asked old new status ⊎ ((status ≡ 4) × (new ≡ old))
 
 -- The words ask for nothing. No file is read; help leaves the errors as they were, and what is wrong with the words the output. The status is

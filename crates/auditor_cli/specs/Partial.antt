@@ -6,7 +6,8 @@ use Rattle.plan_types.specs.declared.requests.Kind.{Kind}
 use Rattle.route_sched.specs.Cost.{cost_of, used_count}
 use Rattle.sol_text.specs.declared.faults.SolFault.{SolFault}
 use Rattle.sol_text.specs.declared.faults.SolFaultKind.TheVariants.{NoCost}
-use Rattle.plan_audit.specs.Verdict.{KeepsRules, planned}
+use Rattle.plan_audit.specs.Verdict.{KeepsRules, planned, rule_number}
+use Rattle.plan_audit.specs.declared.rules.Rule.TheVariants.{LateReturn}
 use Rattle.plan_audit.specs.declared.rules.Verdict.{Verdict}
 use Rattle.plan_audit.specs.declared.rules.Verdict.TheVariants.{Broken, Pass}
 use Rattle.auditor_cli.specs.Answer.{IsAnswer}
@@ -19,10 +20,10 @@ use Rattle.auditor_cli.specs.declared.partial.PartialPlan.{PartialPlan}
 use Rattle.auditor_cli.specs.declared.partial.PlanExamined.{PlanExamined}
 use Rattle.auditor_cli.specs.declared.partial.PlanExamined.TheVariants.{Partial, Whole}
 
--- a verdict that tells none of the rules on stops, 1 to 8
+-- a verdict that tells none of the rules 1 to 8, which are broken at a stop or a return
 abbrev pub keeps_stops : Verdict → Bool
 keeps_stops (Pass cost) = true
-keeps_stops (Broken rule route place stop) = nat_lt 8 rule
+keeps_stops (Broken rule route place stop) = nat_lt (rule_number LateReturn) rule
 
 -- The routes keep the rules on stops, so that a request is served whole or not at all; no more of them are used than there are vehicles, and a
 -- request is left out.

@@ -58,7 +58,7 @@ fn not_read<'a>(path: &'a str, error: &io::Error) -> Unread<'a>
 
 /// Reads the whole of both texts before it looks into either, and tells their audit, of the routes of the solution alone or not; on
 /// `errors` what stands behind the cost line of the solution, and a limit of the instance that is not asked.
-pub fn audit_noted<F: ReadFiles, W: Write, E: Write>(
+pub fn audit_files<F: ReadFiles, W: Write, E: Write>(
     alloc: Global,
     paths: Paths,
     routes_alone: bool,
@@ -69,8 +69,8 @@ pub fn audit_noted<F: ReadFiles, W: Write, E: Write>(
     ensures status { IfOk result (λ status. status ≤ 4) }
     ensures reads { AreReadInTurn paths.entry.instance.now paths.entry.solution.now
         (F.reads files.old) (F.reads files.new) }
-    ensures told { IfOk result (λ status. TellsFiles routes_alone paths.entry.kind paths.entry.instance.now
-        paths.entry.solution.now (F.reads files.old) (F.reads files.new)
+    ensures told { IfOk result (λ status. TellsFiles routes_alone paths.entry.kind
+        paths.entry.instance.now paths.entry.solution.now (F.reads files.old) (F.reads files.new)
         (W.contents output.old) (W.contents output.new) status
         × TellsBehind paths.entry.kind paths.entry.instance.now paths.entry.solution.now
         (F.reads files.old) (F.reads files.new)

@@ -1,10 +1,10 @@
 //! The words that ask for an audit.
 ghost use Rattle.std.specs.Prelude.{◌≡◌, IfOk, drop, map};
 ghost use Rattle.std.specs.Io.KnownBytes.{Appends};
-ghost use Rattle.command_line.specs.Asked.{ArePositional, Asked, asked_by, asked_of};
+ghost use Rattle.command_line.specs.Asked.{ArePositional, WordsAsked, asked_by, asked_of};
 ghost use Rattle.auditor_cli.specs.Auditing.{AreReadFor, Does, EndsWith, TellsUsage, elsewhere_line, seen};
 
-use crate::audited::audit_noted;
+use crate::audited::audit_files;
 use crate::example::audit_example;
 use crate::explained::explain_read;
 use crate::files::ReadFiles;
@@ -28,7 +28,7 @@ pub fn audit_words<F: ReadFiles, W: Write, E: Write, S: AsStr>(
     words: &[S],
 ) -> u8
     ensures does { let asked = drop 1 (map S.text words.now) in
-        (a : Asked) → ArePositional asked → asked_by asked ≡ Some a
+        (a : WordsAsked) → ArePositional asked → asked_by asked ≡ Some a
         → EndsWith a (seen (F.reads files.old) (W.contents output.old) (E.contents errors.old))
         (seen (F.reads files.new) (W.contents output.new) (E.contents errors.new)) result }
     ensures usage { let asked = drop 1 (map S.text words.now) in
@@ -61,7 +61,7 @@ fn do_asked<F: ReadFiles, W: Write, E: Write>(
         Invocation::Audit {
             paths,
             routes_alone,
-        } => audit_noted(alloc, paths, routes_alone, files, output, errors),
+        } => audit_files(alloc, paths, routes_alone, files, output, errors),
         Invocation::Audits {
             kind,
             list,

@@ -138,7 +138,8 @@ fn compare_text(
     instance: &[u8],
     solution: &[u8],
 ) -> Result<AuditAnswer, OutOfMemory>
-    ensures answer { IfOk result (IsComparedAnswer routes_alone kind best.now instance.now solution.now) }
+    ensures answer { IfOk result
+        (IsComparedAnswer routes_alone kind best.now instance.now solution.now) }
     ensures status { IfOk result (λ answer. answer.status ≤ 2) }
 {
     let examined = examine_by(alloc, kind, routes_alone, instance, solution)?;

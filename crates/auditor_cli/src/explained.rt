@@ -31,7 +31,7 @@ pub struct Explanation {
     pub text: String,
 }
 
-/// Reads both texts as `audit_noted` does, and tells the audit's answer, of the routes alone or not, and what it rests on; on `errors` what stands behind the cost line
+/// Reads both texts as `audit_files` does, and tells the audit's answer, of the routes alone or not, and what it rests on; on `errors` what stands behind the cost line
 /// of the solution.
 pub fn explain_read<F: ReadFiles, W: Write, E: Write>(
     alloc: Global,
@@ -44,8 +44,8 @@ pub fn explain_read<F: ReadFiles, W: Write, E: Write>(
     ensures status { IfOk result (λ status. status ≤ 4) }
     ensures reads { AreReadInTurn paths.entry.instance.now paths.entry.solution.now
         (F.reads files.old) (F.reads files.new) }
-    ensures told { IfOk result (λ status. TellsExplained routes_alone paths.entry.kind paths.entry.instance.now
-        paths.entry.solution.now (F.reads files.old) (F.reads files.new)
+    ensures told { IfOk result (λ status. TellsExplained routes_alone paths.entry.kind
+        paths.entry.instance.now paths.entry.solution.now (F.reads files.old) (F.reads files.new)
         (W.contents output.old) (W.contents output.new) status
         × TellsBehind paths.entry.kind paths.entry.instance.now paths.entry.solution.now
         (F.reads files.old) (F.reads files.new)

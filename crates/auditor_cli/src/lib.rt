@@ -6,7 +6,7 @@
 //!
 //! Source: this project's own; status 64 is `EX_USAGE` of BSD's `sysexits.h`.
 //!
-//! How it works: each word has one function over whatever reads files and the writers (`audit_noted`, `audits_read`,
+//! How it works: each word has one function over whatever reads files and the writers (`audit_files`, `audits_read`,
 //! `explain_read`). Both texts are read whole before either is looked into. A list is read line by line, and each line is answered
 //! before the next one is read.
 //!
@@ -39,7 +39,7 @@
 //!   the files of a line were read before the next line was. Behind them a list that can't be read on is told
 //! - `explain_read` (`TellsExplained`): the audit's line and what it rests on
 //! - `examine_plan` (`IsPlanExamined`): what both texts are, as for an audit; but route lines without a cost line are a partial plan where
-//!   they keep the rules on stops, use no more vehicles than there are and leave a request out
+//!   they keep the rules 1 to 8, use no more vehicles than there are and leave a request out
 //! - `HostFiles` notes each file of the system with what reading it gave, `HostNewFiles` each that was to be made with what was
 //!   written; what is under a path no contract says
 #![tactic(auto)]
@@ -65,7 +65,7 @@ mod usage;
 
 pub use answer::{AuditAnswer, AuditLine, planned_line};
 pub use audit::{Examined, answer_of, audit_routes_text, audit_text, examine};
-pub use audited::{audit_noted, read_both};
+pub use audited::{audit_files, read_both};
 pub use auditing::audit_words;
 pub use behind::tell_limit;
 pub use example::audit_example;

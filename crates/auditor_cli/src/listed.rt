@@ -73,8 +73,8 @@ fn audit_opened<F: ReadFiles, W: Write, E: Write>(
 ) -> io::Result<u8>
     ensures status { IfOk result (λ status. status ≤ 4) }
     ensures reads { IsReadFirst asked.entry.path.now (F.reads files.old) (F.reads files.new) }
-    ensures told { IfOk result (TellsList asked.entry.routes_alone asked.entry.kind asked.entry.path.now
-        (F.reads files.old) (F.reads files.new)
+    ensures told { IfOk result (TellsList asked.entry.routes_alone asked.entry.kind
+        asked.entry.path.now (F.reads files.old) (F.reads files.new)
         (W.contents output.old) (W.contents output.new)
         (E.contents errors.old) (E.contents errors.new)) }
 {

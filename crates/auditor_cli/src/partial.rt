@@ -6,7 +6,7 @@ ghost use Rattle.auditor_cli.specs.Partial.{IsCostOfPartial, IsNotPartial, IsPar
 use crate::answer::{AuditAnswer, partial_line};
 use crate::audit::{Examined, examine, examine_routes};
 use crate::status::BROKEN;
-use plan_audit::{Verdict, audit};
+use plan_audit::{Rule, Verdict, audit};
 use plan_types::{Cost, Kind, OutOfMemory, Pins, Plan, Problem, Routes};
 use route_sched::{plan_cost, used_count};
 use sol_text::{SolFault, SolFaultKind, Solution};
@@ -121,14 +121,14 @@ fn partial_cost(alloc: Global, problem: &Problem, plan: &Plan) -> Result<Option<
     Ok(is_partial.then_some(cost))
 }
 
-// Whether none of the rules on stops is broken, 1 to 8. Rule 9 of a plan in a store asks for a route
+// Whether none of the rules 1 to 8 is broken, which ask of a stop or a return. Rule 9 of a plan in a store asks for a route
 // for each vehicle.
 fn keeps_stops(verdict: Verdict) -> bool
     ensures { result ≡ keeps_stops verdict }
 {
     match verdict {
         Verdict::Pass(_) => true,
-        Verdict::Broken { rule, .. } => rule > 8,
+        Verdict::Broken { rule, .. } => rule > Rule::LateReturn.number(),
     }
 }
 

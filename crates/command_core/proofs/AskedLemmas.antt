@@ -7,8 +7,8 @@ use Rattle.command_core.specs.Kept.{asked_for}
 use Rattle.command_core.specs.Refusing.{job_refusal, steps_refusal}
 use Rattle.command_core.specs.Commands.{steps_of}
 use Rattle.command_core.specs.declared.refusals.Refusal.TheVariants.{Range, StepsSpent}
-use Rattle.command_core.specs.declared.walking.Asked.{Asked}
-use Rattle.command_core.specs.declared.walking.Asked.TheVariants.{Search, Anneal}
+use Rattle.command_core.specs.declared.walking.StepCount.{StepCount}
+use Rattle.command_core.specs.declared.walking.StepCount.TheVariants.{Search, Anneal}
 
 pub fit : (most steps count : ℕ) → steps_refusal most steps count ≡ None → (steps < 2 ^ 60) × (steps + count ≤ 2 ^ 60)
 fit most steps count accepted = by (nat_le 1 count && nat_le count most) (nat_le (steps + count) (2 ^ 60)) refl refl accepted
@@ -22,6 +22,6 @@ fit most steps count accepted = by (nat_le 1 count && nat_le count most) (nat_le
         let last : steps + count ≤ 2 ^ 60 = leb-true (steps + count) (2 ^ 60) f in
         (omega arith, last)
 
-pub steps_fit : (j : JobValue) (asked : Asked) → job_refusal j (asked_for asked) ≡ None → (j.steps < 2 ^ 60) × (j.steps + steps_of (asked_for asked) ≤ 2 ^ 60)
+pub steps_fit : (j : JobValue) (asked : StepCount) → job_refusal j (asked_for asked) ≡ None → (j.steps < 2 ^ 60) × (j.steps + steps_of (asked_for asked) ≤ 2 ^ 60)
 steps_fit j (Search count) accepted = fit 256 j.steps count accepted
 steps_fit j (Anneal count) accepted = fit 65536 j.steps count accepted

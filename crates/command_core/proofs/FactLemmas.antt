@@ -33,6 +33,7 @@ use Rattle.command_core.proofs.PassLemmas.{passes_same, all_feasible_same, numbe
 use Rattle.fleet_tries.proofs.PickedLemmas.{none_feasible}
 use Rattle.command_core.proofs.PinLemmas.{none_all_feasible, none_passes, set_all, unpinned_passes, pinned_passes}
 use Rattle.seeded_search.proofs.WalkLemmas.{placed_all_passes}
+use Rattle.plan_types.specs.Limits.{most_deviation}
 use Rattle.command_core.proofs.TakeLemmas.{pins_others, withdrawn_passes, pins_still_feasible}
 
 -- the laws of the layers below
@@ -211,7 +212,7 @@ module _ (laws : LowerLaws) (j : JobValue) (is : IsJob j) where
     pins = is.pins;
     plan = is.plan;
     work = is.plan;
-    deviation = leb-true d 1000000000 (asked_last _ _ none);
+    deviation = leb-true d most_deviation (asked_last _ _ none);
     seed = is.seed;
     steps = is.steps;
   }

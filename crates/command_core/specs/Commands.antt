@@ -1,6 +1,7 @@
 -- What is said of a command, whatever the state. What is not listed is so of every other command.
 use Rattle.std.specs.Prelude.{ℕ, ◌+◌, ◌<◌, ◌^◌, nat_le, ◌&&◌, ◌||◌, Bool, true, false, List, [], ◌∷◌, ⊤}
 use Rattle.plan_types.specs.Instance.{IsInstance}
+use Rattle.plan_types.specs.Limits.{most_deviation}
 use Rattle.command_core.specs.Job.{JobValue}
 use Rattle.command_core.specs.Wishes.{is_spot, is_demand}
 use Rattle.command_core.specs.declared.commands.Command.{Command}
@@ -88,5 +89,5 @@ abbrev pub fits_record : Command → Bool
 fits_record (Add q a b) = is_demand q && (is_spot a && is_spot b)
 fits_record (Add1 q s) = is_demand q && is_spot s
 fits_record (Search count) = nat_le 1 count && nat_le count 256
-fits_record (Deviation d) = nat_le d 1000000000
+fits_record (Deviation d) = nat_le d most_deviation
 fits_record _ = true

@@ -93,7 +93,7 @@ reduced j count =
     let s = anneal_steps j.problem j.pins j.deviation j.seed t.step (j.steps + count - t.step) (walked t.plan t.plan) in
     record j { plan = s.incumbent; work = s.working; steps = j.steps + count }
 
--- Deviation: how far the working plan may be from the incumbent
+-- Deviation: how far steps may go, in a search from the incumbent, in annealing from the working plan
 abbrev pub with_deviation : JobValue → ℕ → JobValue
 with_deviation j d = record j { work = j.plan; deviation = d }
 

@@ -10,8 +10,8 @@ use Rattle.command_core.specs.declared.states.State.{State}
 use Rattle.command_core.specs.declared.states.State.TheVariants.{Empty, Loaded}
 use Rattle.command_core.specs.declared.commands.Command.{Command}
 use Rattle.command_core.specs.declared.commands.Command.TheVariants as commands
-use Rattle.command_core.specs.declared.walking.Asked.{Asked}
-use Rattle.command_core.specs.declared.walking.Asked.TheVariants.{Search, Anneal}
+use Rattle.command_core.specs.declared.walking.StepCount.{StepCount}
+use Rattle.command_core.specs.declared.walking.StepCount.TheVariants.{Search, Anneal}
 use Rattle.command_core.specs.declared.walking.Stepped.{Stepped}
 use Rattle.command_core.specs.declared.applying.Carried.{Carried}
 
@@ -34,7 +34,7 @@ abbrev pub walked_on : JobValue → Walk → ℕ → JobValue
 walked_on j w steps = record j { plan = w.incumbent.routes; work = base_of w.draft; steps = steps }
 
 -- the command that asks for these steps
-abbrev pub asked_for : Asked → Command
+abbrev pub asked_for : StepCount → Command
 asked_for (Search count) = commands.Search count
 asked_for (Anneal count) = commands.Anneal count
 

@@ -7,6 +7,7 @@ use Rattle.plan_types.specs.Cost.{cost_below}
 use Rattle.route_sched.specs.Cost.{cost_of, is_planned}
 use Rattle.plan_audit.specs.Passes.{feasible_alone, passes}
 use Rattle.move_ops.specs.Insertion.{request_named, of_vehicle}
+use Rattle.plan_types.specs.Limits.{most_deviation}
 use Rattle.command_core.specs.Job.{JobValue}
 use Rattle.command_core.specs.Wishes.{is_spot, is_demand}
 use Rattle.command_core.specs.declared.states.State.{State}
@@ -50,7 +51,7 @@ steps_refusal most steps count =
     if not (nat_le 1 count && nat_le count most) then Some Range else if nat_le (steps + count) (2 ^ 60) then None else Some StepsSpent
 
 abbrev pub deviation_refusal : ℕ → Option Refusal
-deviation_refusal d = if nat_le d 1000000000 then None else Some Range
+deviation_refusal d = if nat_le d most_deviation then None else Some Range
 
 -- a plan costs more than another
 abbrev pub is_dearer : Instance → List (List ℕ) → List (List ℕ) → Bool

@@ -19,7 +19,7 @@ use crate::planning::{build, deviate};
 use crate::reducing::reduce;
 use crate::refusals::Refusal;
 use crate::states::{Job, State};
-use crate::walking::{Asked, Stepped, step};
+use crate::walking::{StepCount, Stepped, step};
 use crate::withdrawing::withdraw;
 use log::Log;
 use log::sink::Discard;
@@ -38,7 +38,7 @@ pub fn apply(alloc: Global, state: &State, command: &Command) -> Result<State, R
         ⊎ ((refusal state.now command.now ≡ None) × (r ≡ Refusal.OutOfMemory))) }
 {
     effects_keep_facts();
-    know(state, command);
+    keep_facts(state, command);
     check(state, command)?;
     let carried = carry_out(&Discard, alloc, state, None, command)?;
     changed(state, carried.change)
@@ -68,7 +68,7 @@ fn changed_within(state: &State, change: JobChange) -> Result<State, Refusal>
 }
 
 /// A state and a problem that is loaded keep their facts.
-pub(crate) fn know(state: &State, command: &Command)
+pub(crate) fn keep_facts(state: &State, command: &Command)
     ensures state { IsState state.now }
     ensures command { IsCommand command.now }
 {
@@ -135,12 +135,12 @@ fn carry_out_on<R: Log>(
     ensures err { IfErr result (λ r. r ≡ Refusal.OutOfMemory) }
 {
     match command {
-        Command::Search(count) => walked(step(alloc, job, kept, Asked::Search(*count))),
+        Command::Search(count) => walked(step(alloc, job, kept, StepCount::Search(*count))),
         Command::Checkpoint => Ok(Carried {
             change: Change::Within(JobChange::Nothing),
             walk: kept,
         }),
-        Command::Anneal(count) => walked(step(alloc, job, kept, Asked::Anneal(*count))),
+        Command::Anneal(count) => walked(step(alloc, job, kept, StepCount::Anneal(*count))),
         _ => carry_out_without(rt, alloc, job, command),
     }
 }
@@ -169,10 +169,10 @@ fn carry_out_without<R: Log>(
         Command::Pin(vehicle, stops) => within(pin(alloc, job, *vehicle, *stops)),
         Command::Unpin(vehicle) => within(unpin(alloc, job, *vehicle)),
         Command::Build => within(build(alloc, job)),
-        Command::Search(count) => walked(step(alloc, job, None, Asked::Search(*count))),
+        Command::Search(count) => walked(step(alloc, job, None, StepCount::Search(*count))),
         Command::Checkpoint => within(Ok(JobChange::Nothing)),
         Command::Deviation(deviation) => within(deviate(job, *deviation)),
-        Command::Anneal(count) => walked(step(alloc, job, None, Asked::Anneal(*count))),
+        Command::Anneal(count) => walked(step(alloc, job, None, StepCount::Anneal(*count))),
         Command::Reduce(count) => walked(reduce(rt, alloc, job, *count)),
         Command::Adopt(plan) => within(adopt(job, plan)),
     }

@@ -15,7 +15,7 @@ pub enum JobChange {
     Nothing,
     /// The pins, and the working plan.
     Pinned { pins: Pins, work: Plan },
-    /// The working plan, and how far it may be from the incumbent.
+    /// The working plan, and how far steps may go.
     Working { work: Plan, deviation: u32 },
     /// Both plans, and how many steps were made.
     Plans { plan: Plan, work: Plan, steps: u64 },

@@ -4,15 +4,13 @@ ghost use Rattle.command_core.specs.Refusing.{is_vehicle, add_refusal, withdraw_
 
 use crate::adopting::adopt_refusal;
 use crate::commands::Command;
-use crate::limits::{
-    MAX_ANNEAL_COUNT, MAX_COUNT, MAX_DEVIATION, MAX_REDUCE_COUNT, MAX_STEPS, is_demand, is_spot,
-};
+use crate::limits::{MAX_ANNEAL_COUNT, MAX_COUNT, MAX_REDUCE_COUNT, MAX_STEPS, is_demand, is_spot};
 use crate::refusals::Refusal;
 use crate::states::{Job, State};
 use move_ops::of_vehicle;
 use plan_audit::{is_feasible, passes_are_local, plans_are_local};
 use plan_types::Problem;
-use plan_types::limits::MAX_STOP_NUMBER;
+use plan_types::limits::{MAX_DEVIATION, MAX_STOP_NUMBER};
 use route_sched::is_planned;
 
 /// Whether the state accepts the command. Takes no memory.

@@ -46,7 +46,7 @@ pub enum Command {
     Search(u16),
     /// Changes nothing. A store writes the whole state.
     Checkpoint,
-    /// How much longer than the incumbent's the working plan's distance may be, 0..=1,000,000,000; in an annealing step,
+    /// How much longer than the incumbent's the working plan's distance may be, 0..=`MAX_DEVIATION`; in an annealing step,
     /// than the working plan's before it.
     Deviation(u32),
     /// So many annealing steps, 1..=65,536. A store writes the whole state.

@@ -81,8 +81,7 @@ pub use laws::{
     given_numbers_are_new, plans_never_cost_more, searches_add_up,
 };
 pub use limits::{
-    MAX_ANNEAL_COUNT, MAX_COUNT, MAX_DEVIATION, MAX_REDUCE_COUNT, MAX_STEPS, is_coordinate,
-    is_demand, is_spot,
+    MAX_ANNEAL_COUNT, MAX_COUNT, MAX_REDUCE_COUNT, MAX_STEPS, is_coordinate, is_demand, is_spot,
 };
 pub use marks::unplanned_names;
 pub use planners::Planner;

@@ -5,8 +5,6 @@ ghost use Rattle.command_core.specs.Wishes.{is_coordinate, is_spot, is_demand};
 use crate::commands::Spot;
 use plan_types::limits::{MAX_COORDINATE, MAX_DEMAND, MAX_SERVICE, MAX_TIME};
 
-/// The greatest deviation.
-pub const MAX_DEVIATION: u32 = 1_000_000_000;
 /// How many steps a state may have made.
 pub const MAX_STEPS: u64 = 1 << 60;
 /// How many steps of the search one command may make; the least number is 1.

@@ -4,7 +4,7 @@ ghost use Rattle.command_core.specs.Runs.{IsState};
 ghost use Rattle.command_core.specs.Refusing.{refusal};
 ghost use Rattle.command_core.specs.Changes.{with_change, IsChanged};
 
-use crate::applying::{Carried, carry_out, know};
+use crate::applying::{Carried, carry_out, keep_facts};
 use crate::changes::Change;
 use crate::checking::check;
 use crate::commands::Command;
@@ -93,7 +93,7 @@ impl Planner {
         ensures kept { IfErr result (λ _. self.new ≡ self.old) }
     {
         effects_keep_facts();
-        know(&self.state, command);
+        keep_facts(&self.state, command);
         let kept = mem::replace(&mut self.walk, None);
         let Carried { change, walk } = carry_out(rt, alloc, &self.state, kept, command)?;
         self.walk = walk;

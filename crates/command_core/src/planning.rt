@@ -25,9 +25,10 @@ pub(crate) fn build(alloc: Global, job: &Job) -> Result<JobChange, Refusal>
     })
 }
 
-/// How much longer than the incumbent's the working plan's distance may be.
+/// How far steps may go: in a search from the incumbent, in annealing from the working plan.
 pub(crate) fn deviate(job: &Job, deviation: u32) -> Result<JobChange, Refusal>
-    ensures ok { IfOk result (λ change. job_with change job.now ≡ with_deviation job.now deviation) }
+    ensures ok { IfOk result (λ change. job_with change job.now
+        ≡ with_deviation job.now deviation) }
     ensures err { IfErr result (λ r. r ≡ Refusal.OutOfMemory) }
 {
     Ok(JobChange::Working {

@@ -20,7 +20,7 @@ pub struct Job {
     pub plan: Plan,
     /// The plan that the next step walks on from.
     pub work: Plan,
-    /// How much longer than the incumbent's the working plan's distance may be, 0..=1,000,000,000; in an annealing step,
+    /// How much longer than the incumbent's the working plan's distance may be, 0..=`MAX_DEVIATION`; in an annealing step,
     /// than the working plan's before it.
     pub deviation: u32,
     pub seed: u64,

@@ -16,18 +16,18 @@ use std::alloc::Global;
 
 /// So many steps of the search, or of annealing.
 #[derive(Clone, Copy)]
-pub(crate) enum Asked {
+pub(crate) enum StepCount {
     Search(u16),
     Anneal(u32),
 }
 
-impl Asked {
+impl StepCount {
     fn count(self) -> u64
         ensures { result ≡ steps_of (asked_for self) }
     {
         match self {
-            Asked::Search(count) => u64::from(count),
-            Asked::Anneal(count) => u64::from(count),
+            StepCount::Search(count) => u64::from(count),
+            StepCount::Anneal(count) => u64::from(count),
         }
     }
 }
@@ -45,7 +45,7 @@ pub(crate) fn step(
     alloc: Global,
     job: &Job,
     kept: Option<Walk>,
-    asked: Asked,
+    asked: StepCount,
 ) -> Result<Stepped, Refusal>
     requires accepted { job_refusal job.now (asked_for asked) ≡ None }
     requires kept { IfSome kept (IsWalkOf job.now) }
@@ -59,7 +59,7 @@ pub(crate) fn step(
 
 // The walk behind them.
 #[tactic(auto, using(crate::proofs::AskedLemmas::steps_fit))]
-fn step_on(alloc: Global, job: &Job, walk: Walk, asked: Asked) -> Result<Walk, OutOfMemory>
+fn step_on(alloc: Global, job: &Job, walk: Walk, asked: StepCount) -> Result<Walk, OutOfMemory>
     requires accepted { job_refusal job.now (asked_for asked) ≡ None }
     requires walk { IsWalkOf job.now walk }
     ensures walk { IfOk result (IsWalk job.now.problem job.now.pins) }
@@ -69,7 +69,7 @@ fn step_on(alloc: Global, job: &Job, walk: Walk, asked: Asked) -> Result<Walk, O
 {
     let count = asked.count();
     match asked {
-        Asked::Search(_) => walk_on(
+        StepCount::Search(_) => walk_on(
             alloc,
             &job.problem,
             &job.pins,
@@ -79,7 +79,7 @@ fn step_on(alloc: Global, job: &Job, walk: Walk, asked: Asked) -> Result<Walk, O
             job.steps,
             count,
         ),
-        Asked::Anneal(_) => anneal_on(
+        StepCount::Anneal(_) => anneal_on(
             alloc,
             &job.problem,
             &job.pins,

@@ -105,7 +105,7 @@ use Rattle.clap.proofs.OnLiterals.{clap_on_literals}
 use Rattle.command_line.specs.declared.words.Invocation.{Invocation}
 use Rattle.command_line.specs.Asked.{
   ArePositional,
-  Asked,
+  WordsAsked,
   IsRefusal,
   PathsAsked,
   ReadsMatches,
@@ -348,7 +348,7 @@ IsSomeKind [] = ⊥
 IsSomeKind (k ∷ ks) = Unit {0}
 
 -- the words pass and ask for what the matches say, or they ask for nothing, and fail by a mistake or for help
-abbrev pub IsJudged : Type 0 → Kinds → Option Asked → Option Asked → Type 0
+abbrev pub IsJudged : Type 0 → Kinds → Option WordsAsked → Option WordsAsked → Type 0
 IsJudged Help faults asked told = ((faults ≡ []) × (asked ≡ told)) ⊎ ((IsFault faults ⊎ (Help × IsSomeKind faults)) × (asked ≡ None))
 
 fault_then : (a b : Kinds) → AreMistakes a → IsFault b → IsFault (or_else a b)
@@ -389,13 +389,14 @@ kind_mistakes : (fault : Kinds) (k : Text) → fault ≡ fault_of_kind k → Are
 kind_mistakes fault k is = subst AreMistakes (sym is) (mistakes_by (bytes_eq (codes "lilim") k) (bytes_eq (codes "vrp") k))
 
 -- words of the right number are judged by their kind
-judged_kind : (Help : Type 0) (a b : Bool) (faults : Kinds) (asked told : Option Asked) → faults ≡ unless_named a b → ((if a then Some LiLim else (if b then Some Vrp else None)) ≡ None → asked ≡ None)
+judged_kind : (Help : Type 0) (a b : Bool) (faults : Kinds) (asked told : Option WordsAsked) → faults ≡ unless_named a b
+    → ((if a then Some LiLim else (if b then Some Vrp else None)) ≡ None → asked ≡ None)
     → asked ≡ told → IsJudged Help faults asked told
 judged_kind Help true b faults asked told f e same = inl (f, same)
 judged_kind Help false true faults asked told f e same = inl (f, same)
 judged_kind Help false false faults asked told f e same = inr (inl (subst IsFault (sym f) (refl, tt)), e refl)
 
-judged_leaf : (Help : Type 0) (s : Shape) → take_one_each s.rules ≡ true → (words : List Text) → ArePositional words → (asked : Option Asked) (tell : List Row → Option Asked)
+judged_leaf : (Help : Type 0) (s : Shape) → take_one_each s.rules ≡ true → (words : List Text) → ArePositional words → (asked : Option WordsAsked) (tell : List Row → Option WordsAsked)
     → IsJudged Help (leaf_fault s words) asked (tell (leaf_rows s words)) → IsJudged Help (level_fault s [] nothing_held words false []) asked (tell (rows_at s words).1)
 judged_leaf Help s one words p asked tell judged =
     subst (λ (f : Kinds). IsJudged Help f asked (tell (rows_at s words).1)) (sym (level_is s one words p))
@@ -427,7 +428,7 @@ abbrev load_shape : Bor (List (Bor Text)) → Shape
 load_shape names = built_leaf (load_app names).top
 
 -- nothing is asked for without a kind
-no_kind_no_paths : (does : PathsAsked → Bool → Asked) (o : Option Kind) (i s : Text) (last : Option Text) → o ≡ None
+no_kind_no_paths : (does : PathsAsked → Bool → WordsAsked) (o : Option Kind) (i s : Text) (last : Option Text) → o ≡ None
     → judged_from does (option_map (λ k. record { kind = k; instance = i; solution = s }) o) last ≡ None
 no_kind_no_paths does o i s last none = ap (λ o. judged_from does (option_map (λ k. record { kind = k; instance = i; solution = s }) o) last) none
 
@@ -444,21 +445,21 @@ no_kind_no_load : (w : Text) (o : Option Kind) (i : Text) (s : Option ℕ) → o
 no_kind_no_load w o i s none = ap (λ o. option_map load (load_from w o i s)) none
 
 module _ (Help : Type 0) (names : Bor (List (Bor Text))) (kinds : IsKindNames names) where
-  too_few : (k : Text) (told : Option Asked) → IsJudged Help (or_else (kind_fault names k) missing) None told
+  too_few : (k : Text) (told : Option WordsAsked) → IsJudged Help (or_else (kind_fault names k) missing) None told
   too_few k told = inr (inl (fault_then (kind_fault names k) missing (kind_mistakes _ k (known_fault names k kinds)) (refl, tt)), refl)
 
-  still_too_few : (k : Text) (told : Option Asked) → IsJudged Help (or_else (or_else (kind_fault names k) []) missing) None told
+  still_too_few : (k : Text) (told : Option WordsAsked) → IsJudged Help (or_else (or_else (kind_fault names k) []) missing) None told
   still_too_few k told = subst (λ (f : Kinds). IsJudged Help (or_else f missing) None told) (sym (or_else-nil (kind_fault names k))) (too_few k told)
 
-  too_many : (k : Text) (end : Kinds) (told : Option Asked) → IsJudged Help (or_else (or_else (kind_fault names k) (kind.UnknownArgument ∷ [])) end) None told
+  too_many : (k : Text) (end : Kinds) (told : Option WordsAsked) → IsJudged Help (or_else (or_else (kind_fault names k) (kind.UnknownArgument ∷ [])) end) None told
   too_many k end told =
       inr (inl (fault_first _ end (fault_then (kind_fault names k) (kind.UnknownArgument ∷ []) (kind_mistakes _ k (known_fault names k kinds)) (refl, tt))), refl)
 
-  enough : (k : Text) (asked told : Option Asked) → (kind_named k ≡ None → asked ≡ None) → asked ≡ told → IsJudged Help (or_else (or_else (kind_fault names k) []) []) asked told
+  enough : (k : Text) (asked told : Option WordsAsked) → (kind_named k ≡ None → asked ≡ None) → asked ≡ told → IsJudged Help (or_else (or_else (kind_fault names k) []) []) asked told
   enough k asked told none same =
       judged_kind Help (bytes_eq (codes "lilim") k) (bytes_eq (codes "vrp") k) _ asked told (or_else-nil _ ∙ or_else-nil _ ∙ known_fault names k kinds) none same
 
-  judged_paths : (does : PathsAsked → Bool → Asked) (name : Text) (words : List Text)
+  judged_paths : (does : PathsAsked → Bool → WordsAsked) (name : Text) (words : List Text)
       → IsJudged Help (leaf_fault (paths_shape name names) words) (judged_asked does words) (judged_in does (leaf_rows (paths_shape name names) words))
   unfolding clap_on_literals
   judged_paths does name [] = inr (inl (refl, tt), refl)
@@ -549,7 +550,7 @@ judged_mode Help true store faults f = inl (f, refl)
 judged_mode Help false store faults f = inr (inl (subst IsFault (sym f) (refl, tt)), refl)
 
 module _ (Help : Type 0) where
-  judged_store : (does : Text → Asked) (name : Text) (words : List Text)
+  judged_store : (does : Text → WordsAsked) (name : Text) (words : List Text)
       → IsJudged Help (leaf_fault (store_shape name) words) (option_map does (store_asked words)) (option_map does (store_in (leaf_rows (store_shape name) words)))
   unfolding clap_on_literals
   judged_store does name [] = inr (inl (refl, tt), refl)
@@ -640,12 +641,12 @@ module _ (names modes : Bor (List (Bor Text))) (name : Text) (s : Shape) (named 
   named_stop = ap (λ (w : Walk). told_of (entered app w.stopped)) words_walked ∙ rw named.1 refl
 
   -- and they are judged by its walk over values
-  judged_named : (Help : Type 0) (w : Text) (asked : Option Asked) → take_one_each s.rules ≡ true → ArePositional words → name ≡ w
+  judged_named : (Help : Type 0) (w : Text) (asked : Option WordsAsked) → take_one_each s.rules ≡ true → ArePositional words → name ≡ w
       → IsJudged Help (leaf_fault s words) asked (told_by s.name (leaf_rows s words)) → IsJudged Help (built_fault app nothing_held (w ∷ words)) asked (told_of (stop_in names modes (w ∷ words)))
   judged_named Help w asked one p is judged =
       subst (λ (v : Text). IsJudged Help (built_fault app nothing_held (v ∷ words)) asked (told_of (stop_in names modes (v ∷ words)))) is
       (subst (λ (f : Kinds). IsJudged Help f asked (told_of (stop_in names modes (name ∷ words)))) (sym named_fault)
-      (subst (λ (t : Option Asked). IsJudged Help (level_fault s [] nothing_held words false []) asked t) (sym named_stop)
+      (subst (λ (t : Option WordsAsked). IsJudged Help (level_fault s [] nothing_held words false []) asked t) (sym named_stop)
       (judged_leaf Help s one words p asked (told_by s.name) judged)))
 
 help_fault : (names modes : Bor (List (Bor Text))) (words : List Text) → IsSomeKind (built_fault (the_app names modes) nothing_held (codes "help" ∷ words))
@@ -711,7 +712,7 @@ judged_other names modes w words true h o =
 judged_other names modes w words false h o = inl (fault_first _ _ (stray_first names modes w words o h))
 
 -- what is asked for by a name, and what by another word
-by_name : (P : Option Asked → Type 0) (name w : Text) (this other : Option Asked) → (name ≡ w → P this) → (bytes_eq name w ≡ false → P other) → P (if bytes_eq name w then this else other)
+by_name : (P : Option WordsAsked → Type 0) (name w : Text) (this other : Option WordsAsked) → (name ≡ w → P this) → (bytes_eq name w ≡ false → P other) → P (if bytes_eq name w then this else other)
 by_name P name w this other here there = by (bytes_eq name w) refl
   where
     by : (b : Bool) → bytes_eq name w ≡ b → P (if b then this else other)
@@ -722,10 +723,10 @@ module _ (names modes : Bor (List (Bor Text))) (kinds : IsKindNames names) (know
   abbrev AsksHelp : Type 0
   AsksHelp = asks_help (w ∷ words) ≡ true
 
-  abbrev Judged : Option Asked → Type 0
+  abbrev Judged : Option WordsAsked → Type 0
   Judged asked = IsJudged AsksHelp (built_fault (the_app names modes) nothing_held (w ∷ words)) asked (told_of (stop_in names modes (w ∷ words)))
 
-  of_command : (name : Text) (s : Shape) (asked : Option Asked) → IsNamed (the_app names modes) name s → take_one_each s.rules ≡ true
+  of_command : (name : Text) (s : Shape) (asked : Option WordsAsked) → IsNamed (the_app names modes) name s → take_one_each s.rules ≡ true
       → IsJudged AsksHelp (leaf_fault s words) asked (told_by s.name (leaf_rows s words)) → name ≡ w → Judged asked
   of_command name s asked named one judged is = judged_named names modes name s named words AsksHelp w asked one (both_true (is_positional_word w) _ positional).1 is judged
 
@@ -846,7 +847,7 @@ mistake_among k [] h a = absurd a
 mistake_among k (x ∷ xs) h (inl e) = ap usage_status_of e ∙ h.0
 mistake_among k (x ∷ xs) h (inr a) = mistake_among k xs h.1 a
 
-pub refused : (words : List Text) (faults : Kinds) (told : Option Asked) (e : Error) → IsJudged (asks_help words ≡ true) faults (asked_by words) told → HasKind faults e → IsRefusal words e
+pub refused : (words : List Text) (faults : Kinds) (told : Option WordsAsked) (e : Error) → IsJudged (asks_help words ≡ true) faults (asked_by words) told → HasKind faults e → IsRefusal words e
 refused words faults told e (inl passed) has =
     let in_none : HasKind [] e = subst (λ (f : Kinds). HasKind f e) passed.0 has in
     elim in_none [ inl m ↦ inl m | inr none ↦ absurd none ]
@@ -865,7 +866,7 @@ refused words faults told e (inr failing) has =
 nothing_failed : (faults : Kinds) → faults ≡ [] → IsSomeKind faults → ⊥
 nothing_failed faults none h = subst IsSomeKind none h
 
-pub accepted : (Help : Type 0) (faults : Kinds) (asked told : Option Asked) → IsJudged Help faults asked told → faults ≡ [] → asked ≡ told
+pub accepted : (Help : Type 0) (faults : Kinds) (asked told : Option WordsAsked) → IsJudged Help faults asked told → faults ≡ [] → asked ≡ told
 accepted Help faults asked told (inl passed) none = passed.1
 accepted Help faults asked told (inr failing) none =
     elim failing.0 [ inl fault ↦ absurd (subst IsFault none fault) | inr help ↦ absurd (nothing_failed faults none help.1) ]
@@ -883,7 +884,7 @@ passed_up words (Ok x) e is h = absurd is
 passed_up words (Err y) e is h = subst (λ (z : Error). IsRefusal words z) (sym is) h
 
 -- what is read of the matches is what is read of the words that they are of
-pub read_of : (words : List Text) (told : Option Asked) (r : Result Invocation Error) → asked_by words ≡ told → ReadsMatches told r → ReadsWords words r
+pub read_of : (words : List Text) (told : Option WordsAsked) (r : Result Invocation Error) → asked_by words ≡ told → ReadsMatches told r → ReadsWords words r
 read_of words told (Ok invocation) same read = same ∙ read
 read_of words told (Err error) same (inl memory) = inl memory
 read_of words told (Err error) same (inr refused) = inr (same ∙ refused.0, inr refused.1)

@@ -1,6 +1,7 @@
 -- What the words of the command line ask for, those after the program's name.
 use Rattle.std.specs.Prelude.{
   ◌≡◌,
+  ◌+◌,
   ◌==◌,
   ◌&&◌,
   ◌⊎◌,
@@ -37,6 +38,7 @@ use Rattle.clap.specs.declared.error.kind.ErrorKind.{ErrorKind}
 use Rattle.plan_types.specs.declared.requests.Kind.{Kind}
 use Rattle.plan_types.specs.declared.requests.Kind.TheVariants.{LiLim, Vrp}
 use Rattle.text_lines.specs.Numbers.{below, digits_of, integer_of}
+use Rattle.plan_types.specs.Limits.{most_asked_steps, most_deviation}
 use Rattle.command_line.specs.declared.words.Paths.{Paths}
 use Rattle.command_line.specs.declared.words.Invocation.{Invocation}
 use Rattle.command_line.specs.declared.words.Invocation.TheVariants.{
@@ -95,24 +97,24 @@ pub record LoadAsked : Type 0 where
 -- this number; the solving of an instance, or of each that a list names; a store made in a file, an instance loaded into one, or commands over
 -- one; a solution that a store is to have for its plan; the instance in a store; whether a store agrees with itself; a store made of an old one;
 -- the timetable of a solution, or of the plan in a store, by tabs or in columns.
-pub data Asked : Type 0 where
-  built_in : Asked
-  audit : PathsAsked → Bool → Asked
-  audits : Kind → Text → Bool → Asked
-  explain : PathsAsked → Bool → Asked
-  draw : PathsAsked → Option ℕ → Asked
-  draw_store : Text → Option ℕ → Asked
-  solve : TaskAsked → Asked
-  solves : TasksAsked → Asked
-  format : Text → Asked
-  load : LoadAsked → Asked
-  run : Text → Bool → Asked
-  adopt : Text → Text → Asked
-  store_instance : Text → Asked
-  check : Text → Asked
-  upgrade : Text → Text → Asked
-  timetable : PathsAsked → Bool → Asked
-  store_timetable : Text → Bool → Asked
+pub data WordsAsked : Type 0 where
+  built_in : WordsAsked
+  audit : PathsAsked → Bool → WordsAsked
+  audits : Kind → Text → Bool → WordsAsked
+  explain : PathsAsked → Bool → WordsAsked
+  draw : PathsAsked → Option ℕ → WordsAsked
+  draw_store : Text → Option ℕ → WordsAsked
+  solve : TaskAsked → WordsAsked
+  solves : TasksAsked → WordsAsked
+  format : Text → WordsAsked
+  load : LoadAsked → WordsAsked
+  run : Text → Bool → WordsAsked
+  adopt : Text → Text → WordsAsked
+  store_instance : Text → WordsAsked
+  check : Text → WordsAsked
+  upgrade : Text → Text → WordsAsked
+  timetable : PathsAsked → Bool → WordsAsked
+  store_timetable : Text → Bool → WordsAsked
 
 abbrev pub paths_of : Paths → PathsAsked
 paths_of paths = record { kind = paths.kind; instance = paths.instance.now; solution = paths.solution.now }
@@ -126,7 +128,7 @@ tasks_of tasks = record { kind = tasks.kind; list = tasks.list.now; steps = task
 abbrev pub load_of : Loading → LoadAsked
 load_of loading = record { store = loading.store.now; kind = loading.kind; instance = loading.instance.now; seed = loading.seed }
 
-abbrev pub asked_of : Invocation → Asked
+abbrev pub asked_of : Invocation → WordsAsked
 asked_of BuiltIn = built_in
 asked_of (Audit paths routes_alone) = audit (paths_of paths) routes_alone
 asked_of (Audits kind list routes_alone) = audits kind list.now routes_alone
@@ -151,7 +153,7 @@ kind_named word = if bytes_eq (codes "lilim") word then Some LiLim else (if byte
 
 -- a number of steps, in digits alone
 abbrev pub steps_named : Text → Option ℕ
-steps_named word = below 1000000001 (digits_of word)
+steps_named word = below (most_asked_steps + 1) (digits_of word)
 
 -- a number, as a `u64` holds it
 abbrev pub as_u64 : ℤ → Option ℕ
@@ -180,26 +182,26 @@ abbrev pub flag_named : Text → Option Text → Option Bool
 flag_named name None = Some false
 flag_named name (Some word) = if bytes_eq name word then Some true else None
 
-abbrev pub judged_from : (PathsAsked → Bool → Asked) → Option PathsAsked → Option Text → Option Asked
+abbrev pub judged_from : (PathsAsked → Bool → WordsAsked) → Option PathsAsked → Option Text → Option WordsAsked
 judged_from does paths last = do
   paths ← paths
   routes_alone ← flag_named (codes "routes") last
   Some (does paths routes_alone)
 
 -- `KIND INSTANCE SOLUTION [routes]`
-abbrev pub judged_asked : (PathsAsked → Bool → Asked) → List Text → Option Asked
+abbrev pub judged_asked : (PathsAsked → Bool → WordsAsked) → List Text → Option WordsAsked
 judged_asked does (kind ∷ instance ∷ solution ∷ []) = judged_from does (paths_from kind instance solution) None
 judged_asked does (kind ∷ instance ∷ solution ∷ last ∷ []) = judged_from does (paths_from kind instance solution) (Some last)
 judged_asked does _ = None
 
-abbrev pub list_from : Option Kind → Text → Option Text → Option Asked
+abbrev pub list_from : Option Kind → Text → Option Text → Option WordsAsked
 list_from kind list last = do
   kind ← kind
   routes_alone ← flag_named (codes "routes") last
   Some (audits kind list routes_alone)
 
 -- `KIND LIST [routes]`
-abbrev pub list_asked : List Text → Option Asked
+abbrev pub list_asked : List Text → Option WordsAsked
 list_asked (kind ∷ list ∷ []) = list_from (kind_named kind) list None
 list_asked (kind ∷ list ∷ last ∷ []) = list_from (kind_named kind) list (Some last)
 list_asked _ = None
@@ -207,7 +209,7 @@ list_asked _ = None
 -- a deviation, in digits alone; or that none is named
 abbrev pub deviation_or_none : Option Text → Option (Option ℕ)
 deviation_or_none None = Some None
-deviation_or_none (Some word) = option_map (λ d. Some d) (below 1000000001 (digits_of word))
+deviation_or_none (Some word) = option_map (λ d. Some d) (below (most_deviation + 1) (digits_of word))
 
 abbrev pub task_from : Option Kind → Text → Option ℕ → Option ℕ → Option (Option ℕ) → Option TaskAsked
 task_from kind instance steps seed deviation = do
@@ -249,11 +251,11 @@ load_from store kind instance seed = do
   seed ← seed
   Some (record { store = store; kind = kind; instance = instance; seed = seed })
 
-abbrev pub run_from : Text → Option Text → Option Asked
+abbrev pub run_from : Text → Option Text → Option WordsAsked
 run_from store mode = option_map (run store) (flag_named (codes "strict") mode)
 
 -- `STORE [strict]`
-abbrev pub run_asked : List Text → Option Asked
+abbrev pub run_asked : List Text → Option WordsAsked
 run_asked (store ∷ []) = run_from store None
 run_asked (store ∷ mode ∷ []) = run_from store (Some mode)
 run_asked _ = None
@@ -265,28 +267,28 @@ load_asked (store ∷ kind ∷ instance ∷ seed ∷ []) = load_from store (kind
 load_asked _ = None
 
 -- `STORE SOLUTION`
-abbrev pub adopt_asked : List Text → Option Asked
+abbrev pub adopt_asked : List Text → Option WordsAsked
 adopt_asked (store ∷ solution ∷ []) = Some (adopt store solution)
 adopt_asked _ = None
 
 -- `OLD NEW`
-abbrev pub upgrade_asked : List Text → Option Asked
+abbrev pub upgrade_asked : List Text → Option WordsAsked
 upgrade_asked (old ∷ new ∷ []) = Some (upgrade old new)
 upgrade_asked _ = None
 
 -- `STORE [tabs]`
-abbrev pub store_timetable_from : Text → Option Text → Option Asked
+abbrev pub store_timetable_from : Text → Option Text → Option WordsAsked
 store_timetable_from store last = option_map (store_timetable store) (flag_named (codes "tabs") last)
 
 -- `KIND INSTANCE SOLUTION [tabs]`
-abbrev pub timetable_from : Text → Text → Text → Option Text → Option Asked
+abbrev pub timetable_from : Text → Text → Text → Option Text → Option WordsAsked
 timetable_from kind instance solution last = do
   paths ← paths_from kind instance solution
   is_tabbed ← flag_named (codes "tabs") last
   Some (timetable paths is_tabbed)
 
 -- one or two words of a store, three or four of a solution
-abbrev pub timetable_asked : List Text → Option Asked
+abbrev pub timetable_asked : List Text → Option WordsAsked
 timetable_asked (store ∷ []) = store_timetable_from store None
 timetable_asked (store ∷ last ∷ []) = store_timetable_from store (Some last)
 timetable_asked (kind ∷ instance ∷ solution ∷ []) = timetable_from kind instance solution None
@@ -299,18 +301,18 @@ route_or_none None = Some None
 route_or_none (Some word) = option_map (λ n. Some n) (below (2 ^ 32) (digits_of word))
 
 -- `STORE [ROUTE]`
-abbrev pub store_draw_from : Text → Option Text → Option Asked
+abbrev pub store_draw_from : Text → Option Text → Option WordsAsked
 store_draw_from store last = option_map (draw_store store) (route_or_none last)
 
 -- `KIND INSTANCE SOLUTION [ROUTE]`
-abbrev pub draw_from : Text → Text → Text → Option Text → Option Asked
+abbrev pub draw_from : Text → Text → Text → Option Text → Option WordsAsked
 draw_from kind instance solution last = do
   paths ← paths_from kind instance solution
   route ← route_or_none last
   Some (draw paths route)
 
 -- one or two words of a store, three or four of a solution
-abbrev pub draw_asked : List Text → Option Asked
+abbrev pub draw_asked : List Text → Option WordsAsked
 draw_asked (store ∷ []) = store_draw_from store None
 draw_asked (store ∷ last ∷ []) = store_draw_from store (Some last)
 draw_asked (kind ∷ instance ∷ solution ∷ []) = draw_from kind instance solution None
@@ -318,7 +320,7 @@ draw_asked (kind ∷ instance ∷ solution ∷ route ∷ []) = draw_from kind in
 draw_asked _ = None
 
 -- what the command of this name asks for with these words; no other has this name
-abbrev pub asked_with : List Text → Text → Option Asked
+abbrev pub asked_with : List Text → Text → Option WordsAsked
 asked_with words command = if bytes_eq (codes "audit") command then judged_asked audit words
     else (if bytes_eq (codes "audits") command then list_asked words
     else (if bytes_eq (codes "explain") command then judged_asked explain words
@@ -335,7 +337,7 @@ asked_with words command = if bytes_eq (codes "audit") command then judged_asked
     else (if bytes_eq (codes "solves") command then option_map solves (tasks_asked words) else None)))))))))))))
 
 -- no words, or a command with its own
-abbrev pub asked_by : List Text → Option Asked
+abbrev pub asked_by : List Text → Option WordsAsked
 asked_by [] = Some built_in
 asked_by (command ∷ words) = asked_with words command
 
@@ -348,11 +350,11 @@ paths_in rows = do
   paths_from kind instance solution
 
 -- those of `KIND INSTANCE SOLUTION [routes]`
-abbrev pub judged_in : (PathsAsked → Bool → Asked) → List Row → Option Asked
+abbrev pub judged_in : (PathsAsked → Bool → WordsAsked) → List Row → Option WordsAsked
 judged_in does rows = judged_from does (paths_in rows) (first_of (codes "routes") rows)
 
 -- those of `KIND LIST [routes]`
-abbrev pub list_in : List Row → Option Asked
+abbrev pub list_in : List Row → Option WordsAsked
 list_in rows = do
   kind ← first_of (codes "KIND") rows >>= kind_named
   list ← first_of (codes "LIST") rows
@@ -386,7 +388,7 @@ abbrev pub store_in : List Row → Option Text
 store_in rows = first_of (codes "STORE") rows
 
 -- those of `STORE [strict]`
-abbrev pub run_in : List Row → Option Asked
+abbrev pub run_in : List Row → Option WordsAsked
 run_in rows = store_in rows >>= (λ store. run_from store (first_of (codes "strict") rows))
 
 -- those of `STORE KIND INSTANCE [SEED]`
@@ -399,39 +401,39 @@ load_in rows = do
   Some (record { store = store; kind = kind; instance = instance; seed = seed })
 
 -- those of `STORE SOLUTION`
-abbrev pub adopt_in : List Row → Option Asked
+abbrev pub adopt_in : List Row → Option WordsAsked
 adopt_in rows = do
   store ← store_in rows
   solution ← first_of (codes "SOLUTION") rows
   Some (adopt store solution)
 
 -- those of `OLD NEW`
-abbrev pub upgrade_in : List Row → Option Asked
+abbrev pub upgrade_in : List Row → Option WordsAsked
 upgrade_in rows = do
   old ← first_of (codes "OLD") rows
   new ← first_of (codes "NEW") rows
   Some (upgrade old new)
 
 -- those of `STORE [tabs]`, or of `KIND INSTANCE SOLUTION [tabs]`
-abbrev pub timetable_with : Text → Option Text → Option Text → Option Text → Option Asked
+abbrev pub timetable_with : Text → Option Text → Option Text → Option Text → Option WordsAsked
 timetable_with store last None _ = store_timetable_from store last
 timetable_with kind second (Some solution) last = second >>= (λ instance. timetable_from kind instance solution last)
 
-abbrev pub timetable_in : List Row → Option Asked
+abbrev pub timetable_in : List Row → Option WordsAsked
 timetable_in rows = first_of (codes "STORE|KIND") rows >>= (λ first.
     timetable_with first (first_of (codes "tabs|INSTANCE") rows) (first_of (codes "SOLUTION") rows) (first_of (codes "tabs") rows))
 
 -- those of `STORE [ROUTE]`, or of `KIND INSTANCE SOLUTION [ROUTE]`
-abbrev pub draw_with : Text → Option Text → Option Text → Option Text → Option Asked
+abbrev pub draw_with : Text → Option Text → Option Text → Option Text → Option WordsAsked
 draw_with store last None _ = store_draw_from store last
 draw_with kind second (Some solution) last = second >>= (λ instance. draw_from kind instance solution last)
 
-abbrev pub draw_in : List Row → Option Asked
+abbrev pub draw_in : List Row → Option WordsAsked
 draw_in rows = first_of (codes "STORE|KIND") rows >>= (λ first.
     draw_with first (first_of (codes "ROUTE|INSTANCE") rows) (first_of (codes "SOLUTION") rows) (first_of (codes "ROUTE") rows))
 
 -- what `format`, `load`, `adopt`, `instance`, `check`, `upgrade` or `run` asks for
-abbrev pub told_of_store : Text → List Row → Option Asked
+abbrev pub told_of_store : Text → List Row → Option WordsAsked
 told_of_store name rows =
     if bytes_eq (codes "format") name then option_map format (store_in rows)
     else (if bytes_eq (codes "load") name then option_map load (load_in rows)
@@ -441,7 +443,7 @@ told_of_store name rows =
     else (if bytes_eq (codes "upgrade") name then upgrade_in rows else run_in rows)))))
 
 -- what a subcommand asks for whose words are not `KIND INSTANCE SOLUTION [routes]`; there is no other one than these
-abbrev pub told_by_other : Text → List Row → Option Asked
+abbrev pub told_by_other : Text → List Row → Option WordsAsked
 told_by_other name rows =
     if bytes_eq (codes "audits") name then list_in rows
     else (if bytes_eq (codes "solve") name then option_map solve (task_in rows)
@@ -450,12 +452,12 @@ told_by_other name rows =
     else (if bytes_eq (codes "timetable") name then timetable_in rows else told_of_store name rows))))
 
 -- what the subcommand of this name asks for
-abbrev pub told_by : Text → List Row → Option Asked
+abbrev pub told_by : Text → List Row → Option WordsAsked
 told_by name rows = if bytes_eq (codes "audit") name then judged_in audit rows
     else (if bytes_eq (codes "explain") name then judged_in explain rows else told_by_other name rows)
 
 -- what the subcommand asks for
-abbrev pub told_of : Option (Text × List Row) → Option Asked
+abbrev pub told_of : Option (Text × List Row) → Option WordsAsked
 told_of None = Some built_in
 told_of (Some found) = told_by found.0 found.1
 
@@ -485,7 +487,7 @@ abbrev pub IsRefusal : List Text → Error → Type 0
 IsRefusal words error = (kind_of error ≡ OutOfMemory) ⊎ ((asked_by words ≡ None) × ((asks_help words ≡ true) ⊎ (usage_status_of (kind_of error) ≡ 64)))
 
 -- what is read is what the subcommand asks for; an error other than for want of memory comes only where it asks for nothing
-abbrev pub ReadsMatches : Option Asked → Result Invocation Error → Type 0
+abbrev pub ReadsMatches : Option WordsAsked → Result Invocation Error → Type 0
 ReadsMatches told r = MatchResult r
     (λ invocation. told ≡ Some (asked_of invocation))
     (λ error. (kind_of error ≡ OutOfMemory) ⊎ ((told ≡ None) × (usage_status_of (kind_of error) ≡ 64)))

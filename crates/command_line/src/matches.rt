@@ -7,13 +7,8 @@ ghost use Rattle.command_line.specs.Asked.{adopt_in, as_u64, asked_of, audit, ex
 use crate::words::{Invocation, Loading, Paths, Solving, SolvingList};
 use clap::ArgMatches;
 use plan_types::Kind;
+use plan_types::limits::{MAX_ASKED_STEPS, MAX_DEVIATION};
 use text_lines::{Number, digits_to_u32};
-
-/// The greatest number of steps.
-const MAX_STEPS: u32 = 1_000_000_000;
-
-/// The greatest deviation.
-const MAX_DEVIATION: u32 = 1_000_000_000;
 
 /// What the words ask for; `None` where one is missing or names no kind, or no number.
 pub(crate) fn asked_words<'a>(matches: &ArgMatches<'a>) -> Option<Invocation<'a>>
@@ -288,7 +283,7 @@ fn steps_of_word(word: &str) -> Option<u32>
     ensures { result ≡ steps_named word.now }
 {
     let steps = digits_to_u32(word.as_bytes())?;
-    if steps > MAX_STEPS {
+    if u64::from(steps) > MAX_ASKED_STEPS {
         return None;
     }
     Some(steps)

@@ -26,10 +26,10 @@ pub struct Paths<'a> {
 pub struct Solving<'a> {
     pub kind: Kind,
     pub instance: &'a str,
-    /// How many steps are made, 0..=1,000,000,000.
+    /// How many steps are made, 0..=`MAX_ASKED_STEPS`.
     pub steps: u32,
     pub seed: u64,
-    /// How far the search's working plan may be from its best one, 0..=1,000,000,000; `None` where no search is asked for.
+    /// How far the search's working plan may be from its best one, 0..=`MAX_DEVIATION`; `None` where no search is asked for.
     pub deviation: Option<u32>,
 }
 
@@ -38,7 +38,7 @@ pub struct Solving<'a> {
 pub struct SolvingList<'a> {
     pub kind: Kind,
     pub list: &'a str,
-    /// How many steps are made of each, 0..=1,000,000,000.
+    /// How many steps are made of each, 0..=`MAX_ASKED_STEPS`.
     pub steps: u32,
     pub seed: u64,
 }

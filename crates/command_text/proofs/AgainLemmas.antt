@@ -39,6 +39,7 @@ use Rattle.std.proofs.lemmas.Bool.{and_parts, cases_Bool, le-leb, leb-true}
 use Rattle.plan_types.specs.Instance.{Instance, numbers_among}
 use Rattle.route_sched.specs.Cost.{total_length}
 use Rattle.anneal_stages.specs.Stages.{share}
+use Rattle.plan_types.specs.Limits.{most_asked_steps, most_deviation}
 use Rattle.command_core.specs.Commands.{changes_requests}
 use Rattle.command_core.specs.Effects.{effect, job_after, with_deviation}
 use Rattle.command_core.specs.Job.{JobValue}
@@ -154,10 +155,10 @@ grown (suc count) (c ∷ cs) j all =
     let more = r.steps in
     record { job = r.job; is = r.is; steps = omega (arith, counted, more) }
 
-share_most : (p : Instance) (routes : List (List ℕ)) (c : ℕ) → share p routes c ≤ 1000000000
+share_most : (p : Instance) (routes : List (List ℕ)) (c : ℕ) → share p routes c ≤ most_deviation
 share_most p routes c = at (length (numbers_among p.requests) == 0)
   where
-    at : (b : Bool) → (if b then 0 else min (total_length p routes * c / (100 * length (numbers_among p.requests))) 1000000000) ≤ 1000000000
+    at : (b : Bool) → (if b then 0 else min (total_length p routes * c / (100 * length (numbers_among p.requests))) most_deviation) ≤ most_deviation
     at true = omega arith
     at false = omega arith
 
@@ -166,7 +167,7 @@ free_deviation j None d is = none_is d is
 free_deviation j (Some c) d is =
     let same = some_is (share j.problem j.plan c) d is in
     let most = share_most j.problem j.plan c in
-    let e = le-leb d 1000000000 (omega (arith, same, most)) in
+    let e = le-leb d most_deviation (omega (arith, same, most)) in
     rw e refl
 
 module _ (from to : ℕ) where
@@ -211,7 +212,7 @@ module _ (from to : ℕ) where
   left_by s = (made_or s (steps_to_make s.state (goal.Stages from to))).left.state
 
   abbrev is_asked : JobValue → Bool
-  is_asked j = nat_le from j.steps && nat_le to (j.steps + 1000000000)
+  is_asked j = nat_le from j.steps && nat_le to (j.steps + most_asked_steps)
 
   not_begun : (j : JobValue) (fates : List Fate) → is_asked j ≡ false → left_by (begun (Loaded j) fates) ≡ Loaded j
   not_begun j fates e = ap (λ b. (made_or (begun (Loaded j) fates) (if b then Ok (makes.Stages from to) else Err Range)).left.state) e
@@ -224,11 +225,11 @@ module _ (from to : ℕ) where
 
   still_asked : (i j : JobValue) → j.steps ≤ i.steps → is_asked j ≡ true → is_asked i ≡ true
   still_asked i j more e =
-      let parts = and_parts (nat_le from j.steps) (nat_le to (j.steps + 1000000000)) e in
+      let parts = and_parts (nat_le from j.steps) (nat_le to (j.steps + most_asked_steps)) e in
       let first = leb-true from j.steps parts.0 in
-      let last = leb-true to (j.steps + 1000000000) parts.1 in
+      let last = leb-true to (j.steps + most_asked_steps) parts.1 in
       let a = le-leb from i.steps (omega (arith, first, more)) in
-      let b = le-leb to (i.steps + 1000000000) (omega (arith, last, more)) in
+      let b = le-leb to (i.steps + most_asked_steps) (omega (arith, last, more)) in
       rw (a, b) refl
 
   line_cut : to ≤ 2 ^ 60 → (j : JobValue) (fates : List Fate) → is_asked j ≡ true → left_by (begun (left_by (begun (Loaded j) fates)) []) ≡ left_by (begun (Loaded j) [])

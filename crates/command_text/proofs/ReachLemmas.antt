@@ -5,6 +5,7 @@ use Rattle.std.specs.List.{list_all}
 use Rattle.std.proofs.lemmas.Bool.{and_parts, cases_Bool, le-leb, leb-true}
 use Rattle.std.proofs.lemmas.Bool.Decides.{leb_tells}
 use Rattle.std.proofs.lemmas.List.Sums.{sum_by-cons}
+use Rattle.plan_types.specs.Limits.{most_asked_steps}
 use Rattle.command_core.specs.Commands.{is_searching, steps_of}
 use Rattle.command_core.specs.Effects.{searched}
 use Rattle.command_core.specs.Job.{JobValue}
@@ -93,7 +94,7 @@ module _ (one : RunsAreOneSearch) (add_up : SearchesAddUp) (n : ℕ) (room : n �
   left_by s = (made_or s (steps_to_make s.state (goal.Reach n))).left.state
 
   abbrev is_asked : JobValue → Bool
-  is_asked j = nat_le n (j.steps + 1000000000)
+  is_asked j = nat_le n (j.steps + most_asked_steps)
 
   not_begun : (j : JobValue) (fates : List Fate) → is_asked j ≡ false → left_by (begun (Loaded j) fates) ≡ Loaded j
   not_begun j fates e = ap (λ b. (made_or (begun (Loaded j) fates) (if b then Ok (makes.Search (n - j.steps)) else Err Range)).left.state) e
@@ -119,8 +120,8 @@ module _ (one : RunsAreOneSearch) (add_up : SearchesAddUp) (n : ℕ) (room : n �
       let made = sum_by steps_of (take cut.count cs) in
       let few : made ≤ n - j.steps = subst (λ (k : ℕ). made ≤ k) all.sum front.sum in
       let left : left_by (begun (Loaded j) fates) ≡ Loaded (searched j made) = is_begun j fates e ∙ cut.is ∙ one j (take cut.count cs) front.searching in
-      let asked = leb-true n (j.steps + 1000000000) e in
-      let still : is_asked (searched j made) ≡ true = le-leb n (j.steps + made + 1000000000) (omega (arith, asked)) in
+      let asked = leb-true n (j.steps + most_asked_steps) e in
+      let still : is_asked (searched j made) ≡ true = le-leb n (j.steps + made + most_asked_steps) (omega (arith, asked)) in
       let sum : made + (n - (j.steps + made)) ≡ n - j.steps = omega (arith, few) in
       ap (λ (s : State). left_by (begun s [])) left ∙ uncut (searched j made) still ∙ ap Loaded (add_up j made (n - (j.steps + made)))
       ∙ ap (λ k. Loaded (searched j k)) sum ∙ sym (uncut j e)

@@ -19,6 +19,7 @@ use Rattle.command_core.specs.declared.refusals.Refusal.{Refusal}
 use Rattle.command_core.specs.declared.refusals.Refusal.TheVariants.{NoInstance, Range, StepsSpent, NoTimes, NoFormat, OutOfMemory}
 use Rattle.plan_types.specs.declared.plans.Plan.{Plan}
 use Rattle.plan_seats.specs.declared.faults.Unseated.{Unseated}
+use Rattle.plan_types.specs.Limits.{most_asked_steps}
 use Rattle.command_text.specs.Answers.{answer_text, at_text, help_text, line, next_text, pin_text}
 use Rattle.command_text.specs.Cutting.{Piece, is_short, pieces_of}
 use Rattle.command_text.specs.Freezing.{freeze_commands}
@@ -149,13 +150,13 @@ commands_of (makes.Freeze t v) (Loaded j) = freeze_commands t v j
 abbrev pub unless_spent : JobValue → ℕ → StepsLeft → Result StepsLeft Refusal
 unless_spent j n steps = if nat_le (j.steps + n) (2 ^ 60) then Ok steps else Err StepsSpent
 
--- `reach N`: the steps that are left, at most 1,000,000,000
+-- `reach N`: the steps that are left, no more than are asked for at most
 abbrev pub steps_to_reach : JobValue → ℕ → Result StepsLeft Refusal
-steps_to_reach j n = if nat_le n (j.steps + 1000000000) then Ok (makes.Search (n - j.steps)) else Err Range
+steps_to_reach j n = if nat_le n (j.steps + most_asked_steps) then Ok (makes.Search (n - j.steps)) else Err Range
 
--- `anneal FROM TO`: the steps from the first number to before the second that are left, at most 1,000,000,000
+-- `anneal FROM TO`: the steps from the first number to before the second that are left, no more than are asked for at most
 abbrev pub stages_to_go : JobValue → ℕ → ℕ → Result StepsLeft Refusal
-stages_to_go j from to = if nat_le from j.steps && nat_le to (j.steps + 1000000000) then Ok (makes.Stages from to) else Err Range
+stages_to_go j from to = if nat_le from j.steps && nat_le to (j.steps + most_asked_steps) then Ok (makes.Stages from to) else Err Range
 
 -- `freeze T`: the pins of all vehicles, where an instance has times
 abbrev pub begun_at : Kind → ℕ → Result StepsLeft Refusal

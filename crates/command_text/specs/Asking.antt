@@ -6,6 +6,7 @@ use Rattle.text_lines.specs.Words.{words_of}
 use Rattle.text_lines.specs.Numbers.{integer_of, below}
 use Rattle.plan_types.specs.declared.requests.Kind.{Kind}
 use Rattle.plan_types.specs.declared.requests.Kind.TheVariants.{LiLim, Vrp}
+use Rattle.plan_types.specs.Limits.{most_asked_steps}
 use Rattle.command_core.specs.declared.commands.Spot.{Spot}
 use Rattle.command_core.specs.declared.commands.Command.{Command}
 use Rattle.command_core.specs.declared.commands.Command.TheVariants as command
@@ -68,10 +69,10 @@ abbrev pub steps_or : Option Goal → Asked
 steps_or None = Refused Range
 steps_or (Some g) = Steps g
 
--- N in 1..1,000,000,000
+-- N from 1 to the most steps that are asked for
 abbrev pub count_of : Option ℕ → Option ℕ
 count_of None = None
-count_of (Some n) = if nat_le 1 n && nat_le n 1000000000 then Some n else None
+count_of (Some n) = if nat_le 1 n && nat_le n most_asked_steps then Some n else None
 
 abbrev pub search_of : Option ℕ → Option Goal
 search_of n = option_map goal.Search (count_of n)

@@ -20,8 +20,6 @@ use text_lines::Words;
 pub const MAX_LINE: usize = 1024;
 /// The most bytes of a text that a line announces.
 pub const MAX_LEN: u64 = 16_777_216;
-/// The most steps that one line asks for.
-pub const MAX_SEARCH: u64 = 1_000_000_000;
 
 /// What the text is for that a line announces.
 #[derive(Clone, Copy, Debug, PartialEq, Eq)]

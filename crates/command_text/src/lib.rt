@@ -61,7 +61,7 @@ mod steps;
 mod verbs;
 
 pub use answers::{Answer, Progress, ShortLine, at_line, next_line, pin_line, progress_behind};
-pub use asked::{Asked, MAX_LEN, MAX_LINE, MAX_SEARCH, Purpose, read_line};
+pub use asked::{Asked, MAX_LEN, MAX_LINE, Purpose, read_line};
 pub use first_word::FirstWord;
 pub use help::{HELP, help_lines};
 pub use instances::read_instance;

@@ -4,11 +4,11 @@ ghost use Rattle.command_core.specs.Effects.{effect};
 ghost use Rattle.command_core.specs.declared.states.State.TheVariants.{Empty, Loaded};
 ghost use Rattle.command_text.specs.Answering.{begun_at, commands_of, counts_of, stages_to_go, steps_from, steps_to_make, steps_to_reach, unless_spent};
 
-use crate::asked::MAX_SEARCH;
 use crate::freezing::next_frozen;
 use crate::staging::{next_in_stage, next_staged};
 use command_core::{Command, Job, MAX_COUNT, MAX_STEPS, Refusal, State};
 use plan_types::Kind;
+use plan_types::limits::MAX_ASKED_STEPS;
 
 /// The most annealing steps of one command of a line, so that its progress is told often and little is lost by a stop.
 pub(crate) const MAX_ANNEALED: u32 = 16_384;
@@ -19,13 +19,13 @@ pub(crate) const MAX_REDUCED: u32 = 524_288;
 /// What a line asks for that takes several commands: steps, or pins.
 #[derive(Clone, Copy, Debug, PartialEq, Eq)]
 pub enum Goal {
-    /// So many of the search, 1..=1,000,000,000.
+    /// So many of the search, 1..=`MAX_ASKED_STEPS`.
     Search(u32),
     /// Of the search, until so many are made, 0..=2^60.
     Reach(u64),
-    /// So many of annealing, 1..=1,000,000,000.
+    /// So many of annealing, 1..=`MAX_ASKED_STEPS`.
     Anneal(u32),
-    /// So many of tries of fewer vehicles, 1..=1,000,000,000.
+    /// So many of tries of fewer vehicles, 1..=`MAX_ASKED_STEPS`.
     Reduce(u32),
     /// Of annealing by stages, from one number to before another: the first is not above the second, this one 0..=2^60.
     Stages { from: u64, to: u64 },
@@ -55,7 +55,7 @@ pub enum Steps {
 /// # Errors
 ///
 /// `NoInstance` before the first `load`; `StepsSpent` where `search N`, `anneal N` or `reduce N` would lead above 2^60 steps;
-/// `Range` where more than 1,000,000,000 are lacking for `reach N` or `anneal FROM TO`, or the state has not made FROM; `NoTimes` for
+/// `Range` where more than `MAX_ASKED_STEPS` are lacking for `reach N` or `anneal FROM TO`, or the state has not made FROM; `NoTimes` for
 /// `freeze T` of an instance without times.
 pub fn steps_to_make(state: &State, goal: Goal) -> Result<Steps, Refusal>
     ensures { result ≡ steps_to_make state.now goal }
@@ -93,7 +93,7 @@ fn unless_spent(job: &Job, count: u32, steps: Steps) -> Result<Steps, Refusal>
 fn steps_to_reach(job: &Job, number: u64) -> Result<Steps, Refusal>
     ensures { result ≡ steps_to_reach job.now number }
 {
-    if number <= job.steps + MAX_SEARCH {
+    if number <= job.steps + MAX_ASKED_STEPS {
         Ok(Steps::Search(number.saturating_sub(job.steps) as u32))
     } else {
         Err(Refusal::Range)
@@ -103,7 +103,7 @@ fn steps_to_reach(job: &Job, number: u64) -> Result<Steps, Refusal>
 fn stages_to_go(job: &Job, from: u64, to: u64) -> Result<Steps, Refusal>
     ensures { result ≡ stages_to_go job.now from to }
 {
-    if from <= job.steps && to <= job.steps + MAX_SEARCH {
+    if from <= job.steps && to <= job.steps + MAX_ASKED_STEPS {
         Ok(Steps::Stages { from, to })
     } else {
         Err(Refusal::Range)

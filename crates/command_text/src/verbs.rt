@@ -2,13 +2,13 @@
 ghost use Rattle.std.specs.Prelude.{◌≡◌, bytes_eq, map};
 ghost use Rattle.command_text.specs.Asking.{add1_of, add_of, anneal_of, bare_asked, count_of, double_asked, freeze_of, kind_named, pin_of, plain_or, reach_of, reduce_of, search_of, single_asked, spot_asked, spot_of, spots_asked, stages_of, steps_or, verb_among, verb_named};
 
-use crate::asked::{Asked, MAX_SEARCH};
+use crate::asked::Asked;
 use crate::fields::Field;
 use crate::questions::Question;
 use crate::steps::Goal;
 use command_core::{Command, MAX_STEPS, Refusal, Spot};
 use plan_types::Kind;
-use plan_types::limits::MAX_TIME;
+use plan_types::limits::{MAX_ASKED_STEPS, MAX_TIME};
 
 /// What the first word of a line names.
 #[derive(Clone, Copy)]
@@ -298,7 +298,7 @@ fn count_of(steps: Option<u64>) -> Option<u32>
     ensures { result ≡ count_of steps }
 {
     match steps {
-        Some(steps) if 1 <= steps && steps <= MAX_SEARCH => Some(steps as u32),
+        Some(steps) if 1 <= steps && steps <= MAX_ASKED_STEPS => Some(steps as u32),
         _ => None,
     }
 }

@@ -50,7 +50,7 @@ use Rattle.move_ops.proofs.Times.{none_here, one_here, times}
 use Rattle.anneal_search.specs.Sorting.{put, put_all}
 use Rattle.anneal_search.proofs.SortLemmas.{all_put_all, length_put_all}
 use Rattle.fleet_tries.specs.Fleets.{free_vehicles, has_some, is_kept, is_longer, kept, marked, picked, put_back}
-use Rattle.fleet_tries.specs.Laws.{ArePinsOf}
+use Rattle.fleet_tries.specs.Laws.{ArePinsOf, KeptAreCrews}
 use Rattle.fleet_tries.proofs.PickedLemmas.{marked_more}
 
 abbrev Test : Type 0
@@ -249,6 +249,9 @@ module _ (pins routes : List (List ℕ)) (long : length pins ≡ length routes) 
           let c = length-filter free vehicles in
           let d : length (free_vehicles pins routes) ≡ 0 + length (filter free vehicles) = length_put_all (is_longer routes) [] (filter free vehicles) in
           by_first (free_vehicles pins routes) refl (omega (arith, a, b, c, d, with_pins, e, used)) (omega (arith, e, some))
+
+pub kept_are_crews : KeptAreCrews
+kept_are_crews pins routes count long room = record { own = kept_own pins routes long count; few = kept_few pins routes long count room }
 
 -- ---- vehicle by vehicle
 range_next : (n i : ℕ) → i < n → range_with_len (i + 1) (n - i) ≡ (i + 1) ∷ range_with_len (i + 1 + 1) (n - (i + 1))

@@ -6,7 +6,7 @@ use Rattle.plan_types.specs.Limits.{IsFleet}
 use Rattle.route_sched.specs.Cost.{cost_of, used_count}
 use Rattle.plan_audit.specs.Passes.{passes}
 use Rattle.anneal_search.specs.declared.trying.Tried.{Tried}
-use Rattle.fleet_tries.specs.Fleets.{marked, picked, put_back, with_fleet}
+use Rattle.fleet_tries.specs.Fleets.{kept, marked, picked, put_back, with_fleet}
 use Rattle.fleet_tries.specs.Tries.{Tries, all_tries}
 
 -- law: of a plan that passes the routes of marked vehicles pass in a fleet of just these, with their pins
@@ -17,6 +17,15 @@ PickedPass = (p : Instance) (pins routes : List (List ℕ)) (kept : List Bool) �
 -- no other vehicle has a pin
 abbrev pub ArePinsOf : List Bool → List (List ℕ) → Type 0
 ArePinsOf kept pins = put_back kept (picked kept pins) ≡ pins
+
+-- the vehicles of a try with fewer: no more than so many, and those with a pin among them
+pub record IsSmallCrew (pins : List (List ℕ)) (count : ℕ) (crew : List Bool) : Type 0 where
+  pub own : ArePinsOf crew pins
+  pub few : marked crew ≤ count
+
+-- law: so are those that are kept, where no more have a pin
+abbrev pub KeptAreCrews : Type 0
+KeptAreCrews = (pins routes : List (List ℕ)) (count : ℕ) → length pins ≡ length routes → used_count pins ≤ count → IsSmallCrew pins count (kept pins routes count)
 
 -- law: a plan of the marked vehicles, put back at their numbers, passes with the pins, where no other vehicle has one
 abbrev pub PutBackPass : Type 0

@@ -1,5 +1,5 @@
 //! What passes of some of the vehicles, and what tries keep: for every problem, plan and pins.
-ghost use Rattle.fleet_tries.specs.Laws.{PickedPass, PutBackPass, PutBackUseFewer, TriesKeepPlans, TriesNeverCostMore};
+ghost use Rattle.fleet_tries.specs.Laws.{KeptAreCrews, PickedPass, PutBackPass, PutBackUseFewer, TriesKeepPlans, TriesNeverCostMore};
 
 use anneal_search::tries_keep_passing;
 use plan_audit::feasibility_is_local;
@@ -14,6 +14,11 @@ pub fn picked_pass()
 {
     feasibility_is_local();
 }
+
+/// The vehicles that are kept for a try are no more than asked for, and those with a pin are among them, where no more have one.
+pub fn kept_are_crews()
+    ensures { KeptAreCrews }
+{}
 
 /// Tries from a plan that passes lead to one that passes, within their steps.
 pub fn tries_keep_plans()

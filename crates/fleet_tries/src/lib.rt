@@ -17,6 +17,7 @@
 //! - `try_fleets` gives the plan of the definition's tries, and the number of the step behind their last;
 //! - `picked_pass`: of a plan that passes, the routes of some vehicles pass in a fleet of just these; a plan of these, put
 //!   back at their numbers, passes with the pins, and uses no more vehicles;
+//! - `kept_are_crews`: the vehicles of a try with fewer are no more than asked for, and have all pins;
 //! - `tries_keep_plans`: tries from a plan that passes lead to one that passes, within their steps;
 //! - `tries_never_cost_more`: the plan of tries never costs more.
 #![tactic(auto)]
@@ -26,5 +27,5 @@ mod fleets;
 mod laws;
 mod tries;
 
-pub use laws::{picked_pass, tries_keep_plans, tries_never_cost_more};
+pub use laws::{kept_are_crews, picked_pass, tries_keep_plans, tries_never_cost_more};
 pub use tries::try_fleets;

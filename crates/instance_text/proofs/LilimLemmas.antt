@@ -28,7 +28,7 @@ use Rattle.instance_read.proofs.WalkLemmas.{step_none}
 use Rattle.instance_text.specs.Formats.{is_pair, is_said}
 use Rattle.instance_text.specs.ReadBack.{last_number as last_stop, last_of, read_by}
 use Rattle.instance_text.specs.Texts.{header_line, lilim_lines, lines_text, named_delivery, named_pickup, row_line, row_of, stops_behind}
-use Rattle.instance_text.specs.declared.stops.Row.TheVariants as row
+use Rattle.instance_text.specs.declared.stops.StopLine.TheVariants as row
 use Rattle.instance_text.proofs.LineLemmas.{AreSmall, AreWithin, IsShown, Printable, all_numbers, field_read, lines_read, none_beyond, numbered, numbers_printable, numbers_shown}
 use Rattle.instance_text.proofs.LineLemmas.{rows_numbered, value_read, words_read}
 use Rattle.instance_text.proofs.LookupLemmas.{Place, place_at}

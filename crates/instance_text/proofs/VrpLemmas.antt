@@ -34,7 +34,7 @@ use Rattle.instance_text.specs.Formats.{are_customers, is_open, is_said}
 use Rattle.instance_text.specs.ReadBack.{read_by}
 use Rattle.instance_text.specs.Texts.{end_lines, head_lines, heading_text, lines_text, numbers_text, row_line, row_of, visits, vrp_lines}
 use Rattle.instance_text.specs.declared.lines.Heading.TheVariants as heading
-use Rattle.instance_text.specs.declared.stops.Row.TheVariants as row
+use Rattle.instance_text.specs.declared.stops.StopLine.TheVariants as row
 use Rattle.instance_text.proofs.CustomerLemmas.{AreNumbered, customers_counted, customers_few, customers_listed, customers_made, customers_numbered, customers_open, customers_valid}
 use Rattle.instance_text.proofs.HeadLemmas.{Head, has_capacity, has_coordinates, has_dimension, has_weights, head, head_capacity, head_clean, head_leads, head_nodes, head_rows, no_demands, no_depots}
 use Rattle.instance_text.proofs.KeyLemmas.{capacity_key, capacity_row, capacity_words, coordinates_key, coordinates_row, demands_key, demands_row, depots_key, depots_row, dimension_key}

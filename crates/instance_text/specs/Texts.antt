@@ -9,8 +9,8 @@ use Rattle.plan_types.specs.declared.requests.Kind.TheVariants.{LiLim, Vrp}
 use Rattle.plan_types.specs.declared.requests.Stop.{Stop}
 use Rattle.instance_text.specs.declared.lines.Heading.{Heading}
 use Rattle.instance_text.specs.declared.lines.Heading.TheVariants.{Name, ProblemType, Dimension, Weights, Capacity, Coordinates, Demands, Depots, End}
-use Rattle.instance_text.specs.declared.stops.Row.{Row}
-use Rattle.instance_text.specs.declared.stops.Row.TheVariants.{Task, Node, Demand}
+use Rattle.instance_text.specs.declared.stops.StopLine.{StopLine}
+use Rattle.instance_text.specs.declared.stops.StopLine.TheVariants.{Task, Node, Demand}
 
 -- numbers, each but the first behind a blank
 unfoldable pub numbers_text : List ℤ → List ℕ
@@ -39,14 +39,14 @@ named_delivery p n = if is_some (pickup_at p n) then 0 else unwrap_or (partner_a
 
 -- What a line has of a stop. A task: its number, place, demand, window and service, and the pickup and the delivery that go
 -- with it. A node counts from 1.
-abbrev pub row_of : Instance → Row → Stop → List ℤ
+abbrev pub row_of : Instance → StopLine → Stop → List ℤ
 row_of p Task s =
     pos s.number ∷ s.x ∷ s.y ∷ s.demand ∷ pos s.earliest ∷ pos s.latest ∷ pos s.service
     ∷ pos (named_pickup p s.number) ∷ pos (named_delivery p s.number) ∷ []
 row_of p Node s = pos (s.number + 1) ∷ s.x ∷ s.y ∷ []
 row_of p Demand s = pos (s.number + 1) ∷ s.demand ∷ []
 
-abbrev pub row_line : Instance → Row → Stop → List ℕ
+abbrev pub row_line : Instance → StopLine → Stop → List ℕ
 row_line p row s = numbers_text (row_of p row s)
 
 -- ---- Li and Lim's format
@@ -80,7 +80,7 @@ head_lines p =
     ∷ heading_text Weights ∷ keyed_line Capacity p.capacity ∷ []
 
 -- a section with a line for each stop
-abbrev pub section_lines : Instance → Heading → Row → List (List ℕ)
+abbrev pub section_lines : Instance → Heading → StopLine → List (List ℕ)
 section_lines p heading row = heading_text heading ∷ map (row_line p row) (visits p)
 
 -- the list of depots is node 1, and ends with -1

@@ -11,7 +11,7 @@ use std::alloc::AllocError;
 
 /// What a line has of a stop.
 #[derive(Clone, Copy)]
-pub(crate) enum Row {
+pub(crate) enum StopLine {
     /// All of it, in Li and Lim's format.
     Task,
     /// Its place, in CVRPLIB's.
@@ -20,7 +20,11 @@ pub(crate) enum Row {
 }
 
 /// A line for the depot, and then one for each stop of a request.
-pub(crate) fn put_visits(text: &mut Vec<u8>, problem: &Problem, row: Row) -> Result<(), AllocError>
+pub(crate) fn put_visits(
+    text: &mut Vec<u8>,
+    problem: &Problem,
+    row: StopLine,
+) -> Result<(), AllocError>
     ensures { OnOk result (text.new.items
         ≡ text.old.items ++ lines_text (map (row_line problem.now row) (visits problem.now))) }
 {
@@ -28,7 +32,7 @@ pub(crate) fn put_visits(text: &mut Vec<u8>, problem: &Problem, row: Row) -> Res
     put_stops(text, problem, row)
 }
 
-fn put_stops(text: &mut Vec<u8>, problem: &Problem, row: Row) -> Result<(), AllocError>
+fn put_stops(text: &mut Vec<u8>, problem: &Problem, row: StopLine) -> Result<(), AllocError>
     ensures { OnOk result (text.new.items ≡ text.old.items
         ++ lines_text (map (row_line problem.now row)
         (stops_behind problem.now 1 (problem.now.next_number - 1)))) }
@@ -43,7 +47,7 @@ fn put_stops(text: &mut Vec<u8>, problem: &Problem, row: Row) -> Result<(), Allo
 fn put_numbered(
     text: &mut Vec<u8>,
     problem: &Problem,
-    row: Row,
+    row: StopLine,
     number: u32,
 ) -> Result<(), AllocError>
     ensures { OnOk result (text.new.items ≡ text.old.items
@@ -55,14 +59,19 @@ fn put_numbered(
     }
 }
 
-fn put_stop(text: &mut Vec<u8>, problem: &Problem, row: Row, stop: &Stop) -> Result<(), AllocError>
+fn put_stop(
+    text: &mut Vec<u8>,
+    problem: &Problem,
+    row: StopLine,
+    stop: &Stop,
+) -> Result<(), AllocError>
     requires { stop.now.number ≤ 40000 }
     ensures { OnOk result (text.new.items
         ≡ text.old.items ++ ended (row_line problem.now row stop.now)) }
 {
     match row {
-        Row::Task => put_task(text, problem, stop),
-        Row::Node => put_line(
+        StopLine::Task => put_task(text, problem, stop),
+        StopLine::Node => put_line(
             text,
             &[
                 i64::from(stop.number + 1),
@@ -70,13 +79,13 @@ fn put_stop(text: &mut Vec<u8>, problem: &Problem, row: Row, stop: &Stop) -> Res
                 i64::from(stop.y),
             ],
         ),
-        Row::Demand => put_line(text, &[i64::from(stop.number + 1), i64::from(stop.demand)]),
+        StopLine::Demand => put_line(text, &[i64::from(stop.number + 1), i64::from(stop.demand)]),
     }
 }
 
 fn put_task(text: &mut Vec<u8>, problem: &Problem, stop: &Stop) -> Result<(), AllocError>
     ensures { OnOk result (text.new.items
-        ≡ text.old.items ++ ended (row_line problem.now Row.Task stop.now)) }
+        ≡ text.old.items ++ ended (row_line problem.now StopLine.Task stop.now)) }
 {
     put_line(
         text,

@@ -10,7 +10,7 @@ use crate::faults::WriteFault;
 use crate::formats::has_format;
 use crate::laws::texts_are_read_back;
 use crate::lines::{Heading, put_heading, put_keyed, put_line};
-use crate::stops::{Row, put_visits};
+use crate::stops::{StopLine, put_visits};
 use plan_types::{Kind, Problem};
 use std::alloc::{AllocError, Global};
 
@@ -53,7 +53,7 @@ fn write_lilim(alloc: Global, problem: &Problem) -> Result<Vec<u8>, AllocError>
         &mut text,
         &[i64::from(problem.fleet), i64::from(problem.capacity), 1],
     )?;
-    put_visits(&mut text, problem, Row::Task)?;
+    put_visits(&mut text, problem, StopLine::Task)?;
     Ok(text)
 }
 
@@ -62,8 +62,8 @@ fn write_vrp(alloc: Global, problem: &Problem) -> Result<Vec<u8>, AllocError>
 {
     let mut text = Vec::new(alloc);
     put_head(&mut text, problem)?;
-    put_section(&mut text, problem, Heading::Coordinates, Row::Node)?;
-    put_section(&mut text, problem, Heading::Demands, Row::Demand)?;
+    put_section(&mut text, problem, Heading::Coordinates, StopLine::Node)?;
+    put_section(&mut text, problem, Heading::Demands, StopLine::Demand)?;
     put_end(&mut text)?;
     Ok(text)
 }
@@ -83,7 +83,7 @@ fn put_section(
     text: &mut Vec<u8>,
     problem: &Problem,
     heading: Heading,
-    row: Row,
+    row: StopLine,
 ) -> Result<(), AllocError>
     ensures { OnOk result (text.new.items
         ≡ text.old.items ++ lines_text (section_lines problem.now heading row)) }

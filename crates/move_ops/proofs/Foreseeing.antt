@@ -27,7 +27,7 @@ use Rattle.move_ops.specs.Foreseen.{IsCostIfMade}
 use Rattle.move_ops.specs.Ways.{ways_over, way_across, IsCutOf, IsMoved, IsSeatOf}
 use Rattle.move_ops.specs.Insertion.{request_named, of_vehicle, passing, with_route}
 use Rattle.move_ops.specs.Moves.{counterpart, are_exchangeable, exchange_of, exchanged, is_cut, joined, with_ends_exchanged, crossed}
-use Rattle.move_ops.specs.declared.draft.foreseeing.Seat.{Seat}
+use Rattle.move_ops.specs.declared.draft.foreseeing.SinglePlace.{SinglePlace}
 use Rattle.move_ops.specs.declared.draft.rearranging.Cut.{Cut}
 use Rattle.move_ops.proofs.Costs.{same_cost, unplanned_same}
 use Rattle.move_ops.proofs.Crossing.{same_times}
@@ -117,7 +117,7 @@ some_in : (routes : List (List ℕ)) (v n : ℕ) → 1 ≤ times n (of_vehicle r
 some_in routes zero n some = absurd (let h : 1 ≤ 0 = some in omega arith)
 some_in routes (suc u) n some = (omega arith, let h = some_there routes u n some in omega arith)
 
-abbrev pub seat_at : Stop → ℕ → ℕ → Seat
+abbrev pub seat_at : Stop → ℕ → ℕ → SinglePlace
 seat_at s v k = record { stop = s; vehicle = v; index = k }
 
 pub seat_is : (p : Instance) (routes : List (List ℕ)) (name : ℕ) (s : Stop) (v k : ℕ) → IsInstance p
@@ -154,7 +154,7 @@ both_have n routes v w v_from v_within w_from w_within apart =
 
 -- ---- an exchange
 module _ (found : NamedAreFound) (by_name : RequestsStandByName) (local : PassesAreLocal) (p : Instance) (pins : List (List ℕ))
-    (d : Drafted) (is : IsDraftOf p pins d) (a b : ℕ) (one other : Seat)
+    (d : Drafted) (is : IsDraftOf p pins d) (a b : ℕ) (one other : SinglePlace)
     (is_one : IsSeatOf p (draft_of d) a one) (is_other : IsSeatOf p (draft_of d) b other) (apart : one.vehicle ≡ other.vehicle → ⊥) where
   abbrev x : ℕ
   x = one.stop.number

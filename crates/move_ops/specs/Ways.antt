@@ -8,18 +8,18 @@ use Rattle.plan_types.specs.declared.requests.Stop.{Stop}
 use Rattle.plan_types.specs.declared.requests.Request.TheVariants.{Single}
 use Rattle.route_sched.specs.Route.{place}
 use Rattle.move_ops.specs.Insertion.{request_named, of_vehicle}
-use Rattle.move_ops.specs.declared.draft.foreseeing.Seat.{Seat}
+use Rattle.move_ops.specs.declared.draft.foreseeing.SinglePlace.{SinglePlace}
 use Rattle.move_ops.specs.declared.draft.rearranging.Cut.{Cut}
 use Rattle.move_ops.specs.declared.draft.rearranging.Cuts.{Cuts}
 
 -- the vehicle has a route with so many stops and more
-pub record IsSeat (routes : List (List ℕ)) (s : Seat) : Type 0 where
+pub record IsSeat (routes : List (List ℕ)) (s : SinglePlace) : Type 0 where
   pub from : 1 ≤ s.vehicle
   pub within : s.vehicle ≤ length routes
   pub index : s.index < length (of_vehicle routes s.vehicle)
 
 -- the single of this name stands there
-pub record IsSeatOf (p : Instance) (routes : List (List ℕ)) (name : ℕ) (s : Seat) : Type 0 where
+pub record IsSeatOf (p : Instance) (routes : List (List ℕ)) (name : ℕ) (s : SinglePlace) : Type 0 where
   pub named : request_named p name ≡ Some (Single s.stop)
   pub visit : IsVisit s.stop
   pub seat : IsSeat routes s

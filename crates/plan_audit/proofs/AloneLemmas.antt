@@ -10,7 +10,7 @@ use Rattle.plan_audit.specs.Rules.{item_at, IsRepeated, IsMissing, IsSplit, IsDe
 use Rattle.plan_audit.specs.Finding.{first_place, first_route, told_by, missing_at, delivered_at, visit_told, is_overloaded, is_late, return_told}
 use Rattle.plan_audit.specs.Verdict.{rule_number, Breaks, KeepsRules}
 use Rattle.plan_audit.specs.Alone.{alone, IsLeastAlone}
-use Rattle.plan_audit.specs.declared.faults.Told.{Told}
+use Rattle.plan_audit.specs.declared.faults.PlaceFault.{PlaceFault}
 use Rattle.plan_audit.specs.declared.faults.Fault.{Fault}
 use Rattle.plan_audit.specs.declared.rules.Rule.{Rule}
 use Rattle.plan_audit.specs.declared.rules.Rule.TheVariants.{Missing, SplitPair, DeliveryFirst, Load, Late, LateReturn}
@@ -52,11 +52,11 @@ distinct_places (m ∷ ns) (suc j) zero n once a b = absurd (eqb-false m n (item
 distinct_places (m ∷ ns) (suc j) (suc i) n once a b = let e = distinct_places ns j i n once.1 a b in omega arith
 
 -- what is told of the only route
-one_none : (test : ℕ → List ℕ → Option Told) (route : List ℕ) (o : Option Told) → o ≡ test 0 route → is_some o ≡ false → first_route test 0 (route ∷ []) ≡ None
+one_none : (test : ℕ → List ℕ → Option PlaceFault) (route : List ℕ) (o : Option PlaceFault) → o ≡ test 0 route → is_some o ≡ false → first_route test 0 (route ∷ []) ≡ None
 one_none test route None is none = rw (sym is) refl
 one_none test route (Some t) is none = absurd (let h : true ≡ false = none in cc)
 
-one_some : (test : ℕ → List ℕ → Option Told) (route : List ℕ) (o : Option Told) → o ≡ test 0 route → is_some o ≡ true
+one_some : (test : ℕ → List ℕ → Option PlaceFault) (route : List ℕ) (o : Option PlaceFault) → o ≡ test 0 route → is_some o ≡ true
     → (f : Fault) × (first_route test 0 (route ∷ []) ≡ Some f)
 one_some test route None is some = absurd (let h : false ≡ true = some in cc)
 one_some test route (Some t) is some = (record { route = 0; place = t.place; stop = t.stop }, rw (sym is) refl)
@@ -83,19 +83,19 @@ module _ (p : Instance) (route : List ℕ) (live : AreLiveOnce p route) where
   whole : (r i n : ℕ) → IsSplit p (route ∷ []) r i n → ⊥
   whole r i n b = not_split p route r i n b
 
-  abbrev pub Alone-missing : Option Told → Type 0
+  abbrev pub Alone-missing : Option PlaceFault → Type 0
   Alone-missing o = o ≡ first_place (λ _ n. missing_at p (route ∷ []) n) 0 route
 
-  abbrev pub Alone-delivered : Option Told → Type 0
+  abbrev pub Alone-delivered : Option PlaceFault → Type 0
   Alone-delivered o = o ≡ first_place (delivered_at p (route ∷ [])) 0 route
 
-  abbrev pub Alone-loaded : Option Told → Type 0
+  abbrev pub Alone-loaded : Option PlaceFault → Type 0
   Alone-loaded o = o ≡ first_place (visit_told p (is_overloaded p) route) 0 route
 
-  abbrev pub Alone-late : Option Told → Type 0
+  abbrev pub Alone-late : Option PlaceFault → Type 0
   Alone-late o = o ≡ first_place (visit_told p is_late route) 0 route
 
-  abbrev pub Alone-returned : Option Told → Type 0
+  abbrev pub Alone-returned : Option PlaceFault → Type 0
   Alone-returned o = o ≡ return_told p route
 
   -- the least rule is broken where something is told
@@ -103,7 +103,7 @@ module _ (p : Instance) (route : List ℕ) (live : AreLiveOnce p route) where
       → IsLeastOf (Breaks p (alone route) k) (suc f.route) (suc f.place) f.stop → IsLeastAlone p route k
   least_alone k f from to kept one = (suc f.route, suc f.place, f.stop, least_broken p (alone route) 3 8 k (suc f.route) (suc f.place) f.stop from to kept one)
 
-  after_missing : (o : Option Told) → Alone-missing o → is_some o ≡ false → KeepsBelow 3 5 p (alone route)
+  after_missing : (o : Option PlaceFault) → Alone-missing o → is_some o ≡ false → KeepsBelow 3 5 p (alone route)
   after_missing o is none =
       keeps_more p (alone route) 3 SplitPair
       (keeps_more p (alone route) 3 Missing (keeps_none p (alone route) 3)
@@ -111,33 +111,33 @@ module _ (p : Instance) (route : List ℕ) (live : AreLiveOnce p route) where
       (one_none (told_by (λ _ _ _ n. missing_at p (route ∷ []) n)) route o is none)))
       whole
 
-  pub missing_fault : (o : Option Told) → Alone-missing o → is_some o ≡ true → IsLeastAlone p route Missing
+  pub missing_fault : (o : Option PlaceFault) → Alone-missing o → is_some o ≡ true → IsLeastAlone p route Missing
   missing_fault o is some =
       let f = one_some (told_by (λ _ _ _ n. missing_at p (route ∷ []) n)) route o is some in
       least_alone Missing f.0 (omega arith) (omega arith) (keeps_none p (alone route) 3)
       (rule_found (IsMissing p (route ∷ [])) _ (route ∷ []) (missing_rule p (route ∷ [])) f.0 f.1)
 
-  module _ (m : Option Told) (m_is : Alone-missing m) (m_no : is_some m ≡ false) where
-    pub delivered_fault : (o : Option Told) → Alone-delivered o → is_some o ≡ true → IsLeastAlone p route DeliveryFirst
+  module _ (m : Option PlaceFault) (m_is : Alone-missing m) (m_no : is_some m ≡ false) where
+    pub delivered_fault : (o : Option PlaceFault) → Alone-delivered o → is_some o ≡ true → IsLeastAlone p route DeliveryFirst
     delivered_fault o is some =
         let f = one_some (told_by (λ _ _ i n. delivered_at p (route ∷ []) i n)) route o is some in
         least_alone DeliveryFirst f.0 (omega arith) (omega arith) (after_missing m m_is m_no)
         (rule_found (IsDeliveredFirst p (route ∷ [])) _ (route ∷ []) (delivered_rule p (route ∷ []) once whole) f.0 f.1)
 
-    module _ (d : Option Told) (d_is : Alone-delivered d) (d_no : is_some d ≡ false) where
+    module _ (d : Option PlaceFault) (d_is : Alone-delivered d) (d_no : is_some d ≡ false) where
       after_delivered : KeepsBelow 3 6 p (alone route)
       after_delivered =
           keeps_more p (alone route) 3 DeliveryFirst (after_missing m m_is m_no)
           (rule_nothing (IsDeliveredFirst p (route ∷ [])) _ (route ∷ []) (delivered_rule p (route ∷ []) once whole)
           (one_none (told_by (λ _ _ i n. delivered_at p (route ∷ []) i n)) route d d_is d_no))
 
-      pub load_fault : (o : Option Told) → Alone-loaded o → is_some o ≡ true → IsLeastAlone p route Load
+      pub load_fault : (o : Option PlaceFault) → Alone-loaded o → is_some o ≡ true → IsLeastAlone p route Load
       load_fault o is some =
           let f = one_some (told_by (λ _ route i n. visit_told p (is_overloaded p) route i n)) route o is some in
           least_alone Load f.0 (omega arith) (omega arith) after_delivered
           (rule_found (IsOverloaded p (route ∷ [])) _ (route ∷ []) (load_rule p (route ∷ [])) f.0 f.1)
 
-      module _ (l : Option Told) (l_is : Alone-loaded l) (l_no : is_some l ≡ false) where
+      module _ (l : Option PlaceFault) (l_is : Alone-loaded l) (l_no : is_some l ≡ false) where
         after_load : KeepsBelow 3 7 p (alone route)
         after_load =
             keeps_more p (alone route) 3 Load after_delivered
@@ -155,25 +155,25 @@ module _ (p : Instance) (route : List ℕ) (live : AreLiveOnce p route) where
             no_windows e = let h : Vrp ≡ LiLim = sym kind ∙ e in cc
 
         module _ (kind : p.kind ≡ LiLim) where
-          pub late_fault : (o : Option Told) → Alone-late o → is_some o ≡ true → IsLeastAlone p route Late
+          pub late_fault : (o : Option PlaceFault) → Alone-late o → is_some o ≡ true → IsLeastAlone p route Late
           late_fault o is some =
               let f = one_some (told_by (λ _ route i n. visit_told p is_late route i n)) route o is some in
               least_alone Late f.0 (omega arith) (omega arith) after_load
               (rule_found (IsLate p (route ∷ [])) _ (route ∷ []) (late_rule p (route ∷ []) kind) f.0 f.1)
 
-          module _ (t : Option Told) (t_is : Alone-late t) (t_no : is_some t ≡ false) where
+          module _ (t : Option PlaceFault) (t_is : Alone-late t) (t_no : is_some t ≡ false) where
             after_late : KeepsBelow 3 8 p (alone route)
             after_late =
                 keeps_more p (alone route) 3 Late after_load
                 (rule_nothing (IsLate p (route ∷ [])) _ (route ∷ []) (late_rule p (route ∷ []) kind)
                 (one_none (told_by (λ _ route i n. visit_told p is_late route i n)) route t t_is t_no))
 
-            pub return_fault : (o : Option Told) → Alone-returned o → is_some o ≡ true → IsLeastAlone p route LateReturn
+            pub return_fault : (o : Option PlaceFault) → Alone-returned o → is_some o ≡ true → IsLeastAlone p route LateReturn
             return_fault o is some =
                 let f = one_some (λ _ route. return_told p route) route o is some in
                 least_alone LateReturn f.0 (omega arith) (omega arith) after_late (late_return_found p (route ∷ []) kind f.0 f.1)
 
-            pub timed_alone : (o : Option Told) → Alone-returned o → is_some o ≡ false → KeepsRules 3 8 p (alone route)
+            pub timed_alone : (o : Option PlaceFault) → Alone-returned o → is_some o ≡ false → KeepsRules 3 8 p (alone route)
             timed_alone o is none =
                 keeps_rules p (alone route) 3 8
                 (keeps_more p (alone route) 3 LateReturn after_late

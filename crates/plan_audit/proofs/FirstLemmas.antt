@@ -4,7 +4,7 @@ use Rattle.std.specs.Option.{option_map, option_or}
 use Rattle.std.proofs.lemmas.Option.{same_Some}
 use Rattle.plan_types.proofs.LookupLemmas.{option_or-map}
 use Rattle.plan_audit.specs.Finding.{first_place, first_route}
-use Rattle.plan_audit.specs.declared.faults.Told.{Told}
+use Rattle.plan_audit.specs.declared.faults.PlaceFault.{PlaceFault}
 use Rattle.plan_audit.specs.declared.faults.Fault.{Fault}
 
 pub none_some : {X : Type 0} (x : X) → None ≡ Some x → ⊥
@@ -95,10 +95,10 @@ pub map-map : {X Y Z : Type 0} (f : X → Y) (g : Y → Z) (o : Option X) → op
 map-map f g None = refl
 map-map f g (Some x) = refl
 
-told_of : ℕ × ℕ → Told
+told_of : ℕ × ℕ → PlaceFault
 told_of a = record { place = a.0; stop = a.1 }
 
-fault_of : ℕ × Told → Fault
+fault_of : ℕ × PlaceFault → Fault
 fault_of a = record { route = a.0; place = a.1.place; stop = a.1.stop }
 
 place_is : (test : ℕ → ℕ → Option ℕ) (k : ℕ) (ns : List ℕ) → first_place test k ns ≡ option_map told_of (first_answer test k ns)
@@ -106,10 +106,10 @@ unfolding first_answer told_of
 place_is test k [] = refl
 place_is test k (n ∷ ns) =
     ap (option_or (option_map (λ s. record { place = k; stop = s }) (test k n))) (place_is test (k + 1) ns)
-    ∙ ap (λ (o : Option Told). option_or o (option_map told_of (first_answer test (k + 1) ns))) (sym (map-map (λ s. (k, s)) told_of (test k n)))
+    ∙ ap (λ (o : Option PlaceFault). option_or o (option_map told_of (first_answer test (k + 1) ns))) (sym (map-map (λ s. (k, s)) told_of (test k n)))
     ∙ option_or-map told_of (option_map (λ s. (k, s)) (test k n)) (first_answer test (k + 1) ns)
 
-route_is : (test : ℕ → List ℕ → Option Told) (k : ℕ) (rs : List (List ℕ)) → first_route test k rs ≡ option_map fault_of (first_answer test k rs)
+route_is : (test : ℕ → List ℕ → Option PlaceFault) (k : ℕ) (rs : List (List ℕ)) → first_route test k rs ≡ option_map fault_of (first_answer test k rs)
 unfolding first_answer fault_of
 route_is test k [] = refl
 route_is test k (r ∷ rs) =
@@ -118,18 +118,18 @@ route_is test k (r ∷ rs) =
     ∙ option_or-map fault_of (option_map (λ t. (k, t)) (test k r)) (first_answer test (k + 1) rs)
 
 -- where the first answer about a route is
-pub fault_found : (test : ℕ → List ℕ → Option Told) (rs : List (List ℕ)) (f : Fault) → first_route test 0 rs ≡ Some f
+pub fault_found : (test : ℕ → List ℕ → Option PlaceFault) (rs : List (List ℕ)) (f : Fault) → first_route test 0 rs ≡ Some f
     → IsFirst test 0 rs (f.route, record { place = f.place; stop = f.stop })
 unfolding fault_of
 fault_found test rs f is = by (first_answer test 0 rs) refl
   where
-    by : (o : Option (ℕ × Told)) → first_answer test 0 rs ≡ o → IsFirst test 0 rs (f.route, record { place = f.place; stop = f.stop })
+    by : (o : Option (ℕ × PlaceFault)) → first_answer test 0 rs ≡ o → IsFirst test 0 rs (f.route, record { place = f.place; stop = f.stop })
     by None e = absurd (none_some f (sym (route_is test 0 rs ∙ ap (option_map fault_of) e) ∙ is))
     by (Some a) e =
         let same : fault_of a ≡ f = same_Some _ _ (sym (route_is test 0 rs ∙ ap (option_map fault_of) e) ∙ is) in
         subst (λ (f : Fault). IsFirst test 0 rs (f.route, record { place = f.place; stop = f.stop })) same (first_found test 0 rs a e)
 
-pub told_found : (test : ℕ → ℕ → Option ℕ) (ns : List ℕ) (t : Told) → first_place test 0 ns ≡ Some t → IsFirst test 0 ns (t.place, t.stop)
+pub told_found : (test : ℕ → ℕ → Option ℕ) (ns : List ℕ) (t : PlaceFault) → first_place test 0 ns ≡ Some t → IsFirst test 0 ns (t.place, t.stop)
 unfolding told_of
 told_found test ns t is = by (first_answer test 0 ns) refl
   where
@@ -137,7 +137,7 @@ told_found test ns t is = by (first_answer test 0 ns) refl
     by None e = absurd (none_some t (sym (place_is test 0 ns ∙ ap (option_map told_of) e) ∙ is))
     by (Some a) e =
         let same : told_of a ≡ t = same_Some _ _ (sym (place_is test 0 ns ∙ ap (option_map told_of) e) ∙ is) in
-        subst (λ (t : Told). IsFirst test 0 ns (t.place, t.stop)) same (first_found test 0 ns a e)
+        subst (λ (t : PlaceFault). IsFirst test 0 ns (t.place, t.stop)) same (first_found test 0 ns a e)
 
 pub map-none : {X Y : Type 0} (g : X → Y) (o : Option X) → option_map g o ≡ None → o ≡ None
 map-none g None h = refl
@@ -146,7 +146,7 @@ map-none g (Some x) h = absurd (none_some _ (sym h))
 zero-plus : (j : ℕ) → j ≡ 0 + j
 zero-plus j = omega arith
 
-pub fault_nothing : (test : ℕ → List ℕ → Option Told) (rs : List (List ℕ)) → first_route test 0 rs ≡ None → (j : ℕ) (r : List ℕ) → slice_get rs j ≡ Some r
+pub fault_nothing : (test : ℕ → List ℕ → Option PlaceFault) (rs : List (List ℕ)) → first_route test 0 rs ≡ None → (j : ℕ) (r : List ℕ) → slice_get rs j ≡ Some r
     → test j r ≡ None
 unfolding AnswersNothing
 fault_nothing test rs is j r at =

@@ -41,7 +41,7 @@ use Rattle.plan_types.specs.declared.requests.Request.{Request}
 use Rattle.plan_types.specs.declared.requests.Request.TheVariants.{Single, Pair}
 use Rattle.plan_audit.specs.Rules.{Stands, StandsSomewhere, IsEarlier, IsUnknown, IsRepeated, IsMissing, IsSplit, IsDeliveredFirst}
 use Rattle.plan_audit.specs.Finding.{seat_of, unknown_at, repeated_at, missing_at, split_at, delivered_at}
-use Rattle.plan_audit.specs.declared.seats.Seat.{Seat}
+use Rattle.plan_audit.specs.declared.seats.PlanPlace.{PlanPlace}
 use Rattle.plan_audit.proofs.FirstLemmas.{none_some}
 use Rattle.plan_audit.proofs.SeatLemmas.{Sits, seat_of-found, seat_of-none, neither_before}
 use Rattle.plan_audit.proofs.SpotLemmas.{Spot, IsTestOf}
@@ -56,27 +56,27 @@ standing routes (suc r) (suc i) n t = (r, i, refl, refl, t)
 pub nowhere-seat : (routes : List (List ℕ)) (n : ℕ) → seat_of routes n ≡ None → StandsSomewhere routes n → ⊥
 nowhere-seat routes n none t = let s = standing routes t.0 t.1 n t.2 in seat_of-none routes n none s.0 s.1 s.4
 
-abbrev seat_test : ℕ → ℕ → ℕ → Option Seat → Option ℕ
+abbrev seat_test : ℕ → ℕ → ℕ → Option PlanPlace → Option ℕ
 seat_test r i n o = option_and_then (λ s. cond (eqb s.route r && eqb s.place i) None (Some n)) o
 
 abbrev partner_test : List (List ℕ) → Option ℕ → Option ℕ
 partner_test routes o = option_and_then (λ m. cond (is_some (seat_of routes m)) None (Some m)) o
 
-abbrev split_seat : ℕ → ℕ → Option Seat → Option ℕ
+abbrev split_seat : ℕ → ℕ → Option PlanPlace → Option ℕ
 split_seat r n o = option_and_then (λ s. cond (eqb s.route r) None (Some n)) o
 
-abbrev delivered_seat : ℕ → ℕ → Option Seat → Option ℕ
+abbrev delivered_seat : ℕ → ℕ → Option PlanPlace → Option ℕ
 delivered_seat i n o = option_and_then (λ s. cond (nat_lt i s.place) (Some n) None) o
 
 -- what a test of its seat tells of another stop
-seat_told : (routes : List (List ℕ)) (test : Seat → Option ℕ) (other : Option ℕ) (s : ℕ)
+seat_told : (routes : List (List ℕ)) (test : PlanPlace → Option ℕ) (other : Option ℕ) (s : ℕ)
     → option_and_then (λ m. option_and_then test (seat_of routes m)) other ≡ Some s
-    → (m : ℕ) × (u : Seat) × (other ≡ Some m) × Sits routes u.route u.place m × (test u ≡ Some s)
+    → (m : ℕ) × (u : PlanPlace) × (other ≡ Some m) × Sits routes u.route u.place m × (test u ≡ Some s)
 seat_told routes test None s told = absurd (none_some s told)
 seat_told routes test (Some m) s told = by (seat_of routes m) refl told
   where
-    by : (o : Option Seat) → seat_of routes m ≡ o → option_and_then test o ≡ Some s
-        → (k : ℕ) × (u : Seat) × (Some m ≡ Some k) × Sits routes u.route u.place k × (test u ≡ Some s)
+    by : (o : Option PlanPlace) → seat_of routes m ≡ o → option_and_then test o ≡ Some s
+        → (k : ℕ) × (u : PlanPlace) × (Some m ≡ Some k) × Sits routes u.route u.place k × (test u ≡ Some s)
     by None e told = absurd (none_some s told)
     by (Some u) e told = (m, u, refl, (seat_of-found routes m u e).sits, told)
 
@@ -110,7 +110,7 @@ module _ (p : Instance) (routes : List (List ℕ)) where
   pub repeated_rule : IsTestOf (IsRepeated p routes) (λ r _ i n. repeated_at p routes r i n) routes
   repeated_rule = record { to = λ r i s t. to r i s t (seat_of routes t.1) refl; from = from }
     where
-      to : (r i s : ℕ) (t : Spot (λ r _ i n. repeated_at p routes r i n) routes r i s) (o : Option Seat) → seat_of routes (t.1) ≡ o
+      to : (r i s : ℕ) (t : Spot (λ r _ i n. repeated_at p routes r i n) routes r i s) (o : Option PlanPlace) → seat_of routes (t.1) ≡ o
           → IsRepeated p routes (suc r) (suc i) s
       to r i s t None e = absurd (none_some s (let h : seat_test r i t.1 (seat_of routes t.1) ≡ Some s = t.4 in rw e at h))
       to r i s t (Some u) e =
@@ -152,13 +152,13 @@ module _ (p : Instance) (routes : List (List ℕ)) where
           earlier r i q j r' i' q' j' er ei eq ej (inl lt) = inl (omega arith)
           earlier r i q j r' i' q' j' er ei eq ej (inr e) = let a = e.0 in let b = e.1 in inr (omega arith, omega arith)
 
-          told : (o : Option Seat) → seat_of routes s ≡ o → (r i q j : ℕ) → Sits routes q j s → IsEarlier q j r i
+          told : (o : Option PlanPlace) → seat_of routes s ≡ o → (r i q j : ℕ) → Sits routes q j s → IsEarlier q j r i
               → option_and_then (λ t. cond (eqb t.route r && eqb t.place i) None (Some s)) (seat_of routes s) ≡ Some s
           told None e r i q j sits before = absurd (seat_of-none routes s e q j sits)
           told (Some u) e r i q j sits before =
               let first = (seat_of-found routes s u e).least q j sits in
               let away : (eqb u.route r && eqb u.place i) ≡ false = apart (eqb_tells u.route r) (eqb_tells u.place i) first before in
-              ap (λ (o : Option Seat). option_and_then (λ t. cond (eqb t.route r && eqb t.place i) None (Some s)) o) e ∙ ap (λ b. cond b None (Some s)) away
+              ap (λ (o : Option PlanPlace). option_and_then (λ t. cond (eqb t.route r && eqb t.place i) None (Some s)) o) e ∙ ap (λ b. cond b None (Some s)) away
             where
               apart : ((eqb u.route r ≡ true) × (u.route ≡ r)) ⊎ ((eqb u.route r ≡ false) × (u.route ≢ r))
                   → ((eqb u.place i ≡ true) × (u.place ≡ i)) ⊎ ((eqb u.place i ≡ false) × (u.place ≢ i))
@@ -177,7 +177,7 @@ module _ (p : Instance) (routes : List (List ℕ)) where
       to r i s t None e = absurd (none_some s (let h : partner_test routes (partner_at p t.1) ≡ Some s = t.4 in rw e at h))
       to r i s t (Some m) e = by (seat_of routes m) refl
         where
-          by : (o : Option Seat) → seat_of routes m ≡ o → IsMissing p routes (suc r) (suc i) s
+          by : (o : Option PlanPlace) → seat_of routes m ≡ o → IsMissing p routes (suc r) (suc i) s
           by (Some u) f =
               absurd (none_some s
               (let h : partner_test routes (partner_at p t.1) ≡ Some s = t.4 in let g : cond (is_some (seat_of routes m)) None (Some m)
@@ -194,12 +194,12 @@ module _ (p : Instance) (routes : List (List ℕ)) where
           let t = standing routes r i b.0 b.1 in
           (t.0, t.1, t.2, t.3, (t.4.0, b.0, t.4.1, t.4.2, rw b.2 (empty (seat_of routes s) refl)))
         where
-          empty : (o : Option Seat) → seat_of routes s ≡ o → cond (is_some (seat_of routes s)) None (Some s) ≡ Some s
+          empty : (o : Option PlanPlace) → seat_of routes s ≡ o → cond (is_some (seat_of routes s)) None (Some s) ≡ Some s
           empty None e = rw e refl
           empty (Some u) e = absurd (b.3 (suc u.route, suc u.place, (seat_of-found routes s u e).sits))
 
   -- where no stop stands twice, a seat is the only one
-  only-seat : ((r i n : ℕ) → IsRepeated p routes r i n → ⊥) → (n : ℕ) (u : Seat) → seat_of routes n ≡ Some u → (r i : ℕ) → Sits routes r i n
+  only-seat : ((r i n : ℕ) → IsRepeated p routes r i n → ⊥) → (n : ℕ) (u : PlanPlace) → seat_of routes n ≡ Some u → (r i : ℕ) → Sits routes r i n
       → (u.route ≡ r) × (u.place ≡ i)
   only-seat once n u e r i sits =
       let seat = seat_of-found routes n u e in
@@ -216,7 +216,7 @@ module _ (p : Instance) (routes : List (List ℕ)) where
           let found = seat_told routes (λ u. cond (eqb u.route r) None (Some t.1)) (partner_at p t.1) s t.4 in
           away found.0 found.1 found.2 found.3 (eqb_tells found.1.route r) found.4
         where
-          away : (m : ℕ) (u : Seat) → partner_at p (t.1) ≡ Some m → Sits routes u.route u.place m
+          away : (m : ℕ) (u : PlanPlace) → partner_at p (t.1) ≡ Some m → Sits routes u.route u.place m
               → ((eqb u.route r ≡ true) × (u.route ≡ r)) ⊎ ((eqb u.route r ≡ false) × (u.route ≢ r)) → cond (eqb u.route r) None (Some (t.1)) ≡ Some s
               → IsSplit p routes (suc r) (suc i) s
           away m u e sits (inl a) told = absurd (none_some s (rw (a.0) at told))
@@ -232,7 +232,7 @@ module _ (p : Instance) (routes : List (List ℕ)) where
           let u = standing routes b.1.2.0 b.1.2.1 b.1.0 b.1.2.3 in
           (t.0, t.1, t.2, t.3, (t.4.0, s, t.4.1, t.4.2, rw (b.1.1) (told (seat_of routes b.1.0) refl t.0 t.2 u.0 u.1 u.2 u.4)))
         where
-          told : (o : Option Seat) → seat_of routes (b.1.0) ≡ o → (r' : ℕ) → r ≡ suc r' → (q' j' : ℕ) → b.1.2.0 ≡ suc q' → Sits routes q' j' (b.1.0)
+          told : (o : Option PlanPlace) → seat_of routes (b.1.0) ≡ o → (r' : ℕ) → r ≡ suc r' → (q' j' : ℕ) → b.1.2.0 ≡ suc q' → Sits routes q' j' (b.1.0)
               → split_seat r' s (seat_of routes (b.1.0)) ≡ Some s
           told None f r' er q' j' eq sits = absurd (seat_of-none routes (b.1.0) f q' j' sits)
           told (Some x) f r' er q' j' eq sits =
@@ -254,7 +254,7 @@ module _ (p : Instance) (routes : List (List ℕ)) where
           let found = seat_told routes (λ u. cond (nat_lt i u.place) (Some t.1) None) (pickup_at p t.1) s t.4 in
           later found.0 found.1 found.2 found.3 (nat_lt i found.1.place) refl found.4 (eqb_tells found.1.route r)
         where
-          later : (m : ℕ) (u : Seat) → pickup_at p (t.1) ≡ Some m → Sits routes u.route u.place m → (b : Bool) → nat_lt i u.place ≡ b
+          later : (m : ℕ) (u : PlanPlace) → pickup_at p (t.1) ≡ Some m → Sits routes u.route u.place m → (b : Bool) → nat_lt i u.place ≡ b
               → cond (nat_lt i u.place) (Some (t.1)) None ≡ Some s → ((eqb u.route r ≡ true) × (u.route ≡ r)) ⊎ ((eqb u.route r ≡ false) × (u.route ≢ r))
               → IsDeliveredFirst p routes (suc r) (suc i) s
           later m u e sits false lt told where_to = absurd (none_some s (rw lt at told))
@@ -275,7 +275,7 @@ module _ (p : Instance) (routes : List (List ℕ)) where
           let u = standing routes r b.1.2.0 b.1.0 b.1.2.2 in
           (t.0, t.1, t.2, t.3, (t.4.0, s, t.4.1, t.4.2, rw (b.1.1) (told (seat_of routes b.1.0) refl t.1 t.3 u.0 u.1 u.3 u.4)))
         where
-          told : (o : Option Seat) → seat_of routes (b.1.0) ≡ o → (i' : ℕ) → i ≡ suc i' → (q' j' : ℕ) → b.1.2.0 ≡ suc j' → Sits routes q' j' (b.1.0)
+          told : (o : Option PlanPlace) → seat_of routes (b.1.0) ≡ o → (i' : ℕ) → i ≡ suc i' → (q' j' : ℕ) → b.1.2.0 ≡ suc j' → Sits routes q' j' (b.1.0)
               → delivered_seat i' s (seat_of routes (b.1.0)) ≡ Some s
           told None f i' ei q' j' ej sits = absurd (seat_of-none routes (b.1.0) f q' j' sits)
           told (Some x) f i' ei q' j' ej sits =

@@ -6,14 +6,14 @@ use Rattle.std.proofs.lemmas.Option.{same_Some}
 use Rattle.plan_types.proofs.LookupLemmas.{option_or-map}
 use Rattle.plan_audit.specs.Rules.{IsEarlier}
 use Rattle.plan_audit.specs.Finding.{place_of, seat_in, seat_from, seat_of}
-use Rattle.plan_audit.specs.declared.seats.Seat.{Seat}
+use Rattle.plan_audit.specs.declared.seats.PlanPlace.{PlanPlace}
 use Rattle.plan_audit.proofs.FirstLemmas.{none_some, first_answer, IsFirst, AnswersNothing, first_found, first_nothing, map-map, map-none}
 
 -- whether a place is one of stop n
 place_test : ℕ → ℕ → ℕ → Option ℕ
 place_test n i m = cond (eqb m n) (Some i) None
 
-seat_at : ℕ × ℕ → Seat
+seat_at : ℕ × ℕ → PlanPlace
 seat_at a = record { route = a.0; place = a.1 }
 
 place_of-is : (n k : ℕ) (ms : List ℕ) → place_of n k ms ≡ option_map (λ a. a.1) (first_answer (place_test n) k ms)
@@ -32,7 +32,7 @@ unfolding first_answer seat_at
 seat_from-is n k [] = refl
 seat_from-is n k (r ∷ rs) =
     ap (option_or (seat_in n k r)) (seat_from-is n (k + 1) rs)
-    ∙ ap (λ (o : Option Seat). option_or o (option_map seat_at (first_answer (λ _ r. place_of n 0 r) (k + 1) rs)))
+    ∙ ap (λ (o : Option PlanPlace). option_or o (option_map seat_at (first_answer (λ _ r. place_of n 0 r) (k + 1) rs)))
     (sym (map-map (λ i. (k, i)) seat_at (place_of n 0 r)))
     ∙ option_or-map seat_at (option_map (λ i. (k, i)) (place_of n 0 r)) (first_answer (λ _ r. place_of n 0 r) (k + 1) rs)
 
@@ -93,11 +93,11 @@ place_of-none n ms is j at =
     none_some (0 + j) (sym (rw (eq-eqb n n refl) at told))
 
 -- what is known of the first seat
-pub record IsSeat (routes : List (List ℕ)) (n : ℕ) (s : Seat) : Type 0 where
+pub record IsSeat (routes : List (List ℕ)) (n : ℕ) (s : PlanPlace) : Type 0 where
   pub sits : Sits routes s.route s.place n
   pub least : (r i : ℕ) → Sits routes r i n → (s.route < r) ⊎ ((s.route ≡ r) × (s.place ≤ i))
 
-pub seat_of-found : (routes : List (List ℕ)) (n : ℕ) (s : Seat) → seat_of routes n ≡ Some s → IsSeat routes n s
+pub seat_of-found : (routes : List (List ℕ)) (n : ℕ) (s : PlanPlace) → seat_of routes n ≡ Some s → IsSeat routes n s
 unfolding seat_at
 seat_of-found routes n s is = by (first_answer (λ _ r. place_of n 0 r) 0 routes) refl
   where
@@ -109,7 +109,7 @@ seat_of-found routes n s is = by (first_answer (λ _ r. place_of n 0 r) 0 routes
         let place = place_of-found n (first.item) a.1 (first.told) in
         let at = first.place in
         let index : first.index ≡ a.0 = omega arith in
-        subst (λ (s : Seat). IsSeat routes n s) same (record {
+        subst (λ (s : PlanPlace). IsSeat routes n s) same (record {
           sits = (first.item, subst (λ r. slice_get routes r ≡ Some (first.item)) index (first.stands), place.stands);
           least = λ r i t. least a first index r i t (place_of n 0 t.0) refl;
         })

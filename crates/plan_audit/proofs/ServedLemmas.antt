@@ -16,7 +16,7 @@ use Rattle.plan_types.specs.declared.requests.Request.TheVariants.{Single, Pair}
 use Rattle.plan_audit.specs.Rules.{StandsSomewhere}
 use Rattle.route_sched.specs.Cost.{has_stop, is_planned}
 use Rattle.plan_audit.specs.Finding.{place_of, seat_in, seat_from, seat_of, first_unserved}
-use Rattle.plan_audit.specs.declared.seats.Seat.{Seat}
+use Rattle.plan_audit.specs.declared.seats.PlanPlace.{PlanPlace}
 use Rattle.plan_audit.proofs.FirstLemmas.{none_some}
 use Rattle.plan_audit.proofs.SeatLemmas.{seat_of-found}
 use Rattle.plan_audit.proofs.RuleLemmas.{nowhere-seat}
@@ -36,14 +36,14 @@ place-has n k (m ∷ ms) = elim (eqb_tells m n) [
 seat_in-has : (n k : ℕ) (route : List ℕ) → is_some (seat_in n k route) ≡ list_any (nat_eq n) route
 seat_in-has n k route = mapped (place_of n 0 route) ∙ place-has n 0 route
   where
-    seat : ℕ → Seat
+    seat : ℕ → PlanPlace
     seat i = record { route = k; place = i }
 
     mapped : (o : Option ℕ) → is_some (option_map seat o) ≡ is_some o
     mapped None = refl
     mapped (Some i) = refl
 
-is_some-or : (o p : Option Seat) → is_some (option_or o p) ≡ (is_some o || is_some p)
+is_some-or : (o p : Option PlanPlace) → is_some (option_or o p) ≡ (is_some o || is_some p)
 is_some-or None p = refl
 is_some-or (Some s) p = refl
 
@@ -61,14 +61,14 @@ seat-has routes n = seat_from-has n 0 routes
 pub no_seat : (routes : List (List ℕ)) (n : ℕ) → has_stop routes n ≡ false → StandsSomewhere routes n → ⊥
 no_seat routes n none = by (seat_of routes n) refl
   where
-    by : (o : Option Seat) → seat_of routes n ≡ o → StandsSomewhere routes n → ⊥
+    by : (o : Option PlanPlace) → seat_of routes n ≡ o → StandsSomewhere routes n → ⊥
     by None e = nowhere-seat routes n e
     by (Some u) e = absurd (let h : is_some (seat_of routes n) ≡ false = seat-has routes n ∙ none in let g : true ≡ false = (rw e at h) in cc)
 
 pub a_seat : (routes : List (List ℕ)) (n : ℕ) → has_stop routes n ≡ true → StandsSomewhere routes n
 a_seat routes n some = by (seat_of routes n) refl
   where
-    by : (o : Option Seat) → seat_of routes n ≡ o → StandsSomewhere routes n
+    by : (o : Option PlanPlace) → seat_of routes n ≡ o → StandsSomewhere routes n
     by None e = absurd (let h : is_some (seat_of routes n) ≡ true = seat-has routes n ∙ some in let g : false ≡ true = (rw e at h) in cc)
     by (Some u) e = (suc u.route, suc u.place, (seat_of-found routes n u e).sits)
 

@@ -57,7 +57,7 @@ use Rattle.plan_audit.specs.Rules.{item_at, Stands, StandsSomewhere, IsUnknown, 
 use Rattle.plan_audit.specs.Finding.{seat_of}
 use Rattle.plan_audit.specs.Verdict.{Subject, planned, printed, routes_of, Breaks, KeepsRules}
 use Rattle.plan_audit.specs.Laws.{StandsOnce, IsPlanned, IsServedOnce, IsNamed, IsPlaceOf, IsSoundPlan}
-use Rattle.plan_audit.specs.declared.seats.Seat.{Seat}
+use Rattle.plan_audit.specs.declared.seats.PlanPlace.{PlanPlace}
 use Rattle.plan_audit.specs.declared.rules.Rule.TheVariants.{UnknownStop, Twice, Missing, SplitPair, DeliveryFirst, Load, Late, LateReturn}
 use Rattle.plan_audit.proofs.FirstLemmas.{none_some}
 use Rattle.plan_audit.proofs.SeatLemmas.{seat_of-found, neither_before}
@@ -74,7 +74,7 @@ missing_in p (printed routes cost) r i n b = inl b
 pub somewhere_or_not : (routes : List (List ℕ)) (n : ℕ) → StandsSomewhere routes n ⊎ (StandsSomewhere routes n → ⊥)
 somewhere_or_not routes n = by (seat_of routes n) refl
   where
-    by : (o : Option Seat) → seat_of routes n ≡ o → StandsSomewhere routes n ⊎ (StandsSomewhere routes n → ⊥)
+    by : (o : Option PlanPlace) → seat_of routes n ≡ o → StandsSomewhere routes n ⊎ (StandsSomewhere routes n → ⊥)
     by None e = inr (nowhere-seat routes n e)
     by (Some u) e = inl (suc u.route, suc u.place, (seat_of-found routes n u e).sits)
 

@@ -4,7 +4,7 @@ use Rattle.std.proofs.lemmas.Bool.{cases_lt}
 use Rattle.std.proofs.lemmas.Option.{same_Some}
 use Rattle.plan_audit.specs.Rules.{IsNotAfter}
 use Rattle.plan_audit.specs.Finding.{first_place, first_route, told_by}
-use Rattle.plan_audit.specs.declared.faults.Told.{Told}
+use Rattle.plan_audit.specs.declared.faults.PlaceFault.{PlaceFault}
 use Rattle.plan_audit.specs.declared.faults.Fault.{Fault}
 use Rattle.plan_audit.proofs.FirstLemmas.{none_some, IsFirst, least_at, fault_found, told_found, fault_nothing, told_nothing}
 
@@ -41,7 +41,7 @@ module _ (test : ℕ → List ℕ → ℕ → ℕ → Option ℕ) (routes : List
           (told : IsFirst (test f.route (first.item)) 0 (first.item) (f.place, f.stop))
           → first.index ≡ f.route → told.index ≡ f.place
           → slice_get routes f.route ≡ Some (first.item) → slice_get (first.item) f.place ≡ Some (told.item)
-          → (r i s : ℕ) (t : Spot test routes r i s) (o : Option Told) → first_place (test r t.0) 0 t.0 ≡ o → IsNotAfter f.route f.place f.stop r i s
+          → (r i s : ℕ) (t : Spot test routes r i s) (o : Option PlaceFault) → first_place (test r t.0) 0 t.0 ≡ o → IsNotAfter f.route f.place f.stop r i s
       least first told index index' stands stands' r i s t None e = absurd (told_somewhere r i s t e)
       least first told index index' stands stands' r i s t (Some u) e =
           let le = least_at (told_by test) routes (f.route, record { place = f.place; stop = f.stop }) first r t.0 u t.2 e in

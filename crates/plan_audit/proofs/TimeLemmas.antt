@@ -44,7 +44,7 @@ use Rattle.route_sched.specs.Visiting.{visit_after}
 use Rattle.route_sched.specs.declared.visits.Visit.{Visit}
 use Rattle.plan_audit.specs.Rules.{item_at, IsNotAfter, IsOverloaded, IsLate, IsLateReturn}
 use Rattle.plan_audit.specs.Finding.{first_route, visit_told, is_overloaded, is_late, return_told}
-use Rattle.plan_audit.specs.declared.faults.Told.{Told}
+use Rattle.plan_audit.specs.declared.faults.PlaceFault.{PlaceFault}
 use Rattle.plan_audit.specs.declared.faults.Fault.{Fault}
 use Rattle.plan_audit.proofs.FirstLemmas.{none_some, fault_found, fault_nothing, least_at}
 use Rattle.plan_audit.proofs.SpotLemmas.{Spot, IsTestOf, IsLeastOf}
@@ -112,7 +112,7 @@ nonzero n h = elim (eqb_tells n 0) [
 ]
 
 -- the first late return
-return_facts : (p : Instance) (route : List ℕ) (t : Told) → return_told p route ≡ Some t
+return_facts : (p : Instance) (route : List ℕ) (t : PlaceFault) → return_told p route ≡ Some t
     → (0 < length route) × (t.place ≡ length route) × (t.stop ≡ 0) × (p.depot.latest < start p route (length route + 1))
 return_facts p route t is = by (eqb (length route) 0) refl (nat_lt p.depot.latest (start p route (length route + 1))) refl
   where
@@ -125,8 +125,8 @@ return_facts p route t is = by (eqb (length route) 0) refl (nat_lt p.depot.lates
     by true ea b eb = absurd (none_some t (rw ea at tested))
     by false ea false eb = absurd (none_some t (rw (ea, eb) at tested))
     by false ea true eb =
-        let told : ◌≡◌ {A = Told} (record { place = length route; stop = 0 }) t = same_Some _ _ (rw (ea, eb) at tested) in
-        (positive (length route) ea, sym (ap (λ (t : Told). t.place) told), sym (ap (λ (t : Told). t.stop) told), ltb-true _ _ eb)
+        let told : ◌≡◌ {A = PlaceFault} (record { place = length route; stop = 0 }) t = same_Some _ _ (rw (ea, eb) at tested) in
+        (positive (length route) ea, sym (ap (λ (t : PlaceFault). t.place) told), sym (ap (λ (t : PlaceFault). t.stop) told), ltb-true _ _ eb)
 
 return_tells : (p : Instance) (route : List ℕ) → 0 < length route → p.depot.latest < start p route (length route + 1)
     → return_told p route ≡ Some (record { place = length route; stop = 0 })

@@ -1,19 +1,40 @@
--- Every plan has a verdict, and every list of live stops an answer alone.
-use Rattle.std.proofs.Common.{◌≡◌, ◌⊎◌, ℕ, ◌+◌, Bool, true, false, List, [], ◌∷◌, length, Option, Some, None, refl, arith, inl, inr, is_some}
+-- What is audited has a verdict, its first rule that tells something or none, by a function; and every list of live stops an answer alone.
+use Rattle.std.proofs.Common.{◌≡◌, ◌⊎◌, ℕ, ◌+◌, ◌==◌, Bool, true, false, cond, List, [], ◌∷◌, length, Option, Some, None, refl, sym, subst, arith, inl, inr, is_some}
 use Rattle.std.proofs.lemmas.Bool.Decides.{eqb_tells}
 use Rattle.plan_types.specs.Instance.{Instance, IsInstance}
 use Rattle.plan_types.specs.declared.requests.Kind.{Kind}
 use Rattle.plan_types.specs.declared.requests.Kind.TheVariants.{LiLim, Vrp}
-use Rattle.route_sched.specs.Cost.{cost_of}
+use Rattle.route_sched.specs.Cost.{cost_of, total_length}
 use Rattle.route_sched.specs.Route.{AreLiveOnce}
 use Rattle.plan_audit.specs.Alone.{IsFeasibleAlone, IsFaultAlone, IsLeastAlone}
-use Rattle.plan_audit.specs.Finding.{first_place, first_route, told_by, unknown_at, repeated_at, missing_at, split_at, delivered_at, visit_told, is_overloaded, is_late, return_told, first_off_pin}
-use Rattle.plan_audit.specs.Locality.{PlansHaveVerdicts, RoutesHaveAnswers}
-use Rattle.plan_audit.specs.Verdict.{planned, rule_number, KeepsRules, IsBrokenOver, IsVerdict}
+use Rattle.plan_audit.specs.Finding.{
+  first_beyond,
+  first_place,
+  first_route,
+  told_by,
+  unknown_at,
+  repeated_at,
+  missing_at,
+  split_at,
+  delivered_at,
+  visit_told,
+  is_overloaded,
+  is_late,
+  return_told,
+  first_off_pin,
+  unserved_of,
+}
+use Rattle.plan_audit.specs.Locality.{SubjectsHaveVerdicts, RoutesHaveAnswers}
+use Rattle.plan_audit.specs.Verdict.{Subject, planned, printed, routes_of, rule_number, KeepsRules, IsBrokenOver, IsVerdict}
+use Rattle.plan_audit.specs.declared.faults.Fault.{Fault}
+use Rattle.plan_audit.specs.declared.rules.Rule.{Rule}
+use Rattle.plan_audit.specs.declared.rules.Rule.TheVariants.{UnknownStop, Twice, Missing, SplitPair, DeliveryFirst, Load, Late, LateReturn, Fleet, Pin, PrintedCost}
 use Rattle.plan_audit.specs.declared.rules.Verdict.{Verdict}
 use Rattle.plan_audit.specs.declared.rules.Verdict.TheVariants.{Pass, Broken}
 use Rattle.plan_audit.proofs.AloneLemmas.{missing_fault, delivered_fault, load_fault, late_fault, return_fault, timed_alone, untimed_alone}
+use Rattle.plan_audit.proofs.RoutesLemmas.{still_broken}
 use Rattle.plan_audit.proofs.StepLemmas.{
+  fault_verdict,
   NoneUnknown,
   NoneRepeated,
   NoneMissing,
@@ -22,6 +43,7 @@ use Rattle.plan_audit.proofs.StepLemmas.{
   NoneLate,
   unknown_step,
   repeated_step,
+  unserved_step,
   missing_step,
   split_step,
   delivered_step,
@@ -31,100 +53,200 @@ use Rattle.plan_audit.proofs.StepLemmas.{
   return_step,
   timed_step,
   untimed_step,
+  fleet_step,
+  fleet_kept,
+  cost_step,
+  true_cost_step,
   length_step,
   pin_step,
   planned_step,
 }
 use Rattle.plan_audit.proofs.VerdictLemmas.{broken_wider, broken_after, broken_verdict, keeps_both}
 
--- each plan has a verdict: its first rule that tells something, or none does
-module _ (p : Instance) (routes pins : List (List ℕ)) (valid : IsInstance p) where
-  abbrev HasVerdict : Type 0
-  HasVerdict = (v : Verdict) × IsVerdict p (planned routes pins) v
+-- what a rule tells, or else what those behind it do
+abbrev or_told : Option Fault → Rule → Verdict → Verdict
+or_told None k rest = rest
+or_told (Some f) k rest = fault_verdict k f
 
-  broken_low : (v : Verdict) → IsBrokenOver 1 5 p (planned routes pins) v → HasVerdict
-  broken_low v b = (v, broken_verdict p (planned routes pins) 1 11 v (broken_wider p (planned routes pins) 1 5 11 v (omega arith) b))
+abbrev or_unserved : Option ℕ → Verdict → Verdict
+or_unserved None rest = rest
+or_unserved (Some n) rest = Broken (rule_number Missing) 0 0 n
 
-  broken_mid : (v : Verdict) → KeepsRules 1 5 p (planned routes pins) → IsBrokenOver 6 8 p (planned routes pins) v → HasVerdict
-  broken_mid v kept b = (
-    v,
-    broken_verdict p (planned routes pins) 1 11 v
-        (broken_wider p (planned routes pins) 1 8 11 v (omega arith) (broken_after p (planned routes pins) 1 5 8 v (omega arith) kept b)),
-  )
+abbrev or_beyond : Option ℕ → Verdict → Verdict
+or_beyond None rest = rest
+or_beyond (Some m) rest = Broken (rule_number Fleet) (m + 1) 0 0
 
-  from_pin : KeepsRules 1 8 p (planned routes pins) → length routes ≡ p.fleet → (o : Option _) → first_off_pin routes pins ≡ o → HasVerdict
-  from_pin kept same None e = (Pass (cost_of p routes), (planned_step p routes pins kept same e, refl))
-  from_pin kept same (Some f) e =
-      (Broken 10 (f.route + 1) (f.place + 1) f.stop, pin_step p routes pins kept same f (Broken 10 (f.route + 1) (f.place + 1) f.stop) refl e)
+abbrev by_kind : Kind → Verdict → Verdict → Verdict
+by_kind LiLim timed untimed = timed
+by_kind Vrp timed untimed = untimed
 
-  from_fleet : KeepsRules 1 8 p (planned routes pins) → HasVerdict
-  from_fleet kept = elim (eqb_tells (length routes) p.fleet) [
-    | inl t ↦ from_pin kept t.1 (first_off_pin routes pins) refl
-    | inr t ↦ (Broken 9 0 0 0, length_step p routes pins kept (Broken 9 0 0 0) refl t.1)
+-- ---- what the rules on vehicles, pins and the printed cost tell
+
+module _ (p : Instance) (routes pins : List (List ℕ)) where
+  abbrev of_pins : Verdict
+  of_pins = or_told (first_off_pin routes pins) Pin (Pass (cost_of p routes))
+
+  abbrev of_plan : Verdict
+  of_plan = cond (length routes == p.fleet) of_pins (Broken (rule_number Fleet) 0 0 0)
+
+  module _ (kept : KeepsRules 1 8 p (planned routes pins)) where
+    pins_told : length routes ≡ p.fleet → (o : Option Fault) → first_off_pin routes pins ≡ o
+        → IsVerdict p (planned routes pins) (or_told o Pin (Pass (cost_of p routes)))
+    pins_told same None e = (planned_step p routes pins kept same e, refl)
+    pins_told same (Some f) e = pin_step p routes pins kept same f (fault_verdict Pin f) refl e
+
+    plan_told : IsVerdict p (planned routes pins) of_plan
+    plan_told = elim (eqb_tells (length routes) p.fleet) [
+      | inl t ↦ subst (λ (b : Bool). IsVerdict p (planned routes pins) (cond b of_pins (Broken (rule_number Fleet) 0 0 0))) (sym t.0)
+          (pins_told t.1 (first_off_pin routes pins) refl)
+      | inr t ↦ subst (λ (b : Bool). IsVerdict p (planned routes pins) (cond b of_pins (Broken (rule_number Fleet) 0 0 0))) (sym t.0)
+          (length_step p routes pins kept (Broken (rule_number Fleet) 0 0 0) refl t.1)
+    ]
+
+module _ (p : Instance) (routes : List (List ℕ)) (cost : ℕ) where
+  abbrev of_cost : Verdict
+  of_cost = cond (cost == total_length p routes) (Pass (cost_of p routes)) (Broken (rule_number PrintedCost) 0 0 0)
+
+  abbrev of_printed : Verdict
+  of_printed = or_beyond (first_beyond p.fleet 0 routes) of_cost
+
+  cost_told : KeepsRules 1 10 p (printed routes cost) → IsVerdict p (printed routes cost) of_cost
+  cost_told kept = elim (eqb_tells cost (total_length p routes)) [
+    | inl t ↦ subst (λ (b : Bool). IsVerdict p (printed routes cost) (cond b (Pass (cost_of p routes)) (Broken (rule_number PrintedCost) 0 0 0))) (sym t.0)
+        (true_cost_step p routes cost kept t.1, refl)
+    | inr t ↦ subst (λ (b : Bool). IsVerdict p (printed routes cost) (cond b (Pass (cost_of p routes)) (Broken (rule_number PrintedCost) 0 0 0))) (sym t.0)
+        (cost_step p routes cost kept (Broken (rule_number PrintedCost) 0 0 0) refl t.1)
   ]
 
-  from_return : KeepsRules 1 5 p (planned routes pins) → p.kind ≡ LiLim → NoneOverloaded p routes (planned routes pins) refl
-      → NoneLate p routes (planned routes pins) refl → (o : Option _) → first_route (λ _ route. return_told p route) 0 routes ≡ o → HasVerdict
-  from_return kept kind a b None e = from_fleet (keeps_both p (planned routes pins) 1 5 8 kept (timed_step p routes (planned routes pins) refl kind a b e))
-  from_return kept kind a b (Some f) e =
-      broken_mid (Broken 8 (f.route + 1) (f.place + 1) f.stop) kept
-      (return_step p routes (planned routes pins) refl kind a b f (Broken 8 (f.route + 1) (f.place + 1) f.stop) refl e)
+  printed_told : KeepsRules 1 8 p (printed routes cost) → (o : Option ℕ) → first_beyond p.fleet 0 routes ≡ o
+      → IsVerdict p (printed routes cost) (or_beyond o of_cost)
+  printed_told kept None e = cost_told (fleet_kept p routes cost kept e)
+  printed_told kept (Some m) e =
+      still_broken p (printed routes cost) (Broken (rule_number Fleet) (m + 1) 0 0)
+      (λ c e. (let h : Broken (rule_number Fleet) (m + 1) 0 0 ≡ Pass c = e in cc))
+      (fleet_step p routes cost kept m (Broken (rule_number Fleet) (m + 1) 0 0) refl e)
 
-  from_late : KeepsRules 1 5 p (planned routes pins) → p.kind ≡ LiLim → NoneOverloaded p routes (planned routes pins) refl → (o : Option _)
-      → first_route (told_by (λ _ route i n. visit_told p is_late route i n)) 0 routes ≡ o → HasVerdict
-  from_late kept kind a None e = from_return kept kind a e (first_route (λ _ route. return_told p route) 0 routes) refl
-  from_late kept kind a (Some f) e =
-      broken_mid (Broken 7 (f.route + 1) (f.place + 1) f.stop) kept
-      (late_step p routes (planned routes pins) refl kind a f (Broken 7 (f.route + 1) (f.place + 1) f.stop) refl e)
+abbrev of_fleet : Instance → Subject → Verdict
+of_fleet p (planned routes pins) = of_plan p routes pins
+of_fleet p (printed routes cost) = of_printed p routes cost
 
-  by_kind : KeepsRules 1 5 p (planned routes pins) → NoneOverloaded p routes (planned routes pins) refl → (k : Kind) → p.kind ≡ k → HasVerdict
-  by_kind kept a LiLim e = from_late kept e a (first_route (told_by (λ _ route i n. visit_told p is_late route i n)) 0 routes) refl
-  by_kind kept a Vrp e = from_fleet (keeps_both p (planned routes pins) 1 5 8 kept (untimed_step p routes (planned routes pins) refl e a))
+fleet_told : (p : Instance) (s : Subject) → KeepsRules 1 8 p s → IsVerdict p s (of_fleet p s)
+fleet_told p (planned routes pins) kept = plan_told p routes pins kept
+fleet_told p (printed routes cost) kept = printed_told p routes cost kept (first_beyond p.fleet 0 routes) refl
 
-  from_load : KeepsRules 1 5 p (planned routes pins) → (o : Option _)
-      → first_route (told_by (λ _ route i n. visit_told p (is_overloaded p) route i n)) 0 routes ≡ o → HasVerdict
-  from_load kept None e = by_kind kept e p.kind refl
-  from_load kept (Some f) e =
-      broken_mid (Broken 6 (f.route + 1) (f.place + 1) f.stop) kept
-      (load_step p routes (planned routes pins) refl f (Broken 6 (f.route + 1) (f.place + 1) f.stop) refl e)
+-- ---- and all rules
 
-  from_delivered : NoneUnknown p routes → NoneRepeated p routes → NoneMissing p routes → NoneSplit p routes → (o : Option _)
-      → first_route (told_by (λ _ _ i n. delivered_at p routes i n)) 0 routes ≡ o → HasVerdict
-  from_delivered a b c d None e =
-      from_load (placed_step p routes valid (planned routes pins) refl None refl a b refl c d e)
-      (first_route (told_by (λ _ route i n. visit_told p (is_overloaded p) route i n)) 0 routes) refl
-  from_delivered a b c d (Some f) e =
-      broken_low (Broken 5 (f.route + 1) (f.place + 1) f.stop)
-      (delivered_step p routes valid (planned routes pins) refl None refl a b refl c d f (Broken 5 (f.route + 1) (f.place + 1) f.stop) refl e)
+module _ (p : Instance) (s : Subject) where
+  abbrev unknown : Option Fault
+  unknown = first_route (told_by (λ _ _ _ n. unknown_at p (routes_of s) n)) 0 (routes_of s)
 
-  from_split : NoneUnknown p routes → NoneRepeated p routes → NoneMissing p routes → (o : Option _)
-      → first_route (told_by (λ r _ _ n. split_at p routes r n)) 0 routes ≡ o → HasVerdict
-  from_split a b c None e = from_delivered a b c e (first_route (told_by (λ _ _ i n. delivered_at p routes i n)) 0 routes) refl
-  from_split a b c (Some f) e =
-      broken_low (Broken 4 (f.route + 1) (f.place + 1) f.stop)
-      (split_step p routes valid (planned routes pins) refl None refl a b refl c f (Broken 4 (f.route + 1) (f.place + 1) f.stop) refl e)
+  abbrev repeated : Option Fault
+  repeated = first_route (told_by (λ r _ i n. repeated_at p (routes_of s) r i n)) 0 (routes_of s)
 
-  from_missing : NoneUnknown p routes → NoneRepeated p routes → (o : Option _) → first_route (told_by (λ _ _ _ n. missing_at p routes n)) 0 routes ≡ o
-      → HasVerdict
-  from_missing a b None e = from_split a b e (first_route (told_by (λ r _ _ n. split_at p routes r n)) 0 routes) refl
-  from_missing a b (Some f) e =
-      broken_low (Broken 3 (f.route + 1) (f.place + 1) f.stop)
-      (missing_step p routes valid (planned routes pins) refl None refl a b refl f (Broken 3 (f.route + 1) (f.place + 1) f.stop) refl e)
+  abbrev missing : Option Fault
+  missing = first_route (told_by (λ _ _ _ n. missing_at p (routes_of s) n)) 0 (routes_of s)
 
-  from_repeated : NoneUnknown p routes → (o : Option _) → first_route (told_by (λ r _ i n. repeated_at p routes r i n)) 0 routes ≡ o → HasVerdict
-  from_repeated a None e = from_missing a e (first_route (told_by (λ _ _ _ n. missing_at p routes n)) 0 routes) refl
-  from_repeated a (Some f) e =
-      broken_low (Broken 2 (f.route + 1) (f.place + 1) f.stop)
-      (repeated_step p routes valid (planned routes pins) refl None refl a f (Broken 2 (f.route + 1) (f.place + 1) f.stop) refl e)
+  abbrev split : Option Fault
+  split = first_route (told_by (λ r _ _ n. split_at p (routes_of s) r n)) 0 (routes_of s)
 
-  from_unknown : (o : Option _) → first_route (told_by (λ _ _ _ n. unknown_at p routes n)) 0 routes ≡ o → HasVerdict
-  from_unknown None e = from_repeated e (first_route (told_by (λ r _ i n. repeated_at p routes r i n)) 0 routes) refl
-  from_unknown (Some f) e =
-      broken_low (Broken 1 (f.route + 1) (f.place + 1) f.stop)
-      (unknown_step p routes valid (planned routes pins) refl None refl f (Broken 1 (f.route + 1) (f.place + 1) f.stop) refl e)
+  abbrev delivered : Option Fault
+  delivered = first_route (told_by (λ _ _ i n. delivered_at p (routes_of s) i n)) 0 (routes_of s)
 
-  verdict : HasVerdict
-  verdict = from_unknown (first_route (told_by (λ _ _ _ n. unknown_at p routes n)) 0 routes) refl
+  abbrev overloaded : Option Fault
+  overloaded = first_route (told_by (λ _ route i n. visit_told p (is_overloaded p) route i n)) 0 (routes_of s)
+
+  abbrev late : Option Fault
+  late = first_route (told_by (λ _ route i n. visit_told p is_late route i n)) 0 (routes_of s)
+
+  abbrev late_return : Option Fault
+  late_return = first_route (λ _ route. return_told p route) 0 (routes_of s)
+
+  abbrev of_return : Verdict
+  of_return = or_told late_return LateReturn (of_fleet p s)
+
+  abbrev of_late : Verdict
+  of_late = or_told late Late of_return
+
+  abbrev of_load : Verdict
+  of_load = or_told overloaded Load (by_kind p.kind of_late (of_fleet p s))
+
+  abbrev of_delivered : Verdict
+  of_delivered = or_told delivered DeliveryFirst of_load
+
+  abbrev of_split : Verdict
+  of_split = or_told split SplitPair of_delivered
+
+  abbrev of_missing : Verdict
+  of_missing = or_told missing Missing of_split
+
+  abbrev of_unserved : Verdict
+  of_unserved = or_unserved (unserved_of p s) of_missing
+
+  abbrev of_repeated : Verdict
+  of_repeated = or_told repeated Twice of_unserved
+
+  verdict_of : Verdict
+  verdict_of = or_told unknown UnknownStop of_repeated
+
+  module _ (valid : IsInstance p) where
+    broken_low : (v : Verdict) → IsBrokenOver 1 5 p s v → IsVerdict p s v
+    broken_low v b = broken_verdict p s 1 11 v (broken_wider p s 1 5 11 v (omega arith) b)
+
+    broken_mid : (v : Verdict) → KeepsRules 1 5 p s → IsBrokenOver 6 8 p s v → IsVerdict p s v
+    broken_mid v kept b = broken_verdict p s 1 11 v (broken_wider p s 1 8 11 v (omega arith) (broken_after p s 1 5 8 v (omega arith) kept b))
+
+    from_return : KeepsRules 1 5 p s → p.kind ≡ LiLim → NoneOverloaded p (routes_of s) s refl → NoneLate p (routes_of s) s refl → (o : Option Fault)
+        → late_return ≡ o → IsVerdict p s (or_told o LateReturn (of_fleet p s))
+    from_return kept kind a b None e = fleet_told p s (keeps_both p s 1 5 8 kept (timed_step p (routes_of s) s refl kind a b e))
+    from_return kept kind a b (Some f) e = broken_mid (fault_verdict LateReturn f) kept (return_step p (routes_of s) s refl kind a b f (fault_verdict LateReturn f) refl e)
+
+    from_late : KeepsRules 1 5 p s → p.kind ≡ LiLim → NoneOverloaded p (routes_of s) s refl → (o : Option Fault) → late ≡ o
+        → IsVerdict p s (or_told o Late of_return)
+    from_late kept kind a None e = from_return kept kind a e late_return refl
+    from_late kept kind a (Some f) e = broken_mid (fault_verdict Late f) kept (late_step p (routes_of s) s refl kind a f (fault_verdict Late f) refl e)
+
+    from_kind : KeepsRules 1 5 p s → NoneOverloaded p (routes_of s) s refl → (k : Kind) → p.kind ≡ k → IsVerdict p s (by_kind k of_late (of_fleet p s))
+    from_kind kept a LiLim e = from_late kept e a late refl
+    from_kind kept a Vrp e = fleet_told p s (keeps_both p s 1 5 8 kept (untimed_step p (routes_of s) s refl e a))
+
+    from_load : KeepsRules 1 5 p s → (o : Option Fault) → overloaded ≡ o → IsVerdict p s (or_told o Load (by_kind p.kind of_late (of_fleet p s)))
+    from_load kept None e = from_kind kept e p.kind refl
+    from_load kept (Some f) e = broken_mid (fault_verdict Load f) kept (load_step p (routes_of s) s refl f (fault_verdict Load f) refl e)
+
+    module _ (u : Option ℕ) (asked : u ≡ unserved_of p s) (a : NoneUnknown p (routes_of s)) (b : NoneRepeated p (routes_of s)) (none : u ≡ None) where
+      from_delivered : NoneMissing p (routes_of s) → NoneSplit p (routes_of s) → (o : Option Fault) → delivered ≡ o
+          → IsVerdict p s (or_told o DeliveryFirst of_load)
+      from_delivered c d None e = from_load (placed_step p (routes_of s) valid s refl u asked a b none c d e) overloaded refl
+      from_delivered c d (Some f) e =
+          broken_low (fault_verdict DeliveryFirst f) (delivered_step p (routes_of s) valid s refl u asked a b none c d f (fault_verdict DeliveryFirst f) refl e)
+
+      from_split : NoneMissing p (routes_of s) → (o : Option Fault) → split ≡ o → IsVerdict p s (or_told o SplitPair of_delivered)
+      from_split c None e = from_delivered c e delivered refl
+      from_split c (Some f) e = broken_low (fault_verdict SplitPair f) (split_step p (routes_of s) valid s refl u asked a b none c f (fault_verdict SplitPair f) refl e)
+
+      from_missing : (o : Option Fault) → missing ≡ o → IsVerdict p s (or_told o Missing of_split)
+      from_missing None e = from_split e split refl
+      from_missing (Some f) e = broken_low (fault_verdict Missing f) (missing_step p (routes_of s) valid s refl u asked a b none f (fault_verdict Missing f) refl e)
+
+    from_unserved : NoneUnknown p (routes_of s) → NoneRepeated p (routes_of s) → (u : Option ℕ) → unserved_of p s ≡ u → IsVerdict p s (or_unserved u of_missing)
+    from_unserved a b None e = from_missing None (sym e) a b refl missing refl
+    from_unserved a b (Some n) e =
+        broken_low (Broken (rule_number Missing) 0 0 n)
+        (unserved_step p (routes_of s) valid s refl (Some n) (sym e) a b n (Broken (rule_number Missing) 0 0 n) refl refl)
+
+    from_repeated : NoneUnknown p (routes_of s) → (o : Option Fault) → repeated ≡ o → IsVerdict p s (or_told o Twice of_unserved)
+    from_repeated a None e = from_unserved a e (unserved_of p s) refl
+    from_repeated a (Some f) e =
+        broken_low (fault_verdict Twice f) (repeated_step p (routes_of s) valid s refl (unserved_of p s) refl a f (fault_verdict Twice f) refl e)
+
+    from_unknown : (o : Option Fault) → unknown ≡ o → IsVerdict p s (or_told o UnknownStop of_repeated)
+    from_unknown None e = from_repeated e repeated refl
+    from_unknown (Some f) e =
+        broken_low (fault_verdict UnknownStop f) (unknown_step p (routes_of s) valid s refl (unserved_of p s) refl f (fault_verdict UnknownStop f) refl e)
+
+    is_verdict : IsVerdict p s verdict_of
+    unfolding verdict_of
+    is_verdict = from_unknown unknown refl
 
 -- each list of live stops is feasible alone, or has a fault
 module _ (p : Instance) (route : List ℕ) (live : AreLiveOnce p route) where
@@ -174,8 +296,8 @@ module _ (p : Instance) (route : List ℕ) (live : AreLiveOnce p route) where
   asked : IsAsked
   asked = alone_missing (missing_told) refl
 
-pub plans_have_verdicts : PlansHaveVerdicts
-plans_have_verdicts p routes pins valid = verdict p routes pins valid
+pub subjects_have_verdicts : SubjectsHaveVerdicts
+subjects_have_verdicts = (verdict_of, is_verdict)
 
 pub routes_have_answers : RoutesHaveAnswers
 routes_have_answers p route live = asked p route live

@@ -21,13 +21,12 @@ use Rattle.std.specs.Prelude.{
   is_some,
   if◌then◌else◌,
   Bool,
-  int_lt,
-  pos,
   length,
   false,
   slice_get,
   unwrap_or,
 }
+use Rattle.route_sched.specs.Limits.{is_too_late, is_too_much}
 use Rattle.route_sched.specs.Schedule.{start}
 use Rattle.route_sched.specs.Visiting.{visit_after, visits_from}
 use Rattle.route_sched.specs.declared.visits.Visit.{Visit}
@@ -39,28 +38,28 @@ use Rattle.plan_types.specs.declared.requests.Kind.{Kind}
 use Rattle.plan_types.specs.declared.requests.Kind.TheVariants.{LiLim, Vrp}
 use Rattle.route_sched.specs.Cost.{is_planned}
 use Rattle.plan_audit.specs.Verdict.{Subject, planned, printed}
-use Rattle.plan_audit.specs.declared.faults.Told.{Told}
+use Rattle.plan_audit.specs.declared.faults.PlaceFault.{PlaceFault}
 use Rattle.plan_audit.specs.declared.faults.Fault.{Fault}
-use Rattle.plan_audit.specs.declared.seats.Seat.{Seat}
+use Rattle.plan_audit.specs.declared.seats.PlanPlace.{PlanPlace}
 
 -- what a test of places answers first, where the places count from k on
-abbrev pub first_place : (ℕ → ℕ → Option ℕ) → ℕ → List ℕ → Option Told
+abbrev pub first_place : (ℕ → ℕ → Option ℕ) → ℕ → List ℕ → Option PlaceFault
 first_place test k [] = None
 first_place test k (n ∷ ns) = option_or (option_map (λ s. record { place = k; stop = s }) (test k n)) (first_place test (k + 1) ns)
 
 -- what a test of routes answers first, where the routes count from k on
-abbrev pub first_route : (ℕ → List ℕ → Option Told) → ℕ → List (List ℕ) → Option Fault
+abbrev pub first_route : (ℕ → List ℕ → Option PlaceFault) → ℕ → List (List ℕ) → Option Fault
 first_route test k [] = None
 first_route test k (r ∷ rs) = option_or (option_map (λ t. record { route = k; place = t.place; stop = t.stop }) (test k r)) (first_route test (k + 1) rs)
 
 -- it is what is told first; routes and places can be counted from 1 as well
-pub record IsFirstTold (test : ℕ → List ℕ → Option Told) (routes : List (List ℕ)) (o : Option Fault) : Type 0 where
+pub record IsFirstTold (test : ℕ → List ℕ → Option PlaceFault) (routes : List (List ℕ)) (o : Option Fault) : Type 0 where
   pub told : o ≡ first_route test 0 routes
   pub route : IfSome o (λ f. f.route + 1 < 2 ^ 64)
   pub place : IfSome o (λ f. f.place + 1 < 2 ^ 64)
 
 -- what a test of places tells of each route
-abbrev pub told_by : (ℕ → List ℕ → ℕ → ℕ → Option ℕ) → ℕ → List ℕ → Option Told
+abbrev pub told_by : (ℕ → List ℕ → ℕ → ℕ → Option ℕ) → ℕ → List ℕ → Option PlaceFault
 told_by test r route = first_place (test r route) 0 route
 
 -- the first place of stop n
@@ -68,15 +67,15 @@ abbrev pub place_of : ℕ → ℕ → List ℕ → Option ℕ
 place_of n k [] = None
 place_of n k (m ∷ ms) = if m == n then Some k else place_of n (k + 1) ms
 
-abbrev pub seat_in : ℕ → ℕ → List ℕ → Option Seat
+abbrev pub seat_in : ℕ → ℕ → List ℕ → Option PlanPlace
 seat_in n k route = option_map (λ i. record { route = k; place = i }) (place_of n 0 route)
 
-abbrev pub seat_from : ℕ → ℕ → List (List ℕ) → Option Seat
+abbrev pub seat_from : ℕ → ℕ → List (List ℕ) → Option PlanPlace
 seat_from n k [] = None
 seat_from n k (r ∷ rs) = option_or (seat_in n k r) (seat_from n (k + 1) rs)
 
 -- the first seat of stop n in the plan
-abbrev pub seat_of : List (List ℕ) → ℕ → Option Seat
+abbrev pub seat_of : List (List ℕ) → ℕ → Option PlanPlace
 seat_of routes n = seat_from n 0 routes
 
 module _ (p : Instance) (routes : List (List ℕ)) where
@@ -102,11 +101,11 @@ visit_told p fails route i n = if fails (visit_after p route i) then Some n else
 
 -- what a vehicle carries is above the capacity
 abbrev pub is_overloaded : Instance → Visit → Bool
-is_overloaded p v = int_lt (pos p.capacity) v.load
+is_overloaded p v = is_too_much v.load p.capacity
 
 -- service starts after the latest time
 abbrev pub is_late : Visit → Bool
-is_late v = nat_lt v.stop.latest v.start
+is_late v = is_too_late v.start v.stop.latest
 
 -- it starts too late in a problem with time windows
 abbrev pub breaks_window : Kind → Visit → Bool
@@ -149,9 +148,9 @@ abbrev pub first_off_pin : List (List ℕ) → List (List ℕ) → Option Fault
 first_off_pin routes pins = first_route (told_by (λ r _ i n. off_pin_at (unwrap_or (slice_get routes r) []) i n)) 0 pins
 
 -- what is told of a vehicle that leaves the depot and is back too late
-abbrev pub return_told : Instance → List ℕ → Option Told
+abbrev pub return_told : Instance → List ℕ → Option PlaceFault
 return_told p route =
-    if (length route == 0) || not (nat_lt p.depot.latest (start p route (length route + 1))) then None else Some (record { place = length route; stop = 0 })
+    if (length route == 0) || not (is_too_late (start p route (length route + 1)) p.depot.latest) then None else Some (record { place = length route; stop = 0 })
 
 -- the first route that is used beyond so many vehicles, where the routes count from k on
 abbrev pub first_beyond : ℕ → ℕ → List (List ℕ) → Option ℕ

@@ -16,9 +16,9 @@ use Rattle.plan_audit.specs.declared.rules.Verdict.TheVariants.{Pass}
 abbrev pub VerdictsAreUnique : Type 0
 VerdictsAreUnique = (p : Instance) (s : Subject) (v w : Verdict) → IsVerdict p s v → IsVerdict p s w → v ≡ w
 
--- law: every plan of a problem has an answer
-abbrev pub PlansHaveVerdicts : Type 0
-PlansHaveVerdicts = (p : Instance) (routes pins : List (List ℕ)) → IsInstance p → (v : Verdict) × IsVerdict p (planned routes pins) v
+-- law: a function gives every plan and every printed solution its verdict
+abbrev pub SubjectsHaveVerdicts : Type 0
+SubjectsHaveVerdicts = (verdict : Instance → Subject → Verdict) × ((p : Instance) (s : Subject) → IsInstance p → IsVerdict p s (verdict p s))
 
 -- law: a list of live stops is feasible alone, or breaks a least rule alone
 abbrev pub RoutesHaveAnswers : Type 0

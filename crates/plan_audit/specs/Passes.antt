@@ -1,11 +1,12 @@
 -- Whether a plan passes, and whether a route is feasible alone, as tests that compute, however slowly: the rules one by one. Laws tie
 -- them to the verdict.
-use Rattle.std.specs.Prelude.{ℕ, ◌+◌, pos, nat_eq, nat_le, int_lt, ◌==◌, ◌&&◌, ◌||◌, not, Bool, true, false, List, [], ◌∷◌, length, is_some}
+use Rattle.std.specs.Prelude.{ℕ, ◌+◌, nat_eq, nat_le, ◌==◌, ◌&&◌, ◌||◌, not, Bool, true, false, List, [], ◌∷◌, length, is_some}
 use Rattle.std.specs.List.{list_any, list_all, concat, starts_with, range_with_len}
 use Rattle.std.specs.Option.{option_map_or}
 use Rattle.plan_types.specs.Instance.{Instance, stop_at, partner_at, pickup_at}
 use Rattle.plan_types.specs.declared.requests.Kind.{Kind}
 use Rattle.plan_types.specs.declared.requests.Kind.TheVariants.{LiLim, Vrp}
+use Rattle.route_sched.specs.Limits.{is_too_much}
 use Rattle.route_sched.specs.Route.{place}
 use Rattle.route_sched.specs.Schedule.{start, load}
 
@@ -37,7 +38,7 @@ places_of route = range_with_len 1 (length route)
 
 -- at no place the load is above the capacity (6)
 abbrev pub keeps_capacity : Instance → List ℕ → Bool
-keeps_capacity p route = list_all (λ i. not (int_lt (pos p.capacity) (load p route i))) (places_of route)
+keeps_capacity p route = list_all (λ i. not (is_too_much (load p route i) p.capacity)) (places_of route)
 
 -- each service starts by its stop's latest time (7)
 abbrev pub keeps_windows : Instance → List ℕ → Bool

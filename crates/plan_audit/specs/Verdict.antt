@@ -1,5 +1,5 @@
 -- What an audit answers.
-use Rattle.std.specs.Prelude.{◌≡◌, ◌≢◌, ℕ, ◌+◌, ◌<◌, ◌≤◌, ◌⊎◌, List, [], ◌∷◌, codes, length, take, nat_eq, Option, Some, unwrap_or}
+use Rattle.std.specs.Prelude.{◌≡◌, ◌≢◌, ℕ, ◌+◌, ◌<◌, ◌≤◌, ◌⊎◌, List, [], ◌∷◌, codes, length, take, nat_eq, nat_lt, Bool, Option, Some, unwrap_or}
 use Rattle.std.specs.List.{AllByRecursion}
 use Rattle.std.specs.Map.{lookup}
 use Rattle.plan_types.specs.Instance.{Instance}
@@ -42,6 +42,10 @@ all_rules =
 -- the rule of a number
 abbrev pub rule_of : ℕ → Option Rule
 rule_of number = item_at all_rules number
+
+-- it asks which stops stand where, and nothing of loads, times or the plan as a whole
+abbrev pub is_of_stops : Rule → Bool
+is_of_stops rule = nat_lt (rule_number rule) (rule_number Load)
 
 -- what is wrong where it is broken, in the words that people are told
 unfoldable pub rule_name : Rule → List ℕ

@@ -8,11 +8,11 @@ ghost use Rattle.plan_audit.specs.Finding.{first_place, seat_of, missing_at, del
 ghost use Rattle.plan_audit.specs.Passes.{feasible_alone};
 ghost use Rattle.plan_audit.specs.Alone.{IsFeasibleAlone, IsFaultAlone, IsLeastAlone};
 
-use crate::faults::{Told, first_place};
+use crate::faults::{PlaceFault, first_place};
 use crate::laws::tests_say_feasible;
 use crate::pairs::{early_delivery, missing_partner};
 use crate::rules::Rule;
-use crate::seats::Seat;
+use crate::seats::PlanPlace;
 use crate::timing::{late_return, late_stop, overload};
 use plan_types::{Kind, Problem};
 
@@ -69,7 +69,7 @@ fn broken_alone(problem: &Problem, route: &[u32]) -> Option<Rule>
 }
 
 // The first stop whose partner is not in the list.
-fn missing_alone(problem: &Problem, route: &[u32]) -> Option<Told>
+fn missing_alone(problem: &Problem, route: &[u32]) -> Option<PlaceFault>
     ensures { result ≡ first_place (λ _ n. missing_at problem.now (route.now ∷ []) n) 0 route.now }
 {
     first_place(route, |_, stop| missing_stop(problem, route, stop))
@@ -82,7 +82,7 @@ fn missing_stop(problem: &Problem, route: &[u32], stop: u32) -> Option<u32>
 }
 
 // The first delivery whose pickup stands later in the list.
-fn delivered_alone(problem: &Problem, route: &[u32]) -> Option<Told>
+fn delivered_alone(problem: &Problem, route: &[u32]) -> Option<PlaceFault>
     ensures { result ≡ first_place (delivered_at problem.now (route.now ∷ [])) 0 route.now }
 {
     first_place(route, |place, stop| {
@@ -97,9 +97,9 @@ fn delivered_stop(problem: &Problem, route: &[u32], place: usize, stop: u32) -> 
 }
 
 // The first seat of a stop in the list.
-fn seat_alone(route: &[u32], stop: u32) -> Option<Seat>
+fn seat_alone(route: &[u32], stop: u32) -> Option<PlanPlace>
     ensures { result ≡ seat_of (route.now ∷ []) stop }
 {
     let place = route.iter().position(|other| *other == stop)?;
-    Some(Seat { route: 0, place })
+    Some(PlanPlace { route: 0, place })
 }

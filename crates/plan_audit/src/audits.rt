@@ -83,7 +83,7 @@ pub fn audit_solution(
     Ok(Verdict::Pass(cost))
 }
 
-// What the routes cost where the rules on stops are kept, else the least broken one of these. A request that must be
+// What the routes cost where the rules 1 to 8 are kept, else the least broken one of these. A request that must be
 // served and is not is passed in.
 fn judge_stops(scan: &Scan, unserved: Option<u32>) -> Result<Cost, Verdict>
     requires { IsInstance scan.now.problem.now }

@@ -5,13 +5,13 @@
 ghost use Rattle.std.specs.Prelude.{◌≡◌, ℕ, ◌+◌, ◌^◌, ◌<◌, List, Option, Contains, IfSome, length};
 ghost use Rattle.plan_audit.specs.Finding.{first_place, first_route};
 ghost use Rattle.std.specs.Borrow.{Bor};
-ghost use Rattle.plan_audit.specs.declared.faults.Told.{Told};
+ghost use Rattle.plan_audit.specs.declared.faults.PlaceFault.{PlaceFault};
 
 use plan_types::Route;
 
 /// A place of a route that breaks a rule, and the stop to tell.
 #[derive(Clone, Copy)]
-pub(crate) struct Told {
+pub(crate) struct PlaceFault {
     pub place: usize,
     pub stop: u32,
 }
@@ -25,7 +25,10 @@ pub(crate) struct Fault {
 }
 
 /// What the test answers first: it is given each place with its stop.
-pub(crate) fn first_place<F: Fn(usize, u32) -> Option<u32>>(route: &[u32], test: F) -> Option<Told>
+pub(crate) fn first_place<F: Fn(usize, u32) -> Option<u32>>(
+    route: &[u32],
+    test: F,
+) -> Option<PlaceFault>
     requires { F.IsAlwaysCallable test }
     ensures told { (tells : ℕ → ℕ → Option ℕ)
         → ((i n : ℕ) (o : Option ℕ) → Contains route.now n → F.post test i n o → o ≡ tells i n)
@@ -34,24 +37,24 @@ pub(crate) fn first_place<F: Fn(usize, u32) -> Option<u32>>(route: &[u32], test:
 {
     for (place, stop) in route.iter().enumerate() {
         if let Some(stop) = test(place, *stop) {
-            return Some(Told { place, stop });
+            return Some(PlaceFault { place, stop });
         }
     }
     None
 }
 
 /// What the test of routes answers first: it is given each route with its number.
-pub(crate) fn first_fault<F: Fn(usize, &[u32]) -> Option<Told>>(
+pub(crate) fn first_fault<F: Fn(usize, &[u32]) -> Option<PlaceFault>>(
     routes: &[Route],
     test: F,
 ) -> Option<Fault>
     requires { (k : ℕ) (route : Bor (List ℕ)) → Contains routes.now route.now → F.pre test k route }
-    ensures told { (tells : ℕ → List ℕ → Option Told)
-        → ((k : ℕ) (route : Bor (List ℕ)) (o : Option Told) → Contains routes.now route.now
+    ensures told { (tells : ℕ → List ℕ → Option PlaceFault)
+        → ((k : ℕ) (route : Bor (List ℕ)) (o : Option PlaceFault) → Contains routes.now route.now
         → F.post test k route o → o ≡ tells k route.now)
         → result ≡ first_route tells 0 routes.now }
     ensures route { IfSome result (λ f. f.route + 1 < 2 ^ 64) }
-    ensures place { ((k : ℕ) (route : Bor (List ℕ)) (o : Option Told) → F.post test k route o
+    ensures place { ((k : ℕ) (route : Bor (List ℕ)) (o : Option PlaceFault) → F.post test k route o
         → IfSome o (λ t. t.place + 1 < 2 ^ 64)) → IfSome result (λ f. f.place + 1 < 2 ^ 64) }
 {
     for (number, route) in routes.iter().enumerate() {

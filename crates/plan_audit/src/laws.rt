@@ -1,7 +1,7 @@
 //! Laws of the verdict, each for every problem, plan and verdict: what it means to a dispatcher.
 ghost use Rattle.plan_audit.specs.Laws.{PassesAreSound, PassesArePlans, UnsoundIsBroken, PlansPassWhereSound, SolutionsPassWhereSound, RoutesAreFeasible, RoutesAreJudgedByTrueCost};
 ghost use Rattle.plan_audit.specs.Printing.{UsedRoutesAreSound, WholePlansPassPrinted};
-ghost use Rattle.plan_audit.specs.Locality.{TestsSayFeasible, TestsSayPass, PassesAreLocal, PlansAreLocal, PinsAreLiveOnce, PlansHaveVerdicts, RoutesHaveAnswers, RoutesMayBeReplaced, VerdictsAreUnique, FeasibilityIsLocal};
+ghost use Rattle.plan_audit.specs.Locality.{TestsSayFeasible, TestsSayPass, PassesAreLocal, PlansAreLocal, PinsAreLiveOnce, SubjectsHaveVerdicts, RoutesHaveAnswers, RoutesMayBeReplaced, VerdictsAreUnique, FeasibilityIsLocal};
 
 use plan_types::{requests_are_found_by_stop, requests_stand_by_name};
 use route_sched::schedules_agree;
@@ -87,10 +87,10 @@ pub fn routes_may_be_replaced()
     ensures { RoutesMayBeReplaced }
 {}
 
-/// Every plan has a verdict: it passes, or some rule is the least that it breaks. Every list of live stops is feasible alone, or some
-/// rule is the least that it breaks alone.
+/// Every plan with its pins and every printed solution has a verdict: it passes, or some rule is the least that it breaks. Every list of
+/// live stops is feasible alone, or some rule is the least that it breaks alone.
 pub fn each_plan_has_a_verdict()
-    ensures plans { PlansHaveVerdicts }
+    ensures verdicts { SubjectsHaveVerdicts }
     ensures routes { RoutesHaveAnswers }
 {}
 

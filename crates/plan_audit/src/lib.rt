@@ -40,9 +40,9 @@
 //!   where it is feasible alone; `is_feasible` answers the test `feasible_alone`;
 //! - `audit_routes` answers the verdict on rules 1 to 10 (`IsRoutesVerdict`), which is the auditor's on the same
 //!   routes printed with the distance that they drive (`routes_are_judged_by_true_cost`);
-//! - each plan has one verdict (`each_plan_has_a_verdict`, `verdicts_are_unique`), and passes exactly where
-//!   it is sound and keeps fleet and pins, a printed solution where it keeps fleet and cost (the laws named
-//!   after `sound`);
+//! - each plan and each printed solution has one verdict (`each_plan_has_a_verdict`, `verdicts_are_unique`); a
+//!   plan passes exactly where it is sound and keeps fleet and pins, a printed solution where it keeps fleet
+//!   and cost (the laws named after `sound`);
 //! - a verdict is local (`passes_are_local`, `routes_may_be_replaced`): a plan passes exactly where its stops
 //!   are live and stand once, each vehicle has a route, and each route is feasible alone and begins with its
 //!   pin; feasible alone depends on the route's own requests (`feasibility_is_local`);

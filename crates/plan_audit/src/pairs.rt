@@ -1,20 +1,20 @@
 //! The pair that a stop belongs to.
 ghost use Rattle.std.specs.Prelude.{◌≡◌, ℕ, ◌<◌, List, Option};
 ghost use Rattle.plan_audit.specs.Finding.{seat_of, missing_at, delivered_at};
-ghost use Rattle.plan_audit.specs.declared.seats.Seat.{Seat};
+ghost use Rattle.plan_audit.specs.declared.seats.PlanPlace.{PlanPlace};
 
-use crate::seats::Seat;
+use crate::seats::PlanPlace;
 use plan_types::Problem;
 
 /// The other stop of the stop's pair, where `seat` finds no seat for it.
-pub(crate) fn missing_partner<F: Fn(u32) -> Option<Seat>>(
+pub(crate) fn missing_partner<F: Fn(u32) -> Option<PlanPlace>>(
     problem: &Problem,
     stop: u32,
     seat: F,
 ) -> Option<u32>
     requires { F.IsAlwaysCallable seat }
     ensures { (routes : List (List ℕ))
-        → ((n : ℕ) (o : Option Seat) → n < problem.now.next_number → F.post seat n o
+        → ((n : ℕ) (o : Option PlanPlace) → n < problem.now.next_number → F.post seat n o
         → o ≡ seat_of routes n) → result ≡ missing_at problem.now routes stop }
 {
     let partner = problem.partner_of(stop)?;
@@ -25,7 +25,7 @@ pub(crate) fn missing_partner<F: Fn(u32) -> Option<Seat>>(
 }
 
 /// The stop, where it is a delivery whose pickup has its seat behind this place.
-pub(crate) fn early_delivery<F: Fn(u32) -> Option<Seat>>(
+pub(crate) fn early_delivery<F: Fn(u32) -> Option<PlanPlace>>(
     problem: &Problem,
     place: usize,
     stop: u32,
@@ -33,7 +33,7 @@ pub(crate) fn early_delivery<F: Fn(u32) -> Option<Seat>>(
 ) -> Option<u32>
     requires { F.IsAlwaysCallable seat }
     ensures { (routes : List (List ℕ))
-        → ((n : ℕ) (o : Option Seat) → n < problem.now.next_number → F.post seat n o
+        → ((n : ℕ) (o : Option PlanPlace) → n < problem.now.next_number → F.post seat n o
         → o ≡ seat_of routes n) → result ≡ delivered_at problem.now routes place stop }
 {
     let seat = seat(problem.pickup_of(stop)?)?;

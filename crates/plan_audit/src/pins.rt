@@ -3,7 +3,7 @@
 ghost use Rattle.std.specs.Prelude.{◌≡◌, ◌+◌, ◌<◌, ◌^◌, [], IfSome, unwrap_or, slice_get};
 ghost use Rattle.plan_audit.specs.Finding.{first_place, first_off_pin, off_pin_at};
 
-use crate::faults::{Fault, Told, first_fault, first_place};
+use crate::faults::{Fault, PlaceFault, first_fault, first_place};
 use plan_types::Route;
 
 /// The first place at which a route is not as its pin; the pin's stop is told.
@@ -26,7 +26,7 @@ fn stops_at(routes: &[Route], number: usize) -> &[u32]
 }
 
 // The first place at which the route is not as the pin.
-fn off_pin(route: &[u32], pin: &[u32]) -> Option<Told>
+fn off_pin(route: &[u32], pin: &[u32]) -> Option<PlaceFault>
     ensures told { result ≡ first_place (off_pin_at route.now) 0 pin.now }
     ensures fits { IfSome result (λ t. t.place + 1 < 2 ^ 64) }
 {

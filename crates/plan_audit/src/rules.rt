@@ -1,7 +1,7 @@
 //! The eleven rules by number and name, what each asks and which function asks it, and what an audit answers.
 ghost use Rattle.std.specs.Prelude.{◌≡◌, ◌+◌, ◌<◌, ◌^◌};
 ghost use Rattle.plan_audit.specs.Rules.{item_at};
-ghost use Rattle.plan_audit.specs.Verdict.{all_rules, rule_name, rule_number, rule_of};
+ghost use Rattle.plan_audit.specs.Verdict.{all_rules, is_of_stops, rule_name, rule_number, rule_of};
 
 use crate::faults::Fault;
 use plan_types::Cost;
@@ -86,6 +86,13 @@ impl Rule {
         ensures { result ≡ rule_number self }
     {
         self as u32
+    }
+
+    /// Whether the rule asks which stops stand where, and nothing of loads, times or the plan as a whole: rules 1 to 5.
+    pub fn is_of_stops(self) -> bool
+        ensures { result ≡ is_of_stops self }
+    {
+        self.number() < Rule::Load.number()
     }
 
     /// What is wrong where the rule is broken, in the words that people are told.

@@ -7,9 +7,9 @@ ghost use Rattle.route_sched.specs.Cost.{has_stop, is_planned, unplanned_count};
 ghost use Rattle.plan_types.specs.Instance.{IsInstance};
 ghost use Rattle.plan_types.specs.Laws.{IsBelowNext};
 
-use crate::faults::{Fault, Told, first_fault, first_place};
+use crate::faults::{Fault, PlaceFault, first_fault, first_place};
 use crate::pairs::{early_delivery, missing_partner};
-use crate::seats::{Seat, seats};
+use crate::seats::{PlanPlace, seats};
 use plan_types::{OutOfMemory, Problem, Request, Route, numbers_are_below_the_next};
 use std::alloc::Global;
 
@@ -18,7 +18,7 @@ use std::alloc::Global;
 pub(crate) struct Scan<'a> {
     pub problem: &'a Problem,
     pub routes: &'a [Route],
-    seats: Vec<Option<Seat>>,
+    seats: Vec<Option<PlanPlace>>,
     ghost sized: { problem.now.next_number ≤ vec_len seats },
     ghost seated: { (n : ℕ) → n < vec_len seats
         → slice_index_or seats.items n None ≡ seat_of routes.now n },
@@ -46,7 +46,7 @@ impl<'a> Scan<'a> {
 
 impl Scan<'_> {
     // The first seat of a stop number of the problem.
-    fn seat(&self, stop: u32) -> Option<Seat>
+    fn seat(&self, stop: u32) -> Option<PlanPlace>
         ensures { stop < self.now.problem.now.next_number
             → result ≡ seat_of self.now.routes.now stop }
     {
@@ -163,7 +163,7 @@ impl Scan<'_> {
     }
 
     // The first stop of a route that is of no request.
-    fn unknown(&self, route: &[u32]) -> Option<Told>
+    fn unknown(&self, route: &[u32]) -> Option<PlaceFault>
         ensures told { result ≡ first_place
             (λ _ n. unknown_at self.now.problem.now self.now.routes.now n) 0 route.now }
         ensures fits { IfSome result (λ t. t.place + 1 < 2 ^ 64) }
@@ -175,7 +175,7 @@ impl Scan<'_> {
     }
 
     // The first stop of a route that stands at an earlier place too.
-    fn repeated(&self, number: usize, route: &[u32]) -> Option<Told>
+    fn repeated(&self, number: usize, route: &[u32]) -> Option<PlaceFault>
         requires { All (λ n. n < self.now.problem.now.next_number) route.now }
         ensures told { result ≡ first_place
             (repeated_at self.now.problem.now self.now.routes.now number) 0 route.now }
@@ -197,7 +197,7 @@ impl Scan<'_> {
     }
 
     // The first stop of a route whose partner is in no route.
-    fn missing(&self, route: &[u32]) -> Option<Told>
+    fn missing(&self, route: &[u32]) -> Option<PlaceFault>
         ensures told { result ≡ first_place
             (λ _ n. missing_at self.now.problem.now self.now.routes.now n) 0 route.now }
         ensures fits { IfSome result (λ t. t.place + 1 < 2 ^ 64) }
@@ -212,7 +212,7 @@ impl Scan<'_> {
     }
 
     // The first stop of a route whose partner is in another one.
-    fn split(&self, number: usize, route: &[u32]) -> Option<Told>
+    fn split(&self, number: usize, route: &[u32]) -> Option<PlaceFault>
         ensures told { result ≡ first_place
             (λ _ n. split_at self.now.problem.now self.now.routes.now number n) 0 route.now }
         ensures fits { IfSome result (λ t. t.place + 1 < 2 ^ 64) }
@@ -232,7 +232,7 @@ impl Scan<'_> {
     }
 
     // The first delivery of a route whose pickup stands later.
-    fn delivered(&self, route: &[u32]) -> Option<Told>
+    fn delivered(&self, route: &[u32]) -> Option<PlaceFault>
         ensures told { result ≡ first_place
             (delivered_at self.now.problem.now self.now.routes.now) 0 route.now }
         ensures fits { IfSome result (λ t. t.place + 1 < 2 ^ 64) }

@@ -8,7 +8,7 @@ use std::alloc::Global;
 
 /// A place of a plan; routes and places count from 0.
 #[derive(Clone, Copy)]
-pub(crate) struct Seat {
+pub(crate) struct PlanPlace {
     pub route: usize,
     pub place: usize,
 }
@@ -18,7 +18,7 @@ pub(crate) fn seats(
     alloc: Global,
     len: usize,
     routes: &[Route],
-) -> Result<Vec<Option<Seat>>, OutOfMemory>
+) -> Result<Vec<Option<PlanPlace>>, OutOfMemory>
     ensures len { IfOk result (λ seats. vec_len seats ≡ len) }
     ensures first { IfOk result (λ seats. (n : ℕ) → n < len
         → slice_index_or seats.items n None ≡ seat_of routes.now n) }
@@ -31,7 +31,7 @@ pub(crate) fn seats(
 }
 
 // Enters the stops of one route that have no seat yet.
-fn take_seats(seats: &mut [Option<Seat>], route: usize, stops: &[u32])
+fn take_seats(seats: &mut [Option<PlanPlace>], route: usize, stops: &[u32])
     ensures { (n : ℕ) → n < length seats.old
         → slice_index_or seats.new n None
         ≡ option_or (slice_index_or seats.old n None) (seat_in n route stops.now) }
@@ -39,7 +39,7 @@ fn take_seats(seats: &mut [Option<Seat>], route: usize, stops: &[u32])
     for (place, stop) in stops.iter().enumerate() {
         let stop = *stop as usize;
         if stop < seats.len() && seats[stop].is_none() {
-            seats[stop] = Some(Seat { route, place });
+            seats[stop] = Some(PlanPlace { route, place });
         }
     }
 }

@@ -2,17 +2,18 @@
 //!
 //! Routes that keep all three are driven once: `kept_cost` judges each visit and sums the ways. Where it gives
 //! nothing, rule after rule is asked, so that the least broken one is told.
-ghost use Rattle.std.specs.Prelude.{◌≡◌, ℕ, ◌^◌, ◌<◌, ◌↔◌, ◌+◌, Bool, IsTrue, IfSome, All, length, int_lt, pos};
+ghost use Rattle.std.specs.Prelude.{◌≡◌, ℕ, ◌^◌, ◌<◌, ◌+◌, Bool, IfSome, All, length};
 ghost use Rattle.route_sched.specs.Cost.{cost_of, unplanned_count};
+ghost use Rattle.route_sched.specs.Limits.{is_too_late, is_too_much};
 ghost use Rattle.route_sched.specs.Route.{AreLiveOnce};
 ghost use Rattle.route_sched.specs.Schedule.{start, route_length};
 ghost use Rattle.route_sched.specs.declared.visits.Visit.{Visit};
 ghost use Rattle.plan_audit.specs.Finding.{first_place, IsFirstTold, told_by, return_told, visit_told, is_overloaded, is_late, breaks_window, breaks_limits, KeepsLimits};
 ghost use Rattle.plan_audit.specs.Verdict.{Subject, routes_of, KeepsRules};
 
-use crate::faults::{Fault, Told, first_fault};
+use crate::faults::{Fault, PlaceFault, first_fault};
 use plan_types::{Cost, Kind, Problem, Route};
-use route_sched::{Visit, Visits, vehicle_count};
+use route_sched::{Visit, Visits, is_too_late, is_too_much, vehicle_count};
 
 /// What routes cost that keep the rules on loads and times, for a caller that has counted the unplanned requests. Each
 /// route is driven once. `None` says nothing.
@@ -100,7 +101,7 @@ pub(crate) fn first_late_return(problem: &Problem, routes: &[Route]) -> Option<F
 }
 
 /// The return of a vehicle that leaves the depot and is back too late.
-pub(crate) fn late_return(problem: &Problem, route: &[u32]) -> Option<Told>
+pub(crate) fn late_return(problem: &Problem, route: &[u32]) -> Option<PlaceFault>
     requires { AreLiveOnce problem.now route.now }
     ensures told { result ≡ return_told problem.now route.now }
     ensures fits { IfSome result (λ t. t.place + 1 < 2 ^ 64) }
@@ -108,14 +109,14 @@ pub(crate) fn late_return(problem: &Problem, route: &[u32]) -> Option<Told>
     if route.is_empty() || !returns_late(problem, route) {
         return None;
     }
-    Some(Told {
+    Some(PlaceFault {
         place: route.len(),
         stop: 0,
     })
 }
 
 /// The first stop after which the vehicle carries more than it can.
-pub(crate) fn overload(problem: &Problem, route: &[u32]) -> Option<Told>
+pub(crate) fn overload(problem: &Problem, route: &[u32]) -> Option<PlaceFault>
     requires { AreLiveOnce problem.now route.now }
     ensures told { result ≡ first_place
         (visit_told problem.now (is_overloaded problem.now) route.now) 0 route.now }
@@ -126,13 +127,13 @@ pub(crate) fn overload(problem: &Problem, route: &[u32]) -> Option<Told>
 }
 
 fn carries_more(visit: &Visit, capacity: u32) -> bool
-    ensures { result ≡ int_lt (pos capacity) visit.now.load }
+    ensures { result ≡ is_too_much visit.now.load capacity }
 {
-    visit.load > i64::from(capacity)
+    is_too_much(visit.load, capacity)
 }
 
 /// The first stop whose service starts too late.
-pub(crate) fn late_stop(problem: &Problem, route: &[u32]) -> Option<Told>
+pub(crate) fn late_stop(problem: &Problem, route: &[u32]) -> Option<PlaceFault>
     requires { AreLiveOnce problem.now route.now }
     ensures told { result ≡ first_place (visit_told problem.now is_late route.now) 0 route.now }
     ensures fits { IfSome result (λ t. t.place + 1 < 2 ^ 64) }
@@ -143,11 +144,15 @@ pub(crate) fn late_stop(problem: &Problem, route: &[u32]) -> Option<Told>
 fn starts_late(visit: &Visit) -> bool
     ensures { result ≡ is_late visit.now }
 {
-    visit.start > u64::from(visit.stop.latest)
+    is_too_late(visit.start, visit.stop.latest)
 }
 
 // The first stop whose visit fails the test.
-fn first_visit<F: Fn(Visit) -> bool>(problem: &Problem, route: &[u32], fails: F) -> Option<Told>
+fn first_visit<F: Fn(Visit) -> bool>(
+    problem: &Problem,
+    route: &[u32],
+    fails: F,
+) -> Option<PlaceFault>
     requires once { AreLiveOnce problem.now route.now }
     requires callable { F.IsAlwaysCallable fails }
     ensures told { (test : Visit → Bool) → ((v : Visit) (b : Bool) → F.post fails v b → b ≡ test v)
@@ -160,7 +165,7 @@ fn first_visit<F: Fn(Visit) -> bool>(problem: &Problem, route: &[u32], fails: F)
             break;
         };
         if fails(visit) {
-            return Some(Told { place, stop: *stop });
+            return Some(PlaceFault { place, stop: *stop });
         }
     }
     None
@@ -169,10 +174,10 @@ fn first_visit<F: Fn(Visit) -> bool>(problem: &Problem, route: &[u32], fails: F)
 // Whether the vehicle is back after the depot's latest time.
 fn returns_late(problem: &Problem, route: &[u32]) -> bool
     requires { AreLiveOnce problem.now route.now }
-    ensures { IsTrue result ↔ (problem.now.depot.latest
-        < start problem.now route.now (length route.now + 1)) }
+    ensures { result ≡ is_too_late (start problem.now route.now (length route.now + 1))
+        problem.now.depot.latest }
 {
-    u64::from(problem.depot.latest) < time_back(problem, route)
+    is_too_late(time_back(problem, route), problem.depot.latest)
 }
 
 // When the vehicle is back at the depot.

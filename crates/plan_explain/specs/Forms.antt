@@ -7,7 +7,7 @@ use Rattle.instance_read.specs.declared.evidence.Field.TheVariants as fields
 use Rattle.instance_read.specs.declared.vrp_lines.Key.{Key}
 use Rattle.instance_read.specs.declared.vrp_lines.Key.TheVariants as keys
 use Rattle.plan_types.specs.declared.requests.Stop.{Stop}
-use Rattle.rule_breaches.specs.declared.seats.Seat.{Seat}
+use Rattle.rule_breaches.specs.declared.seats.SolutionPlace.{SolutionPlace}
 use Rattle.told_text.specs.Columns.{left as at_left, right, right_signed}
 use Rattle.plan_explain.specs.Cited.{shown_bytes}
 use Rattle.plan_explain.specs.declared.forms.Value.{Value}
@@ -17,7 +17,7 @@ abbrev pub text_if : List ℕ → Bool → List ℕ
 text_if words holds = if holds then words else []
 
 -- where a stop stands
-abbrev pub seat_text : Option Seat → List ℕ
+abbrev pub seat_text : Option SolutionPlace → List ℕ
 seat_text None = codes "in no route"
 seat_text (Some s) = codes "at place " ++ decimal s.place ++ codes " of route " ++ decimal s.route
 

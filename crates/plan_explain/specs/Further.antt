@@ -1,5 +1,5 @@
 -- How often a rule is broken, and where else; how often each rule behind it. Routes and places count from 1.
-use Rattle.plan_audit.specs.Verdict.{rule_number}
+use Rattle.plan_audit.specs.Verdict.{is_of_stops, rule_number}
 use Rattle.plan_audit.specs.declared.rules.Rule.TheVariants.{Missing, Fleet, Pin, PrintedCost, Twice, SplitPair, DeliveryFirst, Load, Late, LateReturn}
 use Rattle.plan_audit.specs.declared.rules.Rule.{Rule}
 use Rattle.plan_explain.specs.Forms.{form}
@@ -44,7 +44,7 @@ count_text rule n = if n == 0 then [] else form (codes "places that break rule @
 
 -- Loads and times are known where no stop is unknown or stands twice.
 abbrev pub is_counted : Rule → Rule → Bool
-is_counted told rule = nat_lt (rule_number told) (rule_number rule) && (nat_lt (rule_number rule) 6 || knows_ways told)
+is_counted told rule = nat_lt (rule_number told) (rule_number rule) && (is_of_stops rule || knows_ways told)
 
 abbrev pub other_text : Instance → List (List ℕ) → Rule → Rule → List ℕ
 other_text p routes told rule = if is_counted told rule then count_text rule (count_of p routes rule) else []

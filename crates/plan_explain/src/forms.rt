@@ -6,7 +6,7 @@ ghost use Rattle.plan_explain.specs.Forms.{demand_text, field_name, form, key_na
 use crate::cited::put_shown;
 use instance_read::{Field, Key};
 use plan_types::Stop;
-use rule_breaches::Seat;
+use rule_breaches::SolutionPlace;
 use told_text::Told;
 
 /// What stands in the place of an `@`.
@@ -23,7 +23,7 @@ pub(crate) enum Value<'a> {
     Left(usize, u64),
     WordsIf(&'a str, bool),
     /// Where a stop stands.
-    At(Option<Seat>),
+    At(Option<SolutionPlace>),
     /// Bytes of the text.
     Cited(&'a [u8]),
     Name(Field),
@@ -98,10 +98,10 @@ pub(crate) fn put_if(text: &mut Told, words: &str, holds: bool)
     }
 }
 
-fn put_seat(text: &mut Told, seat: Option<Seat>)
+fn put_seat(text: &mut Told, seat: Option<SolutionPlace>)
     ensures { text.new ≡ text.old ++ seat_text seat }
 {
-    let Some(Seat { route, place }) = seat else {
+    let Some(SolutionPlace { route, place }) = seat else {
         text.push_str("in no route");
         return;
     };

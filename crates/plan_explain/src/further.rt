@@ -1,8 +1,8 @@
 //! How often a rule is broken, and where else; how often each rule behind it.
-ghost use Rattle.std.specs.Prelude.{◌≡◌, ◌<◌, ◌++◌, All, IfOk, IsTrue, OnOk, drop};
+ghost use Rattle.std.specs.Prelude.{◌≡◌, ◌++◌, false, All, IfOk, IsTrue, OnOk, drop};
 ghost use Rattle.std.specs.List.{flat_map};
 ghost use Rattle.route_sched.specs.Route.{AreLiveOnce};
-ghost use Rattle.plan_audit.specs.Verdict.{rule_number};
+ghost use Rattle.plan_audit.specs.Verdict.{is_of_stops};
 ghost use Rattle.rule_breaches.specs.Ways.{knows_ways};
 ghost use Rattle.plan_explain.specs.Further.{count_of, count_text, further_text, is_counted, missing_stop_text, missing_text, other_text, place_text, places_text};
 
@@ -139,7 +139,7 @@ fn put_other(
 fn is_counted(told: Rule, rule: Rule) -> bool
     ensures { result ≡ is_counted told rule }
 {
-    told.number() < rule.number() && (rule.number() < 6 || knows_ways(told))
+    told.number() < rule.number() && (rule.is_of_stops() || knows_ways(told))
 }
 
 fn put_count(text: &mut Told, rule: Rule, count: u64)
@@ -158,7 +158,7 @@ fn count_of(
     routes: &[Route],
     rule: Rule,
 ) -> Result<u64, OutOfMemory>
-    requires { 5 < rule_number rule → All (AreLiveOnce problem.now) routes.now }
+    requires { is_of_stops rule ≡ false → All (AreLiveOnce problem.now) routes.now }
     ensures { IfOk result (λ count. count ≡ count_of problem.now routes.now rule) }
 {
     match rule {

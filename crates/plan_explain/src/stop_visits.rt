@@ -25,7 +25,8 @@ pub fn stop_visits_of(
     route: &[u32],
 ) -> Result<Vec<StopVisit>, OutOfMemory>
     requires { AreLiveOnce problem.now route.now }
-    ensures { IfOk result (λ stop_visits. stop_visits.items ≡ stop_visits_of problem.now route.now) }
+    ensures { IfOk result (λ stop_visits. stop_visits.items
+        ≡ stop_visits_of problem.now route.now) }
 {
     let mut stop_visits = Vec::new(alloc);
     let mut visits = Visits::new(problem, route);

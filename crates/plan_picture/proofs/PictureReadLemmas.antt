@@ -61,7 +61,7 @@ use Rattle.plan_picture.specs.Styles.{style}
 use Rattle.plan_picture.specs.Tags.{fixed}
 use Rattle.plan_picture.specs.WellFormed.{inside, IsWellFormed, outside, unquoted}
 use Rattle.plan_picture.specs.Words.{word}
-use Rattle.plan_picture.specs.declared.heads.Breach.{Breach}
+use Rattle.plan_picture.specs.declared.heads.BrokenRule.{BrokenRule}
 use Rattle.plan_picture.specs.declared.styles.Style.TheVariants as styles
 use Rattle.plan_picture.specs.declared.tags.Tag.TheVariants as tags
 use Rattle.plan_picture.specs.declared.words.Word.{Word}
@@ -173,7 +173,7 @@ partner_stays : (p : Instance) (n : ℕ) → Stays (partner_figures p n)
 unfolding word
 partner_stays p n = stays_maybe (figure words.Partner) (partner_at p n) (λ m. figure_stays words.Partner m (λ k os. refl))
 
-figures_stay : (rule : Rule) (p : Instance) (routes : List (List ℕ)) (b : Breach) → Stays (rule_figures rule p routes b)
+figures_stay : (rule : Rule) (p : Instance) (routes : List (List ℕ)) (b : BrokenRule) → Stays (rule_figures rule p routes b)
 unfolding word
 figures_stay UnknownStop p routes b = λ n os. refl
 figures_stay Twice p routes b = λ n os. refl
@@ -187,7 +187,7 @@ figures_stay Fleet p routes b = fleet_stays p routes
 figures_stay Pin p routes b = λ n os. refl
 figures_stay PrintedCost p routes b = figure_stays words.Driven (total_length p routes) (λ n os. refl)
 
-place_stays : (b : Breach) → Stays (broken_place b)
+place_stays : (b : BrokenRule) → Stays (broken_place b)
 unfolding broken_place word
 place_stays b =
     let route = some_figure words.BrokenRoute b.route in
@@ -203,7 +203,7 @@ rule_stays rule =
     stays_with (first ++ word words.BeforeName) (rule_name rule)
     (stays_with first (word words.BeforeName) (figure_stays words.BrokenRule (rule_number rule) (λ n os. refl)) (λ n os. refl)) (name_stays rule)
 
-broken_stays : (p : Instance) (routes : List (List ℕ)) (b : Breach) → Stays (broken_text p routes b)
+broken_stays : (p : Instance) (routes : List (List ℕ)) (b : BrokenRule) → Stays (broken_text p routes b)
 unfolding broken_text
 broken_stays p routes b =
     stays_with (rule_text b.rule ++ broken_place b) (rule_figures b.rule p routes b)

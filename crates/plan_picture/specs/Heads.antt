@@ -19,7 +19,7 @@ use Rattle.plan_picture.specs.Svg.{attribute, figure, some_figure, tagged}
 use Rattle.plan_picture.specs.Styles.{style}
 use Rattle.plan_picture.specs.Tags.{fixed}
 use Rattle.plan_picture.specs.Words.{word}
-use Rattle.plan_picture.specs.declared.heads.Breach.{Breach}
+use Rattle.plan_picture.specs.declared.heads.BrokenRule.{BrokenRule}
 use Rattle.plan_picture.specs.declared.styles.Style.TheVariants as styles
 use Rattle.plan_picture.specs.declared.tags.Tag.{Tag}
 use Rattle.plan_picture.specs.declared.tags.Tag.TheVariants as tags
@@ -59,7 +59,7 @@ abbrev pub partner_figures : Instance → ℕ → List ℕ
 partner_figures p n = option_map_or (figure words.Partner) (partner_at p n) []
 
 -- the figures of a rule, where it has any
-abbrev pub rule_figures : Rule → Instance → List (List ℕ) → Breach → List ℕ
+abbrev pub rule_figures : Rule → Instance → List (List ℕ) → BrokenRule → List ℕ
 rule_figures Missing p routes b = partner_figures p b.stop
 rule_figures SplitPair p routes b = partner_figures p b.stop
 rule_figures DeliveryFirst p routes b = partner_figures p b.stop
@@ -71,14 +71,14 @@ rule_figures PrintedCost p routes b = figure words.Driven (total_length p routes
 rule_figures other p routes b = []
 
 -- where the rule is broken
-unfoldable pub broken_place : Breach → List ℕ
+unfoldable pub broken_place : BrokenRule → List ℕ
 broken_place b = some_figure words.BrokenRoute b.route ++ some_figure words.BrokenPlace b.place ++ some_figure words.BrokenStop b.stop
 
 -- its number and its name
 unfoldable pub rule_text : Rule → List ℕ
 rule_text rule = figure words.BrokenRule (rule_number rule) ++ word words.BeforeName ++ rule_name rule
 
-unfoldable pub broken_text : Instance → List (List ℕ) → Breach → List ℕ
+unfoldable pub broken_text : Instance → List (List ℕ) → BrokenRule → List ℕ
 broken_text p routes b = rule_text b.rule ++ broken_place b ++ rule_figures b.rule p routes b
 
 -- no rule has another number

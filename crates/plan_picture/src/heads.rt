@@ -17,7 +17,7 @@ use route_sched::{Visit, Visits, total_distance, used_count};
 
 /// A broken rule, and where it is broken; routes and places count from 1, and 0 is none.
 #[derive(Clone, Copy)]
-pub(crate) struct Breach {
+pub(crate) struct BrokenRule {
     pub rule: Rule,
     pub route: u64,
     pub place: u64,
@@ -200,7 +200,7 @@ impl Svg {
                 let Some(rule) = Rule::of_number(rule) else {
                     return;
                 };
-                let breach = Breach {
+                let breach = BrokenRule {
                     rule,
                     route,
                     place,
@@ -241,7 +241,7 @@ impl Svg {
     }
 
     #[tactic(auto, unfolding(crate::specs::Heads::broken_text))]
-    fn put_broken_rule(&mut self, problem: &Problem, routes: &[Route], breach: Breach)
+    fn put_broken_rule(&mut self, problem: &Problem, routes: &[Route], breach: BrokenRule)
         requires { All (AreLiveOnce problem.now) routes.now }
         ensures { self.new ≡ self.old ++ broken_text problem.now routes.now breach }
     {
@@ -260,7 +260,7 @@ impl Svg {
     }
 
     #[tactic(auto, unfolding(crate::specs::Heads::broken_place))]
-    fn put_broken_place(&mut self, breach: Breach)
+    fn put_broken_place(&mut self, breach: BrokenRule)
         ensures { self.new ≡ self.old ++ broken_place breach }
     {
         self.put_some_figure(Word::BrokenRoute, breach.route as u128);
@@ -268,7 +268,7 @@ impl Svg {
         self.put_some_figure(Word::BrokenStop, breach.stop as u128);
     }
 
-    fn put_rule_figures(&mut self, problem: &Problem, routes: &[Route], breach: Breach)
+    fn put_rule_figures(&mut self, problem: &Problem, routes: &[Route], breach: BrokenRule)
         requires { All (AreLiveOnce problem.now) routes.now }
         ensures { self.new ≡ self.old ++ rule_figures breach.rule problem.now routes.now breach }
     {

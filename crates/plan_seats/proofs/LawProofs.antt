@@ -14,7 +14,7 @@ use Rattle.sol_text.specs.declared.faults.SolFaultKind.TheVariants as sol
 use Rattle.sol_text.specs.declared.read.Solution.{Solution}
 use Rattle.sol_text.proofs.FaultLemmas.{bad, bad_number}
 use Rattle.sol_text.proofs.TextLemmas.{first_from_told, spells_from_told}
-use Rattle.plan_audit.specs.Locality.{VerdictsAreUnique}
+use Rattle.plan_audit.specs.Locality.{SubjectsHaveVerdicts, VerdictsAreUnique}
 use Rattle.plan_audit.specs.Verdict.{IsVerdict, printed}
 use Rattle.plan_audit.specs.declared.rules.Verdict.{Verdict}
 use Rattle.plan_audit.specs.declared.rules.Verdict.TheVariants as verdict
@@ -24,7 +24,6 @@ use Rattle.plan_seats.specs.Seats.{seated}
 use Rattle.plan_seats.specs.declared.faults.Unseated.{Unseated}
 use Rattle.plan_seats.specs.declared.faults.Unseated.TheVariants.{Sol, Broken, Pinned, OutOfMemory}
 use Rattle.plan_seats.proofs.FoundLemmas.{pinned_only}
-use Rattle.plan_seats.proofs.VerdictLemmas.{is_verdict, verdict_of}
 
 -- ---- there is an answer
 
@@ -33,8 +32,9 @@ module _ (p : Instance) (pins : List (List ℕ)) where
   by_verdict s (verdict.Pass cost) = seated p.fleet pins s.routes
   by_verdict s (verdict.Broken rule route place stop) = Err (Broken rule route place stop)
 
+module _ (law : SubjectsHaveVerdicts) (p : Instance) (pins : List (List ℕ)) where
   by_reading : Result Solution SolFault → Result Plan Unseated
-  by_reading (Ok s) = by_verdict s (verdict_of p s.routes s.cost)
+  by_reading (Ok s) = by_verdict p pins s (law.0 p (printed s.routes s.cost))
   by_reading (Err f) = Err (Sol f)
 
   module _ (text : List ℕ) where
@@ -44,18 +44,22 @@ module _ (p : Instance) (pins : List (List ℕ)) where
         let only = pinned_only p.fleet pins s.routes f is in
         subst (λ f. IsFound p pins text (Err f)) (sym only.1) (s, cost, audited, is ∙ ap Err only.1)
 
-    is_found_by : (s : Solution) (v : Verdict) → IsAudited p text s v → IsFound p pins text (by_verdict s v)
+    is_found_by : (s : Solution) (v : Verdict) → IsAudited p text s v → IsFound p pins text (by_verdict p pins s v)
     unfolding by_verdict
     is_found_by s (verdict.Pass cost) audited = seats_are s cost audited (seated p.fleet pins s.routes) refl
     is_found_by s (verdict.Broken rule route place stop) audited = (s, audited)
 
     is_found : IsInstance p → (r : Result Solution SolFault) → reading 0 (lines_of text) ≡ r → IsFound p pins text (by_reading r)
     unfolding by_reading
-    is_found valid (Ok s) is = is_found_by s (verdict_of p s.routes s.cost) (spells_from_told text s is, is_verdict p s.routes s.cost valid)
+    is_found valid (Ok s) is =
+        is_found_by s (law.0 p (printed s.routes s.cost)) (spells_from_told text s is, law.1 p (printed s.routes s.cost) valid)
     is_found valid (Err f) is = first_from_told text f is
 
-pub some_seating : SomeSeatingIs
-some_seating = ((λ p pins text. by_reading p pins (reading 0 (lines_of text))), (λ p pins text valid. is_found p pins text valid (reading 0 (lines_of text)) refl))
+pub some_seating : SubjectsHaveVerdicts → SomeSeatingIs
+some_seating law = (
+  (λ p pins text. by_reading law p pins (reading 0 (lines_of text))),
+  (λ p pins text valid. is_found law p pins text valid (reading 0 (lines_of text)) refl),
+)
 
 -- ---- and no other
 

@@ -5,4 +5,3 @@ pub mod FoundLemmas
 pub mod LawProofs
 pub mod PassLemmas
 pub mod SeatedLemmas
-pub mod VerdictLemmas

@@ -23,8 +23,8 @@ use Rattle.plan_audit.proofs.FleetLemmas.{fleet_found, used-within}
 use Rattle.plan_audit.proofs.LawProofs.{passes_are_plans, routes_are_feasible}
 use Rattle.plan_audit.proofs.LocalLemmas.{tests_say_pass}
 use Rattle.plan_audit.proofs.TestLemmas.{tests_say_feasible, true_all}
-use Rattle.plan_seats.specs.Laws.{SeatedPlansPass}
-use Rattle.plan_seats.proofs.SeatedLemmas.{AreSeated, are_seated}
+use Rattle.plan_seats.specs.Laws.{AreSeats, SeatedPlansPass}
+use Rattle.plan_seats.proofs.SeatedLemmas.{are_seated}
 
 -- ---- tests of all items, by counting those that fail
 module _ {X : Type 0} (test : X → Bool) where
@@ -129,7 +129,7 @@ empty_feasible p = by p.kind
     by LiLim = refl
     by Vrp = refl
 
-module _ (p : Instance) (pins routes seats : List (List ℕ)) (are : AreSeated p.fleet pins routes seats) where
+module _ (p : Instance) (pins routes seats : List (List ℕ)) (are : AreSeats p.fleet pins routes seats) where
   of_numbers : (g : ℕ → ℕ) → sum_by g (concat seats) ≡ sum_by g (concat routes)
   of_numbers g = of_joined g seats ∙ (are.counted (sum_by g) refl ∙ sym (of_joined g routes))
 

@@ -13,6 +13,7 @@ use Rattle.route_sched.specs.Cost.{used_count}
 use Rattle.sol_text.specs.Written.{used_routes}
 use Rattle.plan_audit.specs.Passes.{begin_with_pins}
 use Rattle.plan_audit.proofs.FleetLemmas.{used-most}
+use Rattle.plan_seats.specs.Laws.{AreSeats, SeatsAreRoutes}
 use Rattle.plan_seats.specs.Seats.{Taken, begins_with, claimed, filled, or_pinned, padded, plan_of_claims, seated, take_by, taken_at, with_seat}
 use Rattle.plan_seats.specs.declared.claims.Claims.{Claims}
 use Rattle.plan_seats.specs.declared.faults.Unseated.{Unseated}
@@ -140,15 +141,9 @@ pins_filled ((n ∷ ns) ∷ seats) more routes (pin ∷ pins) same begin =
     (and_from (starts_with nat_eq (n ∷ ns) pin) (begin_with_pins (filled (seats ++ more) routes) pins) both.0
     (pins_filled seats more routes pins (omega (arith, same)) both.1))
 
--- The routes of all vehicles count as much as the solution's, whatever counts nothing of an empty one; there is one for each vehicle, and it begins with
--- the vehicle's pin.
-pub record AreSeated (fleet : ℕ) (pins routes seats : List (List ℕ)) : Type 0 where
-  pub counted : (f : List ℕ → ℕ) → f [] ≡ 0 → sum_by f seats ≡ sum_by f routes
-  pub all : length seats ≡ fleet
-  pub pinned : begin_with_pins seats pins ≡ true
-
+-- ---- once the vehicles without a pin have theirs
 module _ (fleet : ℕ) (pins routes : List (List ℕ)) (few : length pins ≤ fleet) (used : used_count routes ≤ fleet) where
-  claims_seated : (claims : Claims) → AreTaken pins routes claims → AreSeated fleet pins routes (filled (padded fleet claims.seats) (used_routes claims.left))
+  claims_seated : (claims : Claims) → AreTaken pins routes claims → AreSeats fleet pins routes (filled (padded fleet claims.seats) (used_routes claims.left))
   claims_seated claims taken = record {
     counted = λ f none. (
         let made = of_filled f none (padded fleet claims.seats) (used_routes claims.left) room in
@@ -177,10 +172,13 @@ module _ (fleet : ℕ) (pins routes : List (List ℕ)) (few : length pins ≤ fl
           let behind : used_count (replicate (fleet - length claims.seats) []) ≡ 0 = of_empty is_used refl (fleet - length claims.seats) in
           omega (arith, left, whole, joined, behind, as_many, used)
 
-  all_seated : (r : Result Claims Unseated) → IfOk r (AreTaken pins routes) → IfOk (plan_of_claims fleet r) (λ plan. AreSeated fleet pins routes plan.routes)
+  all_seated : (r : Result Claims Unseated) → IfOk r (AreTaken pins routes) → IfOk (plan_of_claims fleet r) (λ plan. AreSeats fleet pins routes plan.routes)
   all_seated (Ok claims) taken = claims_seated claims taken
   all_seated (Err f) taken = tt
 
-  pub are_seated : (plan : Plan) → seated fleet pins routes ≡ Ok plan → AreSeated fleet pins routes plan.routes
+  pub are_seated : (plan : Plan) → seated fleet pins routes ≡ Ok plan → AreSeats fleet pins routes plan.routes
   are_seated plan is =
-      subst (λ r. IfOk r (λ (plan : Plan). AreSeated fleet pins routes plan.routes)) is (all_seated (claimed 1 pins routes) (are_taken 1 pins routes))
+      subst (λ r. IfOk r (λ (plan : Plan). AreSeats fleet pins routes plan.routes)) is (all_seated (claimed 1 pins routes) (are_taken 1 pins routes))
+
+pub seats_are_routes : SeatsAreRoutes
+seats_are_routes fleet pins routes plan few used is = are_seated fleet pins routes few used plan is

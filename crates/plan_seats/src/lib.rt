@@ -21,6 +21,7 @@
 //! - `seated_plan`: the plan that the text's solution is, where the auditor passes it and each pin finds its route; else the
 //!   text's first fault, the least broken rule, or the first vehicle whose pin finds none; or want of memory
 //! - `texts_are_seated`: there is a function that tells this of each problem, pins and text, and no other
+//! - `seats_are_routes`: the plan has the routes of the solution, and no other with stops; each begins with its vehicle's pin
 //! - `seated_plans_pass`: a solution that the auditor passes passes as a plan with the pins, once its routes have vehicles
 #![tactic(auto)]
 
@@ -31,5 +32,5 @@ mod laws;
 mod seating;
 
 pub use faults::Unseated;
-pub use laws::{seated_plans_pass, texts_are_seated};
+pub use laws::{seated_plans_pass, seats_are_routes, texts_are_seated};
 pub use seating::seated_plan;

@@ -4,6 +4,7 @@ use Rattle.std.specs.Prelude.{max}
 use Rattle.std.specs.Io.KnownBytes.{Appends}
 use Rattle.std.proofs.KnownBytes.{Appends-trans}
 use Rattle.std.proofs.lemmas.Bool.{le-leb}
+use Rattle.plan_types.specs.Limits.{most_asked_steps}
 use Rattle.command_core.specs.Effects.{effect, job_after}
 use Rattle.command_core.specs.Job.{JobValue}
 use Rattle.command_core.specs.Runs.{after}
@@ -17,12 +18,12 @@ use Rattle.command_text.specs.declared.steps.Steps.TheVariants as makes
 use Rattle.command_text.proofs.AgainLemmas.{uncut}
 use Rattle.plan_solve.specs.Solved.{IsWhatLineLeaves, IsWhatStagesMake, anneal_lines, annealed, begun, commands_from, job_behind, line_behind, lines_behind, parts_made}
 use Rattle.plan_solve.specs.Telling.{HasMade}
-use Rattle.plan_solve.specs.declared.annealing.Told.{Told}
+use Rattle.plan_solve.specs.declared.annealing.Telling.{Telling}
 use Rattle.plan_solve.proofs.SearchLemmas.{same_job}
 
 -- Behind some commands: those that are left lead the planner's job to where all lead; the lines so far and those that are left are all, and
 -- they are written unless one could not be.
-pub record IsAnnealing (begun : JobValue) (steps : ℕ) (before now : Option (List ℕ)) (told : Told) (planner : State) (left : Steps) : Type 0 where
+pub record IsAnnealing (begun : JobValue) (steps : ℕ) (before now : Option (List ℕ)) (told : Telling) (planner : State) (left : Steps) : Type 0 where
   pub job : JobValue
   pub is : planner ≡ Loaded job
   pub lines : List ℕ
@@ -30,7 +31,7 @@ pub record IsAnnealing (begun : JobValue) (steps : ℕ) (before now : Option (Li
   pub made : job_behind job (commands_of left planner) ≡ annealed begun steps
   pub whole : lines ++ lines_behind steps told.parts job (commands_of left planner) ≡ anneal_lines begun steps
 
-pub begins : (j : JobValue) (steps to : ℕ) (before now : Option (List ℕ)) (told : Told) (planner : State) (i : JobValue) → to ≡ steps → planner ≡ Loaded j → planner ≡ Loaded i → told.parts ≡ 0
+pub begins : (j : JobValue) (steps to : ℕ) (before now : Option (List ℕ)) (told : Telling) (planner : State) (i : JobValue) → to ≡ steps → planner ≡ Loaded j → planner ≡ Loaded i → told.parts ≡ 0
     → (told.is_told ≡ true → Appends before now (line (at_text i))) → IsAnnealing j steps before now told planner (makes.Stages 0 to)
 begins j steps to before now told planner i all is holds none written =
     let same = same_job i j (sym holds ∙ is) in
@@ -53,7 +54,7 @@ fewer planner new left behind c all makes =
     omega (arith, counted)
 
 module _ (begun : JobValue) (steps : ℕ) (before : Option (List ℕ)) where
-  pub goes_on : (now later : Option (List ℕ)) (told next : Told) (planner new : State) (left behind : Steps) (c : Command) (i : JobValue) → IsAnnealing begun steps before now told planner left
+  pub goes_on : (now later : Option (List ℕ)) (told next : Telling) (planner new : State) (left behind : Steps) (c : Command) (i : JobValue) → IsAnnealing begun steps before now told planner left
       → commands_of left planner ≡ c ∷ commands_of behind (effect planner c) → new ≡ effect planner c → new ≡ Loaded i
       → next.parts ≡ max told.parts (parts_made steps i) → (next.is_told ≡ true → (told.is_told ≡ true) × Appends now later (line_behind steps told.parts i))
       → IsAnnealing begun steps before later next new behind
@@ -76,7 +77,7 @@ module _ (begun : JobValue) (steps : ℕ) (before : Option (List ℕ)) where
             ∙ ap (λ cs. h.lines ++ lines_behind steps told.parts h.job cs) (sym follow) ∙ h.whole;
       }
 
-  pub ends : (now : Option (List ℕ)) (told : Told) (planner : State) (left : Steps) → IsAnnealing begun steps before now told planner left → commands_of left planner ≡ []
+  pub ends : (now : Option (List ℕ)) (told : Telling) (planner : State) (left : Steps) → IsAnnealing begun steps before now told planner left → commands_of left planner ≡ []
       → HasMade before now (annealed begun steps) (anneal_lines begun steps) planner told.is_told
   ends now told planner left h none = record {
     made = h.is ∙ ap Loaded (ap (job_behind h.job) (sym none) ∙ h.made);
@@ -95,5 +96,5 @@ stages_make_it p seed steps = behind_all (commands_from (begun p seed) steps) (b
 pub line_leaves_it : IsWhatLineLeaves
 line_leaves_it p seed steps few =
     let least = le-leb 0 0 (omega arith) in
-    let most = le-leb steps 1000000000 few in
+    let most = le-leb steps most_asked_steps few in
     uncut 0 steps (omega (arith, few)) (begun p seed) (rw (least, most) refl) ∙ behind_all (commands_from (begun p seed) steps) (begun p seed)

@@ -21,6 +21,7 @@ use Rattle.command_text.specs.Answering.{commands_of}
 use Rattle.command_text.specs.Answers.{at_text, line}
 use Rattle.command_text.specs.Laws.{left_behind}
 use Rattle.instance_read.specs.Readings.{InstanceFault, SpellsInstance}
+use Rattle.plan_types.specs.Limits.{most_asked_steps, most_deviation}
 use Rattle.command_text.specs.Showing.{print_text, solution_of}
 use Rattle.command_text.specs.declared.steps.Goal.TheVariants as goal
 use Rattle.command_text.specs.declared.steps.Steps.TheVariants as makes
@@ -88,9 +89,9 @@ anneal_lines j steps = line (at_text j) ++ lines_behind steps 0 j (commands_from
 
 -- ---- by either
 
--- the deviation of the search, at most 1,000,000,000; where none is, it is annealed
+-- the deviation of the search, at most the greatest one; where none is, it is annealed
 abbrev pub deviation_of : Option ℕ → Option ℕ
-deviation_of (Some deviation) = Some (min deviation 1000000000)
+deviation_of (Some deviation) = Some (min deviation most_deviation)
 deviation_of None = None
 
 -- the job after so many steps
@@ -111,7 +112,7 @@ progress p seed steps deviation = lines_from (begun p seed) steps (deviation_of 
 
 -- law: with a deviation it is what the commands of a store make of it, however the steps are cut into searches
 abbrev pub IsWhatCommandsMake : Type 0
-IsWhatCommandsMake = (p : Instance) (seed deviation : ℕ) (cs : List Command) → deviation ≤ 1000000000 → list_all is_searching cs ≡ true
+IsWhatCommandsMake = (p : Instance) (seed deviation : ℕ) (cs : List Command) → deviation ≤ most_deviation → list_all is_searching cs ≡ true
     → after Empty (Load p seed ∷ Build ∷ Deviation deviation ∷ cs) ≡ Loaded (solved p seed (sum_by steps_of cs) (Some deviation))
 
 -- law: without one it is what the commands of a store's line `anneal 0 STEPS` make
@@ -121,7 +122,7 @@ IsWhatStagesMake = (p : Instance) (seed steps : ℕ)
 
 -- law: it is what that line leaves, where a line asks for so many steps at most
 abbrev pub IsWhatLineLeaves : Type 0
-IsWhatLineLeaves = (p : Instance) (seed steps : ℕ) → steps ≤ 1000000000
+IsWhatLineLeaves = (p : Instance) (seed steps : ℕ) → steps ≤ most_asked_steps
     → left_behind (goal.Stages 0 steps) (after Empty (Load p seed ∷ Build ∷ [])) [] ≡ Loaded (solved p seed steps None)
 
 -- ---- the answer

@@ -15,7 +15,7 @@ use Rattle.plan_solve.specs.Solved.{TellsPlan, above, progress, solved, twentiet
 use Rattle.plan_solve.specs.declared.faults.SolveFault.{SolveFault}
 use Rattle.plan_solve.specs.declared.faults.SolveFault.TheVariants as fault
 use Rattle.plan_solve.specs.declared.solving.Solved.{Solved}
-use Rattle.plan_solve.specs.declared.telling.Walk.{Walk}
+use Rattle.plan_solve.specs.declared.telling.EndedJob.{EndedJob}
 
 -- the answer tells the plan that is found of a problem, and what is told on the way is written unless a line could not be
 pub record IsFound (before now : Option (List ℕ)) (p : Instance) (seed steps : ℕ) (deviation : Option ℕ) (found : Solved) : Type 0 where
@@ -39,9 +39,9 @@ abbrev pub marks_left : ℕ → ℕ → ℕ → List ℕ
 marks_left steps last k = above last (map (twentieths steps) (range_with_len (k + 1) (20 - k)))
 
 -- the job is this one, and the lines are written unless one could not be
-pub record HasWalked (before now : Option (List ℕ)) (job : JobValue) (lines : List ℕ) (walk : Walk) : Type 0 where
-  pub made : walk.job ≡ job
-  pub told : walk.is_told ≡ true → Appends before now lines
+pub record HasEnded (before now : Option (List ℕ)) (job : JobValue) (lines : List ℕ) (ended : EndedJob) : Type 0 where
+  pub made : ended.job ≡ job
+  pub told : ended.is_told ≡ true → Appends before now lines
 
 -- the planner has this job, and the lines are written unless one could not be
 pub record HasMade (before now : Option (List ℕ)) (job : JobValue) (lines : List ℕ) (planner : State) (is_told : Bool) : Type 0 where

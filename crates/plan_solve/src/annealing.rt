@@ -3,12 +3,12 @@
 ghost use Rattle.std.specs.Prelude.{◌≡◌, true, max, IfOk};
 ghost use Rattle.std.specs.Io.KnownBytes.{Appends};
 ghost use Rattle.plan_solve.specs.Solved.{anneal_lines, annealed, line_behind, parts_made};
-ghost use Rattle.plan_solve.specs.Telling.{HasMade, HasWalked};
+ghost use Rattle.plan_solve.specs.Telling.{HasMade, HasEnded};
 ghost use Rattle.command_core.specs.Job.{JobValue};
 ghost use Rattle.command_core.specs.declared.states.State.TheVariants.{Loaded};
 
 use crate::carrying::{carry_out, job_of};
-use crate::telling::{Walk, tell};
+use crate::telling::{EndedJob, tell};
 use command_core::{Job, Planner, State};
 use command_text::{Steps, next_command};
 use plan_types::OutOfMemory;
@@ -17,7 +17,7 @@ use std::io::Write;
 
 /// How far a solving is told.
 #[derive(Clone, Copy)]
-struct Told {
+struct Telling {
     /// Whether each line of progress was written.
     is_told: bool,
     /// How many twentieths of all steps were made at the last line.
@@ -30,13 +30,13 @@ pub(crate) fn anneal_telling<W: Write>(
     begun: Job,
     steps: u32,
     progress: &mut W,
-) -> Result<Walk, OutOfMemory>
-    ensures { IfOk result (HasWalked (W.contents progress.old) (W.contents progress.new)
+) -> Result<EndedJob, OutOfMemory>
+    ensures { IfOk result (HasEnded (W.contents progress.old) (W.contents progress.new)
         (annealed begun steps) (anneal_lines begun steps)) }
 {
     let mut planner = Planner::new(State::Loaded(begun));
     let told = anneal_stages(alloc, &mut planner, steps, progress);
-    Walk::of(planner, told)
+    EndedJob::of(planner, told)
 }
 
 // The steps from the job that the planner has; whether each line was written.
@@ -51,7 +51,7 @@ fn anneal_stages<W: Write>(
         (annealed begun steps) (anneal_lines begun steps) planner.new is_told) }
 {
     let is_told = tell(true, job_of(planner)?, progress);
-    let mut told = Told { is_told, parts: 0 };
+    let mut told = Telling { is_told, parts: 0 };
     let mut left = Steps::Stages {
         from: 0,
         to: u64::from(steps),
@@ -65,7 +65,7 @@ fn anneal_stages<W: Write>(
 }
 
 // A line where the job has made more twentieths of all steps than at the last line.
-fn tell_more<W: Write>(told: Told, job: &Job, steps: u32, progress: &mut W) -> Told
+fn tell_more<W: Write>(told: Telling, job: &Job, steps: u32, progress: &mut W) -> Telling
     ensures parts { result.parts ≡ max told.parts (parts_made steps job.now) }
     ensures told { result.is_told ≡ true → (told.is_told ≡ true)
         × Appends (W.contents progress.old) (W.contents progress.new)
@@ -76,7 +76,7 @@ fn tell_more<W: Write>(told: Told, job: &Job, steps: u32, progress: &mut W) -> T
         return told;
     }
     let is_told = tell(told.is_told, job, progress);
-    Told { is_told, parts }
+    Telling { is_told, parts }
 }
 
 // How many twentieths of so many steps the job has made.

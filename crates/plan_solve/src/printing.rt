@@ -6,7 +6,7 @@ ghost use Rattle.command_text.specs.Showing.{solution_of};
 ghost use Rattle.plan_solve.specs.Solved.{TellsPlan, plan_text};
 
 use crate::solving::Solved;
-use crate::telling::Walk;
+use crate::telling::EndedJob;
 use command_core::{Job, unplanned_names};
 use plan_audit::passes_are_local;
 use plan_types::OutOfMemory;
@@ -14,27 +14,27 @@ use sol_text::{write_routes, write_sol};
 use std::alloc::{AllocError, Global};
 
 /// What is told of a job's plan.
-pub(crate) fn answer(alloc: Global, walk: Walk) -> Result<Solved, OutOfMemory>
-    ensures plan { IfOk result (TellsPlan walk.job) }
-    ensures told { IfOk result (λ solved. solved.is_told ≡ walk.is_told) }
+pub(crate) fn answer(alloc: Global, ended: EndedJob) -> Result<Solved, OutOfMemory>
+    ensures plan { IfOk result (TellsPlan ended.job) }
+    ensures told { IfOk result (λ solved. solved.is_told ≡ ended.is_told) }
 {
-    let told = told_of(alloc, &walk.job)?;
+    let told = told_of(alloc, &ended.job)?;
     Ok(Solved {
         text: told.text,
         unplanned: told.unplanned,
-        job: walk.job,
-        is_told: walk.is_told,
+        job: ended.job,
+        is_told: ended.is_told,
     })
 }
 
 // What is told of a plan, made where no job lives that a way out would drop.
 #[derive(Drop)]
-struct Told {
+struct Printed {
     text: Vec<u8>,
     unplanned: Vec<u32>,
 }
 
-fn told_of(alloc: Global, job: &Job) -> Result<Told, OutOfMemory>
+fn told_of(alloc: Global, job: &Job) -> Result<Printed, OutOfMemory>
     ensures text { IfOk result (λ told. told.text.items ≡ plan_text job.now) }
     ensures unplanned { IfOk result (λ told. told.unplanned.items
         ≡ unplanned_names job.now.problem job.now.plan) }
@@ -43,7 +43,7 @@ fn told_of(alloc: Global, job: &Job) -> Result<Told, OutOfMemory>
 {
     let unplanned = unplanned_names(alloc, &job.problem, job.plan.routes.as_slice())?;
     let text = plan_text(alloc, job, &unplanned)?;
-    Ok(Told { text, unplanned })
+    Ok(Printed { text, unplanned })
 }
 
 // The text of the plan, which leaves the requests of these names out.

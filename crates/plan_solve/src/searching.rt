@@ -2,13 +2,13 @@
 ghost use Rattle.std.specs.Prelude.{◌≡◌, IfOk, OnOk};
 ghost use Rattle.command_core.specs.Effects.{effect, searched};
 ghost use Rattle.plan_solve.specs.Solved.{marks, search_lines, searched_with};
-ghost use Rattle.plan_solve.specs.Telling.{HasMade, HasWalked, told};
+ghost use Rattle.plan_solve.specs.Telling.{HasMade, HasEnded, told};
 ghost use Rattle.command_core.specs.Job.{JobValue};
 ghost use Rattle.command_core.specs.declared.states.State.TheVariants.{Loaded};
 
 use crate::carrying::{carry_out, job_of};
 use crate::marks::{PARTS, twentieths};
-use crate::telling::{Walk, tell};
+use crate::telling::{EndedJob, tell};
 use command_core::{Command, Job, Planner, State, searches_add_up};
 use command_text::next_count;
 use plan_types::OutOfMemory;
@@ -22,14 +22,14 @@ pub(crate) fn search_telling<W: Write>(
     deviation: u32,
     steps: u32,
     progress: &mut W,
-) -> Result<Walk, OutOfMemory>
+) -> Result<EndedJob, OutOfMemory>
     ensures { IfOk result
-        (HasWalked (W.contents progress.old) (W.contents progress.new)
+        (HasEnded (W.contents progress.old) (W.contents progress.new)
         (searched_with deviation begun steps) (search_lines deviation begun steps)) }
 {
     let mut planner = Planner::new(State::Loaded(begun));
     let told = search_with(alloc, &mut planner, deviation, steps, progress);
-    Walk::of(planner, told)
+    EndedJob::of(planner, told)
 }
 
 // The same from the job that the planner has; whether each line was written.

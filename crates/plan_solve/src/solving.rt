@@ -3,16 +3,17 @@ ghost use Rattle.std.specs.Prelude.{◌≡◌, IfOk, MatchResult, OnOk};
 ghost use Rattle.command_core.specs.Effects.{effect};
 ghost use Rattle.command_core.specs.declared.commands.Command.TheVariants.{Build, Load};
 ghost use Rattle.plan_solve.specs.Solved.{Fails, IsSolved, begun, deviation_of, lines_from, solved_from};
-ghost use Rattle.plan_solve.specs.Telling.{HasWalked, IsFound, refused};
+ghost use Rattle.plan_solve.specs.Telling.{HasEnded, IsFound, refused};
 
 use crate::annealing::anneal_telling;
 use crate::carrying::{carry_out, job_behind};
 use crate::faults::SolveFault;
 use crate::printing::answer;
 use crate::searching::search_telling;
-use crate::telling::Walk;
-use command_core::{Command, Job, MAX_DEVIATION, Planner, State};
+use crate::telling::EndedJob;
+use command_core::{Command, Job, Planner, State};
 use instance_read::{ReadFault, ReadFaultKind, read_instance};
+use plan_types::limits::MAX_DEVIATION;
 use plan_types::{Kind, OutOfMemory, Problem};
 use std::alloc::Global;
 use std::io::Write;
@@ -32,7 +33,7 @@ pub struct Solved {
 
 /// The text of the plan that is found in so many steps from the one that is built of an instance's text with this seed.
 ///
-/// With a deviation, in the unit of distance and at most 1,000,000,000, the search makes the steps, as a store's commands `load`, `build`,
+/// With a deviation, in the unit of distance and at most `MAX_DEVIATION`, the search makes the steps, as a store's commands `load`, `build`,
 /// `deviation` and `search` do. Without one they are those of its line `anneal 0 STEPS` behind `load` and `build`.
 ///
 /// A line `at STEPS UNPLANNED VEHICLES DISTANCE` is written to `progress` before the first step and about each twentieth of them, and
@@ -77,8 +78,8 @@ fn found<W: Write>(
         (IsFound (W.contents progress.old) (W.contents progress.new) problem seed steps deviation) }
 {
     let begun = build(alloc, problem, seed)?;
-    let walk = walk(alloc, begun, steps, deviation, progress)?;
-    answer(alloc, walk)
+    let ended = walk(alloc, begun, steps, deviation, progress)?;
+    answer(alloc, ended)
 }
 
 // The plan that is built of a problem.
@@ -119,9 +120,9 @@ fn walk<W: Write>(
     steps: u32,
     deviation: Option<u32>,
     progress: &mut W,
-) -> Result<Walk, OutOfMemory>
+) -> Result<EndedJob, OutOfMemory>
     ensures { let d = deviation_of deviation in IfOk result
-        (HasWalked (W.contents progress.old) (W.contents progress.new)
+        (HasEnded (W.contents progress.old) (W.contents progress.new)
         (solved_from begun steps d) (lines_from begun steps d)) }
 {
     match deviation_of(deviation) {

@@ -12,20 +12,20 @@ use std::io::Write;
 
 /// A solving behind its last step.
 #[derive(Drop)]
-pub(crate) struct Walk {
+pub(crate) struct EndedJob {
     pub job: Job,
     /// Whether each line of progress was written.
     pub is_told: bool,
 }
 
-impl Walk {
+impl EndedJob {
     /// Of a planner that has made its steps, if none was refused, and whether each line was written.
-    pub fn of(planner: Planner, told: Result<bool, OutOfMemory>) -> Result<Walk, OutOfMemory>
-        ensures { IfOk result (λ walk. (planner ≡ Loaded walk.job) × (told ≡ Ok walk.is_told)) }
+    pub fn of(planner: Planner, told: Result<bool, OutOfMemory>) -> Result<EndedJob, OutOfMemory>
+        ensures { IfOk result (λ ended. (planner ≡ Loaded ended.job) × (told ≡ Ok ended.is_told)) }
     {
         let is_told = told?;
         let job = into_job(planner)?;
-        Ok(Walk { job, is_told })
+        Ok(EndedJob { job, is_told })
     }
 }
 

@@ -14,7 +14,7 @@ use Rattle.slack_tables.specs.Insertion.{KeepsLimits}
 use Rattle.slack_tables.specs.Latest.{GoesOn, IsLatestStart}
 use Rattle.slack_tables.proofs.AlongLemmas.{moved-first, moved-next}
 use Rattle.slack_tables.proofs.CourseLemmas.{moved-is}
-use Rattle.plan_timetable.specs.Entries.{latest_for, latest_start}
+use Rattle.plan_timetable.specs.Entries.{latest_for, latest_allowed}
 use Rattle.plan_timetable.specs.Laws.{IsLatestInTime, LatestStartsAreGreatest}
 
 -- ---- the least of some numbers
@@ -110,34 +110,34 @@ module _ (p : Instance) (route : List ℕ) where
         omega (arith, moved-is p route i t k, early, goes lilim k h to)
 
     -- the latest start, by the numbers of which it is the least
-    at_most : (i t : ℕ) → t ≤ (place p route i).latest → ((k : ℕ) → i < k → k ≤ length route + 1 → t ≤ latest_for p route i k) → t ≤ latest_start p route i
-    unfolding latest_start least_from
+    at_most : (i t : ℕ) → t ≤ (place p route i).latest → ((k : ℕ) → i < k → k ≤ length route + 1 → t ≤ latest_for p route i k) → t ≤ latest_allowed p route i
+    unfolding latest_allowed least_from
     at_most i t here each = least_below (latest_for p route i) (place p route i).latest (i + 1) (length route + 1 - i) t here (λ k from to. each k (omega arith) (omega arith))
 
-    here_too : (i : ℕ) → latest_start p route i ≤ (place p route i).latest
-    unfolding latest_start least_from
+    here_too : (i : ℕ) → latest_allowed p route i ≤ (place p route i).latest
+    unfolding latest_allowed least_from
     here_too i = least_base (latest_for p route i) (place p route i).latest (i + 1) (length route + 1 - i)
 
-    each_too : (i k : ℕ) → i < k → k ≤ length route + 1 → latest_start p route i ≤ latest_for p route i k
-    unfolding latest_start least_from
+    each_too : (i k : ℕ) → i < k → k ≤ length route + 1 → latest_allowed p route i ≤ latest_for p route i k
+    unfolding latest_allowed least_from
     each_too i k h to = least_each (latest_for p route i) (place p route i).latest (i + 1) (length route + 1 - i) k (omega arith) (omega arith)
 
-    latest_goes_on : (i : ℕ) → GoesOn p route i (latest_start p route i)
-    latest_goes_on i = goes_on i (latest_start p route i) (each_too i)
+    latest_goes_on : (i : ℕ) → GoesOn p route i (latest_allowed p route i)
+    latest_goes_on i = goes_on i (latest_allowed p route i) (each_too i)
 
-    is_latest : (i : ℕ) → IsLatestInTime p route i (latest_start p route i)
+    is_latest : (i : ℕ) → IsLatestInTime p route i (latest_allowed p route i)
     is_latest i = record {
       in_time = record { here = here_too i; behind = latest_goes_on i };
       greatest = λ u timely. at_most i u timely.here (each_on i u timely.behind);
     }
 
     -- what a table answers, and the window of the place itself
-    pub limited : (i : ℕ) (t : ℕ) → IsLatestStart p route i t → min (place p route i).latest t ≡ latest_start p route i
+    pub limited : (i : ℕ) (t : ℕ) → IsLatestStart p route i t → min (place p route i).latest t ≡ latest_allowed p route i
     limited i t is =
         let less = at_most i (min (place p route i).latest t) (omega arith) (λ k h to. omega (arith, each_on i t is.goes_on k h to)) in
-        omega (arith, less, here_too i, is.greatest (latest_start p route i) (latest_goes_on i))
+        omega (arith, less, here_too i, is.greatest (latest_allowed p route i) (latest_goes_on i))
 
-    pub unlimited : (i : ℕ) → ((t : ℕ) → GoesOn p route i t) → (place p route i).latest ≡ latest_start p route i
+    pub unlimited : (i : ℕ) → ((t : ℕ) → GoesOn p route i t) → (place p route i).latest ≡ latest_allowed p route i
     unlimited i goes =
         let less = at_most i (place p route i).latest (omega arith) (each_on i (place p route i).latest (goes (place p route i).latest)) in
         omega (arith, less, here_too i)

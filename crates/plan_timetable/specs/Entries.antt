@@ -23,8 +23,8 @@ latest_for p route i k = (place p route k).latest - time_between p route i k
 
 -- The latest start of service at place i from which nothing is late from there on: the least, over this place and all behind it, of
 -- the latest start that lets the vehicle be in time there.
-unfoldable pub latest_start : Instance → List ℕ → ℕ → ℕ
-latest_start p route i = fold min (place p route i).latest (map (latest_for p route i) (range_with_len (i + 1) (length route + 1 - i)))
+unfoldable pub latest_allowed : Instance → List ℕ → ℕ → ℕ
+latest_allowed p route i = fold min (place p route i).latest (map (latest_for p route i) (range_with_len (i + 1) (length route + 1 - i)))
 
 -- latest starts are asked
 abbrev pub has_times : Kind → Bool
@@ -33,7 +33,7 @@ has_times Vrp = false
 
 -- it is told where times are asked and the route is feasible alone
 abbrev pub latest_told : Instance → List ℕ → ℕ → Option ℕ
-latest_told p route i = if has_times p.kind && feasible_alone p route then Some (latest_start p route i) else None
+latest_told p route i = if has_times p.kind && feasible_alone p route then Some (latest_allowed p route i) else None
 
 -- a pin may end behind so many stops: they alone are a feasible route
 abbrev pub may_end : Instance → List ℕ → ℕ → Bool

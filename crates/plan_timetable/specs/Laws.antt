@@ -5,7 +5,7 @@ use Rattle.plan_types.specs.declared.requests.Kind.TheVariants.{LiLim}
 use Rattle.route_sched.specs.Route.{place}
 use Rattle.slack_tables.specs.Insertion.{KeepsLimits}
 use Rattle.slack_tables.specs.Latest.{GoesOn}
-use Rattle.plan_timetable.specs.Entries.{latest_start}
+use Rattle.plan_timetable.specs.Entries.{latest_allowed}
 
 -- service that starts then at place i is in time, and no later service and no return is late
 pub record IsInTime (p : Instance) (route : List ℕ) (i t : ℕ) : Type 0 where
@@ -19,4 +19,4 @@ pub record IsLatestInTime (p : Instance) (route : List ℕ) (i t : ℕ) : Type 0
 
 -- law: that is the latest start of each place, the return's too, of a route that keeps the capacity and the windows
 abbrev pub LatestStartsAreGreatest : Type 0
-LatestStartsAreGreatest = (p : Instance) (route : List ℕ) (i : ℕ) → p.kind ≡ LiLim → KeepsLimits p route → i ≤ length route + 1 → IsLatestInTime p route i (latest_start p route i)
+LatestStartsAreGreatest = (p : Instance) (route : List ℕ) (i : ℕ) → p.kind ≡ LiLim → KeepsLimits p route → i ≤ length route + 1 → IsLatestInTime p route i (latest_allowed p route i)

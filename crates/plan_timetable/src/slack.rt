@@ -3,7 +3,7 @@ ghost use Rattle.std.specs.Prelude.{◌≡◌, ◌<◌, true, IfOk, length};
 ghost use Rattle.plan_types.specs.declared.requests.Kind.TheVariants.{LiLim};
 ghost use Rattle.plan_audit.specs.Passes.{feasible_alone};
 ghost use Rattle.route_sched.specs.Route.{AreLiveOnce};
-ghost use Rattle.plan_timetable.specs.Entries.{latest_start, latest_told};
+ghost use Rattle.plan_timetable.specs.Entries.{latest_allowed, latest_told};
 ghost use Rattle.plan_timetable.specs.Timed.{IsRowIn, IsTableOf, IsTimed};
 
 use plan_audit::is_feasible;
@@ -55,16 +55,16 @@ pub(crate) fn latest_told(
     ensures { result ≡ latest_told problem.now route.now row.now.place }
 {
     match table {
-        Some(table) => Some(latest_start(problem, route, table, row)),
+        Some(table) => Some(latest_allowed(problem, route, table, row)),
         None => None,
     }
 }
 
 // The latest start from which neither this service nor one behind it nor the return is late.
-fn latest_start(problem: &Problem, route: &[u32], table: &RouteTable, row: &Row) -> u64
+fn latest_allowed(problem: &Problem, route: &[u32], table: &RouteTable, row: &Row) -> u64
     requires table { IsTimed problem.now route.now table.now }
     requires row { IsRowIn problem.now route.now row.now }
-    ensures { result ≡ latest_start problem.now route.now row.now.place }
+    ensures { result ≡ latest_allowed problem.now route.now row.now.place }
 {
     let here = u64::from(row.latest);
     match table.latest_start(row.place as usize) {

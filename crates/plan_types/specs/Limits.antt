@@ -1,4 +1,4 @@
--- The limits that every number of a problem keeps.
+-- The limits that every number of a problem keeps, and what searches are asked for at most.
 use Rattle.std.specs.Prelude.{◌≡◌, ℕ, ◌≤◌, ℤ, pos, negsuc, ◌≤ℤ◌}
 use Rattle.plan_types.specs.declared.requests.Stop.{Stop}
 
@@ -38,3 +38,11 @@ IsCapacity q = q ≤ 1000000
 -- how many vehicles there are
 abbrev pub IsFleet : ℕ → Type 0
 IsFleet k = (1 ≤ k) × (k ≤ 40000)
+
+-- the greatest deviation of a search, in the unit of distance
+abbrev pub most_deviation : ℕ
+most_deviation = 1000000000
+
+-- the most steps that one line or word asks for
+abbrev pub most_asked_steps : ℕ
+most_asked_steps = 1000000000

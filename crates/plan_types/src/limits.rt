@@ -1,4 +1,4 @@
-//! The limits that a problem's numbers keep. All are inclusive.
+//! The limits that a problem's numbers keep, and what searches are asked for at most. All are inclusive.
 
 /// The greatest stop number; 0 is the depot's.
 pub const MAX_STOP_NUMBER: u32 = 40_000;
@@ -14,3 +14,7 @@ pub const MAX_DEMAND: i32 = 1_000_000;
 pub const MAX_TIME: u32 = 100_000_000;
 /// The longest service.
 pub const MAX_SERVICE: u32 = 1_000_000;
+/// The greatest deviation, in the unit of distance: how much longer than another plan a step of a search may make one.
+pub const MAX_DEVIATION: u32 = 1_000_000_000;
+/// The most steps that one line or word asks for.
+pub const MAX_ASKED_STEPS: u64 = 1_000_000_000;

@@ -1,5 +1,4 @@
 -- What a request alone misses is what the auditor tells of its route: the rule, and the stop.
--- The auditor's rules have no names outside of its crate: each comes with the sentence that its lemmas give of it.
 use Rattle.std.proofs.Common.{◌≡◌, ◌∙◌, ◌⊎◌, ℕ, zero, suc, ◌+◌, ◌<◌, ◌≤◌, ◌<ℤ◌, pos, int_lt, Bool, true, false, T, List, []}
 use Rattle.std.proofs.Common.{◌∷◌, map, length, slice_get, Option, Some, None, is_some, refl, sym, ap, subst, arith, inl, inr, nat_eq, add-one}
 use Rattle.std.specs.List.{find, range_with_len}

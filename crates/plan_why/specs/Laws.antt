@@ -4,7 +4,9 @@ use Rattle.std.specs.List.{AllByRecursion}
 use Rattle.plan_types.specs.Instance.{Instance, IsInstance}
 use Rattle.plan_types.specs.declared.requests.Request.{Request}
 use Rattle.plan_audit.specs.Alone.{IsFeasibleAlone, alone}
-use Rattle.plan_audit.specs.Verdict.{IsVerdictOver}
+use Rattle.plan_audit.specs.Verdict.{IsVerdictOver, rule_number}
+use Rattle.plan_audit.specs.declared.rules.Rule.{Rule}
+use Rattle.plan_audit.specs.declared.rules.Rule.TheVariants.{Late, LateReturn, Load}
 use Rattle.plan_audit.specs.declared.rules.Verdict.TheVariants.{Broken}
 use Rattle.move_ops.specs.Insertion.{request_named}
 use Rattle.plan_why.specs.Missed.{excess_of, is_overload, miss_of}
@@ -29,16 +31,16 @@ OverloadIsToldLast = (p : Instance) (route : List ℕ) (r : Request) (kept : ℕ
 abbrev pub AloneIsJudgedByRules : Type 0
 AloneIsJudgedByRules = (p : Instance) (name : ℕ) (r : Request) → IsInstance p → request_named p name ≡ Some r → (miss_of p (alone_route r) ≡ None) ↔ IsFeasibleAlone p (alone_route r)
 
--- the number of the auditor's rule that asks for a limit
-abbrev pub limit_rule : Limit → ℕ
-limit_rule Capacity = 6
-limit_rule Start = 7
-limit_rule Return = 8
+-- the auditor's rule that asks for a limit
+abbrev pub limit_rule : Limit → Rule
+limit_rule Capacity = Load
+limit_rule Start = Late
+limit_rule Return = LateReturn
 
 -- what is missed is what the auditor tells of the route alone: nothing, or the rule of the limit, at some place of the only route with this stop
 abbrev pub TellsFault : Instance → List ℕ → Option Miss → Type 0
 TellsFault p route None = IsFeasibleAlone p route
-TellsFault p route (Some m) = (i : ℕ) × IsVerdictOver 3 8 p (alone route) (Broken (limit_rule m.limit) 1 i m.stop)
+TellsFault p route (Some m) = (i : ℕ) × IsVerdictOver 3 8 p (alone route) (Broken (rule_number (limit_rule m.limit)) 1 i m.stop)
 
 -- law: so it is of a vehicle that serves a live request and nothing else
 abbrev pub AloneTellsFault : Type 0

@@ -1,11 +1,12 @@
 -- The first limit that a route exceeds: the capacity at any stop (rule 6 of the auditor), then the latest start at a stop (7) or of
 -- the return (8).
-use Rattle.std.specs.Prelude.{ℕ, ◌-◌, ◌==◌, not, ◌&&◌, ◌||◌, nat_lt, int_lt, pos, unsigned_abs, Bool, false, true, if◌then◌else◌, List, Option, Some, None}
+use Rattle.std.specs.Prelude.{ℕ, ◌-◌, ◌==◌, not, ◌&&◌, ◌||◌, nat_lt, unsigned_abs, Bool, false, true, if◌then◌else◌, List, Option, Some, None}
 use Rattle.std.specs.List.{find}
 use Rattle.std.specs.Option.{option_map, option_or}
 use Rattle.plan_types.specs.Instance.{Instance}
 use Rattle.plan_types.specs.declared.requests.Kind.{Kind}
 use Rattle.plan_types.specs.declared.requests.Kind.TheVariants.{LiLim, Vrp}
+use Rattle.route_sched.specs.Limits.{is_too_late, is_too_much}
 use Rattle.plan_explain.specs.Tables.{rows_of}
 use Rattle.plan_explain.specs.declared.rows.Row.{Row}
 use Rattle.plan_why.specs.declared.missed.Limit.{Limit}
@@ -14,11 +15,11 @@ use Rattle.plan_why.specs.declared.missed.Miss.{Miss}
 
 -- behind a stop the vehicle carries more than it can
 abbrev pub is_heavy : ℕ → Row → Bool
-is_heavy capacity row = not (row.stop == 0) && int_lt (pos capacity) row.load
+is_heavy capacity row = not (row.stop == 0) && is_too_much row.load capacity
 
 -- service starts, or the vehicle is back, after the latest time
 abbrev pub is_late : Row → Bool
-is_late row = nat_lt row.latest row.start
+is_late row = is_too_late row.start row.latest
 
 -- both in figures; the depot is stop 0
 abbrev pub overload_at : ℕ → Row → Miss

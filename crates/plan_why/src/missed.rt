@@ -6,6 +6,7 @@ ghost use Rattle.plan_why.specs.Missed.{excess, excess_of, is_heavy, is_late, is
 
 use plan_explain::{Row, rows_of};
 use plan_types::{Kind, OutOfMemory, Problem};
+use route_sched::{is_too_late, is_too_much};
 use std::alloc::Global;
 
 /// What a route may exceed.
@@ -127,7 +128,7 @@ pub(crate) fn overload_in(capacity: u32, rows: &[Row]) -> Option<Miss>
 pub(crate) fn is_heavy(capacity: u32, row: &Row) -> bool
     ensures { result ≡ is_heavy capacity row.now }
 {
-    row.stop != 0 && row.load > i64::from(capacity)
+    row.stop != 0 && is_too_much(row.load, capacity)
 }
 
 /// That load in figures.
@@ -167,7 +168,7 @@ fn first_lateness(rows: &[Row]) -> Option<Miss>
 pub(crate) fn is_late(row: &Row) -> bool
     ensures { result ≡ is_late row.now }
 {
-    row.start > u64::from(row.latest)
+    is_too_late(row.start, row.latest)
 }
 
 /// That time in figures.

@@ -15,8 +15,7 @@ use Rattle.checkpoint.specs.declared.faults.StoreFault.TheVariants.{NotFormatted
 use Rattle.planner_cli.proofs.OpenLemmas.{failed_first, found, unread}
 use Rattle.planner_cli.specs.Doubted.{IsDoubtOfImage, IsFirstDoubt, IsWarned, doubt_line, first_doubt}
 use Rattle.planner_cli.specs.Foretold.{IsForetold, IsOfImage}
-use Rattle.planner_cli.specs.Running.{IsOpened, IsRefused}
-use Rattle.recover.specs.Opening.{IsOnlyRead, IsToRepeat}
+use Rattle.recover.specs.Opening.{IsOnlyRead, IsOpened, IsRefused, IsToRepeat}
 use Rattle.recover.specs.declared.opening.Opened.{Opened}
 use Rattle.sector_disk.specs.declared.sectors.Sectors as sectors
 use Rattle.state_codec.specs.declared.version.Version.TheVariants.{Two}
@@ -75,9 +74,9 @@ module _ {D : Type 0} (on : sectors.Ghosts D) (old read : D) where
   -- It was refused, and so is opening it.
   pub refused_first : NeverBoth → (fault : StoreFault) → ReadsOnly on (faults_after_reading (unchecked fault)) old read
       → (on.len old < least_sectors → (read ≡ old) × IsErrOf (unchecked fault) NotFormatted) → IsOfHeadersOrUnread fault
-      → (on.honest read → UnlessUnread (HasNoHeader version_2 (on.seen old)) fault) → IsRefused on old read fault
-  refused_first never fault reads small fails none =
-      failed_first on old read never fault (only_unread fault reads small) (of_load fault fails) (λ honest. holds_nothing (on.seen old) fault (none honest))
+      → (on.honest read → UnlessUnread (HasNoHeader version_2 (on.seen old)) fault) → (on.honest old → on.possible old (on.seen old)) → IsRefused on old read fault
+  refused_first never fault reads small fails none here =
+      failed_first on old read never fault (only_unread fault reads small) (of_load fault fails) (λ honest. holds_nothing (on.seen old) fault (none honest)) here
 
   -- .. and nothing was told.
   pub unwarned : (store : List ℕ) (fault : StoreFault) (before : Option (List ℕ)) → (on.honest read → UnlessUnread (HasNoHeader version_2 (on.seen old)) fault)

@@ -1,17 +1,17 @@
 -- What opening a device or reading it promises behind a first reading of it is promised of the device as it was before.
-use Rattle.std.proofs.Common.{◌≡◌, ◌+◌, ◌∙◌, inl, ℕ, List, Result, Ok, Err, refl, ap, subst, arith}
+use Rattle.std.proofs.Common.{◌≡◌, ◌+◌, ◌≤◌, ◌∙◌, inl, ℕ, List, Result, Ok, Err, refl, sym, ap, subst, arith}
 use Rattle.std.specs.Prelude.{MatchResult}
 use Rattle.checkpoint.specs.Holdless.{HoldsNothing, IsOfLoad, UnlessUnread}
+use Rattle.checkpoint.specs.Layouts.{least_sectors}
 use Rattle.checkpoint.specs.Laws.{NeverBoth}
 use Rattle.checkpoint.specs.Reads.{IsUnchanged}
 use Rattle.checkpoint.specs.Refused.{faults_after_reading, faults_of_store}
 use Rattle.checkpoint.specs.declared.faults.StoreFault.{StoreFault}
 use Rattle.checkpoint.specs.declared.faults.StoreFault.TheVariants.{NotFormatted, BadVersion, Codec, Spent, OutOfMemory, DeviceFault}
 use Rattle.planner_cli.specs.Looked.{LooksInto}
-use Rattle.planner_cli.specs.Running.{IsOpened, IsRefused}
 use Rattle.command_core.specs.declared.states.State.{State}
 use Rattle.recover.specs.Applying.{IsBetween}
-use Rattle.recover.specs.Opening.{IsOnlyRead, IsReplayed, Opens, StandsForNone}
+use Rattle.recover.specs.Opening.{IsOnlyRead, IsOpened, IsRefused, IsReplayed, Opens, ReadsAfter, StandsForNone}
 use Rattle.recover.specs.Sessions.{SessionValue}
 use Rattle.recover.specs.StandsFor.{StandsFor}
 use Rattle.sector_disk.specs.Sectors.{Throughout}
@@ -53,18 +53,39 @@ same_fault answer other fault cause is told same = cc
 not_refused : (answer : Result ℕ StoreFault) (steps : ℕ) (fault : StoreFault) → answer ≡ Ok steps → answer ≡ Err fault → ⊥
 not_refused answer steps fault is told = absurd cc
 
+-- what gives the same reads again, of an image that was possible
+reads_again : (fault : StoreFault) (possible : List ℕ → Type 0) (before after : List ℕ) → possible before → after ≡ before → ReadsAfter fault possible before after
+reads_again DeviceFault possible before after here same = subst possible (sym same) here
+reads_again NotFormatted possible before after here same = same
+reads_again BadVersion possible before after here same = same
+reads_again (Codec fault) possible before after here same = same
+reads_again Spent possible before after here same = same
+reads_again OutOfMemory possible before after here same = same
+
+-- behind what gave the same reads, where no further image was possible
+reads_behind : (fault : StoreFault) (possible now : List ℕ → Type 0) (before between after : List ℕ) → ((image : List ℕ) → now image → possible image)
+    → between ≡ before → ReadsAfter fault now between after → ReadsAfter fault possible before after
+reads_behind DeviceFault possible now before between after each same is = each after is
+reads_behind NotFormatted possible now before between after each same is = is ∙ same
+reads_behind BadVersion possible now before between after each same is = is ∙ same
+reads_behind (Codec fault) possible now before between after each same is = is ∙ same
+reads_behind Spent possible now before between after each same is = is ∙ same
+reads_behind OutOfMemory possible now before between after each same is = is ∙ same
+
 module _ {D : Type 0} (on : sectors.Ghosts D) (old read : D) where
   -- Reading it was refused, and so is opening it.
   pub failed_first : NeverBoth → (fault : StoreFault) → IsOnlyRead on (unread fault) old read → IsOfLoad fault
-      → (on.honest read → UnlessUnread (HoldsNothing Two (on.seen old)) fault) → IsRefused on old read fault
-  failed_first never fault only fails nothing = record {
+      → (on.honest read → UnlessUnread (HoldsNothing Two (on.seen old)) fault) → (on.honest old → on.possible old (on.seen old)) → IsRefused on old read fault
+  failed_first never fault only fails nothing here = record {
     refused = λ honest. stands_for_none (on.seen old) fault (nothing honest);
     opens = λ honest. opens_none never (on.seen old) fault (nothing honest);
     fails = fails;
     small = λ short. (same_fault (unread fault) (unread NotFormatted) fault NotFormatted refl refl (only.told short), only.small short);
+    reads = λ honest. reads_again fault (on.possible old) (on.seen old) (on.seen read) (here (only.read.called.honest_before honest)) (only.read.kept honest).reads;
     moments = λ honest. weakened on.clock on.possible_since old read _ _ (λ m image at. ((omega (arith, at.0), omega (arith, at.0)), at.1)) (only.read.kept honest).moments;
     honest = only.read.called.honest_before;
     faults = only.read.called.fault;
+    same_len = only.read.called.same_len;
   }
 
   -- .. and looking into it.
@@ -145,19 +166,25 @@ module _ {D : Type 0} (on : sectors.Ghosts D) (old read : D) where
       opens = λ honest. subst (λ (image : List ℕ). Opens Two image (Err fault)) (kept (behind.honest honest)).reads (behind.opens honest);
       fails = behind.fails;
       small = λ short. absurd (not_refused (found steps) steps NotFormatted refl (only.told short));
+      reads = λ honest.
+          (let same = kept (behind.honest honest) in
+          reads_behind fault (on.possible old) (on.possible read) (on.seen old) (on.seen read) (on.seen after) same.images.nothing_else same.reads (behind.reads honest));
       moments = λ honest. moments after (behind.honest honest) (behind.moments honest);
       honest = λ honest. only.read.called.honest_before (behind.honest honest);
       faults = behind.faults ∙ ap (faults_of_store fault) only.read.called.fault;
+      same_len = behind.same_len ∙ only.read.called.same_len;
     }
 
     pub opened_behind : (session : SessionValue D) (replayed : ℕ) → IsOpened on read session replayed → IsOpened on old session replayed
     opened_behind session replayed behind =
         let same : on.honest session.device → on.seen read ≡ on.seen old = λ honest. (kept (behind.honest honest)).reads in
         record {
+          room = subst (λ (n : ℕ). least_sectors ≤ n) only.read.called.same_len behind.room;
           given = λ honest. subst (λ (image : List ℕ). StandsFor Two image session.state) (same honest) (behind.given honest);
           opens = λ honest. subst (λ (image : List ℕ). Opens Two image (Ok session.state)) (same honest) (behind.opens honest);
           replays = λ honest. subst (λ (image : List ℕ). IsReplayed Two image session.state session.place replayed) (same honest) (behind.replays honest);
           stands = behind.stands;
+          reads = λ honest. behind.reads honest ∙ same honest;
           moments = λ honest. moments session.device (behind.honest honest) (behind.moments honest);
           honest = λ honest. only.read.called.honest_before (behind.honest honest);
           facts = behind.facts;

@@ -17,7 +17,7 @@ use Rattle.command_serving.proofs.StoppedLemmas.{weaker}
 use Rattle.command_text.specs.Readings.{IsReading, Reading}
 use Rattle.planner_cli.specs.Recovering.{EachInputIsSome, GivesFirstPart, HoldsWhatWasTold, KeepsAnswersSince, Run}
 use Rattle.planner_cli.specs.Recovering.{RunHeadline, RunKeepsAnswers, RunsAreLinked, RunsOver, ServedRunHeadline, ServedRunKeepsAnswers, acts_in}
-use Rattle.planner_cli.specs.Running.{IsOpened}
+use Rattle.recover.specs.Opening.{IsOpened}
 use Rattle.recover.specs.Applying.{IsAnswer, IsBetween, Makes, calls_of, denial, is_snapshot_due}
 use Rattle.recover.specs.Headline.{GivesWhatStands, Headline, IsRecovered, LeavesFirstPart}
 use Rattle.recover.specs.Joining.{IsRunOn}

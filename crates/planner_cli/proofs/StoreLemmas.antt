@@ -8,7 +8,8 @@ use Rattle.checkpoint.specs.declared.places.Place.{Place}
 use Rattle.command_serving.specs.Streams.{Given, Stream}
 use Rattle.planner_cli.specs.Formatting.{IsFormatted}
 use Rattle.planner_cli.specs.Opened.{IsForetoldBefore, IsFoundBare, IsMade, IsMadeReady, IsOpening, IsOpeningOf, IsUnopened, TellsUnopened}
-use Rattle.planner_cli.specs.Running.{IsRefused, IsUntouched, RunsStore, ServesStore}
+use Rattle.planner_cli.specs.Running.{IsUntouched, RunsStore, ServesStore}
+use Rattle.recover.specs.Opening.{IsRefused}
 use Rattle.planner_cli.specs.declared.opened.Unopened.{Unopened}
 use Rattle.planner_cli.specs.declared.opened.Unopened.TheVariants.{File, Store, Unformatted}
 use Rattle.recover.specs.declared.opening.Opened.{Opened}

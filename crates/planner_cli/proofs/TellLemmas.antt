@@ -17,7 +17,7 @@ use Rattle.command_serving.specs.declared.answering.ServeFault.{ServeFault}
 use Rattle.command_serving.specs.declared.answering.ServeFault.TheVariants as fault
 use Rattle.command_serving.specs.declared.strict.Stopped.{Stopped}
 use Rattle.planner_cli.specs.Loading.{holds_instance}
-use Rattle.command_line.specs.Asked.{Asked, upgrade}
+use Rattle.command_line.specs.Asked.{WordsAsked, upgrade}
 use Rattle.planner_cli.specs.Running.{stop_unless}
 use Rattle.planner_cli.specs.Statuses.{CanEndWith}
 use Rattle.planner_cli.specs.Telling.{IsFirstPart, TellsText}
@@ -116,12 +116,12 @@ told_apart contents Tells a b c d first last told =
     subst (λ x. Tells x (contents d)) (ap contents first) (subst (λ x. Tells (contents b) x) (sym (ap contents last)) told)
 
 -- each word may end with 3
-three_can : (asked : Asked) → CanEndWith asked 3
+three_can : (asked : WordsAsked) → CanEndWith asked 3
 three_can (upgrade old new) = inl (omega arith)
 three_can _ = omega arith
 
 -- so the status of what was told is one of the word's
-pub status_can : {X : Type 0} (asked : Asked) (told : Result ℕ X) (status : ℕ) → IfOk told (CanEndWith asked)
+pub status_can : {X : Type 0} (asked : WordsAsked) (told : Result ℕ X) (status : ℕ) → IfOk told (CanEndWith asked)
     → MatchResult told (λ printed. status ≡ printed) (λ error. status ≡ 3) → CanEndWith asked status
 status_can asked (Ok printed) status can ends = subst (CanEndWith asked) (sym ends) can
 status_can asked (Err error) status can ends = subst (CanEndWith asked) (sym ends) (three_can asked)

@@ -11,10 +11,10 @@ use Rattle.checkpoint.specs.declared.faults.StoreFault.{StoreFault}
 use Rattle.checkpoint.specs.declared.faults.StoreFault.TheVariants.{NotFormatted}
 use Rattle.checkpoint.specs.declared.places.Place.{Place}
 use Rattle.planner_cli.specs.Formatting.{IsFormatted}
-use Rattle.planner_cli.specs.Running.{IsOpened, IsRefused}
 use Rattle.planner_cli.specs.Telling.{open_line, open_status, store_line, store_status, unformatted_line, unformatted_status}
 use Rattle.planner_cli.specs.declared.opened.Unopened.{Unopened}
 use Rattle.planner_cli.specs.declared.opened.Unopened.TheVariants.{File, Store, Unformatted}
+use Rattle.recover.specs.Opening.{IsOpened, IsRefused}
 use Rattle.recover.specs.declared.opening.Opened.{Opened}
 use Rattle.sector_disk.specs.Disks.{IsNotMadeAt, IsNotTakenAt}
 use Rattle.sector_disk.specs.declared.file_device.FileRefusal.{FileRefusal}

@@ -3,7 +3,7 @@
 use Rattle.std.specs.Prelude.{◌≡◌, ◌⊎◌, ℕ, Bool, true, List, ◌∷◌, Option, Result, IfOk, MatchResult}
 use Rattle.std.specs.declared.io.Error.{Error}
 use Rattle.clap.specs.Words.{Text}
-use Rattle.command_line.specs.Asked.{Asked, IsUsageStatus, adopt, asks_help, audit, audits, built_in, check}
+use Rattle.command_line.specs.Asked.{WordsAsked, IsUsageStatus, adopt, asks_help, audit, audits, built_in, check}
 use Rattle.command_line.specs.Asked.{draw, draw_store, explain, format, load, run, solve, solves, store_instance, store_timetable, timetable, upgrade}
 use Rattle.plan_types.specs.declared.requests.Kind.TheVariants.{LiLim}
 use Rattle.command_serving.specs.Held.{held, reads_of, still_known}
@@ -73,7 +73,7 @@ abbrev pub disks_in : World → World → DisksAsked
 disks_in old new = record { was = old.disks; now = new.disks }
 
 -- which files a word reads, also where an answer can't be printed
-abbrev pub AreReadFor : Asked → List FileRead → List FileRead → Type 0
+abbrev pub AreReadFor : WordsAsked → List FileRead → List FileRead → Type 0
 AreReadFor built_in was now = now ≡ was
 AreReadFor (audit paths routes_alone) was now = AreReadInTurn paths.instance paths.solution was now
 AreReadFor (audits kind list routes_alone) was now = IsReadFirst list was now
@@ -93,13 +93,13 @@ AreReadFor (timetable paths is_tabbed) was now = AreReadInTurn paths.instance pa
 AreReadFor (store_timetable store is_tabbed) was now = now ≡ was
 
 -- only `solves` makes files, beside stores
-abbrev pub AreMadeFor : Asked → List FileWrite → List FileWrite → Type 0
+abbrev pub AreMadeFor : WordsAsked → List FileWrite → List FileWrite → Type 0
 AreMadeFor (solves tasks) was now = IsGrown was now
 AreMadeFor _ was now = now ≡ was
 
 -- Which files of stores a word asks for, and which it may make, also where an answer can't be printed. `load`, `adopt` and `upgrade` ask for a
 -- file by what they find (`TellsLoad`, `TellsAdopt`, `UpgradesStore`).
-abbrev pub AreAskedFor : Asked → List DiskEntry → List DiskEntry → Type 0
+abbrev pub AreAskedFor : WordsAsked → List DiskEntry → List DiskEntry → Type 0
 AreAskedFor (draw_store store route) was now = now ≡ (Share, store) ∷ was
 AreAskedFor (format store) was now = now ≡ (Make, store) ∷ was
 AreAskedFor (load asked) was now = Unit {0}
@@ -112,12 +112,12 @@ AreAskedFor (store_timetable store is_tabbed) was now = now ≡ (Share, store) �
 AreAskedFor _ was now = now ≡ was
 
 -- only `run` reads the input
-abbrev pub IsInputKept : Asked → World → World → Type 0
+abbrev pub IsInputKept : WordsAsked → World → World → Type 0
 IsInputKept (run store is_strict) old new = Unit {0}
 IsInputKept _ old new = (new.input ≡ old.input) × (new.reads ≡ old.reads)
 
 -- only these words write to the errors
-abbrev pub AreErrorsKept : Asked → World → World → Type 0
+abbrev pub AreErrorsKept : WordsAsked → World → World → Type 0
 AreErrorsKept (audit paths routes_alone) old new = Unit {0}
 AreErrorsKept (audits kind list routes_alone) old new = Unit {0}
 AreErrorsKept (explain paths routes_alone) old new = Unit {0}
@@ -135,14 +135,14 @@ AreErrorsKept (store_timetable store is_tabbed) old new = Unit {0}
 AreErrorsKept _ old new = new.errors ≡ old.errors
 
 -- Whatever came of it, also where an answer could not be printed, and in a run that is killed: only `run` serves an input.
-abbrev pub ServesFor : {D : Type 0} → sectors.Ghosts D → (List ℕ → D → Type 0) → Asked → World → World → Type 0
+abbrev pub ServesFor : {D : Type 0} → sectors.Ghosts D → (List ℕ → D → Type 0) → WordsAsked → World → World → Type 0
 ServesFor on IsOld (run store is_strict) old new = ServesStore on IsOld store is_strict (given_in old new) old.output new.output new.input_failed new.output_failed
 ServesFor on IsOld _ old new = Unit {0}
 
 module _ {D N : Type 0} (on_old : sectors.Ghosts D) (on_new : sectors.Ghosts N) (IsOld IsShared IsMade : List ℕ → D → Type 0) (IsNew : List ℕ → N → Type 0) where
   -- What was asked for was done, and told, if it could be printed: `told` is the status that goes with it. `IsOld`, `IsShared` and `IsMade` are
   -- what is known of the device over the file at a path that is opened, opened for reading alone, or made, `IsNew` of one over a file that is made beside it.
-  abbrev pub Does : {X : Type 0} → Asked → World → World → Result ℕ X → Type 0
+  abbrev pub Does : {X : Type 0} → WordsAsked → World → World → Result ℕ X → Type 0
   Does built_in old new told = IfOk told (TellsAudit LiLim example_instance example_solution old.output.contents new.output.contents)
   Does (audit paths routes_alone) old new told =
       IfOk told
@@ -171,7 +171,7 @@ module _ {D N : Type 0} (on_old : sectors.Ghosts D) (on_new : sectors.Ghosts N) 
   Does (store_timetable store is_tabbed) old new told = IfOk told (TimetablesStore on_old IsShared store (form_of is_tabbed) old.output.contents new.output.contents)
 
   -- What was asked for is done, and all else is left as it was, whatever came of the answer.
-  pub record IsDone {X : Type 0} (asked : Asked) (old new : World) (told : Result ℕ X) : Type 0 where
+  pub record IsDone {X : Type 0} (asked : WordsAsked) (old new : World) (told : Result ℕ X) : Type 0 where
     pub does : Does asked old new told
     pub serves : ServesFor on_old IsOld asked old new
     pub reads : AreReadFor asked old.files new.files
@@ -181,14 +181,14 @@ module _ {D N : Type 0} (on_old : sectors.Ghosts D) (on_new : sectors.Ghosts N) 
     pub errors : AreErrorsKept asked old new
 
   -- The words were read. Where an answer could not be printed, the status is 3; what `format`, `load`, `adopt` and `upgrade` did is said all the same.
-  pub record Works (asked : Asked) (old new : World) (status : ℕ) : Type 0 where
+  pub record Works (asked : WordsAsked) (old new : World) (status : ℕ) : Type 0 where
     pub told : Result ℕ Error
     pub ends : MatchResult told (λ printed. status ≡ printed) (λ error. status ≡ 3)
     pub done : IsDone asked old new told
     pub statuses : CanEndWith asked status
 
   -- or there was no memory to read them, and nothing was done
-  abbrev pub EndsWith : Asked → World → World → ℕ → Type 0
+  abbrev pub EndsWith : WordsAsked → World → World → ℕ → Type 0
   EndsWith asked old new status = Works asked old new status ⊎ ((status ≡ 4) × (new ≡ old))
 
 -- The words ask for nothing. Help leaves the errors as they were, and what is wrong with the words the output. The status is one of those of

@@ -11,10 +11,10 @@ use Rattle.command_serving.specs.Streams.{Event, Given, IsInput, Stream, put_by}
 use Rattle.command_serving.specs.Timely.{TellsAcknowledged, calls_at}
 use Rattle.command_text.specs.Cutting.{pieces_of}
 use Rattle.command_text.specs.Readings.{IsReading, Reading}
-use Rattle.planner_cli.specs.Running.{IsOpened, ServesSession}
+use Rattle.planner_cli.specs.Running.{ServesSession}
 use Rattle.recover.specs.Headline.{GivesWhatStands, IsRecovered}
 use Rattle.recover.specs.Links.{AreLinked, Restart}
-use Rattle.recover.specs.Opening.{GivesUnlessFailed}
+use Rattle.recover.specs.Opening.{GivesUnlessFailed, IsOpened}
 use Rattle.recover.specs.Replies.{acked}
 use Rattle.recover.specs.Sessions.{SessionValue}
 use Rattle.recover.specs.StandsFor.{StandsFor}

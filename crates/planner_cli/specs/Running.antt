@@ -1,12 +1,7 @@
 -- What the word `run` does: it opens a store, tells how many search steps were repeated, and serves the input over it.
-use Rattle.std.specs.Prelude.{◌≡◌, ◌⊎◌, ℕ, ◌+◌, ◌<◌, ◌||◌, ◌^◌, Bool, true, false, List, [], ◌++◌, length, codes, decimal, Option, Some, None, Result, Ok, Err, IfErr, OnOk, ⊤}
+use Rattle.std.specs.Prelude.{◌≡◌, ◌⊎◌, ℕ, ◌+◌, ◌||◌, ◌^◌, Bool, true, false, List, [], ◌++◌, length, codes, decimal, Option, Some, None, Result, Ok, Err, IfErr, OnOk, ⊤}
 use Rattle.std.specs.Io.KnownBytes.{Appends}
-use Rattle.checkpoint.specs.Holdless.{IsOfLoad, UnlessUnread}
-use Rattle.checkpoint.specs.Layouts.{least_sectors}
-use Rattle.checkpoint.specs.Refused.{faults_of_store}
 use Rattle.checkpoint.specs.declared.faults.StoreFault.{StoreFault}
-use Rattle.checkpoint.specs.declared.faults.StoreFault.TheVariants.{NotFormatted}
-use Rattle.command_core.specs.Runs.{IsState}
 use Rattle.command_serving.specs.Served.{EndsOrIsCut, HasCause, IsTaken}
 use Rattle.command_serving.specs.Stopped.{RunsLeave}
 use Rattle.command_serving.specs.Streams.{Extends, Given, IsInput, Stream}
@@ -18,15 +13,11 @@ use Rattle.command_serving.specs.declared.strict.Stopped.TheVariants as stop
 use Rattle.command_text.specs.Readings.{IsReading, Reading}
 use Rattle.command_text.specs.Answers.{line}
 use Rattle.planner_cli.specs.Telling.{TellsFile, store_line, store_status}
-use Rattle.recover.specs.Applying.{IsBetween}
-use Rattle.recover.specs.Opening.{IsReplayed, Opens, StandsForNone}
+use Rattle.recover.specs.Opening.{IsOpened, IsRefused}
 use Rattle.recover.specs.Sessions.{SessionValue}
-use Rattle.recover.specs.StandsFor.{StandsFor}
 use Rattle.sector_disk.specs.Disks.{IsNotTakenAt}
-use Rattle.sector_disk.specs.Sectors.{Throughout}
 use Rattle.sector_disk.specs.declared.file_device.FileRefusal.{FileRefusal}
 use Rattle.sector_disk.specs.declared.sectors.Sectors as sectors
-use Rattle.state_codec.specs.declared.version.Version.TheVariants.{Two}
 
 -- An input was served, less than 10^12 bytes of it, or the serving cut short, and for this cause, as `serve_source` says it.
 pub record Serves {D : Type 0} (on : sectors.Ghosts D) (served : Result ⊤ ServeFault) (old : SessionValue D) (input : List ℕ) (before after : Stream)
@@ -103,37 +94,11 @@ pub record IsUntouched (given : Given) (before after : Stream) : Type 0 where
   pub events : after.events ≡ before.events
 
 module _ {D : Type 0} (on : sectors.Ghosts D) where
-  -- Opening the device gave this session: it has the state that the image stands for which reads gave, and is whole.
-  pub record IsOpened (device : D) (session : SessionValue D) (replayed : ℕ) : Type 0 where
-    pub given : on.honest session.device → StandsFor Two (on.seen device) session.state
-    pub opens : on.honest session.device → Opens Two (on.seen device) (Ok session.state)
-    pub replays : on.honest session.device → IsReplayed Two (on.seen device) session.state session.place replayed
-    pub stands : on.honest session.device → (image : List ℕ) → on.possible session.device image → StandsFor Two image session.state
-    pub moments : on.honest session.device
-        → Throughout on.clock on.possible_since device session.device (λ m image. IsBetween (on.calls device) (on.calls device + 1) m image × on.possible device image)
-    pub honest : on.honest session.device → on.honest device
-    pub facts : IsState session.state
-    pub whole : session.is_broken ≡ false
-    pub finished : on.calls session.device ≡ on.calls device + 1
-    pub faults : on.faults session.device ≡ on.faults device
-    pub same_len : on.len session.device ≡ on.len device
-
-  -- Opening the device was refused: its image stands for no state, or could not be read. At each moment of it each image is one of those before.
-  pub record IsRefused (device after : D) (fault : StoreFault) : Type 0 where
-    pub refused : on.honest after → UnlessUnread (StandsForNone Two (on.seen device)) fault
-    pub opens : on.honest after → Opens Two (on.seen device) (Err fault)
-    pub fails : IsOfLoad fault
-    pub small : on.len device < least_sectors → (fault ≡ NotFormatted) × (after ≡ device)
-    pub moments : on.honest after
-        → Throughout on.clock on.possible_since device after (λ m image. IsBetween (on.calls device) (on.calls device + 1) m image × on.possible device image)
-    pub honest : on.honest after → on.honest device
-    pub faults : on.faults after ≡ faults_of_store fault (on.faults device)
-
   -- Opening the device gave a session of which `OnOpened` speaks, or was refused, and `OnRefused` speaks of the device and why.
   abbrev pub OpensDevice : D → (SessionValue D → ℕ → Type 0) → (D → StoreFault → Type 0) → Type 0
   OpensDevice device OnOpened OnRefused =
-      ((session : SessionValue D) × (replayed : ℕ) × IsOpened device session replayed × OnOpened session replayed)
-      ⊎ ((fault : StoreFault) × (later : D) × IsRefused device later fault × OnRefused later fault)
+      ((session : SessionValue D) × (replayed : ℕ) × IsOpened on device session replayed × OnOpened session replayed)
+      ⊎ ((fault : StoreFault) × (later : D) × IsRefused on device later fault × OnRefused later fault)
 
   -- The store on the device is opened and the input served over it, or it is told why it can't be opened.
   abbrev pub RunsDevice : D → Bool → Given → Stream → Stream → Bool → Bool → ℕ → Type 0

@@ -8,7 +8,7 @@ ghost use Rattle.sector_disk.specs.Disks.{IsTakenAt};
 ghost use Rattle.planner_cli.specs.Doubted.{IsFirstDoubt, IsDoubtOfImage, IsWarned, doubt_line, first_doubt};
 ghost use Rattle.planner_cli.specs.Foretold.{IsOfImage};
 ghost use Rattle.planner_cli.specs.Opened.{IsForetoldBefore, IsOpening, IsStoreOpening};
-ghost use Rattle.planner_cli.specs.Running.{IsOpened, IsRefused};
+ghost use Rattle.recover.specs.Opening.{IsOpened, IsRefused};
 
 use crate::opened::{Opening, Unopened, open_session};
 use checkpoint::{Doubt, Doubts, StoreFault, doubts_about, images_hold_one_thing};

@@ -36,7 +36,7 @@ pub(crate) enum Drawing {
     Refused(AuditAnswer),
 }
 
-/// Reads both texts as `audit_noted` does, and draws the solution, or its one route with this number. The picture goes to
+/// Reads both texts as `audit_files` does, and draws the solution, or its one route with this number. The picture goes to
 /// `output`, and whatever else is told to `errors`.
 pub(crate) fn draw_read<F: ReadFiles, W: Write, E: Write>(
     alloc: Global,

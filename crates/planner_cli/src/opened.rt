@@ -5,9 +5,9 @@
 //! counted twice.
 ghost use Rattle.std.specs.Prelude.{◌≡◌, ◌≤◌, ◌∷◌, IfErr, IfOk, MatchResult, OnOk};
 ghost use Rattle.sector_disk.specs.Disks.{IsTakenAt};
+ghost use Rattle.recover.specs.Opening.{IsOpened, IsRefused};
 ghost use Rattle.planner_cli.specs.Foretold.{IsForetold, IsOfImage};
 ghost use Rattle.planner_cli.specs.Opened.{IsForetoldBefore, IsOpening, IsStoreOpening, unopened_line, unopened_status};
-ghost use Rattle.planner_cli.specs.Running.{IsOpened, IsRefused};
 ghost use Rattle.planner_cli.specs.Telling.{TellsText};
 
 use crate::remains::{tell_length, tell_remains};
@@ -72,25 +72,13 @@ pub(crate) fn open_session<D: Sectors, E: Write>(
     match steps_to_repeat(alloc, &mut device) {
         Ok(steps) => {
             let told = tell_repeating(steps, errors);
-            let opened = open_silently(alloc, device);
+            let opened = Session::open(alloc, device);
             Opening { told, opened }
         }
         Err(fault) => Opening {
             told: Ok(()),
             opened: Err((fault, device)),
         },
-    }
-}
-
-// Opens the store on the device, and tells nothing.
-fn open_silently<D: Sectors>(alloc: Global, device: D) -> Result<Opened<D>, (StoreFault, D)>
-    ensures { MatchResult result
-        (λ opened. IsOpened D.Sectors device opened.session opened.replayed)
-        (λ refused. IsRefused D.Sectors device refused.1 refused.0) }
-{
-    match Session::open(alloc, device) {
-        Ok(opened) => Ok(opened),
-        Err((fault, device)) => Err((fault, device)),
     }
 }
 

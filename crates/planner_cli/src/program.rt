@@ -3,7 +3,7 @@
 //! `run_words` takes what opens the files of stores, what reads files and what makes them, the streams, and values of `T: Start` and `U: Start`, all of which `main`
 //! makes: what the files of a store, and of one that a load or an upgrade makes, are as they are opened.
 ghost use Rattle.std.specs.Prelude.{◌≡◌, ◌≤◌, ◌∷◌, IfOk, drop, map};
-ghost use Rattle.command_line.specs.Asked.{ArePositional, Asked, asked_by, asked_of};
+ghost use Rattle.command_line.specs.Asked.{ArePositional, WordsAsked, asked_by, asked_of};
 ghost use Rattle.command_serving.specs.Held.{given_by, held};
 ghost use Rattle.sector_disk.specs.Disks.{IsMadeAt, IsSharedAt, IsTakenAt};
 ghost use Rattle.planner_cli.specs.Program.{EndsWith, IsDone, TellsUsage, seen};
@@ -20,7 +20,7 @@ use crate::stores::{format_store, run_store, upgrade_store};
 use crate::timetabled::{form_of, timetable_read, timetable_store};
 use crate::written::write_store;
 use auditor_cli::{
-    ReadFiles, WriteFiles, audit_example, audit_noted, audits_read, explain_read, status_of,
+    ReadFiles, WriteFiles, audit_example, audit_files, audits_read, explain_read, status_of,
     tell_usage,
 };
 use command_line::{Invocation, read_words};
@@ -66,7 +66,7 @@ pub fn run_words<
 where
     R: Eprint + AllocGlobal,
     ensures does { let asked = drop 1 (map S.text words.now) in
-        (a : Asked) → ArePositional asked → asked_by asked ≡ Some a
+        (a : WordsAsked) → ArePositional asked → asked_by asked ≡ Some a
         → EndsWith ⟦<FileDevice<T> as Sectors>⟧ ⟦<FileDevice<U> as Sectors>⟧
         (IsTakenAt ⟦<HostFile as FileCalls>⟧.entries)
         (IsSharedAt ⟦<HostFile as FileCalls>⟧.entries) (IsMadeAt ⟦<HostFile as FileCalls>⟧.entries)
@@ -152,7 +152,7 @@ where
             routes_alone,
         } => {
             let Streams { output, errors, .. } = &mut streams;
-            let told = audit_noted(alloc, paths, routes_alone, files, output, errors);
+            let told = audit_files(alloc, paths, routes_alone, files, output, errors);
             (told, streams)
         }
         Invocation::Audits {

@@ -67,7 +67,8 @@ impl Solver<'_> {
         errors: &mut E,
     ) -> io::Result<u8>
         ensures status { IfOk result (λ status. status ≤ 4) }
-        ensures does { Ends AreGrown (TellsLines (IsSolvedLine (tasks_of self.now.tasks)) lines.entry)
+        ensures does { Ends AreGrown
+            (TellsLines (IsSolvedLine (tasks_of self.now.tasks)) lines.entry)
             (files_done F.reads N.writes E.contents files.old new_files.old errors.old)
             (files_done F.reads N.writes E.contents files.new new_files.new errors.new)
             (W.contents output.old) (W.contents output.new) result }
@@ -218,7 +219,8 @@ impl Solver<'_> {
         output: &mut W,
     ) -> io::Result<u8>
         ensures status { IfOk result (λ status. status ≤ 4) }
-        ensures does { Ends IsGrown (Places self.now.tasks.kind instance.now path.now (Ok solved.now))
+        ensures does { Ends IsGrown
+            (Places self.now.tasks.kind instance.now path.now (Ok solved.now))
             (N.writes new_files.old) (N.writes new_files.new)
             (W.contents output.old) (W.contents output.new) result }
     {

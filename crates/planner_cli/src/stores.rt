@@ -163,7 +163,8 @@ where
     ensures upgrades { (compared : List DiskEntry) × (is_one : Bool)
         × UpgradesOther ⟦<FileDevice<T> as Sectors>⟧ ⟦<FileDevice<U> as Sectors>⟧
         (IsTakenAt ⟦<HostFile as FileCalls>⟧.entries) (IsMadeAt ⟦<HostFile as FileCalls>⟧.entries)
-        old.now new.now compared is_one (record { was = X.asked disks.old; now = X.asked disks.new })
+        old.now new.now compared is_one
+        (record { was = X.asked disks.old; now = X.asked disks.new })
         (held W.contents output.old) (held W.contents output.new) result }
 {
     if disks.are_one(old, new) {

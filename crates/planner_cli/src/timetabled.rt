@@ -46,7 +46,7 @@ pub(crate) fn form_of(is_tabbed: bool) -> Form
     if is_tabbed { Form::Tabs } else { Form::Columns }
 }
 
-/// Reads both texts as `audit_noted` does, and tells the audit's answer and the timetable of the solution. A partial plan is told as one,
+/// Reads both texts as `audit_files` does, and tells the audit's answer and the timetable of the solution. A partial plan is told as one,
 /// and on `errors` what it leaves out.
 pub(crate) fn timetable_read<F: ReadFiles, W: Write, E: Write>(
     alloc: Global,

@@ -12,7 +12,7 @@ use Rattle.state_codec.specs.declared.version.Version.TheVariants.{Two}
 use Rattle.recover.specs.StandsFor.{StandsFor}
 use Rattle.recover.specs.Replies.{kept}
 use Rattle.recover.specs.Sessions.{SessionValue}
-use Rattle.recover.specs.Rounds.{seen_in, AreRounds, IsOpened, EndsRounds}
+use Rattle.recover.specs.Rounds.{seen_in, AreRounds, IsMemoryOpened, EndsRounds}
 use Rattle.recover.specs.Folds.{AreCounts, standing, LeadsTo, IsFold}
 use Rattle.recover.proofs.Headlines.{passing, stands_state}
 use Rattle.recover.proofs.StepLemmas.{after-append, accepted-append}
@@ -47,7 +47,7 @@ record Begins (device : MemDevice) : Type 0 where
   pub begun : State
   pub stands : StandsFor Two (seen_in device) begun
 
-begins : (rounds : List Round) (runs : List Run) (device left : MemDevice) (session : SessionValue MemDevice) → AreRounds device rounds runs left → IsOpened left session → Begins device
+begins : (rounds : List Round) (runs : List Run) (device left : MemDevice) (session : SessionValue MemDevice) → AreRounds device rounds runs left → IsMemoryOpened left session → Begins device
 begins [] [] device left session are opened = record { begun = session.state; stands = subst (λ (d : MemDevice). StandsFor Two (seen_in d) session.state) are opened.stands }
 begins (round ∷ rounds) (run ∷ runs) device left session are opened = record { begun = are.1.first.state; stands = are.1.opened.stands }
 begins [] (run ∷ runs) device left session are opened = elim are [ ]

@@ -21,7 +21,7 @@ use Rattle.recover.specs.Moments.{StandsForSome}
 use Rattle.recover.specs.Sessions.{SessionValue}
 use Rattle.recover.specs.Headline.{IsRecovered}
 use Rattle.recover.specs.Links.{Restart as Link, AreLinked, LinksLeadOn}
-use Rattle.recover.specs.Rounds.{seen_in, count_ok, IsOpened, IsUnbegun}
+use Rattle.recover.specs.Rounds.{seen_in, count_ok, IsMemoryOpened, IsUnbegun}
 use Rattle.recover.specs.Restarts.{CarriesOut, IsRestart, IsNoRestart, AreRestarts, EndsRestarts, IsFirstOpened, AreJoined, CutsRestarts, kept_by}
 use Rattle.recover.proofs.Headlines.{recovered, stands_state}
 use Rattle.recover.proofs.RoundLemmas.{reads_possible}
@@ -52,17 +52,17 @@ record Begins (first device : MemDevice) (restarts : List Restart) (runs : List 
 module _ (keep : RunsKeepFacts) (never_more : PlansNeverCostMore) (say : TestsSayPass) where
   -- what an opening gives of what a run left
   link_to : (begun : State) (commands : List Command) (acknowledged : ℕ) (device : MemDevice) (session : SessionValue MemDevice)
-      → ((image : List ℕ) → MayLeave (memory device) image → StandsForSome begun commands acknowledged image) → IsOpened device session → IsRecovered begun commands acknowledged session.state
+      → ((image : List ℕ) → MayLeave (memory device) image → StandsForSome begun commands acknowledged image) → IsMemoryOpened device session → IsRecovered begun commands acknowledged session.state
   link_to begun commands acknowledged device session images opened =
       let stop = images (seen_in device) (reads_possible device) in
       recovered keep never_more say begun commands acknowledged (seen_in device) stop session.state (opened.alone _ stop.stands)
 
   goes_on : (restarts : List Restart) (runs : List (Result Run StoreFault)) (device left : MemDevice) (session : SessionValue MemDevice)
-      → AreRestarts device restarts runs left → IsOpened left session → (begun : State) (commands : List Command) (acknowledged : ℕ)
+      → AreRestarts device restarts runs left → IsMemoryOpened left session → (begun : State) (commands : List Command) (acknowledged : ℕ)
       → ((image : List ℕ) → MayLeave (memory device) image → StandsForSome begun commands acknowledged image) → GoesOn begun commands acknowledged restarts runs session.state
   goes_on [] [] device left session are opened begun commands acknowledged images = record {
     given = session.state;
-    recovered = link_to begun commands acknowledged device session images (subst (λ (d : MemDevice). IsOpened d session) are opened);
+    recovered = link_to begun commands acknowledged device session images (subst (λ (d : MemDevice). IsMemoryOpened d session) are opened);
     links = [];
     one_each = refl;
     linked = refl;
@@ -93,7 +93,7 @@ module _ (keep : RunsKeepFacts) (never_more : PlansNeverCostMore) (say : TestsSa
   goes_on (restart ∷ restarts) [] device left session are opened begun commands acknowledged images = elim are [ ]
 
   begins : (restarts : List Restart) (runs : List (Result Run StoreFault)) (first device left : MemDevice) (session : SessionValue MemDevice)
-      → ((image : List ℕ) → MayLeave (memory device) image → MayLeave (memory first) image) → AreRestarts device restarts runs left → IsOpened left session
+      → ((image : List ℕ) → MayLeave (memory device) image → MayLeave (memory first) image) → AreRestarts device restarts runs left → IsMemoryOpened left session
       → Begins first device restarts runs session.state
   begins [] [] first device left session images are opened = record {
     image = seen_in device;

@@ -26,7 +26,7 @@ use Rattle.recover.specs.Moments.{StandsForSome, RunLeaves}
 use Rattle.recover.specs.Opening.{IsReplayed}
 use Rattle.recover.specs.Sessions.{SessionValue}
 use Rattle.recover.specs.Applying.{faults_after_answer}
-use Rattle.recover.specs.Rounds.{seen_in, IsMemoryRun, count_ok, is_device_fault, count_device_faults, IsOpened, IsSet, IsLeft, IsRound, IsUnbegun, AreRounds, CutsRounds}
+use Rattle.recover.specs.Rounds.{seen_in, IsMemoryRun, count_ok, is_device_fault, count_device_faults, IsMemoryOpened, IsSet, IsLeft, IsRound, IsUnbegun, AreRounds, CutsRounds}
 use Rattle.recover.specs.Restarts.{CarriesOut}
 use Rattle.recover.proofs.RunLemmas.{unacked, one_acked, counted_from}
 
@@ -100,7 +100,7 @@ images_at_the_end commands replies old new run moments image possible =
 
 -- a session that differs in what is to fail alone was opened as that one was
 still_opened : (device : MemDevice) (old new : SessionValue MemDevice) → IsSameDevice (memory old.device) (memory new.device) → new.state ≡ old.state → new.place ≡ old.place
-    → new.is_broken ≡ old.is_broken → IsOpened device old → IsOpened device new
+    → new.is_broken ≡ old.is_broken → IsMemoryOpened device old → IsMemoryOpened device new
 still_opened device old new same state place broken opened = record {
   stands = subst (λ (s : State). StandsFor Two (seen_in device) s) (sym state) opened.stands;
   alone = λ other stands. state ∙ opened.alone other stands;
@@ -113,7 +113,7 @@ still_opened device old new same state place broken opened = record {
 
 -- a session that was opened, a stop that was set, a run, and what is left of its device
 module _ (device : MemDevice) (round : Round) (replies : List Reply) (session first last : SessionValue MemDevice) (left : MemDevice) where
-  pub is_round : IsOpened device session → IsSameDevice (memory session.device) (memory first.device) → first.state ≡ session.state → first.place ≡ session.place
+  pub is_round : IsMemoryOpened device session → IsSameDevice (memory session.device) (memory first.device) → first.state ≡ session.state → first.place ≡ session.place
       → first.is_broken ≡ session.is_broken → IsSet round.stop first.device → IsMemoryRun first round.commands.items replies last
       → Throughout (λ d. clock_of (memory d)) (λ d. MayHaveLeft (memory d)) first.device last.device (RunLeaves first.state round.commands.items replies)
       → IsLeft round.stop last.device left × ((image : List ℕ) → MayLeave (memory left) image → MayLeave (memory last.device) image) × ((memory left).faults ≡ (memory last.device).faults)
@@ -134,7 +134,7 @@ module _ (device : MemDevice) (round : Round) (replies : List Reply) (session fi
 
 -- a session that was opened, a run, and its device
 pub carries_out : (device : MemDevice) (commands : List Command) (replies : List Reply) (first last : SessionValue MemDevice) (handed : MemDevice)
-    → IsOpened device first → IsMemoryRun first commands replies last
+    → IsMemoryOpened device first → IsMemoryRun first commands replies last
     → Throughout (λ d. clock_of (memory d)) (λ d. MayHaveLeft (memory d)) first.device last.device (RunLeaves first.state commands replies)
     → handed ≡ last.device → CarriesOut device commands replies handed
 carries_out device commands replies first last handed opened run moments closed = record {

@@ -1,24 +1,26 @@
 -- What opening a device gives, by the version of its store.
-use Rattle.std.specs.Prelude.{◌≡◌, ◌⊎◌, ℕ, ◌+◌, ◌<◌, ◌≤◌, List, sum_by, Result, Ok, Err, OnOk, IsErrOf, ⊤}
+use Rattle.std.specs.Prelude.{◌≡◌, ◌⊎◌, ℕ, ◌+◌, ◌<◌, ◌≤◌, false, List, sum_by, Result, Ok, Err, OnOk, IsErrOf, ⊤}
 use Rattle.sector_disk.specs.declared.sectors.Sectors as sectors
 use Rattle.sector_disk.specs.Sectors.{Only, Throughout}
 use Rattle.command_core.specs.Commands.{steps_of}
-use Rattle.command_core.specs.Runs.{AreAccepted}
+use Rattle.command_core.specs.Runs.{AreAccepted, IsState}
 use Rattle.command_core.specs.declared.states.State.{State}
 use Rattle.command_core.specs.declared.states.State.TheVariants.{Empty, Loaded}
 use Rattle.command_core.specs.declared.commands.Command.{Command}
 use Rattle.state_codec.specs.declared.fault.CodecFault.TheVariants.{BadField}
 use Rattle.state_codec.specs.declared.version.Version.{Version}
+use Rattle.state_codec.specs.declared.version.Version.TheVariants.{Two}
 use Rattle.checkpoint.specs.declared.faults.StoreFault.{StoreFault}
 use Rattle.checkpoint.specs.declared.faults.StoreFault.TheVariants.{NotFormatted, BadVersion, Codec, Spent, OutOfMemory, DeviceFault}
 use Rattle.checkpoint.specs.declared.places.Place.{Place}
 use Rattle.checkpoint.specs.Holds.{Holds}
-use Rattle.checkpoint.specs.Holdless.{HoldsNothing}
+use Rattle.checkpoint.specs.Holdless.{HoldsNothing, IsOfLoad, UnlessUnread}
 use Rattle.checkpoint.specs.Layouts.{least_sectors}
 use Rattle.checkpoint.specs.Reads.{ReadsOnly}
-use Rattle.checkpoint.specs.Refused.{faults_after_reading}
+use Rattle.checkpoint.specs.Refused.{faults_after_reading, faults_of_store}
 use Rattle.recover.specs.StandsFor.{StandsFor}
 use Rattle.recover.specs.Applying.{IsBetween}
+use Rattle.recover.specs.Sessions.{SessionValue}
 
 -- A state is given, and it has P, unless memory was refused or the device failed.
 abbrev pub GivesUnlessFailed : (State → Type 0) → Result State StoreFault → Type 0
@@ -102,12 +104,35 @@ module _ {D : Type 0} (on : sectors.Ghosts D) where
     pub again : ReadsAgain result (on.possible old) (on.seen old) (on.seen new)
     pub moments : Throughout on.clock on.possible_since old new (λ m image. IsBetween (on.calls old) (on.calls old + 1) m image × on.possible old image)
 
--- of what opening answers: the state, or why there is none
-abbrev pub outcome : {T D : Type 0} → (T → State) → Result T (StoreFault × D) → Result State StoreFault
-outcome state_of (Ok opened) = Ok (state_of opened)
-outcome state_of (Err refused) = Err refused.0
+module _ {D : Type 0} (on : sectors.Ghosts D) where
+  -- Opening the device gave this session: it has the state that the image stands for which reads gave, and is whole. After it each image stands
+  -- for that state, and at each moment of it each image is one of those before.
+  pub record IsOpened (device : D) (session : SessionValue D) (replayed : ℕ) : Type 0 where
+    pub room : least_sectors ≤ on.len device
+    pub given : on.honest session.device → StandsFor Two (on.seen device) session.state
+    pub opens : on.honest session.device → Opens Two (on.seen device) (Ok session.state)
+    pub replays : on.honest session.device → IsReplayed Two (on.seen device) session.state session.place replayed
+    pub stands : on.honest session.device → (image : List ℕ) → on.possible session.device image → StandsFor Two image session.state
+    pub reads : on.honest session.device → on.seen session.device ≡ on.seen device
+    pub moments : on.honest session.device
+        → Throughout on.clock on.possible_since device session.device (λ m image. IsBetween (on.calls device) (on.calls device + 1) m image × on.possible device image)
+    pub honest : on.honest session.device → on.honest device
+    pub facts : IsState session.state
+    pub whole : session.is_broken ≡ false
+    pub finished : on.calls session.device ≡ on.calls device + 1
+    pub faults : on.faults session.device ≡ on.faults device
+    pub same_len : on.len session.device ≡ on.len device
 
--- and the device, which a refusal hands back
-abbrev pub device_after : {T D : Type 0} → (T → D) → Result T (StoreFault × D) → D
-device_after device_of (Ok opened) = device_of opened
-device_after device_of (Err refused) = refused.1
+  -- Opening the device was refused: its image stands for no state, or could not be read. Unless the device failed, reads give the same then, so
+  -- that opening it again gives what this opening would have given. At each moment of it each image is one of those before.
+  pub record IsRefused (device after : D) (fault : StoreFault) : Type 0 where
+    pub refused : on.honest after → UnlessUnread (StandsForNone Two (on.seen device)) fault
+    pub opens : on.honest after → Opens Two (on.seen device) (Err fault)
+    pub fails : IsOfLoad fault
+    pub small : on.len device < least_sectors → (fault ≡ NotFormatted) × (after ≡ device)
+    pub reads : on.honest after → ReadsAfter fault (on.possible device) (on.seen device) (on.seen after)
+    pub moments : on.honest after
+        → Throughout on.clock on.possible_since device after (λ m image. IsBetween (on.calls device) (on.calls device + 1) m image × on.possible device image)
+    pub honest : on.honest after → on.honest device
+    pub faults : on.faults after ≡ faults_of_store fault (on.faults device)
+    pub same_len : on.len after ≡ on.len device

@@ -18,7 +18,7 @@ use Rattle.recover.specs.StandsFor.{StandsFor}
 use Rattle.recover.specs.Replies.{kept}
 use Rattle.recover.specs.Moments.{StandsForSome}
 use Rattle.recover.specs.Sessions.{SessionValue}
-use Rattle.recover.specs.Rounds.{seen_in, IsMemoryRun, count_ok, count_device_faults, IsOpened, IsUnopened, IsUnbegun}
+use Rattle.recover.specs.Rounds.{seen_in, IsMemoryRun, count_ok, count_device_faults, IsMemoryOpened, IsUnopened, IsUnbegun}
 use Rattle.recover.specs.Folds.{LeadsTo}
 use Rattle.recover.specs.Links.{Restart as Link, AreLinked, standing_in}
 
@@ -38,7 +38,7 @@ IsEnded (Crashed calls choices) handed left = Crashes (λ i. slice_index choices
 pub record CarriesOut (device : MemDevice) (commands : List Command) (replies : List Reply) (handed : MemDevice) : Type 0 where
   pub first : SessionValue MemDevice
   pub last : SessionValue MemDevice
-  pub opened : IsOpened device first
+  pub opened : IsMemoryOpened device first
   pub run : IsMemoryRun first commands replies last
   pub closed : handed ≡ last.device
   -- Each image stands for the state after a first part of the commands that were kept: all acknowledged ones, and at most one more.
@@ -78,7 +78,7 @@ AreRestarts device (restart ∷ restarts) [] left = ⊥
 pub record EndsRestarts (device : MemDevice) (restarts : List Restart) (runs : List (Result Run StoreFault)) (session : SessionValue MemDevice) : Type 0 where
   pub left : MemDevice
   pub done : AreRestarts device restarts runs left
-  pub opened : IsOpened left session
+  pub opened : IsMemoryOpened left session
 
 -- of each restart that was opened the commands that it kept, and how many it acknowledged
 abbrev pub kept_by : List Restart → List (Result Run StoreFault) → List (List Command × ℕ)

@@ -50,7 +50,7 @@ abbrev pub count_device_faults : List Reply → ℕ
 count_device_faults replies = count_by (λ reply. is_device_fault reply.answer) replies
 
 -- The session is over the state that the device stood for, opened by one call, and at most 65,536 search steps were repeated.
-pub record IsOpened (device : MemDevice) (session : SessionValue MemDevice) : Type 0 where
+pub record IsMemoryOpened (device : MemDevice) (session : SessionValue MemDevice) : Type 0 where
   pub stands : StandsFor Two (seen_in device) session.state
   -- the device stood for no other state
   pub alone : (state : State) → StandsFor Two (seen_in device) state → session.state ≡ state
@@ -73,7 +73,7 @@ IsLeft (Some halt) closed left = Crashes (λ i. slice_index halt.choices.items i
 pub record IsRound (device : MemDevice) (round : Round) (replies : List Reply) (left : MemDevice) : Type 0 where
   pub first : SessionValue MemDevice
   pub last : SessionValue MemDevice
-  pub opened : IsOpened device first
+  pub opened : IsMemoryOpened device first
   pub halt : IsSet round.stop first.device
   pub run : IsMemoryRun first round.commands.items replies last
   pub ended : IsLeft round.stop last.device left
@@ -106,7 +106,7 @@ AreRounds device (round ∷ rounds) [] left = ⊥
 pub record EndsRounds (device : MemDevice) (rounds : List Round) (runs : List Run) (session : SessionValue MemDevice) : Type 0 where
   pub left : MemDevice
   pub done : AreRounds device rounds runs left
-  pub opened : IsOpened left session
+  pub opened : IsMemoryOpened left session
 
 -- The first few of these rounds, and then one that was not begun, or the last opening.
 pub record CutsRounds (device : MemDevice) (rounds : List Round) (fault : RoundsFault) (left : MemDevice) : Type 0 where

@@ -30,7 +30,7 @@
 //! - Unless a session is broken, each image that a stop may leave of an honest device stands for its state (its invariant).
 //! - `open`: the state is the one that the image which reads give stands for (`given`, `opens`); it is refused only where
 //!   that image stands for none, with the cause, where memory was refused or where the device failed (`refused`, `fails`,
-//!   `fault`), and unless the device failed, reads give the same then (`reads`). Each moment leaves an image of those before
+//!   `faults`), and unless the device failed, reads give the same then (`reads`). Each moment leaves an image of those before
 //!   (`moments`), and after `Ok` one that stands for the state (`stands`).
 //! - `steps_to_repeat`: how many search steps `open` is to repeat, by reading alone (`found`, `reads`).
 //! - `apply`: the exact denial or `Ok` (`answer`), what it makes of the session (`makes`), four finished calls for a snapshot

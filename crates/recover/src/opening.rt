@@ -1,22 +1,19 @@
 //! Opening a device: the state that its store stands for.
 //!
-//! `opens` is the headline's premise, word for word. `given` and `refused` say the same without supposing that the image stands
-//! for a state: which state, or which cause, where commands that are not all accepted are told as a bad field. `replayed` is
-//! said of an honest device: the code subtracts the steps and stops at zero, since of a device that lies nothing is known of
-//! the records.
-ghost use Rattle.std.specs.Prelude.{◌≡◌, ◌+◌, ◌<◌, ◌≤◌, ◌^◌, List, ℕ, false, Err, OnOk, IfOk, IfErr, IsErrOf, MatchResult};
+//! `opens` of `IsOpened` and `IsRefused` is the headline's premise, word for word. `given` and `refused` say the same without
+//! supposing that the image stands for a state: which state, or which cause, where commands that are not all accepted are told as
+//! a bad field. `replays` is said of an honest device: the code subtracts the steps and stops at zero, since of a device that lies
+//! nothing is known of the records.
+ghost use Rattle.std.specs.Prelude.{IfOk, IfErr, MatchResult};
 ghost use Rattle.command_core.specs.Runs.{IsState};
-ghost use Rattle.sector_disk.specs.Sectors.{Throughout, more};
+ghost use Rattle.sector_disk.specs.Sectors.{more};
 ghost use Rattle.sector_disk.specs.Calls.{Calls};
 ghost use Rattle.state_codec.specs.declared.version.Version.TheVariants.{Two};
-ghost use Rattle.checkpoint.specs.Reads.{IsStanding};
-ghost use Rattle.checkpoint.specs.Layouts.{least_sectors, sectors_in};
 ghost use Rattle.checkpoint.specs.Loads.{IsLoaded};
 ghost use Rattle.checkpoint.specs.Holdless.{HoldsNothing, IsOfLoad, UnlessUnread};
 ghost use Rattle.checkpoint.specs.Refused.{faults_after_reading};
 ghost use Rattle.recover.specs.StandsFor.{StandsFor};
-ghost use Rattle.recover.specs.Applying.{IsBetween};
-ghost use Rattle.recover.specs.Opening.{Opens, Settles, StandsForNone, IsReplayed, IsToRepeat, IsOnlyRead, ReadsAgain, outcome, device_after};
+ghost use Rattle.recover.specs.Opening.{Settles, StandsForNone, IsToRepeat, IsOnlyRead, IsOpened, IsRefused};
 ghost use Rattle.recover.specs.Repeating.{IsOfRepeating, IsRepeating, TellsState};
 
 use crate::repeating::{repeat, steps_among, steps_in};
@@ -138,35 +135,9 @@ impl<D: Sectors> Session<D> {
     /// gives what this opening would have given. At each moment within the call a stop leaves an image that it might have left before, and
     /// after `Ok` one that stands for the state. A device of fewer than 802 sectors is `NotFormatted`, and is not called.
     pub fn open(alloc: Global, device: D) -> Result<Opened<D>, (StoreFault, D)>
-        ensures given { IfOk result (λ o. D.honest o.session.device
-            → StandsFor Two (D.seen device) o.session.state) }
-        ensures refused { D.honest (device_after (λ o. o.session.device) result)
-            → IfErr (outcome (λ o. o.session.state) result)
-            (UnlessUnread (StandsForNone Two (D.seen device))) }
-        ensures opens { D.honest (device_after (λ o. o.session.device) result)
-            → Opens Two (D.seen device) (outcome (λ o. o.session.state) result) }
-        ensures fails { IfErr (outcome (λ o. o.session.state) result) IsOfLoad }
-        ensures fault { D.faults (device_after (λ o. o.session.device) result)
-            ≡ faults_after_reading (outcome (λ o. o.session.state) result) (D.faults device) }
-        ensures small { D.len device < least_sectors
-            → result ≡ Err (StoreFault.NotFormatted, device) }
-        ensures moments { D.honest (device_after (λ o. o.session.device) result)
-            → Throughout D.clock D.possible_since device
-            (device_after (λ o. o.session.device) result)
-            (λ m image. IsBetween (D.calls device) (D.calls device + 1) m image
-            × D.possible device image) }
-        ensures reads { D.honest (device_after (λ o. o.session.device) result)
-            → ReadsAgain (outcome (λ o. o.session.state) result) (D.possible device) (D.seen device)
-            (D.seen (device_after (λ o. o.session.device) result)) }
-        ensures stands { IfOk result (λ o. D.honest o.session.device → (image : List ℕ)
-            → D.possible o.session.device image → StandsFor Two image o.session.state) }
-        ensures finished { IfOk result (λ o. D.calls o.session.device ≡ D.calls device + 1) }
-        ensures whole { IfOk result (λ o. o.session.is_broken ≡ false) }
-        ensures facts { IfOk result (λ o. IsState o.session.state) }
-        ensures replayed { IfOk result (λ o. D.honest o.session.device
-            → IsReplayed Two (D.seen device) o.session.state o.session.place o.replayed) }
-        ensures same_len { D.len (device_after (λ o. o.session.device) result) ≡ D.len device }
-        ensures honest { D.honest (device_after (λ o. o.session.device) result) → D.honest device }
+        ensures { MatchResult result
+            (λ opened. IsOpened D.Sectors device opened.session opened.replayed)
+            (λ refused. IsRefused D.Sectors device refused.1 refused.0) }
     {
         images_hold_one_thing();
         let mut device = device;

@@ -7,7 +7,7 @@ ghost use Rattle.std.specs.Prelude.{◌≡◌, ◌≤◌, [], List, ℕ, length,
 ghost use Rattle.std.specs.Vec.{vec_capacity};
 ghost use Rattle.sector_disk.specs.MemDevice.{memory};
 ghost use Rattle.sector_disk.specs.Memory.{MayLeave, IsSameDevice, KeepsCounts};
-ghost use Rattle.recover.specs.Rounds.{IsOpened};
+ghost use Rattle.recover.specs.Rounds.{IsMemoryOpened};
 ghost use Rattle.recover.specs.Restarts.{IsArmed, IsEnded, CarriesOut, CameOf, IsRestart, IsNoRestart, EndsRestarts, AreJoined, CutsRestarts};
 
 use crate::laws::restarts_add_up;
@@ -80,7 +80,7 @@ fn run_and_close(
 ) -> (Run, MemDevice)
     requires empty { replies.items ≡ [] }
     requires room { length commands.items ≤ vec_capacity replies }
-    ensures { (device : MemDevice) → IsOpened device session
+    ensures { (device : MemDevice) → IsMemoryOpened device session
         → CarriesOut device commands.items result.0.replies.items result.1 }
 {
     let mut session = session;

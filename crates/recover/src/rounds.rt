@@ -6,7 +6,7 @@
 ghost use Rattle.std.specs.Prelude.{◌≡◌, List, ℕ, IfOk, IfErr};
 ghost use Rattle.sector_disk.specs.MemDevice.{memory};
 ghost use Rattle.sector_disk.specs.Memory.{MayLeave};
-ghost use Rattle.recover.specs.Rounds.{seen_in, IsOpened, IsLeft, IsRound, IsUnopened, IsUnbegun, EndsRounds, CutsRounds};
+ghost use Rattle.recover.specs.Rounds.{seen_in, IsMemoryOpened, IsLeft, IsRound, IsUnopened, IsUnbegun, EndsRounds, CutsRounds};
 ghost use Rattle.recover.specs.Folds.{IsFold};
 
 use crate::replies::Run;
@@ -107,7 +107,7 @@ pub(crate) fn open_store(
     alloc: Global,
     device: MemDevice,
 ) -> Result<Session<MemDevice>, (StoreFault, MemDevice)>
-    ensures opened { IfOk result (λ s. IsOpened device s) }
+    ensures opened { IfOk result (λ s. IsMemoryOpened device s) }
     ensures refused { IfErr result (λ e. IsUnopened device e.0 e.1) }
 {
     match Session::open(alloc, device) {
@@ -121,7 +121,7 @@ pub(crate) fn reopen(
     alloc: Global,
     device: MemDevice,
 ) -> Result<Session<MemDevice>, (RoundsFault, MemDevice)>
-    ensures opened { IfOk result (λ s. IsOpened device s) }
+    ensures opened { IfOk result (λ s. IsMemoryOpened device s) }
     ensures refused { IfErr result (λ e. IsUnbegun device e.0 e.1) }
 {
     match open_store(alloc, device) {

@@ -44,7 +44,12 @@ impl<D: Sectors> Model for Session<D> {
     } };
 
     ghost invariant = { λ s. IsSession D.len D.honest D.possible
-        (record { device = s.device; state = s.planner; place = s.place; is_broken = s.is_broken }) };
+        (record {
+          device = s.device;
+          state = s.planner;
+          place = s.place;
+          is_broken = s.is_broken;
+        }) };
 }
 
 impl<D: Sectors> Session<D> {

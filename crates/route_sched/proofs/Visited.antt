@@ -7,7 +7,7 @@ use Rattle.plan_types.specs.declared.requests.Stop.{Stop}
 use Rattle.nint_dist.specs.Distance.{distance}
 use Rattle.route_sched.specs.Route.{place}
 use Rattle.route_sched.specs.Schedule.{start, load, starts_of, loads_of}
-use Rattle.route_sched.specs.Walk.{Walk}
+use Rattle.route_sched.specs.VisitsValue.{VisitsValue}
 use Rattle.route_sched.specs.Visiting.{next_visit, visit_after, visits_from}
 use Rattle.route_sched.specs.declared.visits.Visit.{Visit}
 use Rattle.route_sched.proofs.Steps.{start-next, load-next}
@@ -55,6 +55,6 @@ loads_among_visits p route =
     rw (visits_from_start p route, take-map-range_with_len (visit_after p route) 0 (length route + 1) (length route) (omega arith)) (map_map _ _ _)
 
 -- an iterator at the beginning of a route gives all its visits
-pub all_visits : (w : Walk) (p : Instance) (route : List ℕ) → w ≡ record { problem = p; route = route; place = 0 }
+pub all_visits : (w : VisitsValue) (p : Instance) (route : List ℕ) → w ≡ record { problem = p; route = route; place = 0 }
     → visits_from w.problem w.route w.place ≡ visits_from p route 0
 all_visits w p route is = ap (λ w. visits_from w.problem w.route w.place) is

@@ -3,10 +3,10 @@ use Rattle.std.specs.Prelude.{◌≡◌, ◌+◌, ◌*◌, ◌^◌, ◌≤◌, u
 use Rattle.plan_types.specs.Limits.{IsVisit}
 use Rattle.route_sched.specs.Route.{AreLiveOnce, place}
 use Rattle.route_sched.specs.Schedule.{start, load}
-use Rattle.route_sched.specs.Walk.{Walk}
+use Rattle.route_sched.specs.VisitsValue.{VisitsValue}
 use Rattle.route_sched.specs.declared.visits.Visits.TheInside.{Inside}
 
-abbrev pub walk_of : Inside → Walk
+abbrev pub walk_of : Inside → VisitsValue
 walk_of a = record { problem = a.problem.now; route = a.route.now; place = a.place }
 
 -- The last visit is that of the place where the vehicle is. Its numbers stay small, since a route has few stops.

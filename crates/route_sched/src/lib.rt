@@ -11,10 +11,11 @@
 //! - `visits`: the way along a route, place by place, with start, load and leg.
 //! - `schedule`: the starts, loads and distance of a route, as lists and a sum.
 //! - `cost`: what a plan costs.
+//! - `limits`: whether a time or a load is beyond its limit.
 //! - `laws`: problems that agree on a route's stops agree on its schedule.
 //!
-//! Specs: `Route` (live stops, plans, places), `Schedule` (starts, loads, lengths), `Cost`; `Agree` has the
-//! law; `Counted` says how planned requests are counted; `Walk`, `Visiting` and `Walking` say what `Visits`
+//! Specs: `Route` (live stops, plans, places), `Schedule` (starts, loads, lengths), `Cost`, `Limits`; `Agree` has the
+//! law; `Counted` says how planned requests are counted; `VisitsValue`, `Visiting` and `Walking` say what `Visits`
 //! is; `Chain` has the sums that a start is made of, for the lemmas here and those of tables.
 //!
 //! Source: the usual schedule of vehicle routing with time windows. A vehicle leaves the depot at its
@@ -40,6 +41,7 @@
 
 mod cost;
 mod laws;
+mod limits;
 mod places;
 mod schedule;
 mod visits;
@@ -48,6 +50,7 @@ pub use cost::{
     has_stop, is_planned, plan_cost, routes_cost, total_distance, used_count, vehicle_count,
 };
 pub use laws::schedules_agree;
+pub use limits::{is_too_late, is_too_much};
 pub use places::stop_behind;
 pub use schedule::{loads, route_distance, starts};
 pub use visits::{Visit, Visits, load_behind};

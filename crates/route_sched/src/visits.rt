@@ -35,9 +35,9 @@ pub struct Visits<'a> {
 }
 
 impl<'a> Model for Visits<'a> {
-    ghost use Rattle.route_sched.specs.Walk.{Walk};
+    ghost use Rattle.route_sched.specs.VisitsValue.{VisitsValue};
 
-    ghost Value = { Walk };
+    ghost Value = { VisitsValue };
 
     ghost use Rattle.route_sched.specs.Walking.{walk_of, IsWalk};
 

@@ -13,11 +13,11 @@ use Rattle.plan_audit.proofs.SeatLemmas.{Sits}
 use Rattle.rule_breaches.specs.Breaches.{breach_if, seat_at, told_of_places, told_of_routes}
 use Rattle.rule_breaches.specs.Laws.{AreAll, AreRising, IsBefore, IsBreach, excess}
 use Rattle.rule_breaches.specs.declared.breaches.Breach.{Breach}
-use Rattle.rule_breaches.specs.declared.seats.Seat.{Seat}
+use Rattle.rule_breaches.specs.declared.seats.SolutionPlace.{SolutionPlace}
 use Rattle.rule_breaches.proofs.ListLemmas.{in_option, option_in, rising_option, told_of, told_rising, told_to}
 
 -- a breach is told where its test holds
-pub if_some : (holds : Bool) (seat : Seat) (n by : ℕ) (b : Breach) → breach_if holds seat n by ≡ Some b
+pub if_some : (holds : Bool) (seat : SolutionPlace) (n by : ℕ) (b : Breach) → breach_if holds seat n by ≡ Some b
     → (holds ≡ true) × ◌≡◌ {A = Breach} (record { route = seat.route; place = seat.place; stop = n; by = by }) b
 if_some false seat n by b is = absurd (none_some b is)
 if_some true seat n by b is = (refl, same_Some _ _ is)

@@ -59,7 +59,7 @@ use Rattle.rule_breaches.specs.Breaches.{is_early, is_repeated, is_split, seat_a
 use Rattle.rule_breaches.specs.Laws.{AreAll, IsBreach, StandOnce}
 use Rattle.rule_breaches.specs.Limits.{is_late, is_overload, late_in}
 use Rattle.rule_breaches.specs.Seats.{first_seat}
-use Rattle.rule_breaches.specs.declared.seats.Seat.{Seat}
+use Rattle.rule_breaches.specs.declared.seats.SolutionPlace.{SolutionPlace}
 use Rattle.rule_breaches.proofs.PlaceLemmas.{rule_places}
 use Rattle.rule_breaches.proofs.SeatLemmas.{IsFirstSeat, first_found, first_none}
 
@@ -117,7 +117,7 @@ module _ (p : Instance) (routes : List (List ℕ)) where
       (λ r i n t h cost. to r i n t (first_seat routes n) refl h) (λ r i n t b. from r i n (first_seat routes n) refl (b 0)) (λ r i n b. (b 0).0)
       (λ r i n t. refl)
     where
-      to : (r i n : ℕ) → Sits routes r i n → (o : Option Seat) → first_seat routes n ≡ o → is_repeated (seat_at r i) o ≡ true
+      to : (r i n : ℕ) → Sits routes r i n → (o : Option SolutionPlace) → first_seat routes n ≡ o → is_repeated (seat_at r i) o ≡ true
           → IsRepeated p routes (suc r) (suc i) n
       to r i n t None e h = not_so h
       to r i n t (Some s) e h =
@@ -147,7 +147,7 @@ module _ (p : Instance) (routes : List (List ℕ)) where
                 | inr t ↦ (let ne' = t.1 in omega arith)
               ]
 
-      from : (r i n : ℕ) (o : Option Seat) → first_seat routes n ≡ o → IsRepeated p routes (suc r) (suc i) n → is_repeated (seat_at r i) o ≡ true
+      from : (r i n : ℕ) (o : Option SolutionPlace) → first_seat routes n ≡ o → IsRepeated p routes (suc r) (suc i) n → is_repeated (seat_at r i) o ≡ true
       from r i n None e b = let st = standing routes b.1.0 b.1.1 n b.1.3 in absurd (first_none routes n e st.0 st.1 st.4)
       from r i n (Some s) e b =
           let st = standing routes b.1.0 b.1.1 n b.1.3 in
@@ -163,7 +163,7 @@ module _ (p : Instance) (routes : List (List ℕ)) where
           elsewhere d j x y q' i' q k eq ek (inr le) (inr before) = let most = le.1 in let lt = before.1 in inr (apart s.place (i + 1) (λ e. omega arith))
 
   -- where no stop stands twice, the first seat of a stop is where it stands
-  only_seat : StandOnce p routes → (n : ℕ) (s : Seat) (f : IsFirstSeat n 1 routes s) (r i : ℕ) → Sits routes r i n → (f.at_route ≡ r) × (f.at_place ≡ i)
+  only_seat : StandOnce p routes → (n : ℕ) (s : SolutionPlace) (f : IsFirstSeat n 1 routes s) (r i : ℕ) → Sits routes r i n → (f.at_route ≡ r) × (f.at_place ≡ i)
   only_seat once n s f r i t = elim (f.least r i t) [
     | inl lt ↦ absurd (once (suc r) (suc i) n (t, (suc (f.at_route), suc (f.at_place), inl (omega arith), f.sits)))
     | inr le ↦ elim (eqb_tells (f.at_place) i) [
@@ -184,7 +184,7 @@ module _ (p : Instance) (routes : List (List ℕ)) where
       to r i None h = not_so h
       to r i (Some m) h = by (first_seat routes m) refl h
         where
-          by : (o : Option Seat) → first_seat routes m ≡ o → option_map_or (λ s. not (eqb s.route (r + 1))) o false ≡ true
+          by : (o : Option SolutionPlace) → first_seat routes m ≡ o → option_map_or (λ s. not (eqb s.route (r + 1))) o false ≡ true
               → (k : ℕ) × (Some m ≡ Some k) × ((q : ℕ) × (j : ℕ) × (q ≢ suc r) × Stands routes q j k)
           by None e h = not_so h
           by (Some s) e h =
@@ -200,7 +200,7 @@ module _ (p : Instance) (routes : List (List ℕ)) where
           let st = standing routes b.2.0 b.2.1 m b.2.3 in
           ap (λ (o : Option ℕ). is_split routes (seat_at r i) o) b.1 ∙ by m st.0 st.1 st.4 (λ same. b.2.2 (st.2 ∙ ap suc same)) (first_seat routes m) refl
         where
-          by : (m q j : ℕ) → Sits routes q j m → q ≢ r → (o : Option Seat) → first_seat routes m ≡ o
+          by : (m q j : ℕ) → Sits routes q j m → q ≢ r → (o : Option SolutionPlace) → first_seat routes m ≡ o
               → option_map_or (λ s. not (eqb s.route (r + 1))) o false ≡ true
           by m q j t ne None e = absurd (first_none routes m e q j t)
           by m q j t ne (Some s) e =
@@ -218,7 +218,7 @@ module _ (p : Instance) (routes : List (List ℕ)) where
       to r i None h = not_so h
       to r i (Some m) h = by (first_seat routes m) refl h
         where
-          by : (o : Option Seat) → first_seat routes m ≡ o → option_map_or (λ s. eqb s.route (r + 1) && nat_lt (i + 1) s.place) o false ≡ true
+          by : (o : Option SolutionPlace) → first_seat routes m ≡ o → option_map_or (λ s. eqb s.route (r + 1) && nat_lt (i + 1) s.place) o false ≡ true
               → (k : ℕ) × (Some m ≡ Some k) × ((j : ℕ) × (suc i < j) × Stands routes (suc r) j k)
           by None e h = not_so h
           by (Some s) e h =
@@ -238,7 +238,7 @@ module _ (p : Instance) (routes : List (List ℕ)) where
           let lt = b.2.1 in let eq = st.2 in let at = st.3 in
           ap (λ (o : Option ℕ). is_early routes (seat_at r i) o) b.1 ∙ by m st.0 st.1 st.4 (omega arith) (omega arith) (first_seat routes m) refl
         where
-          by : (m q j : ℕ) → Sits routes q j m → q ≡ r → i < j → (o : Option Seat) → first_seat routes m ≡ o
+          by : (m q j : ℕ) → Sits routes q j m → q ≡ r → i < j → (o : Option SolutionPlace) → first_seat routes m ≡ o
               → option_map_or (λ s. eqb s.route (r + 1) && nat_lt (i + 1) s.place) o false ≡ true
           by m q j t here lt None e = absurd (first_none routes m e q j t)
           by m q j t here lt (Some s) e =

@@ -10,7 +10,7 @@ use Rattle.plan_audit.proofs.FirstLemmas.{none_some}
 use Rattle.plan_audit.proofs.SeatLemmas.{Sits}
 use Rattle.plan_audit.proofs.ServedLemmas.{a_seat}
 use Rattle.rule_breaches.specs.Seats.{first_seat, seat_from}
-use Rattle.rule_breaches.specs.declared.seats.Seat.{Seat}
+use Rattle.rule_breaches.specs.declared.seats.SolutionPlace.{SolutionPlace}
 
 -- the first place of stop n, where the places count from k on
 record IsPlace (n k i : ℕ) (ms : List ℕ) : Type 0 where
@@ -52,7 +52,7 @@ no_place n k (m ∷ ms) is j at = elim (eqb_tells m n) [
     further m n ms ne rest (suc j) at = rest j at
 
 -- seat s is of place j in route d, which count from 0, and no other place of the stop is before it; the routes of s count from k on
-pub record IsFirstSeat (n k : ℕ) (routes : List (List ℕ)) (s : Seat) : Type 0 where
+pub record IsFirstSeat (n k : ℕ) (routes : List (List ℕ)) (s : SolutionPlace) : Type 0 where
   pub at_route : ℕ
   pub at_place : ℕ
   pub route_is : s.route ≡ k + at_route
@@ -60,10 +60,10 @@ pub record IsFirstSeat (n k : ℕ) (routes : List (List ℕ)) (s : Seat) : Type 
   pub sits : Sits routes at_route at_place n
   pub least : (r i : ℕ) → Sits routes r i n → (at_route < r) ⊎ ((at_route ≡ r) × (at_place ≤ i))
 
-route_seat : ℕ → Option ℕ → Option Seat
+route_seat : ℕ → Option ℕ → Option SolutionPlace
 route_seat k o = option_map (λ i. record { route = k; place = i }) o
 
-seat_found : (n k : ℕ) (routes : List (List ℕ)) (s : Seat) → seat_from n k routes ≡ Some s → IsFirstSeat n k routes s
+seat_found : (n k : ℕ) (routes : List (List ℕ)) (s : SolutionPlace) → seat_from n k routes ≡ Some s → IsFirstSeat n k routes s
 unfolding route_seat
 seat_found n k [] s is = absurd (none_some s is)
 seat_found n k (route ∷ routes) s is = by (place_of n 1 route) refl (λ h. seat_found n (k + 1) routes s h)
@@ -72,13 +72,13 @@ seat_found n k (route ∷ routes) s is = by (place_of n 1 route) refl (λ h. sea
     by (Some i) e rest =
         let told : option_or (route_seat k (Some i)) (seat_from n (k + 1) routes) ≡ Some s =
         (let h : option_or (route_seat k (place_of n 1 route)) (seat_from n (k + 1) routes) ≡ Some s = is in rw e at h) in
-        let same : ◌≡◌ {A = Seat} (record { route = k; place = i }) s = same_Some _ _ told in
+        let same : ◌≡◌ {A = SolutionPlace} (record { route = k; place = i }) s = same_Some _ _ told in
         let here = place_found n 1 i route e in
         record {
           at_route = 0;
           at_place = here.index;
-          route_is = (let r = ap (λ (s : Seat). s.route) same in omega arith);
-          place_is = (let r = ap (λ (s : Seat). s.place) same in let at = here.is in omega arith);
+          route_is = (let r = ap (λ (s : SolutionPlace). s.route) same in omega arith);
+          place_is = (let r = ap (λ (s : SolutionPlace). s.place) same in let at = here.is in omega arith);
           sits = (route, refl, here.stands);
           least = λ r j t. first (here.index) (here.least) r j t;
         }
@@ -117,7 +117,7 @@ no_seat n k (route ∷ routes) is r i t = by (place_of n 1 route) refl (λ h r i
     by None e rest zero i t = no_place n 1 route e i (subst (λ (l : List ℕ). slice_get l i ≡ Some n) (sym (same_Some route t.0 t.1)) t.2)
     by None e rest (suc r) i t = rest (let h : option_or (route_seat k (place_of n 1 route)) (seat_from n (k + 1) routes) ≡ None = is in rw e at h) r i t
 
-pub first_found : (routes : List (List ℕ)) (n : ℕ) (s : Seat) → first_seat routes n ≡ Some s → IsFirstSeat n 1 routes s
+pub first_found : (routes : List (List ℕ)) (n : ℕ) (s : SolutionPlace) → first_seat routes n ≡ Some s → IsFirstSeat n 1 routes s
 first_found routes n s is = seat_found n 1 routes s is
 
 pub first_none : (routes : List (List ℕ)) (n : ℕ) → first_seat routes n ≡ None → (r i : ℕ) → Sits routes r i n → ⊥

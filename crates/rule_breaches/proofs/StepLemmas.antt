@@ -14,7 +14,7 @@ use Rattle.plan_audit.proofs.FirstLemmas.{none_some}
 use Rattle.plan_audit.proofs.VisitLemmas.{nth-range}
 use Rattle.rule_breaches.specs.Breaches.{seat_at, told_from, unserved_breach, visit_breach, visit_test}
 use Rattle.rule_breaches.specs.declared.breaches.Breach.{Breach}
-use Rattle.rule_breaches.specs.declared.seats.Seat.{Seat}
+use Rattle.rule_breaches.specs.declared.seats.SolutionPlace.{SolutionPlace}
 
 together : (xs ys zs : List Breach) → (xs ++ ys) ++ zs ≡ xs ++ (ys ++ zs)
 together [] ys zs = refl
@@ -37,7 +37,7 @@ kept_on tell xs k x before after all at added is =
     ∙ is
 
 -- one more visit
-pub visit_kept : (p : Instance) (rule : Rule) (r : ℕ) (route : List ℕ) (k : ℕ) (v : Visit) (seat : Seat) (before after all : List Breach) (o : Option Breach)
+pub visit_kept : (p : Instance) (rule : Rule) (r : ℕ) (route : List ℕ) (k : ℕ) (v : Visit) (seat : SolutionPlace) (before after all : List Breach) (o : Option Breach)
     → k < length route → v ≡ visit_after p route k → seat ≡ seat_at r k
     → o ≡ visit_breach p rule seat (get_or route k 0) v → after ≡ before ++ option_to_list o
     → before ++ told_from (λ i n. option_to_list (visit_test p rule r route i n)) k (drop k route) ≡ all

@@ -13,35 +13,35 @@ use Rattle.plan_audit.specs.declared.rules.Rule.TheVariants.{UnknownStop, Twice,
 use Rattle.rule_breaches.specs.Limits.{is_late, is_overload}
 use Rattle.rule_breaches.specs.Seats.{first_seat}
 use Rattle.rule_breaches.specs.declared.breaches.Breach.{Breach}
-use Rattle.rule_breaches.specs.declared.seats.Seat.{Seat}
+use Rattle.rule_breaches.specs.declared.seats.SolutionPlace.{SolutionPlace}
 
 -- stop n is told of a place, where this holds
-abbrev pub breach_if : Bool → Seat → ℕ → ℕ → Option Breach
+abbrev pub breach_if : Bool → SolutionPlace → ℕ → ℕ → Option Breach
 breach_if holds seat n by = if holds then Some (record { route = seat.route; place = seat.place; stop = n; by = by }) else None
 
 -- place i of route k, told
-abbrev pub seat_at : ℕ → ℕ → Seat
+abbrev pub seat_at : ℕ → ℕ → SolutionPlace
 seat_at k i = record { route = k + 1; place = i + 1 }
 
 -- the stop that stands here stands first at another place
-abbrev pub is_repeated : Seat → Option Seat → Bool
+abbrev pub is_repeated : SolutionPlace → Option SolutionPlace → Bool
 is_repeated seat first = option_map_or (λ s. not (s.route == seat.route) || not (s.place == seat.place)) first false
 
 -- the other stop of its pair stands in another route
-abbrev pub is_split : List (List ℕ) → Seat → Option ℕ → Bool
+abbrev pub is_split : List (List ℕ) → SolutionPlace → Option ℕ → Bool
 is_split routes seat other = option_map_or (λ s. not (s.route == seat.route)) (option_and_then (first_seat routes) other) false
 
 -- its pickup stands later in the route
-abbrev pub is_early : List (List ℕ) → Seat → Option ℕ → Bool
+abbrev pub is_early : List (List ℕ) → SolutionPlace → Option ℕ → Bool
 is_early routes seat pickup = option_map_or (λ s. s.route == seat.route && nat_lt seat.place s.place) (option_and_then (first_seat routes) pickup) false
 
 -- the other stop of the pair of a stop that stands here is in no route
-abbrev pub missing_breach : List (List ℕ) → Seat → Option ℕ → Option Breach
+abbrev pub missing_breach : List (List ℕ) → SolutionPlace → Option ℕ → Option Breach
 missing_breach routes seat None = None
 missing_breach routes seat (Some m) = breach_if (not (has_stop routes m)) seat m 0
 
 -- what rules 1 to 5 tell of stop n there
-abbrev pub stop_breach : Instance → List (List ℕ) → Rule → Seat → ℕ → Option Breach
+abbrev pub stop_breach : Instance → List (List ℕ) → Rule → SolutionPlace → ℕ → Option Breach
 stop_breach p routes UnknownStop seat n = breach_if (is_none (stop_at p n)) seat n 0
 stop_breach p routes Twice seat n = breach_if (is_repeated seat (first_seat routes n)) seat n 0
 stop_breach p routes Missing seat n = missing_breach routes seat (partner_at p n)
@@ -50,7 +50,7 @@ stop_breach p routes DeliveryFirst seat n = breach_if (is_early routes seat (pic
 stop_breach p routes rule seat n = None
 
 -- what rules 6 and 7 tell of stop n there, by its visit
-abbrev pub visit_breach : Instance → Rule → Seat → ℕ → Visit → Option Breach
+abbrev pub visit_breach : Instance → Rule → SolutionPlace → ℕ → Visit → Option Breach
 visit_breach p Load seat n v = breach_if (is_overload p v.load) seat n (unsigned_abs (v.load -ℤ pos p.capacity))
 visit_breach p Late seat n v = breach_if (is_late p v.start v.stop.latest) seat n (v.start - v.stop.latest)
 visit_breach p rule seat n v = None

@@ -1,15 +1,15 @@
 //! All breaches of a rule.
 //!
 //! Where a stop stands first is looked up along the routes, so that rules 1 to 5 take a look at each pair of places.
-ghost use Rattle.std.specs.Prelude.{◌≡◌, ◌<◌, ◌++◌, All, IfOk, OnOk};
+ghost use Rattle.std.specs.Prelude.{◌≡◌, ◌++◌, false, All, IfOk, OnOk};
 ghost use Rattle.std.specs.Option.{option_to_list};
-ghost use Rattle.plan_audit.specs.Verdict.{rule_number};
+ghost use Rattle.plan_audit.specs.Verdict.{is_of_stops};
 ghost use Rattle.route_sched.specs.Route.{AreLiveOnce};
 ghost use Rattle.rule_breaches.specs.Breaches.{breach_if, breaches_of};
 
 use crate::missing::missing_breaches;
 use crate::returns::return_breaches;
-use crate::seats::Seat;
+use crate::seats::SolutionPlace;
 use crate::stops::stop_breaches;
 use crate::visits::visit_breaches;
 use plan_audit::Rule;
@@ -36,7 +36,7 @@ pub fn breaches_of(
     routes: &[Route],
     rule: Rule,
 ) -> Result<Vec<Breach>, OutOfMemory>
-    requires { 5 < rule_number rule → All (AreLiveOnce problem.now) routes.now }
+    requires { is_of_stops rule ≡ false → All (AreLiveOnce problem.now) routes.now }
     ensures { IfOk result (λ found. found.items ≡ breaches_of problem.now routes.now rule) }
 {
     match rule {
@@ -55,7 +55,7 @@ pub fn breaches_of(
 }
 
 /// The breach at a place, where this holds.
-pub(crate) fn breach_if(holds: bool, seat: Seat, stop: u32, by: u64) -> Option<Breach>
+pub(crate) fn breach_if(holds: bool, seat: SolutionPlace, stop: u32, by: u64) -> Option<Breach>
     ensures { result ≡ breach_if holds seat stop by }
 {
     if holds {

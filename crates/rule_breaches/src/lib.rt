@@ -47,5 +47,5 @@ pub use laws::{
 pub use limits::{is_late, is_overload};
 pub use missing::missing_stops;
 pub use returns::visit_behind;
-pub use seats::{Seat, first_seat};
+pub use seats::{SolutionPlace, first_seat};
 pub use ways::knows_ways;

@@ -7,18 +7,18 @@ use plan_types::Route;
 
 /// A place of a solution; routes and places count from 1.
 #[derive(Clone, Copy, Debug, PartialEq, Eq)]
-pub struct Seat {
+pub struct SolutionPlace {
     pub route: u64,
     pub place: u64,
 }
 
 /// The first place of a stop among the routes.
-pub fn first_seat(routes: &[Route], stop: u32) -> Option<Seat>
+pub fn first_seat(routes: &[Route], stop: u32) -> Option<SolutionPlace>
     ensures { result ≡ first_seat routes.now stop }
 {
     for (number, route) in routes.iter().enumerate() {
         if let Some(place) = place_in(route.as_slice(), stop) {
-            return Some(Seat {
+            return Some(SolutionPlace {
                 route: number as u64 + 1,
                 place,
             });

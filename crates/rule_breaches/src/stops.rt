@@ -3,7 +3,7 @@ ghost use Rattle.std.specs.Prelude.{◌≡◌, ◌+◌, ◌<◌, ◌^◌, ◌++�
 ghost use Rattle.rule_breaches.specs.Breaches.{is_early, is_repeated, is_split, missing_breach, seat_at, stop_breach, stop_breaches, stop_test, told_of_places};
 
 use crate::breaches::{Breach, add, breach_if};
-use crate::seats::{Seat, first_seat};
+use crate::seats::{SolutionPlace, first_seat};
 use plan_audit::Rule;
 use plan_types::{OutOfMemory, Problem, Route};
 use route_sched::has_stop;
@@ -60,12 +60,12 @@ fn add_stops(
 }
 
 /// A place, told as it counts from 1.
-pub(crate) fn seat_at(number: usize, place: usize) -> Seat
+pub(crate) fn seat_at(number: usize, place: usize) -> SolutionPlace
     requires route { number + 1 < 2 ^ 64 }
     requires place { place + 1 < 2 ^ 64 }
     ensures { result ≡ seat_at number place }
 {
-    Seat {
+    SolutionPlace {
         route: number as u64 + 1,
         place: place as u64 + 1,
     }
@@ -75,7 +75,7 @@ fn stop_breach(
     problem: &Problem,
     routes: &[Route],
     rule: Rule,
-    seat: Seat,
+    seat: SolutionPlace,
     stop: u32,
 ) -> Option<Breach>
     ensures { result ≡ stop_breach problem.now routes.now rule seat stop }
@@ -105,7 +105,7 @@ fn stop_breach(
 }
 
 // The stop stands first at another place.
-fn is_repeated(seat: Seat, first: Option<Seat>) -> bool
+fn is_repeated(seat: SolutionPlace, first: Option<SolutionPlace>) -> bool
     ensures { result ≡ is_repeated seat first }
 {
     match first {
@@ -115,7 +115,7 @@ fn is_repeated(seat: Seat, first: Option<Seat>) -> bool
 }
 
 // The other stop of the pair is in no route.
-fn missing_breach(routes: &[Route], seat: Seat, other: Option<u32>) -> Option<Breach>
+fn missing_breach(routes: &[Route], seat: SolutionPlace, other: Option<u32>) -> Option<Breach>
     ensures { result ≡ missing_breach routes.now seat other }
 {
     let other = other?;
@@ -123,7 +123,7 @@ fn missing_breach(routes: &[Route], seat: Seat, other: Option<u32>) -> Option<Br
 }
 
 // The other stop of the pair stands in another route.
-fn is_split(routes: &[Route], seat: Seat, other: Option<u32>) -> bool
+fn is_split(routes: &[Route], seat: SolutionPlace, other: Option<u32>) -> bool
     ensures { result ≡ is_split routes.now seat other }
 {
     let Some(other) = other else {
@@ -136,7 +136,7 @@ fn is_split(routes: &[Route], seat: Seat, other: Option<u32>) -> bool
 }
 
 // The pickup stands later in the route.
-fn is_early(routes: &[Route], seat: Seat, pickup: Option<u32>) -> bool
+fn is_early(routes: &[Route], seat: SolutionPlace, pickup: Option<u32>) -> bool
     ensures { result ≡ is_early routes.now seat pickup }
 {
     let Some(pickup) = pickup else {

@@ -5,7 +5,7 @@ ghost use Rattle.rule_breaches.specs.Breaches.{visit_breach, visit_breaches, vis
 
 use crate::breaches::{Breach, add, breach_if};
 use crate::limits::{is_late, is_overload};
-use crate::seats::Seat;
+use crate::seats::SolutionPlace;
 use crate::stops::seat_at;
 use plan_audit::Rule;
 use plan_types::{OutOfMemory, Problem, Route};
@@ -56,7 +56,7 @@ fn add_visits(
 fn visit_breach(
     problem: &Problem,
     rule: Rule,
-    seat: Seat,
+    seat: SolutionPlace,
     stop: u32,
     visit: &Visit,
 ) -> Option<Breach>

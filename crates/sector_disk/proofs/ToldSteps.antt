@@ -10,14 +10,14 @@ use Rattle.sector_disk.specs.declared.system_call.SystemCall.{SystemCall}
 use Rattle.sector_disk.specs.declared.system_call.SystemCall.TheVariants.{ReadAt, WriteAt}
 use Rattle.sector_disk.specs.SystemCalls.{Noted, answered}
 use Rattle.sector_disk.specs.FileRecord.{Entry}
-use Rattle.sector_disk.specs.Told.{Way, Reads, Writes, Transfer, Told, finished, is_same, goes_on, moved_on, by_going, after, told_in, told_by}
+use Rattle.sector_disk.specs.Told.{Way, Reads, Writes, Transfer, Account, finished, is_same, goes_on, moved_on, by_going, after, told_in, told_by}
 
 -- a read or a write of which so many bytes have moved
-abbrev pub so_far : List Entry → Way → ℕ → List ℕ → ℕ → Told
+abbrev pub so_far : List Entry → Way → ℕ → List ℕ → ℕ → Account
 so_far entries way start bytes at = moved_on entries way start [] bytes at
 
 -- one that is done with
-abbrev pub done : List Entry → Entry → Told
+abbrev pub done : List Entry → Entry → Account
 done entries entry = record { entries = entry ∷ entries; going = None }
 
 same_way : (way : Way) → is_same way way ≡ true
@@ -34,7 +34,7 @@ module _ (entries : List Entry) (way : Way) (start : ℕ) (bytes piece : List �
   abbrev going : Transfer
   going = record { way = way; start = start; moved = take at bytes; left = drop at bytes }
 
-  abbrev open_still : Told
+  abbrev open_still : Account
   open_still = record { entries = entries; going = Some going }
 
   is_open : so_far entries way start bytes at ≡ open_still
@@ -71,18 +71,18 @@ module _ (entries : List Entry) (way : Way) (start : ℕ) (bytes piece : List �
           ∙ sym (cond-false (nat_le (length (take at bytes ++ piece)) (at + n)) _ _
           (lt-leb (length (take at bytes ++ piece)) (at + n) (omega (arith, lt, size))))
 
-  abbrev step : (List Entry → Way → ℕ → List ℕ → List ℕ → ℕ → Told) → Told → ℕ → Told
+  abbrev step : (List Entry → Way → ℕ → List ℕ → List ℕ → ℕ → Account) → Account → ℕ → Account
   step does told m = by_going does told.entries told.going way (start + at) piece m
 
   -- a call for the rest that moved n bytes
   pub goes : step moved_on (so_far entries way start bytes at) n ≡ so_far entries way start (take at bytes ++ piece) (at + n)
-  goes = ap (λ (told : Told). step moved_on told n) is_open ∙ cond-true (goes_on going way (start + at) (length piece)) _ _ asks ∙ joined
+  goes = ap (λ (told : Account). step moved_on told n) is_open ∙ cond-true (goes_on going way (start + at) (length piece)) _ _ asks ∙ joined
 
 abbrev pub moved_call : Way → ℕ → ℕ → SystemCall
 moved_call Reads offset n = ReadAt offset n
 moved_call Writes offset n = WriteAt offset n
 
-after_moved : (way : Way) (told : Told) (offset n : ℕ) (bytes : List ℕ)
+after_moved : (way : Way) (told : Account) (offset n : ℕ) (bytes : List ℕ)
     → after told (moved_call way offset n) bytes ≡ by_going moved_on told.entries told.going way offset bytes n
 after_moved Reads told offset n bytes = refl
 after_moved Writes told offset n bytes = refl
@@ -95,7 +95,7 @@ module _ (way : Way) (old new : List Noted) (start : ℕ) where
         → told_by new ≡ so_far entries way start (take at bytes ++ piece) (at + n)
     goes_further n next =
         ap told_in next ∙ after_moved way (told_by old) (start + at) n piece
-        ∙ ap (λ (told : Told). by_going moved_on told.entries told.going way (start + at) piece n) is ∙ goes entries way start bytes piece at n more rest
+        ∙ ap (λ (told : Account). by_going moved_on told.entries told.going way (start + at) piece n) is ∙ goes entries way start bytes piece at n more rest
 
 -- a buffer behind a read into what is left of it
 pub put_rest : (at : ℕ) (xs ys : List ℕ) → put_mid at (length xs - at) xs ys ≡ take at xs ++ ys

@@ -18,7 +18,8 @@ pub record Transfer : Type 0 where
   pub moved : List ℕ
   pub left : List ℕ
 
-pub record Told : Type 0 where
+-- What the calls so far come to, the newest first, and what still goes on.
+pub record Account : Type 0 where
   pub entries : List Entry
   pub going : Option Transfer
 
@@ -40,17 +41,17 @@ abbrev pub goes_on : Transfer → Way → ℕ → ℕ → Bool
 goes_on transfer way offset asked = is_same transfer.way way && (offset == transfer.start + length transfer.moved) && (asked == length transfer.left)
 
 -- A call moved n bytes of what is left. The transfer is finished where these are all of it.
-abbrev pub moved_on : List Entry → Way → ℕ → List ℕ → List ℕ → ℕ → Told
+abbrev pub moved_on : List Entry → Way → ℕ → List ℕ → List ℕ → ℕ → Account
 moved_on entries way start before bytes n =
     if nat_le (length bytes) n then record { entries = finished way start (before ++ bytes) ∷ entries; going = None }
     else record { entries = entries; going = Some (record { way = way; start = start; moved = before ++ take n bytes; left = drop n bytes }) }
 
 -- A call failed, and so did its transfer.
-abbrev pub stopped : List Entry → Way → ℕ → List ℕ → List ℕ → ℕ → Told
+abbrev pub stopped : List Entry → Way → ℕ → List ℕ → List ℕ → ℕ → Account
 stopped entries way start before bytes n = record { entries = failed way start (before ++ bytes) ∷ entries; going = None }
 
 -- What a call does to the transfer that it goes on with, or that it begins. One that is not gone on with has failed.
-abbrev pub by_going : (List Entry → Way → ℕ → List ℕ → List ℕ → ℕ → Told) → List Entry → Option Transfer → Way → ℕ → List ℕ → ℕ → Told
+abbrev pub by_going : (List Entry → Way → ℕ → List ℕ → List ℕ → ℕ → Account) → List Entry → Option Transfer → Way → ℕ → List ℕ → ℕ → Account
 by_going does entries None way offset bytes n = does entries way offset [] bytes n
 by_going does entries (Some transfer) way offset bytes n =
     if goes_on transfer way offset (length bytes) then does entries way transfer.start transfer.moved bytes n
@@ -60,7 +61,7 @@ abbrev pub settled : List Entry → Option Transfer → List Entry
 settled entries None = entries
 settled entries (Some transfer) = failed transfer.way transfer.start (transfer.moved ++ transfer.left) ∷ entries
 
-abbrev pub after : Told → SystemCall → List ℕ → Told
+abbrev pub after : Account → SystemCall → List ℕ → Account
 after told (call.ReadAt offset moved) bytes = by_going moved_on told.entries told.going Reads offset bytes moved
 after told (call.ReadAtFailed offset kind) bytes = by_going stopped told.entries told.going Reads offset bytes 0
 after told (call.WriteAt offset moved) bytes = by_going moved_on told.entries told.going Writes offset bytes moved
@@ -68,10 +69,10 @@ after told (call.WriteAtFailed offset kind) bytes = by_going stopped told.entrie
 after told (call.SyncData failed) bytes = record { entries = sync_entry (is_none failed) ∷ settled told.entries told.going; going = None }
 after told _ bytes = told
 
-abbrev pub told_in : List Noted → Told
+abbrev pub told_in : List Noted → Account
 told_in [] = record { entries = []; going = None }
 told_in (call ∷ earlier) = after (told_in earlier) call.0 call.1
 
 -- an interrupted call is made again, and tells nothing
-abbrev pub told_by : List Noted → Told
+abbrev pub told_by : List Noted → Account
 told_by calls = told_in (answered calls)

@@ -10,9 +10,8 @@ ghost use Rattle.sector_disk.specs.SystemCalls.{Noted};
 ghost use Rattle.sector_disk.specs.Told.{told_by};
 
 use crate::moving::{read_whole, write_whole};
-use crate::record::Record;
 use crate::sectors::SECTOR_SIZE;
-use crate::system;
+use crate::system::{self, Record};
 use std::fs::File;
 use std::io;
 

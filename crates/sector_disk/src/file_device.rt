@@ -16,7 +16,7 @@ ghost use Rattle.sector_disk.specs.Opening.{failure_by, IsOpened, IsNotOpened, I
 
 use crate::file_calls::{FileCalls, HostFile, SECTOR};
 use crate::opened_file::{OpeningFault, make_file, take_file};
-use crate::record::Record;
+use crate::system::Record;
 use crate::system_call::Access;
 use crate::{DeviceFault, Sectors, Start};
 use std::fs::{File, Files};
@@ -317,7 +317,8 @@ impl<S: Start, F: FileCalls> Sectors for FileDevice<S, F> {
         is_image };
 
     ghost only_now = { λ d m image _ left.
-        history_only_now (history_of S.Start.disk S.Start.shown F.FileCalls.entries d) m image left };
+        history_only_now (history_of S.Start.disk S.Start.shown F.FileCalls.entries d) m
+        image left };
 
     ghost since_earlier = { λ d t u m image _ le left.
         history_since_earlier (history_of S.Start.disk S.Start.shown F.FileCalls.entries d) t u m

@@ -11,7 +11,7 @@
 //! - `opened_file`: that file as it is opened: its lock first, then its length
 //! - `disks`: what opens and makes files by their paths, and tells which
 //! - `file_calls`, `moving`: that file's reads, writes and syncs, by calls of the system until all is moved
-//! - `system`, `system_call`, `record`: these calls, each noted with its answer where only clauses read
+//! - `system`, `system_call`: these calls, each noted with its answer where only clauses read
 //! - `start`: what is supposed of a file as it is opened
 //! - `laws`: what the model means
 //!
@@ -51,7 +51,6 @@ mod laws;
 mod mem_device;
 mod moving;
 mod opened_file;
-mod record;
 mod sectors;
 mod start;
 mod system;

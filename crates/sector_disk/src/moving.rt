@@ -6,8 +6,7 @@ ghost use Rattle.sector_disk.specs.FileCalls.{read_entry, write_entry};
 ghost use Rattle.sector_disk.specs.Told.{told_by, told_in, moved_on, failed, Reads, Writes};
 
 use crate::file_calls::SECTOR;
-use crate::record::Record;
-use crate::system;
+use crate::system::{self, Record};
 use std::fs::File;
 use std::io;
 use std::io::ErrorKind;

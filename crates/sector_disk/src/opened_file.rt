@@ -8,11 +8,11 @@ ghost use Rattle.std.specs.IoError.{error_kind};
 ghost use Rattle.sector_disk.specs.SystemCalls.{answered};
 ghost use Rattle.sector_disk.specs.Opening.{lock_failure, folder_failure, failure_by, failure_told, first_failure, len_after, is_file_synced, is_synced, folder_of, folder_or_here, opened_in, finding_calls, touched_in, untouched, with_folder, with_opened, is_shared, HasLen, IsResized, IsOpened, IsNotOpened, IsMade, IsNotMade};
 
+use crate::FileFault;
 use crate::file_calls::SECTOR;
 use crate::moving::write_some;
-use crate::record::Record;
+use crate::system::{self, Record};
 use crate::system_call::{Access, SystemCall};
-use crate::{FileFault, system};
 use std::fs::{File, Files};
 use std::io;
 use std::io::ErrorKind;

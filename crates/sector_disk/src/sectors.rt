@@ -110,14 +110,18 @@ pub trait Sectors {
     ghost reads_possible: { (d : Self) → honest d → possible d (seen d) };
 
     /// A possible image has the device's length.
-    ghost image_size: { (d : Self) (image : List ℕ) → honest d → possible d image → length image ≡ 512 * len d };
+    ghost image_size: { (d : Self) (image : List ℕ) → honest d → possible d image
+        → length image ≡ 512 * len d };
 
     /// This moment is one of those since an earlier one.
-    ghost counts_now: { (d : Self) (t : ℕ) (image : List ℕ) → honest d → t ≤ clock d → possible d image → possible_since d t (calls d) image };
+    ghost counts_now: { (d : Self) (t : ℕ) (image : List ℕ) → honest d → t ≤ clock d
+        → possible d image → possible_since d t (calls d) image };
 
     /// Since this moment there is no other.
-    ghost only_now: { (d : Self) (m : ℕ) (image : List ℕ) → honest d → possible_since d (clock d) m image → (m ≡ calls d) × possible d image };
+    ghost only_now: { (d : Self) (m : ℕ) (image : List ℕ) → honest d
+        → possible_since d (clock d) m image → (m ≡ calls d) × possible d image };
 
     /// The moments since a later one are among those since an earlier one.
-    ghost since_earlier: { (d : Self) (t u m : ℕ) (image : List ℕ) → honest d → t ≤ u → possible_since d u m image → possible_since d t m image };
+    ghost since_earlier: { (d : Self) (t u m : ℕ) (image : List ℕ) → honest d → t ≤ u
+        → possible_since d u m image → possible_since d t m image };
 }

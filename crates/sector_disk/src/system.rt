@@ -1,15 +1,46 @@
-//! The calls of the system that a device over a file makes: each function here makes one of them, and notes it with its answer.
-//! No contract says what a system does, so that each does make the call that it notes is trusted. Nothing else calls a `File`.
+//! The calls of the system that a device over a file makes: each free function here makes one of them, and notes it with its answer in
+//! a record that only clauses read. No contract says what a system does, so that each does make the call that it notes is trusted.
+//! Nothing else calls a `File`, and nothing else can note a call.
 ghost use Rattle.std.specs.Prelude.{◌≡◌, ◌≤◌, ◌<◌, length, List, [], ◌∷◌, IfOk};
 ghost use Rattle.std.specs.IoError.{error_kind};
 ghost use Rattle.sector_disk.specs.SystemCalls.{found, kind_in, measured, read_at_answer, write_at_answer, IsPart};
 
-use crate::record::Record;
 use crate::system_call::{Access, SystemCall};
+use ghost_values::{Ghost, ListOf};
 use std::fs::{File, Files, OpenOptions};
 use std::io::ErrorKind;
+use std::marker::Model;
 use std::os::unix::fs::FileExt;
 use std::{fs, io};
+
+/// The calls made for a file, the newest first, each with the bytes that were read or written, or with the path that was opened.
+#[derive(Drop)]
+pub struct Record {
+    calls: Ghost<ListOf<(SystemCall, ListOf<u8>)>>,
+}
+
+impl Model for Record {
+    ghost use Rattle.std.specs.Prelude.{List};
+    ghost use Rattle.sector_disk.specs.SystemCalls.{Noted};
+
+    ghost Value = { List Noted };
+
+    ghost view = { λ r. r.calls.value };
+}
+
+impl Record {
+    pub fn new() -> Record
+        ensures { result ≡ [] }
+    {
+        Record { calls: Ghost::of() }
+    }
+
+    fn note(&mut self, call: &SystemCall, bytes: &[u8])
+        ensures { self.new ≡ (call.now, bytes.now) ∷ self.old }
+    {
+        self.calls = self.calls.after((call, bytes));
+    }
+}
 
 /// What is asked of a file's metadata.
 #[derive(Clone, Copy)]

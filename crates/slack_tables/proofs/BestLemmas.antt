@@ -15,7 +15,7 @@ use Rattle.slack_tables.specs.Inside.{AreKnown}
 use Rattle.slack_tables.specs.Insertion.{request_named, inserted, ArePlaces, IsAdded}
 use Rattle.slack_tables.specs.Legs.{AreLinked, AreRising}
 use Rattle.slack_tables.specs.Scan.{PutsSingle, AddsSingle, PutsPair, AddsPair, Under}
-use Rattle.slack_tables.specs.declared.progress.Row.{Row}
+use Rattle.slack_tables.specs.declared.progress.PlaceSlack.{PlaceSlack}
 use Rattle.slack_tables.specs.declared.scan.Addition.{Addition}
 use Rattle.slack_tables.proofs.AlongLemmas.{start-next, length-next}
 use Rattle.slack_tables.proofs.CourseLemmas.{long-on}
@@ -32,8 +32,8 @@ added-once p old new (Some y) x is it =
     let same : y ≡ x = omega (arith, ints) in
     ap (λ z. Some z) same
 
-module _ (p : Instance) (c : Course) (places : List Row) (table : AreKnown c places) (valid : IsInstance p) (is : IsCourseIn p c)
-    (law : NamedAreFound) (name : ℕ) (kept : ℕ) (below : ℤ) (d : Row) where
+module _ (p : Instance) (c : Course) (places : List PlaceSlack) (table : AreKnown c places) (valid : IsInstance p) (is : IsCourseIn p c)
+    (law : NamedAreFound) (name : ℕ) (kept : ℕ) (below : ℤ) (d : PlaceSlack) where
   long : length places ≡ length (route_of c) + 2
   long = let places_long = table.long in omega (arith, long-on p (route_of c) c is)
 
@@ -72,7 +72,7 @@ module _ (p : Instance) (c : Course) (places : List Row) (table : AreKnown c pla
       (λ a are behind added. (let count = long in let last = are.2 in record { behind = behind; order = are.1; within = omega arith; added = added })) o
 
 -- each place of a table tells how far the next one is
-pub linked : (c : Course) (places : List Row) → AreKnown c places → AreLinked places
+pub linked : (c : Course) (places : List PlaceSlack) → AreKnown c places → AreLinked places
 linked c places table = λ k d h.
     let here = (table.known k d (omega arith)).at in
     let next = (table.known (k + 1) d h).at in
@@ -81,7 +81,7 @@ linked c places table = λ k d h.
     omega (arith, length-next (stop_on c) k)
 
 -- nobody is at a place before the one ahead of it
-pub rising : (c : Course) (places : List Row) → AreKnown c places → AreRising places
+pub rising : (c : Course) (places : List PlaceSlack) → AreKnown c places → AreRising places
 rising c places table = λ k d h.
     let here = (table.known k d (omega arith)).at.start in
     let next = (table.known (k + 1) d h).at.start in

@@ -12,7 +12,7 @@ use Rattle.slack_tables.specs.Ride.{ride_of, price, served, served_below}
 use Rattle.slack_tables.specs.Walk.{walk_to, IsUnderway}
 use Rattle.slack_tables.specs.declared.progress.Limits.{Limits}
 use Rattle.slack_tables.specs.declared.progress.Progress.{Progress}
-use Rattle.slack_tables.specs.declared.progress.Row.{Row}
+use Rattle.slack_tables.specs.declared.progress.PlaceSlack.{PlaceSlack}
 use Rattle.slack_tables.specs.declared.ride.Ride.{Ride}
 use Rattle.slack_tables.specs.declared.scan.Underway.{Underway}
 use Rattle.slack_tables.proofs.FirstLemmas.{int_lt-true}
@@ -23,19 +23,19 @@ step-far limits a b s is =
     let same = sym (cond_some _ _ b is).1 in
     (ap (λ (x : Progress). x.stop) same, ap (λ (x : Progress). x.distance) same)
 
-pub served-price : (limits : Limits) (r : Ride) (service to : ℕ) (s : Stop) (from : ℕ) (tail : Row) (x : ℤ)
+pub served-price : (limits : Limits) (r : Ride) (service to : ℕ) (s : Stop) (from : ℕ) (tail : PlaceSlack) (x : ℤ)
     → served limits r service to s from tail ≡ Some x → x ≡ price r to from tail
 served-price limits r service to s from tail x is = sym (cond_some _ _ x is).1
 
 -- what costs the bound or more by ways from below is not offered
-pub served-dear : (below : ℤ) (limits : Limits) (r : Ride) (service to : ℕ) (s : Stop) (from : ℕ) (tail : Row) (least_to least_from : ℕ)
+pub served-dear : (below : ℤ) (limits : Limits) (r : Ride) (service to : ℕ) (s : Stop) (from : ℕ) (tail : PlaceSlack) (least_to least_from : ℕ)
     → least_to ≤ to → least_from ≤ from → below ≤ℤ price r least_to least_from tail
     → None ≡ served_below below limits r service to s from tail
 served-dear below limits r service to s from tail least_to least_from is_to is_from le =
     cond_both (int_lt (price r to from tail) below) (served limits r service to s from tail) None (λ o. None ≡ o)
     (λ less. let lt = int_lt-true (price r to from tail) below less in absurd (omega (arith, ints))) (λ _. refl)
 
-module _ (limits : Limits) (places : List Row) (p q : Stop) (i : ℕ) (d : Row) (linked : AreLinked places) where
+module _ (limits : Limits) (places : List PlaceSlack) (p q : Stop) (i : ℕ) (d : PlaceSlack) (linked : AreLinked places) where
   -- how far it is to place i over the pickup
   abbrev pub reach : ℕ
   reach = (get_or places (i - 1) d).at.distance + distance (get_or places (i - 1) d).at.stop p + distance p (get_or places i d).at.stop
@@ -150,7 +150,7 @@ module _ (limits : Limits) (places : List Row) (p q : Stop) (i : ℕ) (d : Row) 
         omega (arith, ints)
 
     -- and each at all, by ways from below
-    pub all-dear : (before next : Row) (to across from onward : ℕ) → i < length least → before ≡ get_or places (i - 1) d
+    pub all-dear : (before next : PlaceSlack) (to across from onward : ℕ) → i < length least → before ≡ get_or places (i - 1) d
         → next ≡ get_or places i d → to ≤ distance (get_or places (i - 1) d).at.stop p → across ≡ distance p q
         → from ≤ distance (get_or places i d).at.stop q → onward ≤ distance (get_or places i d).at.stop p
         → bound ≤ℤ (pos (before.at.distance + to + across + from) -ℤ pos next.at.distance)
@@ -160,10 +160,10 @@ module _ (limits : Limits) (places : List Row) (p q : Stop) (i : ℕ) (d : Row) 
         by (cases_lt j (i + 2))
       where
         start : before.at.distance ≡ (get_or places (i - 1) d).at.distance
-        start = ap (λ (e : Row). e.at.distance) is_before
+        start = ap (λ (e : PlaceSlack). e.at.distance) is_before
 
         base : next.at.distance ≡ (get_or places i d).at.distance
-        base = ap (λ (e : Row). e.at.distance) is_next
+        base = ap (λ (e : PlaceSlack). e.at.distance) is_next
 
         by : (j < i + 2) ⊎ (i + 2 ≤ j) → bound ≤ℤ x
         by (inl here) =

@@ -15,7 +15,7 @@ use Rattle.slack_tables.specs.Inside.{limits_of, AreKnown, IsInLimits}
 use Rattle.slack_tables.specs.Opened.{leaving}
 use Rattle.slack_tables.specs.Seen.{IsStopAt, KnowsStops}
 use Rattle.slack_tables.specs.Places.{IsAt}
-use Rattle.slack_tables.specs.declared.progress.Row.{Row}
+use Rattle.slack_tables.specs.declared.progress.PlaceSlack.{PlaceSlack}
 use Rattle.slack_tables.specs.declared.progress.Progress.{Progress}
 use Rattle.slack_tables.proofs.AlongLemmas.{same-start, same-load, same-length}
 use Rattle.slack_tables.proofs.CourseLemmas.{places-on}
@@ -43,8 +43,8 @@ module _ (a b : ℕ → Stop) (n : ℕ) (same : (k : ℕ) → k ≤ n → b k �
   }
 
 -- ---- the table of a route
-module _ (p : Instance) (c : Course) (places : List Row) (table : AreKnown c places) (course : IsCourseIn p c) (route : List ℕ) (n : ℕ)
-    (d : Row) (within : n + 1 < length places) (front : IsFront places route n) where
+module _ (p : Instance) (c : Course) (places : List PlaceSlack) (table : AreKnown c places) (course : IsCourseIn p c) (route : List ℕ) (n : ℕ)
+    (d : PlaceSlack) (within : n + 1 < length places) (front : IsFront places route n) where
   on : place p (route_of c) ≡ stop_on c
   on = places-on p (route_of c) c course
 
@@ -87,11 +87,11 @@ module _ (p : Instance) (c : Course) (places : List Row) (table : AreKnown c pla
           (subst (λ x. IsInLimits c.kind x (stop_on c) m) capacity
           (kept-fewer (record { kind = c.kind; capacity = c.capacity }) (stop_on c) m (length c.stops + 1) h table.limits))
 
-pub knows-fronts : (p : Instance) (c : Course) (places : List Row) → AreKnown c places → IsCourseIn p c → KnowsFronts p places
+pub knows-fronts : (p : Instance) (c : Course) (places : List PlaceSlack) → AreKnown c places → IsCourseIn p c → KnowsFronts p places
 knows-fronts p c places table course = λ route n d within front. has-come p c places table course route n d within front
 
 -- ---- where the numbers are the same, so are the stops
-module _ (p : Instance) (c : Course) (places : List Row) (table : AreKnown c places) (course : IsCourseIn p c) (depot : p.depot.number ≡ 0) where
+module _ (p : Instance) (c : Course) (places : List PlaceSlack) (table : AreKnown c places) (course : IsCourseIn p c) (depot : p.depot.number ≡ 0) where
   none : c.depot.number ≡ 0
   none = ap (λ (q : Course). q.depot.number) (sym course) ∙ depot
 
@@ -106,7 +106,7 @@ module _ (p : Instance) (c : Course) (places : List Row) (table : AreKnown c pla
   unfolding place
   as-place route k = ap (λ m. stop_numbered p (get_or (0 ∷ route) m 0)) (sym (add-one k))
 
-  pub stop-at : (route : List ℕ) (n k : ℕ) (d : Row) → n < length places → (get_or places n d).at.stop.number ≡ get_or route k 0
+  pub stop-at : (route : List ℕ) (n k : ℕ) (d : PlaceSlack) → n < length places → (get_or places n d).at.stop.number ≡ get_or route k 0
       → IsStopAt p route (k + 1) (get_or places n d).at.stop
   stop-at route n k d within same =
       let on : (get_or places n d).at.stop ≡ stop_on c n = (table.known n d within).at.stop in
@@ -115,7 +115,7 @@ module _ (p : Instance) (c : Course) (places : List Row) (table : AreKnown c pla
         visit = (table.within n d within).visit;
       }
 
-pub knows-stops : (p : Instance) (c : Course) (places : List Row) → AreKnown c places → IsCourseIn p c → KnowsStops p places
+pub knows-stops : (p : Instance) (c : Course) (places : List PlaceSlack) → AreKnown c places → IsCourseIn p c → KnowsStops p places
 knows-stops p c places table course = λ route n k d depot within same. stop-at p c places table course depot route n k d within same
 
 -- before its first stop

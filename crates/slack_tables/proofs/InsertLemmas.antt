@@ -23,7 +23,7 @@ use Rattle.slack_tables.specs.Insertion.{request_named, inserted, ArePlaces, IsA
 use Rattle.slack_tables.specs.Places.{IsAt, IsKnown}
 use Rattle.slack_tables.specs.declared.progress.Limits.{Limits}
 use Rattle.slack_tables.specs.declared.progress.Progress.{Progress}
-use Rattle.slack_tables.specs.declared.progress.Row.{Row}
+use Rattle.slack_tables.specs.declared.progress.PlaceSlack.{PlaceSlack}
 use Rattle.slack_tables.proofs.CourseLemmas.{places-on, long-on, length-is, limits-to, limits-from}
 use Rattle.slack_tables.proofs.FrontLemmas.{at-same, kept-same}
 use Rattle.slack_tables.proofs.SpliceLemmas.{In, WalkIs, EndIs, kept-fewer, walk-on, end-then, stop-is}
@@ -32,21 +32,21 @@ use Rattle.slack_tables.proofs.SpliceLemmas.{In, WalkIs, EndIs, kept-fewer, walk
 abbrev pub limits_of : Course → Limits
 limits_of c = record { kind = c.kind; capacity = c.capacity }
 
-module _ (c : Course) (places : List Row) (table : AreKnown c places) (b : ℕ → Stop) where
+module _ (c : Course) (places : List PlaceSlack) (table : AreKnown c places) (b : ℕ → Stop) where
   -- the new route keeps the limits and is so much longer, or doesn't keep them
   abbrev pub IsEnd : ℕ → Option ℤ → Type 0
   IsEnd l o = EndIs (limits_of c) b l (length_along (stop_on c) (length c.stops + 1)) o
 
   module _ (m : ℕ) (front : (k : ℕ) → k ≤ m → b k ≡ stop_on c k) (within : m ≤ length c.stops) where
     -- the front is driven as before
-    front-at : (d : Row) → IsAt b m (get_or places m d).at
+    front-at : (d : PlaceSlack) → IsAt b m (get_or places m d).at
     front-at d = let long = table.long in at-same (stop_on c) b m front (get_or places m d).at (table.known m d (omega arith)).at
 
     front-in : In (limits_of c) b m
     front-in = kept-same (stop_on c) b m front c.kind c.capacity (kept-fewer (limits_of c) (stop_on c) m (length c.stops + 1) (omega arith) table.limits)
 
   -- a stop at place j of the new route, then place n of the table and all behind it
-  rest-is : (j n l : ℕ) (d : Row) (at : Progress) (s : Stop) → 1 ≤ j → n ≤ length c.stops + 1 → l ≡ j + 1 + (length c.stops + 1 - n)
+  rest-is : (j n l : ℕ) (d : PlaceSlack) (at : Progress) (s : Stop) → 1 ≤ j → n ≤ length c.stops + 1 → l ≡ j + 1 + (length c.stops + 1 - n)
       → b j ≡ s → ((k : ℕ) → b (j + 1 + k) ≡ stop_on c (n + k)) → IsAt b (j - 1) at → In (limits_of c) b (j - 1)
       → IsEnd l (with_stop (limits_of c) at s (get_or places n d))
   rest-is j n l d at s one h end here same is kept =
@@ -61,14 +61,14 @@ module _ (c : Course) (places : List Row) (table : AreKnown c places) (b : ℕ �
       subst (λ q. EndIs (limits_of c) b l (length_along (stop_on c) q) (with_stop (limits_of c) at s (get_or places n d))) total
       (subst (λ q. EndIs (limits_of c) b q (length_along (stop_on c) (n + rest)) (with_stop (limits_of c) at s (get_or places n d))) (sym end) is_end)
 
-  pub single-is : (i : ℕ) (s : Stop) (d : Row) → 1 ≤ i → i ≤ length c.stops + 1 → ((k : ℕ) → k ≤ i - 1 → b k ≡ stop_on c k) → b i ≡ s
+  pub single-is : (i : ℕ) (s : Stop) (d : PlaceSlack) → 1 ≤ i → i ≤ length c.stops + 1 → ((k : ℕ) → k ≤ i - 1 → b k ≡ stop_on c k) → b i ≡ s
       → ((k : ℕ) → b (i + 1 + k) ≡ stop_on c (i + k)) → IsEnd (length c.stops + 2) (with_single (limits_of c) places s i d)
   single-is i s d one most front here behind =
       rest-is i i (length c.stops + 2) d (get_or places (i - 1) d).at s one most (omega arith) here behind
       (front-at (i - 1) front (omega arith) d) (front-in (i - 1) front (omega arith))
 
   -- the pickup at place i, then n places of the table
-  walked-is : (i n : ℕ) (p : Stop) (d : Row) → 1 ≤ i → i + n ≤ length c.stops + 1 → ((k : ℕ) → k ≤ i - 1 → b k ≡ stop_on c k) → b i ≡ p
+  walked-is : (i n : ℕ) (p : Stop) (d : PlaceSlack) → 1 ≤ i → i + n ≤ length c.stops + 1 → ((k : ℕ) → k ≤ i - 1 → b k ≡ stop_on c k) → b i ≡ p
       → ((k : ℕ) → k < n → b (i + 1 + k) ≡ stop_on c (i + k)) → WalkIs (limits_of c) b (i + n) (walked (limits_of c) places p i d n)
   unfolding WalkIs
   walked-is i zero p d one most front first middle =
@@ -81,7 +81,7 @@ module _ (c : Course) (places : List Row) (table : AreKnown c places) (b : ℕ �
       (walked-is i n p d one (omega arith) front first (λ k h. middle k (omega arith)))
       ((table.known (i + n) d (omega arith)).at.stop ∙ sym (ap b (omega arith) ∙ middle n (omega arith))))
 
-  pub pair-is : (i j : ℕ) (p q : Stop) (d : Row) → 1 ≤ i → i < j → j ≤ length c.stops + 2 → ((k : ℕ) → k ≤ i - 1 → b k ≡ stop_on c k)
+  pub pair-is : (i j : ℕ) (p q : Stop) (d : PlaceSlack) → 1 ≤ i → i < j → j ≤ length c.stops + 2 → ((k : ℕ) → k ≤ i - 1 → b k ≡ stop_on c k)
       → b i ≡ p → ((k : ℕ) → i + 1 + k < j → b (i + 1 + k) ≡ stop_on c (i + k)) → b j ≡ q
       → ((k : ℕ) → b (j + 1 + k) ≡ stop_on c (j - 1 + k)) → IsEnd (length c.stops + 3) (with_pair (limits_of c) places p q i j d)
   unfolding walk_to
@@ -144,7 +144,7 @@ stands p name r s law valid named stop own =
     numbered-is p s stop ((law p s.number name r valid named (subst (λ o. IsSome o) (sym own) refl)).stop ∙ own)
 
 -- ---- what try_insert answers
-module _ (p : Instance) (c : Course) (places : List Row) (table : AreKnown c places) (valid : IsInstance p) (is : IsCourseIn p c) where
+module _ (p : Instance) (c : Course) (places : List PlaceSlack) (table : AreKnown c places) (valid : IsInstance p) (is : IsCourseIn p c) where
   on_course : place p (route_of c) ≡ stop_on c
   on_course = places-on p (route_of c) c is
 
@@ -178,7 +178,7 @@ module _ (p : Instance) (c : Course) (places : List Row) (table : AreKnown c pla
       ∙ (ap (λ n. length_along (place p (route_of c)) (n + 1)) long ∙ sym (length-is p (route_of c))) in
       (limits-from p new by_kind, ap pos (sym far) ∙ (found.1 ∙ ap (λ n. pos n +ℤ added) near))
 
-  pub single-added : (law : NamedAreFound) (name i j : ℕ) (s : Stop) (d : Row) (o : Option ℤ) → request_named p name ≡ Some (Single s)
+  pub single-added : (law : NamedAreFound) (name i j : ℕ) (s : Stop) (d : PlaceSlack) (o : Option ℤ) → request_named p name ≡ Some (Single s)
       → ArePlaces (Single s) (length (route_of c)) i j → o ≡ with_single (limits_of c) places s i d
       → IsAdded p (route_of c) (inserted (Single s) i j (route_of c)) o
   single-added law name i j s d o named are made =
@@ -197,7 +197,7 @@ module _ (p : Instance) (c : Course) (places : List Row) (table : AreKnown c pla
       added-is new (length c.stops + 2) o (omega (arith, long, length-insert (route_of c) (i - 1) s.number fits))
       (subst (IsEnd c places table (place p new) (length c.stops + 2)) (sym made) end)
 
-  pub pair-added : (law : NamedAreFound) (name i j : ℕ) (s t : Stop) (d : Row) (o : Option ℤ) → request_named p name ≡ Some (Pair s t)
+  pub pair-added : (law : NamedAreFound) (name i j : ℕ) (s t : Stop) (d : PlaceSlack) (o : Option ℤ) → request_named p name ≡ Some (Pair s t)
       → ArePlaces (Pair s t) (length (route_of c)) i j → o ≡ with_pair (limits_of c) places s t i j d
       → IsAdded p (route_of c) (inserted (Pair s t) i j (route_of c)) o
   pair-added law name i j s t d o named are made =

@@ -14,7 +14,7 @@ use Rattle.slack_tables.specs.Filled.{stay_between, latest_before, EachIsTimely,
 use Rattle.slack_tables.specs.Opened.{IsWithin, AreOpen}
 use Rattle.slack_tables.specs.Places.{IsAt, IsKnown}
 use Rattle.slack_tables.specs.Inside.{IsInLimits}
-use Rattle.slack_tables.specs.declared.progress.Row.{Row}
+use Rattle.slack_tables.specs.declared.progress.PlaceSlack.{PlaceSlack}
 use Rattle.slack_tables.proofs.AlongLemmas.{start-next, length-next, spliced-start}
 use Rattle.slack_tables.proofs.LatestLemmas.{IsBound, bound-before}
 
@@ -29,8 +29,8 @@ module _ (kind : Kind) (capacity : ℕ) (stops : ℕ → Stop) (last : ℕ) (lim
       let le = limits.window lilim j (omega arith) l in
       omega arith
 
-  module _ (old : List Row) (opened : AreOpen stops old) (long : length old ≡ last + 1) where
-    stay-is : (k : ℕ) (d : Row) → k < last → stay_between (get_or old k d) (get_or old (k + 1) d) ≡ stay stops k
+  module _ (old : List PlaceSlack) (opened : AreOpen stops old) (long : length old ≡ last + 1) where
+    stay-is : (k : ℕ) (d : PlaceSlack) → k < last → stay_between (get_or old k d) (get_or old (k + 1) d) ≡ stay stops k
     stay-is k d h =
         let a = opened k d (omega arith) in
         let b = opened (k + 1) d (omega arith) in
@@ -48,24 +48,24 @@ module _ (kind : Kind) (capacity : ℕ) (stops : ℕ → Stop) (last : ℕ) (lim
           window = λ lilim. (let le = limits.window lilim (k + 1) (omega arith) (omega arith) in rw (b.at.start, b.at.stop) le);
         }
 
-    module _ (new : List Row) (filled : IsFilled kind old new) where
-      pub same-at : (k : ℕ) (d : Row) → k ≤ last → (get_or new k d).at ≡ (get_or old k d).at
+    module _ (new : List PlaceSlack) (filled : IsFilled kind old new) where
+      pub same-at : (k : ℕ) (d : PlaceSlack) → k ≤ last → (get_or new k d).at ≡ (get_or old k d).at
       same-at k d h = by (cases_lt k last)
         where
           by : (k < last) ⊎ (last ≤ k) → (get_or new k d).at ≡ (get_or old k d).at
           by (inl before) = ap (λ e. e.at) (filled.each k d (omega arith))
           by (inr end) = let is : length old - 1 ≡ k = omega arith in subst (λ i. (get_or new i d).at ≡ (get_or old i d).at) is (ap (λ e. e.at) (filled.last d))
 
-      at-known : (k : ℕ) (d : Row) → k ≤ last → IsAt stops k (get_or new k d).at
+      at-known : (k : ℕ) (d : PlaceSlack) → k ≤ last → IsAt stops k (get_or new k d).at
       at-known k d h = subst (IsAt stops k) (sym (same-at k d h)) ((opened k d (omega arith)).at)
 
-      end-is : (d : Row) → get_or new last d ≡ get_or old last d
+      end-is : (d : PlaceSlack) → get_or new last d ≡ get_or old last d
       end-is d = let is : length old - 1 ≡ last = omega arith in subst (λ i. get_or new i d ≡ get_or old i d) is (filled.last d)
 
-      IsFit : ℕ → Row → Type 0
+      IsFit : ℕ → PlaceSlack → Type 0
       IsFit k d = IsKnown kind stops last k (get_or new k d) × (unsigned_abs (get_or new k d).most_load ≤ 2 ^ 50)
 
-      fit-end : (k : ℕ) (d : Row) → k ≡ last → IsFit k d
+      fit-end : (k : ℕ) (d : PlaceSlack) → k ≡ last → IsFit k d
       unfolding IsFit IsBound
       fit-end k d end =
           let e = opened last d (omega arith) in
@@ -86,7 +86,7 @@ module _ (kind : Kind) (capacity : ℕ) (stops : ℕ → Stop) (last : ℕ) (lim
             subst (λ x. unsigned_abs x.most_load ≤ 2 ^ 50) (sym is) few,
           )
 
-      latest-is : (k : ℕ) (d : Row) → kind ≡ LiLim → k < last
+      latest-is : (k : ℕ) (d : PlaceSlack) → kind ≡ LiLim → k < last
           → (get_or new k d).latest_start ≡ min (get_or new (k + 1) d).latest_start (stops (k + 1)).latest - stay stops k
       latest-is k d lilim h =
           let made : (get_or new k d).latest_start ≡ latest_before kind (get_or old k d) (get_or new (k + 1) d) =
@@ -99,7 +99,7 @@ module _ (kind : Kind) (capacity : ℕ) (stops : ℕ → Stop) (last : ℕ) (lim
           let far : (get_or new (k + 1) d).at.distance ≡ (get_or old (k + 1) d).at.distance = ap (λ a. a.distance) (same-at (k + 1) d (omega arith)) in
           omega (arith, stay-is k d h)
 
-      fit-before : (k : ℕ) (d : Row) → k < last → IsFit (k + 1) d → IsFit k d
+      fit-before : (k : ℕ) (d : PlaceSlack) → k < last → IsFit (k + 1) d → IsFit k d
       unfolding IsFit IsBound
       fit-before k d h next =
           let e = opened k d (omega arith) in
@@ -140,20 +140,20 @@ module _ (kind : Kind) (capacity : ℕ) (stops : ℕ → Stop) (last : ℕ) (lim
           by c le m j l (inl after) most = (next.0.most_load c).0 (omega (arith, ints, clamps)) m (omega arith) l
           by c le m j l (inr first) most = let same : k ≡ m = omega arith in subst (λ i. load_along stops i ≤ℤ c) same (omega (arith, ints, clamps))
 
-      fit : (r k : ℕ) (d : Row) → k + r ≡ last → IsFit k d
+      fit : (r k : ℕ) (d : PlaceSlack) → k + r ≡ last → IsFit k d
       fit zero k d end = fit-end k d (omega arith)
       fit (suc r) k d end = fit-before k d (omega arith) (fit r (k + 1) d (omega arith))
 
-      pub known : (k : ℕ) (d : Row) → k ≤ last → IsKnown kind stops last k (get_or new k d)
+      pub known : (k : ℕ) (d : PlaceSlack) → k ≤ last → IsKnown kind stops last k (get_or new k d)
       unfolding IsFit
       known k d h = (fit (last - k) k d (omega arith)).0
 
-      pub small : (k : ℕ) (d : Row) → k ≤ last → IsSmallRow (get_or new k d)
+      pub small : (k : ℕ) (d : PlaceSlack) → k ≤ last → IsSmallRow (get_or new k d)
       unfolding IsFit
       small k d h = record {
         at = subst (IsSmall (2 ^ 50)) (sym (same-at k d h)) ((opened k d (omega arith)).small.at);
         most_load = (fit (last - k) k d (omega arith)).1;
       }
 
-      pub within : (k : ℕ) (d : Row) → k ≤ last → IsWithin k (get_or new k d).at
+      pub within : (k : ℕ) (d : PlaceSlack) → k ≤ last → IsWithin k (get_or new k d).at
       within k d h = subst (IsWithin k) (sym (same-at k d h)) ((opened k d (omega arith)).within)

@@ -12,10 +12,10 @@ use Rattle.slack_tables.specs.Ride.{ride_of, is_in_time, is_kept}
 use Rattle.slack_tables.specs.Walk.{walk_to}
 use Rattle.slack_tables.specs.declared.progress.Limits.{Limits}
 use Rattle.slack_tables.specs.declared.progress.Progress.{Progress}
-use Rattle.slack_tables.specs.declared.progress.Row.{Row}
+use Rattle.slack_tables.specs.declared.progress.PlaceSlack.{PlaceSlack}
 use Rattle.slack_tables.proofs.WalkLemmas.{and_then-none, walk-first, walk-more, pair-over}
 
-rises-by : (places : List Row) → AreRising places → (d : Row) (n k : ℕ) → k + n < length places
+rises-by : (places : List PlaceSlack) → AreRising places → (d : PlaceSlack) (n k : ℕ) → k + n < length places
     → (get_or places k d).at.start ≤ (get_or places (k + n) d).at.start
 rises-by places rising d zero k h =
     let same : k + 0 ≡ k = omega arith in subst (λ m. (get_or places k d).at.start ≤ (get_or places m d).at.start) (sym same) (omega arith)
@@ -24,7 +24,7 @@ rises-by places rising d (suc n) k h =
     let next : k + suc n ≡ k + n + 1 = omega arith in
     subst (λ m. (get_or places k d).at.start ≤ (get_or places m d).at.start) (sym next) (omega arith)
 
-pub rises-to : (places : List Row) → AreRising places → (d : Row) (k m : ℕ) → k ≤ m → m < length places
+pub rises-to : (places : List PlaceSlack) → AreRising places → (d : PlaceSlack) (k m : ℕ) → k ≤ m → m < length places
     → (get_or places k d).at.start ≤ (get_or places m d).at.start
 rises-to places rising d k m h l =
     subst (λ n. (get_or places k d).at.start ≤ (get_or places n d).at.start) (omega arith) (rises-by places rising d (m - k) k (omega arith))
@@ -37,7 +37,7 @@ late-kept : (limits : Limits) (a : Progress) (s : Stop) (t : ℕ) → is_in_time
     → is_kept limits (ride_of (driven_on a s)) s ≡ false
 late-kept limits a s t late le = and_right _ _ (false_from_ne_true _ (λ there. late-too limits.kind t (driven_on a s).start s.latest (omega arith) late there))
 
-pub late-pickup : (limits : Limits) (places : List Row) (p q : Stop) (d : Row) → AreRising places → (i k j : ℕ) → 1 ≤ i → i ≤ k → k < j
+pub late-pickup : (limits : Limits) (places : List PlaceSlack) (p q : Stop) (d : PlaceSlack) → AreRising places → (i k j : ℕ) → 1 ≤ i → i ≤ k → k < j
     → j ≤ length places → is_in_time limits.kind (get_or places (i - 1) d).at.start p.latest ≡ false
     → with_pair limits places p q k j d ≡ None
 late-pickup limits places p q d rising i k j one order behind within late =
@@ -59,7 +59,7 @@ step-after limits a b s lilim is =
     (sym (ap (λ (x : Progress). x.stop) kept.1), omega arith, omega arith)
 
 -- a delivery is too late wherever the vehicle goes on from here
-module _ (limits : Limits) (places : List Row) (p q : Stop) (i : ℕ) (d : Row) where
+module _ (limits : Limits) (places : List PlaceSlack) (p q : Stop) (i : ℕ) (d : PlaceSlack) where
   walk-rises : (j n : ℕ) → i < j → j + n ≤ length places + 1 → (a b : Progress) → walk_to limits places p i d j ≡ Some a
       → walk_to limits places p i d (j + n) ≡ Some b → a.start ≤ b.start
   walk-rises j zero order within a b here there =

@@ -9,25 +9,25 @@ use Rattle.std.proofs.lemmas.Int.{ints, clamps}
 use Rattle.plan_types.specs.declared.requests.Stop.{Stop}
 use Rattle.nint_dist.specs.Distance.{distance}
 use Rattle.slack_tables.specs.Legs.{detour_of}
-use Rattle.slack_tables.specs.declared.progress.Row.{Row}
+use Rattle.slack_tables.specs.declared.progress.PlaceSlack.{PlaceSlack}
 
 -- ---- backward: the least detours from place k on
-pub record AreLeastFrom (places : List Row) (s : Stop) (k : ℕ) (least : List ℤ) : Type 0 where
+pub record AreLeastFrom (places : List PlaceSlack) (s : Stop) (k : ℕ) (least : List ℤ) : Type 0 where
   pub long : length least ≡ length places
-  pub lower : (i m : ℕ) (d : Row) → k ≤ i → i < length least → i ≤ m → m + 1 < length places → get_or least i (pos 0) ≤ℤ detour_of places s m d
+  pub lower : (i m : ℕ) (d : PlaceSlack) → k ≤ i → i < length least → i ≤ m → m + 1 < length places → get_or least i (pos 0) ≤ℤ detour_of places s m d
   pub small : (i : ℕ) → k ≤ i → i < length least → unsigned_abs (get_or least i (pos 0)) ≤ 2 ^ 60
 
 -- ways from below give a detour from below
-pub detour-below : (places : List Row) (s : Stop) (m : ℕ) (d : Row) (here next : Row) (to from : ℕ) → here ≡ get_or places m d
+pub detour-below : (places : List PlaceSlack) (s : Stop) (m : ℕ) (d : PlaceSlack) (here next : PlaceSlack) (to from : ℕ) → here ≡ get_or places m d
     → next ≡ get_or places (m + 1) d → to ≤ distance (get_or places m d).at.stop s → from ≤ distance (get_or places (m + 1) d).at.stop s
     → (pos (here.at.distance + to + from) -ℤ pos next.at.distance) ≤ℤ detour_of places s m d
 detour-below places s m d here next to from is_here is_next is_to is_from =
-    let before = ap (λ (e : Row). e.at.distance) is_here in
-    let after = ap (λ (e : Row). e.at.distance) is_next in
+    let before = ap (λ (e : PlaceSlack). e.at.distance) is_here in
+    let after = ap (λ (e : PlaceSlack). e.at.distance) is_next in
     omega (arith, ints)
 
-module _ (places : List Row) (s : Stop) (k : ℕ) (least : List ℤ) (x y : ℤ) (is : AreLeastFrom places s (k + 1) least)
-    (within : k + 1 < length least) (detour : (d : Row) → x ≤ℤ detour_of places s k d)
+module _ (places : List PlaceSlack) (s : Stop) (k : ℕ) (least : List ℤ) (x y : ℤ) (is : AreLeastFrom places s (k + 1) least)
+    (within : k + 1 < length least) (detour : (d : PlaceSlack) → x ≤ℤ detour_of places s k d)
     (next : y ≡ int_min x (get_or least (k + 1) (pos 0))) where
   here : get_or (set least k y) k (pos 0) ≡ y
   here = get_or-set_same least k y (pos 0) (omega arith)
@@ -35,7 +35,7 @@ module _ (places : List Row) (s : Stop) (k : ℕ) (least : List ℤ) (x y : ℤ)
   other : (i : ℕ) → i ≢ k → get_or (set least k y) i (pos 0) ≡ get_or least i (pos 0)
   other i ne = get_or-set_other least k i y (pos 0) ne
 
-  lower-here : (m : ℕ) (d : Row) → k ≤ m → m + 1 < length places → y ≤ℤ detour_of places s m d
+  lower-here : (m : ℕ) (d : PlaceSlack) → k ≤ m → m + 1 < length places → y ≤ℤ detour_of places s m d
   lower-here m d h l = by (cases_lt k m)
     where
       by : (k < m) ⊎ (m ≤ k) → y ≤ℤ detour_of places s m d
@@ -52,7 +52,7 @@ module _ (places : List Row) (s : Stop) (k : ℕ) (least : List ℤ) (x y : ℤ)
     small = λ i h l. small-by i h l (cases_lt k i);
   }
     where
-      lower-by : (i m : ℕ) (d : Row) → k ≤ i → i < length (set least k y) → i ≤ m → m + 1 < length places → (k < i) ⊎ (i ≤ k)
+      lower-by : (i m : ℕ) (d : PlaceSlack) → k ≤ i → i < length (set least k y) → i ≤ m → m + 1 < length places → (k < i) ⊎ (i ≤ k)
           → get_or (set least k y) i (pos 0) ≤ℤ detour_of places s m d
       lower-by i m d h l n r (inl after) =
           subst (λ z. z ≤ℤ detour_of places s m d) (sym (other i (omega arith)))

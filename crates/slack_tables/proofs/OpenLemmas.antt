@@ -8,7 +8,7 @@ use Rattle.slack_tables.specs.Driven.{driven_on, IsNear, IsSmall}
 use Rattle.slack_tables.specs.Places.{IsAt}
 use Rattle.slack_tables.specs.Opened.{leaving, open_row, IsWithin, IsOpen, AreOpenTo}
 use Rattle.slack_tables.specs.declared.progress.Progress.{Progress}
-use Rattle.slack_tables.specs.declared.progress.Row.{Row}
+use Rattle.slack_tables.specs.declared.progress.PlaceSlack.{PlaceSlack}
 use Rattle.slack_tables.proofs.AlongLemmas.{start-first, load-first, length-first}
 use Rattle.slack_tables.proofs.SpliceLemmas.{at-next}
 
@@ -52,16 +52,16 @@ open-is stops k a few at is =
     record { at = at; latest_start = refl; most_load = refl; within = is; small = record { at = small; most_load = small.load } }
 
 -- ---- the same by index
-pub open-to-none : (stops : ℕ → Stop) (places : List Row) → AreOpenTo stops 0 places
+pub open-to-none : (stops : ℕ → Stop) (places : List PlaceSlack) → AreOpenTo stops 0 places
 open-to-none stops places = record { each = λ k d h _. absurd (omega arith) }
 
-pub open-to-more : (stops : ℕ → Stop) (n : ℕ) (places new : List Row) (a : Progress) → AreOpenTo stops n places → n ≤ 40003
+pub open-to-more : (stops : ℕ → Stop) (n : ℕ) (places new : List PlaceSlack) (a : Progress) → AreOpenTo stops n places → n ≤ 40003
     → IsAt stops n a → IsWithin n a → new ≡ set places n (open_row a) → AreOpenTo stops (n + 1) new
 open-to-more stops n places new a is few at within made =
     subst (AreOpenTo stops (n + 1)) (sym made)
     (record { each = λ k d h l. by k d (cases_lt k n) h (omega (arith, length-set places n (open_row a))) })
   where
-    by : (k : ℕ) (d : Row) → (k < n) ⊎ (n ≤ k) → k < n + 1 → k < length places → IsOpen stops k (get_or (set places n (open_row a)) k d)
+    by : (k : ℕ) (d : PlaceSlack) → (k < n) ⊎ (n ≤ k) → k < n + 1 → k < length places → IsOpen stops k (get_or (set places n (open_row a)) k d)
     by k d (inl before) h l = subst (IsOpen stops k) (sym (get_or-set_other places n k (open_row a) d (omega arith))) (is.each k d before l)
     by k d (inr here) h l =
         subst (λ i. IsOpen stops i (get_or (set places n (open_row a)) i d)) (omega arith)

@@ -10,27 +10,27 @@ use Rattle.slack_tables.specs.Along.{stop_on, start_along, moved_along, load_alo
 use Rattle.slack_tables.specs.Inside.{AreKnown}
 use Rattle.slack_tables.specs.Places.{IsKnown}
 use Rattle.slack_tables.specs.Latest.{GoesOn, IsLatestStart}
-use Rattle.slack_tables.specs.declared.progress.Row.{Row}
+use Rattle.slack_tables.specs.declared.progress.PlaceSlack.{PlaceSlack}
 use Rattle.slack_tables.proofs.CourseLemmas.{places-on, long-on, start-is, moved-is, load-is, length-is}
 use Rattle.slack_tables.proofs.LatestLemmas.{arrival-late}
 
-module _ (c : Course) (places : List Row) (table : AreKnown c places) (p : Instance) (route : List ℕ) (is : course_of p route ≡ c) where
+module _ (c : Course) (places : List PlaceSlack) (table : AreKnown c places) (p : Instance) (route : List ℕ) (is : course_of p route ≡ c) where
   on : stop_on c ≡ place p route
   on = sym (places-on p route c is)
 
   long : length c.stops ≡ length route
   long = long-on p route c is
 
-  pub start-read : (k : ℕ) (d : Row) → k ≤ length c.stops + 1 → (get_or places k d).at.start ≡ start p route k
+  pub start-read : (k : ℕ) (d : PlaceSlack) → k ≤ length c.stops + 1 → (get_or places k d).at.start ≡ start p route k
   start-read k d h = let count = table.long in (table.known k d (omega arith)).at.start ∙ (ap (λ f. start_along f k) on ∙ sym (start-is p route k))
 
-  pub stop-read : (k : ℕ) (d : Row) → k ≤ length c.stops + 1 → (get_or places k d).at.stop ≡ place p route k
+  pub stop-read : (k : ℕ) (d : PlaceSlack) → k ≤ length c.stops + 1 → (get_or places k d).at.stop ≡ place p route k
   stop-read k d h = let count = table.long in (table.known k d (omega arith)).at.stop ∙ ap (λ f. f k) on
 
-  pub load-read : (k : ℕ) (d : Row) → k ≤ length c.stops + 1 → (get_or places k d).at.load ≡ load p route k
+  pub load-read : (k : ℕ) (d : PlaceSlack) → k ≤ length c.stops + 1 → (get_or places k d).at.load ≡ load p route k
   load-read k d h = let count = table.long in (table.known k d (omega arith)).at.load ∙ (ap (λ f. load_along f k) on ∙ sym (load-is p route k))
 
-  pub length-read : (d : Row) → (get_or places (length places - 1) d).at.distance ≡ route_length p route
+  pub length-read : (d : PlaceSlack) → (get_or places (length places - 1) d).at.distance ≡ route_length p route
   length-read d =
       let end : length places - 1 ≡ length route + 1 = omega (arith, long) in
       (table.known (length places - 1) d (omega arith)).at.distance
@@ -48,7 +48,7 @@ module _ (c : Course) (places : List Row) (table : AreKnown c places) (p : Insta
       subst (λ f. moved_along f i t k ≤ (f k).latest) (sym on)
       (subst (λ x. x ≤ (place p route k).latest) (moved-is p route i t k) (goes kind k h (omega (arith, long))))
 
-  pub latest-read : (k : ℕ) (d : Row) → c.kind ≡ LiLim → k < length c.stops + 1 → IsLatestStart p route k (get_or places k d).latest_start
+  pub latest-read : (k : ℕ) (d : PlaceSlack) → c.kind ≡ LiLim → k < length c.stops + 1 → IsLatestStart p route k (get_or places k d).latest_start
   latest-read k d lilim h = record {
     goes_on =
         goes-to k (get_or places k d).latest_start

@@ -8,7 +8,7 @@ use Rattle.slack_tables.specs.Best.{ComesFirst, IsFirstOf}
 use Rattle.slack_tables.specs.Driven.{with_single, with_pair}
 use Rattle.slack_tables.specs.Scan.{PutsSingle, AddsSingle, PutsPair, AddsPair, PutsDelivery, AddsDelivery, none_below, offered, accepted}
 use Rattle.slack_tables.specs.declared.progress.Limits.{Limits}
-use Rattle.slack_tables.specs.declared.progress.Row.{Row}
+use Rattle.slack_tables.specs.declared.progress.PlaceSlack.{PlaceSlack}
 use Rattle.slack_tables.specs.declared.scan.Addition.{Addition}
 use Rattle.slack_tables.specs.declared.scan.Best.{Best}
 use Rattle.slack_tables.proofs.FirstLemmas.{SoFar, first-pickup, first-delivery, none-yet, none-here, better-here, all-seen, rest-dear, offered-more}
@@ -24,7 +24,7 @@ pub bits-below : (x y : ℤ) → SFits w64 x → to_z w64 (of_z w64 x) ≤ℤ y 
 bits-below x y fits le = subst (λ z. z ≤ℤ y) (to_z-of_z w64 x fits) le
 
 -- ---- a single
-module _ (limits : Limits) (places : List Row) (s : Stop) (kept : ℕ) (d : Row) where
+module _ (limits : Limits) (places : List PlaceSlack) (s : Stop) (kept : ℕ) (d : PlaceSlack) where
   pub order : (a b : Addition) → PutsSingle limits places s kept d a → PutsSingle limits places s kept d b → a.distance ≤ℤ b.distance
       → a.pickup < b.pickup → ComesFirst a b
   order a b _ _ le lt = first-pickup a b le lt
@@ -51,7 +51,7 @@ module _ (limits : Limits) (places : List Row) (s : Stop) (kept : ℕ) (d : Row)
       (λ a is. let within = is.within in omega arith)
 
 -- ---- the delivery of a pair
-module _ (limits : Limits) (places : List Row) (p q : Stop) (i : ℕ) (d : Row) where
+module _ (limits : Limits) (places : List PlaceSlack) (p q : Stop) (i : ℕ) (d : PlaceSlack) where
   pub order_here : (a b : Addition) → PutsDelivery limits places p q i d a → PutsDelivery limits places p q i d b
       → a.distance ≤ℤ b.distance → a.delivery < b.delivery → ComesFirst a b
   order_here a b is it le lt = first-delivery a b le (is.here ∙ sym (it.here)) (omega arith)
@@ -89,7 +89,7 @@ module _ (limits : Limits) (places : List Row) (p q : Stop) (i : ℕ) (d : Row) 
       absurd (omega (arith, ints)))
 
 -- ---- a pair
-module _ (limits : Limits) (places : List Row) (p q : Stop) (kept : ℕ) (d : Row) where
+module _ (limits : Limits) (places : List PlaceSlack) (p q : Stop) (kept : ℕ) (d : PlaceSlack) where
   pub order_pair : (a b : Addition) → PutsPair limits places p q kept d a → PutsPair limits places p q kept d b
       → a.distance ≤ℤ b.distance → a.pickup < b.pickup → ComesFirst a b
   order_pair a b _ _ le lt = first-pickup a b le lt

@@ -22,7 +22,7 @@ use Rattle.slack_tables.specs.Scan.{AddsSingle, AddsPair}
 use Rattle.slack_tables.specs.Span.{IsInside, IsSmallSpan, IsSpanTo, AreEnds, IsSpan, IsNearest}
 use Rattle.slack_tables.specs.Span.{IsFloor, IsFloorOfPair, IsFarSingle, IsFarPair, AreHome, AreLaden, edge_of}
 use Rattle.slack_tables.specs.declared.progress.Limits.{Limits}
-use Rattle.slack_tables.specs.declared.progress.Row.{Row}
+use Rattle.slack_tables.specs.declared.progress.PlaceSlack.{PlaceSlack}
 use Rattle.slack_tables.specs.declared.ride.Ride.{Ride}
 use Rattle.slack_tables.specs.declared.span.Span.{Span}
 use Rattle.slack_tables.specs.declared.span.Nearest.{Nearest}
@@ -79,8 +79,8 @@ apart-le law a b x y w least gap_x gap_y =
     least (distance a b) (omega arith)
 
 -- ---- the span, place after place
-pub span-more : (places : List Row) (k : ℕ) (old new : Span) (before here : Row) → 1 ≤ k → IsSpanTo old places k
-    → ((d : Row) → before ≡ get_or places (k - 1) d) → ((d : Row) → here ≡ get_or places k d) → IsInside new here.at.stop
+pub span-more : (places : List PlaceSlack) (k : ℕ) (old new : Span) (before here : PlaceSlack) → 1 ≤ k → IsSpanTo old places k
+    → ((d : PlaceSlack) → before ≡ get_or places (k - 1) d) → ((d : PlaceSlack) → here ≡ get_or places k d) → IsInside new here.at.stop
     → ((s : Stop) → IsInside old s → IsInside new s) → edge_of before here ≤ℤ new.longest → old.longest ≤ℤ new.longest → IsSmallSpan new
     → IsSpanTo new places (k + 1)
 span-more places k old new before here some is is_before is_here inside wider edge longer small = record {
@@ -89,18 +89,18 @@ span-more places k old new before here some is is_before is_here inside wider ed
   small = small;
 }
   where
-    inside-by : (m : ℕ) (d : Row) → 1 ≤ m → m < k + 1 → (m < k) ⊎ (k ≤ m) → IsInside new (get_or places m d).at.stop
+    inside-by : (m : ℕ) (d : PlaceSlack) → 1 ≤ m → m < k + 1 → (m < k) ⊎ (k ≤ m) → IsInside new (get_or places m d).at.stop
     inside-by m d h l (inl less) = wider _ (is.inside m d h less)
     inside-by m d h l (inr more) =
-        let same : k ≡ m = omega arith in subst (λ (e : Row). IsInside new e.at.stop) (is_here d ∙ ap (λ n. get_or places n d) same) inside
+        let same : k ≡ m = omega arith in subst (λ (e : PlaceSlack). IsInside new e.at.stop) (is_here d ∙ ap (λ n. get_or places n d) same) inside
 
-    longest-by : (m : ℕ) (d : Row) → 1 ≤ m → m + 1 < k + 1 → (m + 1 < k) ⊎ (k ≤ m + 1) → edge_of (get_or places m d) (get_or places (m + 1) d) ≤ℤ new.longest
+    longest-by : (m : ℕ) (d : PlaceSlack) → 1 ≤ m → m + 1 < k + 1 → (m + 1 < k) ⊎ (k ≤ m + 1) → edge_of (get_or places m d) (get_or places (m + 1) d) ≤ℤ new.longest
     longest-by m d h l (inl less) = let le = is.longest m d h less in omega (arith, ints)
     longest-by m d h l (inr more) =
-        subst (λ (e : Row). edge_of e (get_or places (m + 1) d) ≤ℤ new.longest) (is_before d ∙ ap (λ n. get_or places n d) (omega arith))
-        (subst (λ (e : Row). edge_of before e ≤ℤ new.longest) (is_here d ∙ ap (λ n. get_or places n d) (omega arith)) edge)
+        subst (λ (e : PlaceSlack). edge_of e (get_or places (m + 1) d) ≤ℤ new.longest) (is_before d ∙ ap (λ n. get_or places n d) (omega arith))
+        (subst (λ (e : PlaceSlack). edge_of before e ≤ℤ new.longest) (is_here d ∙ ap (λ n. get_or places n d) (omega arith)) edge)
 
-pub ends-same : (old new : Span) (places : List Row) → new.tips ≡ old.tips → new.load ≡ old.load → AreEnds old places → AreEnds new places
+pub ends-same : (old new : Span) (places : List PlaceSlack) → new.tips ≡ old.tips → new.load ≡ old.load → AreEnds old places → AreEnds new places
 ends-same old new places tips load ends = record {
   first = λ d. subst (λ x. edge_of (get_or places 0 d) (get_or places 1 d) ≤ℤ x) (sym tips) (ends.first d);
   last = λ d. subst (λ x. edge_of (get_or places (length places - 2) d) (get_or places (length places - 1) d) ≤ℤ x) (sym tips) (ends.last d);
@@ -108,13 +108,13 @@ ends-same old new places tips load ends = record {
 }
 
 -- ---- the depot and the loads of a table
-pub home : (c : Course) (places : List Row) → AreKnown c places → AreHome c.depot places
+pub home : (c : Course) (places : List PlaceSlack) → AreKnown c places → AreHome c.depot places
 home c places table = let long = table.long in record {
   first = λ d. (table.known 0 d (omega arith)).at.stop;
   last = λ d. (table.known (length places - 1) d (omega arith)).at.stop ∙ get_or_past (c.depot ∷ c.stops) (length places - 1) c.depot (omega arith);
 }
 
-pub laden : (c : Course) (places : List Row) → AreKnown c places → AreLaden places
+pub laden : (c : Course) (places : List PlaceSlack) → AreKnown c places → AreLaden places
 laden c places table = let long = table.long in record {
   step = λ k d h.
       (let here = (table.known k d (omega arith)).at in
@@ -130,10 +130,10 @@ laden c places table = let long = table.long in record {
 }
 
 -- ---- what a stop adds
-module _ (places : List Row) (depot : Stop) (span : Span) (is : IsSpan span places) (at_home : AreHome depot places) where
+module _ (places : List PlaceSlack) (depot : Stop) (span : Span) (is : IsSpan span places) (at_home : AreHome depot places) where
   -- a stop p comes behind place m and a stop q before the next one, and so much in between
   between-le : (p q : Stop) (to_p to_q : Nearest) → IsNearest span depot p to_p → IsNearest span depot q to_q → (across : ℕ) (x : ℤ)
-      → IsFloorOfPair span to_p to_q across x → (m : ℕ) (d : Row) → m + 1 < length places
+      → IsFloorOfPair span to_p to_q across x → (m : ℕ) (d : PlaceSlack) → m + 1 < length places
       → x ≤ℤ (pos
       ((get_or places m d).at.distance + distance (get_or places m d).at.stop p + across + distance (get_or places (m + 1) d).at.stop q)
       -ℤ pos (get_or places (m + 1) d).at.distance)
@@ -179,7 +179,7 @@ module _ (places : List Row) (depot : Stop) (span : Span) (is : IsSpan span plac
           subst Goal zero_m (let first : Goal 0 = omega (arith, ints) in first)
 
   -- what a stop adds behind place m
-  pub detour-le : (s : Stop) (near : Nearest) → IsNearest span depot s near → (x : ℤ) → IsFloor span near x → (m : ℕ) (d : Row)
+  pub detour-le : (s : Stop) (near : Nearest) → IsNearest span depot s near → (x : ℤ) → IsFloor span near x → (m : ℕ) (d : PlaceSlack)
       → m + 1 < length places → x ≤ℤ detour_of places s m d
   detour-le s near nearest x floor m d within =
       let inside = floor.inside in
@@ -190,7 +190,7 @@ module _ (places : List Row) (depot : Stop) (span : Span) (is : IsSpan span plac
 
   -- what a pair adds whose stops come side by side behind place m
   pub beside-le : (p q : Stop) (to_p to_q : Nearest) → IsNearest span depot p to_p → IsNearest span depot q to_q → (across : ℕ)
-      → across ≤ distance p q → (x : ℤ) → IsFloorOfPair span to_p to_q across x → (m : ℕ) (d : Row) → m + 1 < length places
+      → across ≤ distance p q → (x : ℤ) → IsFloorOfPair span to_p to_q across x → (m : ℕ) (d : PlaceSlack) → m + 1 < length places
       → x ≤ℤ (pos ((get_or places m d).at.distance + distance (get_or places m d).at.stop p + distance p q
       + distance (get_or places (m + 1) d).at.stop q)
       -ℤ pos (get_or places (m + 1) d).at.distance)
@@ -198,7 +198,7 @@ module _ (places : List Row) (depot : Stop) (span : Span) (is : IsSpan span plac
       let le = between-le p q to_p to_q near_p near_q across x floor m d within in omega (arith, ints)
 
 -- ---- a single
-singles-none : (limits : Limits) (places : List Row) (s : Stop) (kept : ℕ) (below : ℤ) (d : Row)
+singles-none : (limits : Limits) (places : List PlaceSlack) (s : Stop) (kept : ℕ) (below : ℤ) (d : PlaceSlack)
     → ((i : ℕ) (x : ℤ) → 1 ≤ i → i < length places → with_single limits places s i d ≡ Some x → below ≤ℤ x)
     → IsFirstOf (AddsSingle limits places s kept below d) None
 singles-none limits places s kept below d dear = λ a is.
@@ -207,7 +207,7 @@ singles-none limits places s kept below d dear = λ a is.
     let less = is.1 in
     absurd (omega (arith, ints)))
 
-pub far-single : (limits : Limits) (places : List Row) (depot s : Stop) (kept : ℕ) (below : ℤ) (d : Row) (span : Span)
+pub far-single : (limits : Limits) (places : List PlaceSlack) (depot s : Stop) (kept : ℕ) (below : ℤ) (d : PlaceSlack) (span : Span)
     → IsSpan span places → AreHome depot places → IsFarSingle span depot s below → IsFirstOf (AddsSingle limits places s kept below d) None
 far-single limits places depot s kept below d span is at_home dear =
     singles-none limits places s kept below d
@@ -225,7 +225,7 @@ far-single limits places depot s kept below d span is at_home dear =
     omega (arith, ints)))
 
 -- what a served stop brings on board fits
-borne : (limits : Limits) (r : Ride) (service to : ℕ) (s : Stop) (from : ℕ) (tail : Row) (x : ℤ)
+borne : (limits : Limits) (r : Ride) (service to : ℕ) (s : Stop) (from : ℕ) (tail : PlaceSlack) (x : ℤ)
     → served limits r service to s from tail ≡ Some x
     → (r.load +ℤ s.demand +ℤ tail.at.stop.demand -ℤ tail.at.load +ℤ tail.most_load) ≤ℤ pos limits.capacity
 borne limits r service to s from tail x is =
@@ -234,7 +234,7 @@ borne limits r service to s from tail x is =
     (is_borne limits (driven (driven r service to s) s.service from tail.at.stop) tail) on).1 in
     int_le-true _ _ (and_parts (int_le (r.load +ℤ s.demand +ℤ tail.at.stop.demand -ℤ tail.at.load +ℤ tail.most_load) (pos limits.capacity)) _ there).0
 
-pub full-single : (limits : Limits) (places : List Row) (s : Stop) (kept : ℕ) (below : ℤ) (d : Row) (span : Span) → IsSpan span places
+pub full-single : (limits : Limits) (places : List PlaceSlack) (s : Stop) (kept : ℕ) (below : ℤ) (d : PlaceSlack) (span : Span) → IsSpan span places
     → AreLaden places → pos limits.capacity <ℤ (span.load +ℤ s.demand) → IsFirstOf (AddsSingle limits places s kept below d) None
 full-single limits places s kept below d span is laden over =
     singles-none limits places s kept below d
@@ -249,7 +249,7 @@ full-single limits places s kept below d span is laden over =
     absurd (omega (arith, ints))))
 
 -- ---- a pair
-pub far-pair : (limits : Limits) (places : List Row) (depot p q : Stop) (kept : ℕ) (below : ℤ) (d : Row) (span : Span)
+pub far-pair : (limits : Limits) (places : List PlaceSlack) (depot p q : Stop) (kept : ℕ) (below : ℤ) (d : PlaceSlack) (span : Span)
     → AreLinked places → IsSpan span places → AreHome depot places → IsFarPair span depot p q below
     → IsFirstOf (AddsPair limits places p q kept below d) None
 far-pair limits places depot p q kept below d span linked is at_home dear = λ a adds.
@@ -292,7 +292,7 @@ far-pair limits places depot p q kept below d span linked is at_home dear = λ a
             omega (arith, ints)
 
 -- ---- the span of the first stop alone
-pub span-begun : (places : List Row) (first : Row) (t o : ℤ) → ((d : Row) → first ≡ get_or places 1 d) → unsigned_abs t ≤ 2 ^ 52
+pub span-begun : (places : List PlaceSlack) (first : PlaceSlack) (t o : ℤ) → ((d : PlaceSlack) → first ≡ get_or places 1 d) → unsigned_abs t ≤ 2 ^ 52
     → unsigned_abs o ≤ 2 ^ 52
     → IsSpanTo
     (record {
@@ -307,7 +307,7 @@ pub span-begun : (places : List Row) (first : Row) (t o : ℤ) → ((d : Row) �
 span-begun places first t o is_first tips load = record {
   inside = λ k d h l.
       (let one : 1 ≡ k = omega arith in
-      subst (λ (e : Row). IsInside
+      subst (λ (e : PlaceSlack). IsInside
       (record {
         west = first.at.stop.x;
         east = first.at.stop.x;

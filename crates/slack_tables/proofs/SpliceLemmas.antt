@@ -17,7 +17,7 @@ use Rattle.slack_tables.specs.Inside.{IsInLimits}
 use Rattle.slack_tables.specs.Places.{IsAt, IsKnown}
 use Rattle.slack_tables.specs.declared.progress.Limits.{Limits}
 use Rattle.slack_tables.specs.declared.progress.Progress.{Progress}
-use Rattle.slack_tables.specs.declared.progress.Row.{Row}
+use Rattle.slack_tables.specs.declared.progress.PlaceSlack.{PlaceSlack}
 use Rattle.slack_tables.proofs.AlongLemmas.{start-next, load-next, length-next, spliced-start, spliced-load, spliced-length}
 
 -- ---- tests
@@ -164,7 +164,7 @@ module _ (limits : Limits) (a b : ℕ → Stop) (n s rest : ℕ) (same : (k : �
       let le' : moved_along a n (start_along b s) (n + (k - n)) ≤ (a (n + (k - n))).latest = rw (← spliced-start a b n s same (k - n), ← same (k - n)) le in
       subst (λ i. moved_along a n (start_along b s) i ≤ (a i).latest) (sym (omega arith)) le'
 
-  module _ (tail : Row) (known : IsKnown limits.kind a (n + rest) n tail) (late : (a n).latest ≤ 100000000) where
+  module _ (tail : PlaceSlack) (known : IsKnown limits.kind a (n + rest) n tail) (late : (a n).latest ≤ 100000000) where
     -- the load there and the time there, by what the table knows of the place
     bears-true : (at : Progress) → IsAt b s at → Keeps limits b s → is_borne limits (ride_of at) tail ≡ true → (k : ℕ) → s < k → k ≤ s + rest → Keeps limits b k
     bears-true at is here h k m l =

@@ -22,11 +22,11 @@ use Rattle.slack_tables.specs.Insertion.{KeepsLimits}
 use Rattle.slack_tables.specs.Inside.{stops_within, IsInLimits, AreKnown}
 use Rattle.slack_tables.specs.Opened.{AreOpen}
 use Rattle.slack_tables.specs.Places.{IsKnown}
-use Rattle.slack_tables.specs.declared.progress.Row.{Row}
+use Rattle.slack_tables.specs.declared.progress.PlaceSlack.{PlaceSlack}
 use Rattle.slack_tables.proofs.CourseLemmas.{place-on, places-on, limits-to}
 use Rattle.slack_tables.proofs.KnownLemmas.{timely, known, small, within}
 
-module _ (p : Instance) (route : List ℕ) (valid : IsInstance p) (keeps : KeepsLimits p route) (old : List Row)
+module _ (p : Instance) (route : List ℕ) (valid : IsInstance p) (keeps : KeepsLimits p route) (old : List PlaceSlack)
     (opened : AreOpen (place p route) old) (long : length old ≡ length route + 2) where
   limits : IsInLimits p.kind p.capacity (place p route) (length route + 1)
   limits = limits-to p route valid.depot.demand keeps
@@ -34,31 +34,31 @@ module _ (p : Instance) (route : List ℕ) (valid : IsInstance p) (keeps : Keeps
   pub route_timely : EachIsTimely p.kind old
   route_timely = timely p.kind p.capacity (place p route) (length route + 1) limits old opened (omega arith)
 
-  module _ (new : List Row) (same_length : length new ≡ length old) (few : length route ≤ 40001) (filled : IsFilled p.kind old new) where
-    known-at : (k : ℕ) (d : Row) → k ≤ length route + 1 → IsKnown p.kind (place p route) (length route + 1) k (get_or new k d)
+  module _ (new : List PlaceSlack) (same_length : length new ≡ length old) (few : length route ≤ 40001) (filled : IsFilled p.kind old new) where
+    known-at : (k : ℕ) (d : PlaceSlack) → k ≤ length route + 1 → IsKnown p.kind (place p route) (length route + 1) k (get_or new k d)
     known-at = known p.kind p.capacity (place p route) (length route + 1) limits old opened (omega arith) new filled
 
-    stops-at : (d : Row) (i : ℕ) → i < length route → get_or (stops_within new) i p.depot ≡ get_or (map (stop_numbered p) route) i p.depot
+    stops-at : (d : PlaceSlack) (i : ℕ) → i < length route → get_or (stops_within new) i p.depot ≡ get_or (map (stop_numbered p) route) i p.depot
     stops-at d i h =
         let rest = take (length new - 2) (drop 1 new) in
         let rest_long : length (take (length new - 2) (drop 1 new)) ≡ length route =
         omega (arith, length-take (length new - 2) (drop 1 new), length-drop 1 new) in
-        let read : get_or (stops_within new) i p.depot ≡ (get_or rest i d).at.stop = get_or-map (λ (e : Row). e.at.stop) rest i d p.depot (omega arith) in
+        let read : get_or (stops_within new) i p.depot ≡ (get_or rest i d).at.stop = get_or-map (λ (e : PlaceSlack). e.at.stop) rest i d p.depot (omega arith) in
         let there : get_or rest i d ≡ get_or new (1 + i) d = get_or-take (length new - 2) (drop 1 new) i d (omega arith) ∙ get_or_after_one new i d in
         let stop : (get_or new (1 + i) d).at.stop ≡ place p route (suc i) = (known-at (1 + i) d (omega arith)).at.stop ∙ ap (place p route) (omega arith) in
         let far : get_or (map (stop_numbered p) route) i p.depot ≡ place p route (suc i) = sym (place-on p route (suc i)) in
         read ∙ (ap (λ e. e.at.stop) there ∙ (stop ∙ sym far))
 
-    stops-are : (d : Row) → stops_within new ≡ map (stop_numbered p) route
+    stops-are : (d : PlaceSlack) → stops_within new ≡ map (stop_numbered p) route
     stops-are d =
         let rest_long : length (take (length new - 2) (drop 1 new)) ≡ length route =
         omega (arith, length-take (length new - 2) (drop 1 new), length-drop 1 new) in
-        let short : length (stops_within new) ≡ length route = length-map (take (length new - 2) (drop 1 new)) (λ (e : Row). e.at.stop) ∙ rest_long in
+        let short : length (stops_within new) ≡ length route = length-map (take (length new - 2) (drop 1 new)) (λ (e : PlaceSlack). e.at.stop) ∙ rest_long in
         ext_get_or p.depot (stops_within new) (map (stop_numbered p) route) (short ∙ sym (length-map route (stop_numbered p)))
         (λ i h. stops-at d i (omega arith))
 
     -- what contracts see is the route's course
-    pub course-is : (d : Row)
+    pub course-is : (d : PlaceSlack)
         → ◌≡◌ {A = Course} (record { kind = p.kind; capacity = p.capacity; depot = p.depot; stops = stops_within new }) (course_of p route)
     course-is d = ap (λ (ss : List Stop). record { kind = p.kind; capacity = p.capacity; depot = p.depot; stops = ss }) (stops-are d)
 

@@ -20,7 +20,7 @@ use Rattle.slack_tables.specs.Scan.{AddsPair}
 use Rattle.slack_tables.specs.Walk.{walk_to}
 use Rattle.slack_tables.specs.declared.progress.Limits.{Limits}
 use Rattle.slack_tables.specs.declared.progress.Progress.{Progress}
-use Rattle.slack_tables.specs.declared.progress.Row.{Row}
+use Rattle.slack_tables.specs.declared.progress.PlaceSlack.{PlaceSlack}
 use Rattle.slack_tables.specs.declared.scan.Addition.{Addition}
 use Rattle.slack_tables.proofs.AlongLemmas.{start-next}
 use Rattle.slack_tables.proofs.BestLemmas.{first-same}
@@ -30,7 +30,7 @@ use Rattle.slack_tables.proofs.LatestLemmas.{IsBound, bound-before}
 use Rattle.slack_tables.proofs.WalkLemmas.{and_then-none, walk-first, walk-more, distance-back}
 
 -- the places of a table are tight
-pub tight : (c : Course) (places : List Row) → AreKnown c places → AreTight c.kind places
+pub tight : (c : Course) (places : List PlaceSlack) → AreKnown c places → AreTight c.kind places
 unfolding IsBound
 tight c places table = λ lilim k d h.
     let here = table.known k d (omega arith) in
@@ -56,7 +56,7 @@ tight c places table = λ lilim k d h.
     rw (here.at.stop, next.at.stop) refl in
     omega arith
 
-module _ (limits : Limits) (places : List Row) (d : Row) (lilim : limits.kind ≡ LiLim) (are : AreTight limits.kind places) (law : DetoursSaveAtMostOne) where
+module _ (limits : Limits) (places : List PlaceSlack) (d : PlaceSlack) (lilim : limits.kind ≡ LiLim) (are : AreTight limits.kind places) (law : DetoursSaveAtMostOne) where
   -- too late for place k by more than 1
   abbrev pub IsLateFor : Progress → ℕ → Type 0
   IsLateFor a k = due_of (get_or places k d) + 1 < a.start + a.stop.service + distance a.stop (get_or places k d).at.stop
@@ -116,9 +116,9 @@ module _ (limits : Limits) (places : List Row) (d : Row) (lilim : limits.kind �
         late-between a (j - 1) q (subst (IsLateFor a) here (walk-late (j - (i + 1)) a (omega arith) (ap (walk_to limits places p i d) far ∙ there)))))
 
 -- ---- what the code asks
-module _ (limits : Limits) (places : List Row) (p : Stop) (i : ℕ) (are : AreTight limits.kind places) (law : DetoursSaveAtMostOne) where
+module _ (limits : Limits) (places : List PlaceSlack) (p : Stop) (i : ℕ) (are : AreTight limits.kind places) (law : DetoursSaveAtMostOne) where
   -- a place that has to be started before the pickup's window opens
-  pub closed-due : (e : Row) → ((d : Row) → e ≡ get_or places i d) → is_due_before limits.kind e p.earliest ≡ true → IsClosed limits places p i
+  pub closed-due : (e : PlaceSlack) → ((d : PlaceSlack) → e ≡ get_or places i d) → is_due_before limits.kind e p.earliest ≡ true → IsClosed limits places p i
   closed-due e is early = by limits.kind refl
     where
       by : (k : Kind) → limits.kind ≡ k → IsClosed limits places p i
@@ -131,15 +131,15 @@ module _ (limits : Limits) (places : List Row) (p : Stop) (i : ℕ) (are : AreTi
       by Vrp vrp = absurd (let no : false ≡ true = subst (λ k. is_due_before k e p.earliest ≡ true) vrp early in cc)
 
   -- a pickup that is late by ways from below, or makes the place behind it late
-  pub closed-late : limits.kind ≡ LiLim → (before next : Row) (to from : ℕ) → ((d : Row) → before ≡ get_or places (i - 1) d)
-      → ((d : Row) → next ≡ get_or places i d) → ((d : Row) → to ≤ distance (get_or places (i - 1) d).at.stop p)
-      → ((d : Row) → from ≤ distance (get_or places i d).at.stop p) → comes_late before next p to from ≡ true → IsClosed limits places p i
+  pub closed-late : limits.kind ≡ LiLim → (before next : PlaceSlack) (to from : ℕ) → ((d : PlaceSlack) → before ≡ get_or places (i - 1) d)
+      → ((d : PlaceSlack) → next ≡ get_or places i d) → ((d : PlaceSlack) → to ≤ distance (get_or places (i - 1) d).at.stop p)
+      → ((d : PlaceSlack) → from ≤ distance (get_or places i d).at.stop p) → comes_late before next p to from ≡ true → IsClosed limits places p i
   closed-late lilim before next to from is_before is_next is_to is_from late = λ q j d. closed-by limits places d lilim are law p i (first d) q j
     where
       start : ℕ
       start = max (before.at.start + before.at.stop.service + to) p.earliest
 
-      first : (d : Row) (a : Progress) → stepped limits (get_or places (i - 1) d).at p ≡ Some a
+      first : (d : PlaceSlack) (a : Progress) → stepped limits (get_or places (i - 1) d).at p ≡ Some a
           → due_of (get_or places i d) + 1 < a.start + a.stop.service + distance a.stop (get_or places i d).at.stop
       first d a step = elim (or_cases (nat_lt p.latest start) (nat_lt (due_of next + 1) (start + p.service + from)) late) [
         | inl over ↦ (let less = ltb-true p.latest start over in let le = there in let in_time = after.2 in absurd (omega arith))
@@ -163,13 +163,13 @@ module _ (limits : Limits) (places : List Row) (p : Stop) (i : ℕ) (are : AreTi
           there =
               let window = (step-start limits (get_or places (i - 1) d).at a p step).0 in
               let arrival = after.1 in
-              let left : before.at.start ≡ (get_or places (i - 1) d).at.start = ap (λ (e : Row). e.at.start) (is_before d) in
-              let stay : before.at.stop.service ≡ (get_or places (i - 1) d).at.stop.service = ap (λ (e : Row). e.at.stop.service) (is_before d) in
+              let left : before.at.start ≡ (get_or places (i - 1) d).at.start = ap (λ (e : PlaceSlack). e.at.start) (is_before d) in
+              let stay : before.at.stop.service ≡ (get_or places (i - 1) d).at.stop.service = ap (λ (e : PlaceSlack). e.at.stop.service) (is_before d) in
               let way = is_to d in
               omega arith
 
 -- ---- one place after another
-pub closed-more : (limits : Limits) (places : List Row) (p : Stop) (m n : ℕ) → AreClosed limits places p m n
+pub closed-more : (limits : Limits) (places : List PlaceSlack) (p : Stop) (m n : ℕ) → AreClosed limits places p m n
     → IsClosed limits places p n → AreClosed limits places p m (n + 1)
 closed-more limits places p m n are is = λ i behind before. by i behind before (cases_lt i n)
   where
@@ -178,15 +178,15 @@ closed-more limits places p m n are is = λ i behind before. by i behind before 
     by i behind before (inr last) = let same : n ≡ i = omega arith in subst (IsClosed limits places p) same is
 
 -- behind a place that is started after the pickup's latest time
-pub closed-past : (limits : Limits) (places : List Row) (p : Stop) (i : ℕ) (e : Row) → AreRising places → 1 ≤ i
-    → ((d : Row) → e ≡ get_or places (i - 1) d) → is_in_time limits.kind e.at.start p.latest ≡ false
+pub closed-past : (limits : Limits) (places : List PlaceSlack) (p : Stop) (i : ℕ) (e : PlaceSlack) → AreRising places → 1 ≤ i
+    → ((d : PlaceSlack) → e ≡ get_or places (i - 1) d) → is_in_time limits.kind e.at.start p.latest ≡ false
     → AreClosed limits places p (i - 1) (length places)
 closed-past limits places p i e rising one is late = λ k behind before q j d order last.
     late-pickup limits places p q d rising i k j one (omega arith) order last
-    (subst (λ (e : Row). is_in_time limits.kind e.at.start p.latest ≡ false) (is d) late)
+    (subst (λ (e : PlaceSlack). is_in_time limits.kind e.at.start p.latest ≡ false) (is d) late)
 
 -- ---- what is closed adds nothing
-pub open-only : (limits : Limits) (places : List Row) (p q : Stop) (kept first : ℕ) (below : ℤ) (d : Row) (o : Option Addition)
+pub open-only : (limits : Limits) (places : List PlaceSlack) (p q : Stop) (kept first : ℕ) (below : ℤ) (d : PlaceSlack) (o : Option Addition)
     → kept < first → AreClosed limits places p kept first → IsFirstOf (AddsPair limits places p q (first - 1) below d) o
     → IsFirstOf (AddsPair limits places p q kept below d) o
 open-only limits places p q kept first below d o later closed is =
@@ -204,7 +204,7 @@ open-only limits places p q kept first below d o later closed is =
     by a adds (inl before) = absurd (none-some a.distance (sym (closed a.pickup adds.0.behind before q a.delivery d adds.0.order adds.0.within) ∙ adds.0.added))
     by a adds (inr behind) = omega arith
 
-pub none-open : (limits : Limits) (places : List Row) (p q : Stop) (kept : ℕ) (below : ℤ) (d : Row)
+pub none-open : (limits : Limits) (places : List PlaceSlack) (p q : Stop) (kept : ℕ) (below : ℤ) (d : PlaceSlack)
     → AreClosed limits places p kept (length places) → IsFirstOf (AddsPair limits places p q kept below d) None
 none-open limits places p q kept below d closed = λ a adds.
     none-some a.distance

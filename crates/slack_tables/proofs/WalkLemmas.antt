@@ -15,7 +15,7 @@ use Rattle.slack_tables.specs.Scan.{served_single, offered, picked_up, gone_to, 
 use Rattle.slack_tables.specs.Walk.{walk_to, IsUnderway, IsNearWay}
 use Rattle.slack_tables.specs.declared.progress.Limits.{Limits}
 use Rattle.slack_tables.specs.declared.progress.Progress.{Progress}
-use Rattle.slack_tables.specs.declared.progress.Row.{Row}
+use Rattle.slack_tables.specs.declared.progress.PlaceSlack.{PlaceSlack}
 use Rattle.slack_tables.specs.declared.ride.Ride.{Ride}
 use Rattle.slack_tables.specs.declared.scan.Best.{Best}
 use Rattle.slack_tables.specs.declared.scan.Trip.{Trip}
@@ -60,7 +60,7 @@ stepped-is limits r a s = by (is_kept limits (driven r a.service (distance a s) 
     by false = refl
 
 -- every price is below the greatest number
-pub served-any : (limits : Limits) (a : Progress) (s : Stop) (tail e : Row) (r : Ride) (service to from : ℕ) → r ≡ ride_of a
+pub served-any : (limits : Limits) (a : Progress) (s : Stop) (tail e : PlaceSlack) (r : Ride) (service to from : ℕ) → r ≡ ride_of a
     → service ≡ a.stop.service → to ≡ distance a.stop s → from ≡ distance tail.at.stop s → e ≡ tail → r.distance + to + from ≤ 2 ^ 60
     → served_below (pos 9223372036854775807) limits r service to s from e ≡ with_stop limits a s tail
 served-any limits a s tail e r service to from is_ride is_service is_to is_from is_tail few =
@@ -83,7 +83,7 @@ offer-below best kept x i j = by kept (int_lt x best.bound) refl
     by true false h = rw h refl
 
 -- ---- along the places of the table
-module _ (limits : Limits) (places : List Row) (p : Stop) (i : ℕ) (d : Row) where
+module _ (limits : Limits) (places : List PlaceSlack) (p : Stop) (i : ℕ) (d : PlaceSlack) where
   pub walk-first : walk_to limits places p i d (i + 1) ≡ stepped limits (get_or places (i - 1) d).at p
   unfolding walk_to
   walk-first = let none : i + 1 - (i + 1) ≡ 0 = omega arith in ap (walked limits places p i d) none
@@ -99,20 +99,20 @@ module _ (limits : Limits) (places : List Row) (p : Stop) (i : ℕ) (d : Row) wh
       ∙ ap (λ k. option_and_then (λ at. stepped limits at (get_or places k d).at.stop) (walked limits places p i d (j - (i + 1)))) here
 
   -- the same by rides
-  pub first-ride : (before : Row) (to : ℕ) (o : Option Ride) → before ≡ get_or places (i - 1) d → to ≡ distance before.at.stop p
+  pub first-ride : (before : PlaceSlack) (to : ℕ) (o : Option Ride) → before ≡ get_or places (i - 1) d → to ≡ distance before.at.stop p
       → o ≡ ridden limits (ride_of before.at) before.at.stop.service to p
       → walk_to limits places p i d (i + 1) ≡ option_map (λ r. ride_at r p) o
   first-ride before to o is_before is_to made =
-      walk-first ∙ (ap (λ (e : Row). stepped limits e.at p) (sym is_before)
+      walk-first ∙ (ap (λ (e : PlaceSlack). stepped limits e.at p) (sym is_before)
       ∙ (stepped-is limits (ride_of before.at) before.at.stop p
       ∙ ap (λ o. option_map (λ r. ride_at r p) o) (sym (made ∙ rw is_to refl))))
 
-  pub next-ride : (j : ℕ) (r : Ride) (a : Stop) (e : Row) (leg : ℕ) (o : Option Ride) → i < j → j ≤ length places
+  pub next-ride : (j : ℕ) (r : Ride) (a : Stop) (e : PlaceSlack) (leg : ℕ) (o : Option Ride) → i < j → j ≤ length places
       → walk_to limits places p i d j ≡ Some (ride_at r a) → e ≡ get_or places (j - 1) d → leg ≡ distance a e.at.stop
       → o ≡ ridden limits r a.service leg e.at.stop → walk_to limits places p i d (j + 1) ≡ option_map (λ r. ride_at r e.at.stop) o
   next-ride j r a e leg o order within here is_e is_leg made =
       walk-more j order within
-      ∙ (ap (λ (e : Row). option_and_then (λ at. stepped limits at e.at.stop) (walk_to limits places p i d j)) (sym is_e)
+      ∙ (ap (λ (e : PlaceSlack). option_and_then (λ at. stepped limits at e.at.stop) (walk_to limits places p i d j)) (sym is_e)
       ∙ (ap (λ o. option_and_then (λ at. stepped limits at e.at.stop) o) here ∙
       (stepped-is limits r a e.at.stop ∙ ap (λ o. option_map (λ r. ride_at r e.at.stop) o) (sym (made ∙ rw is_leg refl)))))
 
@@ -139,7 +139,7 @@ module _ (limits : Limits) (places : List Row) (p : Stop) (i : ℕ) (d : Row) wh
     pair-served j r a here = ap (λ o. option_and_then (λ at. with_stop limits at q (get_or places (j - 1) d)) o) here
 
 -- ---- the ways of the table
-pub linked-at : (places : List Row) → AreLinked places → (j : ℕ) (d : Row) → 1 ≤ j → j < length places
+pub linked-at : (places : List PlaceSlack) → AreLinked places → (j : ℕ) (d : PlaceSlack) → 1 ≤ j → j < length places
     → (get_or places j d).at.distance
     ≡ (get_or places (j - 1) d).at.distance + distance (get_or places (j - 1) d).at.stop (get_or places j d).at.stop
 linked-at places linked j d one within =
@@ -149,8 +149,8 @@ linked-at places linked j d one within =
     (linked (j - 1) d (omega arith))
 
 -- ---- the loop over the delivery's places
-module _ (limits : Limits) (places : List Row) (p q : Stop) (i : ℕ) (d : Row) where
-  module _ (t : Trip) (before : Row) (to onward : ℕ) (is_limits : t.limits ≡ limits) (is_p : t.pickup ≡ p)
+module _ (limits : Limits) (places : List PlaceSlack) (p q : Stop) (i : ℕ) (d : PlaceSlack) where
+  module _ (t : Trip) (before : PlaceSlack) (to onward : ℕ) (is_limits : t.limits ≡ limits) (is_p : t.pickup ≡ p)
       (is_before : before ≡ get_or places (i - 1) d) (is_to : to ≡ distance before.at.stop p) where
     first : walk_to limits places p i d (i + 1) ≡ option_map (λ r. ride_at r p) (ridden t.limits (ride_of before.at) before.at.stop.service to t.pickup)
     first = first-ride limits places p i d before to _ is_before is_to (rw (is_limits, is_p) refl)
@@ -239,7 +239,7 @@ module _ (limits : Limits) (places : List Row) (p q : Stop) (i : ℕ) (d : Row) 
         (walk-next is ∙ ap (λ o. option_map (λ r. ride_at r (get_or places (j - 1) d).at.stop) o) stays)
 
     -- what the loop offers is what the delivery at place j adds
-    pub offered-here : IsUnderway limits places p q i j d on → (best next : Best) (tail : Row) (from : ℕ)
+    pub offered-here : IsUnderway limits places p q i j d on → (best next : Best) (tail : PlaceSlack) (from : ℕ)
         → tail ≡ get_or places (j - 1) d → from ≡ distance tail.at.stop q
         → next ≡ offered best (served_below best.bound limits on.ride on.service on.to_delivery q from tail) i j
         → next ≡ offered best (with_pair limits places p q i j d) i j
@@ -252,11 +252,11 @@ module _ (limits : Limits) (places : List Row) (p q : Stop) (i : ℕ) (d : Row) 
         let there : served limits on.ride is.stop.service (distance is.stop q) q (distance q tail.at.stop) tail
         ≡ served limits on.ride is.stop.service (distance is.stop q) q (distance q (get_or places (j - 1) d).at.stop)
         (get_or places (j - 1) d) =
-        ap (λ (e : Row). served limits on.ride is.stop.service (distance is.stop q) q (distance q e.at.stop) e) is_tail in
+        ap (λ (e : PlaceSlack). served limits on.ride is.stop.service (distance is.stop q) q (distance q e.at.stop) e) is_tail in
         made ∙ (cheap ∙ ap (λ o. offered best o i j) (ways ∙ (there ∙ sym (pair-served limits places p i d q j on.ride is.stop is.walk))))
 
 -- how far it is from where sums would wrap
-pub near-small : (places : List Row) (j : ℕ) (d : Row) (on : Underway) → All IsSmallRow places → length places ≤ 40003 → 1 ≤ j
+pub near-small : (places : List PlaceSlack) (j : ℕ) (d : PlaceSlack) (on : Underway) → All IsSmallRow places → length places ≤ 40003 → 1 ≤ j
     → j ≤ length places → IsNearWay places j d on → IsSmallRide (2 ^ 56) on.ride × (on.onward ≤ 2 ^ 56)
 near-small places j d on small few one within near =
     let place = (small (j - 1) d (omega arith)).at.distance in
@@ -265,7 +265,7 @@ near-small places j d on small few one within near =
     (record { start = omega arith; load = omega arith; distance = omega arith }, omega arith)
 
 -- ---- a single
-pub offered-single : (limits : Limits) (places : List Row) (s : Stop) (i : ℕ) (d : Row) (best next : Best)
+pub offered-single : (limits : Limits) (places : List PlaceSlack) (s : Stop) (i : ℕ) (d : PlaceSlack) (best next : Best)
     → next ≡ offered best (served_single best.bound limits places s i d) i i → next ≡ offered best (with_single limits places s i d) i i
 offered-single limits places s i d best next made =
     let before = get_or places (i - 1) d in

@@ -6,7 +6,7 @@ use Rattle.std.proofs.lemmas.Nat.{mul-le}
 use Rattle.plan_types.specs.Limits.{IsVisit}
 use Rattle.plan_types.specs.declared.requests.Stop.{Stop}
 use Rattle.slack_tables.specs.Legs.{AreLinked}
-use Rattle.slack_tables.specs.declared.progress.Row.{Row}
+use Rattle.slack_tables.specs.declared.progress.PlaceSlack.{PlaceSlack}
 use Rattle.nint_dist.specs.Distance.{distance, DistancesAreNearestRoots}
 
 pub distance_le : DistancesAreNearestRoots → (a b : Stop) → IsVisit a → IsVisit b → distance a b ≤ 2828427
@@ -26,7 +26,7 @@ unfolding distance
 same-way a b c e ax ay bx by = rw (ax, ay, bx, by) refl
 
 -- the way behind a place is the one between stops that stand where its ends are
-pub way_is : (places : List Row) → AreLinked places → (k n : ℕ) (d : Row) (from to : Stop) → n ≡ k + 1 → n < length places
+pub way_is : (places : List PlaceSlack) → AreLinked places → (k n : ℕ) (d : PlaceSlack) (from to : Stop) → n ≡ k + 1 → n < length places
     → (get_or places k d).at.stop.x ≡ from.x → (get_or places k d).at.stop.y ≡ from.y
     → (get_or places n d).at.stop.x ≡ to.x → (get_or places n d).at.stop.y ≡ to.y
     → (get_or places n d).at.distance - (get_or places k d).at.distance ≡ distance from to

@@ -11,11 +11,11 @@ use Rattle.slack_tables.specs.Places.{IsKnown}
 use Rattle.slack_tables.specs.Opened.{IsWithin}
 use Rattle.slack_tables.specs.Span.{IsSpan}
 use Rattle.slack_tables.specs.declared.progress.Limits.{Limits}
-use Rattle.slack_tables.specs.declared.progress.Row.{Row}
+use Rattle.slack_tables.specs.declared.progress.PlaceSlack.{PlaceSlack}
 use Rattle.slack_tables.specs.declared.table.RouteTable.TheInside.{Inside}
 
 -- the stops between the depot's two places
-abbrev pub stops_within : List Row → List Stop
+abbrev pub stops_within : List PlaceSlack → List Stop
 stops_within places = map (λ e. e.at.stop) (take (length places - 2) (drop 1 places))
 
 -- the limits of a problem
@@ -23,7 +23,7 @@ abbrev pub limits_of : Instance → Limits
 limits_of p = record { kind = p.kind; capacity = p.capacity }
 
 -- what contracts see
-abbrev pub course_from : Limits → Stop → List Row → Course
+abbrev pub course_from : Limits → Stop → List PlaceSlack → Course
 course_from limits depot places = record { kind = limits.kind; capacity = limits.capacity; depot = depot; stops = stops_within places }
 
 abbrev pub course_within : Inside → Course
@@ -35,18 +35,18 @@ pub record IsInLimits (kind : Kind) (capacity : ℕ) (at : ℕ → Stop) (last :
   pub window : kind ≡ LiLim → (k : ℕ) → 1 ≤ k → k ≤ last → start_along at k ≤ (at k).latest
 
 -- each place tells what is known of it
-pub record AreKnown (c : Course) (places : List Row) : Type 0 where
+pub record AreKnown (c : Course) (places : List PlaceSlack) : Type 0 where
   pub long : length places ≡ length c.stops + 2
   pub few : length places ≤ 40003
   pub small : All IsSmallRow places
-  pub within : (k : ℕ) (d : Row) → k < length places → IsWithin k (slice_index_or places k d).at
-  pub known : (k : ℕ) (d : Row) → k < length places → IsKnown c.kind (stop_on c) (length c.stops + 1) k (slice_index_or places k d)
+  pub within : (k : ℕ) (d : PlaceSlack) → k < length places → IsWithin k (slice_index_or places k d).at
+  pub known : (k : ℕ) (d : PlaceSlack) → k < length places → IsKnown c.kind (stop_on c) (length c.stops + 1) k (slice_index_or places k d)
   pub limits : IsInLimits c.kind c.capacity (stop_on c) (length c.stops + 1)
 
 abbrev pub IsTable : Inside → Type 0
 IsTable a = AreKnown (course_within a) a.places.items × IsSpan a.span a.places.items
 
 -- what is known of each place of a route
-pub record IsMade (p : Instance) (route : List ℕ) (places : List Row) : Type 0 where
+pub record IsMade (p : Instance) (route : List ℕ) (places : List PlaceSlack) : Type 0 where
   pub known : AreKnown (course_of p route) places
   pub course : course_from (limits_of p) p.depot places ≡ course_of p route

@@ -5,7 +5,7 @@ use Rattle.plan_types.specs.declared.requests.Kind.{Kind}
 use Rattle.plan_types.specs.declared.requests.Kind.TheVariants.{LiLim}
 use Rattle.slack_tables.specs.Along.{start_along, load_along, length_along, GoesOnAlong}
 use Rattle.slack_tables.specs.declared.progress.Progress.{Progress}
-use Rattle.slack_tables.specs.declared.progress.Row.{Row}
+use Rattle.slack_tables.specs.declared.progress.PlaceSlack.{PlaceSlack}
 
 -- the vehicle is at place k of these stops
 pub record IsAt (stops : ℕ → Stop) (k : ℕ) (a : Progress) : Type 0 where
@@ -15,7 +15,7 @@ pub record IsAt (stops : ℕ → Stop) (k : ℕ) (a : Progress) : Type 0 where
   pub distance : a.distance ≡ length_along stops k
 
 -- Place k, where `last` is the place of the return. The greatest number stands for any start, and other starts are far below 2^60.
-pub record IsKnown (kind : Kind) (stops : ℕ → Stop) (last k : ℕ) (e : Row) : Type 0 where
+pub record IsKnown (kind : Kind) (stops : ℕ → Stop) (last k : ℕ) (e : PlaceSlack) : Type 0 where
   pub at : IsAt stops k e.at
   pub latest_start : kind ≡ LiLim → (t : ℕ) → t ≤ 2 ^ 60 → GoesOnAlong kind stops last k t ↔ (t ≤ e.latest_start)
   pub limit : kind ≡ LiLim → k < last → e.latest_start ≤ 100000000

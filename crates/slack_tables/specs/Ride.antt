@@ -7,7 +7,7 @@ use Rattle.plan_types.specs.declared.requests.Kind.{Kind}
 use Rattle.plan_types.specs.declared.requests.Kind.TheVariants.{LiLim, Vrp}
 use Rattle.slack_tables.specs.declared.progress.Limits.{Limits}
 use Rattle.slack_tables.specs.declared.progress.Progress.{Progress}
-use Rattle.slack_tables.specs.declared.progress.Row.{Row}
+use Rattle.slack_tables.specs.declared.progress.PlaceSlack.{PlaceSlack}
 use Rattle.slack_tables.specs.declared.ride.Ride.{Ride}
 
 -- at this stop
@@ -34,25 +34,25 @@ abbrev pub ridden : Limits → Ride → ℕ → ℕ → Stop → Option Ride
 ridden limits r service leg s = if is_kept limits (driven r service leg s) s then Some (driven r service leg s) else None
 
 -- a place of the old route and what is behind it keep the limits
-abbrev pub is_borne : Limits → Ride → Row → Bool
+abbrev pub is_borne : Limits → Ride → PlaceSlack → Bool
 is_borne limits r tail = int_le (r.load -ℤ tail.at.load +ℤ tail.most_load) (pos limits.capacity) && is_in_time limits.kind r.start tail.latest_start
 
-abbrev pub goes_on : Limits → Ride → ℕ → ℕ → Row → Bool
+abbrev pub goes_on : Limits → Ride → ℕ → ℕ → PlaceSlack → Bool
 goes_on limits r service leg tail = is_kept limits (driven r service leg tail.at.stop) tail.at.stop && is_borne limits (driven r service leg tail.at.stop) tail
 
 -- a stop comes next, and then a place of the old route and all behind it
-abbrev pub is_served : Limits → Ride → ℕ → ℕ → Stop → ℕ → Row → Bool
+abbrev pub is_served : Limits → Ride → ℕ → ℕ → Stop → ℕ → PlaceSlack → Bool
 is_served limits r service to s from tail = is_kept limits (driven r service to s) s && goes_on limits (driven r service to s) s.service from tail
 
 -- the distance that this adds
-abbrev pub price : Ride → ℕ → ℕ → Row → ℤ
+abbrev pub price : Ride → ℕ → ℕ → PlaceSlack → ℤ
 price r to from tail = pos (r.distance + to + from) -ℤ pos tail.at.distance
 
 -- where it is less than the bound and the limits are kept
-abbrev pub served : Limits → Ride → ℕ → ℕ → Stop → ℕ → Row → Option ℤ
+abbrev pub served : Limits → Ride → ℕ → ℕ → Stop → ℕ → PlaceSlack → Option ℤ
 served limits r service to s from tail = if is_served limits r service to s from tail then Some (price r to from tail) else None
 
-abbrev pub served_below : ℤ → Limits → Ride → ℕ → ℕ → Stop → ℕ → Row → Option ℤ
+abbrev pub served_below : ℤ → Limits → Ride → ℕ → ℕ → Stop → ℕ → PlaceSlack → Option ℤ
 served_below below limits r service to s from tail = if int_lt (price r to from tail) below then served limits r service to s from tail else None
 
 -- far from where sums would wrap

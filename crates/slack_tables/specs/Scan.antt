@@ -7,7 +7,7 @@ use Rattle.slack_tables.specs.Driven.{with_single, with_pair}
 use Rattle.slack_tables.specs.Ride.{ride_of, ridden, served_below, IsSmallRide}
 use Rattle.slack_tables.specs.declared.progress.Limits.{Limits}
 use Rattle.slack_tables.specs.declared.progress.Progress.{Progress}
-use Rattle.slack_tables.specs.declared.progress.Row.{Row}
+use Rattle.slack_tables.specs.declared.progress.PlaceSlack.{PlaceSlack}
 use Rattle.slack_tables.specs.declared.ride.Ride.{Ride}
 use Rattle.slack_tables.specs.declared.scan.Addition.{Addition}
 use Rattle.slack_tables.specs.declared.scan.Best.{Best}
@@ -15,7 +15,7 @@ use Rattle.slack_tables.specs.declared.scan.Trip.{Trip}
 use Rattle.slack_tables.specs.declared.scan.Underway.{Underway}
 
 -- a single put in at this place
-pub record PutsSingle (limits : Limits) (places : List Row) (s : Stop) (kept : ℕ) (d : Row) (a : Addition) : Type 0 where
+pub record PutsSingle (limits : Limits) (places : List PlaceSlack) (s : Stop) (kept : ℕ) (d : PlaceSlack) (a : Addition) : Type 0 where
   pub behind : kept < a.pickup
   pub within : a.pickup < length places
   pub one : a.delivery ≡ a.pickup
@@ -25,38 +25,38 @@ pub record PutsSingle (limits : Limits) (places : List Row) (s : Stop) (kept : �
 abbrev pub Under : (Addition → Type 0) → ℤ → Addition → Type 0
 Under Is below a = Is a × (a.distance <ℤ below)
 
-abbrev pub AddsSingle : Limits → List Row → Stop → ℕ → ℤ → Row → Addition → Type 0
+abbrev pub AddsSingle : Limits → List PlaceSlack → Stop → ℕ → ℤ → PlaceSlack → Addition → Type 0
 AddsSingle limits places s kept below d a = Under (PutsSingle limits places s kept d) below a
 
 -- what the single adds there, where it is less than the bound and the limits are kept
-abbrev pub served_single : ℤ → Limits → List Row → Stop → ℕ → Row → Option ℤ
+abbrev pub served_single : ℤ → Limits → List PlaceSlack → Stop → ℕ → PlaceSlack → Option ℤ
 served_single below limits places s i d =
     let before = slice_index_or places (i - 1) d in let tail = slice_index_or places i d in
     served_below below limits (ride_of before.at) before.at.stop.service (distance before.at.stop s) s (distance tail.at.stop s) tail
 
 -- a pair put in at these places
-pub record PutsPair (limits : Limits) (places : List Row) (p q : Stop) (kept : ℕ) (d : Row) (a : Addition) : Type 0 where
+pub record PutsPair (limits : Limits) (places : List PlaceSlack) (p q : Stop) (kept : ℕ) (d : PlaceSlack) (a : Addition) : Type 0 where
   pub behind : kept < a.pickup
   pub order : a.pickup < a.delivery
   pub within : a.delivery ≤ length places
   pub added : with_pair limits places p q a.pickup a.delivery d ≡ Some a.distance
 
-abbrev pub AddsPair : Limits → List Row → Stop → Stop → ℕ → ℤ → Row → Addition → Type 0
+abbrev pub AddsPair : Limits → List PlaceSlack → Stop → Stop → ℕ → ℤ → PlaceSlack → Addition → Type 0
 AddsPair limits places p q kept below d a = Under (PutsPair limits places p q kept d) below a
 
 -- the same of one place of the pickup
-pub record PutsDelivery (limits : Limits) (places : List Row) (p q : Stop) (i : ℕ) (d : Row) (a : Addition) : Type 0 where
+pub record PutsDelivery (limits : Limits) (places : List PlaceSlack) (p q : Stop) (i : ℕ) (d : PlaceSlack) (a : Addition) : Type 0 where
   pub here : a.pickup ≡ i
   pub order : i < a.delivery
   pub within : a.delivery ≤ length places
   pub added : with_pair limits places p q i a.delivery d ≡ Some a.distance
 
-abbrev pub AddsDelivery : Limits → List Row → Stop → Stop → ℕ → ℤ → Row → Addition → Type 0
+abbrev pub AddsDelivery : Limits → List PlaceSlack → Stop → Stop → ℕ → ℤ → PlaceSlack → Addition → Type 0
 AddsDelivery limits places p q i below d a = Under (PutsDelivery limits places p q i d) below a
 
 -- each place of the delivery adds the bound or more, where the pickup stands at place i
-abbrev pub AreDear : Limits → List Row → Stop → Stop → ℕ → ℤ → Type 0
-AreDear limits places p q i bound = (j : ℕ) (x : ℤ) (d : Row) → i + 1 ≤ j → j ≤ length places → with_pair limits places p q i j d ≡ Some x → bound ≤ℤ x
+abbrev pub AreDear : Limits → List PlaceSlack → Stop → Stop → ℕ → ℤ → Type 0
+AreDear limits places p q i bound = (j : ℕ) (x : ℤ) (d : PlaceSlack) → i + 1 ≤ j → j ≤ length places → with_pair limits places p q i j d ≡ Some x → bound ≤ℤ x
 
 -- nothing found yet
 abbrev pub none_below : ℤ → Best
@@ -84,7 +84,7 @@ pub record IsNearUnderway (on : Underway) : Type 0 where
   pub onward : on.onward ≤ 2 ^ 32
 
 -- at the next place of the table
-abbrev pub gone_to : Ride → List Row → ℕ → ℕ → Row → Underway
+abbrev pub gone_to : Ride → List PlaceSlack → ℕ → ℕ → PlaceSlack → Underway
 gone_to r places j to d =
     record {
       ride = r;
@@ -94,7 +94,7 @@ gone_to r places j to d =
     }
 
 -- if it keeps the limits and is not the last
-abbrev pub gone_on : Limits → Underway → List Row → ℕ → ℕ → Row → Option Underway
+abbrev pub gone_on : Limits → Underway → List PlaceSlack → ℕ → ℕ → PlaceSlack → Option Underway
 gone_on limits on places j to d =
     if nat_lt j (length places)
     then option_map (λ r. gone_to r places j to d) (ridden limits on.ride on.service on.onward (slice_index_or places (j - 1) d).at.stop)

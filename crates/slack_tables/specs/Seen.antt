@@ -4,24 +4,24 @@ use Rattle.plan_types.specs.Instance.{Instance}
 use Rattle.plan_types.specs.Limits.{IsVisit}
 use Rattle.plan_types.specs.declared.requests.Stop.{Stop}
 use Rattle.route_sched.specs.Route.{place}
-use Rattle.slack_tables.specs.declared.progress.Row.{Row}
+use Rattle.slack_tables.specs.declared.progress.PlaceSlack.{PlaceSlack}
 use Rattle.slack_tables.specs.declared.ways.Seen.{Seen}
 
 -- the stop of this place stands where this one does
-pub record StandsAt (places : List Row) (k : ℕ) (s : Stop) : Type 0 where
+pub record StandsAt (places : List PlaceSlack) (k : ℕ) (s : Stop) : Type 0 where
   pub within : k < length places
-  pub x : (d : Row) → (slice_index_or places k d).at.stop.x ≡ s.x
-  pub y : (d : Row) → (slice_index_or places k d).at.stop.y ≡ s.y
+  pub x : (d : PlaceSlack) → (slice_index_or places k d).at.stop.x ≡ s.x
+  pub y : (d : PlaceSlack) → (slice_index_or places k d).at.stop.y ≡ s.y
 
 -- a stop is where it is seen
-abbrev pub IsSeen : List Row → Stop → Seen → Type 0
+abbrev pub IsSeen : List PlaceSlack → Stop → Seen → Type 0
 IsSeen places s seen = seen.is_here ≡ true → StandsAt places seen.place s
 
 -- the place behind has the stop behind the first k of a route
-pub record IsNext (places : List Row) (route : List ℕ) (seen : Seen) (k : ℕ) : Type 0 where
+pub record IsNext (places : List PlaceSlack) (route : List ℕ) (seen : Seen) (k : ℕ) : Type 0 where
   pub here : seen.is_here ≡ true
   pub within : seen.place + 1 < length places
-  pub number : (d : Row) → (slice_index_or places (seen.place + 1) d).at.stop.number ≡ slice_index route k
+  pub number : (d : PlaceSlack) → (slice_index_or places (seen.place + 1) d).at.stop.number ≡ slice_index route k
 
 -- this is a stop of the problem, at a place of a route
 pub record IsStopAt (p : Instance) (route : List ℕ) (k : ℕ) (s : Stop) : Type 0 where
@@ -29,7 +29,7 @@ pub record IsStopAt (p : Instance) (route : List ℕ) (k : ℕ) (s : Stop) : Typ
   pub visit : IsVisit s
 
 -- where the numbers are the same, so are the stops
-abbrev pub KnowsStops : Instance → List Row → Type 0
+abbrev pub KnowsStops : Instance → List PlaceSlack → Type 0
 KnowsStops p places =
-    (route : List ℕ) (n k : ℕ) (d : Row) → p.depot.number ≡ 0 → n < length places
+    (route : List ℕ) (n k : ℕ) (d : PlaceSlack) → p.depot.number ≡ 0 → n < length places
     → (slice_index_or places n d).at.stop.number ≡ slice_index route k → IsStopAt p route (k + 1) (slice_index_or places n d).at.stop

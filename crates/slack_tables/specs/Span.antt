@@ -5,12 +5,12 @@ use Rattle.nint_dist.specs.Distance.{distance}
 use Rattle.slack_tables.specs.Best.{IsFirstOf}
 use Rattle.slack_tables.specs.Scan.{AddsSingle}
 use Rattle.slack_tables.specs.declared.progress.Limits.{Limits}
-use Rattle.slack_tables.specs.declared.progress.Row.{Row}
+use Rattle.slack_tables.specs.declared.progress.PlaceSlack.{PlaceSlack}
 use Rattle.slack_tables.specs.declared.span.Span.{Span}
 use Rattle.slack_tables.specs.declared.span.Nearest.{Nearest}
 
 -- the way from one place to the next
-abbrev pub edge_of : Row → Row → ℤ
+abbrev pub edge_of : PlaceSlack → PlaceSlack → ℤ
 edge_of a b = pos b.at.distance -ℤ pos a.at.distance
 
 -- the stop lies between the coordinates
@@ -27,19 +27,19 @@ pub record IsSmallSpan (span : Span) : Type 0 where
   pub load : unsigned_abs span.load ≤ 2 ^ 52
 
 -- places 1 to n - 1 lie inside, and no way from one of them to the next is longer than the longest
-pub record IsSpanTo (span : Span) (places : List Row) (n : ℕ) : Type 0 where
-  pub inside : (k : ℕ) (d : Row) → 1 ≤ k → k < n → IsInside span (slice_index_or places k d).at.stop
-  pub longest : (k : ℕ) (d : Row) → 1 ≤ k → k + 1 < n → edge_of (slice_index_or places k d) (slice_index_or places (k + 1) d) ≤ℤ span.longest
+pub record IsSpanTo (span : Span) (places : List PlaceSlack) (n : ℕ) : Type 0 where
+  pub inside : (k : ℕ) (d : PlaceSlack) → 1 ≤ k → k < n → IsInside span (slice_index_or places k d).at.stop
+  pub longest : (k : ℕ) (d : PlaceSlack) → 1 ≤ k → k + 1 < n → edge_of (slice_index_or places k d) (slice_index_or places (k + 1) d) ≤ℤ span.longest
   pub small : IsSmallSpan span
 
 -- neither the first way is longer than the tips nor the last, and so much is carried at the end
-pub record AreEnds (span : Span) (places : List Row) : Type 0 where
-  pub first : (d : Row) → edge_of (slice_index_or places 0 d) (slice_index_or places 1 d) ≤ℤ span.tips
-  pub last : (d : Row) → edge_of (slice_index_or places (length places - 2) d) (slice_index_or places (length places - 1) d) ≤ℤ span.tips
-  pub load : (d : Row) → span.load ≡ (slice_index_or places (length places - 1) d).at.load
+pub record AreEnds (span : Span) (places : List PlaceSlack) : Type 0 where
+  pub first : (d : PlaceSlack) → edge_of (slice_index_or places 0 d) (slice_index_or places 1 d) ≤ℤ span.tips
+  pub last : (d : PlaceSlack) → edge_of (slice_index_or places (length places - 2) d) (slice_index_or places (length places - 1) d) ≤ℤ span.tips
+  pub load : (d : PlaceSlack) → span.load ≡ (slice_index_or places (length places - 1) d).at.load
 
 -- the span of all places
-pub record IsSpan (span : Span) (places : List Row) : Type 0 where
+pub record IsSpan (span : Span) (places : List PlaceSlack) : Type 0 where
   pub count : ℕ
   pub some : 2 ≤ count
   pub all : length places ≤ count + 1
@@ -90,18 +90,18 @@ pub record IsFarPair (span : Span) (depot p q : Stop) (below : ℤ) : Type 0 whe
   pub near : below ≤ℤ beside
 
 -- the first place and the last one are the depot
-pub record AreHome (depot : Stop) (places : List Row) : Type 0 where
-  pub first : (d : Row) → (slice_index_or places 0 d).at.stop ≡ depot
-  pub last : (d : Row) → (slice_index_or places (length places - 1) d).at.stop ≡ depot
+pub record AreHome (depot : Stop) (places : List PlaceSlack) : Type 0 where
+  pub first : (d : PlaceSlack) → (slice_index_or places 0 d).at.stop ≡ depot
+  pub last : (d : PlaceSlack) → (slice_index_or places (length places - 1) d).at.stop ≡ depot
 
 -- each place adds its demand to the load, and what is carried at the end is no more than the greatest load from any place on
-pub record AreLaden (places : List Row) : Type 0 where
-  pub step : (k : ℕ) (d : Row) → k + 1 < length places
+pub record AreLaden (places : List PlaceSlack) : Type 0 where
+  pub step : (k : ℕ) (d : PlaceSlack) → k + 1 < length places
       → (slice_index_or places (k + 1) d).at.load ≡ (slice_index_or places k d).at.load +ℤ (slice_index_or places (k + 1) d).at.stop.demand
-  pub most : (k : ℕ) (d : Row) → k < length places → (slice_index_or places (length places - 1) d).at.load ≤ℤ (slice_index_or places k d).most_load
+  pub most : (k : ℕ) (d : PlaceSlack) → k < length places → (slice_index_or places (length places - 1) d).at.load ≤ℤ (slice_index_or places k d).most_load
 
 -- a single fits nowhere for less than the bound into a route of this span
 abbrev pub RulesOut : Limits → Span → Stop → Stop → ℤ → Type 0
 RulesOut limits span depot s below =
-    (places : List Row) (kept : ℕ) (d : Row) → IsSpan span places → AreLaden places → AreHome depot places
+    (places : List PlaceSlack) (kept : ℕ) (d : PlaceSlack) → IsSpan span places → AreLaden places → AreHome depot places
     → IsFirstOf (AddsSingle limits places s kept below d) None

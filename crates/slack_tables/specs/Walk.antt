@@ -8,7 +8,7 @@ use Rattle.slack_tables.specs.Driven.{IsSmallRow}
 use Rattle.slack_tables.specs.Legs.{AreLeast, AreLinked, AreRising}
 use Rattle.slack_tables.specs.Ride.{ride_at}
 use Rattle.slack_tables.specs.declared.progress.Limits.{Limits}
-use Rattle.slack_tables.specs.declared.progress.Row.{Row}
+use Rattle.slack_tables.specs.declared.progress.PlaceSlack.{PlaceSlack}
 use Rattle.slack_tables.specs.declared.scan.Trip.{Trip}
 use Rattle.slack_tables.specs.declared.scan.Underway.{Underway}
 unfoldable pub use Rattle.slack_tables.specs.Driven.{walk_to}
@@ -21,7 +21,7 @@ pub record IsTrip (t : Trip) : Type 0 where
   pub bound : t.across ≤ 2 ^ 32
 
 -- it is put into a route of these places
-pub record IsScan (t : Trip) (places : List Row) : Type 0 where
+pub record IsScan (t : Trip) (places : List PlaceSlack) : Type 0 where
   pub trip : IsTrip t
   pub small : All IsSmallRow places
   pub linked : AreLinked places
@@ -30,12 +30,12 @@ pub record IsScan (t : Trip) (places : List Row) : Type 0 where
   pub few : length places ≤ 40003
 
 -- and for each place from the first one on the least detours to the delivery behind it are known
-pub record IsScanFrom (t : Trip) (places : List Row) (first : ℕ) (legs : List ℤ) : Type 0 where
+pub record IsScanFrom (t : Trip) (places : List PlaceSlack) (first : ℕ) (legs : List ℤ) : Type 0 where
   pub over : IsScan t places
   pub least : AreLeast first legs places t.delivery
 
 -- before place j - 1 of the table, with the pickup on board
-pub record IsUnderway (limits : Limits) (places : List Row) (p q : Stop) (i j : ℕ) (d : Row) (on : Underway) : Type 0 where
+pub record IsUnderway (limits : Limits) (places : List PlaceSlack) (p q : Stop) (i j : ℕ) (d : PlaceSlack) (on : Underway) : Type 0 where
   pub stop : Stop
   pub walk : walk_to limits places p i d j ≡ Some (ride_at on.ride stop)
   pub service : on.service ≡ stop.service
@@ -43,7 +43,7 @@ pub record IsUnderway (limits : Limits) (places : List Row) (p q : Stop) (i j : 
   pub onward : on.onward ≡ distance stop (slice_index_or places (j - 1) d).at.stop
 
 -- how much may have come together there
-pub record IsNearWay (places : List Row) (j : ℕ) (d : Row) (on : Underway) : Type 0 where
+pub record IsNearWay (places : List PlaceSlack) (j : ℕ) (d : PlaceSlack) (on : Underway) : Type 0 where
   pub start : on.ride.start + on.onward ≤ 2 ^ 52 + j * 2 ^ 33 + (slice_index_or places (j - 1) d).at.distance
   pub load : unsigned_abs on.ride.load ≤ 2 ^ 52 + j * 2 ^ 33
   pub distance : on.ride.distance + on.onward ≤ 2 ^ 52 + (slice_index_or places (j - 1) d).at.distance

@@ -7,20 +7,20 @@
 
 ghost use Rattle.std.specs.Prelude.{◌≡◌, ◌+◌, ◌-◌, ◌^◌, ◌≤◌, ◌<◌, All, IsTrue, length, slice_index_or};
 ghost use Rattle.nint_dist.specs.Distance.{distance};
-ghost use Rattle.slack_tables.specs.declared.progress.Row.{Row};
+ghost use Rattle.slack_tables.specs.declared.progress.PlaceSlack.{PlaceSlack};
 ghost use Rattle.slack_tables.specs.Closed.{due_of, comes_late, is_due_before, AreTight, IsClosed, AreClosed};
 ghost use Rattle.slack_tables.specs.Driven.{IsSmallRow};
 ghost use Rattle.slack_tables.specs.Legs.{AreRising};
 
 use crate::legs::{side_at, small_row};
-use crate::progress::{Limits, Row, is_in_time};
+use crate::progress::{Limits, PlaceSlack, is_in_time};
 use crate::ride::Detour;
 use nint_dist::detours_save_at_most_one;
 use plan_types::{Kind, Stop};
 
 /// The first place behind the first `kept` stops where a pickup isn't known to be too late, or the
 /// number of places where there is none. Ways are taken from below, so no root is.
-pub(crate) fn first_open(limits: Limits, places: &[Row], pickup: &Stop, kept: usize) -> usize
+pub(crate) fn first_open(limits: Limits, places: &[PlaceSlack], pickup: &Stop, kept: usize) -> usize
     requires places { All IsSmallRow places.now }
     requires rising { AreRising places.now }
     requires tight { AreTight limits.kind places.now }
@@ -46,7 +46,7 @@ pub(crate) fn first_open(limits: Limits, places: &[Row], pickup: &Stop, kept: us
 
 // The first place behind the first `kept` stops that can be started after the pickup's window opens, or the
 // number of places.
-fn first_due(limits: Limits, places: &[Row], pickup: &Stop, kept: usize) -> usize
+fn first_due(limits: Limits, places: &[PlaceSlack], pickup: &Stop, kept: usize) -> usize
     requires places { All IsSmallRow places.now }
     requires tight { AreTight limits.kind places.now }
     requires kept { kept + 2 ≤ length places.now }
@@ -65,7 +65,7 @@ fn first_due(limits: Limits, places: &[Row], pickup: &Stop, kept: usize) -> usiz
 
 // Whether a place has to be started, by more than 1, before a window opens.
 #[inline(always)]
-fn is_due_before(kind: Kind, place: &Row, earliest: u32) -> bool
+fn is_due_before(kind: Kind, place: &PlaceSlack, earliest: u32) -> bool
     ensures { result ≡ is_due_before kind place.now earliest }
 {
     match kind {
@@ -76,7 +76,7 @@ fn is_due_before(kind: Kind, place: &Row, earliest: u32) -> bool
 
 // The latest start of service at a place from which neither its own window nor anything behind it is missed.
 #[inline(always)]
-fn due_at(place: &Row) -> u64
+fn due_at(place: &PlaceSlack) -> u64
     ensures value { result ≡ due_of place.now }
     ensures bound { result < 2 ^ 32 }
 {
@@ -85,7 +85,7 @@ fn due_at(place: &Row) -> u64
 
 /// Whether the place before place `i` is started after the pickup's latest time.
 #[inline(always)]
-pub(crate) fn is_past(limits: Limits, places: &[Row], pickup: &Stop, i: usize) -> bool
+pub(crate) fn is_past(limits: Limits, places: &[PlaceSlack], pickup: &Stop, i: usize) -> bool
     requires places { All IsSmallRow places.now }
     requires rising { AreRising places.now }
     requires from_one { 1 ≤ i }
@@ -104,7 +104,7 @@ pub(crate) fn is_past(limits: Limits, places: &[Row], pickup: &Stop, i: usize) -
 #[inline(always)]
 pub(crate) fn is_closed(
     limits: Limits,
-    places: &[Row],
+    places: &[PlaceSlack],
     pickup: &Stop,
     i: usize,
     near: Detour,
@@ -113,9 +113,9 @@ pub(crate) fn is_closed(
     requires tight { AreTight limits.kind places.now }
     requires from_one { 1 ≤ i }
     requires within { i < length places.now }
-    requires to { (d : Row) → near.to
+    requires to { (d : PlaceSlack) → near.to
         ≤ distance (slice_index_or places.now (i - 1) d).at.stop pickup.now }
-    requires from { (d : Row) → near.from
+    requires from { (d : PlaceSlack) → near.from
         ≤ distance (slice_index_or places.now i d).at.stop pickup.now }
     requires to_small { near.to ≤ 2 ^ 33 }
     requires from_small { near.from ≤ 2 ^ 33 }
@@ -132,7 +132,7 @@ pub(crate) fn is_closed(
 
 // Whether a pickup between two places is too late, or the place behind it.
 #[inline(always)]
-fn comes_late(before: &Row, next: &Row, pickup: &Stop, near: Detour) -> bool
+fn comes_late(before: &PlaceSlack, next: &PlaceSlack, pickup: &Stop, near: Detour) -> bool
     requires before { IsSmallRow before.now }
     requires to { near.to ≤ 2 ^ 33 }
     requires from { near.from ≤ 2 ^ 33 }

@@ -11,12 +11,12 @@ ghost use Rattle.route_sched.specs.Route.{place};
 ghost use Rattle.slack_tables.specs.Front.{IsFront, HasCome, KnowsFronts};
 ghost use Rattle.slack_tables.specs.Opened.{open_row, AreOpenTo};
 
-use crate::progress::{Progress, Row};
+use crate::progress::{PlaceSlack, Progress};
 use crate::table::{leaving, open_row};
 use plan_types::{Problem, Stop};
 
 /// How many of the first stops of a route the table has at the same places.
-pub(crate) fn same_front(known: &[Row], route: &[u32]) -> usize
+pub(crate) fn same_front(known: &[PlaceSlack], route: &[u32]) -> usize
     ensures within { result ≤ length route.now }
     ensures known { 0 < result → result + 1 < length known.now }
     ensures front { IsFront known.now route.now result }
@@ -31,7 +31,7 @@ pub(crate) fn same_front(known: &[Row], route: &[u32]) -> usize
 }
 
 /// Where the vehicle is behind so many stops that a route has at the table's places.
-pub(crate) fn behind_front(problem: &Problem, known: &[Row], front: usize) -> Progress
+pub(crate) fn behind_front(problem: &Problem, known: &[PlaceSlack], front: usize) -> Progress
     requires fronts { KnowsFronts problem.now known.now }
     requires known { 0 < front → front + 1 < length known.now }
     ensures { (route : List ℕ) → IsFront known.now route front
@@ -46,7 +46,7 @@ pub(crate) fn behind_front(problem: &Problem, known: &[Row], front: usize) -> Pr
 /// The stop where it is there.
 pub(crate) fn stop_behind_front<'a>(
     problem: &'a Problem,
-    known: &'a [Row],
+    known: &'a [PlaceSlack],
     front: usize,
 ) -> &'a Stop
     requires fronts { KnowsFronts problem.now known.now }
@@ -61,7 +61,7 @@ pub(crate) fn stop_behind_front<'a>(
 }
 
 /// Gives the places of so many stops what the table tells of them, but nothing of what is behind.
-pub(crate) fn copy_front(places: &mut [Row], known: &[Row], front: usize)
+pub(crate) fn copy_front(places: &mut [PlaceSlack], known: &[PlaceSlack], front: usize)
     requires known { 0 < front → front + 1 < length known.now }
     requires few { front ≤ 40001 }
     ensures len { length places.new ≡ length places.old }
@@ -76,7 +76,7 @@ pub(crate) fn copy_front(places: &mut [Row], known: &[Row], front: usize)
 
 /// Notes where the vehicle is at a place, with nothing known of what is behind it, if there is room for the place.
 #[inline(always)]
-pub(crate) fn put(places: &mut [Row], place: usize, at: Progress)
+pub(crate) fn put(places: &mut [PlaceSlack], place: usize, at: Progress)
     ensures { places.new ≡ slice_set places.old place (open_row at) }
 {
     if place < places.len() {

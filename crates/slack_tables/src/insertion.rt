@@ -2,11 +2,11 @@
 
 ghost use Rattle.std.specs.Prelude.{◌≡◌, ◌+◌, ◌-◌, ◌^◌, ◌<◌, ◌≤◌, All, length};
 ghost use Rattle.plan_types.specs.Limits.{IsVisit};
-ghost use Rattle.slack_tables.specs.declared.progress.Row.{Row};
+ghost use Rattle.slack_tables.specs.declared.progress.PlaceSlack.{PlaceSlack};
 ghost use Rattle.slack_tables.specs.Driven.{with_single, with_pair, IsSmallRow};
 
 use crate::legs::{leg_at, small_row};
-use crate::progress::{Limits, Row};
+use crate::progress::{Limits, PlaceSlack};
 use crate::ride::{Detour, ride_of, ride_on, serve_below};
 use nint_dist::dist;
 use plan_types::Stop;
@@ -15,12 +15,17 @@ use plan_types::Stop;
 const ANY_PRICE: i64 = i64::MAX;
 
 /// The distance added by one stop, put behind place `i - 1`.
-pub(crate) fn single_added(limits: Limits, places: &[Row], stop: &Stop, i: usize) -> Option<i64>
+pub(crate) fn single_added(
+    limits: Limits,
+    places: &[PlaceSlack],
+    stop: &Stop,
+    i: usize,
+) -> Option<i64>
     requires places { All IsSmallRow places.now }
     requires stop { IsVisit stop.now }
     requires from_one { 1 ≤ i }
     requires within { i < length places.now }
-    ensures { (d : Row) → result ≡ with_single limits places.now stop.now i d }
+    ensures { (d : PlaceSlack) → result ≡ with_single limits places.now stop.now i d }
 {
     let before = small_row(places, i - 1);
     let tail = small_row(places, i);
@@ -43,7 +48,7 @@ pub(crate) fn single_added(limits: Limits, places: &[Row], stop: &Stop, i: usize
 /// The distance added by a pickup behind place `i - 1` and its delivery at place `j` of the new route.
 pub(crate) fn pair_added(
     limits: Limits,
-    places: &[Row],
+    places: &[PlaceSlack],
     pickup: &Stop,
     delivery: &Stop,
     i: usize,
@@ -56,7 +61,8 @@ pub(crate) fn pair_added(
     requires from_one { 1 ≤ i }
     requires order { i < j }
     requires within { j ≤ length places.now }
-    ensures { (d : Row) → result ≡ with_pair limits places.now pickup.now delivery.now i j d }
+    ensures { (d : PlaceSlack)
+        → result ≡ with_pair limits places.now pickup.now delivery.now i j d }
 {
     let before = &small_row(places, i - 1).at;
     let to = leg_at(places, i - 1, pickup);

@@ -6,11 +6,11 @@ ghost use Rattle.std.specs.Int.{int_min};
 ghost use Rattle.plan_types.specs.Limits.{IsVisit};
 ghost use Rattle.nint_dist.specs.Distance.{distance};
 ghost use Rattle.std.specs.Prelude.{slice_index_or, ℤ, pos, ◌+ℤ◌, ◌-ℤ◌, ◌≤ℤ◌, unsigned_abs};
-ghost use Rattle.slack_tables.specs.declared.progress.Row.{Row};
+ghost use Rattle.slack_tables.specs.declared.progress.PlaceSlack.{PlaceSlack};
 ghost use Rattle.slack_tables.specs.Driven.{IsSmallRow};
 ghost use Rattle.slack_tables.specs.Legs.{AreLeast};
 
-use crate::progress::{Row, difference};
+use crate::progress::{PlaceSlack, difference};
 use crate::span::{least_between, side_between};
 use crate::table::row_at;
 use nint_dist::dist;
@@ -27,11 +27,11 @@ const FAR: i64 = 1 << 60;
 
 /// The way between a place and the stop.
 #[inline(always)]
-pub(crate) fn leg_at(places: &[Row], k: usize, stop: &Stop) -> u64
+pub(crate) fn leg_at(places: &[PlaceSlack], k: usize, stop: &Stop) -> u64
     requires places { All IsSmallRow places.now }
     requires stop { IsVisit stop.now }
     requires within { k < length places.now }
-    ensures value { (d : Row) → result
+    ensures value { (d : PlaceSlack) → result
         ≡ distance (slice_index_or places.now k d).at.stop stop.now }
     ensures bound { result ≤ 2 ^ 32 }
 {
@@ -40,9 +40,9 @@ pub(crate) fn leg_at(places: &[Row], k: usize, stop: &Stop) -> u64
 }
 
 /// The way between a place and the stop is no shorter. This takes no root.
-pub(crate) fn least_leg_at(places: &[Row], k: usize, stop: &Stop) -> u64
+pub(crate) fn least_leg_at(places: &[PlaceSlack], k: usize, stop: &Stop) -> u64
     requires within { k < length places.now }
-    ensures value { (d : Row) → result
+    ensures value { (d : PlaceSlack) → result
         ≤ distance (slice_index_or places.now k d).at.stop stop.now }
     ensures bound { result ≤ 2 ^ 33 }
 {
@@ -52,9 +52,9 @@ pub(crate) fn least_leg_at(places: &[Row], k: usize, stop: &Stop) -> u64
 
 /// The same by the longer side alone, which is quicker to know and not as near.
 #[inline(always)]
-pub(crate) fn side_at(places: &[Row], k: usize, stop: &Stop) -> u64
+pub(crate) fn side_at(places: &[PlaceSlack], k: usize, stop: &Stop) -> u64
     requires within { k < length places.now }
-    ensures value { (d : Row) → result
+    ensures value { (d : PlaceSlack) → result
         ≤ distance (slice_index_or places.now k d).at.stop stop.now }
     ensures bound { result ≤ 2 ^ 33 }
 {
@@ -63,7 +63,7 @@ pub(crate) fn side_at(places: &[Row], k: usize, stop: &Stop) -> u64
 }
 
 // By how much the way from a place to the next gets longer over a stop so far from both.
-fn detour(here: &Row, to: u64, from: u64, next: &Row) -> i64
+fn detour(here: &PlaceSlack, to: u64, from: u64, next: &PlaceSlack) -> i64
     requires here { IsSmallRow here.now }
     requires to { to ≤ 2 ^ 33 }
     requires from { from ≤ 2 ^ 33 }
@@ -76,7 +76,7 @@ fn detour(here: &Row, to: u64, from: u64, next: &Row) -> i64
 }
 
 /// What no detour from each place on is less than, from place `first` on.
-pub(crate) fn fill_least(least: &mut [i64], places: &[Row], stop: &Stop, first: usize)
+pub(crate) fn fill_least(least: &mut [i64], places: &[PlaceSlack], stop: &Stop, first: usize)
     requires places { All IsSmallRow places.now }
     requires count { length least.old ≡ length places.now }
     requires within { first < length least.old }
@@ -115,10 +115,10 @@ pub(crate) fn is_hopeless(least: &[i64], k: usize, reach: u64, base: u64, bound:
 }
 
 /// A place of a table, whose numbers are far from where sums would wrap.
-pub(crate) fn small_row(places: &[Row], k: usize) -> &Row
+pub(crate) fn small_row(places: &[PlaceSlack], k: usize) -> &PlaceSlack
     requires places { All IsSmallRow places.now }
     requires within { k < length places.now }
-    ensures place { (d : Row) → result.now ≡ slice_index_or places.now k d }
+    ensures place { (d : PlaceSlack) → result.now ≡ slice_index_or places.now k d }
     ensures small { IsSmallRow result.now }
 {
     row_at(places, k)

@@ -27,7 +27,7 @@ pub(crate) struct Progress {
 
 /// A place of a route, and what is known of all that is behind it.
 #[derive(Clone, Copy, Debug)]
-pub(crate) struct Row {
+pub(crate) struct PlaceSlack {
     pub at: Progress,
     /// The latest start of service here from which no later window and no return is missed; the
     /// greatest number where any start will do.

@@ -10,7 +10,7 @@ ghost use Rattle.slack_tables.specs.Driven.{driven_on, IsNear, IsSmall, IsSmallR
 ghost use Rattle.nint_dist.specs.Distance.{distance};
 ghost use Rattle.slack_tables.specs.Ride.{ride_of, ride_at, driven, is_kept, ridden, is_borne, goes_on, is_served, price, served_below, IsSmallRide, IsNearRide};
 
-use crate::progress::{Limits, Progress, Row, difference, is_in_time, moved_load};
+use crate::progress::{Limits, PlaceSlack, Progress, difference, is_in_time, moved_load};
 use plan_types::Stop;
 use route_sched::load_behind;
 
@@ -105,7 +105,7 @@ pub(crate) fn ride_on(
 }
 
 // Whether all behind this place of another route keeps the limits, where the vehicle comes to it so.
-fn is_borne(limits: Limits, ride: &Ride, tail: &Row) -> bool
+fn is_borne(limits: Limits, ride: &Ride, tail: &PlaceSlack) -> bool
     requires ride { IsSmallRide (2 ^ 60) ride.now }
     requires tail { IsSmallRow tail.now }
     ensures { result ≡ is_borne limits ride.now tail.now }
@@ -115,7 +115,7 @@ fn is_borne(limits: Limits, ride: &Ride, tail: &Row) -> bool
 }
 
 // Whether the place and all behind it keep the limits.
-fn goes_on(limits: Limits, from: &Ride, service: u32, leg: u64, tail: &Row) -> bool
+fn goes_on(limits: Limits, from: &Ride, service: u32, leg: u64, tail: &PlaceSlack) -> bool
     requires from { IsSmallRide (2 ^ 58) from.now }
     requires leg { leg ≤ 2 ^ 58 }
     requires tail { IsSmallRow tail.now }
@@ -139,7 +139,7 @@ fn is_served(
     service: u32,
     detour: Detour,
     stop: &Stop,
-    tail: &Row,
+    tail: &PlaceSlack,
 ) -> bool
     requires at { IsSmallRide (2 ^ 56) at.now }
     requires to { detour.to ≤ 2 ^ 56 }
@@ -160,7 +160,7 @@ pub(crate) fn serve_below(
     service: u32,
     detour: Detour,
     stop: &Stop,
-    tail: &Row,
+    tail: &PlaceSlack,
 ) -> Option<i64>
     requires at { IsSmallRide (2 ^ 56) at.now }
     requires to { detour.to ≤ 2 ^ 56 }
@@ -178,7 +178,7 @@ pub(crate) fn serve_below(
 }
 
 /// The distance that a detour to a stop adds to the way to a place.
-pub(crate) fn price(at: &Ride, detour: Detour, tail: &Row) -> i64
+pub(crate) fn price(at: &Ride, detour: Detour, tail: &PlaceSlack) -> i64
     requires at { at.now.distance ≤ 2 ^ 58 }
     requires to { detour.to ≤ 2 ^ 58 }
     requires from { detour.from ≤ 2 ^ 58 }

@@ -15,7 +15,7 @@
 ghost use Rattle.std.specs.Prelude.{◌≡◌, ◌+◌, ◌^◌, ◌-◌, ◌≤◌, ◌<◌, pos, ◌+ℤ◌, ◌-ℤ◌, ◌≤ℤ◌, All, IfSome, IsTrue, true, length, slice_index_or, unsigned_abs};
 ghost use Rattle.plan_types.specs.Limits.{IsVisit};
 ghost use Rattle.nint_dist.specs.Distance.{distance};
-ghost use Rattle.slack_tables.specs.declared.progress.Row.{Row};
+ghost use Rattle.slack_tables.specs.declared.progress.PlaceSlack.{PlaceSlack};
 ghost use Rattle.slack_tables.specs.Best.{IsFirstOf, BestIsOne};
 ghost use Rattle.slack_tables.specs.Closed.{AreTight};
 ghost use Rattle.slack_tables.specs.Driven.{IsSmall, IsSmallRow};
@@ -27,7 +27,7 @@ ghost use Rattle.slack_tables.specs.Scan.{AddsSingle, AddsPair, AddsDelivery, Ar
 
 use crate::closed::{first_open, is_closed, is_past};
 use crate::legs::{ROOM, SHORT, fill_least, is_hopeless, least_leg_at, leg_at, side_at, small_row};
-use crate::progress::{Limits, Progress, Row, difference, is_in_time};
+use crate::progress::{Limits, PlaceSlack, Progress, difference, is_in_time};
 use crate::ride::{Detour, Ride, price, ride_of, ride_on, serve_below};
 use crate::span::Span;
 use plan_types::Stop;
@@ -116,7 +116,7 @@ pub(crate) fn rules_out_single(
 /// The best place of a single behind the first `kept` stops.
 pub(crate) fn best_single(
     limits: Limits,
-    places: &[Row],
+    places: &[PlaceSlack],
     stop: &Stop,
     kept: usize,
     below: i64,
@@ -124,7 +124,8 @@ pub(crate) fn best_single(
     requires places { All IsSmallRow places.now }
     requires stop { IsVisit stop.now }
     requires kept { kept + 2 ≤ length places.now }
-    ensures { (d : Row) → IsFirstOf (AddsSingle limits places.now stop.now kept below d) result }
+    ensures { (d : PlaceSlack)
+        → IsFirstOf (AddsSingle limits places.now stop.now kept below d) result }
 {
     let mut best = Best::none_below(below);
     let mut to = side_at(places, kept, stop);
@@ -143,7 +144,7 @@ pub(crate) fn best_single(
 // root.
 fn single_at(
     limits: Limits,
-    places: &[Row],
+    places: &[PlaceSlack],
     stop: &Stop,
     i: usize,
     near: Detour,
@@ -152,7 +153,7 @@ fn single_at(
     requires places { All IsSmallRow places.now }
     requires stop { IsVisit stop.now }
     requires near { IsNearBy places.now stop.now i near }
-    ensures { (d : Row) → result ≡ served_single below limits places.now stop.now i d }
+    ensures { (d : PlaceSlack) → result ≡ served_single below limits places.now stop.now i d }
 {
     let before = small_row(places, i - 1);
     let tail = small_row(places, i);
@@ -178,7 +179,7 @@ fn single_at(
 /// The best places of a pair, its pickup behind the first `kept` stops and so far from its delivery.
 pub(crate) fn best_pair(
     limits: Limits,
-    places: &[Row],
+    places: &[PlaceSlack],
     pickup: &Stop,
     delivery: &Stop,
     across: u64,
@@ -195,7 +196,7 @@ pub(crate) fn best_pair(
     requires across { across ≡ distance pickup.now delivery.now }
     requires across_small { across ≤ 2 ^ 32 }
     requires kept { kept + 2 ≤ length places.now }
-    ensures { (d : Row) → IsFirstOf
+    ensures { (d : PlaceSlack) → IsFirstOf
         (AddsPair limits places.now pickup.now delivery.now kept below d) result }
 {
     let first = first_open(limits, places, pickup, kept);
@@ -220,7 +221,7 @@ pub(crate) fn best_pair(
 // The same with room for the least detours from each place on.
 fn best_with_room(
     trip: &Trip,
-    places: &[Row],
+    places: &[PlaceSlack],
     room: &mut [i64],
     first: usize,
     below: i64,
@@ -229,7 +230,7 @@ fn best_with_room(
     requires from_one { 1 ≤ first }
     requires within { first < length places.now }
     requires room { length places.now ≤ length room.old }
-    ensures { (d : Row) → IsFirstOf (AddsPair trip.now.limits places.now trip.now.pickup
+    ensures { (d : PlaceSlack) → IsFirstOf (AddsPair trip.now.limits places.now trip.now.pickup
         trip.now.delivery (first - 1) below d) result }
 {
     let least = &mut room[..places.len()];
@@ -250,7 +251,7 @@ struct Trip {
 // the pickup's latest time, none is in time.
 fn best_from(
     trip: &Trip,
-    places: &[Row],
+    places: &[PlaceSlack],
     least: &[i64],
     first: usize,
     below: i64,
@@ -258,7 +259,7 @@ fn best_from(
     requires scan { IsScanFrom trip.now places.now first least.now }
     requires from_one { 1 ≤ first }
     requires within { first < length places.now }
-    ensures { (d : Row) → IsFirstOf (AddsPair trip.now.limits places.now trip.now.pickup
+    ensures { (d : PlaceSlack) → IsFirstOf (AddsPair trip.now.limits places.now trip.now.pickup
         trip.now.delivery (first - 1) below d) result }
 {
     let mut best = Best::none_below(below);
@@ -280,7 +281,7 @@ fn best_from(
 // that no price is below the bound.
 fn best_at(
     trip: &Trip,
-    places: &[Row],
+    places: &[PlaceSlack],
     least: &[i64],
     i: usize,
     near: Detour,
@@ -288,7 +289,7 @@ fn best_at(
 ) -> Option<Addition>
     requires scan { IsScanFrom trip.now places.now i least.now }
     requires near { IsNearBy places.now trip.now.pickup i near }
-    ensures { (d : Row) → IsFirstOf
+    ensures { (d : PlaceSlack) → IsFirstOf
         (AddsDelivery trip.now.limits places.now trip.now.pickup trip.now.delivery i below d)
         result }
 {
@@ -309,7 +310,14 @@ fn best_at(
 
 // Whether prices from below show that each place of the delivery adds `below` or more, where the
 // pickup stands at place `i`.
-fn are_dear(trip: &Trip, places: &[Row], least: &[i64], i: usize, near: Detour, below: i64) -> bool
+fn are_dear(
+    trip: &Trip,
+    places: &[PlaceSlack],
+    least: &[i64],
+    i: usize,
+    near: Detour,
+    below: i64,
+) -> bool
     requires scan { IsScanFrom trip.now places.now i least.now }
     requires near { IsNearBy places.now trip.now.pickup i near }
     ensures { IsTrue result → AreDear trip.now.limits places.now trip.now.pickup
@@ -377,7 +385,7 @@ fn pick_up(trip: &Trip, before: &Progress, to: u64, onward: u64) -> Option<Under
 fn go_on(
     limits: Limits,
     on: &Underway,
-    places: &[Row],
+    places: &[PlaceSlack],
     j: usize,
     to_delivery: u64,
 ) -> Option<Underway>
@@ -386,7 +394,7 @@ fn go_on(
     requires from_two { 2 ≤ j }
     requires within { j ≤ length places.now }
     requires ways { AreLinked places.now }
-    ensures value { (d : Row) → result ≡ gone_on limits on.now places.now j to_delivery d }
+    ensures value { (d : PlaceSlack) → result ≡ gone_on limits on.now places.now j to_delivery d }
     ensures near { IfSome result (λ next. IsNearRide on.now.ride on.now.onward next.ride) }
 {
     if j == places.len() {
@@ -408,7 +416,7 @@ fn go_on(
 // it is past the delivery's latest time, none is in time.
 fn best_delivery(
     trip: &Trip,
-    places: &[Row],
+    places: &[PlaceSlack],
     least: &[i64],
     i: usize,
     first: Underway,
@@ -417,11 +425,11 @@ fn best_delivery(
     requires scan { IsScanFrom trip.now places.now i least.now }
     requires from_one { 1 ≤ i }
     requires within { i < length places.now }
-    requires underway { (d : Row)
+    requires underway { (d : PlaceSlack)
         → IsUnderway trip.now.limits places.now trip.now.pickup trip.now.delivery i
         (i + 1) d first }
-    requires near { (d : Row) → IsNearWay places.now (i + 1) d first }
-    ensures { (d : Row) → IsFirstOf
+    requires near { (d : PlaceSlack) → IsNearWay places.now (i + 1) d first }
+    ensures { (d : PlaceSlack) → IsFirstOf
         (AddsDelivery trip.now.limits places.now trip.now.pickup trip.now.delivery i below d)
         result }
 {

@@ -8,11 +8,11 @@ ghost use Rattle.std.specs.Prelude.{◌≡◌, ◌≤◌, ◌<◌, length};
 ghost use Rattle.plan_types.specs.declared.requests.Kind.TheVariants.{LiLim};
 ghost use Rattle.slack_tables.specs.Filled.{latest_before, row_before, IsTimely, EachIsTimely, LastMayStart, IsFilled};
 
-use crate::progress::Row;
+use crate::progress::PlaceSlack;
 use plan_types::Kind;
 
 /// Gives each place but the last its latest start and its greatest load, from the place behind it.
-pub(crate) fn fill_slack(kind: Kind, places: &mut [Row])
+pub(crate) fn fill_slack(kind: Kind, places: &mut [PlaceSlack])
     requires some { 0 < length places.old }
     requires timely { EachIsTimely kind places.old }
     requires last { LastMayStart places.old }
@@ -24,12 +24,12 @@ pub(crate) fn fill_slack(kind: Kind, places: &mut [Row])
 }
 
 // The place with what the one behind it tells.
-fn row_before(kind: Kind, place: &Row, next: &Row) -> Row
+fn row_before(kind: Kind, place: &PlaceSlack, next: &PlaceSlack) -> PlaceSlack
     requires timely { IsTimely kind place.now next.now }
     requires limit { kind ≡ LiLim → next.now.at.start ≤ next.now.latest_start }
     ensures { result ≡ row_before kind place.now next.now }
 {
-    Row {
+    PlaceSlack {
         at: place.at,
         latest_start: latest_before(kind, place, next),
         most_load: place.at.load.max(next.most_load),
@@ -37,7 +37,7 @@ fn row_before(kind: Kind, place: &Row, next: &Row) -> Row
 }
 
 // The latest start from which neither the next window nor one behind it is missed.
-fn latest_before(kind: Kind, place: &Row, next: &Row) -> u64
+fn latest_before(kind: Kind, place: &PlaceSlack, next: &PlaceSlack) -> u64
     requires timely { IsTimely kind place.now next.now }
     requires limit { kind ≡ LiLim → next.now.at.start ≤ next.now.latest_start }
     ensures { result ≡ latest_before kind place.now next.now }

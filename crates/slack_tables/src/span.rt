@@ -16,13 +16,13 @@
 ghost use Rattle.std.specs.Prelude.{◌≡◌, ◌+◌, ◌*◌, ◌^◌, ◌≤◌, ◌<◌, ℕ, ℤ, pos, ◌+ℤ◌, ◌-ℤ◌, ◌≤ℤ◌, ◌<ℤ◌, ◌-◌, IsTrue, All, length, slice_index_or, unsigned_abs};
 ghost use Rattle.plan_types.specs.declared.requests.Stop.{Stop};
 ghost use Rattle.nint_dist.specs.Distance.{distance};
-ghost use Rattle.slack_tables.specs.declared.progress.Row.{Row};
+ghost use Rattle.slack_tables.specs.declared.progress.PlaceSlack.{PlaceSlack};
 ghost use Rattle.slack_tables.specs.Driven.{IsSmallRow};
 ghost use Rattle.slack_tables.specs.RequestFloors.{AreFloorsOfPair, AreSmallWays};
 ghost use Rattle.slack_tables.specs.Span.{IsInside, IsSmallSpan, IsSpanTo, AreEnds, IsSpan, IsFloor, IsFloorOfPair, IsFarSingle, IsFarPair, edge_of};
 
 use crate::legs::small_row;
-use crate::progress::{Limits, Row, difference};
+use crate::progress::{Limits, PlaceSlack, difference};
 use crate::request::RequestWays;
 use nint_dist::distances_are_nearest_roots;
 use plan_types::Stop;
@@ -49,7 +49,7 @@ struct Nearest {
 
 impl Span {
     /// The span of the places of a route.
-    pub(crate) fn of(places: &[Row]) -> Span
+    pub(crate) fn of(places: &[PlaceSlack]) -> Span
         requires places { All IsSmallRow places.now }
         requires count { 2 ≤ length places.now }
         ensures { IsSpan result places.now }
@@ -64,7 +64,7 @@ impl Span {
     }
 
     // The span of the first stop alone, with the ends of the route.
-    fn begun(places: &[Row]) -> Span
+    fn begun(places: &[PlaceSlack]) -> Span
         requires places { All IsSmallRow places.now }
         requires count { 2 ≤ length places.now }
         ensures within { IsSpanTo result places.now 2 }
@@ -84,7 +84,7 @@ impl Span {
     }
 
     // The span with one place more, behind one that is in it.
-    fn extended(&self, before: &Row, here: &Row) -> Span
+    fn extended(&self, before: &PlaceSlack, here: &PlaceSlack) -> Span
         requires before { IsSmallRow before.now }
         requires here { IsSmallRow here.now }
         requires small { IsSmallSpan self.now }
@@ -108,7 +108,7 @@ impl Span {
         }
     }
 
-    fn longer(&self, before: &Row, here: &Row) -> i64
+    fn longer(&self, before: &PlaceSlack, here: &PlaceSlack) -> i64
         requires before { IsSmallRow before.now }
         requires here { IsSmallRow here.now }
         requires small { IsSmallSpan self.now }
@@ -243,12 +243,12 @@ impl Span {
 }
 
 // The longer of the ways between the depot and the stops.
-fn tips(places: &[Row]) -> i64
+fn tips(places: &[PlaceSlack]) -> i64
     requires places { All IsSmallRow places.now }
     requires count { 2 ≤ length places.now }
-    ensures first { (d : Row) → edge_of (slice_index_or places.now 0 d)
+    ensures first { (d : PlaceSlack) → edge_of (slice_index_or places.now 0 d)
         (slice_index_or places.now 1 d) ≤ℤ result }
-    ensures last { (d : Row) → edge_of (slice_index_or places.now (length places.now - 2) d)
+    ensures last { (d : PlaceSlack) → edge_of (slice_index_or places.now (length places.now - 2) d)
         (slice_index_or places.now (length places.now - 1) d) ≤ℤ result }
     ensures small { unsigned_abs result ≤ 2 ^ 52 }
 {
@@ -260,7 +260,7 @@ fn tips(places: &[Row]) -> i64
 }
 
 // The way from one place to the next.
-fn edge(before: &Row, here: &Row) -> i64
+fn edge(before: &PlaceSlack, here: &PlaceSlack) -> i64
     requires before { IsSmallRow before.now }
     requires here { IsSmallRow here.now }
     ensures value { result ≡ edge_of before.now here.now }

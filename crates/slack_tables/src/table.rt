@@ -13,7 +13,7 @@ ghost use Rattle.plan_types.specs.Instance.{IsInstance};
 ghost use Rattle.nint_dist.specs.Distance.{IsPlaced, distance};
 ghost use Rattle.route_sched.specs.Route.{AreLiveOnce, place};
 ghost use Rattle.slack_tables.specs.Insertion.{request_named, KeepsLimits};
-ghost use Rattle.slack_tables.specs.declared.progress.Row.{Row};
+ghost use Rattle.slack_tables.specs.declared.progress.PlaceSlack.{PlaceSlack};
 ghost use Rattle.slack_tables.specs.Opened.{leaving, open_row, AreOpen};
 ghost use Rattle.slack_tables.specs.Front.{KnowsFronts};
 ghost use Rattle.slack_tables.specs.Inside.{limits_of, AreKnown, IsMade};
@@ -23,7 +23,7 @@ ghost use Rattle.slack_tables.specs.Seen.{KnowsStops};
 use crate::front::{behind_front, copy_front, put, same_front, stop_behind_front};
 use crate::insertion::{pair_added, single_added};
 use crate::legs::small_row;
-use crate::progress::{Limits, Progress, Row};
+use crate::progress::{Limits, PlaceSlack, Progress};
 use crate::request::RequestWays;
 use crate::ride::{driven_on, is_kept, ride_at, ride_of};
 use crate::scan::{Addition, best_pair, best_single, rules_out_single};
@@ -41,7 +41,7 @@ pub struct RouteTable {
     limits: Limits,
     depot: Stop,
     // The depot, each stop in order, and the depot at the return.
-    places: Vec<Row>,
+    places: Vec<PlaceSlack>,
     span: Span,
 }
 
@@ -122,7 +122,8 @@ impl RouteTable {
     ) -> Result<Option<RouteTable>, OutOfMemory>
         requires near { IsCourseIn problem.now near.now }
         requires route { AreLiveOnce problem.now route.now }
-        ensures course { IfOk result (λ o. IfSome o (λ table. table ≡ course_of problem.now route.now)) }
+        ensures course { IfOk result (λ o.
+            IfSome o (λ table. table ≡ course_of problem.now route.now)) }
         ensures route { IfOk result (λ o. IfSome o (λ table. route_of table ≡ route.now)) }
         ensures kept { IfOk result (λ o. (IsSome o) ↔ KeepsLimits problem.now route.now) }
     {
@@ -152,7 +153,7 @@ impl RouteTable {
 
     // What is known of each place, by which routes that differ little are driven too.
     #[inline(always)]
-    fn rows(&self) -> &[Row]
+    fn rows(&self) -> &[PlaceSlack]
         ensures known { AreKnown self.now result.now }
         ensures linked { AreLinked result.now }
         ensures fronts { (p : Instance) → IsCourseIn p self.now → KnowsFronts p result.now }
@@ -356,14 +357,14 @@ impl RouteTable {
 }
 
 /// The place with this number, counted from 0.
-pub(crate) fn row_at(places: &[Row], place: usize) -> &Row
+pub(crate) fn row_at(places: &[PlaceSlack], place: usize) -> &PlaceSlack
     requires { place < length places.now }
-    ensures { (d : Row) → result.now ≡ slice_index_or places.now place d }
+    ensures { (d : PlaceSlack) → result.now ≡ slice_index_or places.now place d }
 {
     &places[place]
 }
 
-fn load_at(place: &Row) -> i64
+fn load_at(place: &PlaceSlack) -> i64
     ensures { result ≡ place.now.at.load }
 {
     place.at.load
@@ -371,9 +372,9 @@ fn load_at(place: &Row) -> i64
 
 // Makes these the places of another route, if it keeps the limits.
 fn remake(
-    places: &mut Vec<Row>,
+    places: &mut Vec<PlaceSlack>,
     problem: &Problem,
-    known: &[Row],
+    known: &[PlaceSlack],
     route: &[u32],
 ) -> Result<bool, OutOfMemory>
     requires known { AreLinked known.now }
@@ -381,7 +382,8 @@ fn remake(
     requires stops { KnowsStops problem.now known.now }
     requires route { AreLiveOnce problem.now route.now }
     ensures kept { IfOk result (λ kept. (kept ≡ true) ↔ KeepsLimits problem.now route.now) }
-    ensures made { IfOk result (λ kept. kept ≡ true → IsMade problem.now route.now places.new.items) }
+    ensures made { IfOk result (λ kept. kept ≡ true
+        → IsMade problem.now route.now places.new.items) }
     ensures refused { OnErr result (places.new.items ≡ places.old.items) }
 {
     stops_are_few(problem, route);
@@ -390,7 +392,7 @@ fn remake(
 }
 
 // What is known of each place of a route, if it keeps the limits.
-fn fill(places: &mut [Row], problem: &Problem, known: &[Row], route: &[u32]) -> bool
+fn fill(places: &mut [PlaceSlack], problem: &Problem, known: &[PlaceSlack], route: &[u32]) -> bool
     requires known { AreLinked known.now }
     requires fronts { KnowsFronts problem.now known.now }
     requires stops { KnowsStops problem.now known.now }
@@ -409,7 +411,12 @@ fn fill(places: &mut [Row], problem: &Problem, known: &[Row], route: &[u32]) -> 
 
 // Whether a route keeps the limits. Its places, as far as there is room for them, are noted as the vehicle comes
 // to them, with nothing known of what is behind.
-fn drive_route(places: &mut [Row], problem: &Problem, known: &[Row], route: &[u32]) -> bool
+fn drive_route(
+    places: &mut [PlaceSlack],
+    problem: &Problem,
+    known: &[PlaceSlack],
+    route: &[u32],
+) -> bool
     requires known { AreLinked known.now }
     requires fronts { KnowsFronts problem.now known.now }
     requires stops { KnowsStops problem.now known.now }
@@ -483,10 +490,10 @@ pub(crate) fn leaving(depot: &Stop) -> Progress
 }
 
 /// A place with nothing known of what is behind it.
-pub(crate) fn open_row(at: Progress) -> Row
+pub(crate) fn open_row(at: Progress) -> PlaceSlack
     ensures { result ≡ open_row at }
 {
-    Row {
+    PlaceSlack {
         at,
         latest_start: u64::MAX,
         most_load: at.load,

@@ -11,7 +11,7 @@ ghost use Rattle.route_sched.specs.Route.{AreLiveOnce, place};
 ghost use Rattle.slack_tables.specs.Legs.{AreLinked};
 ghost use Rattle.slack_tables.specs.Seen.{StandsAt, IsSeen, IsNext, KnowsStops};
 
-use crate::progress::Row;
+use crate::progress::PlaceSlack;
 use crate::table::row_at;
 use nint_dist::{dist, distances_are_nearest_roots};
 use plan_types::{Problem, Stop};
@@ -32,7 +32,7 @@ pub(crate) struct Seen {
 }
 
 /// Whether the table has the vehicle's stop at this place.
-pub(crate) fn seen_at(known: &[Row], place: usize, stop: &Stop) -> Seen
+pub(crate) fn seen_at(known: &[PlaceSlack], place: usize, stop: &Stop) -> Seen
     ensures { IsSeen known.now stop.now result }
 {
     let is_here = place < known.len() && stands_at(&known[place].at.stop, stop);
@@ -41,7 +41,7 @@ pub(crate) fn seen_at(known: &[Row], place: usize, stop: &Stop) -> Seen
 
 /// Whether the table has the next stop of a route, or the depot behind the last one, behind the vehicle's.
 #[inline(always)]
-pub(crate) fn is_next(known: &[Row], seen: &Seen, route: &[u32], k: usize) -> bool
+pub(crate) fn is_next(known: &[PlaceSlack], seen: &Seen, route: &[u32], k: usize) -> bool
     requires { IsTrue seen.now.is_here → seen.now.place < length known.now }
     ensures { IsTrue result → IsNext known.now route.now seen.now k }
 {
@@ -67,7 +67,7 @@ fn number_behind(route: &[u32], k: usize) -> u32
 #[inline(always)]
 pub(crate) fn next_stop<'a>(
     problem: &'a Problem,
-    known: &'a [Row],
+    known: &'a [PlaceSlack],
     seen: &Seen,
     is_next: bool,
     route: &[u32],
@@ -90,7 +90,13 @@ pub(crate) fn next_stop<'a>(
 
 /// The way to the next stop of a route.
 #[inline(always)]
-pub(crate) fn next_way(known: &[Row], seen: &Seen, is_next: bool, from: &Stop, to: &Stop) -> u64
+pub(crate) fn next_way(
+    known: &[PlaceSlack],
+    seen: &Seen,
+    is_next: bool,
+    from: &Stop,
+    to: &Stop,
+) -> u64
     requires linked { AreLinked known.now }
     requires from { IsVisit from.now }
     requires to { IsVisit to.now }
@@ -108,7 +114,7 @@ pub(crate) fn next_way(known: &[Row], seen: &Seen, is_next: bool, from: &Stop, t
 
 /// Where the table has the next stop of a route.
 #[inline(always)]
-pub(crate) fn next_seen(known: &[Row], seen: &Seen, is_next: bool, stop: &Stop) -> Seen
+pub(crate) fn next_seen(known: &[PlaceSlack], seen: &Seen, is_next: bool, stop: &Stop) -> Seen
     requires next { IsTrue is_next → StandsAt known.now (seen.now.place + 1) stop.now }
     ensures { IsSeen known.now stop.now result }
 {
@@ -126,7 +132,7 @@ const AHEAD: usize = 8;
 
 // Where the table has the stop among the next few places.
 #[inline(always)]
-fn seen_behind(known: &[Row], place: usize, stop: &Stop) -> Seen
+fn seen_behind(known: &[PlaceSlack], place: usize, stop: &Stop) -> Seen
     ensures { IsSeen known.now stop.now result }
 {
     let end = known.len().min(place.saturating_add(AHEAD));

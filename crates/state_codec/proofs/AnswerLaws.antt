@@ -6,7 +6,7 @@ use Rattle.std.proofs.lemmas.List.{get_or_past}
 use Rattle.plan_types.specs.Instance.{Instance, IsInstance}
 use Rattle.plan_types.specs.Laws.{PutGivesProblem}
 use Rattle.route_sched.specs.Route.{AreLiveOnce}
-use Rattle.plan_audit.specs.Locality.{PlansHaveVerdicts, RoutesHaveAnswers, TestsSayPass, TestsSayFeasible, PinsAreLiveOnce}
+use Rattle.plan_audit.specs.Locality.{SubjectsHaveVerdicts, RoutesHaveAnswers, TestsSayPass, TestsSayFeasible, PinsAreLiveOnce}
 use Rattle.plan_audit.specs.Passes.{feasible_alone, passes}
 use Rattle.plan_audit.specs.Verdict.{planned, IsVerdict}
 use Rattle.plan_audit.specs.declared.rules.Verdict.{Verdict}
@@ -28,7 +28,7 @@ use Rattle.state_codec.proofs.GrowLaws.{whole_faults}
 use Rattle.state_codec.proofs.JobLaws.{whole_takes, IsReadJob}
 use Rattle.state_codec.proofs.ProblemLaws.{whole_problem}
 
-module _ (verdict : PlansHaveVerdicts) (asked : RoutesHaveAnswers) (pass : TestsSayPass) (feasible : TestsSayFeasible) (once : PinsAreLiveOnce) where
+module _ (verdict : SubjectsHaveVerdicts) (asked : RoutesHaveAnswers) (pass : TestsSayPass) (feasible : TestsSayFeasible) (once : PinsAreLiveOnce) where
   all_live : (p : Instance) (pin : List ℕ) (pins : List (List ℕ)) → All (AreLiveOnce p) (pin ∷ pins) → AreLiveOnce p pin × All (AreLiveOnce p) pins
   all_live p pin pins h = (h 0 [] (omega arith), λ k d lt. h (suc k) d (omega (arith, lt)))
 
@@ -45,7 +45,7 @@ module _ (verdict : PlansHaveVerdicts) (asked : RoutesHaveAnswers) (pass : Tests
       ]
 
   plan_asked : (p : Instance) (pins routes : List (List ℕ)) → IsInstance p → (passes p pins routes ≡ true) ⊎ ((rule : ℕ) × IsPlanRefused p pins routes rule)
-  plan_asked p pins routes valid = by (verdict p routes pins valid)
+  plan_asked p pins routes valid = by (verdict.0 p (planned routes pins), verdict.1 p (planned routes pins) valid)
     where
       by : (v : Verdict) × IsVerdict p (planned routes pins) v → (passes p pins routes ≡ true) ⊎ ((rule : ℕ) × IsPlanRefused p pins routes rule)
       by (Pass cost, is) = inl ((pass p pins routes).1 (subst (λ c. IsVerdict p (planned routes pins) (Pass c)) is.1 is))

@@ -6,6 +6,7 @@ use Rattle.std.proofs.lemmas.List.{append-nil, nil_from_length}
 use Rattle.plan_types.specs.Instance.{Instance}
 use Rattle.plan_types.specs.Request.{request_name}
 use Rattle.plan_types.specs.declared.requests.Request.{Request}
+use Rattle.plan_types.specs.Limits.{most_deviation}
 use Rattle.command_core.specs.Job.{JobValue}
 use Rattle.state_codec.specs.declared.head.Head.{Head}
 use Rattle.state_codec.specs.declared.version.Version.{Version}
@@ -72,11 +73,11 @@ work_takes Two fleet plan bytes fits y e = ((routes_take Two fleet bytes fits y 
 pub record IsReadJob (v : Version) (j : JobValue) : Type 0 where
   pub of : IsJobOf v j
   pub fleet : length j.pins ≡ j.problem.fleet
-  pub deviation : j.deviation ≤ 1000000000
+  pub deviation : j.deviation ≤ most_deviation
   pub seed : j.seed < 2 ^ 64
   pub steps : j.steps ≤ 2 ^ 60
 
-allowed : (v : Version) (d : ℕ) → IsAllowance v d → d ≤ 1000000000
+allowed : (v : Version) (d : ℕ) → IsAllowance v d → d ≤ most_deviation
 allowed One d h = omega (arith, h)
 allowed Two d h = h
 

@@ -3,7 +3,7 @@ use Rattle.std.proofs.Common.{◌≡◌, ℕ, ◌-◌, ◌^◌, ◌<◌, List, �
 use Rattle.std.specs.Prelude.{◌&&◌, true, pos, replicate}
 use Rattle.std.proofs.lemmas.Bool.{and_parts, le-leb, leb-true}
 use Rattle.std.proofs.lemmas.List.{drop_at}
-use Rattle.plan_types.specs.Limits.{IsVisit}
+use Rattle.plan_types.specs.Limits.{most_deviation, IsVisit}
 use Rattle.command_core.specs.Commands.{is_recorded, fits_record}
 use Rattle.command_core.specs.Wishes.{is_demand, is_spot, stop_on}
 use Rattle.command_core.specs.declared.commands.Spot.{Spot}
@@ -87,7 +87,7 @@ recorded_fits v (Unpin vehicle) is = (refl, refl)
 recorded_fits v Build is = (refl, refl)
 recorded_fits v (Search count) is = (refl, rw (le-leb 1 count is.0, le-leb count 256 is.1) refl)
 recorded_fits One (Deviation deviation) is = absurd is
-recorded_fits Two (Deviation deviation) is = (refl, le-leb deviation 1000000000 is)
+recorded_fits Two (Deviation deviation) is = (refl, le-leb deviation most_deviation is)
 recorded_fits v c is = absurd is
 
 -- the command of a record, behind its sequence and index

@@ -1,5 +1,6 @@
 -- What has bytes in each version.
 use Rattle.std.specs.Prelude.{◌≡◌, ℕ, ◌<◌, ◌≤◌, ◌^◌, ◌+◌, ◌&&◌, true}
+use Rattle.plan_types.specs.Limits.{most_deviation}
 use Rattle.command_core.specs.Job.{JobValue}
 use Rattle.command_core.specs.Wishes.{is_spot, is_demand}
 use Rattle.command_core.specs.declared.states.State.{State}
@@ -37,7 +38,7 @@ HasRoom v n = n < 256 ^ width v
 -- version 1 has no deviation
 abbrev pub IsDeviationOf : Version → ℕ → Type 0
 IsDeviationOf One d = ⊥
-IsDeviationOf Two d = d ≤ 1000000000
+IsDeviationOf Two d = d ≤ most_deviation
 
 -- The commands that have a record, with fields within their limits: the others are written as the states that they leave. Numbers of
 -- requests, vehicles and places may be any.

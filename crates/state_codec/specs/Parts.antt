@@ -1,6 +1,6 @@
 -- The parts of a state that were read and not judged yet.
 use Rattle.std.specs.Prelude.{◌≡◌, ◌<◌, ◌≤◌, ◌^◌, length}
-use Rattle.plan_types.specs.Limits.{IsDepot, IsCapacity, IsFleet}
+use Rattle.plan_types.specs.Limits.{most_deviation, IsCapacity, IsDepot, IsFleet}
 use Rattle.command_core.specs.Job.{JobValue}
 use Rattle.state_codec.specs.declared.head.Head.{Head}
 use Rattle.state_codec.specs.declared.parts.Parts.{Parts}
@@ -19,6 +19,6 @@ pub record IsHead (h : Head) : Type 0 where
 -- within the limits of a state
 pub record IsWithin (j : JobValue) : Type 0 where
   pub fleet : length j.pins ≡ j.problem.fleet
-  pub deviation : j.deviation ≤ 1000000000
+  pub deviation : j.deviation ≤ most_deviation
   pub seed : j.seed < 2 ^ 64
   pub steps : j.steps ≤ 2 ^ 60

@@ -8,8 +8,8 @@ ghost use Rattle.state_codec.specs.Reading.{kind_at, is_steps, is_capacity, is_f
 use crate::fault::CodecFault;
 use crate::fields::{Field, number_at, only, point_at, u8_at, u32_at, u64_at, window_at};
 use crate::version::Version;
-use command_core::{MAX_DEVIATION, MAX_STEPS};
-use plan_types::limits::MAX_CAPACITY;
+use command_core::MAX_STEPS;
+use plan_types::limits::{MAX_CAPACITY, MAX_DEVIATION};
 use plan_types::{Kind, Stop};
 
 #[derive(Clone, Copy)]

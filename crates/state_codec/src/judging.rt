@@ -18,7 +18,8 @@ pub(crate) fn audited(
     plan: &Plan,
 ) -> Result<(), CodecFault>
     ensures ok { OnOk result (passes problem.now pins.now.routes plan.now.routes ≡ true) }
-    ensures err { IfErr result (TellsRule (IsPlanRefused problem.now pins.now.routes plan.now.routes)) }
+    ensures err { IfErr result
+        (TellsRule (IsPlanRefused problem.now pins.now.routes plan.now.routes)) }
 {
     tests_say_pass();
     match audit(alloc, problem, pins, plan)? {

@@ -14,7 +14,8 @@ use crate::fault::CodecFault;
 use crate::fields::{Field, i32_at, number_at, u8_at, u16_at, u32_at};
 use crate::sector::Sector;
 use crate::version::Version;
-use command_core::{Command, MAX_COUNT, MAX_DEVIATION, Spot, is_demand, is_spot};
+use command_core::{Command, MAX_COUNT, Spot, is_demand, is_spot};
+use plan_types::limits::MAX_DEVIATION;
 
 /// The sector of a record: the command as the one of this index in the journal of this sequence. The command is one that has
 /// a record, and its fields keep their limits. Takes no memory.

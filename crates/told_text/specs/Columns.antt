@@ -1,5 +1,5 @@
 -- Lines and columns of numbers in decimal.
-use Rattle.std.specs.Prelude.{ℕ, ◌-◌, ◌^◌, ℤ, List, ◌++◌, codes}
+use Rattle.std.specs.Prelude.{ℕ, ◌-◌, ◌^◌, ℤ, List}
 use Rattle.std.specs.Fmt.{format_spec, styled_decimal, styled_signed_decimal}
 
 -- a number at the right of a column that is so wide, with blanks before it; what is wider stands whole
@@ -12,7 +12,3 @@ right_signed width n = styled_signed_decimal (format_spec 32 3 0 width (2 ^ 64 -
 -- a number at the left, with blanks behind it
 abbrev pub left : ℕ → ℕ → List ℕ
 left width n = styled_decimal (format_spec 32 1 0 width (2 ^ 64 - 1)) n
-
--- a number at the right, and the blank between two columns
-abbrev pub cell : ℕ → ℕ → List ℕ
-cell width n = right width n ++ codes " "

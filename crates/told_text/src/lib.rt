@@ -13,7 +13,7 @@
 #![tactic(auto)]
 
 ghost use Rattle.std.specs.Prelude.{◌≡◌, ◌<◌, ◌∷◌, ◌++◌, [], IfOk, string_bytes};
-ghost use Rattle.told_text.specs.Columns.{cell, left, right, right_signed};
+ghost use Rattle.told_text.specs.Columns.{left, right, right_signed};
 
 use ghost_values::{Ghost, ListOf};
 use itoa::{Buffer, Integer};
@@ -115,13 +115,5 @@ impl Told {
     {
         self.meant = self.meant.after((width, n));
         self.has_room = self.has_room && write!(self.text, "{n:>width$}").is_ok();
-    }
-
-    /// A number at the right of so many columns, and a blank.
-    pub fn push_cell(&mut self, width: usize, n: u128)
-        ensures { self.new ≡ self.old ++ cell width n }
-    {
-        self.push_right(width, n);
-        self.push_str(" ");
     }
 }

@@ -23,7 +23,7 @@ use plan_types::{
 
 // Where a single stands in a draft; indices count from 0.
 #[derive(Clone, Copy)]
-struct Seat {
+struct SinglePlace {
     stop: Stop,
     vehicle: u64,
     index: usize,
@@ -55,7 +55,7 @@ impl Draft {
     }
 
     // Where a single stands, if a seat tells.
-    fn single_seat(&self, problem: &Problem, pins: &Pins, name: u32) -> Option<Seat>
+    fn single_seat(&self, problem: &Problem, pins: &Pins, name: u32) -> Option<SinglePlace>
         requires { IsDraftOf problem.now pins.now.routes self.now }
         ensures { IfSome result (λ seat. IsSeatOf problem.now (draft_of self.now) name seat) }
     {
@@ -64,7 +64,7 @@ impl Draft {
         };
         let vehicle = u64::from(*self.seats.get(stop.number as usize)?);
         let index = place_of(self.route(vehicle), stop.number)?;
-        Some(Seat {
+        Some(SinglePlace {
             stop,
             vehicle,
             index,
@@ -72,7 +72,7 @@ impl Draft {
     }
 
     // The way to a stop from the one before a seat, and on to the one behind it.
-    fn ways_over(&self, problem: &Problem, pins: &Pins, seat: &Seat, stop: &Stop) -> u64
+    fn ways_over(&self, problem: &Problem, pins: &Pins, seat: &SinglePlace, stop: &Stop) -> u64
         requires is { IsDraftOf problem.now pins.now.routes self.now }
         requires seat { IsSeat (draft_of self.now) seat.now }
         requires stop { IsVisit stop.now }

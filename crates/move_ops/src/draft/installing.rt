@@ -86,7 +86,8 @@ impl Draft {
         requires small { total_length problem.now
             (with_routes (draft_of self.old) (changes_of tours.items)) ≤ 2 ^ 63 }
         ensures tables { AreTablesIn problem.now self.new.tours }
-        ensures plan { draft_of self.new ≡ with_routes (draft_of self.old) (changes_of tours.items) }
+        ensures plan { draft_of self.new
+            ≡ with_routes (draft_of self.old) (changes_of tours.items) }
         ensures base { undone self.new.tours self.new.log ≡ undone self.old.tours self.old.log }
         ensures vehicles { result.0 ≡ vehicle_count problem.now.kind (draft_of self.new) }
         ensures distance { result.1 ≡ total_length problem.now (draft_of self.new) }

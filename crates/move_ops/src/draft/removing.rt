@@ -188,8 +188,8 @@ impl Draft {
         ensures { IfOk result (λ o. MatchOption o
             (list_all (is_movable_name problem.now pins.now.routes (draft_of self.now)) names.now
             ≡ false)
-            (λ vehicles. AreVehiclesToChange problem.now pins.now.routes (draft_of self.now) names.now
-            vehicles.items)) }
+            (λ vehicles. AreVehiclesToChange problem.now pins.now.routes (draft_of self.now)
+            names.now vehicles.items)) }
     {
         let mut vehicles = Vec::with_capacity(*self.tours.allocator(), names.len())?;
         for name in names {

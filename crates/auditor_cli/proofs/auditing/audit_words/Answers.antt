@@ -17,7 +17,8 @@ returns-in-Err-clause-does g c = λ a positional asks.
 pub returns-in-Err-clause-usage : goal.returns-in-Err-clause-usage
 returns-in-Err-clause-usage g c = λ positional none.
     let usage = c.tell_usage.ensures in
-    let told = usage_told _ (kind_of c.in-Err.error) c.tell_usage.result c.status_of-in-Err.result _ _ _ _ (c.in-Err.ensures positional) usage.status usage.output usage.errors c.status_of-in-Err.ensures in
+    let told = usage_told _ (kind_of c.in-Err.error) c.tell_usage.result c.status_of-in-Err.result _ _ _ _
+    (c.in-Err.ensures positional) usage.status usage.output usage.errors c.status_of-in-Err.ensures in
     record {
       files = refl;
       help = λ z. rw (told.0 z) refl;

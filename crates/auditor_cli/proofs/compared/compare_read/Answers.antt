@@ -30,7 +30,8 @@ returns-in-Ok-clause-told g c =
     let is_y : y ≡ both.1.items = c.deref-in-Ok.ensures.value in
     IfOk-weaker c.tell_listed.result _ _
     (λ status told. (
-      texts_told (IsListedAnswer c.args.routes_alone pair.paths.kind pair.best) pair.paths.instance.now pair.paths.solution.now _ _ _ _ status both.0.items both.1.items x y is_x is_y c.in-Ok.ensures told.0,
+      texts_told
+          (IsListedAnswer c.args.routes_alone pair.paths.kind pair.best) pair.paths.instance.now pair.paths.solution.now _ _ _ _ status both.0.items both.1.items x y is_x is_y c.in-Ok.ensures told.0,
       inl (
         both.0.items,
         both.1.items,

@@ -2,7 +2,7 @@
 use Rattle.std.proofs.Common.{◌∙◌, ◌++◌, ap}
 use Rattle.instance_text.specs.Texts.{end_lines, head_lines, lines_text, section_lines}
 use Rattle.instance_text.specs.declared.lines.Heading.TheVariants.{Coordinates, Demands}
-use Rattle.instance_text.specs.declared.stops.Row.TheVariants.{Node, Demand}
+use Rattle.instance_text.specs.declared.stops.StopLine.TheVariants.{Node, Demand}
 use Rattle.instance_text.proofs.WriteLemmas.{parts_joined}
 use Rattle.instance_text.proofs.write.write_vrp.Goals as goal
 

@@ -8,7 +8,7 @@ use Rattle.std.proofs.lemmas.Bool.Decides.{eqb_tells}
 use Rattle.std.proofs.lemmas.Iterator.{YieldsList-from_slice}
 use Rattle.std.proofs.lemmas.Iterator.Search.{position_from_yields_List}
 use Rattle.plan_audit.specs.Finding.{place_of}
-use Rattle.plan_audit.specs.declared.seats.Seat.{Seat}
+use Rattle.plan_audit.specs.declared.seats.PlanPlace.{PlanPlace}
 use Rattle.plan_audit.proofs.alone.seat_alone.Goals as goal
 
 -- the first place of a number is where `position` finds it
@@ -33,7 +33,7 @@ told place len r e =
     subst P (sym e) (cond_both (nat_lt place len) (Some place) None P (λ below. (refl, ltb-true place len below)) (λ above. ltb-false place len above))
 
 -- the seat at the first place
-abbrev seat : Option ℕ → Option Seat
+abbrev seat : Option ℕ → Option PlanPlace
 seat place = option_or (option_map (λ i. record { route = 0; place = i }) place) None
 
 module _ (n : ℕ) (route : List ℕ) (r : Option ℕ)

@@ -3,7 +3,7 @@ use Rattle.std.proofs.Common.{◌≡◌, length, ap}
 use Rattle.std.specs.Option.{option_map}
 use Rattle.std.specs.List.{slice_get}
 use Rattle.std.proofs.lemmas.Iterator.Consumers.{nth_from_yields_List, YieldsList-from_first}
-use Rattle.route_sched.specs.Walk.{Walk}
+use Rattle.route_sched.specs.VisitsValue.{VisitsValue}
 use Rattle.route_sched.specs.Visiting.{visits_from}
 use Rattle.route_sched.specs.declared.visits.Visit.{Visit}
 use Rattle.plan_audit.proofs.VisitLemmas.{return_is, return_there}
@@ -15,7 +15,7 @@ nth_visit : (c : After-nth) → option_map (λ v. v) c.nth.result ≡ slice_get 
 nth_visit c =
     nth_from_yields_List c.nth.result c.nth.new.self (length c.args.route.now) c.nth.ensures.ran
     (YieldsList-from_first (λ v. v) (λ v. visits_from v.problem v.route v.place) (visits_from c.args.problem.now c.args.route.now 0)
-    (ap (λ (v : Walk). visits_from v.problem v.route v.place) c.new.ensures))
+    (ap (λ (v : VisitsValue). visits_from v.problem v.route v.place) c.new.ensures))
 
 pub returns : goal.returns
 returns c =

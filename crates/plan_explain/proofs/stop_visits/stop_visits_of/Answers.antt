@@ -3,7 +3,7 @@ use Rattle.std.proofs.Common.{◌∙◌, ◌∷◌, ◌++◌, [], arith, ap, sym
 use Rattle.std.specs.List.{range_with_len}
 use Rattle.std.proofs.lemmas.List.FromFn.{map-range_with_len_more}
 use Rattle.plan_types.specs.Instance.{Instance}
-use Rattle.route_sched.specs.Walk.{Walk}
+use Rattle.route_sched.specs.VisitsValue.{VisitsValue}
 use Rattle.route_sched.specs.Visiting.{visits_from}
 use Rattle.route_sched.specs.declared.visits.Visit.{Visit}
 use Rattle.route_sched.proofs.LiveStops.{place-first}
@@ -19,7 +19,7 @@ loop-place-init c =
     let route = c.args.route.now in
     record {
       stop_visits = c.new-stop_visits.ensures.items;
-      rest = ap (λ (w : Walk). visits_from w.problem w.route w.place) c.new-visits.ensures;
+      rest = ap (λ (w : VisitsValue). visits_from w.problem w.route w.place) c.new-visits.ensures;
       stop = ap (λ (q : Instance). q.depot) c.problem.view_is ∙ sym (place-first p route);
       begun = c.from.ensures ∙ (ap (λ (q : Instance). q.depot.earliest) c.problem.view_is ∙ sym (start-first p route));
     }

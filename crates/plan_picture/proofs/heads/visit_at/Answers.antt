@@ -3,7 +3,7 @@ use Rattle.std.proofs.Common.{◌≡◌, ◌∙◌, ℕ, zero, suc, ◌-◌, ◌
 use Rattle.std.specs.Option.{option_map}
 use Rattle.std.proofs.lemmas.Iterator.Adapters.{option_map_id}
 use Rattle.std.proofs.lemmas.Iterator.Consumers.{nth_from_yields_List, YieldsList-from_first}
-use Rattle.route_sched.specs.Walk.{Walk}
+use Rattle.route_sched.specs.VisitsValue.{VisitsValue}
 use Rattle.route_sched.specs.Visiting.{visits_from}
 use Rattle.plan_audit.specs.Rules.{item_at}
 use Rattle.plan_picture.proofs.heads.visit_at.Goals as goal
@@ -18,6 +18,6 @@ returns c =
     let all = visits_from c.args.problem.now c.args.route.now 0 in
     let found : option_map (λ v. v) c.nth.result ≡ slice_get all (c.args.place - 1) =
     nth_from_yields_List c.nth.result c.nth.new.self (c.args.place - 1) c.nth.ensures.ran
-    (YieldsList-from_first (λ v. v) (λ v. visits_from v.problem v.route v.place) all (ap (λ (v : Walk). visits_from v.problem v.route v.place) c.new.ensures))
+    (YieldsList-from_first (λ v. v) (λ v. visits_from v.problem v.route v.place) all (ap (λ (v : VisitsValue). visits_from v.problem v.route v.place) c.new.ensures))
     in
     sym (option_map_id c.nth.result) ∙ (found ∙ sym (item_behind all c.args.place (omega (arith, c.if-place-eq0.false))))

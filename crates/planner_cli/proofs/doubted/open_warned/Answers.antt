@@ -24,7 +24,7 @@ returns-in-Ok-clause-told g c =
 pub returns-in-Err-clause-opens : goal.returns-in-Err-clause-opens
 returns-in-Err-clause-opens g c =
     refused_first _ c.args.device c.doubts_about.new.device c.images_hold_one_thing.ensures.never_both c.in-Err.fault c.in-Err.ensures.reads c.in-Err.ensures.small
-    c.in-Err.ensures.fails c.in-Err.ensures.found
+    c.in-Err.ensures.fails c.in-Err.ensures.found (g.met.D.Sectors.reads_possible c.args.device)
 
 pub returns-in-Err-clause-told : goal.returns-in-Err-clause-told
 returns-in-Err-clause-told g c = unwarned _ c.args.device c.doubts_about.new.device c.args.store.now c.in-Err.fault _ c.in-Err.ensures.found

@@ -11,8 +11,8 @@ returns-in-Ok-clause-opened c =
       alone = λ state stands. said.opens tt state stands;
       whole = said.whole;
       calls = said.finished;
-      faults = said.fault;
-      replayed = (c.in-Ok.opened.replayed, said.replayed tt);
+      faults = said.faults;
+      replayed = (c.in-Ok.opened.replayed, said.replays tt);
     }
 
 -- each image is one of this moment, and so one of those within the opening
@@ -24,5 +24,5 @@ returns-in-Err-clause-refused c =
       cause = said.refused tt;
       of_load = said.fails;
       images = λ image possible. (moments.each (memory left).calls image (counts_now left (clock_of (memory c.args.device)) image moments.later possible)).1;
-      faults = said.fault;
+      faults = said.faults;
     }

@@ -4,7 +4,7 @@ use Rattle.std.specs.Option.{option_map}
 use Rattle.nint_dist.specs.Distance.{distance}
 use Rattle.slack_tables.specs.Ride.{ride_at, ridden, IsNearRide}
 use Rattle.slack_tables.specs.Walk.{walk_to}
-use Rattle.slack_tables.specs.declared.progress.Row.{Row}
+use Rattle.slack_tables.specs.declared.progress.PlaceSlack.{PlaceSlack}
 use Rattle.slack_tables.proofs.WalkLemmas.{distance-back, first-ride, next-ride, pair-over, pair-served, served-any}
 use Rattle.slack_tables.proofs.insertion.pair_added.Goals as goal
 
@@ -17,7 +17,7 @@ loop-k-init c =
       walk = λ d.
           (let before = c.small_row.ensures.place d in
           first-ride limits places pickup c.args.i d _ _ _ before
-          (c.leg_at-to.ensures.value d ∙ ap (λ (e : Row). distance e.at.stop pickup) (sym before))
+          (c.leg_at-to.ensures.value d ∙ ap (λ (e : PlaceSlack). distance e.at.stop pickup) (sym before))
           (c.ride_on.ensures.value
           ∙ ap (λ r. ridden limits r c.small_row.result.now.at.stop.service c.leg_at-to.result pickup) c.ride_of.ensures)
           ∙ ap (λ o. option_map (λ r. ride_at r pickup) o) c.in_ok-ride.was);
@@ -37,7 +37,7 @@ returns-in_err-ride c = λ d.
     let pickup = c.args.pickup.now in
     let before = c.small_row.ensures.place d in
     let never = first-ride limits places pickup c.args.i d _ _ _ before
-    (c.leg_at-to.ensures.value d ∙ ap (λ (e : Row). distance e.at.stop pickup) (sym before))
+    (c.leg_at-to.ensures.value d ∙ ap (λ (e : PlaceSlack). distance e.at.stop pickup) (sym before))
     (c.ride_on.ensures.value
     ∙ ap (λ r. ridden limits r c.small_row.result.now.at.stop.service c.leg_at-to.result pickup) c.ride_of.ensures)
     ∙ ap (λ o. option_map (λ r. ride_at r pickup) o) c.in_err-ride.was in
@@ -57,7 +57,7 @@ loop-k-preserved c =
           next-ride limits places pickup c.args.i d (c.loop-k.k + 1) c.loop-k.ride c.loop-k.stop next _ _ (omega arith) (omega arith)
           (c.loop-k.invariant.walk d) (place ∙ ap (λ k. get_or places k d) (omega arith))
           (c.leg_at.ensures.value d
-          ∙ (ap (λ (e : Row). distance e.at.stop c.loop-k.stop) (sym place)
+          ∙ (ap (λ (e : PlaceSlack). distance e.at.stop c.loop-k.stop) (sym place)
           ∙ distance-back c.small_row-in-loop-k.result.now.at.stop c.loop-k.stop)) c.ride_on-in-loop-k.ensures.value
           ∙ ap (λ o. option_map (λ r. ride_at r c.small_row-in-loop-k.result.now.at.stop) o) c.in_ok-ride-2.was);
       visit = c.small_row-in-loop-k.ensures.small.at.visit;
@@ -79,7 +79,7 @@ returns-in_err-ride-2 c = λ d.
     (c.loop-k.k + 1) c.loop-k.ride c.loop-k.stop c.small_row-in-loop-k.result.now _ _ (omega arith) (omega arith)
     (c.loop-k.invariant.walk d) (place ∙ ap (λ k. get_or places k d) (omega arith))
     (c.leg_at.ensures.value d
-    ∙ (ap (λ (e : Row). distance e.at.stop c.loop-k.stop) (sym place)
+    ∙ (ap (λ (e : PlaceSlack). distance e.at.stop c.loop-k.stop) (sym place)
     ∙ distance-back c.small_row-in-loop-k.result.now.at.stop c.loop-k.stop)) c.ride_on-in-loop-k.ensures.value
     ∙ ap (λ o. option_map (λ r. ride_at r c.small_row-in-loop-k.result.now.at.stop) o) c.in_err-ride-2.was in
     c.from_residual-in_err-ride-2.ensures

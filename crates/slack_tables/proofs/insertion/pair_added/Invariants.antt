@@ -3,12 +3,12 @@ use Rattle.std.proofs.Common.{◌≡◌, ◌+◌, ◌*◌, ◌^◌, Some}
 use Rattle.plan_types.specs.Limits.{IsVisit}
 use Rattle.slack_tables.specs.Ride.{ride_at, IsSmallRide}
 use Rattle.slack_tables.specs.Walk.{walk_to}
-use Rattle.slack_tables.specs.declared.progress.Row.{Row}
+use Rattle.slack_tables.specs.declared.progress.PlaceSlack.{PlaceSlack}
 use Rattle.slack_tables.proofs.insertion.pair_added.Given as goal
 
 abbrev pub invariant-loop-k : goal.invariant-loop-k
 invariant-loop-k l = record {
-  walk : (d : Row) → walk_to l.limits l.places l.pickup l.i d (l.k + 1) ≡ Some (ride_at l.ride l.stop);
+  walk : (d : PlaceSlack) → walk_to l.limits l.places l.pickup l.i d (l.k + 1) ≡ Some (ride_at l.ride l.stop);
   visit : IsVisit l.stop;
   near : IsSmallRide (2 ^ 51 + l.k * 2 ^ 34) l.ride;
 }

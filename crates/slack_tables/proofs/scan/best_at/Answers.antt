@@ -6,7 +6,7 @@ use Rattle.std.proofs.lemmas.Option.{none-some}
 use Rattle.nint_dist.specs.Distance.{distance}
 use Rattle.slack_tables.specs.Best.{IsFirstOf}
 use Rattle.slack_tables.specs.Scan.{AddsDelivery, AreDear}
-use Rattle.slack_tables.specs.declared.progress.Row.{Row}
+use Rattle.slack_tables.specs.declared.progress.PlaceSlack.{PlaceSlack}
 use Rattle.slack_tables.proofs.ScanLemmas.{deliveries-none}
 use Rattle.slack_tables.proofs.WalkLemmas.{underway-begin, not-begun}
 use Rattle.slack_tables.proofs.scan.best_at.Goals as goal
@@ -20,7 +20,7 @@ best_delivery-requires-clause-underway c = λ d.
     c.leg_at-onward.result refl refl
     (before.ensures.place d)
     (c.leg_at-to.ensures.value d
-    ∙ ap (λ (e : Row). distance e.at.stop trip.pickup)
+    ∙ ap (λ (e : PlaceSlack). distance e.at.stop trip.pickup)
     (sym (before.ensures.place d))) c.in-Some.first refl c.requires.scan.over.trip.across
     (c.leg_at-onward.ensures.value d) (sym c.in-Some.is ∙ c.pick_up.ensures.value))
 
@@ -42,7 +42,7 @@ returns-in_default c = λ d.
     (let never = not-begun trip.limits places trip.pickup trip.delivery c.args.i d trip before.result.now c.leg_at-to.result
     c.leg_at-onward.result refl refl
     (before.ensures.place d)
-    (c.leg_at-to.ensures.value d ∙ ap (λ (e : Row). distance e.at.stop trip.pickup) (sym (before.ensures.place d)))
+    (c.leg_at-to.ensures.value d ∙ ap (λ (e : PlaceSlack). distance e.at.stop trip.pickup) (sym (before.ensures.place d)))
     (sym c.in_default.is ∙ c.pick_up.ensures.value) j behind last in
     absurd (none-some x (sym never ∙ some)))))
 

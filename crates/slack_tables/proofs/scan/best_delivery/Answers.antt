@@ -7,7 +7,7 @@ use Rattle.nint_dist.specs.Distance.{distance}
 use Rattle.slack_tables.specs.Best.{IsFirstOf}
 use Rattle.slack_tables.specs.Ride.{served_below}
 use Rattle.slack_tables.specs.Scan.{AddsDelivery, offered}
-use Rattle.slack_tables.specs.declared.progress.Row.{Row}
+use Rattle.slack_tables.specs.declared.progress.PlaceSlack.{PlaceSlack}
 use Rattle.slack_tables.proofs.DetourLemmas.{first-reach, dear-behind}
 use Rattle.slack_tables.proofs.ScanLemmas.{deliveries-begin, delivery-more, deliveries-stop, bits-below}
 use Rattle.slack_tables.proofs.WalkLemmas.{underway-more, near-more, near-small, not-last, over, offered-here}
@@ -84,7 +84,7 @@ returns-then-is_hopeless c = λ d.
     (c.loop-j.invariant.best d) order within c.offer.new.self
     (offered-here trip.limits places trip.pickup trip.delivery c.args.i d c.loop-j.j on order within
     (c.loop-j.invariant.underway d) c.loop-j.best c.offer.new.self tail c.leg_at.result (c.small_row-tail.ensures.place d)
-    (c.leg_at.ensures.value d ∙ ap (λ (e : Row). distance e.at.stop trip.delivery) (sym (c.small_row-tail.ensures.place d)))
+    (c.leg_at.ensures.value d ∙ ap (λ (e : PlaceSlack). distance e.at.stop trip.delivery) (sym (c.small_row-tail.ensures.place d)))
     (c.offer.ensures ∙ ap (λ o. offered c.loop-j.best o c.args.i c.loop-j.j) served)) in
     let dear = bits-below c.offer.new.self.bound _ (search rules) (c.is_hopeless.ensures.dear c.if-is_hopeless.true) in
     let rest = dear-behind trip.limits places trip.pickup trip.delivery c.args.i d c.requires.scan.over.linked c.args.least.now
@@ -93,7 +93,7 @@ returns-then-is_hopeless c = λ d.
     (let far = first-reach trip.limits places trip.pickup trip.delivery c.args.i d c.requires.scan.over.linked c.args.first
     (c.requires.underway d) in
     omega arith)
-    (ap (λ (e : Row). e.at.distance) (c.small_row-next.ensures.place d)) dear in
+    (ap (λ (e : PlaceSlack). e.at.distance) (c.small_row-next.ensures.place d)) dear in
     subst (λ x. IsFirstOf (AddsDelivery trip.limits places trip.pickup trip.delivery c.args.i x d) c.offer.new.self.found) (to_z-of_z w64 c.args.below below)
     (deliveries-stop trip.limits places trip.pickup trip.delivery c.args.i d _ (c.loop-j.j + 1) c.offer.new.self so
     (λ k x h l some. rest k x (omega arith) l some)))
@@ -116,7 +116,7 @@ returns-in_default c = λ d.
     (c.loop-j.invariant.best d) order within c.offer.new.self
     (offered-here trip.limits places trip.pickup trip.delivery c.args.i d c.loop-j.j on order within
     (c.loop-j.invariant.underway d) c.loop-j.best c.offer.new.self tail c.leg_at.result (c.small_row-tail.ensures.place d)
-    (c.leg_at.ensures.value d ∙ ap (λ (e : Row). distance e.at.stop trip.delivery) (sym (c.small_row-tail.ensures.place d)))
+    (c.leg_at.ensures.value d ∙ ap (λ (e : PlaceSlack). distance e.at.stop trip.delivery) (sym (c.small_row-tail.ensures.place d)))
     (c.offer.ensures ∙ ap (λ o. offered c.loop-j.best o c.args.i c.loop-j.j) served)) in
     let rest = over trip.limits places trip.pickup trip.delivery c.args.i d c.loop-j.j on order within
     (c.loop-j.invariant.underway d) c.leg_at.result (sym c.in_default.is ∙ c.go_on.ensures.value d) in
@@ -148,7 +148,7 @@ loop-j-preserved c =
           (c.loop-j.invariant.best d) order within c.offer.new.self
           (offered-here trip.limits places trip.pickup trip.delivery c.args.i d c.loop-j.j on order within
           (c.loop-j.invariant.underway d) c.loop-j.best c.offer.new.self tail c.leg_at.result (c.small_row-tail.ensures.place d)
-          (c.leg_at.ensures.value d ∙ ap (λ (e : Row). distance e.at.stop trip.delivery) (sym (c.small_row-tail.ensures.place d)))
+          (c.leg_at.ensures.value d ∙ ap (λ (e : PlaceSlack). distance e.at.stop trip.delivery) (sym (c.small_row-tail.ensures.place d)))
           (c.offer.ensures ∙ ap (λ o. offered c.loop-j.best o c.args.i c.loop-j.j) served));
       underway = λ d.
           underway-more trip.limits places trip.pickup trip.delivery c.args.i d c.loop-j.j on order within

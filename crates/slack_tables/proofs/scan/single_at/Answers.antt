@@ -4,7 +4,7 @@ use mir.Val.{SFits}
 use Rattle.std.proofs.lemmas.Int.{ints, to_z-of_z}
 use Rattle.nint_dist.specs.Distance.{distance}
 use Rattle.slack_tables.specs.Ride.{ride_of, price, served_below}
-use Rattle.slack_tables.specs.declared.progress.Row.{Row}
+use Rattle.slack_tables.specs.declared.progress.PlaceSlack.{PlaceSlack}
 use Rattle.slack_tables.specs.declared.ride.Ride.{Ride}
 use Rattle.slack_tables.proofs.DetourLemmas.{served-dear}
 use Rattle.slack_tables.proofs.scan.single_at.Goals as goal
@@ -16,8 +16,8 @@ returns-then-price-below c = λ d.
     let below : SFits w64 c.args.below = record { sfits = c.ranges.below.sfits } in
     let fits : SFits w64 c.price.result = search rules in
     let start = ap (λ (r : Ride). r.distance) c.ride_of-ride.ensures in
-    let before = ap (λ (e : Row). e.at.distance) (c.small_row-before.ensures.place d) in
-    let end = ap (λ (e : Row). e.at.distance) (c.small_row-tail.ensures.place d) in
+    let before = ap (λ (e : PlaceSlack). e.at.distance) (c.small_row-before.ensures.place d) in
+    let end = ap (λ (e : PlaceSlack). e.at.distance) (c.small_row-tail.ensures.place d) in
     let dear : c.args.below
     ≤ℤ price (ride_of (get_or places (c.args.i - 1) d).at) c.args.near.to c.args.near.from (get_or places c.args.i d) =
     omega (arith, ints) in
@@ -34,8 +34,8 @@ returns-then-price-below-2 c = λ d.
     let value = c.price-2.ensures in
     let fits : SFits w64 c.price-2.result = search rules in
     let start = ap (λ (r : Ride). r.distance) c.ride_of-ride.ensures in
-    let before = ap (λ (e : Row). e.at.distance) (c.small_row-before.ensures.place d) in
-    let end = ap (λ (e : Row). e.at.distance) (c.small_row-tail.ensures.place d) in
+    let before = ap (λ (e : PlaceSlack). e.at.distance) (c.small_row-before.ensures.place d) in
+    let end = ap (λ (e : PlaceSlack). e.at.distance) (c.small_row-tail.ensures.place d) in
     let dear : c.args.below
     ≤ℤ price (ride_of (get_or places (c.args.i - 1) d).at) c.least_leg_at.result c.least_leg_at-2.result (get_or places c.args.i d) =
     omega (arith, ints) in
@@ -63,11 +63,11 @@ returns c = λ d.
     (distance (get_or places (c.args.i - 1) d).at.stop stop) stop n next)
     (c.leg_at-2.ensures.value d) in
     let before =
-    ap (λ (e : Row). served_below c.args.below c.args.limits (ride_of e.at) e.at.stop.service
+    ap (λ (e : PlaceSlack). served_below c.args.below c.args.limits (ride_of e.at) e.at.stop.service
     (distance (get_or places (c.args.i - 1) d).at.stop stop) stop (distance (get_or places c.args.i d).at.stop stop) next)
     (c.small_row-before.ensures.place d) in
     let tail =
-    ap (λ (e : Row). served_below c.args.below c.args.limits (ride_of (get_or places (c.args.i - 1) d).at)
+    ap (λ (e : PlaceSlack). served_below c.args.below c.args.limits (ride_of (get_or places (c.args.i - 1) d).at)
     (get_or places (c.args.i - 1) d).at.stop.service (distance (get_or places (c.args.i - 1) d).at.stop stop) stop
     (distance (get_or places c.args.i d).at.stop stop) e)
     (c.small_row-tail.ensures.place d) in

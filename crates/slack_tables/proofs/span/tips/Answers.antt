@@ -3,7 +3,7 @@ use Rattle.std.proofs.Common.{◌≤ℤ◌, ◌-◌, w64, rules, get_or, length,
 use mir.Val.{SFits}
 use Rattle.std.proofs.lemmas.Int.{ints, clamps, to_z-of_z}
 use Rattle.slack_tables.specs.Span.{edge_of}
-use Rattle.slack_tables.specs.declared.progress.Row.{Row}
+use Rattle.slack_tables.specs.declared.progress.PlaceSlack.{PlaceSlack}
 use Rattle.slack_tables.proofs.span.tips.Goals as goal
 
 pub returns-clause-first : goal.returns-clause-first
@@ -12,8 +12,8 @@ returns-clause-first c = λ d.
     let value = c.max.ensures.value in
     let le : edge_of c.small_row-depot.result.now c.small_row-first.result.now ≤ℤ c.max.result = omega (arith, ints, clamps) in
     subst (λ x. edge_of (get_or c.args.places.now 0 d) (get_or c.args.places.now 1 d) ≤ℤ x) (sym (to_z-of_z w64 c.max.result fits))
-    (subst (λ (e : Row). edge_of e (get_or c.args.places.now 1 d) ≤ℤ c.max.result) (c.small_row-depot.ensures.place d)
-    (subst (λ (e : Row). edge_of c.small_row-depot.result.now e ≤ℤ c.max.result) (c.small_row-first.ensures.place d) le)))
+    (subst (λ (e : PlaceSlack). edge_of e (get_or c.args.places.now 1 d) ≤ℤ c.max.result) (c.small_row-depot.ensures.place d)
+    (subst (λ (e : PlaceSlack). edge_of c.small_row-depot.result.now e ≤ℤ c.max.result) (c.small_row-first.ensures.place d) le)))
 
 pub returns-clause-last : goal.returns-clause-last
 returns-clause-last c = λ d.
@@ -23,6 +23,6 @@ returns-clause-last c = λ d.
     subst (λ x. edge_of (get_or c.args.places.now (length c.args.places.now - 2) d)
     (get_or c.args.places.now (length c.args.places.now - 1) d)
     ≤ℤ x) (sym (to_z-of_z w64 c.max.result fits))
-    (subst (λ (e : Row). edge_of e (get_or c.args.places.now (length c.args.places.now - 1) d) ≤ℤ c.max.result)
+    (subst (λ (e : PlaceSlack). edge_of e (get_or c.args.places.now (length c.args.places.now - 1) d) ≤ℤ c.max.result)
     (c.small_row-last.ensures.place d)
-    (subst (λ (e : Row). edge_of c.small_row-last.result.now e ≤ℤ c.max.result) (c.small_row-end.ensures.place d) le)))
+    (subst (λ (e : PlaceSlack). edge_of c.small_row-last.result.now e ≤ℤ c.max.result) (c.small_row-end.ensures.place d) le)))

@@ -1,7 +1,7 @@
 -- The table's stop behind the vehicle's, where its number is the next of the route, is the problem's stop there.
 use Rattle.std.proofs.Common.{◌+◌, subst, sym}
 use Rattle.slack_tables.specs.Seen.{IsStopAt}
-use Rattle.slack_tables.specs.declared.progress.Row.{Row}
+use Rattle.slack_tables.specs.declared.progress.PlaceSlack.{PlaceSlack}
 use Rattle.slack_tables.proofs.ways.next_stop.Goals as goal
 
 pub returns-then-is_next-clause-value : goal.returns-then-is_next-clause-value
@@ -10,7 +10,7 @@ returns-then-is_next-clause-value c =
     let route = c.args.route.now in
     let next = c.requires.next c.if-is_next.true in
     let row = c.row_at.result.now in
-    (subst (λ (e : Row). IsStopAt p route (c.args.k + 1) e.at.stop) (sym (c.row_at.ensures row))
+    (subst (λ (e : PlaceSlack). IsStopAt p route (c.args.k + 1) e.at.stop) (sym (c.row_at.ensures row))
     (c.requires.stops route (c.args.seen.now.place + 1) c.args.k row c.requires.depot next.within (next.number row))).stop
 
 pub returns-then-is_next-clause-visit : goal.returns-then-is_next-clause-visit
@@ -19,5 +19,5 @@ returns-then-is_next-clause-visit c =
     let route = c.args.route.now in
     let next = c.requires.next c.if-is_next.true in
     let row = c.row_at.result.now in
-    (subst (λ (e : Row). IsStopAt p route (c.args.k + 1) e.at.stop) (sym (c.row_at.ensures row))
+    (subst (λ (e : PlaceSlack). IsStopAt p route (c.args.k + 1) e.at.stop) (sym (c.row_at.ensures row))
     (c.requires.stops route (c.args.seen.now.place + 1) c.args.k row c.requires.depot next.within (next.number row))).visit

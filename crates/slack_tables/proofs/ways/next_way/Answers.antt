@@ -1,7 +1,7 @@
 -- The way between neighbouring places of a table is the difference of their distances, and no way is longer than 2828427.
 use Rattle.std.proofs.Common.{◌≡◌, ◌+◌, ◌-◌, ◌≤◌, get_or, refl, subst, sym}
 use Rattle.nint_dist.specs.Distance.{distance}
-use Rattle.slack_tables.specs.declared.progress.Row.{Row}
+use Rattle.slack_tables.specs.declared.progress.PlaceSlack.{PlaceSlack}
 use Rattle.slack_tables.proofs.WayLemmas.{distance_le, way_is}
 use Rattle.slack_tables.proofs.ways.next_way.Goals as goal
 
@@ -15,8 +15,8 @@ returns-then-is_next-clause-value c =
     let next = c.requires.next c.if-is_next.true in
     let d = c.row_at.result.now in
     let way = way_is places c.requires.linked place (place + 1) d from to refl next.within (here.x d) (here.y d) (next.x d) (next.y d) in
-    let begun = subst (λ (e : Row). (get_or places (place + 1) d).at.distance - e.at.distance ≡ distance from to) (sym (c.row_at-then-is_next.ensures d)) way in
-    subst (λ (e : Row). e.at.distance - c.row_at-then-is_next.result.now.at.distance ≡ distance from to) (sym (c.row_at.ensures d)) begun
+    let begun = subst (λ (e : PlaceSlack). (get_or places (place + 1) d).at.distance - e.at.distance ≡ distance from to) (sym (c.row_at-then-is_next.ensures d)) way in
+    subst (λ (e : PlaceSlack). e.at.distance - c.row_at-then-is_next.result.now.at.distance ≡ distance from to) (sym (c.row_at.ensures d)) begun
 
 pub returns-then-is_next-clause-bound : goal.returns-then-is_next-clause-bound
 returns-then-is_next-clause-bound c =

@@ -14,5 +14,5 @@ pub returns-clause-records : goal.returns-clause-records
 returns-clause-records c = records_decided
 
 pub returns-clause-decided : goal.returns-clause-decided
-returns-clause-decided c = decided c.each_plan_has_a_verdict.ensures.plans c.each_plan_has_a_verdict.ensures.routes c.tests_say_pass.ensures
+returns-clause-decided c = decided c.each_plan_has_a_verdict.ensures.verdicts c.each_plan_has_a_verdict.ensures.routes c.tests_say_pass.ensures
     c.tests_say_feasible.ensures c.pins_are_live_once.ensures c.put_adds_one_request.ensures.problem

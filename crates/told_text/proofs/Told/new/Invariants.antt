@@ -1,4 +1,4 @@
--- Nothing.
+-- A new text means nothing yet.
 use Rattle.std.proofs.Common.{[]}
 use Rattle.told_text.proofs.Told.new.Given as goal
 

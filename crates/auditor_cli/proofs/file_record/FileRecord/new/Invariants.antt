@@ -1,4 +1,4 @@
--- None.
+-- A new record has no file that was read.
 use Rattle.std.proofs.Common.{[]}
 use Rattle.auditor_cli.proofs.file_record.FileRecord.new.Given as goal
 

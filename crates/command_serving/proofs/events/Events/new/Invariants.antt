@@ -1,4 +1,4 @@
--- Nothing.
+-- At first nothing was read, and nothing put.
 use Rattle.std.proofs.Common.{[]}
 use Rattle.command_serving.proofs.events.Events.new.Given as goal
 

@@ -1,4 +1,4 @@
--- One read more.
+-- The same events, and what one read gave before those of earlier reads.
 use Rattle.std.proofs.Common.{◌∷◌}
 use Rattle.command_serving.proofs.events.Events.with_read.Given as goal
 

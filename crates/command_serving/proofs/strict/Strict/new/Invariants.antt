@@ -1,4 +1,4 @@
--- What it holds.
+-- A strict writer begins with what the writer within it holds.
 use Rattle.command_serving.proofs.strict.Strict.new.Given as goal
 
 abbrev pub ghost-since : goal.ghost-since

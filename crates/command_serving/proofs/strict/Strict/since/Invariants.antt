@@ -1,4 +1,4 @@
--- What it holds.
+-- What the writer held when the strict one began.
 use Rattle.command_serving.proofs.strict.Strict.since.Given as goal
 
 abbrev pub ghost-of : goal.ghost-of

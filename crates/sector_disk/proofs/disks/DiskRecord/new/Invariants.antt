@@ -1,4 +1,4 @@
--- None.
+-- A new record has no file that was asked for.
 use Rattle.std.proofs.Common.{[]}
 use Rattle.sector_disk.proofs.disks.DiskRecord.new.Given as goal
 

@@ -2,7 +2,7 @@
 use Rattle.std.proofs.Common.{w32, w64, ap, ◌∙◌, arith}
 use mir.Val.{SFits}
 use Rattle.std.proofs.lemmas.Int.{ints, to_z-of_z}
-use Rattle.slack_tables.specs.declared.progress.Row.{Row}
+use Rattle.slack_tables.specs.declared.progress.PlaceSlack.{PlaceSlack}
 use Rattle.slack_tables.proofs.SpanLemmas.{span-begun}
 use Rattle.slack_tables.proofs.span.Span.begun.Goals as goal
 
@@ -34,5 +34,5 @@ returns-clause-ends c =
     record {
       first = λ d. rw (to_z-of_z w64 c.tips.result ft) (c.tips.ensures.first d);
       last = λ d. rw (to_z-of_z w64 c.tips.result ft) (c.tips.ensures.last d);
-      load = λ d. to_z-of_z w64 c.small_row-end.result.now.at.load fo ∙ ap (λ (e : Row). e.at.load) (c.small_row-end.ensures.place d);
+      load = λ d. to_z-of_z w64 c.small_row-end.result.now.at.load fo ∙ ap (λ (e : PlaceSlack). e.at.load) (c.small_row-end.ensures.place d);
     }

@@ -2,7 +2,7 @@
 use Rattle.std.proofs.Common.{◌∙◌, min, sym, ap, subst}
 use Rattle.slack_tables.specs.Latest.{IsLimitOfStarts}
 use Rattle.plan_timetable.proofs.SlackLemmas.{limited, unlimited}
-use Rattle.plan_timetable.proofs.slack.latest_start.Goals as goal
+use Rattle.plan_timetable.proofs.slack.latest_allowed.Goals as goal
 
 pub returns-in-Some : goal.returns-in-Some
 returns-in-Some c =

@@ -6,7 +6,7 @@ use Rattle.std.specs.Io.KnownBytes.{Appends}
 use Rattle.auditor_cli.specs.Answer.{IsAnswerBy}
 use Rattle.auditor_cli.specs.Behind.{behind_line, limit_line}
 use Rattle.auditor_cli.proofs.FileLemmas.{texts_told, unread_told}
-use Rattle.auditor_cli.proofs.audited.audit_noted.Goals as goal
+use Rattle.auditor_cli.proofs.audited.audit_files.Goals as goal
 
 pub returns-in-Err-clause-told : goal.returns-in-Err-clause-told
 returns-in-Err-clause-told g c =

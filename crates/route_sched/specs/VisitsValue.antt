@@ -2,7 +2,7 @@
 use Rattle.std.specs.Prelude.{ℕ, List}
 use Rattle.plan_types.specs.Instance.{Instance}
 
-pub record Walk : Type 0 where
+pub record VisitsValue : Type 0 where
   pub problem : Instance
   pub route : List ℕ
   pub place : ℕ

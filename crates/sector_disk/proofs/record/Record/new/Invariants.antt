@@ -1,6 +1,0 @@
--- None.
-use Rattle.std.proofs.Common.{[]}
-use Rattle.sector_disk.proofs.record.Record.new.Given as goal
-
-abbrev pub ghost-of : goal.ghost-of
-ghost-of a = []
