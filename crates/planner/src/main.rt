@@ -47,7 +47,7 @@ fn status_of(rt: &HostRuntime, words: &[String]) -> u8 {
         output: Watched::new(Caused::new(io::writer(rt))),
         errors: rt.stderr(),
     };
-    let (status, streams) = run_words(
+    let (status, streams, left) = run_words(
         rt,
         Unknown,
         Unknown,
@@ -57,6 +57,8 @@ fn status_of(rt: &HostRuntime, words: &[String]) -> u8 {
         streams,
         words,
     );
+    // Closes the files of stores.
+    drop(left);
     tell_causes(rt, streams);
     status
 }

@@ -3,6 +3,7 @@ pub mod AdoptLemmas
 pub mod DoubtLemmas
 pub mod OkLemmas
 pub mod OpenLemmas
+pub mod ReadLemmas
 pub mod SolvedListLemmas
 pub mod StopLemmas
 pub mod StoreLemmas

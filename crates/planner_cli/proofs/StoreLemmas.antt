@@ -1,5 +1,5 @@
 -- What came of the opening of a store, by what is known of its device.
-use Rattle.std.proofs.Common.{◌≡◌, inl, inr, refl, Bool, List, ℕ, Option, Result, Ok, Err, subst}
+use Rattle.std.proofs.Common.{◌≡◌, inl, inr, Bool, List, ℕ, Option, Result, Ok, Err, subst}
 use Rattle.std.specs.Prelude.{IfErr}
 use Rattle.checkpoint.specs.declared.faults.FormatFault.{FormatFault}
 use Rattle.checkpoint.specs.declared.faults.StoreFault.{StoreFault}
@@ -7,6 +7,7 @@ use Rattle.checkpoint.specs.declared.faults.StoreFault.TheVariants.{NotFormatted
 use Rattle.checkpoint.specs.declared.places.Place.{Place}
 use Rattle.command_serving.specs.Streams.{Given, Stream}
 use Rattle.planner_cli.specs.Formatting.{IsFormatted}
+use Rattle.planner_cli.specs.LeftDevices.{IsLeftUnopened}
 use Rattle.planner_cli.specs.Opened.{IsForetoldBefore, IsFoundBare, IsMade, IsMadeReady, IsOpening, IsOpeningOf, IsUnopened, TellsUnopened}
 use Rattle.planner_cli.specs.Running.{IsUntouched, RunsStore, ServesStore}
 use Rattle.recover.specs.Opening.{IsRefused}
@@ -52,8 +53,8 @@ module _ {D : Type 0} (on : sectors.Ghosts D) (IsOld : D → Type 0) (path : Lis
   unopened_runs status (Store fault left) is told = inl (is.device, is.ready, inr (fault, left, is.refuses, told))
   unopened_runs status (Unformatted fault left) is told = absurd is.bare
 
-  pub unopened_serves : (unopened : Unopened D) → IsUnopened on IsOld (λ device. ⊥) (IsNotTakenAt path) unopened → IsUntouched given before after
-      → ServesStore on (λ p. IsOld) path is_strict given before after reader_failed writer_failed
-  unopened_serves (File refusal) is untouched = inr (refusal, is, untouched)
-  unopened_serves (Store fault left) is untouched = inl (is.device, left, is.ready, inr (fault, left, is.refuses, (refl, untouched)))
-  unopened_serves (Unformatted fault left) is untouched = absurd is.bare
+  pub unopened_serves : (unopened : Unopened D) (left : Option D) → IsUnopened on IsOld (λ device. ⊥) (IsNotTakenAt path) unopened → IsLeftUnopened on unopened left
+      → IsUntouched given before after → ServesStore on (λ p. IsOld) path is_strict given before after reader_failed writer_failed left
+  unopened_serves (File refusal) left is none untouched = inr (refusal, is, none, untouched)
+  unopened_serves (Store fault later) left is read untouched = inl (is.device, is.ready, inr (fault, later, is.refuses, (read, untouched)))
+  unopened_serves (Unformatted fault later) left is same untouched = absurd is.bare

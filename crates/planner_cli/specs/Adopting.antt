@@ -1,6 +1,6 @@
 -- What the word `adopt` does: it reads a solution, and makes it the plan of the store in a file. `told` is the status that goes with what was printed,
 -- if it could be; whatever came of that, the rest is so. Of a store that was asked for no more than a first part of what is told was put then.
-use Rattle.std.specs.Prelude.{◌≡◌, ◌≢◌, ◌⊎◌, ℕ, List, ◌∷◌, codes, Result, Ok, Err, IfOk, MatchResult}
+use Rattle.std.specs.Prelude.{◌≡◌, ◌≢◌, ◌⊎◌, ℕ, List, ◌∷◌, codes, Option, Some, None, Result, Ok, Err, IfOk, MatchResult}
 use Rattle.std.specs.declared.io.ErrorKind.{ErrorKind}
 use Rattle.plan_types.specs.declared.plans.Plan.{Plan}
 use Rattle.plan_seats.specs.Seating.{IsFoundUnlessMemory}
@@ -15,6 +15,7 @@ use Rattle.command_serving.specs.Streams.{Stream}
 use Rattle.command_text.specs.Answers.{line, unseated_text}
 use Rattle.auditor_cli.specs.Reads.{FileRead}
 use Rattle.auditor_cli.specs.Telling.{TellsUnread}
+use Rattle.planner_cli.specs.LeftDevices.{IsLeftUnopened}
 use Rattle.planner_cli.specs.Loading.{DisksAsked}
 use Rattle.planner_cli.specs.Opened.{OpensStore, unopened_line, unopened_status}
 use Rattle.planner_cli.specs.Telling.{TellsAnswer, TellsText, denial_status}
@@ -83,13 +84,13 @@ module _ {D X : Type 0} (on : sectors.Ghosts D) where
 
   -- So it is with the store in the file at a path, or it is told why it was not opened. `IsOld` is what is known of the device over the file. `left` is
   -- the device as it is left.
-  abbrev pub AdoptsStore : (List ℕ → D → Type 0) → List ℕ → List ℕ → Stream → Stream → Result ℕ X → Type 0
-  AdoptsStore IsOld path text before after told =
-      OpensStore on IsOld path (λ opened. (left : D) × (new : SessionValue D) × (left ≡ new.device) × AdoptsOver opened.session text before after new told)
-      (λ unopened. TellsText (unopened_line path unopened) (unopened_status unopened) before.contents after.contents told)
+  abbrev pub AdoptsStore : (List ℕ → D → Type 0) → List ℕ → List ℕ → Stream → Stream → Result ℕ X → Option D → Type 0
+  AdoptsStore IsOld path text before after told left =
+      OpensStore on IsOld path (λ opened. (new : SessionValue D) × (left ≡ Some new.device) × AdoptsOver opened.session text before after new told)
+      (λ unopened. IsLeftUnopened on unopened left × TellsText (unopened_line path unopened) (unopened_status unopened) before.contents after.contents told)
 
   -- The solution's file is read first, or can't be read, and no store is asked for.
-  abbrev pub TellsAdopt : (List ℕ → D → Type 0) → DisksAsked → List ℕ → List ℕ → List FileRead → List FileRead → Stream → Stream → Result ℕ X → Type 0
-  TellsAdopt IsOld disks path solution was now before after told =
-      ((x : List ℕ) × (now ≡ (solution, Ok x) ∷ was) × (disks.now ≡ (Take, path) ∷ disks.was) × AdoptsStore IsOld path x before after told)
-      ⊎ ((error : ErrorKind) × (now ≡ (solution, Err error) ∷ was) × (disks.now ≡ disks.was) × IfOk told (TellsUnread solution error before.contents after.contents))
+  abbrev pub TellsAdopt : (List ℕ → D → Type 0) → DisksAsked → List ℕ → List ℕ → List FileRead → List FileRead → Stream → Stream → Result ℕ X → Option D → Type 0
+  TellsAdopt IsOld disks path solution was now before after told left =
+      ((x : List ℕ) × (now ≡ (solution, Ok x) ∷ was) × (disks.now ≡ (Take, path) ∷ disks.was) × AdoptsStore IsOld path x before after told left)
+      ⊎ ((error : ErrorKind) × (now ≡ (solution, Err error) ∷ was) × (disks.now ≡ disks.was) × (left ≡ None) × IfOk told (TellsUnread solution error before.contents after.contents))

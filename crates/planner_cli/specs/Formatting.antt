@@ -1,5 +1,5 @@
 -- What the word `format` does: it makes an empty store in a file, and tells what came of it.
-use Rattle.std.specs.Prelude.{◌≡◌, ◌≢◌, ◌⊎◌, ℕ, ◌+◌, List, [], Some, Result, IfErr, IfOk, OnOk}
+use Rattle.std.specs.Prelude.{◌≡◌, ◌≢◌, ◌⊎◌, ℕ, ◌+◌, List, [], Option, Some, None, Result, IfErr, IfOk, OnOk}
 use Rattle.std.specs.Result.{result_err}
 use Rattle.checkpoint.specs.Holds.{Holds}
 use Rattle.checkpoint.specs.Layouts.{version_2, sectors_in}
@@ -40,16 +40,16 @@ module _ {D : Type 0} (on : sectors.Ghosts D) where
   IsFormatted = IsMadeWith Empty
 
   -- A store of this state is made in a file of 8,450 sectors at the path, or there is none; of either it is said what is told, of a device when how many
-  -- calls of it had finished. `IsNew` is what is known of the device over the file.
-  abbrev pub MakesStoreAt : (List ℕ → D → Type 0) → State → List ℕ → (Result Place FormatFault → ℕ → Type 0) → (FileFault → Type 0) → Type 0
-  MakesStoreAt IsNew state path Told ToldNone =
-      ((old : D) × (new : D) × (made : Result Place FormatFault) × IsNew path old × (on.len old ≡ sectors_in version_2) × IsMadeWith state old new made
+  -- calls of it had finished. `IsNew` is what is known of the device over the file, which is `left` then.
+  abbrev pub MakesStoreAt : (List ℕ → D → Type 0) → State → List ℕ → (Result Place FormatFault → ℕ → Type 0) → (FileFault → Type 0) → Option D → Type 0
+  MakesStoreAt IsNew state path Told ToldNone left =
+      ((old : D) × (new : D) × (made : Result Place FormatFault) × (left ≡ Some new) × IsNew path old × (on.len old ≡ sectors_in version_2) × IsMadeWith state old new made
       × (result_err made ≢ Some TooSmall) × Told made (on.calls new))
-      ⊎ ((refusal : FileRefusal) × IsNotMadeAt path refusal × (refusal.fault ≢ BadLength) × ToldNone refusal.fault)
+      ⊎ ((refusal : FileRefusal) × (left ≡ None) × IsNotMadeAt path refusal × (refusal.fault ≢ BadLength) × ToldNone refusal.fault)
 
   -- The empty store is made, and it is told what came of that. `ok` is put when all calls that made it have finished, which the last sync ends, so where
   -- each image that a stop may leave holds the store.
-  abbrev pub FormatsStore : {E : Type 0} → (List ℕ → D → Type 0) → List ℕ → Stream → Stream → Result ℕ E → Type 0
-  FormatsStore IsNew path before after told =
+  abbrev pub FormatsStore : {E : Type 0} → (List ℕ → D → Type 0) → List ℕ → Stream → Stream → Result ℕ E → Option D → Type 0
+  FormatsStore IsNew path before after told left =
       MakesStoreAt IsNew Empty path (λ made calls. TellsFormat unformatted_line made calls before after told)
-      (λ fault. TellsText (open_line path fault) (open_status fault) before.contents after.contents told)
+      (λ fault. TellsText (open_line path fault) (open_status fault) before.contents after.contents told) left

@@ -5,6 +5,7 @@ pub mod Caused
 pub mod Checked
 pub mod Drawn
 pub mod Formatting
+pub mod LeftDevices
 pub mod Loading
 pub mod Looked
 pub mod Opened

@@ -1,5 +1,5 @@
 -- What the word `run` does: it opens a store, tells how many search steps were repeated, and serves the input over it.
-use Rattle.std.specs.Prelude.{◌≡◌, ◌⊎◌, ℕ, ◌+◌, ◌||◌, ◌^◌, Bool, true, false, List, [], ◌++◌, length, codes, decimal, Option, Some, None, Result, Ok, Err, IfErr, OnOk, ⊤}
+use Rattle.std.specs.Prelude.{◌≡◌, ◌⊎◌, ℕ, ◌||◌, ◌^◌, Bool, true, false, List, [], ◌++◌, length, codes, decimal, Option, Some, None, Result, Ok, Err, IfErr, OnOk, ⊤}
 use Rattle.std.specs.Io.KnownBytes.{Appends}
 use Rattle.checkpoint.specs.declared.faults.StoreFault.{StoreFault}
 use Rattle.command_serving.specs.Served.{EndsOrIsCut, HasCause, IsTaken}
@@ -12,6 +12,7 @@ use Rattle.command_serving.specs.declared.strict.Stopped.{Stopped}
 use Rattle.command_serving.specs.declared.strict.Stopped.TheVariants as stop
 use Rattle.command_text.specs.Readings.{IsReading, Reading}
 use Rattle.command_text.specs.Answers.{line}
+use Rattle.planner_cli.specs.LeftDevices.{IsLeftRead}
 use Rattle.planner_cli.specs.Telling.{TellsFile, store_line, store_status}
 use Rattle.recover.specs.Opening.{IsOpened, IsRefused}
 use Rattle.recover.specs.Sessions.{SessionValue}
@@ -117,14 +118,14 @@ module _ {D : Type 0} (on : sectors.Ghosts D) where
   ServesOver session replayed is_strict given before after reader_failed writer_failed new =
       ServesSession on session replayed is_strict given before after reader_failed writer_failed new ⊎ ((new ≡ session) × IsUntouched given before after)
 
-  -- Whatever came of it, the device was opened, and this is the device then.
-  abbrev pub ServesDevice : D → Bool → Given → Stream → Stream → Bool → Bool → D → Type 0
+  -- Whatever came of it, the device was opened, and this is the device as it is left; no call of it follows.
+  abbrev pub ServesDevice : D → Bool → Given → Stream → Stream → Bool → Bool → Option D → Type 0
   ServesDevice device is_strict given before after reader_failed writer_failed left =
-      OpensDevice device (λ session replayed. (new : SessionValue D) × (left ≡ new.device) × ServesOver session replayed is_strict given before after reader_failed writer_failed new)
-      (λ later fault. (left ≡ later) × IsUntouched given before after)
+      OpensDevice device (λ session replayed. (new : SessionValue D) × (left ≡ Some new.device) × ServesOver session replayed is_strict given before after reader_failed writer_failed new)
+      (λ later fault. IsLeftRead on later left × IsUntouched given before after)
 
   -- Whatever came of it, the same for the device over the file at a path; or there was none, and nothing was read and put.
-  abbrev pub ServesStore : (List ℕ → D → Type 0) → List ℕ → Bool → Given → Stream → Stream → Bool → Bool → Type 0
-  ServesStore IsOld path is_strict given before after reader_failed writer_failed =
-      ((device : D) × (left : D) × IsOld path device × ServesDevice device is_strict given before after reader_failed writer_failed left)
-      ⊎ ((refusal : FileRefusal) × IsNotTakenAt path refusal × IsUntouched given before after)
+  abbrev pub ServesStore : (List ℕ → D → Type 0) → List ℕ → Bool → Given → Stream → Stream → Bool → Bool → Option D → Type 0
+  ServesStore IsOld path is_strict given before after reader_failed writer_failed left =
+      ((device : D) × IsOld path device × ServesDevice device is_strict given before after reader_failed writer_failed left)
+      ⊎ ((refusal : FileRefusal) × IsNotTakenAt path refusal × (left ≡ None) × IsUntouched given before after)

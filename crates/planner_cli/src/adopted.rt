@@ -34,7 +34,7 @@ pub(crate) enum Unadopted {
 }
 
 /// Reads a solution, makes it the plan of the store in a file, and tells what came of it. How many search steps opening repeats is
-/// told on `errors` first.
+/// told on `errors` first. The store's device, if there is one, is given as it is left.
 pub(crate) fn adopt_read<F: ReadFiles, R, X: Disks, T: Start, W: Write, E: Write>(
     rt: &R,
     disks: &mut X,
@@ -44,20 +44,20 @@ pub(crate) fn adopt_read<F: ReadFiles, R, X: Disks, T: Start, W: Write, E: Write
     files: &mut F,
     output: &mut Watched<W>,
     errors: &mut E,
-) -> io::Result<u8>
+) -> (io::Result<u8>, Option<FileDevice<T>>)
 where
     R: Eprint + AllocGlobal,
-    ensures status { IfOk result (λ status. status ≤ 4) }
+    ensures status { IfOk result.0 (λ status. status ≤ 4) }
     ensures reads { IsRead solution.now (F.reads files.old) (F.reads files.new) }
     ensures adopts { TellsAdopt ⟦<FileDevice<T> as Sectors>⟧
         (IsTakenAt ⟦<HostFile as FileCalls>⟧.entries)
         (record { was = X.asked disks.old; now = X.asked disks.new })
         store.now solution.now (F.reads files.old) (F.reads files.new)
-        (held W.contents output.old) (held W.contents output.new) result }
+        (held W.contents output.old) (held W.contents output.new) result.0 result.1 }
 {
     match files.read(solution) {
         Ok(text) => adopt_store(rt, disks, start, store, &text, output, errors),
-        Err(error) => tell_unread(output, solution, error.kind()),
+        Err(error) => (tell_unread(output, solution, error.kind()), None),
     }
 }
 
@@ -70,21 +70,21 @@ fn adopt_store<R, X: Disks, T: Start, W: Write, E: Write>(
     text: &[u8],
     output: &mut Watched<W>,
     errors: &mut E,
-) -> io::Result<u8>
+) -> (io::Result<u8>, Option<FileDevice<T>>)
 where
     R: Eprint + AllocGlobal,
-    ensures status { IfOk result (λ status. status ≤ 4) }
+    ensures status { IfOk result.0 (λ status. status ≤ 4) }
     ensures asks { X.asked disks.new ≡ (DiskCall.Take, store.now) ∷ X.asked disks.old }
     ensures adopts { AdoptsStore ⟦<FileDevice<T> as Sectors>⟧
         (IsTakenAt ⟦<HostFile as FileCalls>⟧.entries) store.now text.now
-        (held W.contents output.old) (held W.contents output.new) result }
+        (held W.contents output.old) (held W.contents output.new) result.0 result.1 }
 {
     match open_store(rt, disks, start, store, errors) {
         Ok(opened) => {
             let Opened { mut session, .. } = opened;
             let told = adopt_over(rt, rt.alloc(), &mut session, text, output);
-            close_store(rt, store, session);
-            told
+            let device = close_store(rt, store, session);
+            (told, Some(device))
         }
         Err(unopened) => tell_unopened(rt, output, store, unopened),
     }

@@ -4,8 +4,7 @@ ghost use Rattle.std.specs.Io.KnownBytes.{Appends};
 ghost use Rattle.sector_disk.specs.Disks.{IsSharedAt};
 ghost use Rattle.planner_cli.specs.Checked.{ChecksStore, TellsChecked, TellsDoubts, doubt_lines, suspect_text};
 
-use crate::looked::{leave_store, look_into_store};
-use crate::opened::tell_unopened;
+use crate::looked::{leave_store, look_into_store, tell_unlooked};
 use crate::telling::tell_store_fault;
 use auditor_cli::status::{DONE, REFUSED};
 use auditor_cli::write_line;
@@ -40,7 +39,7 @@ where
             leave_store(rt, store, looked);
             told
         }
-        Err(unopened) => tell_unopened(rt, output, store, unopened),
+        Err(unopened) => tell_unlooked(rt, output, store, unopened),
     }
 }
 

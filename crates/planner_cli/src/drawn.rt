@@ -4,8 +4,7 @@ ghost use Rattle.sector_disk.specs.Disks.{IsSharedAt};
 ghost use Rattle.planner_cli.specs.Drawn.{DrawsState, DrawsStore, IsDrawing, IsDrawingOf, IsPartDrawn, IsPictureOf, IsPlanDrawn, TellsDrawing, TellsDrawn, TellsResult, busy_after, busy_front};
 ghost use Rattle.auditor_cli.specs.Files.{AreReadInTurn};
 
-use crate::looked::{leave_store, look_into_store};
-use crate::opened::tell_unopened;
+use crate::looked::{leave_store, look_into_store, tell_unlooked};
 use crate::solved::tell_left_out;
 use auditor_cli::status::{DONE, REFUSED};
 use auditor_cli::{
@@ -216,7 +215,7 @@ where
             leave_store(rt, store, looked);
             told
         }
-        Err(unopened) => tell_unopened(rt, errors, store, unopened),
+        Err(unopened) => tell_unlooked(rt, errors, store, unopened),
     }
 }
 

@@ -11,6 +11,7 @@
 //! `run_words` hands them the paths, and what opens stores, what reads and makes files and the streams, which `main` makes.
 //!
 //! Modules, in reading order:
+//! - `left_devices`: the devices of stores, as a word leaves them
 //! - `telling`: lines for stores that can't be opened or made, and for what commands answer
 //! - `remains`: what a file that holds no store may be, on standard error
 //! - `opened`: the opening of a store, and why there is none, for the words that open one
@@ -28,8 +29,8 @@
 //! - `caused`: readers and writers that keep what the system said of a call that failed
 //!
 //! Said by `specs/Program.antt`, and word by word by `Adopting.antt`, `Checked.antt`, `Doubted.antt`, `Drawn.antt`, `Solving.antt`, `SolvedList.antt`, `Formatting.antt`, `Foretold.antt`,
-//! `Loading.antt`, `Running.antt`, `Timetabled.antt`, `Upgrading.antt` and `Written.antt`, which statuses by `Statuses.antt`, the opening of a store in a
-//! file by `Opened.antt`, to be read by `Looked.antt`, what is durable behind `ok` by `Acknowledged.antt`, what a stop of `run` leaves by
+//! `Loading.antt`, `Running.antt`, `Timetabled.antt`, `Upgrading.antt` and `Written.antt`, which statuses by `Statuses.antt`, the devices that are left by
+//! `LeftDevices.antt`, the opening of a store in a file by `Opened.antt`, to be read by `Looked.antt`, what is durable behind `ok` by `Acknowledged.antt`, what a stop of `run` leaves by
 //! `Recovering.antt`, how a strict one ends by `Strictly.antt`, lines by `Telling.antt`; of the words of an audit by the files of `auditor_cli`. Proved:
 //! - `run_words`, of words without hyphen that ask for something (`EndsWith`): which files were read, and in which order, of a
 //!   list the list first (`AreReadFor`); that none but `solves` makes a file beside a store (`AreMadeFor`); which stores were opened
@@ -50,12 +51,15 @@
 //! - `run_store` (`RunsStore`): the device over the file that stands at the path is opened, and what `serve_source` writes over that
 //!   session stands behind `opened N`; 3 where the reader or the writer failed, with `cannot read input` for the
 //!   reader. Whatever the status (`ServesStore`): what it read and put is of that serving, as far as it came
+//! - `run_words` gives the devices of stores that `format`, `load`, `run`, `adopt` and `upgrade` opened or made, as they are left
+//!   (`AreLeftFor`): what is said of a word's device is said of that one, and no call of it follows. One that was not opened was read at
+//!   most (`IsReadAtMost`), to tell what its file may be
 //! - `stopped_runs_recover` (`ServedRunHeadline`, `RunHeadline`, `RunKeepsAnswers`, `ServedRunKeepsAnswers`): stopped at any
 //!   moment of `run` over a device, opening it gives the state after a first part of the commands of its input that were kept, with every one
 //!   acknowledged by then, so with every one whose `ok` or `at` was handed on, and at most one more; each input is one (`EachInputIsSome`)
 //! - `stopped_runs_are_linked` (`RunsAreLinked`): a run that was stopped behind its opening, and the opening of the next one, are a link
 //! - `strict_runs_end_at_an_answer` (`StrictRunsEnd`): nothing is done behind the answer that ends a strict run
-//! - `open_session` (`IsForetold`), by which `run` and `load` open: before a search step is repeated, the line of how many are
+//! - `open_session` (`IsForetold`), by which `run`, `load` and `adopt` open: before a search step is repeated, the line of how many are
 //!   stands on standard error, and nothing where none are, unless a write of it failed
 //! - `open_warned` (`IsWarned`), by which `run` opens: before that the first reason to doubt the store stands on standard error, in the words
 //!   of `check`, and nothing where there is none, unless a write of it failed
@@ -89,6 +93,7 @@ mod checked;
 mod doubted;
 mod drawn;
 mod laws;
+mod left_devices;
 mod loaded;
 mod looked;
 mod made;
@@ -114,4 +119,5 @@ pub use laws::{
     stopped_runs_are_linked, stopped_runs_recover, strict_runs_end_at_an_answer,
     told_stores_are_durable,
 };
+pub use left_devices::LeftDevices;
 pub use program::{Streams, run_words};

@@ -15,6 +15,7 @@ ghost use Rattle.planner_cli.specs.Loading.{BeginsOpening, BeginsSession, Begins
 ghost use Rattle.auditor_cli.specs.Behind.{limit_line};
 ghost use Rattle.auditor_cli.specs.Reads.{IsRead};
 
+use crate::left_devices::LeftDevices;
 use crate::made::open_new;
 use crate::opened::{Unopened, open_store, tell_unopened};
 use crate::telling::{tell_answer, tell_cause, tell_instance_fault, tell_text};
@@ -43,25 +44,28 @@ pub(crate) fn load_read<F: ReadFiles, R, X: Disks, T: Start, U: Start, W: Write,
     files: &mut F,
     output: &mut Watched<W>,
     errors: &mut E,
-) -> io::Result<u8>
+) -> (io::Result<u8>, LeftDevices<FileDevice<T>, FileDevice<U>>)
 where
     R: Eprint + AllocGlobal,
-    ensures status { IfOk result (λ status. status ≤ 4) }
+    ensures status { IfOk result.0 (λ status. status ≤ 4) }
     ensures reads { IsRead loading.entry.instance.now (F.reads files.old) (F.reads files.new) }
     ensures loads { TellsLoad ⟦<FileDevice<T> as Sectors>⟧ ⟦<FileDevice<U> as Sectors>⟧
         (IsTakenAt ⟦<HostFile as FileCalls>⟧.entries) (IsMadeAt ⟦<HostFile as FileCalls>⟧.entries)
         (record { was = X.asked disks.old; now = X.asked disks.new })
         (load_of loading.entry) (F.reads files.old) (F.reads files.new)
-        (held W.contents output.old) (held W.contents output.new) result }
+        (held W.contents output.old) (held W.contents output.new) result.0 result.1 }
 {
     let text = match files.read(loading.instance) {
         Ok(text) => text,
-        Err(error) => return tell_unread(output, loading.instance, error.kind()),
+        Err(error) => {
+            let told = tell_unread(output, loading.instance, error.kind());
+            return (told, LeftDevices::none());
+        }
     };
     let noted = read_noted(rt.alloc(), loading, &text, errors);
     let problem = match noted.into_problem() {
         Ok(problem) => problem,
-        Err(fault) => return tell_instance_fault(output, fault),
+        Err(fault) => return (tell_instance_fault(output, fault), LeftDevices::none()),
     };
     let command = Command::Load(problem, loading.seed);
     begin_store(
@@ -123,23 +127,34 @@ fn begin_store<R, X: Disks, T: Start, U: Start, W: Write, E: Write>(
     command: Command,
     output: &mut Watched<W>,
     errors: &mut E,
-) -> io::Result<u8>
+) -> (io::Result<u8>, LeftDevices<FileDevice<T>, FileDevice<U>>)
 where
     R: Eprint + AllocGlobal,
-    ensures status { IfOk result (λ status. status ≤ 4) }
+    ensures status { IfOk result.0 (λ status. status ≤ 4) }
     ensures begins { BeginsStore ⟦<FileDevice<T> as Sectors>⟧ ⟦<FileDevice<U> as Sectors>⟧
         (IsTakenAt ⟦<HostFile as FileCalls>⟧.entries) (IsMadeAt ⟦<HostFile as FileCalls>⟧.entries)
         (record { was = X.asked disks.old; now = X.asked disks.new })
-        store.now command (held W.contents output.old) (held W.contents output.new) result }
+        store.now command (held W.contents output.old) (held W.contents output.new)
+        result.0 result.1 }
 {
     let opening = open_store(rt, disks, start, store, errors);
     if wants_file(&opening) {
         // Its lock is the next one's.
         drop(opening);
         let opening = open_new(rt, disks, start_of_new, store, errors);
-        return begin_opening(rt, store, opening, command, output);
+        let (told, new_store) = begin_opening(rt, store, opening, command, output);
+        let left = LeftDevices {
+            store: None,
+            new_store,
+        };
+        return (told, left);
     }
-    begin_opening(rt, store, opening, command, output)
+    let (told, store) = begin_opening(rt, store, opening, command, output);
+    let left = LeftDevices {
+        store,
+        new_store: None,
+    };
+    (told, left)
 }
 
 // Whether there is no such file, or one without a byte, as a load leaves it that found the disk full.
@@ -166,23 +181,23 @@ fn is_not_found(cause: Option<io::Error>) -> bool
     }
 }
 
-// Begins the store that was opened with the command, or tells why it was not opened.
+// Begins the store that was opened with the command, or tells why it was not opened, and gives the device, if there is one.
 fn begin_opening<R: Eprint + AllocGlobal, T: Start, W: Write>(
     rt: &R,
     store: &str,
     opening: Result<Opened<FileDevice<T>>, Unopened<FileDevice<T>>>,
     command: Command,
     output: &mut Watched<W>,
-) -> io::Result<u8>
-    ensures status { IfOk result (λ status. status ≤ 4) }
-    ensures begins { BeginsOpening ⟦<FileDevice<T> as Sectors>⟧ opening store.now
-        command (held W.contents output.old) (held W.contents output.new) result }
+) -> (io::Result<u8>, Option<FileDevice<T>>)
+    ensures status { IfOk result.0 (λ status. status ≤ 4) }
+    ensures begins { BeginsOpening ⟦<FileDevice<T> as Sectors>⟧ opening store.now command
+        (held W.contents output.old) (held W.contents output.new) result.0 result.1 }
 {
     match opening {
         Ok(opened) => {
             let (told, device) = begin_opened(rt.alloc(), opened, command, output);
             tell_cause(rt, store, device.cause());
-            told
+            (told, Some(device))
         }
         Err(unopened) => tell_unopened(rt, output, store, unopened),
     }

@@ -2,18 +2,20 @@
 //!
 //! Nothing is synced, so that a store which can't be written is looked into as well, and others may do so meanwhile. What is told
 //! may not be durable, where a sync has failed before.
-ghost use Rattle.std.specs.Prelude.{◌≡◌, ◌∷◌, IfErr};
+ghost use Rattle.std.specs.Prelude.{◌≡◌, ◌≤◌, ◌∷◌, IfErr, IfOk};
 ghost use Rattle.sector_disk.specs.Disks.{IsSharedAt};
 ghost use Rattle.planner_cli.specs.Looked.{IsLookedInto, LooksInto};
-ghost use Rattle.planner_cli.specs.Opened.{IsForetoldBefore};
+ghost use Rattle.planner_cli.specs.Opened.{IsForetoldBefore, unopened_line, unopened_status};
+ghost use Rattle.planner_cli.specs.Telling.{TellsText};
 
-use crate::opened::Unopened;
+use crate::opened::{Unopened, tell_unopened};
 use crate::telling::{tell_cause, tell_repeating};
 use checkpoint::StoreFault;
 use command_core::State;
 use recover::{read_state, steps_to_repeat};
 use sector_disk::{DiskCall, Disks, FileCalls, FileDevice, HostFile, Sectors, Start};
 use std::alloc::Global;
+use std::io;
 use std::io::Write;
 
 /// A store's state, and the device that it was read from.
@@ -65,4 +67,20 @@ pub(crate) fn look_into_store<R: AllocGlobal, X: Disks, T: Start, E: Write>(
 pub(crate) fn leave_store<R: Eprint, T: Start>(rt: &R, store: &str, looked: Looked<FileDevice<T>>) {
     tell_cause(rt, store, looked.device.cause());
     drop(looked);
+}
+
+/// Tells why the store was not looked into, as `tell_unopened` does. Its file was opened for reading alone, so its device is dropped.
+pub(crate) fn tell_unlooked<R: Eprint, T: Start, W: Write>(
+    rt: &R,
+    output: &mut W,
+    store: &str,
+    unopened: Unopened<FileDevice<T>>,
+) -> io::Result<u8>
+    ensures status { IfOk result (λ status. status ≤ 4) }
+    ensures told { TellsText (unopened_line store.now unopened) (unopened_status unopened)
+        (W.contents output.old) (W.contents output.new) result }
+{
+    let (told, device) = tell_unopened(rt, output, store, unopened);
+    drop(device);
+    told
 }

@@ -7,6 +7,7 @@ ghost use Rattle.std.specs.Prelude.{◌≡◌, ◌≤◌, ◌∷◌, IfErr, IfOk
 ghost use Rattle.sector_disk.specs.Disks.{IsTakenAt};
 ghost use Rattle.recover.specs.Opening.{IsOpened, IsRefused};
 ghost use Rattle.planner_cli.specs.Foretold.{IsForetold, IsOfImage};
+ghost use Rattle.planner_cli.specs.LeftDevices.{IsLeftUnopened};
 ghost use Rattle.planner_cli.specs.Opened.{IsForetoldBefore, IsOpening, IsStoreOpening, unopened_line, unopened_status};
 ghost use Rattle.planner_cli.specs.Telling.{TellsText};
 
@@ -117,47 +118,51 @@ pub(crate) fn open_store<R: AllocGlobal, X: Disks, T: Start, E: Write>(
     }
 }
 
-/// Closes the store. Where its device has failed, standard error has what the system said of that call, and the cure.
+/// Closes the session, and gives its device. Where that has failed, standard error has what the system said of the call, and the cure.
 pub(crate) fn close_store<R: Eprint, T: Start>(
     rt: &R,
     store: &str,
     session: Session<FileDevice<T>>,
-) {
+) -> FileDevice<T>
+    ensures { result ≡ session.device }
+{
     let has_failed = session.is_broken();
     let device = session.close();
     tell_cause(rt, store, device.cause());
     if has_failed {
         tell_cure(rt);
     }
+    device
 }
 
-/// Tells why the store was not opened, and on standard error what the system said.
+/// Tells why the store was not opened, and on standard error what the system said, and gives the device, if there is one.
 pub(crate) fn tell_unopened<R: Eprint, T: Start, W: Write>(
     rt: &R,
     output: &mut W,
     store: &str,
     unopened: Unopened<FileDevice<T>>,
-) -> io::Result<u8>
-    ensures status { IfOk result (λ status. status ≤ 4) }
+) -> (io::Result<u8>, Option<FileDevice<T>>)
+    ensures status { IfOk result.0 (λ status. status ≤ 4) }
     ensures told { TellsText (unopened_line store.now unopened) (unopened_status unopened)
-        (W.contents output.old) (W.contents output.new) result }
+        (W.contents output.old) (W.contents output.new) result.0 }
+    ensures left { IsLeftUnopened ⟦<FileDevice<T> as Sectors>⟧ unopened result.1 }
 {
     match unopened {
         Unopened::File(refusal) => {
             tell_length(rt, store, refusal.fault);
-            tell_refusal(rt, output, store, refusal)
+            (tell_refusal(rt, output, store, refusal), None)
         }
         Unopened::Store(fault, device) => {
             let mut device = device;
             let told = tell_store_fault(output, fault);
             tell_remains(rt, store, fault, &mut device);
             tell_cause(rt, store, device.cause());
-            told
+            (told, Some(device))
         }
         Unopened::Unformatted(fault, device) => {
             let told = tell_unformatted(output, fault);
             tell_cause(rt, store, device.cause());
-            told
+            (told, Some(device))
         }
     }
 }

@@ -13,6 +13,7 @@ ghost use Rattle.planner_cli.specs.Statuses.{CanEndWith};
 use crate::adopted::adopt_read;
 use crate::checked::check_store;
 use crate::drawn::{draw_read, draw_store};
+use crate::left_devices::LeftDevices;
 use crate::loaded::load_read;
 use crate::solved::solve_read;
 use crate::solved_list::solves_read;
@@ -40,8 +41,8 @@ pub struct Streams<I, W, E> {
 }
 
 /// Does what the words of the command line ask for, the program's name first, and gives the status to end with
-/// (`status`) and the streams. Where an answer cannot be printed, the status is `FILE`. `start` stands for what the store's file is as
-/// it is opened, `start_of_new` for that of a store that is made.
+/// (`status`), the streams, and the devices of stores as they are left. Where an answer cannot be printed, the status is `FILE`.
+/// `start` stands for what the store's file is as it is opened, `start_of_new` for that of a store that is made.
 pub fn run_words<
     R,
     T: Start,
@@ -62,7 +63,11 @@ pub fn run_words<
     new_files: &mut N,
     streams: Streams<I, W, E>,
     words: &[S],
-) -> (u8, Streams<I, W, E>)
+) -> (
+    u8,
+    Streams<I, W, E>,
+    LeftDevices<FileDevice<T>, FileDevice<U>>,
+)
 where
     R: Eprint + AllocGlobal,
     ensures does { let asked = drop 1 (map S.text words.now) in
@@ -75,7 +80,7 @@ where
         disks.old streams)
         (seen F.reads N.writes X.asked I.remaining W.contents E.contents files.new new_files.new
         disks.new result.1)
-        result.0 }
+        result.2 result.0 }
     ensures usage { let asked = drop 1 (map S.text words.now) in
         ArePositional asked → asked_by asked ≡ None
         → TellsUsage asked
@@ -83,11 +88,11 @@ where
         disks.old streams)
         (seen F.reads N.writes X.asked I.remaining W.contents E.contents files.new new_files.new
         disks.new result.1)
-        result.0 }
+        result.2 result.0 }
 {
     match read_words(rt.alloc(), words, HELP) {
         Ok(invocation) => {
-            let (told, streams) = do_asked(
+            let (told, streams, left) = do_asked(
                 rt,
                 start,
                 start_of_new,
@@ -97,12 +102,12 @@ where
                 streams,
                 invocation,
             );
-            (status_of(told), streams)
+            (status_of(told), streams, left)
         }
         Err(error) => {
             let mut streams = streams;
             let told = tell_usage(&error, &mut streams.output, &mut streams.errors);
-            (status_of(told), streams)
+            (status_of(told), streams, LeftDevices::none())
         }
     }
 }
@@ -127,7 +132,11 @@ fn do_asked<
     new_files: &mut N,
     streams: Streams<I, W, E>,
     invocation: Invocation,
-) -> (io::Result<u8>, Streams<I, W, E>)
+) -> (
+    io::Result<u8>,
+    Streams<I, W, E>,
+    LeftDevices<FileDevice<T>, FileDevice<U>>,
+)
 where
     R: Eprint + AllocGlobal,
     ensures status { IfOk result.0 (CanEndWith (asked_of invocation.entry)) }
@@ -138,14 +147,14 @@ where
         (seen F.reads N.writes X.asked I.remaining W.contents E.contents files.old new_files.old
         disks.old streams)
         (seen F.reads N.writes X.asked I.remaining W.contents E.contents files.new new_files.new
-        disks.new result.1) result.0 }
+        disks.new result.1) result.2 result.0 }
 {
     let mut streams = streams;
     let alloc = rt.alloc();
     match invocation {
         Invocation::BuiltIn => {
             let told = audit_example(alloc, &mut streams.output);
-            (told, streams)
+            (told, streams, LeftDevices::none())
         }
         Invocation::Audit {
             paths,
@@ -153,7 +162,7 @@ where
         } => {
             let Streams { output, errors, .. } = &mut streams;
             let told = audit_files(alloc, paths, routes_alone, files, output, errors);
-            (told, streams)
+            (told, streams, LeftDevices::none())
         }
         Invocation::Audits {
             kind,
@@ -162,7 +171,7 @@ where
         } => {
             let Streams { output, errors, .. } = &mut streams;
             let told = audits_read(alloc, kind, list, routes_alone, files, output, errors);
-            (told, streams)
+            (told, streams, LeftDevices::none())
         }
         Invocation::Explain {
             paths,
@@ -170,35 +179,39 @@ where
         } => {
             let Streams { output, errors, .. } = &mut streams;
             let told = explain_read(alloc, paths, routes_alone, files, output, errors);
-            (told, streams)
+            (told, streams, LeftDevices::none())
         }
         Invocation::Draw { paths, route } => {
             let Streams { output, errors, .. } = &mut streams;
             let told = draw_read(alloc, paths, route, files, output, errors);
-            (told, streams)
+            (told, streams, LeftDevices::none())
         }
         Invocation::DrawStore { store, route } => {
             let Streams { output, errors, .. } = &mut streams;
             let told = draw_store(rt, disks, start, store, route, output, errors);
-            (told, streams)
+            (told, streams, LeftDevices::none())
         }
         Invocation::Solve(task) => {
             let Streams { output, errors, .. } = &mut streams;
             let told = solve_read(alloc, task, files, output, errors);
-            (told, streams)
+            (told, streams, LeftDevices::none())
         }
         Invocation::Solves(tasks) => {
             let Streams { output, errors, .. } = &mut streams;
             let told = solves_read(alloc, tasks, files, new_files, output, errors);
-            (told, streams)
+            (told, streams, LeftDevices::none())
         }
         Invocation::Format { store } => {
-            let told = format_store(rt, disks, start, store, &mut streams.output);
-            (told, streams)
+            let (told, store) = format_store(rt, disks, start, store, &mut streams.output);
+            let left = LeftDevices {
+                store,
+                new_store: None,
+            };
+            (told, streams, left)
         }
         Invocation::Load(loading) => {
             let Streams { output, errors, .. } = &mut streams;
-            let told = load_read(
+            let (told, left) = load_read(
                 rt,
                 disks,
                 start,
@@ -208,28 +221,39 @@ where
                 output,
                 errors,
             );
-            (told, streams)
+            (told, streams, left)
         }
         Invocation::Run { store, is_strict } => {
-            run_over(rt, disks, start, store, is_strict, streams)
+            let (told, streams, store) = run_over(rt, disks, start, store, is_strict, streams);
+            let left = LeftDevices {
+                store,
+                new_store: None,
+            };
+            (told, streams, left)
         }
         Invocation::Adopt { store, solution } => {
             let Streams { output, errors, .. } = &mut streams;
-            let told = adopt_read(rt, disks, start, store, solution, files, output, errors);
-            (told, streams)
+            let (told, store) = adopt_read(
+                rt, disks, start, store, solution, files, output, errors,
+            );
+            let left = LeftDevices {
+                store,
+                new_store: None,
+            };
+            (told, streams, left)
         }
         Invocation::StoreInstance { store } => {
             let Streams { output, errors, .. } = &mut streams;
             let told = write_store(rt, disks, start, store, output, errors);
-            (told, streams)
+            (told, streams, LeftDevices::none())
         }
         Invocation::Check { store } => {
             let Streams { output, errors, .. } = &mut streams;
             let told = check_store(rt, disks, start, store, output, errors);
-            (told, streams)
+            (told, streams, LeftDevices::none())
         }
         Invocation::Upgrade { old, new } => {
-            let told = upgrade_store(
+            let (told, left) = upgrade_store(
                 rt,
                 disks,
                 start,
@@ -238,18 +262,18 @@ where
                 new,
                 &mut streams.output,
             );
-            (told, streams)
+            (told, streams, left)
         }
         Invocation::Timetable { paths, is_tabbed } => {
             let form = form_of(is_tabbed);
             let Streams { output, errors, .. } = &mut streams;
             let told = timetable_read(alloc, paths, form, files, output, errors);
-            (told, streams)
+            (told, streams, LeftDevices::none())
         }
         Invocation::StoreTimetable { store, is_tabbed } => {
             let Streams { output, errors, .. } = &mut streams;
             let told = timetable_store(rt, disks, start, store, form_of(is_tabbed), output, errors);
-            (told, streams)
+            (told, streams, LeftDevices::none())
         }
     }
 }
@@ -262,7 +286,7 @@ fn run_over<R, X: Disks, T: Start, I: Read, W: Write, E: Write>(
     store: &str,
     is_strict: bool,
     streams: Streams<I, W, E>,
-) -> (io::Result<u8>, Streams<I, W, E>)
+) -> (io::Result<u8>, Streams<I, W, E>, Option<FileDevice<T>>)
 where
     R: Eprint + AllocGlobal,
     ensures status { IfOk result.0 (λ status. status ≤ 4) }
@@ -276,14 +300,14 @@ where
         (IsTakenAt ⟦<HostFile as FileCalls>⟧.entries) store.now is_strict
         (given_by I.remaining streams.input result.1.input) (held W.contents streams.output)
         (held W.contents result.1.output) result.1.input.has_failed
-        result.1.output.has_failed }
+        result.1.output.has_failed result.2 }
 {
     let Streams {
         mut input,
         output,
         mut errors,
     } = streams;
-    let (told, output) = run_store(
+    let (told, output, left) = run_store(
         rt,
         disks,
         start,
@@ -298,5 +322,5 @@ where
         output,
         errors,
     };
-    (told, streams)
+    (told, streams, left)
 }

@@ -1,9 +1,10 @@
 //! What is told, for people, of a file that is opened as a store and holds none of the version that is written: what it may be, and
 //! the cure.
 //!
-//! It stands on standard error, of which no clause speaks.
+//! It stands on standard error, of which no clause speaks. The device is read for it at most.
 ghost use Rattle.std.specs.Prelude.{◌↔◌, ◌≡◌, IsTrue, take};
 ghost use Rattle.checkpoint.specs.Headers.{magic};
+ghost use Rattle.planner_cli.specs.LeftDevices.{IsReadAtMost};
 
 use checkpoint::{SECTORS, StoreFault};
 use sector_disk::{FileFault, SECTOR_SIZE, Sectors};
@@ -73,7 +74,9 @@ pub(crate) fn tell_remains<R: Eprint, D: Sectors>(
     path: &str,
     fault: StoreFault,
     device: &mut D,
-) {
+)
+    ensures { IsReadAtMost D.Sectors device.old device.new }
+{
     match fault {
         StoreFault::NotFormatted => {
             let hint = remains_on(device).hint();
@@ -105,13 +108,20 @@ pub(crate) fn tell_not_old<R: Eprint>(rt: &R, path: &str, fault: StoreFault) {
     }
 }
 
-fn remains_on<D: Sectors>(device: &mut D) -> Remains {
+fn remains_on<D: Sectors>(device: &mut D) -> Remains
+    ensures { IsReadAtMost D.Sectors device.old device.new }
+{
     if device.len() == 0 {
         return Remains::Empty;
     }
     let first = content_at(device, 0);
     let second = content_at(device, 1);
-    match (first, second, device.len() < SECTORS) {
+    remains_of(first, second, device.len() < SECTORS)
+}
+
+// What the first two sectors are the remains of.
+fn remains_of(first: Content, second: Content, is_short: bool) -> Remains {
+    match (first, second, is_short) {
         (Content::Header, _, true) | (_, Content::Header, true) => Remains::Front,
         (Content::Header, _, false) | (_, Content::Header, false) => Remains::Header,
         (Content::Zeros, Content::Zeros, _) => Remains::Zeros,
@@ -121,12 +131,17 @@ fn remains_on<D: Sectors>(device: &mut D) -> Remains {
 }
 
 // What the device has in this sector, as far as it can be read.
-fn content_at<D: Sectors>(device: &mut D, index: u64) -> Content {
-    let mut sector = [0; SECTOR_SIZE];
-    if index < device.len() && device.read(index, &mut sector).is_ok() {
-        return content_of(&sector);
+fn content_at<D: Sectors>(device: &mut D, index: u64) -> Content
+    ensures { IsReadAtMost D.Sectors device.old device.new }
+{
+    if index >= device.len() {
+        return Content::Other;
     }
-    Content::Other
+    let mut sector = [0; SECTOR_SIZE];
+    match device.read(index, &mut sector) {
+        Ok(()) => content_of(&sector),
+        Err(_) => Content::Other,
+    }
 }
 
 fn content_of(sector: &[u8; SECTOR_SIZE]) -> Content {

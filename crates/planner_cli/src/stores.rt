@@ -16,6 +16,7 @@ ghost use Rattle.planner_cli.specs.Upgrading.{TellsSame, UpgradesOnto, UpgradesO
 ghost use Rattle.planner_cli.specs.Running.{IsEnded, RunsSession, RunsStore, ServesOver, ServesStore, TellsEnded, TellsServed, opened_line, stop_unless};
 
 use crate::doubted::open_doubted;
+use crate::left_devices::LeftDevices;
 use crate::opened::{close_store, tell_unopened};
 use crate::progress::Progress;
 use crate::remains::{tell_length, tell_not_old};
@@ -33,30 +34,30 @@ use std::alloc::Global;
 use std::io;
 use std::io::{Read, Write};
 
-/// Makes an empty store in the file, and tells what came of it.
+/// Makes an empty store in the file, tells what came of it, and gives the device, if there is one.
 pub(crate) fn format_store<R, X: Disks, T: Start, W: Write>(
     rt: &R,
     disks: &mut X,
     start: T,
     store: &str,
     output: &mut Watched<W>,
-) -> io::Result<u8>
+) -> (io::Result<u8>, Option<FileDevice<T>>)
 where
     R: Eprint + AllocGlobal,
-    ensures status { IfOk result (λ status. status ≤ 4) }
+    ensures status { IfOk result.0 (λ status. status ≤ 4) }
     ensures asks { X.asked disks.new ≡ (DiskCall.Make, store.now) ∷ X.asked disks.old }
     ensures formats { FormatsStore ⟦<FileDevice<T> as Sectors>⟧
         (IsMadeAt ⟦<HostFile as FileCalls>⟧.entries) store.now
-        (held W.contents output.old) (held W.contents output.new) result }
+        (held W.contents output.old) (held W.contents output.new) result.0 result.1 }
 {
     match disks.make(store, SECTORS, start) {
         Ok(mut device) => {
             let made = format_device(rt.alloc(), &mut device);
             let told = tell_format(output, &device, made);
             tell_cause(rt, store, device.cause());
-            told
+            (told, Some(device))
         }
-        Err(refusal) => tell_refusal(rt, output, store, refusal),
+        Err(refusal) => (tell_refusal(rt, output, store, refusal), None),
     }
 }
 
@@ -70,7 +71,8 @@ pub(crate) fn format_device<D: Sectors>(alloc: Global, device: &mut D) -> Result
 }
 
 /// Opens the store in the file, and serves the input over it, by `is_strict` up to the first answer that tells a refusal or a
-/// failed device. Why the store is suspect, and how many search steps opening repeats, is told on `errors` first.
+/// failed device. Why the store is suspect, and how many search steps opening repeats, is told on `errors` first. The device, if there
+/// is one, is given as it is left.
 pub(crate) fn run_store<R, X: Disks, T: Start, I: Read, W: Write, E: Write>(
     rt: &R,
     disks: &mut X,
@@ -80,7 +82,7 @@ pub(crate) fn run_store<R, X: Disks, T: Start, I: Read, W: Write, E: Write>(
     input: &mut Watched<I>,
     output: Watched<W>,
     errors: &mut E,
-) -> (io::Result<u8>, Watched<W>)
+) -> (io::Result<u8>, Watched<W>, Option<FileDevice<T>>)
 where
     R: Eprint + AllocGlobal,
     ensures status { IfOk result.0 (λ status. status ≤ 4) }
@@ -94,7 +96,7 @@ where
         (IsTakenAt ⟦<HostFile as FileCalls>⟧.entries) store.now is_strict
         (given_by I.remaining input.old input.new)
         (held W.contents output) (held W.contents result.1)
-        input.new.has_failed result.1.has_failed }
+        input.new.has_failed result.1.has_failed result.2 }
 {
     match open_doubted(rt, disks, start, store, errors) {
         Ok(opened) => {
@@ -111,13 +113,13 @@ where
                 input,
                 output,
             );
-            close_store(rt, store, session);
-            (told, output)
+            let device = close_store(rt, store, session);
+            (told, output, Some(device))
         }
         Err(unopened) => {
             let (mut writer, noted) = output.apart();
-            let told = tell_unopened(rt, &mut writer, store, unopened);
-            (told, Watched::again(writer, noted))
+            let (told, left) = tell_unopened(rt, &mut writer, store, unopened);
+            (told, Watched::again(writer, noted), left)
         }
     }
 }
@@ -132,17 +134,17 @@ pub(crate) fn upgrade_store<R, X: Disks, T: Start, U: Start, W: Write>(
     old: &str,
     new: &str,
     output: &mut Watched<W>,
-) -> io::Result<u8>
+) -> (io::Result<u8>, LeftDevices<FileDevice<T>, FileDevice<U>>)
 where
     R: Eprint + AllocGlobal,
-    ensures status { IfOk result IsUpgradeStatus }
+    ensures status { IfOk result.0 IsUpgradeStatus }
     ensures upgrades { UpgradesStore ⟦<FileDevice<T> as Sectors>⟧ ⟦<FileDevice<U> as Sectors>⟧
         (IsTakenAt ⟦<HostFile as FileCalls>⟧.entries) (IsMadeAt ⟦<HostFile as FileCalls>⟧.entries)
         old.now new.now (record { was = X.asked disks.old; now = X.asked disks.new })
-        (held W.contents output.old) (held W.contents output.new) result }
+        (held W.contents output.old) (held W.contents output.new) result.0 result.1 }
 {
     if old == new {
-        return tell_same(output);
+        return (tell_same(output), LeftDevices::none());
     }
     upgrade_other(rt, disks, start, start_of_new, old, new, output)
 }
@@ -156,19 +158,19 @@ fn upgrade_other<R, X: Disks, T: Start, U: Start, W: Write>(
     old: &str,
     new: &str,
     output: &mut Watched<W>,
-) -> io::Result<u8>
+) -> (io::Result<u8>, LeftDevices<FileDevice<T>, FileDevice<U>>)
 where
     R: Eprint + AllocGlobal,
-    ensures status { IfOk result IsUpgradeStatus }
+    ensures status { IfOk result.0 IsUpgradeStatus }
     ensures upgrades { (compared : List DiskEntry) × (is_one : Bool)
         × UpgradesOther ⟦<FileDevice<T> as Sectors>⟧ ⟦<FileDevice<U> as Sectors>⟧
         (IsTakenAt ⟦<HostFile as FileCalls>⟧.entries) (IsMadeAt ⟦<HostFile as FileCalls>⟧.entries)
         old.now new.now compared is_one
         (record { was = X.asked disks.old; now = X.asked disks.new })
-        (held W.contents output.old) (held W.contents output.new) result }
+        (held W.contents output.old) (held W.contents output.new) result.0 result.1 }
 {
     if disks.are_one(old, new) {
-        return tell_same(output);
+        return (tell_same(output), LeftDevices::none());
     }
     upgrade_taken(rt, disks, start, start_of_new, old, new, output)
 }
@@ -188,21 +190,22 @@ fn upgrade_taken<R, X: Disks, T: Start, U: Start, W: Write>(
     old: &str,
     new: &str,
     output: &mut Watched<W>,
-) -> io::Result<u8>
+) -> (io::Result<u8>, LeftDevices<FileDevice<T>, FileDevice<U>>)
 where
     R: Eprint + AllocGlobal,
-    ensures status { IfOk result (λ status. status ≤ 4) }
+    ensures status { IfOk result.0 (λ status. status ≤ 4) }
     ensures upgrades { (taken : List DiskEntry)
         × UpgradesTaken ⟦<FileDevice<T> as Sectors>⟧ ⟦<FileDevice<U> as Sectors>⟧
         (IsTakenAt ⟦<HostFile as FileCalls>⟧.entries) (IsMadeAt ⟦<HostFile as FileCalls>⟧.entries)
         old.now new.now taken (record { was = X.asked disks.old; now = X.asked disks.new })
-        (held W.contents output.old) (held W.contents output.new) result }
+        (held W.contents output.old) (held W.contents output.new) result.0 result.1 }
 {
     match disks.take(old, start) {
         Ok(device) => upgrade_onto(rt, disks, device, start_of_new, old, new, output),
         Err(refusal) => {
             tell_length(rt, old, refusal.fault);
-            tell_refusal(rt, output, old, refusal)
+            let told = tell_refusal(rt, output, old, refusal);
+            (told, LeftDevices::none())
         }
     }
 }
@@ -216,28 +219,35 @@ fn upgrade_onto<R, X: Disks, T: Start, U: Start, W: Write>(
     old: &str,
     new: &str,
     output: &mut Watched<W>,
-) -> io::Result<u8>
+) -> (io::Result<u8>, LeftDevices<FileDevice<T>, FileDevice<U>>)
 where
     R: Eprint + AllocGlobal,
-    ensures status { IfOk result (λ status. status ≤ 4) }
+    ensures status { IfOk result.0 (λ status. status ≤ 4) }
     ensures upgrades { UpgradesOnto ⟦<FileDevice<T> as Sectors>⟧ ⟦<FileDevice<U> as Sectors>⟧
         (IsTakenAt ⟦<HostFile as FileCalls>⟧.entries) (IsMadeAt ⟦<HostFile as FileCalls>⟧.entries)
         device new.now (record { was = X.asked disks.old; now = X.asked disks.new })
-        (held W.contents output.old) (held W.contents output.new) result }
+        (held W.contents output.old) (held W.contents output.new) result.0 result.1 }
 {
     let read = read_version_1(rt.alloc(), &mut device);
     tell_cause(rt, old, device.cause());
     match read {
         Ok(state) => {
-            let told = make_upgraded(rt, disks, start, new, &state, output);
+            let (told, made) = make_upgraded(rt, disks, start, new, &state, output);
             drop(state);
-            drop(device);
-            told
+            let left = LeftDevices {
+                store: Some(device),
+                new_store: made,
+            };
+            (told, left)
         }
         Err(fault) => {
-            drop(device);
             tell_not_old(rt, old, fault);
-            tell_store_fault(output, fault)
+            let told = tell_store_fault(output, fault);
+            let left = LeftDevices {
+                store: Some(device),
+                new_store: None,
+            };
+            (told, left)
         }
     }
 }
@@ -250,26 +260,26 @@ fn make_upgraded<R, X: Disks, U: Start, W: Write>(
     new: &str,
     state: &State,
     output: &mut Watched<W>,
-) -> io::Result<u8>
+) -> (io::Result<u8>, Option<FileDevice<U>>)
 where
     R: Eprint + AllocGlobal,
-    ensures status { IfOk result (λ status. status ≤ 4) }
+    ensures status { IfOk result.0 (λ status. status ≤ 4) }
     ensures asks { X.asked disks.new ≡ (DiskCall.Make, new.now) ∷ X.asked disks.old }
     ensures makes { MakesStoreAt ⟦<FileDevice<U> as Sectors>⟧
         (IsMadeAt ⟦<HostFile as FileCalls>⟧.entries) state.now new.now
         (λ made calls. TellsFormat unmade_line made calls
-        (held W.contents output.old) (held W.contents output.new) result)
+        (held W.contents output.old) (held W.contents output.new) result.0)
         (λ fault. TellsText (new_line new.now fault) (open_status fault)
-        (W.contents output.old.inner) (W.contents output.new.inner) result) }
+        (W.contents output.old.inner) (W.contents output.new.inner) result.0) result.1 }
 {
     match disks.make(new, SECTORS, start) {
         Ok(mut made) => {
             let upgraded = make_device(rt.alloc(), &mut made, state);
             let told = tell_upgrade(output, &made, upgraded);
             tell_cause(rt, new, made.cause());
-            told
+            (told, Some(made))
         }
-        Err(refusal) => tell_new_refusal(rt, output, new, refusal),
+        Err(refusal) => (tell_new_refusal(rt, output, new, refusal), None),
     }
 }
 

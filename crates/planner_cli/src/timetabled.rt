@@ -10,8 +10,7 @@ ghost use Rattle.auditor_cli.specs.Files.{AreReadInTurn};
 ghost use Rattle.auditor_cli.specs.Partial.{IsPlanAnswer};
 ghost use Rattle.planner_cli.specs.Timetabled.{IsPartTold, IsPlanTold, IsTimetable, IsTimetableOf, IsWholeTold, TellsState, TellsTimed, TellsTimetable, TimetablesStore, form_of, plan_text, solution_text};
 
-use crate::looked::{leave_store, look_into_store};
-use crate::opened::tell_unopened;
+use crate::looked::{leave_store, look_into_store, tell_unlooked};
 use crate::solved::tell_left_out;
 use auditor_cli::status::{DONE, REFUSED};
 use auditor_cli::{
@@ -193,7 +192,7 @@ where
             leave_store(rt, store, looked);
             told
         }
-        Err(unopened) => tell_unopened(rt, output, store, unopened),
+        Err(unopened) => tell_unlooked(rt, output, store, unopened),
     }
 }
 

@@ -3,8 +3,7 @@ ghost use Rattle.std.specs.Prelude.{◌≡◌, ◌≤◌, ◌∷◌, IfOk};
 ghost use Rattle.sector_disk.specs.Disks.{IsSharedAt};
 ghost use Rattle.planner_cli.specs.Written.{WritesInstance, WritesState, WritesStore, WritesText};
 
-use crate::looked::{leave_store, look_into_store};
-use crate::opened::tell_unopened;
+use crate::looked::{leave_store, look_into_store, tell_unlooked};
 use auditor_cli::status::{DONE, REFUSED};
 use auditor_cli::{tell_want_of_memory, write_line};
 use command_core::State;
@@ -39,7 +38,7 @@ where
             leave_store(rt, store, looked);
             told
         }
-        Err(unopened) => tell_unopened(rt, output, store, unopened),
+        Err(unopened) => tell_unlooked(rt, output, store, unopened),
     }
 }
 

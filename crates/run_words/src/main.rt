@@ -50,7 +50,7 @@ fn status_of(rt: &HostRuntime, words: &[&str]) -> u8 {
         output: Watched::new(io::writer(rt)),
         errors: rt.stderr(),
     };
-    let (status, _streams) = run_words(
+    let (status, _streams, _left) = run_words(
         rt,
         Unknown,
         Unknown,

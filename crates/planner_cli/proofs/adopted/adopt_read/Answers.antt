@@ -17,5 +17,6 @@ returns-in-Err-clause-adopts g c =
       error_kind c.in-Err.error,
       c.in-Err.ensures,
       refl {a = g.X.Disks.asked c.args.disks.now},
+      refl,
       subst (λ kind. IfOk c.tell_unread.result (TellsUnread path kind before after)) c.kind.ensures c.tell_unread.ensures,
     )

@@ -1,11 +1,12 @@
 -- What was opened adopts the plan, or it is told why it was not opened.
-use Rattle.std.proofs.Common.{Ok, Err, refl}
+use Rattle.std.proofs.Common.{Ok, Err, ap}
+use Rattle.std.specs.Prelude.{Some}
 use Rattle.planner_cli.proofs.adopted.adopt_store.Goals as goal
 
 pub returns-in-Ok-clause-adopts : goal.returns-in-Ok-clause-adopts
 returns-in-Ok-clause-adopts g c =
     let new = c.adopt_over-told.new.session in
-    (Ok c.in-Ok.opened, c.in-Ok.ensures.opens, (new.device, new, refl, c.adopt_over-told.ensures.adopts))
+    (Ok c.in-Ok.opened, c.in-Ok.ensures.opens, (new, ap (λ d. Some d) c.close_store-device.ensures, c.adopt_over-told.ensures.adopts))
 
 pub returns-in-Err-clause-adopts : goal.returns-in-Err-clause-adopts
-returns-in-Err-clause-adopts g c = (Err c.in-Err.unopened, c.in-Err.ensures.opens, c.tell_unopened.ensures.told)
+returns-in-Err-clause-adopts g c = (Err c.in-Err.unopened, c.in-Err.ensures.opens, (c.tell_unopened.ensures.left, c.tell_unopened.ensures.told))

@@ -13,5 +13,5 @@ pub returns-in-Err-clause-told : goal.returns-in-Err-clause-told
 returns-in-Err-clause-told g c =
     let foretold = g.E.Write.contents c.look_into_store.new.errors in
     let silent = Appends-nil (g.W.Write.contents c.args.output.now) in
-    IfOk-weaker c.tell_unopened.result _ _
-    (λ status told. (foretold, (Err c.in-Err.unopened, c.in-Err.ensures.looks, (c.in-Err.ensures.foretold, told, silent)))) c.tell_unopened.ensures.told.0
+    IfOk-weaker c.tell_unlooked.result _ _
+    (λ status told. (foretold, (Err c.in-Err.unopened, c.in-Err.ensures.looks, (c.in-Err.ensures.foretold, told, silent)))) c.tell_unlooked.ensures.told.0

@@ -1,5 +1,5 @@
 -- The store in the file is begun, or one in a new file.
-use Rattle.std.proofs.Common.{◌∙◌, ◌∷◌, inl, inr, sym, ap}
+use Rattle.std.proofs.Common.{◌∙◌, ◌∷◌, inl, inr, refl, sym, ap}
 use Rattle.sector_disk.specs.declared.disks.DiskCall.TheVariants.{Make}
 use Rattle.planner_cli.proofs.loaded.begin_store.Goals as goal
 
@@ -12,11 +12,12 @@ returns-then-wants_file-clause-begins g c =
       inr (
         sym c.wants_file.ensures ∙ c.if-wants_file.true,
         made.ensures.asks ∙ ap (λ asked. (Make, c.args.store.now) ∷ asked) opening.ensures.asks,
-        (made.result, made.ensures.opens, c.begin_opening.ensures.begins),
+        refl,
+        (made.result, made.ensures.opens, c.begin_opening-told.ensures.begins),
       ),
     )
 
 pub returns-clause-begins : goal.returns-clause-begins
 returns-clause-begins g c =
     let opening = c.open_store-opening in
-    (opening.result, opening.ensures.opens, inl (sym c.wants_file.ensures ∙ c.if-wants_file.false, opening.ensures.asks, c.begin_opening-2.ensures.begins))
+    (opening.result, opening.ensures.opens, inl (sym c.wants_file.ensures ∙ c.if-wants_file.false, opening.ensures.asks, refl, c.begin_opening-told-2.ensures.begins))

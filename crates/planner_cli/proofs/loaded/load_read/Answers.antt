@@ -9,5 +9,11 @@ pub returns-in-Err-clause-loads : goal.returns-in-Err-clause-loads
 returns-in-Err-clause-loads g c =
     let asked = c.args.loading in
     let before = g.W.Write.contents c.args.output.now.inner in
-    let after = g.W.Write.contents c.tell_unread.new.output.inner in
-    inr (error_kind c.in-Err.error, c.in-Err.ensures, refl, subst (λ kind. IfOk c.tell_unread.result (TellsUnread asked.instance.now kind before after)) c.kind.ensures c.tell_unread.ensures)
+    let after = g.W.Write.contents c.tell_unread-told.new.output.inner in
+    inr (
+      error_kind c.in-Err.error,
+      c.in-Err.ensures,
+      refl {a = g.X.Disks.asked c.args.disks.now},
+      c.none.ensures,
+      subst (λ kind. IfOk c.tell_unread-told.result (TellsUnread asked.instance.now kind before after)) c.kind.ensures c.tell_unread-told.ensures,
+    )

@@ -26,7 +26,7 @@ returns-in-Err-clause-does g c = λ a positional asks.
           let usage = c.tell_usage-told.ensures in
           let told = no_memory_told (kind_of c.in-Err.error) c.tell_usage-told.result c.status_of-in-Err.result c.args.streams.output _ c.args.streams.errors _
           memory usage.memory usage.output usage.errors c.status_of-in-Err.ensures in
-          inr (told.0, rw (told.1, told.2) refl)
+          inr (told.0, rw (told.1, told.2) refl, c.none.ensures)
       | inr none ↦ absurd (let both = none.0 in cc)
     ]
 
@@ -39,6 +39,7 @@ returns-in-Err-clause-usage g c = λ positional none.
       files = refl;
       new_files = refl;
       disks = refl;
+      devices = c.none.ensures;
       input = refl;
       reads = refl;
       help = λ z. rw (told.0 z) refl;

@@ -1,5 +1,5 @@
 -- What was made of the device over the new file, or why there is none.
-use Rattle.std.proofs.Common.{◌<◌, arith, inl, inr}
+use Rattle.std.proofs.Common.{◌<◌, arith, inl, inr, refl}
 use Rattle.std.specs.Prelude.{◌^◌}
 use Rattle.checkpoint.specs.Layouts.{version_2, sectors_in}
 use Rattle.checkpoint.specs.declared.faults.FormatFault.TheVariants.{TooSmall}
@@ -15,6 +15,7 @@ returns-in-Ok-clause-makes g c =
       c.in-Ok.made,
       c.make_device-upgraded.new.device,
       upgraded,
+      refl,
       c.in-Ok.ensures.told short,
       c.in-Ok.ensures.len,
       given.made,
@@ -25,4 +26,4 @@ returns-in-Ok-clause-makes g c =
 pub returns-in-Err-clause-makes : goal.returns-in-Err-clause-makes
 returns-in-Err-clause-makes g c =
     let short : sectors_in version_2 < 2 ^ 54 = omega arith in
-    inr (c.in-Err.refusal, c.in-Err.ensures.told short, c.in-Err.ensures.not_too_long short, c.tell_new_refusal.ensures)
+    inr (c.in-Err.refusal, refl, c.in-Err.ensures.told short, c.in-Err.ensures.not_too_long short, c.tell_new_refusal.ensures)

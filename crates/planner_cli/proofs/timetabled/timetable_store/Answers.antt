@@ -7,4 +7,4 @@ pub returns-in-Ok-clause-told : goal.returns-in-Ok-clause-told
 returns-in-Ok-clause-told g c = IfOk-weaker c.tell_state-told.result _ _ (λ status told. (Ok c.in-Ok.looked, c.in-Ok.ensures.looks, told)) c.tell_state-told.ensures.told
 
 pub returns-in-Err-clause-told : goal.returns-in-Err-clause-told
-returns-in-Err-clause-told g c = IfOk-weaker c.tell_unopened.result _ _ (λ status told. (Err c.in-Err.unopened, c.in-Err.ensures.looks, told)) c.tell_unopened.ensures.told.0
+returns-in-Err-clause-told g c = IfOk-weaker c.tell_unlooked.result _ _ (λ status told. (Err c.in-Err.unopened, c.in-Err.ensures.looks, told)) c.tell_unlooked.ensures.told.0

@@ -1,0 +1,66 @@
+-- A device that was read, and then read again, was read at most.
+use Rattle.std.proofs.Common.{◌≡◌, ◌∙◌, ℕ, List, refl}
+use Rattle.checkpoint.specs.Reads.{IsUnchanged}
+use Rattle.planner_cli.specs.LeftDevices.{IsReadAtMost}
+use Rattle.sector_disk.specs.Sectors.{IsCalled, Passes, SameImages, as_many}
+use Rattle.sector_disk.specs.Throughout.{goes_on, joined, started, weakened}
+use Rattle.sector_disk.specs.declared.sectors.Sectors as sectors
+
+module _ {D : Type 0} (on : sectors.Ghosts D) where
+  -- since this moment there is no other
+  abbrev OnlyNow : Type 0
+  OnlyNow = (d : D) (m : ℕ) (image : List ℕ) → on.honest d → on.possible_since d (on.clock d) m image → (m ≡ on.calls d) × on.possible d image
+
+  -- the images are those that were, and as many calls have finished
+  abbrev Still : D → ℕ → List ℕ → Type 0
+  Still old m image = (m ≡ on.calls old) × on.possible old image
+
+  -- it was not called
+  pub not_read : OnlyNow → (device : D) → IsReadAtMost on device device
+  not_read only_now device = record {
+    same_len = refl;
+    calls = refl;
+    honest = λ honest. honest;
+    kept = λ honest. record {
+      reads = refl;
+      images = record { nothing_else = λ image at. at; keeps = λ image at. at };
+      moments = started on.clock on.possible_since device (Still device) (λ m image since. only_now device m image honest since);
+    };
+  }
+
+  -- it was read once
+  pub read_once : OnlyNow → (old new : D) (faults_then : ℕ → ℕ) → IsCalled on.len on.calls on.faults on.honest as_many faults_then old new
+      → (on.honest new → on.seen new ≡ on.seen old) → (on.honest new → SameImages (on.possible old) (on.possible new))
+      → (on.honest new → Passes on.clock on.possible_since on.calls on.possible (on.possible old) old new) → IsReadAtMost on old new
+  read_once only_now old new faults_then called reads images moments = record {
+    same_len = called.same_len;
+    calls = called.finished;
+    honest = called.honest_before;
+    kept = λ honest. record {
+      reads = reads honest;
+      images = images honest;
+      moments = goes_on on.clock on.possible_since old old new (Still old) (on.calls old) (on.calls new) (on.possible old) (on.possible new)
+          (started on.clock on.possible_since old (Still old) (λ m image since. only_now old m image (called.honest_before honest) since)) (moments honest)
+          (λ image at. (refl, at)) (λ image at. (called.finished, (images honest).nothing_else image at));
+    };
+  }
+
+  pub read_again : (old mid new : D) → IsReadAtMost on old mid → IsReadAtMost on mid new → IsReadAtMost on old new
+  read_again old mid new first second = record {
+    same_len = second.same_len ∙ first.same_len;
+    calls = second.calls ∙ first.calls;
+    honest = λ honest. first.honest (second.honest honest);
+    kept = λ honest. both (first.kept (second.honest honest)) (second.kept honest);
+  }
+    where
+      both : IsUnchanged on.clock on.possible_since on.possible on.seen on.calls old mid → IsUnchanged on.clock on.possible_since on.possible on.seen on.calls mid new
+          → IsUnchanged on.clock on.possible_since on.possible on.seen on.calls old new
+      both one two = record {
+        reads = two.reads ∙ one.reads;
+        images = record {
+          nothing_else = λ image at. one.images.nothing_else image (two.images.nothing_else image at);
+          keeps = λ image at. two.images.keeps image (one.images.keeps image at);
+        };
+        moments = joined on.clock on.possible_since old mid new (Still old) one.moments
+            (weakened on.clock on.possible_since mid new (Still mid) (Still old) (λ m image at. (at.0 ∙ first.calls, one.images.nothing_else image at.1)) two.moments);
+      }
