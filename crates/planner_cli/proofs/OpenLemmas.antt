@@ -8,6 +8,7 @@ use Rattle.checkpoint.specs.Reads.{IsUnchanged}
 use Rattle.checkpoint.specs.Refused.{faults_after_reading, faults_of_store}
 use Rattle.checkpoint.specs.declared.faults.StoreFault.{StoreFault}
 use Rattle.checkpoint.specs.declared.faults.StoreFault.TheVariants.{NotFormatted, BadVersion, Codec, Spent, OutOfMemory, DeviceFault}
+use Rattle.planner_cli.proofs.ReadLemmas.{unchanged_again}
 use Rattle.planner_cli.specs.Looked.{LooksInto}
 use Rattle.command_core.specs.declared.states.State.{State}
 use Rattle.recover.specs.Applying.{IsBetween}
@@ -126,23 +127,11 @@ module _ {D : Type 0} (on : sectors.Ghosts D) (old read : D) where
           fault = again.read.called.fault ∙ ap (faults_after_reading answer) only.read.called.fault;
           honest_before = λ honest. only.read.called.honest_before (again.read.called.honest_before honest);
         };
-        kept = λ honest. both (kept (again.read.called.honest_before honest)) (again.read.kept honest);
+        kept = λ honest. unchanged_again on old read after only.read.called.finished (kept (again.read.called.honest_before honest)) (again.read.kept honest);
       };
       small = λ short. absurd (not_refused (found steps) steps NotFormatted refl (only.told short));
       told = λ short. absurd (not_refused (found steps) steps NotFormatted refl (only.told short));
     }
-      where
-        both : IsUnchanged on.clock on.possible_since on.possible on.seen on.calls old read → IsUnchanged on.clock on.possible_since on.possible on.seen on.calls read after
-            → IsUnchanged on.clock on.possible_since on.possible on.seen on.calls old after
-        both first second = record {
-          reads = second.reads ∙ first.reads;
-          images = record {
-            nothing_else = λ image at. first.images.nothing_else image (second.images.nothing_else image at);
-            keeps = λ image at. second.images.keeps image (first.images.keeps image at);
-          };
-          moments = joined on.clock on.possible_since old read after _ first.moments
-              (weakened on.clock on.possible_since read after _ _ (λ m image at. (at.0 ∙ only.read.called.finished, first.images.nothing_else image at.1)) second.moments);
-        }
 
     pub looked_behind : (answer : Result State StoreFault) (after : D) → LooksInto on read answer after → LooksInto on old answer after
     looked_behind answer after again = record {

@@ -45,22 +45,23 @@ module _ {D : Type 0} (on : sectors.Ghosts D) where
     };
   }
 
+  -- what is unchanged twice is unchanged
+  pub unchanged_again : (old mid new : D) → on.calls mid ≡ on.calls old → IsUnchanged on.clock on.possible_since on.possible on.seen on.calls old mid
+      → IsUnchanged on.clock on.possible_since on.possible on.seen on.calls mid new → IsUnchanged on.clock on.possible_since on.possible on.seen on.calls old new
+  unchanged_again old mid new same first second = record {
+    reads = second.reads ∙ first.reads;
+    images = record {
+      nothing_else = λ image at. first.images.nothing_else image (second.images.nothing_else image at);
+      keeps = λ image at. second.images.keeps image (first.images.keeps image at);
+    };
+    moments = joined on.clock on.possible_since old mid new (Still old) first.moments
+        (weakened on.clock on.possible_since mid new (Still mid) (Still old) (λ m image at. (at.0 ∙ same, first.images.nothing_else image at.1)) second.moments);
+  }
+
   pub read_again : (old mid new : D) → IsReadAtMost on old mid → IsReadAtMost on mid new → IsReadAtMost on old new
   read_again old mid new first second = record {
     same_len = second.same_len ∙ first.same_len;
     calls = second.calls ∙ first.calls;
     honest = λ honest. first.honest (second.honest honest);
-    kept = λ honest. both (first.kept (second.honest honest)) (second.kept honest);
+    kept = λ honest. unchanged_again old mid new first.calls (first.kept (second.honest honest)) (second.kept honest);
   }
-    where
-      both : IsUnchanged on.clock on.possible_since on.possible on.seen on.calls old mid → IsUnchanged on.clock on.possible_since on.possible on.seen on.calls mid new
-          → IsUnchanged on.clock on.possible_since on.possible on.seen on.calls old new
-      both one two = record {
-        reads = two.reads ∙ one.reads;
-        images = record {
-          nothing_else = λ image at. one.images.nothing_else image (two.images.nothing_else image at);
-          keeps = λ image at. two.images.keeps image (one.images.keeps image at);
-        };
-        moments = joined on.clock on.possible_since old mid new (Still old) one.moments
-            (weakened on.clock on.possible_since mid new (Still mid) (Still old) (λ m image at. (at.0 ∙ first.calls, one.images.nothing_else image at.1)) two.moments);
-      }
