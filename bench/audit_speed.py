@@ -1,12 +1,12 @@
 #!/usr/bin/env python3
-"""How fast instances are read and audited, and how the time grows with the text.
+"""Measures how fast instances are read and audited, and how the time grows with their size.
 
-Makes Li-Lim instances of 100 to 40,000 tasks and `.vrp` instances of 100 to 40,000 customers, each with a solution
-that passes, and runs `planner audit` on them. An audit with an empty solution, which is refused, reads the instance
-alone; its megabytes a second stand beside those of `wc -l` on the same file. The start of each process is measured by
-a run that has next to nothing to do, and is taken off. Rates by themselves are those of many audits in one process
-(`audits`), which keeps the memory of one for the next, so that the system's pages don't count: of reading the instance, and
-what the solution takes beyond that.
+Makes Li-Lim instances of 100 to 40,000 tasks and `.vrp` instances of 100 to 40,000 customers, each with a
+solution that passes, and runs `planner audit` on them. An audit with an empty solution, which is refused, only
+reads the instance. Its megabytes per second are printed beside those of `wc -l` on the same file. The start of
+each process is measured by a run that has almost nothing to do, and is subtracted. The rates "by itself" come
+from many audits in one process (`audits`), which keeps its memory from one audit to the next, so that the
+system's pages don't count. They are the rate of reading the instance, and the additional time for the solution.
 
     bench/audit_speed.py [lilim|vrp] [SIZE..]
 """
@@ -22,7 +22,7 @@ import time
 
 TOP = pathlib.Path(__file__).resolve().parent.parent
 PROGRAM = TOP / "crates" / "planner" / "out" / "planner"
-# The C library's words for memory that is kept where it is given back.
+# The C library's settings for keeping freed memory.
 KEEPS_MEMORY = {"MALLOC_TRIM_THRESHOLD_": "1000000000", "MALLOC_MMAP_THRESHOLD_": "1000000000"}
 RUNS = 40
 SIZES = {"lilim": [100, 1000, 4000, 40000], "vrp": [100, 1000, 10000, 40000]}
@@ -30,25 +30,25 @@ STOPS_PER_ROUTE = 20
 
 
 def distance(a, b):
-    """nint(sqrt(dx*dx + dy*dy)), in whole numbers."""
+    """Returns nint(sqrt(dx*dx + dy*dy)), in integer arithmetic."""
     square = (a[0] - b[0]) ** 2 + (a[1] - b[1]) ** 2
     root = math.isqrt(square)
     return root if square <= root * (root + 1) else root + 1
 
 
 def spots_of(stops):
-    """The depot and so many stops, at random places."""
+    """Returns the depot and this many stops, at random places."""
     rng = random.Random(stops)
     return [(rng.randint(-1000, 1000), rng.randint(-1000, 1000)) for _ in range(stops + 1)]
 
 
 def routes_of(stops):
-    """The stops by number, so many to a route."""
+    """Returns the stops in numeric order, a fixed number per route."""
     return [list(range(first, min(first + STOPS_PER_ROUTE, stops + 1))) for first in range(1, stops + 1, STOPS_PER_ROUTE)]
 
 
 def solution_of(routes, spots):
-    """The text of a solution, and its cost."""
+    """Returns the text of a solution, and its cost."""
     legs = [zip([0] + route, route + [0]) for route in routes]
     cost = sum(distance(spots[a], spots[b]) for route in legs for a, b in route)
     lines = [f"Route #{k}: {' '.join(map(str, route))}" for k, route in enumerate(routes, 1)]
@@ -56,7 +56,7 @@ def solution_of(routes, spots):
 
 
 def make_lilim(tasks):
-    """An instance whose stop 2k-1 is picked up and delivered at stop 2k."""
+    """Makes an instance whose stop 2k-1 is the pickup and stop 2k the delivery of a pair."""
     spots, routes = spots_of(tasks), routes_of(tasks)
     lines = [f"{len(routes)} 200 1", f"0 {spots[0][0]} {spots[0][1]} 0 0 10000000 0 0 0"]
     for number in range(1, tasks + 1):
@@ -68,7 +68,7 @@ def make_lilim(tasks):
 
 
 def make_vrp(customers):
-    """An instance of so many customers, in the layout of TSPLIB95."""
+    """Makes an instance of this many customers, in the TSPLIB95 layout."""
     spots, routes = spots_of(customers), routes_of(customers)
     lines = ["NAME : bench", "TYPE : CVRP", f"DIMENSION : {customers + 1}", "EDGE_WEIGHT_TYPE : EUC_2D", "CAPACITY : 10000"]
     lines += ["NODE_COORD_SECTION"] + [f"{node} {x} {y}" for node, (x, y) in enumerate(spots, 1)]
@@ -79,7 +79,7 @@ def make_vrp(customers):
 
 
 def least_seconds(words, status, answer):
-    """The least time of some runs, each of which must give this answer."""
+    """Returns the shortest time of some runs, each of which must give this answer."""
     least = math.inf
     for _ in range(RUNS):
         begin = time.perf_counter()
@@ -91,12 +91,12 @@ def least_seconds(words, status, answer):
 
 
 def rate(size, seconds):
-    """Megabytes a second, unless the time is too short to say."""
+    """Returns megabytes per second, or a note that the time is too short."""
     return f"{size / seconds / 1e6:.0f} MB/s" if seconds > 5e-4 else "too short to say"
 
 
 def seconds_by_itself(kind, instance, solution):
-    """What an audit takes in a process that has made one."""
+    """Returns the time of an audit in a process that has already made one."""
     line = f"{instance}\t{solution}\n"
     seconds = []
     for count in (1, RUNS + 1):

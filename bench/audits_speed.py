@@ -1,5 +1,6 @@
 #!/usr/bin/env python3
-"""How long one run of `audits` takes over a list of pairs, beside as many runs of `audit`, by the program that `./planner` builds.
+"""Compares one run of `audits` over a list of pairs with as many runs of `audit`, by the program that
+`./planner` builds.
 
     bench/audits_speed.py [PAIRS]
 """

@@ -1,9 +1,11 @@
 #!/usr/bin/env python3
-"""How long the commands of a store take, by the program that `./planner` builds: milliseconds from a line to its answer.
+"""Measures the commands of a store, by the program that `./planner` builds: milliseconds from a command to its
+answer.
 
-The problems are made here: pairs on a square that grows with their number, with time windows, and room for the stop that is added. The store
-stands in memory (/dev/shm) where FOLDER names no other place, so that its syncs cost next to nothing. Of short commands the fastest of some counts.
-Each stop that is added takes a further number, of which there are 40,000.
+The problems are made here: pairs on a square that grows with their number, with time windows, and room for the
+stop that is added. The store is in memory (/dev/shm) unless FOLDER names another place, so that its syncs cost
+almost nothing. For short commands, the fastest of some runs counts. Each stop that is added takes a new number,
+of which there are 40,000.
 
     bench/commands_speed.py [--folder FOLDER] STOPS..
 """
@@ -21,7 +23,7 @@ TRIES = 5
 
 
 class Sequence:
-    """A fixed sequence of words."""
+    """A fixed sequence of random words."""
 
     def __init__(self):
         self.state = 1
@@ -32,7 +34,9 @@ class Sequence:
 
 
 def instance(stops):
-    """The text of pairs of so many stops but one or two, a hundred stops to 10,000 square units, with a vehicle for two pairs."""
+    """Returns the text of an instance of pairs with this many stops, less one or two: a hundred stops to 10,000
+    square units, and a vehicle for every two pairs.
+    """
     side, words = math.isqrt(stops) * 10 + 1, Sequence()
     lines = [f"{stops // 4 + 1} 200 1", f"0 {side // 2} {side // 2} 0 0 {side * 8} 0 0 0"]
     for pickup in range(1, stops - 1, 2):
@@ -53,7 +57,7 @@ class Session:
         self.process.stdout.readline()
 
     def answer(self, line):
-        """What stands before the last line of the answer, and the seconds until that came."""
+        """Returns the answer without its last line, and the seconds until that line came."""
         begin = time.perf_counter()
         self.process.stdin.write(line.encode())
         self.process.stdin.flush()
@@ -71,7 +75,7 @@ class Session:
 
 
 def added_and_withdrawn(session):
-    """Seconds of one more request, and of its withdrawal."""
+    """Returns the seconds for adding a request, and for withdrawing it."""
     name = session.answer("next\n")[0][0].split()[1]
     return session.seconds("add1 1 0 0 0 1000000 10\n"), session.seconds(f"withdraw {name}\n")
 

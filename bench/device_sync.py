@@ -1,9 +1,9 @@
 #!/usr/bin/env python3
-"""What a sync of a device over a file costs: one sector is written and synced 2,000 times.
+"""Measures the sync of a device over a file: one sector is written and synced 2,000 times.
 
-Measures fsync (`sync_all`) beside fdatasync (`sync_data`) on a file of 8,450 sectors, by turns of 100, so that both meet the
-same load. Then the program that `./planner` builds answers 2,000 lines over a store: each is one record, written and synced, but where 256
-records stand, two writes and two syncs.
+Compares fsync (`sync_all`) and fdatasync (`sync_data`) on a file of 8,450 sectors, alternating every 100 calls,
+so that both meet the same load. Then the program that `./planner` builds answers 2,000 commands over a store.
+Each is one record, written and synced, or two writes and two syncs if 256 records are there.
 
     bench/device_sync.py [FOLDER]
 """
@@ -26,7 +26,7 @@ TURN = 100
 
 
 def turn(file, sync, begin):
-    """Seconds for a turn of writes and syncs."""
+    """Returns the seconds for a turn of writes and syncs."""
     start = time.perf_counter()
     for i in range(begin, begin + TURN):
         os.pwrite(file, bytes([i % 256]) * SECTOR, i % SECTORS * SECTOR)
@@ -54,7 +54,7 @@ def measure_calls(folder):
 
 
 def answered(store, lines):
-    """Seconds in which the program opens the store and answers so many lines, each by `ok`."""
+    """Returns the seconds in which the program opens the store and answers `ok` to this many commands."""
     text = b"".join(b"deviation %d\n" % (i % 2) for i in range(lines))
     start = time.perf_counter()
     got = subprocess.run([PROGRAM, "run", store], input=text, check=True, capture_output=True)

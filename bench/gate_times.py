@@ -1,13 +1,14 @@
 #!/usr/bin/env python3
-"""How long the gates of two commits take, both from nothing, at the same time and each with half of the processors.
+"""Measures the gates of two commits, both from nothing, at the same time and each with half of the processors.
 
-What slows the machine then slows both. Where one ends first, the other goes on with its half. Prints the seconds of each gate by the clock
-and of the processor, how it ended, and the processor's seconds of each crate's proof, tests and edits, these with the proof that they begin
-with, as seen every two seconds. What each gate said is kept in the folder that is told first, and each minute the seconds so far.
+Whatever slows the machine then slows both. When one ends first, the other continues with its half. Prints for
+each gate its elapsed and processor seconds and its result, and the processor seconds of each crate's proof,
+tests and edits, including the proof that these begin with, sampled every two seconds. The output of each gate
+is kept in the folder that is printed first. Prints the seconds so far each minute.
 
     bench/gate_times.py OLD NEW [CRATE..]
 
-With crates, which both commits have to have, it is the gate over them and those below.
+With crates, which both commits must have, only the gate over these and the crates below them is measured.
 """
 
 import collections
@@ -28,7 +29,7 @@ KEPT_EVERY = 60
 
 
 def cloned(commit, folder):
-    """A clone of the commit in this folder."""
+    """Makes a clone of the commit in this folder."""
     number = subprocess.run(["git", "rev-parse", "--verify", f"{commit}^{{commit}}"], cwd=TOP, check=True, capture_output=True, text=True)
     subprocess.run(["git", "clone", "-q", TOP, folder], check=True)
     subprocess.run(["git", "checkout", "-q", number.stdout.strip()], cwd=folder, check=True)
@@ -53,7 +54,7 @@ class Gate:
         self.used, self.status = used.ru_utime + used.ru_stime, os.waitstatus_to_exitcode(status)
 
     def note(self, process):
-        """Keeps the seconds of a check, by its crate and what it is of."""
+        """Records the seconds of a check, by its crate and its task."""
         name = re.search(r"--crate-name ([a-z_]+)", process["words"])
         if name:
             is_edit, is_test = "/rt-edit" in process["folder"], " --test" in process["words"]
@@ -67,19 +68,19 @@ class Gate:
 
 
 def processes():
-    """The checks that run, by their numbers."""
+    """Returns the running checks by process id."""
     found = {}
     for folder in pathlib.Path("/proc").glob("[0-9]*"):
         try:
             fields = (folder / "stat").read_text().rpartition(")")[2].split()
             words = (folder / "cmdline").read_bytes().replace(b"\0", b" ").decode(errors="replace")
-            # The user's and the system's seconds, of its own and of those that it has waited for.
+            # User and system seconds, of the process and of its children that have ended.
             seconds = sum(int(it) for it in fields[11:15]) / TICK
             found[int(folder.name)] = {
                 "above": int(fields[1]), "key": (folder.name, fields[19]), "words": words, "seconds": seconds, "folder": os.readlink(folder / "cwd")
             }
         except (OSError, IndexError):
-            # It has ended meanwhile.
+            # The process has ended meanwhile.
             continue
     return found
 
@@ -91,7 +92,7 @@ def is_check(process):
 def note_all(gates):
     found = processes()
     for process in found.values():
-        # A copy's seconds are those of the check that made it.
+        # The seconds of a forked copy belong to the check that made it.
         if not is_check(process) or is_check(found.get(process["above"])):
             continue
         above = process["above"]
@@ -103,7 +104,7 @@ def note_all(gates):
 
 
 def rows(gates):
-    """A line for each crate and task that one of the gates has begun, with the seconds of both."""
+    """Returns a line for each crate and task that one of the gates has begun, with the seconds of both."""
     old, new = (gate.by_task() for gate in gates)
     return "".join(f"{crate:16} {kind:6} {old[crate, kind]:7.0f} {new[crate, kind]:7.0f}\n" for crate, kind in sorted(old | new))
 
@@ -114,7 +115,7 @@ def main():
         return 64
     folder = pathlib.Path(tempfile.mkdtemp(prefix="gates-"))
     print(folder, flush=True)
-    # Both stand before a gate begins.
+    # Both clones exist before a gate begins.
     clones = [cloned(commit, folder / name) for commit, name in zip(sys.argv[1:3], ("old", "new"))]
     gates = [Gate(clone, sys.argv[3:]) for clone in clones]
     kept = 0

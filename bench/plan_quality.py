@@ -1,13 +1,14 @@
 #!/usr/bin/env python3
-"""How far what `planner solve` finds is from the best plans that are known.
+"""Compares the plans of `planner solve` with the best known ones.
 
-FOLDER holds instances, `NAME.vrp` or `NAME.txt` (Li-Lim), and `references.txt` with a line NAME UNPLANNED VEHICLES DISTANCE for
-each. Each is solved with each seed, audited, and compared: of `.vrp` the gap of the distance in percent, of Li-Lim the
-vehicles above the reference's, too. A plan that leaves requests out is told as such.
+FOLDER holds instances, `NAME.vrp` or `NAME.txt` (Li-Lim), and `references.txt` with a line NAME UNPLANNED
+VEHICLES DISTANCE for each. Each instance is solved with each seed, audited and compared: the gap of the
+distance in percent, and for Li-Lim also the number of vehicles above the reference's. A plan that leaves
+requests out is reported as such.
 
     bench/plan_quality.py [--jobs N] FOLDER STEPS [SEED..]
 
-So many are solved side by side, one without `--jobs`; the seconds are those of the processor.
+N instances are solved in parallel, one without `--jobs`. The seconds are processor time.
 """
 
 import argparse
@@ -24,14 +25,16 @@ KINDS = {".vrp": "vrp", ".txt": "lilim"}
 
 
 def references_of(folder):
-    """By name: requests that are left out, vehicles, and distance."""
+    """Returns for each name the unplanned requests, the vehicles and the distance."""
     lines = (folder / "references.txt").read_text(encoding="utf-8").splitlines()
     rows = [line.split() for line in lines if line.strip() and not line.startswith("#")]
     return {name: tuple(map(int, figures)) for name, *figures in rows}
 
 
 def solved(kind, path, steps, seed):
-    """Vehicles and distance by the audit of what is printed, or None where requests are left out; and the seconds."""
+    """Returns vehicles and distance from the audit of the printed solution, or None if requests are left out,
+    and the seconds.
+    """
     with tempfile.TemporaryFile() as plan:
         process = subprocess.Popen([PROGRAM, "solve", kind, path, str(steps), str(seed)], stdout=plan, stderr=subprocess.DEVNULL)
         _, status, usage = os.wait4(process.pid, 0)
@@ -48,12 +51,12 @@ def solved(kind, path, steps, seed):
 
 
 def gap(distance, best):
-    """In percent."""
+    """Returns the gap in percent."""
     return 100 * (distance - best) / best
 
 
 def tasks_of(folder, seeds):
-    """For each instance and seed: name, path, kind, seed, and the reference's vehicles and distance."""
+    """Returns for each instance and seed: name, path, kind, seed, and the reference's vehicles and distance."""
     for name, (_, vehicles, distance) in sorted(references_of(folder).items()):
         path = next(folder / (name + end) for end in KINDS if (folder / (name + end)).exists())
         for seed in seeds:

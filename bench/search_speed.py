@@ -1,11 +1,13 @@
 #!/usr/bin/env python3
-"""How fast the search is, and whether it finds what another program of the same steps finds.
+"""Measures the speed of the search, and checks that another program with the same steps finds the same.
 
-OTHER is a program with two commands: `gen KIND STOPS SEED` writes an instance of KIND, lilim or vrp, to standard output, and
-`search KIND INSTANCE STEPS SEED DEVIATION` builds a plan of a file by best insertion, makes so many steps, and ends with a line such as
-`steps 1000 seconds 0.01 rate 100000 cost 0 6 1217`. Its final cost has to be ours, to the number. Ours is what `solve` tells of a search, in the program that
-`./planner` builds: the time between its lines of no steps and of all of them. The two run in turn, as often as RUNS says. Times are the medians, and the
-ratio is the median of those of two runs that follow one another, since the clock of a machine may change from second to second.
+OTHER is a program with two commands. `gen KIND STOPS SEED` writes an instance of KIND, lilim or vrp, to
+standard output. `search KIND INSTANCE STEPS SEED DEVIATION` builds a plan by best insertion, makes STEPS steps,
+and ends with a line such as `steps 1000 seconds 0.01 rate 100000 cost 0 6 1217`. Its final cost must equal ours
+exactly. Ours is what `solve` prints about a search, in the program that `./planner` builds: the time between
+its line for no steps and its line for all steps. The two programs run in turn, RUNS times. Times are medians.
+The ratio is the median over pairs of consecutive runs, since the clock of a machine may change from second to
+second.
 
     bench/search_speed.py OTHER [STOPS..]
 """
@@ -27,12 +29,12 @@ DEVIATIONS = [0, 50]
 
 
 def output(*words):
-    """What a program writes."""
+    """Returns the output of a program."""
     return subprocess.run([str(word) for word in words], check=True, capture_output=True, text=True).stdout
 
 
 def ours(kind, path, steps, deviation, seed=SEED):
-    """Nanoseconds a step, and the final cost."""
+    """Returns nanoseconds per step, and the final cost."""
     words = [str(word) for word in (PROGRAM, "solve", kind, path, steps, seed, deviation)]
     told = []
     with subprocess.Popen(words, stdout=subprocess.DEVNULL, stderr=subprocess.PIPE, text=True) as process:
@@ -46,17 +48,17 @@ def ours(kind, path, steps, deviation, seed=SEED):
 
 
 def theirs(other, kind, path, steps, deviation):
-    """The same of the other program."""
+    """Returns the same for the other program."""
     line = output(other, "search", kind, path, steps, SEED, deviation).splitlines()[-1]
     rate, cost = re.search(r"rate (\d+) cost (.*)", line).groups()
     return 10**9 // max(1, int(rate)), cost
 
 
 def compare(other, folder, kind, stops):
-    """Runs both, prints a line for each deviation, and gives how many final costs differ."""
+    """Runs both, prints a line for each deviation, and returns how many final costs differ."""
     path = pathlib.Path(folder) / f"{kind}-{stops}"
     path.write_text(output(other, "gen", kind, stops, SEED))
-    # So many that to begin and end the search takes little of the time.
+    # Enough steps that the beginning and end of the search take little of the time.
     steps = max(4_000, 2_000_000 // stops)
     differing = 0
     for deviation in DEVIATIONS:
@@ -72,7 +74,7 @@ def compare(other, folder, kind, stops):
 
 
 def main():
-    """Compares at each size, and fails where a final cost differs."""
+    """Compares at each size, and fails if a final cost differs."""
     if len(sys.argv) < 2:
         sys.exit(__doc__)
     other, sizes = pathlib.Path(sys.argv[1]).resolve(), [int(word) for word in sys.argv[2:]] or SIZES

@@ -1,14 +1,16 @@
 #!/usr/bin/env python3
-"""How many instructions a step takes, which a busy machine doesn't disturb, and whether another program of the same steps ends at the same cost.
+"""Counts the instructions of a step, which a busy machine doesn't disturb, and checks that another program with
+the same steps ends at the same cost.
 
-Both are counted by callgrind, once with few steps and once with more: the difference is that of the steps alone. Ours is `planner run` over a store with an
-instance, where `build`, `deviation` and `search` or `anneal` are said, so what commands and store take is counted too. OTHER is a program with the commands
-`gen KIND STOPS SEED`, `search KIND INSTANCE STEPS SEED DEVIATION` and `anneal` with the same words, as in `bench/search_speed.py`. The program is built by
-`./planner`; another one can be named, so that two builds are compared.
+Both programs are counted by callgrind, once with few steps and once with more; the difference belongs to the
+steps. Ours is `planner run` over a store with an instance, with the commands `build`, `deviation` and `search`
+or `anneal`, so the instructions of commands and store count too. OTHER is a program with the commands `gen KIND
+STOPS SEED`, `search KIND INSTANCE STEPS SEED DEVIATION` and `anneal` with the same arguments, as in
+`bench/search_speed.py`. Our program is built by `./planner`; another build can be named, to compare two builds.
 
     bench/step_counts.py OTHER [--program PATH] [search|anneal|memory] [STOPS..]
 
-`memory` sets the steps of a store's search beside those of `planner solve`, which has none.
+`memory` compares the steps of a store's search with those of `planner solve`, which has no store.
 """
 
 import pathlib
@@ -26,14 +28,14 @@ FEW, MANY = 2_000, 6_000
 
 
 def instructions(folder, words, text=b""):
-    """How many instructions a program takes, and what it prints."""
+    """Returns how many instructions a program takes, and its output."""
     command = ["valgrind", "--tool=callgrind", f"--callgrind-out-file={folder}/callgrind.out", *map(str, words)]
     got = subprocess.run(command, input=text, check=True, capture_output=True)
     return int(re.search(rb"Collected : (\d+)", got.stderr)[1]), got.stdout.decode()
 
 
 def ours(program, folder, kind, instance, steps, word):
-    """Instructions of a session of so many steps on a new store, and the cost behind them."""
+    """Returns the instructions of a session with this many steps on a new store, and the cost after them."""
     store = folder / "count.store"
     store.unlink(missing_ok=True)
     subprocess.run([program, "load", store, kind, instance, str(SEED)], check=True, capture_output=True)
@@ -43,19 +45,21 @@ def ours(program, folder, kind, instance, steps, word):
 
 
 def theirs(other, folder, kind, instance, steps, word):
-    """The same of the other program."""
+    """Returns the same for the other program."""
     count, printed = instructions(folder, [other, word, kind, instance, steps, SEED, DEVIATION])
     return count, re.findall(r"cost (\d+ \d+ \d+)", printed)[-1]
 
 
 def per_step(count):
-    """Instructions a step, and the cost behind the longer run, of what counts a run of so many steps."""
+    """Returns instructions per step, and the cost after the longer run. `count` counts a run with a given
+    number of steps.
+    """
     (few, _), (many, cost) = count(FEW), count(MANY)
     return (many - few) // (MANY - FEW), cost
 
 
 def compare(other, program, folder, kind, stops, word):
-    """Counts both, prints a line, and says whether they end at the same cost."""
+    """Counts both, prints a line, and returns whether they end at the same cost."""
     instance = folder / f"{kind}-{stops}"
     instance.write_text(output(other, "gen", kind, stops, SEED))
     mine, cost = per_step(lambda steps: ours(program, folder, kind, instance, steps, word))
@@ -66,7 +70,7 @@ def compare(other, program, folder, kind, stops, word):
 
 
 def solved(program, folder, kind, instance, steps):
-    """The same of ours without a store."""
+    """Returns the same for our program without a store."""
     count, _ = instructions(folder, [program, "solve", kind, instance, steps, SEED, DEVIATION])
     return count, None
 
@@ -82,7 +86,7 @@ def beside_memory(other, program, folder, kind, stops):
 
 
 def main():
-    """Counts each kind at each size, and fails where a final cost differs."""
+    """Counts each kind at each size, and fails if a final cost differs."""
     words = sys.argv[1:]
     if not words:
         sys.exit(__doc__)

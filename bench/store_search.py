@@ -1,9 +1,10 @@
 #!/usr/bin/env python3
-"""How many search steps a second the program makes through a store on this disk, and the same search in memory.
+"""Measures how many search steps per second the program makes through a store on this disk, and in memory.
 
-OTHER is a program that writes an instance: `gen KIND STOPS SEED`. Through the store each 256 steps are a command that is synced before its line is
-told. The time of opening, loading and building is taken off: it is measured by a session without the search. In memory the same steps are
-made by `solve`. The program is built by `./planner`.
+OTHER is a program that writes an instance: `gen KIND STOPS SEED`. Through the store, every 256 steps are an
+operation, which is synced before its line is printed. The time for opening, loading and building is subtracted;
+it is measured by a session without the search. In memory the same steps are made by `solve`. The program is
+built by `./planner`.
 
     bench/store_search.py OTHER [STEPS]
 """
@@ -22,7 +23,7 @@ STEPS = 100_000
 
 
 def session(folder, instance, lines):
-    """Seconds that a session on a new store takes, and what it prints."""
+    """Returns the seconds of a session on a new store, and its output."""
     store = folder / "bench.store"
     subprocess.run([PROGRAM, "format", store], check=True, capture_output=True)
     text = instance.read_bytes()
@@ -33,7 +34,7 @@ def session(folder, instance, lines):
 
 
 def opened(folder):
-    """Seconds that opening the store again takes, and how many steps are repeated."""
+    """Returns the seconds for opening the store again, and how many steps are repeated."""
     began = time.monotonic()
     got = subprocess.run([PROGRAM, "run", folder / "bench.store"], input=b"", check=True, capture_output=True)
     return time.monotonic() - began, int(got.stdout.split()[1])

@@ -1,10 +1,12 @@
 #!/usr/bin/env python3
-"""Nanoseconds a step through a store in memory, beside another program of the same steps, which has none.
+"""Measures nanoseconds per step through a store in memory, compared with another program of the same steps,
+which has no store.
 
-Ours is `planner run` over a new store below /dev/shm: `build`, `deviation 30`, and `search N` or `anneal N`. What a run takes with few steps is taken off
-what it takes with more, so loading, building and the beginning of a search fall out. OTHER is as in `bench/search_speed.py`, with the command
-`anneal` too; its runs are set against each other in the same way. Both run in turn on one core; times are medians, the ratio is that of the medians.
-Another program than the one that `./planner` builds can be named.
+Ours is `planner run` over a new store in /dev/shm: `build`, `deviation 30`, and `search N` or `anneal N`. The
+time of a run with few steps is subtracted from that of a run with more, so loading, building and the beginning
+of a search cancel out. OTHER is as in `bench/search_speed.py`, with the command `anneal` too, and its times are
+measured in the same way. Both run in turn on one core. Times are medians, and the ratio is that of the medians.
+A program other than the one that `./planner` builds can be named.
 
     bench/store_steps.py OTHER [--program PATH] [search|anneal] [STOPS..]
 """
@@ -27,20 +29,20 @@ RUNS = 7
 
 
 def steps_of(word, stops):
-    """How many steps the shorter and the longer run make."""
+    """Returns how many steps the shorter and the longer run make."""
     few, many = 1_000, max(6_000, 3_000_000 // stops)
     return (few, many) if word == "search" else (few // 4, many // 3)
 
 
 def timed(words, text=b""):
-    """Nanoseconds that a program takes, and what it prints."""
+    """Returns the nanoseconds of a program, and its output."""
     began = time.perf_counter_ns()
     got = subprocess.run([str(word) for word in words], input=text, check=True, capture_output=True)
     return time.perf_counter_ns() - began, got.stdout.decode()
 
 
 def ours(program, folder, kind, instance, steps, word):
-    """The time of a session of so many steps on a new store, and the cost behind them."""
+    """Returns the time of a session with this many steps on a new store, and the cost after them."""
     store = folder / "steps.store"
     store.unlink(missing_ok=True)
     subprocess.run([program, "load", store, kind, instance, str(SEED)], check=True, capture_output=True)
@@ -49,13 +51,13 @@ def ours(program, folder, kind, instance, steps, word):
 
 
 def theirs(other, kind, instance, steps, word):
-    """The same of the other program."""
+    """Returns the same for the other program."""
     took, printed = timed([other, word, kind, instance, steps, SEED, DEVIATION])
     return took, re.findall(r"cost (\d+ \d+ \d+)", printed)[-1]
 
 
 def compare(other, program, folder, kind, stops, word):
-    """Times both, prints a line, and says whether they end at the same cost."""
+    """Times both, prints a line, and returns whether they end at the same cost."""
     instance = folder / f"{kind}-{stops}"
     instance.write_text(output(other, "gen", kind, stops, SEED))
     few, many = steps_of(word, stops)
@@ -74,7 +76,7 @@ def compare(other, program, folder, kind, stops, word):
 
 
 def main():
-    """Times each kind at each size, and fails where a final cost differs."""
+    """Times each kind at each size, and fails if a final cost differs."""
     words = sys.argv[1:]
     if not words:
         sys.exit(__doc__)

@@ -1,8 +1,10 @@
 #!/usr/bin/env python3
-"""How long the program takes for long texts: `load` of up to 16 MB, `show` and `print` of plans of up to 40,000 stops, and opening a store with a full
-journal of searches. All through a store on this disk, by the program that `./planner` builds.
+"""Measures the program on long texts: `load` of up to 16 MB, `show` and `print` of plans of up to 40,000 stops,
+and opening a store with a full journal of searches. All of it through a store on this disk, by the program that
+`./planner` builds.
 
-A time is the difference of two sessions on one store, one with the lines that are measured and one without, divided by how often they stand in it.
+A time is the difference between two sessions on one store, one with the measured commands and one without,
+divided by the number of these commands.
 
     bench/text_speed.py [REPEATS]
 """
@@ -24,7 +26,7 @@ STORE = "text.store"
 
 
 def padded_tasks(length):
-    """A Li-Lim text of TASKS tasks, filled with blanks to this length."""
+    """Returns a Li-Lim text of TASKS tasks, filled with blanks to this length."""
     lines = [f"{TASKS // 2} 100 1", "0 0 0 0 0 1000000 0 0 0"]
     for pickup in range(1, TASKS, 2):
         lines.append(f"{pickup} {pickup % 1000} {pickup // 1000} 1 0 1000000 0 0 {pickup + 1}")
@@ -35,7 +37,7 @@ def padded_tasks(length):
 
 
 def customers(count):
-    """A .vrp text of this many customers on a line, without demand."""
+    """Returns a .vrp text of this many customers on a line, without demand."""
     nodes = range(1, count + 2)
     return (
         f"DIMENSION : {count + 1}\nCAPACITY : 0\nEDGE_WEIGHT_TYPE : EUC_2D\nDEPOT_SECTION\n1 -1\nNODE_COORD_SECTION\n"
@@ -50,13 +52,13 @@ def load(kind, text):
 
 
 def prepare(folder, lines):
-    """A new store that holds what these lines make, and no journal."""
+    """Makes a new store with the effects of these commands, and no journal."""
     subprocess.run([PROGRAM, "format", folder / STORE], check=True, capture_output=True)
     session(folder, lines + b"checkpoint\n" if lines else b"")
 
 
 def session(folder, lines):
-    """Seconds that a session on the store takes, and what it prints."""
+    """Returns the seconds of a session on the store, and its output."""
     began = time.monotonic()
     got = subprocess.run([PROGRAM, "run", folder / STORE], input=lines, check=True, capture_output=True)
     took = time.monotonic() - began
@@ -66,7 +68,9 @@ def session(folder, lines):
 
 
 def each(folder, before, line, repeats):
-    """Seconds that one such line takes, and the bytes of its answer. What it needs is made before, in a session that is not measured."""
+    """Returns the seconds of one such command, and the bytes of its answer. The commands that it needs run
+    before, in a session that is not measured.
+    """
     prepare(folder, before)
     without, short = session(folder, b"")
     whole, text = session(folder, line * repeats)

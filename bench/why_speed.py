@@ -1,13 +1,17 @@
 #!/usr/bin/env python3
-"""How long the program takes to tell why requests are in no route: `timetable` of a plan of pairs with a hundred further pairs beside it.
+"""Measures how long the program takes to report why requests are in no route: `timetable` of a plan of pairs,
+with a hundred more pairs that are unplanned.
 
-The problem and its plan are made here. A vehicle drives from stop to stop of its route, two pickups and then their deliveries, and each window lies
-round the time when it comes: a minute at `tight`, the whole day else. The further pairs stand anywhere, with a window of a few minutes at `tight`
-and `loose`. At `open`, `full` and `back` their windows too are the whole day, and no load is too much: the day ends long after the last return, so
-that nearly all fits, or with the longest route's, so that nothing fits into that. At `full` a few stops at its end may be late too; at `back` all
-windows end long after the day, so that each trial there is late by the return alone, and by more than 1.
+The problem and its plan are made here. A vehicle drives from stop to stop of its route, two pickups and then
+their deliveries, and each window lies around the time of arrival: a minute at `tight`, else the whole day. The
+unplanned pairs are anywhere, with a window of a few minutes at `tight` and `loose`. At `open`, `full` and
+`back` their windows too are the whole day, and no load is too much. At `open` the day ends long after the last
+return, so that nearly everything fits; else it ends with the longest route's return, so that nothing fits into
+that route. At `full` a few stops at its end may be late too. At `back` all windows end long after the day, so
+that each trial is late only by the return, and by more than 1.
 
-The time is the processor's for a table with them, less that for one without, by the program that `./planner` builds.
+The time is processor time, for a table with these pairs minus one without, by the program that `./planner`
+builds.
 
     bench/why_speed.py [STOPS ROUTES]..
 """
@@ -24,12 +28,13 @@ PROGRAM = TOP / "crates" / "planner" / "out" / "planner"
 SIZES = [(1_000, 50), (1_000, 10), (1_000, 1)]
 PAIRS, SIDE, SERVICE = 100, 1_000, 10
 RUNS, LONG = 3, 5
-# Of each kind: what a vehicle carries, how long the day is behind the last return, and how long service may start behind the day.
+# For each kind: the capacity of a vehicle, the length of the day after the last return, and how long service
+# may start after the day.
 KINDS = {"tight": (40, 200, 0), "loose": (40, 200, 0), "open": (1_000, 100_000, 0), "full": (1_000, 0, 0), "back": (1_000, 0, 100_000)}
 
 
 class Sequence:
-    """A fixed sequence of words."""
+    """A fixed sequence of random words."""
 
     def __init__(self):
         self.state = 1
@@ -44,7 +49,9 @@ def distance(a, b):
 
 
 def planned(words, stops, routes):
-    """Of each stop in the order of the routes: where it stands, when it is served, its partner, and the goods; the last return and the cost."""
+    """Returns for each stop, in the order of the routes, its place, its time of service, its partner and its
+    demand, and then the last return and the cost.
+    """
     depot, rows, end, cost = (SIDE // 2, SIDE // 2), [], 0, 0
     for first in range(1, stops, stops // routes):
         here, now = depot, 0
@@ -61,12 +68,12 @@ def planned(words, stops, routes):
 
 
 def problem(kind, stops, routes, pairs):
-    """The text of an instance and that of its plan."""
+    """Returns the texts of an instance and of its plan."""
     words = Sequence()
     depot, rows, end, cost = planned(words, stops, routes)
-    capacity, spare, behind = KINDS[kind]
+    capacity, spare, later = KINDS[kind]
     day = end + spare
-    last = day + behind
+    last = day + later
     lines = [f"{routes + pairs} {capacity} 1", f"0 {depot[0]} {depot[1]} 0 0 {day} 0 0 0"]
     for number, (there, now, partner, goods) in enumerate(rows, 1):
         earliest, latest = (max(0, now - 30), min(day, now + 30)) if kind == "tight" else (0, last)
@@ -86,7 +93,9 @@ def problem(kind, stops, routes, pairs):
 
 
 def seconds(folder, texts):
-    """What the table takes of the processor, at least in three runs where they are short, and how many lines it has."""
+    """Returns the processor time of the table, the lowest of three runs if they are short, and how many lines
+    it has.
+    """
     paths = [folder / "instance", folder / "plan"]
     for path, text in zip(paths, texts):
         path.write_text(text)

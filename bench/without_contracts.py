@@ -1,10 +1,12 @@
 #!/usr/bin/env python3
-"""Instructions a step of the sources without their contracts, so that an idea is counted a minute after it was written, before any proof.
+"""Counts the instructions per step of the sources without their contracts, so that an idea can be measured a
+minute after it was written, before any proof.
 
-What only the prover reads is taken out of the crates that a search stands on. rustc compiles what is left over the small stand-ins in
-bench/without_contracts/, and callgrind counts steps 1,000 to 3,000 from the plan that is built, with deviation 30. OTHER is as in `bench/search_speed.py`:
-it makes the instances, and is counted beside ours where its final cost is the same. A checkout other than this one can be named, so that two
-forms are compared; --keep FOLDER keeps the compiled program there, for a look at where its instructions go.
+Everything that only the prover reads is removed from the crates that a search needs. rustc compiles the rest
+with the small stand-ins in bench/without_contracts/, and callgrind counts steps 1,000 to 3,000 from the built
+plan, with deviation 30. OTHER is as in `bench/search_speed.py`: it makes the instances, and is counted for
+comparison if its final cost is the same. Another checkout can be named, to compare two versions. --keep FOLDER
+keeps the compiled program there, to see where its instructions go.
 
     bench/without_contracts.py OTHER [--checkout PATH] [--keep FOLDER] [search|anneal] [STOPS..]
 """
@@ -19,13 +21,13 @@ sys.dont_write_bytecode = True
 from search_speed import SEED, TOP, output  # noqa: E402
 
 CRATES = """plan_types nint_dist text_lines instance_read route_sched sol_text plan_audit slack_tables move_ops seeded_search
-    anneal_search anneal_stages fleet_tries""".split()
+    anneal_search annealing_schedule fleet_reduction""".split()
 STAND_INS = TOP / "bench" / "without_contracts"
 SIZES = [100, 400, 1000]
 DEVIATION = 30
 FEW, MANY = 1_000, 3_000
 FLAGS = ["--edition", "2021", "-O", "-A", "warnings", "-C", "embed-bitcode=yes"]
-# What stands in another place, or goes.
+# Text that is replaced or removed.
 RENAMED = {
     "std::alloc::": "kit::",
     "use indexmap::": "use kit::",
@@ -43,7 +45,7 @@ RENAMED = {
 
 
 def end_of_block(text, start):
-    """Behind the brace that closes the one at `start`."""
+    """Returns the position after the brace that closes the one at `start`."""
     depth = 0
     for place in range(start, len(text)):
         depth += {"{": 1, "}": -1}.get(text[place], 0)
@@ -52,30 +54,32 @@ def end_of_block(text, start):
     raise ValueError("a brace is not closed")
 
 
-def without_blocks(text, pattern, behind=""):
-    """The text without each piece that the pattern begins, which ends with a brace, up to the brace that closes it and these characters."""
+def without_blocks(text, pattern, after=""):
+    """Returns the text without each piece that begins with the pattern and a brace, up to the closing brace and
+    the characters of `after` after it.
+    """
     while found := re.search(pattern, text):
         end = end_of_block(text, found.end() - 1)
-        while text[end] in behind:
+        while text[end] in after:
             end += 1
         text = text[: found.start()] + text[end:]
     return text
 
 
 def without_comments(text):
-    """The text without comments."""
+    """Returns the text without comments."""
     return re.sub(r"(\"(?:\\.|[^\"\\])*\"|'(?:\\.|[^'\\])')|//[^\n]*", lambda found: found[1] or "", text)
 
 
 def stripped(text):
-    """A file of Rattle as Rust."""
+    """Returns a Rattle file as Rust."""
     text = without_comments(text)
     text = re.sub(r"ghost use [^;]*;", "", text)
     text = re.sub(r"#!?\[tactic\((?:[^()\[\]]|\([^()]*\))*\)\]", "", text)
     text = re.sub(r"#\[(?:error\(\"[^\"]*\"\)|from|source)\]", "", text)
     text = without_blocks(text, r"impl(?:<[^>]*>)? Model for [^{]*\{")
     text = without_blocks(text, r"impl<T(?:: Drop)?> From<AllocFailed<T>> for [^{]*\{")
-    text = without_blocks(text, r"(?:pub )?ghost [\w\-]+\s*[:=]\s*\{", behind=" ;,")
+    text = without_blocks(text, r"(?:pub )?ghost [\w\-]+\s*[:=]\s*\{", after=" ;,")
     text = without_blocks(text, r"(?<!\w)(?:requires|ensures)\*?(?:\s+\w+)?\s*\{")
     text = re.sub(r"#\[derive\(([^)]*)\)\]", lambda found: f"#[derive({derives(found[1])})]", text)
     text = re.sub(r"\b(\w+): Drop\b", r"\1", text)
@@ -85,12 +89,12 @@ def stripped(text):
 
 
 def derives(names):
-    """The derives that Rust knows."""
+    """Returns the derives that Rust knows."""
     return ", ".join(name for name in re.split(r",\s*", names.strip()) if name not in ("Drop", "Error", ""))
 
 
 def compile_into(folder, checkout):
-    """Compiles the stripped sources of a checkout, and gives the program."""
+    """Compiles the stripped sources of a checkout, and returns the program."""
 
     def rustc(name, root, *flags):
         uses = [word for it in known for word in ("--extern", f"{it}={folder}/lib{it}.rlib")]
@@ -112,21 +116,21 @@ def compile_into(folder, checkout):
 
 
 def counted(program, words):
-    """How many instructions a program takes, and the cost that it tells last."""
+    """Returns how many instructions a program takes, and the last cost that it prints."""
     command = ["valgrind", "--tool=callgrind", "--callgrind-out-file=/dev/null", *map(str, [program, *words])]
     got = subprocess.run(command, check=True, capture_output=True, text=True)
     return int(re.search(r"Collected : (\d+)", got.stderr)[1]), re.findall(r"cost (\d+ \d+ \d+)", got.stdout)[-1]
 
 
 def per_step(program, word, kind, instance):
-    """Instructions a step, and the cost at the end."""
+    """Returns instructions per step, and the cost at the end."""
     few, _ = counted(program, [word, kind, instance, FEW, SEED, DEVIATION])
     many, cost = counted(program, [word, kind, instance, MANY, SEED, DEVIATION])
     return (many - few) // (MANY - FEW), cost
 
 
 def main():
-    """Counts each kind at each size, beside OTHER, and fails where a final cost differs."""
+    """Counts each kind at each size, compared with OTHER, and fails if a final cost differs."""
     words = sys.argv[1:]
     if not words:
         sys.exit(__doc__)

@@ -1,15 +1,18 @@
 #!/usr/bin/env python3
-"""Plans from elsewhere and the store's instance as a text: the lines `adopt` and `instance` of `run`, and the words of these names.
+"""Tests plans from elsewhere, and the store's instance as a text: the commands `adopt` and `instance` of `run`,
+and the subcommands with these names.
 
-1. `adopt` of a small instance, with costs by an enumeration of its plans: cheaper, as cheap, dearer by 1, with pins, with a vehicle too many, left out,
-   of a broken plan, of a bad text, and announced wrongly.
-2. The word `adopt`: the same of a file, with its status.
-3. `instance`: what it prints, after requests came and went, is read back as the store's requests, and says each field as it was; what a format
-   can't say is refused.
-4. With strace: an `adopt` is killed at each of its syncs; the plan is the old one or the new one, and the new one where it was told.
-5. README's commands for a plan from elsewhere, as they stand there, with fewer steps.
+1. `adopt` on a small instance, with costs from an enumeration of its plans: cheaper, equal, dearer by 1, with
+   pins, with a vehicle too many, with requests left out, with a broken plan, with a bad text, and with a wrong
+   announcement.
+2. The subcommand `adopt`: the same with a file, and its status.
+3. `instance`: after requests came and went, the printed text reads back as the store's requests, and has each
+   field as it was; requests that a format can't express are refused.
+4. With strace: an `adopt` is killed at each of its syncs. The plan is the old one or the new one, and the new
+   one if that was reported.
+5. The documents' commands for a plan from elsewhere, exactly as written there, with fewer steps.
 
-Wants the program that rt ci leaves.
+Needs the program that rt ci leaves.
 """
 import itertools
 import math
@@ -20,10 +23,12 @@ import subprocess
 import sys
 import tempfile
 
-TOP = os.path.dirname(os.path.dirname(os.path.abspath(__file__)))
-PROGRAM = os.path.join(TOP, "crates", "planner", "out", "planner")
-LC101 = os.path.join(TOP, "examples", "lc101.txt")
-# A depot and four customers of demand 1; the same with plans whose costs are nearer to one another.
+# Python leaves no files beside the scripts.
+sys.dont_write_bytecode = True
+from planner import EXAMPLES, PROGRAM, can_trace, commands_shown, fail, require_program, run_program, skip  # noqa: E402
+
+LC101 = EXAMPLES / "lc101.txt"
+# A depot and four customers of demand 1, and the same with plans whose costs are closer together.
 PLACES = [(0, 0), (0, 10), (6, 8), (6, 0), (3, 4)]
 NEAR_PLACES = [(0, 0), (0, 7), (0, 4), (9, 9), (9, 6)]
 
@@ -39,11 +44,6 @@ SMALL = customers(PLACES)
 TIGHT = "1 10 1\n0 0 0 0 0 100 0 0 0\n1 3 4 4 0 50 2 0 2\n2 6 8 -4 0 60 2 1 0\n"
 
 
-def fail(text):
-    print("adopt: " + text)
-    sys.exit(1)
-
-
 def cost(routes, places=None):
     places = places or PLACES
     return sum(math.floor(math.dist(places[a], places[b]) + 0.5) for route in routes for a, b in zip([0, *route], [*route, 0]))
@@ -55,7 +55,9 @@ def solution(routes, printed=None):
 
 
 def plans():
-    """All ways to serve the four customers by routes whose order counts for nothing, each once."""
+    """Returns all partitions of the four customers into routes, each once; the order within a route does not
+    matter.
+    """
     for order in itertools.permutations([1, 2, 3, 4]):
         for cuts in itertools.product([False, True], repeat=3):
             routes, route = [], [order[0]]
@@ -68,14 +70,14 @@ def plans():
 
 
 def program(*words, data=b"", status=None):
-    got = subprocess.run([PROGRAM, *words], input=data, capture_output=True)
+    got = run_program(*words, lines=data)
     if status is not None and got.returncode != status:
         fail(f"{words}: status {got.returncode}, {got.stdout[-200:]!r}, {got.stderr[-200:]!r}")
     return got
 
 
 def run(store, *lines):
-    """The answers to these lines, without `opened`."""
+    """Returns the answers to these commands, without `opened`."""
     data = b"".join(line if isinstance(line, bytes) else (line + "\n").encode() for line in lines)
     told = program("run", store, data=data, status=0).stdout.decode().splitlines()
     if not told or not told[0].startswith("opened "):
@@ -93,7 +95,7 @@ def want(what, got, wanted):
 
 
 def routes_of(store):
-    """The routes that `show` tells, by vehicle, and the cost line."""
+    """Returns the routes that `show` prints, by vehicle, and the cost line."""
     told = run(store, "show")
     routes = {int(line.split(":")[0].split()[1]): [int(n) for n in line.split(":")[1].split()] for line in told if line.startswith("vehicle ")}
     return routes, [line for line in told if line.startswith("cost ")][0]
@@ -125,7 +127,7 @@ def check_lines(folder):
     want("as dear", run(store, adopt_line(solution(turned)), "next"), ["ok", "next 5", "ok"])
     want("the other", routes_of(store)[0], {1: [3, 2, 1], 2: [4]})
 
-    # Dearer by 1, wherever two plans are so near.
+    # Dearer by 1, at every place where two plans are that close.
     by_cost = {cost(plan, NEAR_PLACES): plan for plan in plans()}
     near = [c for c in by_cost if c + 1 in by_cost]
     for c in near:
@@ -135,36 +137,37 @@ def check_lines(folder):
     if len(near) < 5:
         fail("few plans differ by 1")
 
-    # Plans that break a rule, and texts that spell none.
+    # Plans that break a rule, and texts that are not a solution.
     want("a wrong cost", run(store, adopt_line(solution(better, 41))), ["broken 11 route 0 place 0 stop 0", "no NotAPlan"])
     want("a stop twice", run(store, adopt_line("Route #1: 1 2 1\nCost 40\n")), ["broken 2 route 1 place 3 stop 1", "no NotAPlan"])
     want("a stop left out", run(store, adopt_line("Route #1: 1 2 3\nCost 30\n")), ["broken 3 route 0 place 0 stop 4", "no NotAPlan"])
     want("no cost", run(store, adopt_line("Route #1: 1 2 3 4\n"), "next"), ["no NoCost 2", "next 5", "ok"])
     want("a bad line", run(store, adopt_line("Route #1: 1 2 3 4\nKost 34\n")), ["no BadLine 2"])
     want("as it was", routes_of(store)[0], {1: [3, 2, 1], 2: [4]})
-    # What announces wrongly ends the run.
+    # A wrong announcement ends the run.
     for line, told in [("adopt", "BadLine"), ("adopt x", "BadLine"), ("adopt 1 2", "BadLine"), ("adopt 16777217", "Range"), ("adopt -1", "Range")]:
         want(line, run(store, line, "next"), [f"no {told}"])
     want("truncated", run(store, b"adopt 100\n" + solution(better).encode()), ["no Truncated"])
     want("nothing", run(store, adopt_line("")), ["no NoCost 1"])
 
-    # Pins: each vehicle with one gets the first route left that begins with it, the others what is left, in order.
+    # Pins: each vehicle with a pin gets the first remaining route that begins with it. The other vehicles get
+    # the remaining routes, in order.
     want("pins", run(store, "pin 2 1", "pin 1 2"), ["ok", "ok"])
     want("turned away", run(store, adopt_line(solution(better))), ["no Pinned"])
-    want("behind the pins", run(store, adopt_line(solution([[4, 1], [3, 2]]))), ["no Dearer"])
+    want("after the pins", run(store, adopt_line(solution([[4, 1], [3, 2]]))), ["no Dearer"])
     want("seated", run(store, adopt_line(solution([[4], [3, 2, 1]]))), ["ok"])
     want("seats", routes_of(store)[0], {1: [3, 2, 1], 2: [4]})
     want("longer", run(store, adopt_line(solution([[3, 2, 1, 4]]))), ["no Pinned"])
     want("unpinned", run(store, "unpin 2", adopt_line(solution([[3, 2, 1, 4]]))), ["ok", "ok"])
     want("one vehicle", routes_of(store), ({1: [3, 2, 1, 4]}, f"cost 0 0 {cost([[3, 2, 1, 4]])}"))
 
-    # A vehicle too many; one request of two left out by the incumbent.
+    # A vehicle too many, and one of two requests that the incumbent leaves out.
     tight = load(folder, "tight", "lilim", TIGHT)
     want("two vehicles", run(tight, adopt_line("Route #1: 1\nRoute #2: 2\nCost 30\n"))[-1], "no NotAPlan")
     want("the pair", run(tight, adopt_line("Route #1: 1 2\nCost 20\n"), "show")[-2:], ["cost 0 1 20", "ok"])
     want("an order", run(tight, "add 1 0 0 0 9 0 0 0 0 9 0")[-1], "ok")
     want("it is left out", run(tight, adopt_line("Route #1: 1 2\nCost 20\n")), ["broken 3 route 0 place 0 stop 3", "no NotAPlan"])
-    print(f"adopt: lines, and {len(near)} plans that are dearer by 1")
+    print(f"adopt: commands, and {len(near)} plans that cost 1 more")
 
 
 def check_word(folder):
@@ -188,7 +191,7 @@ def check_word(folder):
     want("no store", program("adopt", store + ".none", path, status=3).stdout.decode(), f"cannot read {store}.none\n")
     empty = os.path.join(folder, "empty.store")
     want("an empty store", program("adopt", empty, path, status=2).stdout, b"no NoInstance\n")
-    print("adopt: the word")
+    print("adopt: the subcommand")
 
 
 def numbers(text):
@@ -196,7 +199,7 @@ def numbers(text):
 
 
 def check_instance(folder):
-    # Li-Lim: requests came and went; each line says its fields.
+    # Li-Lim: requests came and went. Each line has its fields as given.
     with open(LC101) as file:
         given = file.read()
     store = load(folder, "lc101", "lilim", given)
@@ -213,7 +216,7 @@ def check_instance(folder):
     again = load(folder, "again", "lilim", text)
     want("read back", program("instance", again, status=0).stdout.decode(), text)
     want("the next number", run(again, "next"), run(store, "next"))
-    # The stored plan is one of the text.
+    # The stored plan is a plan of the printed instance.
     plan = "\n".join(run(store, "print")[:-1]) + "\n"
     files = [os.path.join(folder, name) for name in ("now.txt", "now.sol")]
     for path, content in zip(files, (text, plan)):
@@ -235,7 +238,7 @@ def check_instance(folder):
     again = load(folder, "customers2", "vrp", text)
     want("read back, vrp", program("instance", again, status=0).stdout.decode(), text)
 
-    # What a format can't say.
+    # Requests that a format can't express.
     for name, kind, given, line in [
         ("single", "lilim", TIGHT, "add1 1 0 0 0 9 0"),
         ("pair", "vrp", SMALL, "add 1 0 0 0 9 0 0 0 0 9 0"),
@@ -248,12 +251,12 @@ def check_instance(folder):
         want(f"no format, {name}, the word", program("instance", store, status=2).stdout, b"no NoFormat\n")
     empty = os.path.join(folder, "empty.store")
     want("no instance", (program("instance", empty, status=2).stdout, run(empty, "instance")), (b"no NoInstance\n", ["no NoInstance"]))
-    print("adopt: instances are read back")
+    print("adopt: printed instances read back")
 
 
 def check_kills(folder):
-    if shutil.which("strace") is None or subprocess.run(["strace", "-o", os.devnull, "true"], capture_output=True).returncode != 0:
-        print("skipped: adopt, kills within it, since strace is not there or may not trace")
+    if not can_trace():
+        skip("kills within it", "strace is not there or may not trace")
         return
     store = load(folder, "killed", "vrp", SMALL)
     run(store, adopt_line(solution([[1], [2, 3], [4]])))
@@ -264,8 +267,8 @@ def check_kills(folder):
         with open(store, "wb") as file:
             file.write(begun)
         calls = os.path.join(folder, "calls")
-        inject = f"inject=fdatasync:signal=KILL:when={when}"
-        got = subprocess.run(["strace", "-o", calls, "-e", "trace=fdatasync", "-e", inject, PROGRAM, "run", store], input=adopt_line(solution([[1, 2, 3], [4]])), capture_output=True)
+        kill = ["strace", "-o", calls, "-e", "trace=fdatasync", "-e", f"inject=fdatasync:signal=KILL:when={when}"]
+        got = run_program("run", store, lines=adopt_line(solution([[1, 2, 3], [4]])), before=kill)
         left = routes_of(store)[1]
         if left not in ("cost 0 0 54", "cost 0 0 40") or b"ok\n" in got.stdout and left != "cost 0 0 40":
             fail(f"killed at sync {when}: {got.stdout!r}, then {left}")
@@ -277,32 +280,32 @@ def check_kills(folder):
     print(f"adopt: killed at each of {kills} syncs")
 
 
-def check_readme(folder):
-    with open(os.path.join(TOP, "README.md")) as file:
-        section = file.read().split("### A plan from elsewhere\n")[1].split("\n## ")[0].split("\n### ")[0]
-    commands = "".join(re.findall(r"(?s)```sh\n(.*?)```", section)).replace("1000000", "200")
-    place = os.path.join(folder, "readme")
+def check_documents(folder):
+    blocks = [commands_shown(it) for it in ("./planner instance day.store > now.txt\n", "echo print | ./planner run day.store")]
+    commands = "".join(blocks).replace("1000000", "200")
+    place = os.path.join(folder, "documents")
     os.mkdir(place)
     os.symlink(PROGRAM, os.path.join(place, "planner"))
     shutil.copy(LC101, place)
     store = os.path.join(place, "day.store")
-    want("README: load", program("load", store, "lilim", LC101, "7", status=0).stdout, b"ok\n")
+    want("documents: load", program("load", store, "lilim", LC101, "7", status=0).stdout, b"ok\n")
     run(store, "build", "withdraw 13", "add 10 30 45 0 1000 90 33 50 0 1200 90")
     before = routes_of(store)[1]
     got = subprocess.run(["sh", "-e", "-c", commands], cwd=place, capture_output=True)
-    want("README", (got.returncode, got.stdout.decode().splitlines()[-2:]), (0, ["ok", routes_of(store)[1].replace("cost", "pass")]))
+    want("documents", (got.returncode, got.stdout.decode().splitlines()[-2:]), (0, ["ok", routes_of(store)[1].replace("cost", "pass")]))
     if [int(n) for n in routes_of(store)[1].split()[1:]] >= [int(n) for n in before.split()[1:]]:
-        fail(f"README: {before}, then {routes_of(store)[1]}")
-    print("adopt: README's commands take a better plan into the store")
+        fail(f"documents: {before}, then {routes_of(store)[1]}")
+    print("adopt: the commands of the documents take a better plan into the store")
 
 
 def main():
+    require_program()
     with tempfile.TemporaryDirectory() as folder:
         check_lines(folder)
         check_word(folder)
         check_instance(folder)
         check_kills(folder)
-        check_readme(folder)
+        check_documents(folder)
 
 
 main()

@@ -1,18 +1,19 @@
 #!/bin/sh
-# Checks that the program `auditor` answers words that ask for an audit as `planner` does, and tells others what it does.
+# Checks that the program `auditor` answers audits as `planner` does, and that for other arguments it prints
+# what it can do.
 set -u
 
 top=$(CDPATH='' cd -- "$(dirname -- "$0")/.." && pwd -P) || exit 1
 planner=$top/crates/planner/out/planner
 built=$top/crates/auditor/out/auditor
-# Builds the programs where rt ci has not.
+# Builds the programs if rt ci has not.
 [ -x "$planner" ] || "$top/planner" >/dev/null || exit 1
 [ -x "$built" ] || "$top/tools/build_program.py" auditor >/dev/null || exit 1
 folder=$(mktemp -d) || exit 1
 trap 'rm -rf -- "$folder"' EXIT
 trap 'exit 130' INT
 trap 'exit 143' TERM
-# Where the auditor alone is built, ./planner hands the words of an audit on to it.
+# If only the auditor is built, ./planner passes audits on to it.
 mkdir -p -- "$folder/tree/crates/auditor/src" "$folder/tree/crates/auditor/out" || exit 1
 cp -- "$top/planner" "$folder/tree"
 cp -- "$built" "$folder/tree/crates/auditor/out"
@@ -23,7 +24,7 @@ fail() {
     failures=$((failures + 1))
 }
 
-# auditor WORDS..: the auditor answers, by way of ./planner where that takes it.
+# auditor WORDS..: runs the auditor, through ./planner if that passes the arguments on.
 auditor() {
     case ${1-} in
         audit | audits | explain) "$folder/tree/planner" "$@" ;;
@@ -31,7 +32,8 @@ auditor() {
     esac
 }
 
-# answer NAME PROGRAM WORDS..: what the program prints, tells and ends with stands in files of this name.
+# answer NAME PROGRAM WORDS..: writes the output, the standard error and the status of the program to files with
+# this name.
 answer() {
     name=$folder/$1
     shift
@@ -39,7 +41,7 @@ answer() {
     echo "$?" >"$name.status"
 }
 
-cp -R -- "$top/crates/run_words/data" "$folder/data"
+cp -R -- "$top/crates/cli_tests/data" "$folder/data"
 cd -- "$folder/data" || exit 1
 count=0
 while IFS= read -r line; do
@@ -51,7 +53,8 @@ while IFS= read -r line; do
     saved=$IFS
     IFS='|'
     set -- $line
-    # Words that are empty at the end of a line are words too, which sh drops: those lines are run_words' alone.
+    # An empty argument at the end of a line is an argument too, but sh drops it. The crate `cli_tests` tests
+    # those lines.
     IFS=$saved
     set +f
     answer planner "$planner" "$@"

@@ -1,25 +1,29 @@
 #!/usr/bin/env python3
-"""Compares what the built program finds by many steps, to the number, with what another program of the same rules has found.
+"""Compares the results of the built program after many steps with those of another program that follows the
+same rules. The numbers must be equal.
 
-1. `solve`: each line of progress, by the commands of `anneal 0 STEPS` and by a search with a deviation, of eight Li-Lim instances: five with
-   vehicles to spare, and three whose fleets are too small for all requests.
-2. More than 65,536 steps at once: a stage of 70,000, and an annealing of as many in a store, with both plans.
-3. As many steps through a store, by a line `anneal 0 STEPS` and by one of a search, lead to the plans of `solve`.
+1. `solve`: each line of progress, by the operations of `anneal 0 STEPS` and by a search with a deviation, on
+   eight Li-Lim instances: five with vehicles to spare, and three whose fleets are too small for all requests.
+2. More than 65,536 steps in one uninterrupted run: a stage of 70,000, and an annealing of as many in a store,
+   with both plans.
+3. The same number of steps through a store, by a command `anneal 0 STEPS` and by one of a search, gives the
+   plans of `solve`.
 
-The instances are E-n51-k5 and those that are made here by a rule. Wants the program that rt ci leaves.
+The instances are E-n51-k5 and instances that are made here by a rule. Needs the program that rt ci leaves.
 """
 import os
-import subprocess
 import sys
 import tempfile
 
-TOP = os.path.dirname(os.path.dirname(os.path.abspath(__file__)))
-PROGRAM = os.path.join(TOP, "crates", "planner", "out", "planner")
+# Python leaves no files beside the scripts.
+sys.dont_write_bytecode = True
+from planner import EXAMPLES, expect, outcome, require_program, write  # noqa: E402
+
 STEPS = 100_000
 
 
 def vrp(capacity, places, demands):
-    """A .vrp text, the depot first."""
+    """Returns a .vrp text, the depot first."""
     lines = ["TYPE : CVRP", f"DIMENSION : {len(places)}", "EDGE_WEIGHT_TYPE : EUC_2D", f"CAPACITY : {capacity}", "NODE_COORD_SECTION"]
     lines += [f"{at} {x} {y}" for at, (x, y) in enumerate(places, 1)]
     lines += ["DEMAND_SECTION"] + [f"{at} {demand}" for at, demand in enumerate(demands, 1)]
@@ -27,13 +31,13 @@ def vrp(capacity, places, demands):
 
 
 def customers(count):
-    """Customers that lie around a depot."""
+    """Returns customers around a depot."""
     places = [(500, 500)] + [(it * 379 % 1009, it * 617 % 1013) for it in range(1, count + 1)]
     return vrp(60, places, [0] + [1 + it * 31 % 17 for it in range(1, count + 1)])
 
 
 def pairs(count, fleet=None):
-    """Pairs that lie around a depot, for as many vehicles or for so many."""
+    """Returns pairs around a depot, with as many vehicles as pairs or with this many."""
     lines = [f"{fleet or count} 14 1", "0 50 50 0 0 600 0 0 0"]
     for pair in range(count):
         number, earliest = 2 * pair + 1, pair * 29 % 281
@@ -43,18 +47,18 @@ def pairs(count, fleet=None):
 
 
 def fifty():
-    with open(os.path.join(TOP, "examples", "E-n51-k5.vrp"), encoding="ascii") as file:
-        return file.read()
+    return (EXAMPLES / "E-n51-k5.vrp").read_text(encoding="ascii")
 
 
 SIX = vrp(4, [(0, 0), (3, 4), (6, 8), (-3, 4), (-6, 8), (0, 5), (9, 1)], [0, 2, 2, 1, 1, 3, 2])
 
-# Of the other program: distances at no steps and behind each twentieth of them.
+# From the other program: the distances before the first step and after each twentieth of the steps.
 FIFTY_1 = [918, 550, 527, 527] + 17 * [521]
 FIFTY_2 = [918, 553, 525] + 18 * [521]
 CUSTOMERS_1 = [30749, 16929, 15645, 15471, 14872, 14859, 14774, 14656, 14656] + 12 * [14642]
 CUSTOMERS_2 = [30749, 16539, 15581, 15416, 15140, 14948, 14684, 14669] + 13 * [14668]
-# Requests left out, vehicles and distance at no steps, and from the half on behind each twentieth: tries of fewer vehicles are one command.
+# Requests left out, vehicles and distance before the first step, and from the middle on after each twentieth of
+# the steps: the search for fewer vehicles is one operation.
 FORTY_1 = "0 10 3466, 0 6 2468, 0 6 2256, 0 6 2256, 0 6 2256, 0 6 2256, 0 6 2256, 0 6 2256, 0 6 2256, 0 6 2256, 0 6 2256, 0 6 2256"
 EIGHTY_1 = "0 16 6205, 0 10 4158, 0 10 4051, 0 10 4049, 0 10 4049, 0 10 4049, 0 10 4049, 0 10 4049, 0 10 4049, 0 10 4049, 0 10 4049, 0 10 4049"
 EIGHTY_2 = "0 16 6205, 0 10 4384, 0 10 4239, 0 10 4207, 0 10 4194, 0 10 4176, 0 10 4176, 0 10 4176, 0 10 4101, 0 10 4101, 0 10 4092, 0 10 4092"
@@ -75,7 +79,7 @@ def tried(told):
     return "".join(f"at {step} {line}\n" for step, line in zip(steps, told.split(", "), strict=True))
 
 
-# The kind, the instance, the steps, the seed, and what standard error begins with.
+# The kind, the instance, the steps, the seed, and the expected beginning of standard error.
 SOLVED = [
     ("vrp", fifty(), STEPS, 1, staged(FIFTY_1)),
     ("vrp", fifty(), STEPS, 2, staged(FIFTY_2)),
@@ -85,7 +89,7 @@ SOLVED = [
     ("lilim", pairs(80), STEPS, 1, tried(EIGHTY_1)),
     ("lilim", pairs(80), STEPS, 2, tried(EIGHTY_2)),
     ("lilim", pairs(120), STEPS, 1, tried(MORE_1)),
-    # Two and three vehicles fewer are tried at first.
+    # The first attempts look for two and three vehicles fewer.
     ("lilim", pairs(200), STEPS, 1, tried(MANY_1)),
     ("lilim", pairs(300), STEPS, 1, tried(MOST_1)),
     ("lilim", pairs(80, 9), STEPS, 1, tried(SHORT_1)),
@@ -94,7 +98,8 @@ SOLVED = [
     ("vrp", SIX, 1_400_000, 1, staged([66] + 20 * [62], 1_400_000)),
 ]
 
-# The kind, the instance, the seed and the deviation of a search of as many steps, and its vehicles and distance by the other program.
+# The kind, the instance, the seed and the deviation of a search with the same number of steps, and the vehicles
+# and distance from the other program.
 SEARCHED = [
     ("vrp", fifty(), 1, 5, 0, 540),
     ("vrp", fifty(), 2, 5, 0, 527),
@@ -105,7 +110,7 @@ SEARCHED = [
 ]
 
 
-# The routes of the other program's plan after 70,000 annealing steps of seed 0 with deviation 30, by vehicle.
+# The routes of the other program's plan after 70,000 annealing steps with seed 0 and deviation 30, by vehicle.
 ANNEALED = [
     "45 53 61 69 5 74 10 68",
     "30 35 40 32 27 22",
@@ -124,34 +129,19 @@ ANNEALED = [
 ANNEALED_TOLD = "at 16384 0 0 14644\nat 32768 0 0 14644\nat 49152 0 0 14644\nat 65536 0 0 14621\nat 70000 0 0 14621\nok\n"
 
 
-def fail(text):
-    print("costs: " + text)
-    sys.exit(1)
-
-
-def expect(what, got, wanted):
-    if got != wanted:
-        fail(f"{what}: {got!r}; wanted {wanted!r}")
-
-
-def planner(*words, lines=""):
-    got = subprocess.run([PROGRAM, *map(str, words)], input=lines.encode(), capture_output=True)
-    return got.returncode, got.stdout.decode(), got.stderr.decode()
-
-
-def write(folder, text):
+def written(folder, text):
+    """Writes the instance, and returns its path."""
     path = os.path.join(folder, "instance")
-    with open(path, "w", encoding="ascii") as file:
-        file.write(text)
+    write(path, text)
     return path
 
 
 def session(folder, kind, instance, seed, lines):
-    """What is answered over a new store to these lines, behind a load."""
+    """Returns the answers to these commands on a new store, after a load."""
     store = os.path.join(folder, "costs.store")
-    planner("format", store)
-    status, text, _ = planner("run", store, lines=f"load {kind} {seed} {len(instance)}\n{instance}{lines}")
-    expect("the begin of a session", (status, text[:12]), (0, "opened 0\nok\n"))
+    outcome("format", store)
+    status, text, _ = outcome("run", store, lines=f"load {kind} {seed} {len(instance)}\n{instance}{lines}")
+    expect("the beginning of a session", (status, text[:12]), (0, "opened 0\nok\n"))
     return text[12:]
 
 
@@ -166,7 +156,7 @@ def routes_shown(answers):
 def check_solved(folder):
     for kind, instance, steps, seed, told in SOLVED:
         what = f"solve {kind} by {steps} steps of seed {seed}"
-        status, plan, errors = planner("solve", kind, write(folder, instance), steps, seed)
+        status, plan, errors = outcome("solve", kind, written(folder, instance), steps, seed)
         left_out, _, distance = told.splitlines()[-1].split()[2:]
         expect(what, (status, errors[: len(told)]), (int(left_out != "0"), told))
         shown = session(folder, kind, instance, seed, f"build\nanneal 0 {steps}\nshow\n")
@@ -179,7 +169,7 @@ def check_solved(folder):
 def check_searched(folder):
     for kind, instance, seed, deviation, vehicles, distance in SEARCHED:
         what = f"solve {kind} by a search of seed {seed}"
-        status, plan, errors = planner("solve", kind, write(folder, instance), STEPS, seed, deviation)
+        status, plan, errors = outcome("solve", kind, written(folder, instance), STEPS, seed, deviation)
         expect(what, (status, errors.splitlines()[-1]), (0, f"at {STEPS} 0 {vehicles} {distance}"))
         expect(f"{what}, its last line", plan.splitlines()[-1], f"Cost {distance}")
         answers = session(folder, kind, instance, seed, f"build\ndeviation {deviation}\nsearch {STEPS}\nprint\n")
@@ -195,13 +185,12 @@ def check_annealed(folder):
 
 
 def main():
-    if not os.path.exists(PROGRAM):
-        sys.exit(f"costs: {PROGRAM} is not built: run rt ci, or ./planner once")
+    require_program()
     with tempfile.TemporaryDirectory() as folder:
         check_solved(folder)
         check_searched(folder)
         check_annealed(folder)
-    print(f"costs: {len(SOLVED) + len(SEARCHED) + 1} plans cost what another program has found, to the number")
+    print(f"costs: {len(SOLVED) + len(SEARCHED) + 1} plans cost exactly what another program found")
 
 
 main()

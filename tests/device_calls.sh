@@ -1,8 +1,9 @@
 #!/bin/sh
-# Checks which calls of the system a store in a file makes, and in which order: `format` takes the file's lock, for itself
-# alone and without waiting, writes zeros where it gets longer, and syncs the file and its folder, however its path is told; each
-# write of the store is at its offset, and each sync is the file's own. The zeros are written in pieces, and count as one write;
-# behind the first sync each write of the store is one of the system. Wants strace, and the program that rt ci leaves.
+# Checks which system calls a store in a file makes, and in which order. `format` takes an exclusive lock on the
+# file without waiting, writes zeros if the file grows, and syncs the file and its folder, however its path is
+# written. Each write of the store is at its offset, and each sync is one of the file. The zeros are written in
+# pieces and count as one write; after the first sync each write of the store is one system call. Needs strace,
+# and the program that rt ci leaves.
 set -u
 
 top=$(CDPATH='' cd -- "$(dirname -- "$0")/.." && pwd -P) || exit 1
@@ -16,8 +17,8 @@ if ! strace -o /dev/null true 2>/dev/null; then
     exit 0
 fi
 if [ ! -x "$program" ]; then
-    echo "skipped: device_calls, since $program is not built (rt ci builds it)"
-    exit 0
+    echo "device_calls: $program is not built: run rt ci, or ./planner once" >&2
+    exit 1
 fi
 folder=$(mktemp -d) || exit 1
 trap 'rm -rf -- "$folder"' EXIT
@@ -25,7 +26,8 @@ trap 'exit 130' INT
 trap 'exit 143' TERM
 store=$folder/new.store
 
-# The calls of the program with these words on the store and its folder, one a line, by what was opened for them.
+# Prints the calls of the program with these arguments on the store and its folder, one per line, with the path
+# that was opened for them.
 calls_of() {
     strace -o "$folder/calls" -e trace=open,openat,flock,ftruncate,fsync,fdatasync,pwrite64,pread64,write,read \
         "$program" "$@" >"$folder/answers" || exit 1
@@ -65,9 +67,9 @@ calls_of() {
         END { tell_writes() }' "$folder/calls"
 }
 
-# What the table of the store in docs/FORMATS.md makes of `format`, and of a load and a build over the store that it leaves. Before that
-# store is opened its headers and records are read for reasons to doubt it, and all once more for the steps that are to be repeated: both
-# are told first.
+# The calls that the store table in docs/FORMATS.md means for `format`, and then for a load and a build over the
+# new store. Before that store is opened, its headers and records are read for integrity warnings, and
+# everything once more for the steps to be repeated. Both are reported first.
 cat >"$folder/wanted" <<'END'
 open file
 flock LOCK_EX|LOCK_NB file
@@ -110,16 +112,18 @@ if ! diff "$folder/wanted" "$folder/got"; then
     exit 1
 fi
 
-# How many search steps are repeated is told before the store is opened for them, which begins by a sync.
+# The number of search steps to be repeated is printed before the store is opened for them. Opening begins with
+# a sync.
 cp -- "$store" "$folder/steps.store" || exit 1
 echo 'search 300' | "$program" run "$folder/steps.store" >"$folder/answers" || exit 1
 strace -o "$folder/calls" -e trace=write,fdatasync "$program" run "$folder/steps.store" </dev/null >"$folder/answers" 2>/dev/null || exit 1
 if ! awk '/^write\(2, "planner: repeating / { told = 1 } /^fdatasync/ { exit } END { exit !told }' "$folder/calls"; then
-    echo "device_calls: that steps are repeated is told behind them"
+    echo "device_calls: the number of repeated steps is printed after the steps, not before"
     exit 1
 fi
 
-# Words that read a store alone: they share its lock, and write and sync nothing. It is read once more for the steps, as above.
+# Subcommands that only read a store share its lock, and write and sync nothing. The store is read once more for
+# the steps, as above.
 cat >"$folder/wanted" <<'END'
 open file
 flock LOCK_SH|LOCK_NB file
@@ -136,7 +140,7 @@ for word in timetable draw instance; do
     fi
 done
 
-# The folder that is synced, behind the file.
+# The folder is synced after the file.
 mkdir -- "$folder/sub" || exit 1
 for name in bare.store sub/new.store ./sub/../here.store "$folder/sub/last.store"; do
     (cd -- "$folder" && strace -o calls -e trace=open,openat,fsync "$program" format "$name" >answers) || exit 1

@@ -1,42 +1,80 @@
 #!/usr/bin/env python3
-"""Reads the documents as a stranger would follow them.
+"""Checks the names, links, tables and words of the documents against the tree.
 
-1. Each name in code quotes stands in the tree: a path is there, `Rules.IsLate` is declared in a Rules.antt, a name with an underscore or a
-   capital within is declared in a source, but in PROVING.md, which names much of std's; any other word is in one.
-2. Each crate of crates.txt stands once in the table of layers of docs/ARCHITECTURE.md, in the order of crates.txt; each that is no crate of
-   tests stands in its picture.
-3. Each .rt file begins with a line of what it holds.
-4. Each document is linked from README.md, and each link leads to a file and a heading that are there.
-5. No paragraph has more than 90 words, and no cell of a table more than 100 characters.
-6. A name that is given with its place is declared there, not merely used, and not elsewhere. A place is a file or a crate:
-   - behind the name, in brackets: `Rules.IsLate` (plan_audit), `search_steps` and `walk_on` (`seeded_search/src/search.rt`)
-   - before the name, in a table's cell: `plan_audit/src/scan.rt` `first_late`; a file alone, as `slow.rt`, is one beside it, or of its specs/
-   - in a column of the row that is headed Crate, or in the heading above: of the names headed Function, Definition or Begin with
-   - in a column of the row that is headed Code or Files: of definitions, and of names in a column that is headed so in PLACED
-   - any file or crate of the row: of names in its other columns that can be no plain word, as they have an underscore or a capital within
-   A definition, and what another column names, may stand in a crate below. What is declared is a function, type, case, field, constant or
-   definition, and a clause's label in the column of clauses alone.
-7. The manual page has the words of the program's help, in its synopsis and under a heading each, and the lines of `run`.
+1. Each name in code quotes is in the tree: a path exists, `Rules.IsLate` is declared in a Rules.antt, and a
+   name with an underscore or a capital inside is declared in a source, except in PROVING.md, which names much
+   of std's. Any other word occurs in a source.
+2. Each crate of crates.txt is once in the table of layers of docs/ARCHITECTURE.md, in the order of crates.txt.
+   Each crate of the two programs is in its picture.
+3. Each .rt file begins with a line about its contents.
+4. Each document is linked from README.md or from docs/ARCHITECTURE.md, and each link leads to an existing file
+   and heading.
+5. No paragraph has more than 90 words.
+6. A name that is given with its place is declared there, not merely used, and not elsewhere. A place is a file
+   or a crate:
+   - after the name, in brackets: `Rules.IsLate` (plan_audit), `search_steps` and `walk_on`
+     (`seeded_search/src/search.rt`)
+   - before the name, in a table's cell: `plan_audit/src/scan.rt` `first_late`; a file name without a folder,
+     for example `slow.rt`, means one beside it, or one in its specs/
+   - in a column of the row with the header Crate, or in the heading above: for names in the columns Function,
+     Definition or Begin with
+   - in a column of the row with the header Code or Files: for definitions, and for names in the columns listed
+     in PLACED
+   - any file or crate of the row: for names in its other columns that can't be plain words, since they have an
+     underscore or a capital inside
+   A definition, and a name in another column, may be in a crate below. Declared means: a function, type,
+   variant, field, constant or definition, and in the column of clauses a clause's label.
+7. The manual page has the arguments of the program's help, in its synopsis and under a heading each, and the
+   commands of a store.
+8. No source, script or document has a word of REFUSED_WORDS, which have no right use here.
+9. docs/INDEX.md is what tools/index.py writes: each of its names is declared where the page says.
 """
 import functools
 import pathlib
 import re
+import subprocess
 import sys
 
-TOP = pathlib.Path(__file__).resolve().parent.parent
+THIS = pathlib.Path(__file__).resolve()
+TOP = THIS.parent.parent
 DOCUMENTS = sorted(TOP.glob("*.md")) + sorted((TOP / "docs").glob("*.md"))
 MOST_WORDS = 90
-MOST_CELL = 100
 SOURCES = {".rt", ".antt", ".edit", ".py", ".sh", ".txt", ".sol", ".vrp", ".1", ""}
-# Spans that name nothing of the tree: commands of the kit and its own name.
-FOREIGN_SPANS = ("rt ", "rattle-kit")
-# Words of the world outside: commands and terms of the system.
-FOREIGN = {"PATH", "PREFIX", "xargs", "split", "parallel", "strace", "valgrind", "callgrind", "perf", "rustc", "clang", "fdatasync", "fsync"}
-# Names of crates that the project stands on, and of what these and std declare.
+# Spans that name nothing in the tree: commands of the kit, its name, and folders of an installation.
+FOREIGN_SPANS = ("rt ", "rattle-kit", "PREFIX/")
+# Words from outside the project: commands and terms of the system.
+FOREIGN = {"PATH", "PREFIX", "xargs", "split", "parallel", "strace", "valgrind", "callgrind", "perf", "sha256sum", "rustc", "clang", "fdatasync", "fsync"}
+# Names of crates that the project uses, and of what they and std declare.
 OUTSIDE = {"AllocError", "WouldBlock", "next_word", "rand_chacha", "rand_core"}
 
+# Words that have no right use here, with the plain word for each.
+REFUSED_WORDS = {
+    "behind": "after",
+    r"wrong[ _-]bod(?:y|ies)": "mutant",
+    r"wants?[ _-]of[ _-]memory": "out of memory",
+    r"\banew\b": "again",
+    r"\btold of\b": "reported",
+    r"\blets? go of\b": "release",
+    r"\bhanded on\b": "passed on",
+    r"\bby rising\b": "in ascending order of",
+    r"\blive requests?\b": "current request",
+    r"\bgrowth (?:was|is) refused\b|\brefused growth\b": "an allocation failed",
+}
+REFUSED = re.compile("|".join(REFUSED_WORDS), flags=re.IGNORECASE)
+# Allowed: answers and messages of the programs, since their bytes stay, in the code that prints them and wherever
+# tests and documents show them; and an option of the kit.
+KEPT_TEXTS = re.compile(
+    r": behind stop\b|task @ stands behind task @|task 1 stands behind task 2|words stand behind -1"
+    r"|behind the word routes no cost is asked|due behind Cost|as they do behind: sed|as it has none behind: grep"
+    r"|is behind the cost line\b|--anew\b"
+)
+# Words are checked in these folders and in the files at the top, except in this file and in what is built.
+PROSE_FOLDERS = ("bench", "crates", "docs", "examples", "man", "tests", "tools")
+PROSE_KINDS = {".rt", ".antt", ".edit", ".md", ".py", ".sh", ".txt", ".1", ""}
+
 FILE_NAME = r"[\w-]+\.(?:rt|antt|py|sh|md|edit|txt|sol|vrp|svg)"
-# Columns of a table that name what is declared at the place of the row: in the files of a column headed Code or Files, or in its crates.
+# Table columns whose names are declared at the place of the row: in the files of a column with the header Code
+# or Files, or in its crates.
 PLACED = ("Of ", "Function", "`")
 CLAUSES = "Clause, definition or law"
 DEFINING = (CLAUSES, "Definition")
@@ -63,7 +101,8 @@ def words_of(text):
 
 
 def read_tree():
-    """All words of the sources, the paths, and per name of an .antt file in specs/ what it declares."""
+    """Reads all words of the sources, the paths, and for each .antt file in specs/ the names that it declares.
+    """
     words, paths, declared = set(FOREIGN), set(), {}
     for path in sources():
         inside = path.relative_to(TOP)
@@ -100,7 +139,7 @@ def check_name(path, line, span, words, paths, declared):
 
 
 def paragraphs(lines):
-    """Runs of lines of prose or of one item of a list, each with its first line's number."""
+    """Returns paragraphs and list items, each as its lines with the number of the first one."""
     block, first = [], 0
     for number, line in enumerate(lines + [""], 1):
         stripped = line.strip()
@@ -116,7 +155,7 @@ def paragraphs(lines):
 
 
 def without_code(text):
-    """The lines, with those of fenced blocks blank."""
+    """Returns the lines, with those of fenced blocks blank."""
     lines, inside = [], False
     for line in text.split("\n"):
         fence = line.lstrip().startswith("```")
@@ -155,10 +194,6 @@ def check_document(path, words, paths, declared):
             complain(path, first, f"a paragraph of {count} words")
     for number, line in enumerate(lines, 1):
         check_links(path, number, line)
-        if line.strip().startswith("|"):
-            for cell in re.split(r"(?<!\\)\|", line.strip().strip("|")):
-                if len(cell.strip()) > MOST_CELL:
-                    complain(path, number, f"a cell of {len(cell.strip())} characters")
         for span in re.findall(r"`([^`]+)`", line):
             check_name(path, number, span.strip(), words, paths, declared)
             if path.name != "PROVING.md" and is_code(span) and not re.fullmatch(FILE_NAME, span):
@@ -174,7 +209,7 @@ def crates():
 
 
 def crates_below():
-    """Per crate itself and all that it stands on."""
+    """Returns for each crate itself and all crates that it depends on."""
     below = {}
     for name, direct in crates():
         below[name] = {name}.union(*(below[it] for it in direct if it in below))
@@ -182,7 +217,8 @@ def crates_below():
 
 
 BELOW = crates_below()
-# Names of files of definitions.
+PRODUCT = BELOW["planner"] | BELOW["auditor"]
+# The names of the files with definitions.
 MODULES = {it.stem for it in TOP.glob("crates/*/specs/*.antt")}
 
 
@@ -215,7 +251,9 @@ def declared_at(file):
 
 @functools.lru_cache(maxsize=None)
 def labels_at(file):
-    """Per function of a file, and per type of its methods, the labels of their clauses; functions of one name together."""
+    """Returns the labels of the clauses, for each function of a file and for each type with methods; functions
+    with the same name together.
+    """
     labels, owner = {}, None
     begins = r"\bfn (\w+)|^(?:impl\b[^{;]*?|pub trait )(\w+)(?:<[^{]*>)? *(?:: \w+ *)?\{|^\}"
     parts = re.split(begins, file.read_text(encoding="utf-8"), flags=re.MULTILINE)
@@ -243,7 +281,9 @@ def crate_of(file):
 
 
 def file_at(span, beside=None):
-    """The file of a path, or of a name alone the one beside another file, in the specs of its crate, or at the top."""
+    """Returns the file of a path. A name without a folder means the file beside another file, in the specs of
+    its crate, or at the top.
+    """
     folders = [TOP, TOP / "crates"]
     if beside and "/" not in span:
         folders = [beside.parent, TOP]
@@ -256,12 +296,14 @@ def file_at(span, beside=None):
 
 
 def has_file(crate, span):
-    """Whether the crate has the file, in src/, specs/ or from its top."""
+    """Returns whether the crate has the file, in src/, in specs/ or by its path from the crate's folder."""
     return any((TOP / "crates" / crate / folder / span).is_file() for folder in ("src", "specs", ""))
 
 
 def place_of(span):
-    """The files in which a name is looked for that has this span as its place: those of a crate, or those at the end of a path."""
+    """Returns the files in which to look for a name with this place: those of a crate, or those at the end of a
+    path.
+    """
     if span in BELOW:
         return files_of(span)
     file = file_at(span)
@@ -272,7 +314,9 @@ def place_of(span):
 
 @functools.lru_cache(maxsize=None)
 def declared_anywhere():
-    """What any source declares, labels of clauses and names of files among it, and what is declared outside."""
+    """Returns all declarations of the sources, with the labels of clauses and the names of files, and the
+    declarations outside.
+    """
     names = FOREIGN | OUTSIDE | set(BELOW)
     for file in sources():
         if file.suffix in (".rt", ".antt", ".py", ".sh"):
@@ -282,20 +326,24 @@ def declared_anywhere():
     return names
 
 
-def told_names(span):
-    """The names of a span, as `best` and `Tables` of `Tables::best`. A command with its words names nothing."""
+def names_in(span):
+    """Returns the names of a span, for example `best` and `Tables` for `Tables::best`. A command with its
+    arguments names nothing.
+    """
     span = re.sub(r"\(.*\)$", "", span)
     return [] if re.search(r"[^\w.:]", span) else [it for it in words_of(span) if len(it) > 1]
 
 
 def expect_declared(path, line, span, files, where):
-    """Each name of the span is declared in one of the files; of `Rules.IsLate` in one that is called Rules.antt; a file is one of them."""
+    """Checks that each name of the span is declared in one of the files. `Rules.IsLate` must be declared in one
+    that is called Rules.antt. A file must be one of them.
+    """
     if re.fullmatch(FILE_NAME, span):
         if not any(it.name == span for it in files):
             complain(path, line, f"{where} has no {span}")
         return
     dotted = re.fullmatch(r"([A-Z]\w*)\.(\w+)", span)
-    names = told_names(span)
+    names = names_in(span)
     if dotted and dotted[1] in MODULES:
         files = [it for it in files if it.name == dotted[1] + ".antt"]
         names = [dotted[2]]
@@ -305,7 +353,9 @@ def expect_declared(path, line, span, files, where):
 
 
 def check_bracketed(path):
-    """Each name in front of places in brackets is declared at one of them; commas, words that join and a line's end may stand between."""
+    """Checks that each name before places in brackets is declared at one of them. Commas, connecting words and
+    a line break may come between.
+    """
     text = "\n".join(without_code(path.read_text(encoding="utf-8")))
     joined = r"`[^`]+`(?:;|,)?\s(?:(?:and|or|then)\s)?"
     for run in re.finditer(rf"((?:{joined})+)\((`?[\w./]+`?(?:, `?[\w./]+`?)*)\)", text):
@@ -320,7 +370,7 @@ def check_bracketed(path):
 
 
 def tables(path):
-    """Per row its line, the heading above, and its cells by the header of their column."""
+    """Returns for each row its line, the heading above, and its cells by the header of their column."""
     heading, header = "", None
     lines = without_code(path.read_text(encoding="utf-8"))
     for number, line in enumerate(lines, 1):
@@ -341,7 +391,7 @@ def spans_of(cell):
 
 
 def check_cell(path, line, cell):
-    """A name that stands right behind a file is declared there. Gives the files of the cell."""
+    """Checks that a name directly after a file is declared there. Returns the files of the cell."""
     files, place, end = [], None, 0
     for span in re.finditer(r"`([^`]+)`", cell):
         between = cell[end: span.start()]
@@ -362,14 +412,15 @@ def check_cell(path, line, cell):
 
 
 def labels_of(crates, functions):
-    """The labels of the clauses of the functions and types that a text names."""
+    """Returns the labels of the clauses of the functions and types that a text names."""
     files = [it for each in crates for it in files_of(each) if it.suffix == ".rt"]
-    told = {words_of(it)[-1] for it in spans_of(functions) if words_of(it)}
-    return set().union(*(labels_at(it).get(name, set()) for it in files for name in told))
+    names = {words_of(it)[-1] for it in spans_of(functions) if words_of(it)}
+    return set().union(*(labels_at(it).get(name, set()) for it in files for name in names))
 
 
 def is_code(span):
-    """Whether a span is a name that can be no plain word: it has an underscore, or a capital within."""
+    """Returns whether a span is a name that can't be a plain word: it has an underscore, or a capital inside.
+    """
     return bool(re.fullmatch(r"\w+(?:(?:\.|::)\w+)?", span)) and bool(re.search(r"\w_\w|[a-z][A-Z]|::", span)) and span not in BELOW
 
 
@@ -378,7 +429,7 @@ def crates_named(text):
 
 
 def sources_of(crates):
-    """Where names of these crates, and of those that they stand on, are declared."""
+    """Returns the sources in which names of these crates, and of those below them, are declared."""
     return [it for each in sorted(set().union(*(BELOW[crate] for crate in crates))) for it in files_of(each)]
 
 
@@ -391,7 +442,7 @@ def check_row(path, line, heading, row):
     for header, cell in row.items():
         for span in spans_of(cell):
             if header == "Begin with" and not any(has_file(each, span) for each in crates):
-                complain(path, line, f"{crates[0]} has no {span}")
+                complain(path, line, f"{crates[0]} has no {span}" if crates else f"there is no crate for {span}")
             elif (header.startswith(PLACED) or header == "Crates" and span not in BELOW) and (files or crates):
                 places = files or [it for each in crates for it in files_of(each)]
                 expect_declared(path, line, span, places, "the row's place")
@@ -406,13 +457,13 @@ def check_crates():
     path = TOP / "docs" / "ARCHITECTURE.md"
     text = path.read_text(encoding="utf-8")
     section = text.partition("## Layers")[2].partition("\n## ")[0]
-    told = re.findall(r"^\| `(\w+)` \|", section, flags=re.MULTILINE)
-    if told != list(BELOW):
-        complain(path, 1, f"the crates of the layers are not those of crates.txt: {sorted(set(told) ^ set(BELOW))}")
+    listed = re.findall(r"^\| `(\w+)` \|", section, flags=re.MULTILINE)
+    if listed != list(BELOW):
+        differing = sorted(set(listed) ^ set(BELOW)) or "the order differs"
+        complain(path, 1, f"the crates of the layers are not those of crates.txt: {differing}")
     picture = words_of(text.partition("## Picture")[2].split("```")[1])
-    for crate in BELOW:
-        if not crate.startswith(("test_", "run_")) and crate not in picture:
-            complain(path, 1, f"the picture lacks {crate}")
+    for crate in sorted(PRODUCT - set(picture)):
+        complain(path, 1, f"the picture lacks {crate}")
 
 
 def check_heads():
@@ -423,25 +474,53 @@ def check_heads():
 
 def check_linked():
     readme = (TOP / "README.md").read_text(encoding="utf-8")
+    map_page = (TOP / "docs" / "ARCHITECTURE.md").read_text(encoding="utf-8")
     for path in DOCUMENTS:
         name = str(path.relative_to(TOP))
-        if name != "README.md" and f"]({name})" not in readme:
-            complain(path, 1, "README.md has no link to it")
+        if name != "README.md" and f"]({name}" not in readme and f"]({path.name}" not in map_page:
+            complain(path, 1, "neither README.md nor docs/ARCHITECTURE.md has a link to it")
 
 
 def check_manual():
     path = TOP / "man" / "planner.1"
     synopsis, _, commands = path.read_text(encoding="utf-8").partition(".SH COMMANDS")
-    told = (TOP / "crates" / "run_words" / "stdout").read_text(encoding="utf-8")
-    words = re.findall(r"^  (\w+) ", told.partition("\nCommands:\n")[2].partition("\n\n")[0], flags=re.MULTILINE)
+    printed = (TOP / "crates" / "cli_tests" / "stdout").read_text(encoding="utf-8")
+    words = re.findall(r"^  (\w+) ", printed.partition("\nCommands:\n")[2].partition("\n\n")[0], flags=re.MULTILINE)
     shown = list(dict.fromkeys(re.findall(r"^\.B planner (\w+)", synopsis, flags=re.MULTILINE)))
     if sorted(shown) != sorted(words):
         complain(path, 1, f"the synopsis has other words than help: {sorted(set(shown) ^ set(words))}")
-    lines = told.partition("\nEach line asks for one thing:\n")[2].partition("\n\n")[0]
-    asked = {name for line in lines.splitlines() for name in re.findall(r"(?:^  |, )([a-z]\w*)", line[:28])}
-    for word in sorted({*words, *asked}):
+    first = "  load lilim|vrp "
+    lines = first + printed.partition("\n" + first)[2].partition("\n\n")[0]
+    commands_of_help = {name for line in lines.splitlines() for name in re.findall(r"(?:^  |, )([a-z]\w*)", line[:28])}
+    if len(commands_of_help) < 20:
+        complain(path, 1, f"help has only these commands of a store: {sorted(commands_of_help)}")
+    for word in sorted({*words, *commands_of_help}):
         if not re.search(rf'^\.(?:B|BI|BR) "?(?:[^"\n]*, )?(?:" ", )?{word}\b', commands, flags=re.MULTILINE):
             complain(path, 1, f"it says nothing of {word}")
+
+
+def check_words():
+    folders = [TOP / it for it in PROSE_FOLDERS]
+    files = [it for it in TOP.glob("*") if it.is_file()]
+    files += [it for folder in folders for it in folder.rglob("*") if it.is_file()]
+    for path in sorted(files):
+        parts = path.relative_to(TOP).parts
+        # bench/runs/ has outputs of programs as they were at the time.
+        if path.suffix not in PROSE_KINDS or "out" in parts or parts[:2] == ("bench", "runs") or path == THIS:
+            continue
+        for number, line in enumerate(path.read_text(encoding="utf-8", errors="replace").split("\n"), 1):
+            for found in sorted(set(REFUSED.findall(KEPT_TEXTS.sub("", line)))):
+                plain = next(it for word, it in REFUSED_WORDS.items() if re.fullmatch(word, found, flags=re.IGNORECASE))
+                complain(path, number, f"the word {found!r}: write {plain!r}")
+
+
+def check_index():
+    """Checks that docs/INDEX.md is the page that tools/index.py writes from the tree."""
+    path = TOP / "docs" / "INDEX.md"
+    done = subprocess.run([TOP / "tools" / "index.py", "--check"], capture_output=True, text=True)
+    if done.returncode:
+        for line in (done.stdout + done.stderr).splitlines()[:-1] or ["tools/index.py failed"]:
+            complain(path, 1, line)
 
 
 def main():
@@ -455,10 +534,13 @@ def main():
     check_heads()
     check_linked()
     check_manual()
+    check_words()
+    check_index()
     for it in problems:
         print(it)
     print(f"docs: {len(DOCUMENTS)} documents, {len(problems)} faults")
     return 1 if problems else 0
 
 
-sys.exit(main())
+if __name__ == "__main__":
+    sys.exit(main())

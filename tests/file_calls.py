@@ -1,19 +1,24 @@
 #!/usr/bin/env python3
-"""Sees, by the built program, calls of files that are none of a store's and that no contract holds, and what full disks leave.
+"""Tests, with the built program, calls on files that are not stores and that no contract covers, and full
+disks.
 
-1. `-` is standard input, whatever stands in the folder, and `./-` is a file. Texts that come in pieces are read whole; a read that is
-   interrupted is made again, and one that fails is told.
-2. A folder, a socket, a FIFO, a device, and links that lead nowhere, as a text, a list and a store: told, and nothing is made or changed.
-3. `solves`: where no solution can be written is told before its instance is read; what comes to stand there meanwhile stays.
-   A solution is written, then it and its folder are synced, then it is told; where a call of its file or folder fails that is told, and
-   nothing stands there.
-4. `upgrade`: files of one number in two file systems are two. OLD is locked until NEW is made.
-5. The folder that stands in for closed streams can't be opened: nothing is done.
-6. A file-size limit and a full disk: told as stores are made, loaded, upgraded and run, and as solutions are written; what was
-   acknowledged is there. The signal of such a limit, where it is not ignored, is a stop like any other.
-7. `timetable`, `draw` and `instance` read a store side by side, also on a file system that can't be written, and none that `run` has open.
+1. `-` is standard input, whatever is in the folder, and `./-` is a file. Texts that arrive in pieces are read
+   whole. A read that is interrupted is repeated, and one that fails is reported.
+2. A folder, a socket, a FIFO, a device, and links that lead nowhere, as a text, a list and a store: reported,
+   and nothing is made or changed.
+3. `solves`: if a solution can't be written, this is reported before its instance is read, and a file that
+   appears there meanwhile stays. A solution is written, then it and its folder are synced, then it is reported.
+   If a call on its file or folder fails, that is reported, and no file is left.
+4. `upgrade`: files with the same inode number in two file systems are two files. OLD is locked until NEW is
+   made.
+5. The folder that replaces closed streams can't be opened: nothing is done.
+6. A file-size limit and a full disk: reported while stores are made, loaded, upgraded and run, and while
+   solutions are written. What was acknowledged is there. The signal of such a limit, if it is not ignored, is a
+   crash like any other.
+7. `timetable`, `draw` and `instance` read a store concurrently, also on a read-only file system, and refuse a
+   store that `run` has open.
 
-Wants the program that rt ci leaves; strace, and a user who may mount a small tmpfs, for a part of it.
+Needs the program that rt ci leaves; strace, and a user who may mount a small tmpfs, for a part of it.
 """
 import contextlib
 import fcntl
@@ -28,13 +33,12 @@ import sys
 import tempfile
 import time
 
-# No files beside the scripts.
+# Python leaves no files beside the scripts.
 sys.dont_write_bytecode = True
-from device_faults import COMMANDS, INSTANCE, STORE_BYTES, contents, opened_as, told_of, write  # noqa: E402
+from device_faults import COMMANDS, INSTANCE, opened_as, told_of  # noqa: E402
+from planner import PROGRAM, STORE_BYTES, TOP, can_trace, expect, fail, read, require_program, run_program, skip, write  # noqa: E402
 from upgrade import old_store  # noqa: E402
 
-TOP = os.path.dirname(os.path.dirname(os.path.abspath(__file__)))
-PROGRAM = os.path.join(TOP, "crates", "planner", "out", "planner")
 # One pickup and its delivery, and the only solution.
 PAIR = b"2 10 1\n0 0 0 0 0 100 0 0 0\n1 3 4 4 0 50 2 0 2\n2 6 8 -4 0 60 2 1 0\n"
 BOTH = b"Route #1: 1 2\nCost 20\n"
@@ -44,33 +48,24 @@ NOT_PLAIN = "it is no plain file"
 SECONDS = 60
 
 
-def fail(text):
-    sys.exit("file_calls: " + text)
-
-
-def expect(what, got, wanted):
-    if got != wanted:
-        fail(f"{what}: {got!r}; wanted {wanted!r}")
-
-
 def told(path, reason):
-    """What standard error tells of a path, for this error of the system or reason."""
+    """Returns what standard error says about a path, for this error of the system or reason."""
     return f"planner: {path}: {NOT_PLAIN}\n" if reason is NOT_PLAIN else told_of(path, reason)
 
 
 def without_tracer(errors):
-    """Without what strace tells of a path."""
+    """Returns the errors without those that strace prints about a path."""
     return "".join(line for line in errors.decode().splitlines(True) if not line.startswith("strace: "))
 
 
 class Folder:
-    """Where the program runs."""
+    """The folder in which the program runs."""
 
     def __init__(self, path):
         self.path = path
-        self.can_trace = bool(shutil.which("strace")) and not subprocess.run(["strace", "-o", os.devnull, "true"], capture_output=True).returncode
+        self.can_trace = can_trace()
         if not self.can_trace:
-            print("skipped: file_calls, calls that fail, since strace is not there or may not trace")
+            skip("calls that fail", "strace is not there or may not trace")
         write(self.at("pair"), PAIR)
         write(self.at("pair.sol"), BOTH)
 
@@ -78,12 +73,12 @@ class Folder:
         return os.path.join(self.path, name)
 
     def planner(self, *words, lines=b"", before=(), **more):
-        """Status, standard output and standard error."""
-        got = subprocess.run([*before, PROGRAM, *words], cwd=self.path, input=lines, capture_output=True, timeout=SECONDS, **more)
+        """Runs the program and returns status, standard output and standard error."""
+        got = run_program(*words, lines=lines, before=before, cwd=self.path, timeout=SECONDS, **more)
         return got.returncode, got.stdout.decode(), without_tracer(got.stderr)
 
     def status(self, words, output, **more):
-        """The status where this file is standard output."""
+        """Returns the status with this file as standard output."""
         how = {"cwd": self.path, "stdout": output, "stderr": subprocess.DEVNULL, "timeout": SECONDS, **more}
         return subprocess.run([PROGRAM, *words], input=b"show\n", **how).returncode
 
@@ -91,23 +86,25 @@ class Folder:
         return subprocess.Popen([*before, PROGRAM, *words], cwd=self.path, stdout=subprocess.PIPE, stderr=subprocess.PIPE, **more)
 
     def faulty(self, paths, fault):
-        """The words before the program's that make a call on one of these paths fail so, by the path as it is told or by its file."""
+        """Returns the command prefix that makes a call on one of these paths fail like this, by the path as
+        given or by its file.
+        """
         traced = [word for path in paths for word in ("-P", path, "-P", self.at(path))]
         return ["strace", "-o", os.devnull, *traced, "-e", "trace=" + fault.split(":")[0], "-e", "inject=" + fault]
 
     def names(self):
-        """What stands here, of which kind, and where its links lead."""
+        """Returns the names in the folder, with their kinds, or where their links lead."""
         return {it.name: os.readlink(it.path) if it.is_symlink() else os.lstat(it.path).st_mode for it in os.scandir(self.path)}
 
 
 def ended(started, lines=None):
-    """What a program that was started has come to, behind these lines."""
+    """Returns the results of a started program, after these commands."""
     output, errors = started.communicate(lines, timeout=SECONDS)
     return started.returncode, output.decode(), without_tracer(errors)
 
 
 def check_standard_input(folder):
-    """1. of `-`, which is a file here too."""
+    """1. Checks `-`, which is also the name of a file here."""
     write(folder.at("-"), b"no instance, and no list\n")
     pair = b"pair\tpair.sol\n"
     for words, lines, wanted in [
@@ -141,11 +138,11 @@ def check_standard_input(folder):
 
 
 def check_pieces(folder):
-    """1. of texts that come bit by bit."""
+    """1. Checks texts that arrive in pieces."""
     os.mkfifo(folder.at("late"))
     for words in ["audit", "lilim", "late", "pair.sol"], ["audit", "lilim", "-", "pair.sol"]:
         started = folder.start(*words, stdin=subprocess.PIPE)
-        # What doesn't read to the end ends before all is written.
+        # A program that does not read to the end ends before everything is written.
         with contextlib.suppress(BrokenPipeError), started.stdin if "-" in words else open(folder.at("late"), "wb", buffering=0) as pipe:
             for piece in PAIR[:30], PAIR[30:31], PAIR[31:]:
                 pipe.write(piece)
@@ -157,8 +154,8 @@ def check_pieces(folder):
 
 
 def check_reads(folder):
-    """1. of reads that are interrupted or fail."""
-    # Longer than what is read of a list at once.
+    """1. Checks reads that are interrupted or fail."""
+    # Longer than one read of a list.
     write(folder.at("list"), 6_000 * b"x\n")
     again = folder.faulty(["pair"], "read:error=EINTR:when=1")
     expect("an interrupted read", folder.planner("audit", "lilim", "pair", "pair.sol", before=again), (0, PASS, ""))
@@ -170,17 +167,19 @@ def check_reads(folder):
     status, output, errors = folder.planner("audits", "lilim", "list", before=folder.faulty(["list"], "read:error=EIO:when=2"))
     answers = output.count("bad line\n")
     expect("a failing read of the list of audits", (status, output), (3, answers * "bad line\n" + "cannot read list\n"))
-    expect("what is told of it", (0 < answers < 6_000, errors.splitlines(True)[-1]), (True, told("list", "EIO")))
+    expect("its message", (0 < answers < 6_000, errors.splitlines(True)[-1]), (True, told("list", "EIO")))
     os.remove(folder.at("list"))
 
 
 def make_kinds(folder):
-    """Things that are no plain files, and what the system says where they are opened for a read, and as a store."""
+    """Makes things that are not plain files, and returns the system's error for each if it is opened for a
+    read, and as a store.
+    """
     os.mkdir(folder.at("folder"))
     os.symlink("nothing", folder.at("astray"))
     os.symlink("loop", folder.at("loop"))
     with socket.socket(socket.AF_UNIX) as it:
-        # Its path must be short.
+        # The path of a socket must be short.
         here = os.open(folder.path, os.O_RDONLY)
         it.bind(f"/proc/self/fd/{here}/socket")
         os.close(here)
@@ -200,29 +199,31 @@ def make_kinds(folder):
 
 
 def check_kinds(folder):
-    """2. of each kind."""
+    """2. Checks each kind."""
     kinds = make_kinds(folder)
     write(folder.at("old.store"), old_store())
     before = folder.names()
     for name, as_text, as_store in kinds:
         texts = [["audit", "lilim", name, "pair.sol"], ["audit", "lilim", "pair", name], ["audits", "lilim", name], ["solves", "lilim", name, "0"]]
-        # What makes a store follows a link.
+        # A subcommand that makes a store follows a link.
         makers = [] if name == "astray" else [["format", name], ["load", name, "lilim", "pair"], ["upgrade", "old.store", name]]
         stores = [["run", name], ["upgrade", name, "new.store"], *makers]
-        # Who reads a store alone asks first whether it is a plain file.
+        # A subcommand that only reads a store first checks that it is a plain file.
         looked = NOT_PLAIN if name in ("folder", "socket") else as_store
         readers = [["timetable", name], ["instance", name]]
         for words, reason in [(it, as_text) for it in texts if as_text] + [(it, as_store) for it in stores] + [(it, looked) for it in readers]:
             expect(f"{words}", folder.planner(*words), (3, f"cannot read {name}\n", told(name, reason)))
         expect(f"draw {name}", folder.planner("draw", name), (3, "", told(name, looked) + f"cannot read {name}\n"))
     expect("what stands there then", folder.names(), before)
-    expect("the old store", contents(folder.at("old.store")), old_store())
+    expect("the old store", read(folder.at("old.store")), old_store())
     expect("a store that is not there", folder.planner("run", "no.store"), (3, "cannot read no.store\n", told("no.store", "ENOENT")))
     expect("what stands there then", folder.names(), before)
 
 
 def check_looks(folder):
-    """3. of what can be seen before the instance is read: it is not there, which is told where a solution may be written."""
+    """3. Checks problems that are visible before the instance is read. The instance does not exist, which is
+    reported only if a solution may be written.
+    """
     os.symlink("folder", folder.at("way"))
     cannot, there, free = "cannot write {}\n", "there already\n", "cannot read nowhere\n"
     long_name = 300 * "x"
@@ -253,11 +254,11 @@ def check_looks(folder):
         got = folder.planner("solves", "lilim", "-", "0", lines=f"nowhere\t{path}\n".encode())
         errors = told("nowhere" if answer is free else path, reason) if reason else ""
         expect(f"a solution under {path}", got, (3, f"nowhere\t{path}\t" + answer.format(path), errors))
-    expect("what stands there behind looks", (folder.names(), os.listdir(folder.at("folder"))), (before, []))
+    expect("the files after reading", (folder.names(), os.listdir(folder.at("folder"))), (before, []))
 
 
 def check_meanwhile(folder):
-    """3. of what comes to stand there while the instance is read."""
+    """3. Checks a file that appears while the instance is read."""
     os.mkfifo(folder.at("late"))
 
     def appear(name, make):
@@ -265,7 +266,7 @@ def check_meanwhile(folder):
         started.stdin.write(f"late\t{name}\n".encode())
         started.stdin.close()
         started.stdin = None
-        # Opened once the program has opened it, behind its look.
+        # This open waits until the program has opened it, after its look.
         with open(folder.at("late"), "wb") as late:
             make(folder.at(name))
             late.write(PAIR)
@@ -273,7 +274,7 @@ def check_meanwhile(folder):
 
     appear("mine", lambda path: write(path, 100 * b"mine\n"))
     expect("whether the file that appeared is there", os.path.exists(folder.at("mine")), True)
-    expect("the file that appeared", contents(folder.at("mine")), 100 * b"mine\n")
+    expect("the file that appeared", read(folder.at("mine")), 100 * b"mine\n")
     appear("other", lambda path: os.symlink("nothing", path))
     expect("the link that appeared", (os.readlink(folder.at("other")), os.path.exists(folder.at("nothing"))), ("nothing", False))
     for name in "late", "mine", "other":
@@ -281,9 +282,9 @@ def check_meanwhile(folder):
 
 
 def calls_of_solution(trace, path, there):
-    """The calls on the solution under the path and on this folder, of which it is in, and when it is told."""
+    """Returns the calls on the solution at this path and on its folder, and when the solution is reported."""
     calls, descriptor, folder_descriptor = [], None, None
-    for line in contents(trace).decode().splitlines():
+    for line in read(trace).decode().splitlines():
         name, _, rest = line.partition("(")
         if name == "openat" and f'"{path}"' in rest:
             if not {"O_WRONLY", "O_CREAT", "O_EXCL"} <= set(re.search(r"O_[A-Z_|]+", rest)[0].split("|")):
@@ -302,7 +303,9 @@ def calls_of_solution(trace, path, there):
 
 
 def check_order(folder):
-    """3. of the calls by which a solution is written, before its line is: here, in a folder, and by a path from the root."""
+    """3. Checks the order of the calls that write a solution, all before its line is printed: here, in a
+    folder, and by an absolute path.
+    """
     trace = folder.at("calls")
     before = ["strace", "-o", trace, "-e", "trace=openat,write,pwrite64,ftruncate,fsync,fdatasync,close"]
     # The first file is that of the look, which is removed again.
@@ -310,20 +313,22 @@ def check_order(folder):
     for path, there in ("new.sol", "."), ("folder/new.sol", "folder"), (folder.at("new.sol"), folder.path):
         got = folder.planner("solves", "lilim", "-", "0", lines=f"pair\t{path}\n".encode(), before=before)
         expect(f"a solution under {path}", got[:2], (0, f"pair\t{path}\t" + PASS))
-        expect(f"the text under {path}", contents(folder.at(path)), BOTH)
+        expect(f"the text under {path}", read(folder.at(path)), BOTH)
         expect(f"the calls of a new file {path}", calls_of_solution(trace, path, there), wanted)
         os.remove(folder.at(path))
     os.remove(trace)
 
 
 def solved_with(folder, path, fault):
-    """What comes of a solution `new.sol` where a call on this path fails so, and whether it is there then."""
+    """Returns the result for a solution `new.sol` if a call on this path fails like this, and whether it exists
+    afterwards.
+    """
     got = folder.planner("solves", "lilim", "-", "0", lines=b"pair\tnew.sol\n", before=folder.faulty([path], fault))
     return got, os.path.lexists(folder.at("new.sol"))
 
 
 def check_unwritten(folder):
-    """3. of a call of a solution's file, or of its folder, that fails. The first file is that of the look."""
+    """3. Checks a failed call on the file or the folder of a solution. The first file is that of the look."""
     cannot, passed = "pair\tnew.sol\tcannot write new.sol\n", "pair\tnew.sol\t" + PASS
     for call, path, when in [
         ("openat", "new.sol", 1),
@@ -340,18 +345,18 @@ def check_unwritten(folder):
             expect(what, solved_with(folder, path, f"{call}:error={error}:when={when}"), ((3, cannot, told("new.sol", error)), False))
         what = f"{call} {when} of {path} for a solution, interrupted"
         expect(what, solved_with(folder, path, f"{call}:error=EINTR:when={when}"), ((0, passed, ""), True))
-        expect(f"{what}: its text", contents(folder.at("new.sol")), BOTH)
+        expect(f"{what}: its text", read(folder.at("new.sol")), BOTH)
         os.remove(folder.at("new.sol"))
-    # So says a file system that has no sync of a folder.
+    # This is the error of a file system that has no sync of a folder.
     expect("a folder that can't be synced", solved_with(folder, ".", "fsync:error=EINVAL:when=1"), ((0, passed, ""), True))
     os.remove(folder.at("new.sol"))
-    # Whose file can't be removed again isn't told that it may be written.
+    # If the file of the look can't be removed again, the solution counts as one that can't be written.
     expect("a look that stays", solved_with(folder, "new.sol", "unlink,unlinkat:error=EIO:when=1"), ((3, cannot, told("new.sol", "EIO")), True))
     os.remove(folder.at("new.sol"))
 
 
 def check_old_is_locked(folder):
-    """4. of the lock, while the sync of the new store takes its time."""
+    """4. Checks the lock, while the sync of the new store takes its time."""
     before = folder.faulty(["new.store"], "fsync:delay_enter=700000:when=1")
     started = folder.start("upgrade", "old.store", "new.store", before=before)
     begun = time.monotonic()
@@ -373,7 +378,7 @@ READING = ["timetable", "draw", "instance"]
 
 
 def check_reading(folder):
-    """7. beside others: `run` has the lock alone."""
+    """7. Checks reading beside other processes: `run` has an exclusive lock."""
     expect("load", folder.planner("load", "read.store", "lilim", "pair"), (0, "ok\n", ""))
     folder.planner("run", "read.store", lines=b"build\n")
     texts = {word: folder.planner(word, "read.store") for word in READING}
@@ -392,13 +397,13 @@ def check_reading(folder):
 
 
 def check_reading_alone(folder):
-    """7. of a store on a disk that can't be written."""
+    """7. Checks a store on a read-only disk."""
     expect("load", folder.planner("load", "disk/day.store", "lilim", "pair"), (0, "ok\n", ""))
     folder.planner("run", "disk/day.store", lines=b"build\nsearch 300\n")
     texts = {word: folder.planner(word, "disk/day.store") for word in READING}
     expect("steps that are repeated", [text[2] for text in texts.values()], 3 * ["planner: repeating 300 search steps\n"])
     if subprocess.run(["mount", "-o", "remount,ro", folder.at("disk")], capture_output=True).returncode:
-        print("skipped: file_calls, a disk that can't be written, since none may be mounted anew")
+        skip("a disk that can't be written", "none may be mounted again")
     else:
         for word in READING:
             expect(f"{word} of a store that can't be written", folder.planner(word, "disk/day.store"), texts[word])
@@ -409,14 +414,15 @@ def check_reading_alone(folder):
 
 
 def check_stand_in(folder):
-    """5. by a system that opens no folder."""
+    """5. Checks a system that opens no folder."""
     for error, status in ("EMFILE", 3), ("EACCES", 3), ("ENOMEM", 4):
         got = folder.planner("audit", "lilim", "pair", "pair.sol", before=folder.faulty(["/"], f"openat:error={error}:when=1"))
         expect(f"no folder, by {error}", got, (status, "", ""))
 
 
 def limited(size):
-    """What limits the files of a process that is started. Its signal stays ignored, as Python has it."""
+    """Returns the options that limit the size of files for a process. Its signal stays ignored, as in Python.
+    """
     return {"preexec_fn": lambda: resource.setrlimit(resource.RLIMIT_FSIZE, (size, size)), "restore_signals": False}
 
 
@@ -425,12 +431,12 @@ def run_lines(commands):
 
 
 def shown(folder, store):
-    """The state that opening gives, without the steps that were repeated."""
+    """Returns the state after opening, without the steps that were repeated."""
     return folder.planner("run", store, lines=b"show\n")[1].partition("\n")[2]
 
 
 def states_of(folder, store):
-    """What is shown of an empty store, and behind each command of a day."""
+    """Returns what `show` prints for an empty store, and after each command of a day."""
     states = []
     for count in range(len(COMMANDS) + 1):
         expect("format", folder.planner("format", store)[:2], (0, "ok\n"))
@@ -440,14 +446,16 @@ def states_of(folder, store):
 
 
 def expect_acknowledged(what, states, answers, state):
-    """The state holds the commands that were answered, and at most one more."""
+    """Checks that the state has the commands that were answered, and at most one more."""
     count = answers.count("ok\n")
     if state not in states[count : count + 2]:
         fail(f"{what}: {count} commands were acknowledged, and then {state!r}")
 
 
 def check_size_limit(folder):
-    """6. of a limit that no file may exceed, in bytes. It is a whole number of sectors, as `ulimit -f` sets it: another one would cut a sector."""
+    """6. Checks a limit on the size of files, in bytes. It is a whole number of sectors, as with `ulimit -f`:
+    another limit would cut a sector.
+    """
     cannot = lambda path: (3, f"cannot read {path}\n", told(path, "EFBIG"))
     for size in 0, 99_840:
         for words in ["format", "a.store"], ["load", "a.store", "lilim", "pair"], ["upgrade", "old.store", "a.store"]:
@@ -456,11 +464,11 @@ def check_size_limit(folder):
             write(folder.at("a.store"), b"a note")
             if words[0] != "load":
                 expect(f"{words} over a note to {size} bytes", folder.planner(*words, **limited(size)), cannot("a.store"))
-                expect(f"{words} over a note to {size} bytes: what is left", contents(folder.at("a.store")), b"a note")
+                expect(f"{words} over a note to {size} bytes: what is left", read(folder.at("a.store")), b"a note")
             os.remove(folder.at("a.store"))
     states = states_of(folder, "day.store")
-    day = contents(folder.at("day.store"))
-    # A store that has its length: what is behind the limit is not written.
+    day = read(folder.at("day.store"))
+    # A store that has its full length: the part beyond the limit is not written.
     expect("format of a day", folder.planner("format", "day.store", **limited(99_840)), (3, "store DeviceFault\n", told("day.store", "EFBIG")))
     expect("a format that was limited", opened_as(folder.at("day.store")), "store NotFormatted\n")
     folder.planner("format", "day.store")
@@ -471,9 +479,9 @@ def check_size_limit(folder):
         expect("format", folder.planner("format", "day.store")[:2], (0, "ok\n"))
         folder.planner("run", "day.store", lines=run_lines(commands))
         status, output, errors = folder.planner("run", "day.store", lines=run_lines(COMMANDS[len(commands) :]), **limited(size))
-        answers, found, behind = output.partition("fault device\n")
-        what = f"a run behind {len(commands)} commands to {size} bytes"
-        expect(what, (status, found, behind.replace("no Broken\n", "")), (0, "fault device\n", ""))
+        answers, found, rest = output.partition("fault device\n")
+        what = f"a run after {len(commands)} commands to {size} bytes"
+        expect(what, (status, found, rest.replace("no Broken\n", "")), (0, "fault device\n", ""))
         if not errors.startswith(told("day.store", "EFBIG")) or "planner: the store failed: " not in errors:
             fail(f"{what}: {errors!r}")
         expect_acknowledged(what, states, len(commands) * "ok\n" + answers, shown(folder, "day.store"))
@@ -481,7 +489,7 @@ def check_size_limit(folder):
 
 
 def check_limited_output(folder):
-    """6. of what is printed into a file that may not get so long."""
+    """6. Checks output to a file that may not get that long."""
     for words in ["solve", "lilim", "pair", "0"], ["audit", "lilim", "pair", "pair.sol"], ["run", "day.store"]:
         with open(folder.at("output"), "wb") as output:
             expect(f"{words} into three bytes", folder.status(words, output, **limited(3)), 3)
@@ -489,7 +497,9 @@ def check_limited_output(folder):
 
 
 def check_limit_signal(folder):
-    """6. of the limit's signal as a shell ignores it; and where it is not ignored: what is left is what a stop leaves."""
+    """6. Checks the limit's signal: ignored, as by a shell, and not ignored, when it leaves what a crash
+    leaves.
+    """
     ignoring = ["sh", "-c", "trap '' XFSZ; ulimit -f 100; exec \"$@\"", "sh"]
     expect("format to 100 blocks", folder.planner("format", "a.store", before=ignoring), (3, "cannot read a.store\n", told("a.store", "EFBIG")))
     script = ["sh", "-c", "ulimit -f 100; exec \"$0\" \"$@\"", os.path.join(TOP, "planner"), "format", folder.at("a.store")]
@@ -500,8 +510,8 @@ def check_limit_signal(folder):
     if got == (3, "cannot read a.store\n", told("a.store", "EFBIG")):
         return
     expect("format to 99,840 bytes, killed", (got[0], got[1]), (-signal.SIGXFSZ, ""))
-    expect("what is left of it", contents(folder.at("a.store")), bytes(99_840))
-    expect("format behind it", folder.planner("format", "a.store"), (0, "ok\n", ""))
+    expect("what is left of it", read(folder.at("a.store")), bytes(99_840))
+    expect("format after it", folder.planner("format", "a.store"), (0, "ok\n", ""))
     states = states_of(folder, "a.store")
     folder.planner("format", "a.store")
     folder.planner("run", "a.store", lines=run_lines(COMMANDS[:1]))
@@ -512,7 +522,7 @@ def check_limit_signal(folder):
 
 
 def fill(path):
-    """Takes what room there is."""
+    """Fills the disk."""
     with open(path, "wb", buffering=0) as file:
         try:
             while True:
@@ -522,17 +532,19 @@ def fill(path):
 
 
 def check_full_disk(folder):
-    """6. by a disk of five millions of bytes, mounted at `disk`; and 4. by two file systems, whose files have one number."""
+    """6. Checks a disk of five million bytes, mounted at `disk`, and 4. two file systems whose files have the
+    same inode number.
+    """
     cannot = lambda path: (3, f"cannot read {path}\n", told(path, "ENOSPC"))
     write(folder.at("disk/taken"), bytes(2_000_000))
     for words in ["format", "disk/new"], ["load", "disk/new", "lilim", "pair"], ["upgrade", "old.store", "disk/new"]:
         expect(f"{words}, no room", folder.planner(*words), cannot("disk/new"))
-        expect(f"{words}, no room: what is left", contents(folder.at("disk/new")), b"")
+        expect(f"{words}, no room: what is left", read(folder.at("disk/new")), b"")
         os.remove(folder.at("disk/new"))
     write(folder.at("disk/new"), b"a note")
     expect("upgrade over a note, no room", folder.planner("upgrade", "old.store", "disk/new"), cannot("disk/new"))
-    expect("the note", contents(folder.at("disk/new")), b"a note")
-    expect("the old store", contents(folder.at("old.store")), old_store())
+    expect("the note", read(folder.at("disk/new")), b"a note")
+    expect("the old store", read(folder.at("old.store")), old_store())
     os.remove(folder.at("disk/new"))
     fill(folder.at("disk/rest"))
     got = folder.planner("solves", "lilim", "-", "0", lines=b"pair\tdisk/new.sol\npair\tnew.sol\n")
@@ -549,7 +561,9 @@ def check_full_disk(folder):
 
 
 def check_full_store(folder):
-    """6. of a store that has taken its room: a disk that is full behind it does no harm, until the store is cut."""
+    """6. Checks a store that has taken its space: a disk that fills up afterwards does no harm, unless the
+    store is cut.
+    """
     write(folder.at("instance"), INSTANCE)
     expect("load with room", folder.planner("load", "disk/day.store", "vrp", "instance", "7"), (0, "ok\n", ""))
     fill(folder.at("disk/rest"))
@@ -560,26 +574,26 @@ def check_full_store(folder):
 
 
 def check_numbers(folder):
-    """4. of two files of one number."""
+    """4. Checks two files with the same inode number."""
     one, other = folder.at("disk/one"), folder.at("other/other")
     write(one, old_store())
     write(other, b"")
     if os.stat(one).st_ino != os.stat(other).st_ino:
-        print("skipped: file_calls, files of one number, since these file systems count otherwise")
+        skip("files of one number", "these file systems count otherwise")
         return
     expect("two files of one number", folder.planner("upgrade", "disk/one", "other/other"), (0, "ok\n", ""))
-    expect("the old one", contents(one), old_store())
+    expect("the old one", read(one), old_store())
     expect("bytes of the new one", os.path.getsize(other), STORE_BYTES)
 
 
 def check_mounted(folder):
-    """What wants two file systems of their own, in a namespace of their own."""
+    """Runs the checks that need two file systems, in a namespace of their own."""
     for name in "disk", "other":
         os.mkdir(folder.at(name))
     mounts = 'mount -t tmpfs -o size=5m tmpfs "$0/disk" && mount -t tmpfs -o size=5m tmpfs "$0/other"'
     apart = ["unshare", "-rm", "sh", "-c", mounts, folder.path]
     if not shutil.which("unshare") or subprocess.run(apart, capture_output=True).returncode:
-        print("skipped: file_calls, full disks and files of one number, since no tmpfs may be mounted here")
+        skip("full disks and files of one number", "no tmpfs may be mounted here")
         return
     apart[4] += ' && exec "$@"'
     if subprocess.run([*apart, sys.executable, os.path.abspath(__file__), "mounted", folder.path], timeout=2 * SECONDS).returncode:
@@ -587,8 +601,7 @@ def check_mounted(folder):
 
 
 def main():
-    if not os.access(PROGRAM, os.X_OK):
-        fail(f"{PROGRAM} is not built: run rt ci, or ./planner once")
+    require_program()
     if sys.argv[1:2] == ["mounted"]:
         folder = Folder(sys.argv[2])
         check_numbers(folder)
@@ -614,7 +627,7 @@ def main():
         check_limited_output(folder)
         check_limit_signal(folder)
         check_mounted(folder)
-    print("file_calls: what is read and made is what was asked for, and what can't be is told")
+    print("file_calls: files are read and made as requested, and each failure is reported")
 
 
 if __name__ == "__main__":

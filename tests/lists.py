@@ -1,10 +1,12 @@
 #!/usr/bin/env python3
-"""Writes a list of `audits` bit by bit, and reads the answer to each line before it writes the next: by a FIFO, a pipe and a terminal.
+"""Writes a list for `audits` piece by piece, and reads the answer to each line before it writes the next one:
+through a FIFO, a pipe and a terminal.
 
-A line is answered as soon as it is whole, and the rest of the list once it ends. What the answers are is worked by hand. A list that
-can't be read is told, and not taken for an empty one. `planner` and `auditor` are asked alike.
+A line is answered as soon as it is whole, and the rest of the list when it ends. The answers were worked out by
+hand. A list that can't be read is reported, and not taken for an empty one. `planner` and `auditor` are both
+tested.
 
-Wants the programs that rt ci leaves.
+Needs the programs that rt ci leaves.
 """
 import os
 import pty
@@ -13,15 +15,15 @@ import subprocess
 import sys
 import tempfile
 
-TOP = os.path.dirname(os.path.dirname(os.path.abspath(__file__)))
-PROGRAMS = [os.path.join(TOP, "crates", name, "out", name) for name in ("planner", "auditor")]
-EXAMPLES = os.path.join(TOP, "examples")
+# Python leaves no files beside the scripts.
+sys.dont_write_bytecode = True
+from planner import AUDITOR, EXAMPLES, PROGRAM, expect, require_program, skip  # noqa: E402
 
-# An answer comes within so many seconds; where none is to come, so many are waited.
+# The maximum time in seconds for an answer, and the time to wait if none is expected.
 MOST, LEAST = 60, 0.3
 
 PAIR = "one-pair.txt\tone-pair.sol"
-# What is written, and what is answered before anything else is written.
+# The pieces to write, each with the answer expected before the next one is written.
 STEPS = [
     (PAIR + "\n", PAIR + "\tpass 0 1 20\n"),
     ("\n", "bad line\n"),
@@ -34,17 +36,8 @@ STEPS = [
 LAST = PAIR + "\tpass 0 1 20 gap 0.00\n"
 
 
-def fail(message):
-    sys.exit(f"lists: {message}")
-
-
-def expect(name, got, wanted):
-    if got != wanted:
-        fail(f"{name}: {got!r}, wanted {wanted!r}")
-
-
 def answered(output, wanted):
-    """What is answered, as many bytes as are wanted, or what comes in a while."""
+    """Returns the answer: as many bytes as are wanted, or what arrives in a while."""
     got = b""
     while select.select([output], [], [], MOST if len(got) < len(wanted) else LEAST)[0]:
         more = os.read(output, 4096)
@@ -55,7 +48,7 @@ def answered(output, wanted):
 
 
 def check_steps(name, asked, write, end):
-    """Writes step by step, and wants the answer to each before the next one."""
+    """Writes step by step, and checks the answer to each step before the next one."""
     output = asked.stdout.fileno()
     for text, wanted in STEPS:
         write(text.encode())
@@ -87,11 +80,11 @@ def check_terminal(program):
     try:
         keys, terminal = pty.openpty()
     except OSError as error:
-        print(f"skipped: lists, a terminal, since none can be had: {error}")
+        skip("a terminal", f"none can be had: {error}")
         return
     asked = ask(program, "-", stdin=terminal)
     os.close(terminal)
-    # Ctrl-D hands on the line so far, and once more says that nothing follows.
+    # Ctrl-D passes on the line so far. A second one says that nothing follows.
     check_steps(f"{program}, a terminal", asked, lambda text: os.write(keys, text), lambda: os.write(keys, b"\x04\x04"))
     os.close(keys)
 
@@ -106,15 +99,14 @@ def check_unread(program, folder):
 
 
 def main():
-    for program in PROGRAMS:
-        if not os.path.exists(program):
-            fail(f"{program} is not built: run rt ci")
+    for program in (PROGRAM, AUDITOR):
+        require_program(program)
         with tempfile.TemporaryDirectory() as folder:
             check_pipe(program)
             check_fifo(program, folder)
             check_terminal(program)
             check_unread(program, folder)
-    print("lists: each line of a pipe, a FIFO and a terminal is answered before the next is written")
+    print("lists: each line of a pipe, a FIFO and a terminal is answered before the next one is written")
 
 
 main()

@@ -1,38 +1,33 @@
 #!/usr/bin/env python3
-"""Opens stores that are written here, byte for byte by the tables of docs/FORMATS.md.
+"""Opens stores that are written here, byte by byte according to the tables of docs/FORMATS.md.
 
-1. The state of one customer, whole, cut after each of its bytes, with a byte more, and with other routes; other headers; a record
-   where none is due.
-2. States of up to 40,000 stops, the largest state of all among them: opened, and written again to the same bytes.
-3. Plans by hand, and the states that steps and a build make of them; the last steps and the last sequence.
-4. A full journal: how many steps opening repeats, and that none is repeated once a snapshot stands behind it.
+1. The state with one customer: whole, cut after each of its bytes, with an additional byte, and with other
+   routes; other headers; a record where none is due.
+2. States of up to 40,000 stops, including the largest possible one: opened, and written again with the same
+   bytes.
+3. Plans made by hand, and the states after steps and a build; the last steps and the last sequence.
+4. A full journal: how many steps opening repeats, and that none is repeated after a snapshot.
 
-Wants the program that rt ci leaves.
+Needs the program that rt ci leaves.
 """
 import os
 import struct
-import subprocess
 import sys
 import tempfile
 
+# Python leaves no files beside the scripts.
 sys.dont_write_bytecode = True
 from device_faults import INSTANCE  # noqa: E402
+from planner import fail, outcome, require_program, run_program  # noqa: E402
 
-TOP = os.path.dirname(os.path.dirname(os.path.abspath(__file__)))
-PROGRAM = os.path.join(TOP, "crates", "planner", "out", "planner")
 SECTOR, SECTORS = 512, 8450
-# Where the snapshots of even sequences are, and those of odd ones.
+# The positions of the snapshots of even and of odd sequences.
 HALVES = [258 * SECTOR, 4354 * SECTOR]
 LATEST = 100_000_000
 
 
-def fail(text):
-    print("openings: " + text)
-    sys.exit(1)
-
-
 def numbers(*all_of_them):
-    """As u32."""
+    """Returns the numbers as u32."""
     return struct.pack(f">{len(all_of_them)}I", *all_of_them)
 
 
@@ -41,7 +36,9 @@ def header(version, sequence, length):
 
 
 def image(snapshot, sector=0, version=2, length=None, stray=0, sequence=2):
-    """A store of an even sequence with this snapshot. The record of index 5 begins with the sequence `stray`, and none stands before it."""
+    """Returns a store of an even sequence with this snapshot. The record at index 5 begins with the sequence
+    `stray`, and there is none before it.
+    """
     store = bytearray(SECTOR * SECTORS)
     length = len(snapshot) if length is None else length
     pieces = {sector * SECTOR: header(version, sequence, length), 7 * SECTOR: struct.pack(">Q", stray), HALVES[0]: snapshot}
@@ -57,18 +54,19 @@ class Opener:
         self.path = os.path.join(folder, "by_hand.store")
 
     def run(self, lines):
-        got = subprocess.run([PROGRAM, "run", self.path], input=lines, capture_output=True)
-        return got.returncode, got.stdout.decode()
+        return outcome("run", self.path, lines=lines)[:2]
 
     def expect(self, name, store, wanted, lines=b""):
-        """Opening it, and these lines, have this status and output."""
+        """Checks that opening the store, with these commands, gives this status and output."""
         with open(self.path, "wb") as file:
             file.write(store)
         if self.run(lines) != wanted:
             fail(f"{name}: {self.run(lines)}, wanted {wanted}")
 
     def expect_state(self, name, store, snapshot):
-        """It opens, and a checkpoint writes the same state under the next sequence, with zeros to the end of its last sector."""
+        """Checks that the store opens, and that a checkpoint writes the same state under the next sequence,
+        with zeros to the end of its last sector.
+        """
         self.expect(name, store, (0, "opened 0\nok\n"), b"checkpoint\n")
         with open(self.path, "rb") as file:
             file.seek(SECTOR)
@@ -76,11 +74,13 @@ class Opener:
             file.seek(HALVES[1])
             same = file.read(len(snapshot) + -len(snapshot) % SECTOR) == snapshot + bytes(-len(snapshot) % SECTOR)
         if written != header(2, 3, len(snapshot)) or not same:
-            fail(f"{name}: the state is written otherwise than it was read")
+            fail(f"{name}: the written state differs from the one that was read")
 
 
 def one_customer(demand=6, routes=(0, 0, 0), deviation=0):
-    """Customer 1 at (3, 4), capacity 10, one vehicle. Behind the requests stand the pin's length, the route and the working route."""
+    """Returns a state with customer 1 at (3, 4), capacity 10 and one vehicle. After the requests come the pin's
+    length, the route and the working route.
+    """
     head = struct.pack(">BBQQ", 1, 2, 0, 0) + numbers(10, 1, 2) + numbers(0, 0, 0, LATEST) + numbers(deviation, 1)
     return head + b"\x01" + numbers(1, 3, 4, demand, 0, LATEST, 0) + numbers(*routes)
 
@@ -122,8 +122,9 @@ def check_headers(opener):
     for name, changes, fault in refusals:
         opener.expect(name, image(state, **changes), (2, f"store {fault}\n"))
     opener.expect_state("record 5 of sequence 1", image(state, stray=1), state)
-    opener.expect_state("bytes behind the snapshot", image(state + b"\xff" * 900, length=95), state)
-    # A second header: of another version it does not count, and of two that are valid the greater sequence does.
+    opener.expect_state("bytes after the snapshot", image(state + b"\xff" * 900, length=95), state)
+    # A second header: it does not count if it has another version. Of two valid headers, the one with the
+    # greater sequence counts.
     beside = image(state)
     beside[SECTOR : SECTOR + 28] = header(9, 3, 1)
     opener.expect_state("version 9 beside", beside, state)
@@ -134,12 +135,14 @@ def check_headers(opener):
 
 
 def stop(number, demand):
-    """A stop on a spread of places, with a wide window."""
+    """Returns a stop at one of many places, with a wide window."""
     return struct.pack(">IiiiIII", number, number * 7919 % 1000, number * 104_729 % 1000, demand, 0, LATEST, 10)
 
 
 def large_state(stops, route, pinned, form):
-    """All stops are planned, so many a vehicle, of which the first ones are pinned. A request has `form` stops."""
+    """Returns a state with all stops planned, `route` of them per vehicle, the first ones pinned. A request has
+    `form` stops.
+    """
     fleet = stops // route
     parts = [struct.pack(">BBQQ", 1, 1, 0, 0) + numbers(1_000_000, fleet, stops + 1) + numbers(0, 0, 0, LATEST) + numbers(0, stops // form)]
     for number in range(1, stops + 1, form):
@@ -150,7 +153,7 @@ def large_state(stops, route, pinned, form):
 
 
 def check_large_states(opener):
-    # With their bytes: the last one is the largest state that there is, a vehicle for each stop.
+    # With their lengths in bytes. The last one is the largest possible state, with a vehicle for each stop.
     shapes = [((100, 10, 4, 2), 3_824), ((4_000, 10, 4, 2), 150_854), ((40_000, 10, 4, 2), 1_508_054), ((40_000, 1, 1, 1), 1_960_054)]
     for shape, length in shapes:
         state = large_state(*shape)
@@ -160,9 +163,12 @@ def check_large_states(opener):
 
 
 def served(customers, routes, work=None, steps=0, deviation=0, pinned=0, gone=0):
-    """Vehicles of 10 serve these customers, of whom each has its place and demand, by these routes. The working plan may be another one.
+    """Returns a state in which vehicles of capacity 10 serve these customers, given by place and demand, with
+    these routes. The working plan may be a different one.
 
-    So many stops of the first vehicle are pinned, and so many customers behind the others are gone."""
+    The first `pinned` stops of the first vehicle are pinned, and `gone` customers after the others are
+    withdrawn.
+    """
     state = struct.pack(">BBQQ", 1, 2, 0, steps) + numbers(10, len(routes), len(customers) + gone + 1)
     state += numbers(0, 0, 0, LATEST, deviation, len(customers))
     for number, (x, y, demand) in enumerate(customers, 1):
@@ -171,14 +177,15 @@ def served(customers, routes, work=None, steps=0, deviation=0, pinned=0, gone=0)
     return state + numbers(pinned) + numbers(0).join(routes) + b"".join(work)
 
 
-# Ways of 10, 10, 6 and 5 from the depot; of 8 between 2 and 3, of 5 between 2 and 4, of 12 between 1 and 3.
+# Distances of 10, 10, 6 and 5 from the depot; 8 between 2 and 3, 5 between 2 and 4, 12 between 1 and 3.
 FOUR = [(0, 10, 1), (6, 8, 1), (6, 0, 1), (3, 4, 1)]
-# Ways of 10, 1 and 1 from the depot; of 3 between 2 and 3.
+# Distances of 10, 1 and 1 from the depot; 3 between 2 and 3.
 THREE = [(0, 10, 1), (1, 1, 1), (-1, -1, 1)]
 BY_TWO = [(3, 4, 6), (6, 8, 4), (0, 5, 5)]
 LAST_STEP = 2**60
-# Customers, routes, steps made, lines with what is answered, and the state then. The words of step 0 by seed 0 are those of RFC 8439, A.1,
-# vector 1: they exchange the ends of the second and the third route, before the first stop of the one and behind the first of the other.
+# Customers, routes, steps made, commands with their answers, and the state afterwards. The words of step 0 with
+# seed 0 are those of RFC 8439, A.1, vector 1. They exchange the tails of the second and the third route, before
+# the first stop of the one and after the first of the other.
 PLANS = [
     ("the first step", FOUR, [[1], [2, 3], [4], []], 0, [
         ("search 1", "at 1 0 0 44\nok\n"),
@@ -189,7 +196,7 @@ PLANS = [
         ("search 1", "at 1 0 0 44\nok\n"),
         ("show", "requests 4 next 5\nsteps 1 place 16\nvehicle 1: 1\nvehicle 3: 4 2 3\ncost 0 0 44\nok\n"),
     ], served(FOUR, [[1], [], [4, 2, 3], []], steps=1)),
-    # Before stop 2 the way is 4 longer, before stop 1 it would be 8.
+    # Before stop 2 the distance grows by 4, before stop 1 it would grow by 8.
     ("a build", FOUR, [[1], [2], [4], []], 0, [
         ("show", "requests 4 next 5\nsteps 0 place 0\nvehicle 1: 1\nvehicle 2: 2\nvehicle 3: 4\nunplanned 3\ncost 1 0 50\nok\n"),
         ("build", "ok\n"),
@@ -205,7 +212,7 @@ PLANS = [
         ("search 1", "at 1 0 0 24\nok\n"),
         ("show", "requests 3 next 4\nsteps 1 place 16\nvehicle 1: 1\nvehicle 2: 2\nvehicle 3: 3\ncost 0 0 24\ndeviation 1\nwork 0 0 25\nok\n"),
     ], served(THREE, [[1], [2], [3]], [[1], [], [3, 2]], steps=1, deviation=1)),
-    # By another program, which says each annealing step by the letter.
+    # From another program, which follows each annealing step to the letter.
     ("an annealing step", BY_TWO, [[2, 1], [3], []], 0, [
         ("deviation 100", "ok\n"),
         ("anneal 1", "at 1 0 0 30\nok\n"),
@@ -228,11 +235,11 @@ PLANS = [
         ("show", f"requests 1 next 2\nsteps {LAST_STEP} place {16 * LAST_STEP}\nvehicle 1: 1\ncost 0 0 10\nok\n"),
     ], served([(3, 4, 6)], [[1]], steps=LAST_STEP)),
 ]
-# Commands behind that annealing step, of which each makes the working plan the plan that it leaves.
+# Commands after that annealing step. Each of them makes the working plan the plan that it leaves.
 AHEAD = [("deviation 100", "ok\n"), ("anneal 1", "at 1 0 0 30\nok\n")]
 LEFT = [[2, 1], [3], []]
 PLANS += [
-    (f"{line.split()[0]} behind an annealing step", BY_TWO, LEFT, 0, AHEAD + [(line, "ok\n")], state)
+    (f"{line.split()[0]} after an annealing step", BY_TWO, LEFT, 0, AHEAD + [(line, "ok\n")], state)
     for line, state in [
         ("build", served(BY_TWO, LEFT, steps=1, deviation=100)),
         ("deviation 7", served(BY_TWO, LEFT, steps=1, deviation=7)),
@@ -246,7 +253,7 @@ PLANS += [
 
 
 def latest_snapshot(path):
-    """The bytes that the header of the greater sequence stands for."""
+    """Returns the snapshot of the header with the greater sequence."""
     with open(path, "rb") as file:
         store = file.read()
     sequence, length = max(struct.unpack_from(">QQ", store, place + 12) for place in (0, SECTOR))
@@ -264,7 +271,7 @@ def check_plans(opener):
 
 
 def check_last_sequence(opener):
-    """No snapshot follows the last sequence: nothing is written for one. Records go on."""
+    """Checks that no snapshot follows the last sequence: nothing is written for one, and records continue."""
     store = image(one_customer(), sequence=2**60)
     opener.expect("the last sequence", store, (0, "opened 0\nno Spent\nno Spent\n"), b"checkpoint\nanneal 1\n")
     with open(opener.path, "rb") as file:
@@ -276,7 +283,7 @@ def check_last_sequence(opener):
 
 
 def expect_sequences(opener, name, wanted):
-    """Those that the two headers and the first record have."""
+    """Checks the sequences of the two headers and of the first record."""
     with open(opener.path, "rb") as file:
         store = file.read(3 * SECTOR)
     found = tuple(struct.unpack_from(">Q", store, place)[0] for place in (12, SECTOR + 12, 2 * SECTOR))
@@ -285,7 +292,7 @@ def expect_sequences(opener, name, wanted):
 
 
 def check_full_journal(opener):
-    subprocess.run([PROGRAM, "format", opener.path], check=True, capture_output=True)
+    run_program("format", opener.path, check=True)
     load = b"load vrp 0 %d\n" % len(INSTANCE) + INSTANCE
     opener.run(load + b"build\ncheckpoint\n")
     # 256 records of 256 steps.
@@ -294,24 +301,23 @@ def check_full_journal(opener):
     if status != 0 or not told.startswith("opened 65536\n"):
         fail(f"a full journal: status {status}, {told!r}")
     if opener.run(b"") != (0, "opened 0\n"):
-        fail("a step behind a full journal makes no snapshot")
-    expect_sequences(opener, "a step behind a full journal", (4, 3, 3))
-    # A command that changes nothing, behind 256 of them, and a checkpoint alone: each is a snapshot under the next sequence.
+        fail("a step after a full journal makes no snapshot")
+    expect_sequences(opener, "a step after a full journal", (4, 3, 3))
+    # An operation that changes nothing, after 256 of them, and a checkpoint alone: each is a snapshot under the
+    # next sequence.
     opener.run(256 * b"unpin 1\n")
     expect_sequences(opener, "a full journal once more", (4, 3, 4))
     shown = opener.run(b"show\n")
     for line, sequences in ((b"unpin 1\n", (4, 5, 4)), (b"checkpoint\n", (6, 5, 4))):
         if opener.run(line) != (0, "opened 0\nok\n"):
-            fail(f"{line!r} behind a full journal is refused")
-        expect_sequences(opener, f"{line!r} behind a full journal", sequences)
+            fail(f"{line!r} after a full journal is refused")
+        expect_sequences(opener, f"{line!r} after a full journal", sequences)
         if opener.run(b"show\n") != shown:
-            fail(f"{line!r} behind a full journal changes the state")
+            fail(f"{line!r} after a full journal changes the state")
 
 
 def main():
-    if not os.access(PROGRAM, os.X_OK):
-        print(f"skipped: openings, since {PROGRAM} is not built (rt ci builds it)")
-        return
+    require_program()
     with tempfile.TemporaryDirectory() as folder:
         opener = Opener(folder)
         check_snapshots(opener)
@@ -320,7 +326,7 @@ def main():
         check_plans(opener)
         check_last_sequence(opener)
         check_full_journal(opener)
-    print("openings: stores written by hand open with their state, or are told as what they are")
+    print("openings: stores written by hand open with their state, or are reported as what they are")
 
 
 if __name__ == "__main__":

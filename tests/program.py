@@ -1,15 +1,19 @@
 #!/usr/bin/env python3
-"""Asks the built program small things, whose answers are worked by hand or come from another program.
+"""Runs the built program on small inputs whose answers were worked out by hand or come from another program.
 
 1. audit: rule by rule, texts that are refused, and one route of 40,000 customers.
-2. Words: what they ask for, which numbers are taken, and how other words are refused, with the usage of their command.
-3. Lines of run: which are read, over an empty store and over a loaded one; lines that are too long, and `load` in them.
-4. Sessions: pins, routes and next numbers as they are shown; timetables, and why a request is where it is; refusals. adopt and
-   instance: solutions become a store's plan, and what a store holds is read back.
-5. Steps: their pieces, how far `reach` goes, and the stages of annealing, made by hand, and cut and said again.
-6. solve: plans, what is left out, and tries of fewer vehicles. solves: a solution that can't be written whole.
+2. Arguments: their meaning, which numbers are accepted, and how other arguments are refused, with the usage of
+   their command.
+3. Lines of run: which are read, over an empty store and over a loaded one; lines that are too long, and `load`
+   in them.
+4. Sessions: pins, routes and next numbers as `show` prints them; timetables, and why a request is where it is;
+   refusals. adopt and instance: solutions become a store's plan, and the instance of a store reads back.
+5. Steps: their operations, how far `reach` goes, and the stages of annealing, made by hand, and interrupted and
+   repeated.
+6. solve: plans, requests left out, and the search for fewer vehicles. solves: a solution that can't be written
+   whole.
 
-Wants the program that rt ci leaves.
+Needs the program that rt ci leaves.
 """
 import os
 import resource
@@ -18,12 +22,13 @@ import subprocess
 import sys
 import tempfile
 
-TOP = os.path.dirname(os.path.dirname(os.path.abspath(__file__)))
-PROGRAM = os.path.join(TOP, "crates", "planner", "out", "planner")
-STORE_BYTES = 4_326_400
+# Python leaves no files beside the scripts.
+sys.dont_write_bytecode = True
+from planner import PROGRAM, STORE_BYTES, expect, outcome, require_program, run  # noqa: E402
 
-# One pickup and its delivery, at (3, 4) and (6, 8), from a depot at (0, 0): a way of 5 + 5 + 10. In turn the delivery's latest start,
-# the depot's latest return, the capacity and the delivery's partner are others.
+# One pickup and its delivery, at (3, 4) and (6, 8), from a depot at (0, 0): a distance of 5 + 5 + 10. In the
+# variants the delivery's latest start, the depot's latest return, the capacity and the delivery's partner
+# differ, one at a time.
 ONE_PAIR = "2 10 1\n0 0 0 0 0 100 0 0 0\n1 3 4 4 0 50 2 0 2\n2 6 8 -4 0 60 2 1 0\n"
 LATEST_11 = ONE_PAIR.replace("0 60 2 1 0", "0 11 2 1 0")
 LATEST_12 = ONE_PAIR.replace("0 60 2 1 0", "0 12 2 1 0")
@@ -35,33 +40,37 @@ FAR_DELIVERY = ONE_PAIR.replace("0 50 2 0 2", "0 50 2 0 40001")
 DEPOT_ALONE = "2 10 1\n0 0 0 0 0 100 0 0 0\n"
 BOTH = "Route #1: 1 2\nCost 20\n"
 
-# The same for one vehicle and for two, with a pair farther away: the first stops of both are too late behind the other.
+# For one vehicle and for two, with a pair farther away: the first stop of each pair is too late after
+# the other pair.
 LATE_PAIR = "1 10 1\n0 0 0 0 0 100 0 0 0\n1 3 4 4 0 6 2 0 2\n2 6 8 -4 0 60 2 1 0\n3 -6 8 4 0 10 2 0 4\n4 -9 12 -4 0 20 2 3 0\n"
 LATE_PAIR_FOR_TWO = LATE_PAIR.replace("1 10 1", "2 10 1", 1)
 
-# Two pairs on two places. Stop 3 lies 3 from the depot and is due at 2, so it can be served behind stop 1 alone.
+# Two pairs at two places. Stop 3 is at distance 3 from the depot and due at 2, so it can only be served after
+# stop 1.
 TWO_PAIRS = "1 10 1\n0 0 0 0 0 100 0 0 0\n1 1 1 1 0 50 0 0 2\n2 1 1 -1 0 50 0 1 0\n3 2 2 1 0 2 0 0 4\n4 2 2 -1 0 50 0 3 0\n"
 
-# Two pairs in a row, whose first delivery waits for no other, and one on the other side that waits for none.
+# Two pairs in a row, whose first delivery waits for no other stop, and one pair on the other side that waits
+# for none.
 DAY = (
     "2 10 1\n0 0 0 0 0 1000 0 0 0\n1 10 0 1 20 100 5 0 2\n2 20 0 -1 0 40 5 1 0\n3 30 0 1 0 500 5 0 4\n4 40 0 -1 0 900 5 3 0\n"
     "5 -10 0 1 0 10 5 0 6\n6 -20 0 -1 0 900 5 5 0\n"
 )
 
-# The two pairs without a hurry, which one vehicle can serve, but not in two routes.
+# The two pairs without a tight window: one vehicle can serve them, but not in two routes.
 NO_HURRY = TWO_PAIRS.replace("0 2 0 0 4", "0 50 0 0 4")
 
 # A pair at one place.
 ONE_PLACE = "1 10 1\n0 0 0 0 0 100 0 0 0\n1 1 1 1 0 50 0 0 2\n2 1 1 -1 0 50 0 1 0\n"
 
-# Two pairs that one vehicle can't serve both: stop 3 has to be reached by 12, and 14 lie between it and stop 1. Then a vehicle
-# that takes 10, and a day that ends at 30, where both pairs take until 34.
+# Two pairs that one vehicle can't both serve: stop 3 must be reached by 12, and it is 14 from stop 1. Then a
+# vehicle with capacity 10, and a day that ends at 30, when both pairs take until 34.
 APART = "1 20 1\n0 0 0 0 0 100 0 0 0\n1 10 0 5 0 10 0 0 2\n2 10 0 -5 0 50 0 1 0\n3 0 10 6 0 12 0 0 4\n4 0 10 -6 0 50 0 3 0\n"
 SMALL_VEHICLE = APART.replace("1 20 1", "1 10 1", 1)
 SHORT_DAY = "1 20 1\n0 0 0 0 0 30 0 0 0\n1 10 0 5 0 90 0 0 2\n2 10 0 -5 0 90 0 1 0\n3 0 10 6 0 90 0 0 4\n4 0 10 -6 0 90 0 3 0\n"
 
-# Two pairs on a line through the depot, which fit into one route in one order alone. A third one is late by one at the first pair of places
-# by which the way is 36. Nine behind those are no shorter and late as well; at the tenth the vehicle is back just in time.
+# Two pairs on a line through the depot, which fit into one route in only one order. A third pair is late by one
+# at the first places where the distance is 36. At nine later places it is no shorter and late as well; at the
+# tenth the vehicle is back just in time.
 LAST_PLACE = (
     "1 20 1\n0 20 0 0 0 48 0 0 0\n1 20 0 3 0 3 0 0 2\n2 11 0 -3 7 15 0 1 0\n3 28 0 4 23 28 0 0 4\n4 22 0 -4 30 33 0 3 0\n"
 )
@@ -71,10 +80,10 @@ TOO_HEAVY = "1 10 1\n0 0 0 0 0 100 0 0 0\n1 10 0 11 0 50 0 0 2\n2 10 0 -11 0 50 
 TOO_FAR = "1 10 1\n0 0 0 0 0 100 0 0 0\n1 10 0 1 0 8 0 0 2\n2 10 0 -1 0 50 0 1 0\n"
 TOO_LONG = "1 10 1\n0 0 0 0 0 15 0 0 0\n1 10 0 1 0 50 0 0 2\n2 10 0 -1 0 50 0 1 0\n"
 
-# A pair of the last numbers but one.
+# A pair with the two numbers before the last one.
 LAST_NUMBERS = "1 10 1\n0 0 0 0 0 100 0 0 0\n39998 1 1 1 0 50 0 0 39999\n39999 1 1 -1 0 50 0 39998 0\n"
 
-# Four pairs: the plan that is built has three vehicles, and two are enough.
+# Four pairs: the built plan has three vehicles, and two are enough.
 FOUR_PAIRS = (
     "4 4 1\n0 0 0 0 0 60 0 0 0\n1 -2 -5 1 7 26 1 0 2\n2 5 0 -1 16 35 1 1 0\n3 -6 0 3 2 7 1 0 4\n4 2 -2 -3 16 21 1 3 0\n"
     "5 -1 -2 1 17 24 1 0 6\n6 6 -4 -1 25 32 1 5 0\n7 -6 4 1 30 42 1 0 8\n8 6 -2 -1 36 48 1 7 0\n"
@@ -82,7 +91,7 @@ FOUR_PAIRS = (
 
 
 def vrp(capacity, places, demands):
-    """A .vrp text, the depot first."""
+    """Returns a .vrp text, the depot first."""
     lines = ["NAME : some", "TYPE : CVRP", f"DIMENSION : {len(places)}", "EDGE_WEIGHT_TYPE : EUC_2D", f"CAPACITY : {capacity}", "NODE_COORD_SECTION"]
     lines += [f"{at} {x} {y}" for at, (x, y) in enumerate(places, 1)]
     lines += ["DEMAND_SECTION"] + [f"{at} {demand}" for at, demand in enumerate(demands, 1)]
@@ -90,13 +99,14 @@ def vrp(capacity, places, demands):
 
 
 def respelled(text):
-    """The same in other words: tabs, letter case, points, line ends, no EOF."""
+    """Returns the same text spelled differently: tabs, letter case, decimal points, line ends, no EOF."""
     lines = text.replace("TYPE : CVRP", "type : cvrp", 1).replace("2 3 4", "2 3.0 4.").replace("EOF\n", "").splitlines()
     return "".join((line.replace(" : ", " :\t") if ":" in line else line.replace(" ", "\t")) + "\r\n" for line in lines)
 
 
-# Three customers, two of whom fit into one vehicle; in other words; behind lines that are no keys; cut behind the second of four nodes;
-# with a list of depots that does not end; one customer half a unit off; a limit of distance.
+# Three customers, two of whom fit into one vehicle. Variants: spelled differently; after lines that are not
+# keys; cut off after the second of four nodes; with a list of depots that does not end; with one customer half
+# a unit off; with a distance limit.
 THREE_CUSTOMERS = vrp(10, [(0, 0), (3, 4), (6, 8), (0, 5)], [0, 6, 4, 5])
 NO_KEYS = "DIMENSION 9\nEOF x\nTYPE TSP\n" + THREE_CUSTOMERS
 NINE_LINES = "".join(THREE_CUSTOMERS.splitlines(keepends=True)[:9])
@@ -104,10 +114,11 @@ ENDLESS_DEPOTS = THREE_CUSTOMERS.replace("-1\nEOF", "EOF")
 HALF_A_UNIT = THREE_CUSTOMERS.replace("2 3 4", "2 30.5 4")
 A_LIMIT = "NAME : t3\nTYPE : CVRP\nDIMENSION : 4\nEDGE_WEIGHT_TYPE : EUC_2D\nCAPACITY : 10\nDISTANCE : 200\n"
 
-# Six customers around a depot, for vehicles of 4.
+# Six customers around a depot, for vehicles of capacity 4.
 SIX = vrp(4, [(0, 0), (3, 4), (6, 8), (-3, 4), (-6, 8), (0, 5), (9, 1)], [0, 2, 2, 1, 1, 3, 2])
 
-# Four customers: ways of 10, 10, 6 and 5 from the depot, of 12 between 1 and 3, of 8 between 2 and 3, of 5 between 2 and 4.
+# Four customers: distances of 10, 10, 6 and 5 from the depot, 12 between 1 and 3, 8 between 2 and 3, 5 between
+# 2 and 4.
 FOUR = vrp(1_000, [(0, 0), (0, 10), (6, 8), (6, 0), (3, 4)], [0, 1, 1, 1, 1])
 
 AUDITS = [
@@ -154,8 +165,8 @@ AUDITS = [
     ("lilim", ONE_PAIR, "Rout #1: 1\n", "solution BadLine 1", 2),
 ]
 
-# Words that ask for something, over files that are there: standard input, status, and how standard output begins (all of it where
-# it is empty).
+# Valid arguments, with files that exist: standard input, status, and the beginning of standard output (all of
+# it if it is empty).
 A_VRP = ("vrp", "a b.vrp", "c.sol")
 TAKEN = [
     ([], "", 0, "pass 0 1 20\n"),
@@ -184,7 +195,7 @@ TAKEN = [
     (["solves", "vrp", "-", "0", "18446744073709551615"], "a b.vrp\td.sol\n", 0, "a b.vrp\td.sol\tpass 0 0 30\n"),
 ]
 
-# Words that ask for nothing, and how the first line of standard error begins, behind `error: `.
+# Usage errors, and the beginning of the first line of standard error, after `error: `.
 NOT_GIVEN = "the following required arguments were not provided:"
 BAD_STEPS = "STEPS and DEVIATION are 0 to 1000000000 and SEED 0 to 18446744073709551615, in digits alone"
 BAD_SEED = "SEED is 0 to 18446744073709551615, in digits alone"
@@ -234,7 +245,8 @@ REFUSED = [
     (["timetable", "Vrp", "a", "b"], BAD_TIMETABLE),
     (["timetable", "vrp", "a", "b", "tabs", "c"], "unexpected argument 'c' found"),
 ]
-# The usage of each command. Where a value alone is wrong, none is told; of words that name no command, that of the program.
+# The usage of each command. If only a value is wrong, no usage is printed. For a name that is not a command, it
+# is the program's.
 USAGES = {
     "audit": "<KIND> <INSTANCE> <SOLUTION> [routes]",
     "audits": "<KIND> <LIST> [routes]",
@@ -253,7 +265,7 @@ USAGES = {
 }
 NO_SOLUTION = f"error: {NOT_GIVEN}\n  <SOLUTION>\n\nUsage: planner audit <KIND> <INSTANCE> <SOLUTION> [routes]\n\nFor more information, try '--help'.\n"
 
-# Lines over an empty store, and what is answered.
+# Lines over an empty store, and their answers.
 NO_INSTANCE = "no NoInstance\n"
 BAD_LINE = "no BadLine\n"
 RANGE = "no Range\n"
@@ -316,7 +328,7 @@ READ_LINES = [
     (" " * 1025, BAD_LINE),
 ]
 
-# Lines behind which the next one is done, or is not, and what is answered to them.
+# Lines after which the next one is executed or not, and their answers.
 LOADS = [
     ("load lilim 18446744073709551615 16777216", False, "no Truncated\n"),
     ("load vrp 0 16777217", False, RANGE),
@@ -350,7 +362,7 @@ FULL_OR_AT = (
 PAIRS_ROUTE = "vehicle 1: 1 3 4 2\ncost 0 1 4\n"
 BY_TWO = "vehicle 1: 2 1\nvehicle 2: 3\ncost 0 0 30\n"
 
-# An instance, and lines with what is told before `ok`, or all that is told of a refusal.
+# An instance, and commands with the text before `ok`, or the whole answer if it is a refusal.
 SESSIONS = [
     ("pairs before a plan", "lilim", TWO_PAIRS, [
         ("show", "requests 2 next 5\nsteps 0 place 0\nunplanned 1\nunplanned 3\ncost 2 0 0\n"),
@@ -391,12 +403,12 @@ SESSIONS = [
         ("pin 1 4", ""),
         ("pin 1 0", ""),
         ("show", "requests 2 next 5\nsteps 0 place 0\n" + PAIRS_ROUTE),
-        # The direct way to stop 3 takes 3, and its latest time is 2.
+        # The direct leg to stop 3 takes 3, and its latest start is 2.
         ("withdraw 1", ""),
         ("show", "requests 1 next 5\nsteps 0 place 0\nunplanned 3\ncost 1 0 0\n"),
         ("timetable", "\nunplanned 3\nwhy 3: alone: stop 3 would start at 3, latest 2\n"),
         ("print", "no Unplanned\n"),
-        # The numbers of requests that are gone are not given again.
+        # The numbers of withdrawn requests are not used again.
         ("withdraw 3", ""),
         ("add1 1 0 0 0 9 0", ""),
         ("build", ""),
@@ -415,8 +427,9 @@ SESSIONS = [
         ("withdraw 3", ""),
         ("show", "requests 1 next 5\nsteps 0 place 0\nvehicle 1: 1 2\ncost 0 1 2\n"),
     ]),
-    # Vehicle 1 serves stop 1 from 20 on, its earliest time, after a way of 10; stop 2 from 35, 3 from 50, 4 from 65, each after a way of 10.
-    # Vehicle 2 serves stop 5 from 10 on, after a way of 10, and stop 6 from 25. So they set off to 1, 2, 3, 4 at 10, 25, 40, 55, to 5, 6 at 0, 15.
+    # Vehicle 1 starts service at stop 1 at 20, its earliest time, after a leg of 10; at stop 2 at 35, at 3 at
+    # 50, at 4 at 65, each after a leg of 10. Vehicle 2 starts at stop 5 at 10, after a leg of 10, and at stop 6
+    # at 25. So they depart to 1, 2, 3, 4 at 10, 25, 40, 55, and to 5, 6 at 0, 15.
     ("what has begun", "lilim", DAY, [
         ("build", ""),
         ("freeze 0", "pin 2 2\n"),
@@ -470,7 +483,7 @@ SESSIONS = [
         ("pin 1 2", ""),
         ("why 5", "alone: a vehicle can serve it\nvehicle 1: fits at places 3 and 4\nfleet: 1 of 1 vehicles are used\n"),
     ]),
-    # Beside stop 1 it would be 1 too much; behind stop 2, which comes before that, it is late.
+    # Beside stop 1 it would be 1 too much. After stop 2, which comes before that, it is late.
     ("a pair that would be late, or too much", "lilim", SMALL_VEHICLE, [
         ("build", ""),
         ("why 3", "alone: a vehicle can serve it\nvehicle 1: stop 3 would start 12 late\nfleet: 1 of 1 vehicles are used\n"),
@@ -479,7 +492,7 @@ SESSIONS = [
         ("build", ""),
         ("why 3", "alone: a vehicle can serve it\nvehicle 1: would be back 4 late\nfleet: 1 of 1 vehicles are used\n"),
     ]),
-    ("a pair that fits behind places where it is late", "lilim", LAST_PLACE, [
+    ("a pair that fits after places where it is late", "lilim", LAST_PLACE, [
         ("build", ""),
         ("add 2 21 0 0 48 0 13 0 0 48 0", ""),
         ("why 5", "alone: a vehicle can serve it\nvehicle 1: fits at places 3 and 6\nfleet: 1 of 1 vehicles are used\n"),
@@ -487,7 +500,8 @@ SESSIONS = [
     ("too heavy alone", "lilim", TOO_HEAVY, [("why 1", "alone: stop 1 needs 11, a vehicle takes 10\n")]),
     ("too far alone", "lilim", TOO_FAR, [("why 1", "alone: stop 1 would start at 10, latest 8\n")]),
     ("too long alone", "lilim", TOO_LONG, [("why 1", "alone: would be back at 20, latest 15\n")]),
-    # Loads of 10 and 5 stand in two routes, and the new customer beside stop 3 has 5. A pin leaves the place behind it alone.
+    # Two routes have loads of 10 and 5, and the new customer beside stop 3 has 5. A pin leaves only the place
+    # after it.
     ("singles", "vrp", THREE_CUSTOMERS, [
         ("why 1", "alone: a vehicle can serve it\nfleet: 0 of 3 vehicles are used\n"),
         ("build", ""),
@@ -518,7 +532,8 @@ SESSIONS = [
         ("show", "requests 3 next 4\nsteps 1 place 16\n" + BY_TWO + "deviation 7\nwork 0 0 30\n"),
         ("print", "Route #1: 2 1\nRoute #2: 3\nCost 30\n"),
     ]),
-    # By another program, which says each annealing step by the letter: the first one leads to the routes 3 2 and 1, of 22 and 10.
+    # From another program, which follows each annealing step to the letter: the first one leads to the routes 3
+    # 2 and 1, of 22 and 10.
     ("annealing", "vrp", THREE_CUSTOMERS, [
         ("build", ""),
         ("deviation 100", ""),
@@ -534,7 +549,7 @@ SESSIONS = [
         ("anneal 1000", "at 1000 0 0 30\n"),
         ("show", "requests 3 next 4\nsteps 1000 place 16000\n" + BY_TWO + "deviation 100\nwork 0 0 30\n"),
     ]),
-    ("an order behind a plan", "vrp", THREE_CUSTOMERS, [
+    ("an order after a plan", "vrp", THREE_CUSTOMERS, [
         ("build", ""),
         ("add 1 0 0 0 9 0 0 0 0 9 0", ""),
         ("deviation 5", ""),
@@ -553,7 +568,7 @@ SESSIONS = [
         ("print", "Cost 0\n"),
         ("next", "next 1\n"),
     ]),
-    # Ten steps of tries, then stages of one step, whose deviation is 0.
+    # Ten steps that look for fewer vehicles, then stages of one step, whose deviation is 0.
     ("stages over the depot alone", "lilim", DEPOT_ALONE, [
         ("deviation 5", ""),
         ("show", "requests 0 next 1\nsteps 0 place 0\ncost 0 0 0\ndeviation 5\nwork 0 0 0\n"),
@@ -607,7 +622,8 @@ SESSIONS = [
         ("add1 -1 0 0 9 8 0", RANGE),
         ("\tbuild\t ", ""),
     ]),
-    # Steps come in pieces of 256, of 16,384 where they anneal, and of 524,288 where they try fewer vehicles.
+    # Steps come in operations of 256, of 16,384 for annealing, and of 524,288 for the search for fewer
+    # vehicles.
     ("pieces", "vrp", THREE_CUSTOMERS, [
         ("search 200", "at 200 3 0 0\n"),
         ("reach 10", ""),
@@ -625,7 +641,7 @@ SESSIONS = [
 ]
 
 def fifty_pairs():
-    """Fifty pairs that lie around by a rule, for as many vehicles."""
+    """Returns fifty pairs placed by a rule, for as many vehicles."""
     lines = ["50 1 1", "0 20 20 0 0 400 0 0 0"]
     for pair in range(50):
         number, earliest = 2 * pair + 1, 20 + pair * 27 % 20
@@ -634,12 +650,14 @@ def fifty_pairs():
     return "\n".join(lines) + "\n"
 
 
-# The deviation of each stage in hundredths of the mean leg, and what the plan of the six customers costs before the first of seven
-# steps and behind each: the costs are those of another program, which goes through tries and stages by the letter.
+# The deviation of each stage in hundredths of the mean leg, and the cost of the six customers' plan before the
+# first of seven steps and after each. The costs are those of another program, which follows attempts and stages
+# to the letter.
 HUNDREDTHS = [150, 122, 99, 81, 66, 54, 44, 35, 29, 24, 19, 16, 13, 10, 8, 7, 6, 5, 4, 3]
 STAGED_COSTS = [66, 65, 65, 65, 65, 65, 63, 63]
 
-# An instance, steps, a deviation or none, how standard error and standard output begin, and the last line: by the same program.
+# An instance, steps, a deviation or none, the beginnings of standard error and standard output, and the last
+# line, from the same program.
 SOLUTIONS = [
     ("lilim", ONE_PAIR, 3, None, "at 0 0 1 20\nat 1 0 1 20\nat 2 0 1 20\nat 3 0 1 20\n", BOTH, "Cost 20"),
     ("lilim", DEPOT_ALONE, 20, None, "at 0 0 0 0\n" + "".join(f"at {step} 0 0 0\n" for step in range(10, 21)), "Cost 0\n", "Cost 0"),
@@ -651,23 +669,13 @@ SOLUTIONS = [
     ("lilim", FOUR_PAIRS, 40, None, "at 0 0 3 68\nat 20 0 2 70\nat 22 0 2 65\n", "Route", "Cost 65"),
     ("lilim", FOUR_PAIRS, 7, None, "at 0 0 3 68\nat 3 0 3 68\nat 4 0 3 68\nat 5 0 2 70\nat 6 0 2 70\nat 7 0 2 65\n", "Route", "Cost 65"),
     ("lilim", LATE_PAIR_FOR_TWO, 5, None, "at 0 0 2 50\nat 2 0 2 50\nat 3 0 2 50\nat 4 0 2 50\nat 5 0 2 50\n", "Route #1: ", "Cost 50"),
-    # Two vehicles fewer are tried at once.
+    # The first attempt looks for two vehicles fewer.
     ("lilim", fifty_pairs(), 200, None, "at 0 0 40 2340\nat 100 0 38 2276\nat 110 0 38 2276\n", "Route", "Cost 2257"),
 ]
 
 
-def fail(text):
-    print("program: " + text)
-    sys.exit(1)
-
-
-def expect(what, got, wanted):
-    if got != wanted:
-        fail(f"{what}: {got!r}; wanted {wanted!r}")
-
-
 class Folder:
-    """Where the program runs, with a file of each name that is written."""
+    """The folder in which the program runs, with the files written there."""
 
     def __init__(self, path):
         self.path = path
@@ -682,20 +690,15 @@ class Folder:
         return name
 
     def planner(self, *words, lines=""):
-        """Status, standard output and standard error."""
-        got = subprocess.run([PROGRAM, *words], cwd=self.path, input=lines.encode(), capture_output=True)
-        return got.returncode, got.stdout.decode(), got.stderr.decode()
+        """Runs the program and returns status, standard output and standard error."""
+        return outcome(*words, lines=lines, cwd=self.path)
 
     def new_store(self):
         shutil.copyfile(self.file("empty.store"), self.file("day.store"))
 
     def run(self, lines):
-        """What is answered to the lines behind `opened ..`."""
-        status, text, _ = self.planner("run", "day.store", lines=lines)
-        first, _, rest = text.partition("\n")
-        if status != 0 or not first.startswith("opened "):
-            fail(f"run: status {status}, {first!r}")
-        return rest
+        """Returns the answers to the commands, after `opened ..`."""
+        return run("day.store", lines, cwd=self.path)
 
 
 def check_audits(folder):
@@ -705,7 +708,7 @@ def check_audits(folder):
 
 
 def check_largest_audit(folder):
-    """40,000 customers at the depot, all in one route."""
+    """Checks 40,000 customers at the depot, all in one route."""
     instance = folder.write("instance", vrp(0, 40_001 * [(0, 0)], 40_001 * [0]))
     solution = folder.write("solution", "Route #1: " + " ".join(map(str, range(1, 40_001))) + "\nCost 0\n")
     expect("the audit of 40,000 customers", folder.planner("audit", "vrp", instance, solution), (0, "pass 0 0 0\n", ""))
@@ -727,7 +730,7 @@ def check_refused_words(folder):
         expect(f"{words}", (status, output, errors.split("\n")[0]), (64, "", "error: " + reason))
         usage = f"{words[0]} {USAGES[words[0]]}" if words[0] in USAGES else "[COMMAND]"
         told = [line for line in errors.split("\n") if line.startswith("Usage: ")]
-        expect(f"the usage behind {words}", told, [] if reason.startswith("invalid value") else [f"Usage: planner {usage}"])
+        expect(f"the usage after {words}", told, [] if reason.startswith("invalid value") else [f"Usage: planner {usage}"])
     expect("the whole of what is told", folder.planner("audit", "lilim", "a"), (64, "", NO_SOLUTION))
     expect("--version", folder.planner("--version"), (0, "planner 0.1.0\n", ""))
     for words in ["help"], ["audit", "--help"]:
@@ -736,7 +739,9 @@ def check_refused_words(folder):
 
 
 def check_same_search(folder):
-    """What solve finds by a seed and a deviation is what a store finds by them, and what it finds by a seed alone solves writes."""
+    """Checks that `solve` and a store find the same with the same seed and deviation, and `solve` and `solves`
+    with the same seed.
+    """
     for seed in 7, 2**64 - 1:
         folder.new_store()
         text = folder.run(f"load vrp {seed} {len(SIX)}\n{SIX}deviation 1000000000\nbuild\nsearch 5\nprint\n")
@@ -760,7 +765,7 @@ def check_lines(folder):
             expect(f"the line {line[:80]!r}", folder.run(line + end + "next\n"), answer + NO_INSTANCE)
     folder.new_store()
     text = folder.run(" help\n")
-    expect("help", (text.split("\n")[0], text[-4:]), ("Each line asks for one thing:", "\nok\n"))
+    expect("help", (text.split("\n")[0], text[-4:]), ("Each line is one command:", "\nok\n"))
 
 
 def check_loads(folder):
@@ -783,11 +788,11 @@ def check_sessions(folder):
             wanted = told if told.startswith("no ") else told + "ok\n"
             expect(f"{name}: {line}", text[: len(wanted)], wanted)
             text = text[len(wanted) :]
-        expect(f"{name}: behind all lines", text, "")
+        expect(f"{name}: after all commands", text, "")
 
 
 def check_hints(folder):
-    """What standard error tells beside an answer."""
+    """Checks the hints on standard error beside an answer."""
     for lines, told in [
         ("build\n", "unplanned 1: 3\n"),
         ("withdraw 2\n", "withdraw 2: stop 2 is the delivery of request 1\n"),
@@ -799,7 +804,8 @@ def check_hints(folder):
         expect(f"hints of {lines!r}", (status, errors), (0, told))
 
 
-# A store of the four customers: solutions one after another, each with its answer, status and hint, and the plan that is then shown.
+# A store with the four customers: solutions one after another, each with its answer, status and hint, and the
+# plan that `show` prints then.
 TWO_ROUTES = "vehicle 1: 1\nvehicle 2: 4 2 3\n"
 ADOPTED = [
     ("Route #1: 1\nRoute #2: 2 3\nRoute #3: 4\nCost 54\n", "ok\n", 0, "", "vehicle 1: 1\nvehicle 2: 2 3\nvehicle 3: 4\n"),
@@ -810,7 +816,8 @@ ADOPTED = [
     ("Route #1: 1\nRoute #2: 4 2 3\n", "no NoCost 3\n", 2, "", TWO_ROUTES),
     ("Rout #1: 1\n", "no BadLine 1\n", 2, "", TWO_ROUTES),
 ]
-# Vehicle 2 has stop 4 in its pin: then one whose routes begin with others, and one that has them in another order.
+# Vehicle 2 has stop 4 in its pin. The first solution has routes that begin with other stops, the second one has
+# the routes in another order.
 ADOPTED_PINNED = [
     ("Route #1: 1\nRoute #2: 3 2 4\nCost 44\n", "no Pinned\n", 1, "adopt: no route that is left begins with the pin of vehicle 2\n", TWO_ROUTES),
     ("Route #1: 4 2 3\nRoute #2: 1\nCost 44\n", "ok\n", 0, "", TWO_ROUTES),
@@ -818,7 +825,7 @@ ADOPTED_PINNED = [
 
 
 def check_adopted(folder):
-    """Solutions that become a store's plan, and those that don't."""
+    """Checks solutions that become a store's plan, and others that do not."""
     folder.new_store()
     expect("adopt over an empty store", folder.planner("adopt", "day.store", folder.write("sol", BOTH)), (2, "no NoInstance\n", ""))
     folder.run(load_line("vrp", FOUR))
@@ -829,14 +836,16 @@ def check_adopted(folder):
             got = folder.planner("adopt", "day.store", folder.write("sol", text))
             expect(f"adopt of {text!r}", got, (status, answer, hint))
             told = folder.run("show\n").split("place 0\n")[1]
-            expect(f"the plan behind {text!r}", told.split("cost")[0], pins + shown)
+            expect(f"the plan after {text!r}", told.split("cost")[0], pins + shown)
     expect("adopt of no file", folder.planner("adopt", "day.store", "nowhere")[:2], (3, "cannot read nowhere\n"))
     expect("adopt over no store", folder.planner("adopt", "nowhere", "sol")[:2], (3, "cannot read nowhere\n"))
     expect("adopt over no store's file", folder.planner("adopt", "sol", "sol")[:2], (2, "store BadLength\n"))
 
 
 def check_instances(folder):
-    """What a store holds is printed as an instance, which is loaded again, and by which its solution is audited."""
+    """Checks that a store prints its instance, that this loads again, and that the store's solution passes the
+    audit with it.
+    """
     folder.new_store()
     expect("the instance of an empty store", folder.planner("instance", "day.store"), (2, "no NoInstance\n", ""))
     for kind, instance, lines in [
@@ -847,10 +856,10 @@ def check_instances(folder):
         folder.new_store()
         folder.run(load_line(kind, instance) + lines)
         status, text, errors = folder.planner("instance", "day.store")
-        expect(f"the instance behind {lines!r}", (status, errors), (0, ""))
+        expect(f"the instance after {lines!r}", (status, errors), (0, ""))
         solution = folder.write("sol", folder.run("print\n").removesuffix("ok\n"))
         told = folder.planner("audit", kind, folder.write("held", text), solution)
-        expect(f"the audit by it behind {lines!r}", (told[0], told[1][:7], told[2]), (0, "pass 0 ", ""))
+        expect(f"the audit with it after {lines!r}", (told[0], told[1][:7], told[2]), (0, "pass 0 ", ""))
         os.path.exists(folder.file("again.store")) and os.remove(folder.file("again.store"))
         expect("the instance loaded again", folder.planner("load", "again.store", kind, "held")[:2], (0, "ok\n"))
         expect("its instance", folder.planner("instance", "again.store"), (0, text, ""))
@@ -861,29 +870,29 @@ def check_instances(folder):
 
 
 def check_reopened(folder):
-    """What a run has loaded is there in the next one."""
+    """Checks that what a run has loaded is there in the next one."""
     folder.new_store()
     expect("a load", folder.run(load_line("lilim", ONE_PAIR)), "ok\n")
     expect("the next run", folder.run("show\n"), "requests 1 next 3\nsteps 0 place 0\nunplanned 1\ncost 1 0 0\nok\n")
 
 
 def check_strict(folder):
-    """A strict run ends behind a refusal, and does no later line."""
+    """Checks that a strict run ends after a refusal, and executes no later line."""
     folder.new_store()
     strict = ["run", "day.store", "strict"]
     lines = load_line("lilim", ONE_PLACE) + "build\nnext\nwithdraw 2\nwithdraw 1\n"
     told = "opened 0\nok\nok\nnext 3\nok\nno NoSuchRequest\n"
     expect("strict, a refusal", folder.planner(*strict, lines=lines), (1, told, "withdraw 2: stop 2 is the delivery of request 1\n"))
     told = "opened 0\nrequests 1 next 3\nsteps 0 place 0\nvehicle 1: 1 2\ncost 0 1 2\nok\nok\n"
-    expect("strict, behind it", folder.planner(*strict, lines="show\nwithdraw 1\n"), (0, told, ""))
+    expect("strict, after it", folder.planner(*strict, lines="show\nwithdraw 1\n"), (0, told, ""))
     folder.new_store()
     status, text, _ = folder.planner(*strict, lines="help\nnext\nhelp\n")
-    begin, end = "opened 0\nEach line asks for one thing:\n", "\nok\nno NoInstance\n"
+    begin, end = "opened 0\nEach line is one command:\n", "\nok\nno NoInstance\n"
     expect("strict, without an instance", (status, text[: len(begin)], text[-len(end) :]), (1, begin, end))
 
 
 def check_farthest(folder):
-    """As many steps as a line may make are begun."""
+    """Checks that the maximum number of steps of a command is begun."""
     folder.new_store()
     folder.run(load_line("vrp", THREE_CUSTOMERS) + "search 200\n")
     for words, wanted in [
@@ -899,7 +908,9 @@ def check_farthest(folder):
 
 
 def stages_by_hand(steps, costs):
-    """The lines of `anneal 0 STEPS` over the six customers, each step with the deviation of its stage: hundredths of a mean leg."""
+    """Returns the operations of `anneal 0 STEPS` for the six customers, each step with the deviation of its
+    stage, in hundredths of a mean leg.
+    """
     lines = []
     for step in range(steps):
         stage = max(k for k in range(20) if steps * k // 20 <= step)
@@ -908,7 +919,9 @@ def stages_by_hand(steps, costs):
 
 
 def check_stages(folder):
-    """Seven steps have a stage each. Cut behind any command and said again, the line leads to the same state."""
+    """Checks that the command, cut off after any operation and repeated, leads to the same state. Each of its
+    seven steps has a stage of its own.
+    """
     begin = load_line("vrp", SIX, seed=1) + "build\n"
     lines = stages_by_hand(7, STAGED_COSTS)
     told = [f"at {step} 0 0 {cost}\n" for step, cost in enumerate(STAGED_COSTS)]
@@ -917,10 +930,10 @@ def check_stages(folder):
         folder.new_store()
         folder.run(begin + "".join(lines[:count]))
         text, _, rest = folder.run("anneal 0 7\nshow\n").partition("ok\n")
-        # A step is made behind each deviation.
-        expect(f"stages behind {count} commands", text, "".join(told[count // 2 + 1 :]))
+        # After each deviation a step is made.
+        expect(f"stages after {count} commands", text, "".join(told[count // 2 + 1 :]))
         shown = shown or rest
-        expect(f"shown behind stages that were cut behind {count} commands", rest, shown)
+        expect(f"shown after stages that were interrupted after {count} commands", rest, shown)
 
 
 def check_solutions(folder):
@@ -935,11 +948,13 @@ def check_solutions(folder):
 
 
 def check_unwritten(folder):
-    """What was written of a solution stays only where that is all of it: here the system takes four bytes and no more."""
+    """Checks that no part of a solution stays if it can't be written whole: here the system takes four bytes
+    and no more.
+    """
     folder.write("pair", ONE_PAIR)
     words = [PROGRAM, "solves", "lilim", folder.write("cut.list", "pair\tcut.sol\n"), "0"]
     few = lambda: resource.setrlimit(resource.RLIMIT_FSIZE, (4, 4))
-    # The signal of a file that gets too long stays ignored, as Python has it, and the write fails.
+    # The signal of a file that gets too long stays ignored, as in Python, and the write fails.
     got = subprocess.run(words, cwd=folder.path, capture_output=True, text=True, preexec_fn=few, restore_signals=False)
     expect("a solution that is cut", (got.returncode, got.stdout), (3, "pair\tcut.sol\tcannot write cut.sol\n"))
     expect("what is left of it", os.path.exists(folder.file("cut.sol")), False)
@@ -947,8 +962,7 @@ def check_unwritten(folder):
 
 
 def main():
-    if not os.path.exists(PROGRAM):
-        sys.exit(f"program: {PROGRAM} is not built: run rt ci, or ./planner once")
+    require_program()
     with tempfile.TemporaryDirectory() as path:
         folder = Folder(path)
         check_audits(folder)
@@ -968,7 +982,7 @@ def main():
         check_stages(folder)
         check_solutions(folder)
         check_unwritten(folder)
-    print("program: audits, words, lines, sessions, stages and solutions are answered as they are by hand")
+    print("program: audits, arguments, commands, sessions, stages and solutions are answered as worked out by hand")
 
 
 main()

@@ -1,14 +1,15 @@
 #!/bin/sh
-# Published results of Li-Lim instances, by the commands of README as they stand there: an instance that is enlarged a thousand times, and
-# a solution that is made of a text with a heading and lines `Route 1 : 5 3 7`. A plan that is late by two thousandths breaks rule 7 there, and
-# by whole numbers it passes; one that is early by as much passes.
+# Published results of Li-Lim instances, with the commands exactly as written in the documents: an instance that is
+# enlarged a thousand times, and a solution made from a text with a heading and lines `Route 1 : 5 3 7`. A plan
+# that is late by two thousandths breaks rule 7 there, and passes with whole numbers. One that is early by as
+# much passes.
 set -u
 
 top=$(CDPATH='' cd -- "$(dirname -- "$0")/.." && pwd -P) || exit 1
 program=$top/crates/planner/out/planner
 if [ ! -x "$program" ]; then
-    echo "skipped: published, since $program is not built (rt ci builds it)"
-    exit 0
+    echo "published: $program is not built: run rt ci, or ./planner once" >&2
+    exit 1
 fi
 folder=$(mktemp -d) || exit 1
 trap 'rm -rf -- "$folder"' EXIT
@@ -17,9 +18,9 @@ trap 'exit 143' TERM
 failures=0
 cd -- "$folder" || exit 1
 ln -s -- "$program" planner
-sed -n '/^### Published results$/,/^## /p' "$top/README.md" | sed -n '/^```sh$/,/^```$/p' | sed '1d;$d' >commands
+python3 -B "$top/tests/planner.py" "awk '{ sub(/\\r\$/, \"\") } NR == 1" >commands || exit 1
 
-# expect ANSWER WHAT: the commands answer so of lc101.txt and lc101.published.
+# expect ANSWER WHAT: checks the answer of the commands for lc101.txt and lc101.published.
 expect() {
     got=$(sh ./commands 2>&1 | cut -f 3-)
     [ "$got" = "$1" ] || {
@@ -28,7 +29,7 @@ expect() {
     }
 }
 
-# publish ROUTES..: a solution as it is published.
+# publish ROUTES..: writes a solution in the published form.
 publish() {
     {
         printf 'Instance name : lc101\nAuthors       : nobody\nDate          : 2001\nReference     : none\nSolution\n'
@@ -54,7 +55,7 @@ got=$(./planner audit lilim lc101.txt whole.sol)
     failures=$((failures + 1))
 }
 
-# One whose pickup is 200.998 away, and may be served until 201.
+# A pair whose pickup is 200.998 away, and may be served until 201.
 printf '1 10 1\n0 0 0 0 0 1000 0 0 0\n1 200 20 5 0 201 0 0 2\n2 200 21 -5 0 1000 0 1 0\n' >lc101.txt
 got=$(sh ./commands 2>&1 | cut -f 3-)
 case $got in

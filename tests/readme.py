@@ -1,173 +1,224 @@
 #!/usr/bin/env python3
-"""README's commands that no other test runs, as they stand there, with fewer steps. What README shows behind them is what they print.
+"""Runs the commands of README as they are shown, each block in a folder of its own. Their output must be what
+README shows after them, with `..` for lines that it leaves out. A trial compiles for minutes, so these blocks
+run beside the rest of this test. The search that is killed must end with the plan of an uninterrupted one.
+README's sheet of a van must be the beginning of the first sheet of the example of a day.
 
-The day from a spreadsheet, published results, many seeds, what has begun, a plan from elsewhere and copies of a store have tests of their own
-(`day.py`, `published.sh`, `many.sh`, `store.py`, `adopt.py`). The seeds on two machines are run by none.
+Then runs the blocks of the guides that no other test runs, as they are shown or with fewer steps. Each block of
+commands in any document must be run here or by the test that is named in ELSEWHERE. No test runs the seeds on
+two machines.
 
-Wants the program that rt ci leaves.
+Needs the program that rt ci leaves.
 """
 import os
 import re
 import shutil
+import signal
 import subprocess
 import sys
 import tempfile
 
-TOP = os.path.dirname(os.path.dirname(os.path.abspath(__file__)))
-PROGRAM = os.path.join(TOP, "crates", "planner", "out", "planner")
-EXAMPLES = os.path.join(TOP, "examples")
-README = open(os.path.join(TOP, "README.md"), encoding="utf-8").read()
-# A block of commands, and the block behind it where one shows what they print.
-# How the blocks begin that are run here, and those of other tests; the last one is run by none.
-RUN = (
-    "./planner ",
-    "split -n l/4",
-    "awk -F",
-    "for it in pdp_100",
-    "order() {",
-    "echo print",
-    "examples/day/day.sh instance ",
-    "awk '{ sub(",
-    "seq 16 | parallel '",
-    "now=600",
-    "cp day.store day.copy",
-    "seq 16 | parallel --sshlogin",
-)
+# Python leaves no files beside the scripts.
+sys.dont_write_bytecode = True
+from planner import EXAMPLES, PROGRAM, TOP, expect, fail, require_program, skip, write  # noqa: E402
+
+README = TOP / "README.md"
+GUIDES = sorted((TOP / "docs").glob("*.md"))
+# A block of commands, and the block after it if that shows the output.
 BLOCK = re.compile(r"^```sh\n(.*?)^```\n(?:\n```\n(.*?)^```\n)?", re.MULTILINE | re.DOTALL)
+# The beginnings of the guides' blocks that are run as they are shown.
+AS_SHOWN = ("./planner audit lilim", "./planner explain lilim", "./planner load day.store", "./planner load sound.store")
+# The beginnings of the guides' blocks that other tests run, with these tests. No test runs the first one.
+ELSEWHERE = {
+    "seq 16 | parallel --sshlogin": "two machines",
+    "seq 16 | parallel 'planner solve": "many.sh",
+    "awk '{ sub(": "published.sh",
+    "now=600": "store.py",
+    "cp day.store day.copy": "store.py",
+    "./planner instance day.store": "adopt.py",
+    "echo print | ./planner run day.store": "adopt.py",
+}
+# The guide whose blocks tests/day.py runs.
+OF_THE_DAY = TOP / "docs" / "DISPATCHING.md"
 
 
-def fail(text):
-    print("readme: " + text)
-    sys.exit(1)
+def blocks_of(path):
+    """Returns the blocks of commands of a document, each with the lines that are shown after it, if there are
+    any.
+    """
+    return [(commands, shown.splitlines()) for commands, shown in BLOCK.findall(path.read_text(encoding="utf-8"))]
 
 
-def want(what, got, wanted):
-    if got != wanted:
-        fail(f"{what}: {got!r} instead of {wanted!r}")
+def check_blocks():
+    """Checks that each block of the guides is run by a test."""
+    run_here = [commands for commands, _ in used_blocks]
+    for path in GUIDES:
+        for commands, _ in blocks_of(path):
+            if path != OF_THE_DAY and commands not in run_here and not commands.startswith(tuple(ELSEWHERE)):
+                fail(f"no test runs the commands {commands!r} of {path.name}")
 
 
-def run(folder, commands):
-    """What these commands print in the folder."""
+# The blocks of the guides that were looked up.
+used_blocks = []
+
+
+def block(first, steps="2000"):
+    """Returns the commands of the guides' block that begins like this, with fewer steps, and the lines that are
+    shown after it.
+    """
+    found = [it for path in GUIDES if path != OF_THE_DAY for it in blocks_of(path) if it[0].startswith(first)]
+    expect(f"blocks that begin with {first!r}", len(found), 1)
+    used_blocks.append(found[0])
+    commands, shown = found[0]
+    return re.sub(r"\b10+0000\b", steps or r"\g<0>", commands), shown
+
+
+def run(folder, commands, statuses=(0,)):
+    """Returns the output of these commands in the folder."""
     got = subprocess.run(["sh", "-c", commands], cwd=folder, capture_output=True, text=True)
-    if got.returncode != 0:
+    if got.returncode not in statuses:
         fail(f"{commands!r} ends with {got.returncode}: {got.stderr!r}")
     return got.stdout
 
 
-def check_blocks():
-    """Each block of commands begins as one that a test runs."""
-    want("the blocks of commands", [commands.split("\n")[0] for commands, _ in BLOCK.findall(README) if not commands.startswith(RUN)], [])
-
-
-def block(first, steps="2000"):
-    """The commands of the block that begins so, with fewer steps, and the lines that README shows behind it."""
-    found = [(commands, shown) for commands, shown in BLOCK.findall(README) if commands.startswith(first)]
-    want(f"blocks that begin with {first!r}", len(found), 1)
-    commands, shown = found[0]
-    return re.sub(r"\b10+0000\b", steps or r"\g<0>", commands), shown.splitlines()
-
-
 def holds(what, printed, shown):
-    """What README shows was printed in this order; `..` stands for lines that it leaves out, which may be none."""
-    lines = iter(printed.splitlines())
-    for line in shown:
-        if line != ".." and line not in lines:
-            fail(f"{what}: README shows {line!r}, and printed is {printed[:400]!r}")
+    """Checks that the lines that a document shows were printed in this order, and no others between them except
+    at `..`, which stands for any number of lines.
+    """
+    pattern = "".join("(?:.*\n)*?" if line == ".." else re.escape(line) + "\n" for line in shown)
+    if not re.fullmatch(pattern, printed):
+        fail(f"{what}: the document shows {shown}, and printed is {printed[:400]!r}")
 
 
 def new_folder(above, name):
+    """Makes a folder like the top of the repository, as far as commands need it."""
     folder = os.path.join(above, name)
     os.mkdir(folder)
     os.symlink(PROGRAM, os.path.join(folder, "planner"))
+    os.symlink(TOP / "trial", os.path.join(folder, "trial"))
     os.symlink(EXAMPLES, os.path.join(folder, "examples"))
     return folder
 
 
+def begin_readme(above):
+    """Starts README's blocks, and returns each with its process and its folder."""
+    begun = []
+    for number, (commands, shown) in enumerate(blocks_of(README)):
+        if "./trial " in commands and not shutil.which("rt"):
+            skip("trials", "rt is not on PATH")
+            continue
+        folder = new_folder(above, f"block{number}")
+        # A session of its own, so that it can be ended with all its children.
+        process = subprocess.Popen(
+            ["sh", "-c", commands], cwd=folder, start_new_session=True, stdin=subprocess.DEVNULL, stdout=subprocess.PIPE, stderr=subprocess.PIPE, text=True
+        )
+        begun.append((commands, shown, process, folder))
+    return begun
+
+
+def end_readme(begun):
+    """Waits for README's blocks, and checks what they print."""
+    for commands, shown, process, folder in begun:
+        printed, errors = process.communicate()
+        # `explain` ends with status 1 if the plan breaks a rule.
+        if process.returncode not in (0, 1):
+            fail(f"{commands!r} ends with {process.returncode}: {errors!r}")
+        holds(commands, printed, shown)
+        expect(f"{commands!r}: whether it is marked as not proved", "not yet proved" in errors, "./trial " in commands)
+        if "night.store" in commands:
+            stored = run(folder, "echo print | ./planner run night.store | sed '1d;$d'")
+            expect("the plan of a search that was killed", stored, run(folder, "./planner solve vrp examples/E-n51-k5.vrp 1000000 1"))
+    print(f"readme: README's {len(begun)} blocks of commands print what it shows")
+
+
+def stop_readme(begun):
+    """Ends the blocks that still run."""
+    for _, _, process, _ in begun:
+        if process.poll() is None:
+            os.killpg(process.pid, signal.SIGTERM)
+            process.wait()
+
+
+def check_sheet(folder):
+    """Checks the sheet of a van that README shows."""
+    shown = re.findall(r"^```\n(Van 1: .*?)^```$", README.read_text(encoding="utf-8"), re.MULTILINE | re.DOTALL)
+    expect("README's sheets", len(shown), 1)
+    sheets = run(
+        folder,
+        "day=examples/day; $day/day.sh instance $day/settings.csv $day/orders.csv > day.txt && ./planner solve lilim day.txt 100000 > day.sol &&"
+        " ./planner timetable lilim day.txt day.sol tabs > day.tabs && $day/day.sh sheets $day/settings.csv $day/orders.csv day.tabs",
+    )
+    holds("the sheet of a van", sheets.split("\f")[0], shown[0].splitlines())
+    print("readme: README's sheet is that of its day")
+
+
 def copies(folder, names, ends):
-    """A folder of instances, each that of lc101."""
+    """Makes a folder of instances, each a copy of lc101."""
     os.mkdir(os.path.join(folder, "pdp_100"))
     for name in names:
         for end in ends:
-            shutil.copy(os.path.join(EXAMPLES, "lc101" + end), os.path.join(folder, "pdp_100", name + end))
+            shutil.copy(EXAMPLES / f"lc101{end}", os.path.join(folder, "pdp_100", name + end))
 
 
-def check_audits(folder):
-    want("audit", run(folder, block("./planner audit lilim")[0]), "pass 0 10 829\n")
-    commands, shown = block("./planner explain lilim")
-    holds("explain", run(folder, commands), shown)
+def check_as_shown(folder):
+    """Runs blocks as they are shown, and compares what they print."""
+    for number, first in enumerate(AS_SHOWN):
+        commands, shown = block(first, None)
+        # An audit and `explain` end with status 1 if a rule is broken.
+        holds(first, run(new_folder(folder, str(number)), commands, (0, 1)), shown)
+    print(f"readme: {len(AS_SHOWN)} blocks of the guides print what is shown")
+
+
+def check_killed(folder):
+    """Checks the loop that kills a search: what is recovered is what was acknowledged, or one operation more."""
+    *rounds, verdict = run(folder, block("./planner load kill.store", None)[0]).splitlines()[3:]
+    for line in rounds:
+        found = re.fullmatch(r"acknowledged (\d+), recovered (\d+)", line)
+        if not found or not 0 <= int(found[2]) - int(found[1]) <= 256:
+            fail(f"a search that was killed: {line}")
+    expect("rounds", len(rounds), 4)
+    expect("the plan of a search that was killed", verdict, "pass 0 10 829")
+    print(f"readme: a search that was killed {len(rounds)} times, {rounds[-1]}")
+
+
+def check_lists(folder):
     pairs = [("lc101", "lc101", "pass 0 10 829"), ("one-pair", "one-pair", "pass 0 1 20"), ("one-pair", "one-pair-reversed", "broken 5 route 1 place 1 stop 2")]
     pairs = [(f"examples/{instance}.txt", f"examples/{solution}.sol", answer) for instance, solution, answer in pairs * 3]
-    with open(os.path.join(folder, "pairs.txt"), "w") as file:
-        file.writelines(f"{instance}\t{solution}\n" for instance, solution, _ in pairs)
-    want("parts of a list", run(folder, block("split -n l/4")[0]).splitlines(), ["\t".join(pair) for pair in pairs])
-    print("readme: audits")
+    write(os.path.join(folder, "pairs.txt"), "".join(f"{instance}\t{solution}\n" for instance, solution, _ in pairs))
+    expect("parts of a list", run(folder, block("split -n l/4")[0]).splitlines(), ["\t".join(pair) for pair in pairs])
+    print("readme: lists of audits")
 
 
 def check_best_known(folder):
     copies(folder, ["lc101", "lc102", "lc103"], [".txt", ".sol"])
-    with open(os.path.join(folder, "best.txt"), "w") as file:
-        file.write("lc101\t10 829\nlc102\t10 800\nlc103\t11 829\nlc104\t10 829\n")
+    write(os.path.join(folder, "best.txt"), "lc101\t10 829\nlc102\t10 800\nlc103\t11 829\nlc104\t10 829\n")
     printed = run(folder, block("awk -F'\\t' '{ printf \"pdp_100")[0]).splitlines()
     # 29 of 800 are 3.625 percent.
-    want("the mean gap", printed[0], "2 1.815")
-    want("other lines", [line.split("\t")[2] for line in printed[1:]], ["pass 0 10 829 vehicles -1", "cannot read pdp_100/lc104.txt"])
-    with open(os.path.join(folder, "told.txt")) as file:
-        want("gaps", [line.split()[-1] for line in file if " gap " in line], ["0.00", "3.63"])
+    expect("the mean gap", printed[0], "2 1.815")
+    expect("other lines", [line.split("\t")[2] for line in printed[1:]], ["pass 0 10 829 vehicles -1", "cannot read pdp_100/lc104.txt"])
+    with open(os.path.join(folder, "told.txt"), encoding="utf-8") as file:
+        expect("gaps", [line.split()[-1] for line in file if " gap " in line], ["0.00", "3.63"])
     print("readme: best-known costs")
 
 
-def check_solve(folder):
-    run(folder, block("./planner solve lilim examples")[0])
-    want("a plan that solve printed", run(folder, "./planner audit lilim examples/lc101.txt lc101.sol")[:7], "pass 0 ")
-    with open(os.path.join(folder, "lc101.svg")) as file:
-        want("its picture", file.read(4), "<svg")
-    os.mkdir(os.path.join(folder, "many"))
-    many = new_folder(folder, "list")
-    copies(many, ["lc101", "lc102"], [".txt"])
-    told = run(many, block("for it in pdp_100")[0]).splitlines()
-    want("a folder of instances", [line.split()[:4] for line in told], [[f"pdp_100/{it}.txt", f"pdp_100/{it}.sol", "pass", "0"] for it in ("lc101", "lc102")])
-    print("readme: solve, solves")
-
-
-def check_day(folder):
-    commands, shown = block("./planner load day.store")
-    printed = run(folder, commands)
-    want("load", printed.splitlines()[0], "ok")
-    holds("a day", printed.split("\n", 1)[1], shown)
-    want("a new order", run(folder, block("order() {")[0] + 'echo "$number"'), "107\n")
-    commands, shown = block("./planner timetable day.store\n")
-    holds("timetable", run(folder, commands), shown)
-    run(folder, block("./planner draw day.store")[0])
-    with open(os.path.join(folder, "day.svg")) as file:
-        want("the picture of a store", file.read(4), "<svg")
-    rows = [line.split("\t") for line in run(folder, "./planner timetable day.store tabs").splitlines()]
-    tight = ["\t".join(row) for row in rows if row[0] == "stop" and row[13] != "-" and int(row[13]) - int(row[8]) < 20]
-    want("stops with little to spare", run(folder, block("./planner timetable day.store tabs")[0]).splitlines(), tight)
-    # The section before has the instance; what was added is planned first.
-    run(folder, "echo build | ./planner run day.store; ./planner instance day.store > now.txt")
-    want("the stored plan", run(folder, block("echo print")[0]), run(folder, "./planner timetable day.store | head -n 1"))
-    print(f"readme: a day, {len(tight)} stops with little to spare")
-
-
-def check_night(folder):
-    """With all its steps, since README shows what they find."""
-    commands, shown = block("./planner load night.store", None)
-    printed = run(folder, commands)
-    want("a night", printed.split("\n", 1)[0], "ok")
-    holds("a night", printed.split("\n", 1)[1], shown)
-    stored = run(folder, "echo print | ./planner run night.store | sed '1d;$d'")
-    want("its plan", stored, run(folder, "./planner solve vrp examples/E-n51-k5.vrp 1000000 1"))
-    print("readme: a night of annealing ends with the plan of solve")
+def check_solves(folder):
+    copies(folder, ["lc101", "lc102"], [".txt"])
+    answers = run(folder, block("for it in pdp_100")[0]).splitlines()
+    expect("a folder of instances", [line.split()[:4] for line in answers], [[f"pdp_100/{it}.txt", f"pdp_100/{it}.sol", "pass", "0"] for it in ("lc101", "lc102")])
+    print("readme: solves")
 
 
 def main():
-    if not os.access(PROGRAM, os.X_OK):
-        print(f"skipped: readme, since {PROGRAM} is not built (rt ci builds it)")
-        return
-    check_blocks()
+    require_program()
     with tempfile.TemporaryDirectory() as above:
-        for name, check in [("audits", check_audits), ("best", check_best_known), ("solve", check_solve), ("day", check_day), ("night", check_night)]:
-            check(new_folder(above, name))
+        begun = begin_readme(above)
+        try:
+            for check in [check_sheet, check_as_shown, check_killed, check_lists, check_best_known, check_solves]:
+                check(new_folder(above, check.__name__))
+            check_blocks()
+            end_readme(begun)
+        finally:
+            stop_readme(begun)
 
 
 main()

@@ -1,13 +1,14 @@
 #!/usr/bin/env python3
-"""What a session, an upgrade and a format answer where one allocation is refused.
+"""Tests a session, an upgrade and a format when one allocation fails.
 
-Runs five commands over a store, an upgrade of a store of version 1, and a format over a store with an instance, by the built program again
-and again, first with the first allocation of the whole program refused, then with the second one, and so on. Each run has to end as
-promised: a command that is refused memory answers `no OutOfMemory` and leaves all as it was, and is carried out when it is asked once more;
-a program that ends for want of memory has status 4 and leaves what was acknowledged, or one command more; an upgrade is done once more
-then, and so is a format, which has left the store as it was.
+Runs five commands over a store, an upgrade of a version 1 store, and a format over a store with an instance, by
+the built program again and again: first the first allocation of the whole program fails, then the second one,
+and so on. Each run must end as promised. A command that runs out of memory answers `no OutOfMemory` and changes
+nothing, and is executed when it is repeated. A program that ends because it is out of memory has status 4 and
+leaves what was acknowledged, or one command more. An upgrade is then repeated, and so is a format, which has
+left the store as it was.
 
-Wants a C compiler, for the few lines that refuse an allocation, and the program that rt ci leaves.
+Needs a C compiler, for the few lines that make an allocation fail, and the program that rt ci leaves.
 """
 
 import collections
@@ -18,11 +19,12 @@ import subprocess
 import sys
 import tempfile
 
+# Python leaves no files beside the scripts.
 sys.dont_write_bytecode = True
 from device_faults import INSTANCE  # noqa: E402
+from planner import PROGRAM, fail, require_program, run_program, skip  # noqa: E402
 from upgrade import old_store  # noqa: E402
 
-PROGRAM = pathlib.Path(__file__).resolve().parent.parent / "crates/planner/out/planner"
 COMMANDS = [
     b"load vrp 7 %d\n" % len(INSTANCE) + INSTANCE,
     b"build\n",
@@ -30,10 +32,11 @@ COMMANDS = [
     b"add1 1 5 5 0 1000 0\n",
     b"checkpoint\n",
 ]
-# How a run ends in which the refused allocation did no harm.
+# The result of a run in which the failed allocation did no harm.
 UNHARMED = "as with ample memory"
 
-# Stands before the C library's functions. Refuses the allocation whose number is in REFUSED, and says in the end how many there were.
+# A shim over the C library's functions. Fails the allocation whose number is in REFUSED, and prints at the end
+# how many there were.
 SHIM = r"""
 #define _GNU_SOURCE
 #include <dlfcn.h>
@@ -58,24 +61,20 @@ int posix_memalign(void **p, size_t n, size_t m) { REAL("posix_memalign", placed
 """
 
 
-def fail(text):
-    sys.exit("refused_allocations: " + text)
-
-
 def refusing(shim, number):
-    """The environment in which the allocation of this number is refused, 0 for none."""
+    """Returns the environment in which the allocation with this number fails, 0 for none."""
     return {**os.environ, "LD_PRELOAD": str(shim), "REFUSED": str(number)}
 
 
 class Session:
-    """A run over a store, a line at a time."""
+    """A run over a store, one command at a time."""
 
     def __init__(self, store, environment=None):
         self.process = subprocess.Popen([PROGRAM, "run", store], stdin=subprocess.PIPE, stdout=subprocess.PIPE, stderr=subprocess.PIPE, env=environment)
         self.opened = self.process.stdout.readline()
 
     def answer(self, line):
-        """What is answered to a line; what stands before the end of the output where the program ends."""
+        """Returns the answer to a command, or the rest of the output if the program ends."""
         try:
             self.process.stdin.write(line)
             self.process.stdin.flush()
@@ -89,13 +88,13 @@ class Session:
         return text
 
     def close(self):
-        """Its status, and the last line of its errors."""
+        """Ends the run, and returns its status and the last line of standard error."""
         errors = self.process.communicate()[1]
         return self.process.returncode, errors.splitlines()[-1]
 
 
 def shown(store):
-    """The state that opening gives with ample memory."""
+    """Returns the state after opening with ample memory."""
     session = Session(store)
     text = session.answer(b"show\n")
     session.process.communicate()
@@ -103,7 +102,7 @@ def shown(store):
 
 
 class Wanted:
-    """What the commands are answered with ample memory, and what is shown before them and after each."""
+    """The answers to the commands with ample memory, and what `show` prints before them and after each."""
 
     def __init__(self, store):
         session = Session(store)
@@ -116,7 +115,9 @@ class Wanted:
 
 
 def end_of_session(store, wanted, environment):
-    """How the commands ended with a refused allocation, and how many there were. The command that is refused is asked for once more."""
+    """Returns the result of the commands with a failed allocation, and how many allocations there were. A
+    refused command is repeated.
+    """
     session, done, end = Session(store, environment), 0, UNHARMED
     while done < len(COMMANDS):
         answer = session.answer(COMMANDS[done])
@@ -141,35 +142,35 @@ def end_of_session(store, wanted, environment):
 
 
 def end_of_upgrade(old, new, wanted, environment):
-    """The same of an upgrade."""
-    got = subprocess.run([PROGRAM, "upgrade", old, new], capture_output=True, env=environment)
+    """Returns the same for an upgrade."""
+    got = run_program("upgrade", old, new, env=environment)
     end = {0: UNHARMED, 4: "status 4"}.get(got.returncode)
     if end is None:
         fail(f"upgrade: {got}")
     if end != UNHARMED:
-        subprocess.run([PROGRAM, "upgrade", old, new], check=True, capture_output=True)
+        run_program("upgrade", old, new, check=True)
     if wanted is not None and shown(new) != wanted:
         fail(f"upgrade: {end}, and then {shown(new)!r}")
     return end, int(got.stderr.splitlines()[-1])
 
 
 def end_of_format(store, wanted, environment):
-    """The same of a format, by what is shown before and behind it."""
-    got = subprocess.run([PROGRAM, "format", store], capture_output=True, env=environment)
+    """Returns the same for a format, by what `show` prints before and after it."""
+    got = run_program("format", store, env=environment)
     end = {(0, b"ok\n"): UNHARMED, (4, b"store OutOfMemory\n"): "OutOfMemory", (4, b""): "status 4"}.get((got.returncode, got.stdout))
     if end is None:
         fail(f"format: {got}")
     if end != UNHARMED:
         if shown(store) != wanted[0]:
             fail(f"format: {end}, and then {shown(store)!r}")
-        subprocess.run([PROGRAM, "format", store], check=True, capture_output=True)
+        run_program("format", store, check=True)
     if shown(store) != wanted[1]:
         fail(f"format: done, and then {shown(store)!r}")
     return end, int(got.stderr.splitlines()[-1])
 
 
 def refuse_each(name, ended, met):
-    """Refuses each allocation in turn, none first. Some have to end in each of these ways."""
+    """Fails each allocation in turn, beginning with none. Each of these results must occur."""
     end, allocations = ended(0)
     if end != UNHARMED or allocations == 0:
         fail(f"{name}: {end}, {allocations} allocations")
@@ -181,7 +182,7 @@ def refuse_each(name, ended, met):
 
 def refuse_in_sessions(folder, shim):
     empty, store = folder / "empty.store", folder / "day.store"
-    subprocess.run([PROGRAM, "format", empty], check=True, capture_output=True)
+    run_program("format", empty, check=True)
     shutil.copyfile(empty, store)
     wanted = Wanted(store)
 
@@ -207,7 +208,7 @@ def refuse_in_upgrades(folder, shim):
 
 def refuse_in_formats(folder, shim):
     loaded, store = folder / "loaded.store", folder / "formatted.store"
-    subprocess.run([PROGRAM, "format", loaded], check=True, capture_output=True)
+    run_program("format", loaded, check=True)
     empty = shown(loaded)
     session = Session(loaded)
     session.answer(COMMANDS[0])
@@ -224,10 +225,9 @@ def refuse_in_formats(folder, shim):
 def main():
     compiler = shutil.which("cc")
     if not compiler:
-        print("skipped: refused_allocations, since cc is not there")
+        skip("", "cc is not there")
         return
-    if not PROGRAM.exists():
-        fail(f"{PROGRAM} is not built: run rt ci, or ./planner once")
+    require_program()
     with tempfile.TemporaryDirectory() as name:
         folder = pathlib.Path(name)
         source, shim = folder / "shim.c", folder / "shim.so"

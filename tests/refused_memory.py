@@ -1,9 +1,9 @@
 #!/usr/bin/env python3
-"""What `planner audit` answers where the system refuses it memory.
+"""Tests the answers of `planner audit` when the system refuses it memory.
 
-Lets the program have what it starts with and then more and more, step by step, and audits large texts of both formats:
-a solution that passes, an instance whose last line has a fault, and a solution whose last line has one. Each answer must
-be the one that ample memory gives, or `out of memory` with status 4.
+Gives the program the memory that it starts with and then more and more, step by step, and audits large texts of
+both formats: a solution that passes, an instance whose last line has a fault, and a solution whose last line
+has one. Each answer must be the one with ample memory, or `out of memory` with status 4.
 
     tests/refused_memory.py [STOPS]
 """
@@ -15,9 +15,12 @@ import subprocess
 import sys
 import tempfile
 
-sys.path.append(str(pathlib.Path(__file__).resolve().parent.parent / "bench"))
+# Python leaves no files beside the scripts.
 sys.dont_write_bytecode = True
-from audit_speed import PROGRAM, make_lilim, make_vrp  # noqa: E402
+from planner import PROGRAM, TOP, fail, require_program  # noqa: E402
+
+sys.path.append(str(TOP / "bench"))
+from audit_speed import make_lilim, make_vrp  # noqa: E402
 
 STEP = 64 * 1024
 MOST = 4 * 1024**3
@@ -25,19 +28,19 @@ OUT_OF_MEMORY = (4, "out of memory\n")
 
 
 def answer_within(limit, words):
-    """Status and answer of the program within so many bytes of address space."""
+    """Returns status and answer of the program within this many bytes of address space."""
     refuse = lambda: resource.setrlimit(resource.RLIMIT_AS, (limit, limit))
     done = subprocess.run(words, stdout=subprocess.PIPE, stderr=subprocess.DEVNULL, text=True, preexec_fn=refuse, check=False)
     return done.returncode, done.stdout
 
 
 def least_start():
-    """The least limit, by steps, within which the program does what it does without words."""
+    """Returns the smallest limit, by steps, within which the program works without arguments."""
     limit = STEP
     while answer_within(limit, [PROGRAM]) != (0, "pass 0 1 20\n"):
         limit += STEP
         if limit > MOST:
-            sys.exit(f"the program does not start within {MOST} bytes")
+            fail(f"the program does not start within {MOST} bytes")
     return limit
 
 
@@ -54,12 +57,12 @@ def audit_within_limits(kind, text, solution, wanted):
             limit += STEP
     refused = answers.pop(OUT_OF_MEMORY, 0)
     if set(answers) != {wanted} or not refused:
-        sys.exit(f"{kind}: {dict(answers)}, wanted {wanted}")
+        fail(f"{kind}: {dict(answers)}, wanted {wanted}")
     print(f"{kind}: {refused} times out of memory, then {wanted[1].strip()}")
 
 
 def audit_all(kind, text, solution, answer):
-    """A solution that passes, and each text with a fault in its last line."""
+    """Audits a solution that passes, and each text with a fault in its last line."""
     faulty, uncosted = text + "0\n", solution[:solution.rindex("Cost")]
     audit_within_limits(kind, text, solution, (0, answer))
     if kind == "lilim":
@@ -68,8 +71,7 @@ def audit_all(kind, text, solution, answer):
 
 
 def main():
-    if not PROGRAM.exists():
-        sys.exit(f"refused_memory: {PROGRAM} is not built: run rt ci, or ./planner once")
+    require_program()
     stops = int(sys.argv[1]) if len(sys.argv) > 1 else 40000
     audit_all("lilim", *make_lilim(stops))
     audit_all("vrp", *make_vrp(stops))

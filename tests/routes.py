@@ -1,8 +1,9 @@
 #!/usr/bin/env python3
-"""Judges random routes by a checker that was written from docs/RULES.md alone, and compares the verdicts with those of `audits KIND LIST routes`.
+"""Audits random routes by a checker that was written only from docs/RULES.md, and compares the verdicts with
+those of `audits KIND LIST routes`.
 
-What is printed behind the routes is no cost line, one with any word, or one with further lines behind it. Of what passes, the text with the
-distance that is driven as its cost passes `audits`, too.
+After the routes there is no cost line, one with an arbitrary word, or one with more lines after it. A solution
+that passes must also pass `audits` with its distance as its cost.
 
     tests/routes.py [SEED [PLANS]]
 """
@@ -10,12 +11,13 @@ distance that is driven as its cost passes `audits`, too.
 import math
 import pathlib
 import random
-import subprocess
 import sys
 import tempfile
 
-TOP = pathlib.Path(__file__).resolve().parent.parent
-PROGRAM = TOP / "crates" / "planner" / "out" / "planner"
+# Python leaves no files beside the scripts.
+sys.dont_write_bytecode = True
+from planner import fail, outcome, require_program  # noqa: E402
+
 SEED, PLANS = 59, 500
 ENDS = ["", "Cost 1\n", "Cost 8.5\n", "cost: any\nRoute #9: 1\n", "\n\n"]
 LATEST = 10**8
@@ -27,7 +29,9 @@ class Stop:
 
 
 class Instance:
-    """`stops` by number, 0 the depot; `partner` of each stop of a pair; `requests` by name, the pickup first."""
+    """An instance: `stops` by number, 0 the depot; `partner` of each stop of a pair; `requests` by name, the
+    pickup first.
+    """
 
     def __init__(self, kind, capacity, depot):
         self.kind, self.capacity, self.fleet = kind, capacity, 0
@@ -59,7 +63,7 @@ def distance(one, other):
 
 
 def starts(instance, route):
-    """When service starts at each place, and at the return."""
+    """Returns the start of service at each place, and the time of the return."""
     times, last, time = [], instance.stops[0], instance.stops[0].earliest
     for number in [*route, 0]:
         it = instance.stops[number]
@@ -70,7 +74,7 @@ def starts(instance, route):
 
 
 def broken(instance, routes):
-    """Each place that breaks a rule, as (rule, route, place, stop), where no earlier rule is broken."""
+    """Returns each place that breaks a rule, as (rule, route, place, stop), if no earlier rule is broken."""
     places = [(r, p, stop) for r, route in enumerate(routes, 1) for p, stop in enumerate(route, 1)]
     seats = {}
     for r, p, stop in places:
@@ -134,7 +138,7 @@ def some_instance(draw, kind):
 
 
 def some_routes(draw, instance):
-    """Routes that serve all requests, and then a slip or two, or none."""
+    """Returns routes that serve all requests, with one or two slips, or none."""
     routes = [[]]
     for stops in draw.sample(list(instance.requests.values()), len(instance.requests)):
         route = draw.choice(routes)
@@ -163,29 +167,28 @@ def some_routes(draw, instance):
 
 
 def audited(folder, kind, pairs, *more):
-    """What `audits` tells of each pair of an instance's text and a solution's."""
+    """Returns the verdict of `audits` for each pair of an instance's and a solution's text."""
     lines = []
     for number, texts in enumerate(pairs):
         paths = [folder / f"{number}.{part}" for part in ("instance", "solution")]
         for path, text in zip(paths, texts):
             path.write_text(text)
         lines.append("\t".join(map(str, paths)) + "\n")
-    told = subprocess.run([PROGRAM, "audits", kind, "-", *more], input="".join(lines), capture_output=True, text=True).stdout
-    return [line.split("\t")[2] for line in told.splitlines()]
+    _, answers, _ = outcome("audits", kind, "-", *more, lines="".join(lines))
+    return [line.split("\t")[2] for line in answers.splitlines()]
 
 
 def compare(name, got, wanted):
     if len(got) != len(wanted):
-        sys.exit(f"routes: {name}: {len(got)} answers, wanted {len(wanted)}")
+        fail(f"{name}: {len(got)} answers, wanted {len(wanted)}")
     for number, (one, other) in enumerate(zip(got, wanted)):
         if one != other:
-            sys.exit(f"routes: {name}, plan {number}: {one}; wanted {other}")
+            fail(f"{name}, plan {number}: {one}; wanted {other}")
 
 
 def main():
     seed, plans = (int(word) for word in [*sys.argv[1:], *map(str, (SEED, PLANS)[len(sys.argv) - 1 :])])
-    if not PROGRAM.exists():
-        sys.exit(f"routes: {PROGRAM} is not built: run rt ci, or ./planner once")
+    require_program()
     draw = random.Random(seed)
     rules = set()
     for kind in ("lilim", "vrp"):
@@ -206,7 +209,7 @@ def main():
             compare(f"{kind} by seed {seed}", audited(folder, kind, texts, "routes"), wanted)
             true_costs = audited(folder, kind, [pair[:2] for pair in passing])
             compare(f"{kind} by seed {seed}, with its true cost", true_costs, [told for _, _, told in passing])
-    print(f"routes: {2 * plans} random plans are judged as by RULES; broken were the rules {' '.join(sorted(rules))}")
+    print(f"routes: {2 * plans} random plans are judged as RULES says; the broken rules were {' '.join(sorted(rules))}")
 
 
 if __name__ == "__main__":

@@ -1,42 +1,44 @@
 #!/usr/bin/env python3
-"""Runs the built program at sizes at which a body might give up. Each answer is wanted in full, and none may tell of want of memory.
+"""Runs the built program at sizes at which an implementation might give up. Each answer must be complete, and
+none may report out of memory.
 
-1. A store with 20,000 requests of one stop, loaded with the greatest seed: built, searched by one line of 70,000 steps, shown and
-   printed (each text is above 64 KB), and opened again, with the same texts.
-2. 5,000 lines in one run, each with a commit of its own; as many steps as those made at once lead to the same plan.
+1. A store with 20,000 requests of one stop, loaded with the greatest seed: built, searched by one command of
+   70,000 steps, shown and printed (each text is above 64 KB), and opened again, with the same texts.
+2. 5,000 commands in one run, each with a commit of its own. The same number of steps in one command leads to
+   the same plan.
 3. A line of 70,000 bytes is refused, and the next one answered.
 4. One route with 2,000 stops: searched, and the plan passes the audit; in a store its first stops are pinned.
-5. A fleet that is too small: several requests are left out, by a store and by `solve`, which names them; with some hundred left out
-   a store anneals. A vehicle for each stop: one annealing step takes stops out of many routes.
-6. Texts of a `load` whose lengths lie around each power of two, and the longest one. Searches and annealings of as many steps.
-7. A store with 40,000 requests of one stop and one with 20,000 pairs: loaded, written by `checkpoint`, shown, and opened again.
+5. A fleet that is too small: several requests are left out, by a store and by `solve`, which names them; with a
+   few hundred left out a store anneals. A vehicle for each stop: one annealing step takes stops out of many
+   routes.
+6. Texts of a `load` with lengths around each power of two, and the longest one. Searches and annealings with
+   the same numbers of steps.
+7. A store with 40,000 requests of one stop and one with 20,000 pairs: loaded, written by `checkpoint`, shown,
+   and opened again.
 
-Wants the program that rt ci leaves.
+Needs the program that rt ci leaves.
 """
 import os
-import subprocess
 import sys
 import tempfile
 
-TOP = os.path.dirname(os.path.dirname(os.path.abspath(__file__)))
-PROGRAM = os.path.join(TOP, "crates", "planner", "out", "planner")
+# Python leaves no files beside the scripts.
+sys.dont_write_bytecode = True
+from planner import fail, outcome, require_program  # noqa: E402
+
 GREATEST_SEED = 2**64 - 1
 
 
-def fail(text):
-    print("sizes: " + text)
-    sys.exit(1)
-
-
 def planner(*words, lines=b""):
-    got = subprocess.run([PROGRAM, *words], input=lines, capture_output=True)
-    if b"OutOfMemory" in got.stdout + got.stderr or got.returncode == 4:
-        fail(f"{' '.join(words)}: memory was refused")
-    return got.returncode, got.stdout.decode(), got.stderr.decode()
+    """Runs the program, and fails if it runs out of memory."""
+    status, output, errors = outcome(*words, lines=lines)
+    if "OutOfMemory" in output + errors or status == 4:
+        fail(f"{' '.join(words)}: out of memory")
+    return status, output, errors
 
 
 def run(store, lines):
-    """What is answered to these lines behind `opened ..`."""
+    """Returns the answers to these commands, after `opened ..`."""
     status, text, _ = planner("run", store, lines=lines)
     first, _, rest = text.partition("\n")
     if status != 0 or not first.startswith("opened "):
@@ -45,10 +47,13 @@ def run(store, lines):
 
 
 def vrp(stops, capacity, width):
-    """An instance with so many stops on a grid of so many columns, each with demand 1, around a depot."""
+    """Returns an instance with this many stops on a grid with `width` columns, each with demand 1, around a
+    depot.
+    """
     lines = ["TYPE : CVRP", f"DIMENSION : {stops + 1}", "EDGE_WEIGHT_TYPE : EUC_2D", f"CAPACITY : {capacity}", "NODE_COORD_SECTION"]
     lines.append("1 5000 5000")
-    # By a step that is prime to the number of stops, so that neighbours have numbers far apart.
+    # The numbering steps by a prime that does not divide the number of stops, so that neighbours have numbers
+    # far apart.
     places = [(7919 * it) % stops for it in range(stops)]
     lines += [f"{at + 2} {37 * (it % width)} {41 * (it // width)}" for at, it in enumerate(places)]
     lines += ["DEMAND_SECTION", "1 0"] + [f"{at + 2} 1" for at in range(stops)]
@@ -64,7 +69,7 @@ def write(folder, name, text):
 
 
 def plan_of(answers):
-    """The text that `print` gave last."""
+    """Returns the last text of `print`."""
     text = answers[answers.index("Route #1:"):]
     return text[: text.rindex("ok\n")]
 
@@ -136,7 +141,7 @@ def check_long_route(folder):
 
 
 def check_lengths(folder):
-    """Texts of many lengths, filled up with blanks: each is read whole."""
+    """Checks texts of many lengths, filled up with blanks: each is read whole."""
     store = os.path.join(folder, "length.store")
     planner("format", store)
     text = vrp(3, 7, 2)
@@ -148,7 +153,7 @@ def check_lengths(folder):
 
 
 def check_counts(folder):
-    """Lines of many numbers of steps: each ends with the last of its steps."""
+    """Checks commands with many numbers of steps: each ends with its last step."""
     store = os.path.join(folder, "count.store")
     planner("format", store)
     text = vrp(3, 7, 2)
@@ -162,7 +167,7 @@ def check_counts(folder):
 
 
 def check_largest(folder):
-    # Twenty thousand pairs on as many places.
+    # Twenty thousand pairs at as many places.
     pairs = ["20000 100 1", "0 0 0 0 0 1000000 0 0 0"]
     for pickup in range(1, 40_000, 2):
         pairs.append(f"{pickup} {pickup % 1000} {pickup // 1000} 1 0 1000000 0 0 {pickup + 1}")
@@ -179,7 +184,7 @@ def check_largest(folder):
 
 
 def due_at_once(fleet, pairs):
-    """Pairs whose pickups are all due at once, ten apart."""
+    """Returns an instance with pairs whose pickups are all due at the same time, ten apart."""
     lines = [f"{fleet} 10 1", "0 0 0 0 0 1000 0 0 0"]
     for pair in range(pairs):
         lines.append(f"{2 * pair + 1} {10 * pair} 50 10 100 110 5 0 {2 * pair + 2}")
@@ -195,7 +200,7 @@ def check_small_fleet(folder):
     told = next((line.split() for line in lines if line.startswith("unplanned ")), [])
     if status != 1 or told[:2] != ["unplanned", "4:"] or len(told) != 6 or "Cost" in solution or solution.count("Route") != 2:
         fail(f"a small fleet: status {status}, {told}, {solution!r}")
-    # A line each alone and of the fleet, and one for each vehicle, behind all.
+    # After everything else: a line for the request alone, one for each vehicle, and one for the fleet.
     for name in told[2:]:
         why = [line for line in lines if line.startswith(f"why {name}: ")]
         if len(why) != 4 or why[0] != f"why {name}: alone: a vehicle can serve it" or why[3] != f"why {name}: fleet: 2 of 2 vehicles are used":
@@ -212,7 +217,8 @@ def check_small_fleet(folder):
 
 
 def check_many_routes(folder):
-    """Routes of one stop: a step of annealing takes out up to nineteen strings, each of another route."""
+    """Checks routes of one stop: an annealing step takes out up to nineteen strings, each from another route.
+    """
     store = os.path.join(folder, "routes.store")
     planner("format", store)
     text = vrp(400, 1, 20)
@@ -223,6 +229,7 @@ def check_many_routes(folder):
 
 
 def main():
+    require_program()
     with tempfile.TemporaryDirectory() as folder:
         check_long_line(folder)
         check_lengths(folder)
@@ -233,7 +240,7 @@ def main():
         check_many_commits(folder)
         check_long_route(folder)
         check_many_requests(folder)
-    print("sizes: no answer is short at any size")
+    print("sizes: every answer is complete at every size")
 
 
 main()

@@ -1,20 +1,23 @@
 #!/usr/bin/env python3
-"""Makes plans by a program that was written from docs/SEARCH.md and docs/RULES.md alone, and compares them with what the built program shows.
+"""Makes plans with a program that was written only from docs/SEARCH.md and docs/RULES.md, and compares them
+with those of the built program.
 
-Of small random instances of both kinds, some with too few vehicles, through one store each: `build`, a pin, and then searches, annealings, `reduce`
-and `anneal FROM TO`. Behind each the routes of all vehicles, what is left out and the costs of both plans are compared.
+Small random instances of both kinds, some with too few vehicles, each run through one store: `build`, a pin,
+and then searches, annealings, `reduce` and `anneal FROM TO`. After each command the routes of all vehicles, the
+requests left out and the costs of both plans are compared.
 
     tests/steps.py [SEED [INSTANCES]]
 """
 
 import pathlib
 import random
-import subprocess
 import sys
 import tempfile
 
+# Python leaves no files beside the scripts.
 sys.dont_write_bytecode = True
-from routes import LATEST, PROGRAM, Instance, Stop, distance  # noqa: E402
+from planner import fail, require_program, run_program  # noqa: E402
+from routes import LATEST, Instance, Stop, distance  # noqa: E402
 
 SEED, INSTANCES = 61, 3
 WORD = 2**32
@@ -26,7 +29,7 @@ SHARES = [150, 122, 99, 81, 66, 54, 44, 35, 29, 24, 19, 16, 13, 10, 8, 7, 6, 5, 
 
 
 def block(seed, step):
-    """The sixteen words of a step: RFC 8439, with rounds on columns and diagonals in turn."""
+    """Returns the sixteen words of a step: RFC 8439, with rounds on columns and diagonals in turn."""
     key = seed.to_bytes(32, "little")
     begin = [int.from_bytes(part, "little") for part in (b"expa", b"nd 3", b"2-by", b"te k")]
     begin += [int.from_bytes(key[at : at + 4], "little") for at in range(0, 32, 4)] + [step % WORD, step // WORD, 0, 0]
@@ -51,7 +54,7 @@ def pick(word, count):
 
 
 def draw_from(word, count):
-    """What is picked, and the rest."""
+    """Returns the drawn number, and the rest of the word."""
     return divmod(word * count, WORD)
 
 
@@ -59,7 +62,7 @@ def draw_from(word, count):
 
 
 class Job:
-    """An instance with some of its vehicles and their pins; `ways` between stops are kept."""
+    """An instance with some of its vehicles and their pins; `ways` caches the distances between stops."""
 
     def __init__(self, instance, pins, ways=None):
         self.instance, self.pins, self.ways = instance, pins, {} if ways is None else ways
@@ -75,7 +78,7 @@ class Job:
         return sum(self.way(one, other) for one, other in zip([0, *route], [*route, 0])) if route else 0
 
     def is_feasible(self, route):
-        """As the only route, by rules 3 to 8."""
+        """Returns whether the route is feasible as the only one, by rules 3 to 8."""
         places = {stop: place for place, stop in enumerate(route)}
         load, time, last = 0, self.instance.stops[0].earliest, 0
         for stop in [*route, 0] if route else []:
@@ -112,7 +115,9 @@ class Job:
         return left if self.passes(left) else None
 
     def insertions(self, plan, name):
-        """Each route that the request can be put in, with (opened, added, v, i, j), by which the best is the least."""
+        """Returns each route with the request inserted, with (opened, added, v, i, j). The smallest of these is
+        the best.
+        """
         stops = self.instance.requests[name]
         for vehicle, (route, pin) in enumerate(zip(plan, self.pins), 1):
             length = self.length(route)
@@ -185,7 +190,7 @@ def search_candidate(job, plan, words):
 
 
 def string_of(route, stop, longest, word):
-    """What is torn out of a route around one of its stops."""
+    """Returns the string of stops that is removed from a route around one of its stops."""
     count = min(len(route), longest)
     number, rest = draw_from(word, count)
     taken, keeps = number + 1, 0
@@ -201,7 +206,7 @@ def string_of(route, stop, longest, word):
 
 
 def torn_out(job, plan, words):
-    """The names of the requests that strings take out."""
+    """Returns the names of the requests that strings take out."""
     names = job.movable(plan)
     if not names:
         return []
@@ -234,7 +239,7 @@ def anneal_candidate(job, plan, words):
     return left and job.all_placed(left, in_order(job, job.left_out(left), words[2]))
 
 
-# What a candidate replaces
+# The plan that a candidate replaces
 
 
 def is_near(deviation, cost, other):
@@ -242,7 +247,7 @@ def is_near(deviation, cost, other):
 
 
 def walked(job, plans, deviation, seed, steps, anneals):
-    """Both plans behind steps of a search, or of annealing."""
+    """Returns both plans after steps of a search, or of annealing."""
     best, work = plans
     for step in steps:
         new = (anneal_candidate if anneals else search_candidate)(job, work, block(seed, step))
@@ -253,7 +258,7 @@ def walked(job, plans, deviation, seed, steps, anneals):
     return best, work
 
 
-# Tries of fewer vehicles
+# The search for fewer vehicles
 
 
 def share(job, plan, hundredths):
@@ -261,7 +266,7 @@ def share(job, plan, hundredths):
 
 
 def tried(job, plan, deviation, seed, steps):
-    """The best plan of a try, and the step behind its last."""
+    """Returns the best plan of an attempt, and the step after its last."""
     best = work = plan
     absences = dict.fromkeys(job.instance.requests, 0)
     weight = lambda out: sum(absences[name] for name in out)
@@ -282,7 +287,7 @@ def tried(job, plan, deviation, seed, steps):
 
 
 def crew(job, plan, fewer):
-    """The vehicles of the next try, if there is one."""
+    """Returns the vehicles of the next attempt, if there is one."""
     if job.left_out(plan):
         return list(range(job.fleet))
     used = [at for at, route in enumerate(plan) if route]
@@ -314,7 +319,7 @@ def reduced(job, plan, deviation, seed, steps):
 
 
 def staged(job, plans, deviation, seed, steps):
-    """The line `anneal FROM TO`: both plans, and the deviation at its end."""
+    """Runs the command `anneal FROM TO`, and returns both plans and the deviation at its end."""
     first = steps.start
     if job.timed:
         middle = first + len(steps) // 2
@@ -333,11 +338,11 @@ def staged(job, plans, deviation, seed, steps):
     return plans, deviation
 
 
-# Beside the built program
+# The comparison with the built program
 
 
 def some_instance(draw, kind):
-    """Requests for some 3 to 5 vehicles, and at times for more than there are."""
+    """Returns an instance with requests for about 3 to 5 vehicles, and sometimes for more than there are."""
     capacity, day = 40, 700 if kind == "lilim" else LATEST
     point = lambda: (draw.randint(0, 100), draw.randint(0, 100))
     instance = Instance(kind, capacity, Stop((50, 50), latest=day))
@@ -359,7 +364,7 @@ def some_instance(draw, kind):
 
 
 def shown(job, plans, deviation, steps):
-    """The lines of `show` that tell of plans."""
+    """Returns the lines of `show` about plans."""
     lines = [f"steps {steps} place {16 * steps}"]
     lines += [f"pin {at}: {' '.join(map(str, pin))}" for at, pin in enumerate(job.pins, 1) if pin]
     lines += [f"vehicle {at}: {' '.join(map(str, route))}" for at, route in enumerate(plans[0], 1) if route]
@@ -370,21 +375,21 @@ def shown(job, plans, deviation, steps):
 
 
 def told(folder, lines):
-    """What `run` answers to lines over a new store."""
+    """Returns the answers of `run` to these commands on a new store."""
     store = folder / "store"
     store.unlink(missing_ok=True)
-    subprocess.run([PROGRAM, "format", store], check=True, capture_output=True)
-    return subprocess.run([PROGRAM, "run", store], input="".join(lines), capture_output=True, text=True, check=True).stdout.splitlines()
+    run_program("format", store, check=True)
+    return run_program("run", store, lines="".join(lines), check=True).stdout.decode().splitlines()
 
 
 def some_pin(draw, job, plan):
-    """A vehicle, and how many of its first stops are feasible alone."""
+    """Returns a vehicle, and how many of its first stops are feasible alone."""
     vehicle = draw.choice([at for at, route in enumerate(plan) if route])
     return vehicle, draw.choice([k for k in range(len(plan[vehicle]) + 1) if job.is_feasible(plan[vehicle][:k])])
 
 
 def compare(draw, folder, kind):
-    """Makes steps of an instance, and fails where the built program shows others."""
+    """Makes steps on an instance, and fails if the built program shows other plans."""
     instance, seed = some_instance(draw, kind), draw.randrange(2**64)
     job = Job(instance, [[] for _ in range(instance.fleet)])
     text = instance.text()
@@ -416,18 +421,17 @@ def compare(draw, folder, kind):
         at = next((at for at, (one, other) in enumerate(zip(got, wanted)) if one != other), min(len(got), len(wanted)))
         with tempfile.NamedTemporaryFile("w", prefix="steps-", delete=False) as file:
             file.writelines(lines)
-        sys.exit(f"steps: {kind}, seed {seed}: {got[at : at + 1]}, wanted {wanted[at : at + 1]}; the lines stand in {file.name}")
+        fail(f"{kind}, seed {seed}: {got[at : at + 1]}, wanted {wanted[at : at + 1]}; the commands are in {file.name}")
     return steps
 
 
 def main():
     seed, instances = (int(word) for word in [*sys.argv[1:], *map(str, (SEED, INSTANCES)[len(sys.argv) - 1 :])])
-    if not PROGRAM.exists():
-        sys.exit(f"steps: {PROGRAM} is not built: run rt ci, or ./planner once")
+    require_program()
     draw = random.Random(seed)
     with tempfile.TemporaryDirectory() as room:
         steps = [compare(draw, pathlib.Path(room), kind) for _ in range(instances) for kind in ("lilim", "vrp")]
-    print(f"steps: {len(steps)} instances, {sum(steps)} steps, all plans as docs/SEARCH.md has them")
+    print(f"steps: {len(steps)} instances, {sum(steps)} steps, and all plans are those of docs/SEARCH.md")
 
 
 if __name__ == "__main__":

@@ -1,24 +1,32 @@
 #!/usr/bin/env python3
 """Runs the built program over a real file, as a dispatcher would.
 
-1. format, run, load, build, search, show; then run again: the same show.
-2. load: it makes the store, byte for byte as format and the line `load` do; a store that holds an instance stays as it is, and a
-   text that is refused leaves no file. strict: nothing is done behind a refusal, and the status tells it.
-3. kill -9 at random moments of a long search, each fifth time SIGINT or SIGTERM: what was acknowledged is there after the next
-   run, the plan that is printed passes the audit, and the search that is continued to n steps has the plan of n steps at once.
-4. With strace: no `ok` or `at` line is written before the sync that it stands on has returned, of `run`, format, load and adopt.
-5. Two programs at once on one store: the second is refused and changes nothing; after kill -9 the store opens again.
-6. A full disk, on a small tmpfs: it is told when the store is made; one that is full later is told behind `fault device`.
-7. With strace: `anneal 0 1000`, of either kind, is killed at each of its syncs in turn. What was told is there, and the same line again
-   leads to the state of the line that nothing cut.
-8. Search steps that are repeated: how many stands on standard error before, by `run` and `load`, and nothing where none are.
-   Standard streams that are closed: the store is not taken for one of them.
-9. Tries with fewer vehicles are told on standard error. README's commands for what has begun, as they stand there.
-10. A copy of a store that is open behind a `checkpoint` is whole. One whose end is gone is refused, left alone, and opens where that is made up by zeros.
-    What a file that holds no store may be stands on standard error.
-11. check: a store that was stopped is `ok`, also as a new one; one whose headers or records are damaged is `suspect`, by the reason.
+1. format, run, load, build, search, show; then run again: the same output of show.
+2. load: makes the store, byte for byte as format and the command `load` do. A store that has an instance stays
+   as it is, and a text that is refused leaves no file. strict: nothing is executed after a refusal, and the
+   status reports it.
+3. kill -9 at random moments of a long search, each fifth time SIGINT or SIGTERM: what was acknowledged is there
+   in the next run, the printed plan passes the audit, and the search that is continued to n steps has the plan
+   of n uninterrupted steps.
+4. With strace: no `ok` or `at` line of `run`, format, load and adopt is written before the sync that it depends
+   on has returned.
+5. Two programs on one store at the same time: the second one is refused and changes nothing. After kill -9 the
+   store opens again.
+6. A full disk, on a small tmpfs: reported when the store is made. A disk that fills up later is reported after
+   `fault device`.
+7. With strace: `anneal 0 1000`, for either kind, is killed at each of its syncs in turn. What was printed is
+   there, and repeating the command leads to the state of the uninterrupted one.
+8. Search steps that are repeated: `run` and `load` first print their number on standard error, and nothing if
+   there are none. Standard streams that are closed: the store is not taken for one of them.
+9. Attempts to use fewer vehicles are reported on standard error. The documents' commands for `freeze`, exactly
+   as written there.
+10. A copy of a store that is open, made after a `checkpoint`, is complete. A store whose end is missing is
+    refused, left alone, and opens when zeros replace the end. For a file that has no store, standard error says
+    what it may be.
+11. check: after a crash a store is `ok`, also a new one. A store with damaged headers or records is `suspect`,
+    with the reason.
 
-Words: how often the program is stopped (200 where there are none). Wants the program that rt ci leaves.
+Argument: how often the program is killed (200 by default). Needs the program that rt ci leaves.
 """
 import itertools
 import math
@@ -32,23 +40,20 @@ import sys
 import tempfile
 import time
 
-TOP = os.path.dirname(os.path.dirname(os.path.abspath(__file__)))
-PROGRAM = os.path.join(TOP, "crates", "planner", "out", "planner")
-INSTANCE = os.path.join(TOP, "examples", "lc101.txt")
-SMALL_INSTANCE = os.path.join(TOP, "examples", "P-n16-k8.vrp")
-STORE_BYTES = 4_326_400
+# Python leaves no files beside the scripts.
+sys.dont_write_bytecode = True
+from planner import EXAMPLES, PROGRAM, STORE_BYTES, can_trace, commands_shown, fail, read, require_program, run, run_program, skip  # noqa: E402
+
+INSTANCE = str(EXAMPLES / "lc101.txt")
+SMALL_INSTANCE = str(EXAMPLES / "P-n16-k8.vrp")
 STEPS = 20_000
-# Twenty stages of fifty steps; of a Li-Lim instance annealing and tries of fewer vehicles, one command each, and twenty of 25.
+# Twenty stages of fifty steps. For a Li-Lim instance: annealing and a search for fewer vehicles, one operation
+# each, and twenty stages of 25 steps.
 STAGES = b"anneal 0 1000\n"
 STAGED = [("vrp", SMALL_INSTANCE, 20), ("lilim", INSTANCE, 22)]
 
 
-def fail(text):
-    print("store: " + text)
-    sys.exit(1)
-
-
-# What `run` tells on standard error behind the system's words, where the device failed.
+# The message of `run` on standard error after the system's, if the device failed.
 CURE = b"planner: the store failed: go on with a copy on a sound disk, or begin the next run with `checkpoint`\n"
 
 
@@ -59,29 +64,19 @@ def load_lines(seed=7):
 
 
 def format_store(store):
-    got = subprocess.run([PROGRAM, "format", store], capture_output=True)
+    got = run_program("format", store)
     if (got.returncode, got.stdout) != (0, b"ok\n"):
         fail(f"format: status {got.returncode}, {got.stdout!r}")
     if os.path.getsize(store) != STORE_BYTES:
         fail(f"format: the file has {os.path.getsize(store)} bytes")
 
 
-def run(store, lines):
-    """What the program prints for these lines, as text, without `opened`."""
-    got = subprocess.run([PROGRAM, "run", store], input=lines, capture_output=True)
-    text = got.stdout.decode()
-    first, _, rest = text.partition("\n")
-    if got.returncode != 0 or not re.fullmatch(r"opened \d+", first):
-        fail(f"run: status {got.returncode}, {first!r}")
-    return rest
-
-
 def audit(text, folder):
-    """The audit's line for a solution that was printed."""
+    """Returns the audit's line for a printed solution."""
     path = os.path.join(folder, "printed.sol")
     with open(path, "w") as file:
         file.write(text)
-    got = subprocess.run([PROGRAM, "audit", "lilim", INSTANCE, path], capture_output=True)
+    got = run_program("audit", "lilim", INSTANCE, path)
     return got.returncode, got.stdout.decode().strip()
 
 
@@ -98,7 +93,7 @@ def check_session(folder):
     again = run(store, b"show\n")
     if shown != again or not again.startswith("requests 53 next 107\nsteps 1000 place 16000\n"):
         fail(f"session: show after the next run differs: {again[:80]!r}")
-    print("store: a session goes on where it was")
+    print("store: a session continues where it ended")
 
 
 def check_repeating(folder):
@@ -107,22 +102,22 @@ def check_repeating(folder):
     run(store, b"build\nsearch 300\nsearch 5\n")
     once = b"planner: repeating 305 search steps\n"
     for words in [["run", store], ["run", store, "strict"]]:
-        # Both streams in one pipe, by which the line comes first.
+        # Both streams in one pipe, to see which line comes first.
         got = subprocess.run([PROGRAM, *words], input=b"next\n", stdout=subprocess.PIPE, stderr=subprocess.STDOUT)
         if (got.returncode, got.stdout) != (0, once + b"opened 305\nnext 107\nok\n"):
             fail(f"repeating: {words[2:]}: status {got.returncode}, {got.stdout!r}")
     load(store, 2, b"store Loaded", errors=once)
     check_closed_streams(store, once)
     run(store, b"checkpoint\n")
-    got = subprocess.run([PROGRAM, "run", store], input=b"", capture_output=True)
+    got = run_program("run", store, lines=b"")
     if (got.returncode, got.stdout, got.stderr) != (0, b"opened 0\n", b""):
         fail(f"repeating none: status {got.returncode}, {got.stdout!r}, {got.stderr!r}")
-    print("store: search steps are told before they are repeated")
+    print("store: the number of search steps is printed before they are repeated")
 
 
 def check_closed_streams(store, once):
-    """The number of a stream that is closed is not the store's: nothing is read of the store or written over it in its place."""
-    before = contents(store)
+    """Checks that a store which gets the number of a closed stream is not read or written in its place."""
+    before = read(store)
     cases = [
         ("<&-", (3, b"opened 305\ncannot read input\n", once + b"planner: input: Is a directory (os error 21)\n")),
         (">&-", (3, b"", once + b"planner: output: Bad file descriptor (os error 9)\n")),
@@ -133,14 +128,16 @@ def check_closed_streams(store, once):
         got = subprocess.run(["sh", "-c", f'exec "$0" run "$1" {closed}', PROGRAM, store], input=b"next\n", capture_output=True)
         if (got.returncode, got.stdout, got.stderr) != wanted:
             fail(f"{closed}: status {got.returncode}, {got.stdout!r}, {got.stderr!r}; wanted {wanted}")
-        if contents(store) != before:
+        if read(store) != before:
             fail(f"{closed}: the store was changed")
 
 
 def check_tries(folder):
-    """Each try with fewer vehicles is told as it ends, where standard error is open, and the answers are the same."""
+    """Checks that each attempt to use fewer vehicles is reported when it ends, if standard error is open, and
+    that the answers stay the same.
+    """
     answers = b"opened 0\nok\nat 300 0 10 829\nok\n"
-    # By a program of its own: without the four requests of vehicle 6, nine vehicles serve no more in 300 steps.
+    # From another program: without the four requests of vehicle 6, nine vehicles serve no more in 300 steps.
     told = b"a try with 9 of 10 vehicles ended before step 300: 4 requests left out\n"
     for words, errors in [("", told), ("strict", told), ("2>&-", b"")]:
         store = os.path.join(folder, "tries.store")
@@ -149,13 +146,14 @@ def check_tries(folder):
         if (got.returncode, got.stdout, got.stderr) != (0, answers, errors):
             fail(f"tries {words}: status {got.returncode}, {got.stdout!r}, {got.stderr!r}")
         os.remove(store)
-    print("store: tries with fewer vehicles are told as they end")
+    print("store: attempts with fewer vehicles are reported as they end")
 
 
-def check_readme(folder):
-    """README's commands for what has begun, as they stand there: pins that hold all of it, and an order that is planned behind them."""
-    with open(os.path.join(TOP, "README.md")) as file:
-        commands = re.search(r"^now=600\n.*?(?=^```$)", file.read(), flags=re.MULTILINE | re.DOTALL)[0]
+def check_documents(folder):
+    """Checks the documents' commands for `freeze`, exactly as written there: the pins have everything that has begun,
+    and an order is planned after them.
+    """
+    commands = commands_shown("now=600\n")
     os.symlink(PROGRAM, os.path.join(folder, "planner"))
     store = os.path.join(folder, "day.store")
     load(store, 0, b"ok")
@@ -164,25 +162,27 @@ def check_readme(folder):
     got = subprocess.run(["sh", "-e", "-c", commands], cwd=folder, capture_output=True)
     told = got.stdout.decode().splitlines()
     if got.returncode != 0 or told[0] != "opened 0" or told[-1] != "ok":
-        fail(f"README: status {got.returncode}, {told[:1]} to {told[-1:]}")
+        fail(f"documents: status {got.returncode}, {told[:1]} to {told[-1:]}")
     pins = {vehicle: int(stops) for word, vehicle, stops in (line.split() for line in told if line.startswith("pin "))}
-    behind = day_of(store)
+    after = day_of(store)
     for vehicle, visits in before.items():
         begun = len(list(itertools.takewhile(lambda visit: visit[1] <= 600, visits)))
         pinned = pins.get(vehicle, 0)
-        if pinned < begun or behind[vehicle][:pinned] != visits[:pinned]:
-            fail(f"README: vehicle {vehicle} has set off to {begun} stops, and {pinned} are pinned: {visits}, then {behind[vehicle]}")
-    if sum(visit[0] in ("107", "108") for visits in behind.values() for visit in visits) != 2:
-        fail("README: the new order is in no route")
-    print("store: README's commands keep what has begun")
+        if pinned < begun or after[vehicle][:pinned] != visits[:pinned]:
+            fail(f"documents: vehicle {vehicle} has departed to {begun} stops, and {pinned} are pinned: {visits}, then {after[vehicle]}")
+    if sum(visit[0] in ("107", "108") for visits in after.values() for visit in visits) != 2:
+        fail("documents: the new order is in no route")
+    print("store: the documents' commands for a new order keep what has begun")
 
 
 def day_of(store):
-    """Of each vehicle its stops in order, and when it sets off to each, by the coordinates of the instance."""
+    """Returns for each vehicle its stops in order, and when it departs to each, by the coordinates of the
+    instance.
+    """
     with open(INSTANCE) as file:
         places = {words[0]: (int(words[1]), int(words[2])) for words in map(str.split, file) if len(words) == 9}
     places.update({"107": (30, 45), "108": (33, 50)})
-    got = subprocess.run([PROGRAM, "timetable", store, "tabs"], capture_output=True)
+    got = run_program("timetable", store, "tabs")
     day, last = {}, "0"
     for line in got.stdout.decode().splitlines():
         fields = line.split("\t")
@@ -197,13 +197,8 @@ def day_of(store):
     return day
 
 
-def contents(path):
-    with open(path, "rb") as file:
-        return file.read()
-
-
 def load(store, status, line, instance=INSTANCE, seed="7", errors=b""):
-    got = subprocess.run([PROGRAM, "load", store, "lilim", instance, seed], capture_output=True)
+    got = run_program("load", store, "lilim", instance, seed)
     if (got.returncode, got.stdout, got.stderr) != (status, line + b"\n", errors):
         fail(f"load: status {got.returncode}, {got.stdout!r}, {got.stderr!r}; wanted {status}, {line!r}")
 
@@ -212,75 +207,75 @@ def check_load(folder):
     store, other = os.path.join(folder, "load.store"), os.path.join(folder, "line.store")
     bad = os.path.join(folder, "bad.txt")
     with open(bad, "wb") as file:
-        file.write(contents(INSTANCE)[:-20])
-    got = subprocess.run([PROGRAM, "load", store, "lilim", bad], capture_output=True)
+        file.write(read(INSTANCE)[:-20])
+    got = run_program("load", store, "lilim", bad)
     if got.returncode != 2 or not got.stdout.startswith(b"instance "):
         fail(f"load of a bad instance: status {got.returncode}, {got.stdout!r}")
     if os.path.exists(store):
         fail("load of a bad instance left a file")
     format_store(other)
-    empty = contents(other)
+    empty = read(other)
     run(other, load_lines())
     load(store, 0, b"ok")
-    made = contents(store)
-    if made != contents(other):
+    made = read(store)
+    if made != read(other):
         fail("load made another store than format and the line load")
     load(store, 2, b"store Loaded")
     load(store, 2, b"store Loaded", seed="8")
-    if contents(store) != made:
+    if read(store) != made:
         fail("load changed a store that holds an instance")
-    # As a load leaves it that found the disk full.
+    # The file that a load leaves on a full disk.
     open(store, "wb").close()
     load(store, 0, b"ok")
-    if contents(store) != made:
+    if read(store) != made:
         fail("load in place of an empty file made another store")
     for begun in (empty[:512], empty[:-512], b"a"):
         with open(store, "wb") as file:
             file.write(begun)
-        got = subprocess.run([PROGRAM, "load", store, "lilim", INSTANCE], capture_output=True)
-        if got.returncode == 0 or contents(store) != begun:
+        got = run_program("load", store, "lilim", INSTANCE)
+        if got.returncode == 0 or read(store) != begun:
             fail(f"load over a file of {len(begun)} bytes: status {got.returncode}, {got.stdout!r}")
-    # As a load leaves it that was stopped: README's cure is to move it aside.
+    # The file that an interrupted load leaves. The documents say to move it aside.
     for begun in (bytes(4096), bytes(len(empty))):
         with open(store, "wb") as file:
             file.write(begun)
-        got = subprocess.run([PROGRAM, "load", store, "lilim", INSTANCE], capture_output=True)
-        if (got.returncode, got.stdout) != (2, b"store NotFormatted\n") or contents(store) != begun:
+        got = run_program("load", store, "lilim", INSTANCE)
+        if (got.returncode, got.stdout) != (2, b"store NotFormatted\n") or read(store) != begun:
             fail(f"load over a file of {len(begun)} zeros: status {got.returncode}, {got.stdout!r}")
         os.remove(store)
         load(store, 0, b"ok")
-        if contents(store) != made:
+        if read(store) != made:
             fail("load in place of a file that was removed made another store")
     with open(store, "wb") as file:
         file.write(empty)
     load(store, 0, b"ok", seed="8")
-    if contents(store) == made:
+    if read(store) == made:
         fail("load makes nothing of its seed")
     run(other, load_lines(8))
     if run(store, b"build\nsearch 500\nshow\n") != run(other, b"build\nsearch 500\nshow\n"):
         fail("load over an empty store begins another search than the line load")
-    print("store: load begins a store, and leaves one that is begun")
+    print("store: load creates a store, and leaves one that has an instance")
 
 
 def check_strict(folder):
     store = os.path.join(folder, "strict.store")
     load(store, 0, b"ok")
     lines = b"build\nsearch 10\nwithdraw 40000\nsearch 10\n"
-    got = subprocess.run([PROGRAM, "run", store, "strict"], input=lines, capture_output=True)
+    got = run_program("run", store, "strict", lines=lines)
     answers = got.stdout.split(b"\n")
     if got.returncode != 1 or len(answers) != 6 or answers[4:] != [b"no NoSuchRequest", b""]:
         fail(f"strict: status {got.returncode}, {got.stdout!r}")
     shown = run(store, b"show\n")
     if not shown.startswith("requests 53 next 107\nsteps 10 "):
-        fail(f"strict: a line behind a refusal was done: {shown[:80]!r}")
-    got = subprocess.run([PROGRAM, "run", store, "strict"], input=b"search 10\nshow\n", capture_output=True)
+        fail(f"strict: a command after a refusal was executed: {shown[:80]!r}")
+    got = run_program("run", store, "strict", lines=b"search 10\nshow\n")
     if got.returncode != 0 or not got.stdout.endswith(b"\nok\n"):
         fail(f"strict: status {got.returncode}, {got.stdout!r}")
     print("store: a strict session ends at a refusal")
 
 
 def plan_at_once(folder):
-    """The state that STEPS steps at once lead to."""
+    """Returns the state after STEPS uninterrupted steps."""
     store = os.path.join(folder, "once.store")
     format_store(store)
     run(store, load_lines() + b"build\nsearch %d\n" % STEPS)
@@ -288,12 +283,12 @@ def plan_at_once(folder):
 
 
 def heed_interrupts():
-    # Where this script runs in the background, SIGINT may be ignored, and what it starts would ignore it too.
+    # If this script runs in the background, SIGINT may be ignored, and its children would ignore it too.
     signal.signal(signal.SIGINT, signal.SIG_DFL)
 
 
 def stopped_run(store, moment, stop):
-    """Runs a search towards STEPS, stops it after so many seconds, and gives the last step that was acknowledged."""
+    """Runs a search towards STEPS, stops it after this many seconds, and returns the last acknowledged step."""
     with subprocess.Popen(
         [PROGRAM, "run", store],
         stdin=subprocess.PIPE,
@@ -326,26 +321,27 @@ def check_stops(folder, stops):
         made += 1
         shown, printed, rest = run(store, b"show\nprint\n").split("\nok\n")
         if rest:
-            fail(f"stop {made}: print ends with {rest!r}")
+            fail(f"kill {made}: print ends with {rest!r}")
         steps = int(re.search(r"^steps (\d+) ", shown, re.M).group(1))
         if steps < max(acknowledged, known):
-            fail(f"stop {made}: {max(acknowledged, known)} steps were acknowledged, {steps} are there")
+            fail(f"kill {made}: {max(acknowledged, known)} steps were acknowledged, {steps} are there")
         heard += acknowledged > known
         known = steps
         status, line = audit(printed + "\n", folder)
         if status != 0:
-            fail(f"stop {made}: the plan does not pass: {line}")
+            fail(f"kill {made}: the plan does not pass: {line}")
     if heard < stops // 20:
-        fail(f"only {heard} of {made} stops came behind an answer")
+        fail(f"only {heard} of {made} kills came after an answer")
     run(store, b"reach %d\n" % STEPS)
     if run(store, b"show\n") != wanted:
-        fail("the search that was stopped has another plan than the one at once")
-    print(f"store: {made} stops, {begun} searches: nothing acknowledged was lost, and the plan is that of one run")
+        fail("the search that was killed has another plan than the uninterrupted one")
+    print(f"store: {made} kills, {begun} searches: nothing acknowledged was lost, and the plan is that of one uninterrupted run")
 
 
-def told_behind_syncs(calls, store):
-    """How many syncs of the store had returned as each line was written, none of `ok` and `at` before what was written to it is synced, and the
-    folder of a file that is made."""
+def told_after_syncs(calls, store):
+    """Returns how many syncs of the store had returned when each line was written. Checks that `ok` and `at`
+    come only after everything written to the store, and the folder of a new file, is synced.
+    """
     names = {f'"{store}"': "file", f'"{os.path.dirname(store)}"': "folder"}
     kinds, unsynced, syncs, told = {}, set(), 0, []
     with open(calls) as file:
@@ -365,7 +361,7 @@ def told_behind_syncs(calls, store):
                 unsynced.discard(kinds[descriptor])
                 syncs += kinds[descriptor] == "file"
             elif line.startswith("write(1, "):
-                # A line is written in pieces; it is told by its last one.
+                # A line is written in pieces. It counts as written with the last one.
                 if re.match(r'write\(1, ".*\\n"', line):
                     told.append(syncs)
                 if unsynced and re.match(r'write\(1, "(ok|at )', line):
@@ -374,26 +370,23 @@ def told_behind_syncs(calls, store):
 
 
 def check_told(folder):
-    """`ok` of the words that make a store or change its state."""
+    """Checks the `ok` of the subcommands that make a store or change its state."""
     store, calls, solution = (os.path.join(folder, name) for name in ("told.store", "calls", "told.sol"))
     with open(solution, "wb") as file:
-        file.write(subprocess.run([PROGRAM, "solve", "lilim", INSTANCE, "100", "7"], capture_output=True, check=True).stdout)
-    # A file that is made, and a store in it; an opening and a snapshot.
+        file.write(run_program("solve", "lilim", INSTANCE, "100", "7", check=True).stdout)
+    # A new file and a store in it; an opening and a snapshot.
     for words, syncs in (["format", store], 4), (["load", store, "lilim", INSTANCE, "7"], 3), (["adopt", store, solution], 3):
         trace = ["strace", "-o", calls, "-e", "trace=openat,ftruncate,pwrite64,fdatasync,fsync,write"]
-        got = subprocess.run([*trace, PROGRAM, *words], capture_output=True)
-        if (got.returncode, got.stdout, told_behind_syncs(calls, store)) != (0, b"ok\n", [syncs]):
+        got = run_program(*words, before=trace)
+        if (got.returncode, got.stdout, told_after_syncs(calls, store)) != (0, b"ok\n", [syncs]):
             fail(f"calls: {words[0]}: status {got.returncode}, {got.stdout!r}")
     os.remove(store)
     print("store: no `ok` of format, load and adopt is written before its syncs have returned")
 
 
 def check_calls(folder):
-    if shutil.which("strace") is None:
-        print("skipped: store, the device's calls, since strace is not there")
-        return
-    if subprocess.run(["strace", "-o", os.devnull, "true"], capture_output=True).returncode != 0:
-        print("skipped: store, the device's calls, since strace may not trace here")
+    if not can_trace():
+        skip("the device's calls", "strace is not there or may not trace")
         return
     store, calls = os.path.join(folder, "calls.store"), os.path.join(folder, "calls")
     format_store(store)
@@ -403,8 +396,9 @@ def check_calls(folder):
         capture_output=True,
         check=True,
     )
-    told = told_behind_syncs(calls, store)
-    # The opening; a load, of two syncs; a build and three pieces, of one each, and `ok`; a pin that is refused; an unpin; a checkpoint; `show`.
+    told = told_after_syncs(calls, store)
+    # The opening; a load, with two syncs; a build and three operations, with one each, and `ok`; a pin that is
+    # refused; an unpin; a checkpoint; `show`.
     if told[:10] != [1, 3, 4, 5, 6, 7, 7, 7, 8, 10] or set(told[10:]) != {10}:
         fail(f"calls: so many syncs had returned as each answer was written: {told}")
     print("store: no answer is written before its sync has returned")
@@ -412,7 +406,9 @@ def check_calls(folder):
 
 
 def traced_stages(folder, begun, kill=None):
-    """A store that has begun so, what the line of stages told over it until it was killed, and how many syncs were made."""
+    """Runs the stages on a store that begins with these bytes. Returns the output until the program was killed,
+    and the number of syncs.
+    """
     store, calls = os.path.join(folder, "stages.store"), os.path.join(folder, "calls")
     with open(store, "wb") as file:
         file.write(begun)
@@ -426,8 +422,8 @@ def traced_stages(folder, begun, kill=None):
 
 
 def check_stages(folder):
-    if shutil.which("strace") is None or subprocess.run(["strace", "-o", os.devnull, "true"], capture_output=True).returncode != 0:
-        print("skipped: store, stages that are cut, since strace is not there or may not trace")
+    if not can_trace():
+        skip("stages that are interrupted", "strace is not there or may not trace")
         return
     for kind, instance, lines in STAGED:
         check_cuts(folder, kind, instance, lines)
@@ -435,13 +431,13 @@ def check_stages(folder):
 
 def check_cuts(folder, kind, instance, lines):
     store = os.path.join(folder, f"{kind}.store")
-    got = subprocess.run([PROGRAM, "load", store, kind, instance, "7"], capture_output=True)
+    got = run_program("load", store, kind, instance, "7")
     if got.stdout != b"ok\n":
         fail(f"stages: load: {got}")
     run(store, b"build\n")
-    begun = contents(store)
+    begun = read(store)
     store, told, syncs = traced_stages(folder, begun)
-    # Each of the twenty stages sets a deviation, a record of one sync, and anneals, a snapshot of two.
+    # Each of the twenty stages sets a deviation, a record with one sync, and anneals, a snapshot with two.
     if told.count("\nat ") != lines or not told.endswith("\nok\n") or syncs < 60:
         fail(f"stages: {syncs} syncs, {told!r}")
     shown = run(store, b"show\n")
@@ -455,7 +451,7 @@ def check_cuts(folder, kind, instance, lines):
             fail(f"stages cut at sync {kill}: {known[-1]} steps were told, {steps} are there")
         if not run(store, STAGES).endswith("ok\n") or run(store, b"show\n") != shown:
             fail(f"stages cut at sync {kill} and said again lead to another state")
-    print(f"store: stages of {kind}, cut at each of {syncs} syncs and said again, lead to one state")
+    print(f"store: stages of {kind}, killed at each of {syncs} syncs and repeated, lead to one state")
 
 
 def check_copies(folder):
@@ -469,38 +465,39 @@ def check_copies(folder):
             fail(f"copies: {told}")
         shutil.copyfile(store, copy)
         process.communicate(b"search 10\n")
-    whole, shown = contents(copy), run(copy, b"show\n")
+    whole, shown = read(copy), run(copy, b"show\n")
     if not shown.startswith("requests 53 next 107\nsteps 10 ") or not run(store, b"show\n").startswith("requests 53 next 107\nsteps 20 "):
-        fail(f"copies: a copy behind a checkpoint shows {shown[:80]!r}")
+        fail(f"copies: a copy after a checkpoint shows {shown[:80]!r}")
     os.truncate(copy, STORE_BYTES - 512)
     for words in [["run", copy], ["load", copy, "lilim", INSTANCE]]:
-        got = subprocess.run([PROGRAM, *words], input=b"build\n", capture_output=True)
+        got = run_program(*words, lines=b"build\n")
         cure = f"planner: {copy}: it begins as a store, and its end is gone: take a whole copy\n".encode()
-        if (got.returncode, got.stdout, got.stderr) != (2, b"store NotFormatted\n", cure) or contents(copy) != whole[:-512]:
+        if (got.returncode, got.stdout, got.stderr) != (2, b"store NotFormatted\n", cure) or read(copy) != whole[:-512]:
             fail(f"copies: {words} without the end: status {got.returncode}, {got.stdout!r}, {got.stderr!r}")
     os.truncate(copy, STORE_BYTES)
     if run(copy, b"show\n") != shown:
         fail("copies: a store that is made long again has another state")
-    print("store: a copy behind a checkpoint is whole, and one without its end is left alone")
+    print("store: a copy after a checkpoint is complete, and one without its end is left alone")
 
 
-def check_readme_copies(folder):
-    """README's commands for a copy, as they stand there: it agrees with itself, and is put back as it was."""
-    with open(os.path.join(TOP, "README.md")) as file:
-        commands = re.findall(r"(?s)```sh\n(.*?)```", file.read().split("## After a stop\n")[1].split("\n## ")[0])[0]
+def check_documents_copies(folder):
+    """Checks the documents' commands for a copy, exactly as written there: the copy is consistent, and putting it
+    back restores the store.
+    """
+    commands = commands_shown("cp day.store day.copy")
     place = os.path.join(folder, "copies")
     os.mkdir(place)
     os.symlink(PROGRAM, os.path.join(place, "planner"))
     store = os.path.join(place, "day.store")
     load(store, 0, b"ok")
     run(store, b"build\nsearch 3\n")
-    before = contents(store)
+    before = read(store)
     got = subprocess.run(["sh", "-e", "-c", commands], cwd=place, capture_output=True)
     if (got.returncode, got.stdout, got.stderr) != (0, b"ok\n", b"planner: repeating 3 search steps\n"):
-        fail(f"README's copy: status {got.returncode}, {got.stdout!r}, {got.stderr!r}")
-    if contents(store) != before or sorted(os.listdir(place)) != ["day.copy", "day.store", "planner"]:
-        fail(f"README's copy: {sorted(os.listdir(place))}")
-    print("store: README's commands copy a store, check the copy and put it back")
+        fail(f"documents: a copy: status {got.returncode}, {got.stdout!r}, {got.stderr!r}")
+    if read(store) != before or sorted(os.listdir(place)) != ["day.copy", "day.store", "planner"]:
+        fail(f"documents: a copy: {sorted(os.listdir(place))}")
+    print("store: the documents' commands copy a store, check the copy and put it back")
 
 
 def put(path, offset, new):
@@ -510,17 +507,19 @@ def put(path, offset, new):
 
 
 def checked(store, status, text):
-    """`check` answers so, and leaves the file as it is."""
-    before = contents(store)
-    got = subprocess.run([PROGRAM, "check", store], capture_output=True)
-    if (got.returncode, got.stdout) != (status, text) or contents(store) != before:
+    """Checks that `check` gives this answer, and leaves the file as it is."""
+    before = read(store)
+    got = run_program("check", store)
+    if (got.returncode, got.stdout) != (status, text) or read(store) != before:
         fail(f"check: status {got.returncode}, {got.stdout!r} instead of {text!r}")
 
 
 def warned(store, text):
-    """Before `run` opens a store, it tells the first reason that `check` tells, and what it prints stays as it is. So it does of one that is
-    refused for a record that is none. Of a store without a header it tells that."""
-    got = subprocess.run([PROGRAM, "run", store], input=b"", capture_output=True)
+    """Checks that before `run` opens a store it prints the first reason that `check` prints, and that its other
+    output stays the same. The same for a store that is refused because a record is not valid. For a store
+    without a header it prints that.
+    """
+    got = run_program("run", store, lines=b"")
     line = text.partition(b"\n")[0]
     wanted = [b"planner: %s: %s" % (store.encode(), line)] if line.startswith(b"suspect ") else []
     if line == b"store Codec":
@@ -537,7 +536,9 @@ def sequence(number):
 
 
 def check_doubts(folder):
-    """Sequence 1 is the format, 2 the load, 3 a checkpoint; of sequence 2 there are four records, of sequence 3 two."""
+    """Checks the integrity warnings. Sequence 1 is the format, 2 the load, 3 a checkpoint. Sequence 2 has four
+    records, sequence 3 two.
+    """
     store, other = os.path.join(folder, "doubted.store"), os.path.join(folder, "damaged.store")
     format_store(store)
     checked(store, 0, b"ok\n")
@@ -547,7 +548,7 @@ def check_doubts(folder):
     checked(store, 0, b"ok\n")
     run(store, b"checkpoint\nsearch 1\nsearch 1\n")
     checked(store, 0, b"ok\n")
-    # The second half is that of sequence 3; the other one may hold anything. Records stand from 1,024 on.
+    # The second half is that of sequence 3. The other half may have any contents. Records begin at 1,024.
     for text, damages in [
         (b"ok\n", [(132_096, b"torn")]),
         (b"suspect HeaderLost\n", [(0, b"X")]),
@@ -569,14 +570,14 @@ def check_doubts(folder):
             put(other, offset, new)
         checked(other, 2 if text != b"ok\n" else 0, text)
         warned(other, text)
-    got = subprocess.run([PROGRAM, "check", os.path.join(folder, "no.store")], capture_output=True)
+    got = run_program("check", os.path.join(folder, "no.store"))
     if got.returncode != 3 or not got.stdout.startswith(b"cannot read "):
         fail(f"check of no file: status {got.returncode}, {got.stdout!r}")
-    print("store: check tells damaged headers and records, and calls no whole store suspect")
+    print("store: check reports damaged headers and records, and no undamaged store as suspect")
 
 
 def check_remains(folder):
-    """A store that was made has its header in the second sector, and zeros in the first."""
+    """Checks files without a store. A new store has its header in the second sector, and zeros in the first."""
     store, other = os.path.join(folder, "made.store"), os.path.join(folder, "remains.store")
     format_store(store)
     gone = "it begins as a store, and its end is gone: take a whole copy"
@@ -589,7 +590,7 @@ def check_remains(folder):
         "it ends within a sector of 512 bytes, so it is no whole store: `planner load STORE KIND INSTANCE` makes one of an instance, in a new file; "
         "of a store take a whole copy"
     )
-    # A header but for its length, which is above that of the largest state.
+    # A valid header except for its length, which is above that of the largest state.
     too_long = b"PDRSTORE" + (2).to_bytes(4, "big") + sequence(1) + (2_097_153).to_bytes(8, "big")
     for length, damages, line, hint in [
         (STORE_BYTES, [(512, too_long)], "NotFormatted", damaged),
@@ -600,16 +601,17 @@ def check_remains(folder):
         (1_024, [], "NotFormatted", gone),
         (512, [], "NotFormatted", nothing),
         (0, [], "NotFormatted", empty),
-        # As a `load` leaves it that was killed once the file had its length.
+        # The file of a `load` that was killed once the file had its length.
         (STORE_BYTES, [(512, bytes(512))], "NotFormatted", zeros),
         (1_024, [(512, bytes(512))], "NotFormatted", zeros),
         (STORE_BYTES, [(511, b"1"), (512, bytes(512))], "NotFormatted", nothing),
         (STORE_BYTES, [(512, bytes(28))], "NotFormatted", zeros),
-        # An instance, of which no byte is a control character, and one with such a byte at the end of its first sector.
-        (512, [(0, contents(INSTANCE)[:512])], "NotFormatted", text),
-        (1_024, [(0, contents(INSTANCE)[:1_024])], "NotFormatted", text),
+        # An instance, of which no byte is a control character, and one with such a byte at the end of its first
+        # sector.
+        (512, [(0, read(INSTANCE)[:512])], "NotFormatted", text),
+        (1_024, [(0, read(INSTANCE)[:1_024])], "NotFormatted", text),
         (STORE_BYTES, [(0, ("NAME : L\u00fcbeck\t\r\n" + 512 * "1").encode()[:512] + bytes(512))], "NotFormatted", text),
-        (512, [(0, contents(INSTANCE)[:511] + b"\x1f")], "NotFormatted", nothing),
+        (512, [(0, read(INSTANCE)[:511] + b"\x1f")], "NotFormatted", nothing),
         (STORE_BYTES - 1, [], "BadLength", within),
         (511, [], "BadLength", within),
     ]:
@@ -618,14 +620,14 @@ def check_remains(folder):
             put(other, offset, new)
         os.truncate(other, length)
         for word in "run", "timetable", "check":
-            got = subprocess.run([PROGRAM, word, other], input=b"", capture_output=True)
+            got = run_program(word, other, lines=b"")
             if (got.returncode, got.stdout, got.stderr) != (2, f"store {line}\n".encode(), f"planner: {other}: {hint}\n".encode()):
                 fail(f"{word} of {length} bytes, {damages}: status {got.returncode}, {got.stdout!r}, on standard error {got.stderr!r}")
-    print("store: what a file that holds no store may be is told")
+    print("store: for a file without a store, what it may be is reported")
 
 
 def refused(*words):
-    """These words answer that the store is in use."""
+    """Checks that this subcommand answers that the store is in use."""
     got = subprocess.run([PROGRAM, *words], input=b"build\n", capture_output=True, timeout=60)
     if (got.returncode, got.stdout, got.stderr) != (3, b"store InUse\n", b""):
         fail(f"{words} beside a run: status {got.returncode}, {got.stdout!r}, {got.stderr!r}")
@@ -663,17 +665,17 @@ def check_full(folder):
     os.mkdir(disk)
     mounted = ["mount", "-t", "tmpfs", "-o", "size=5m", "tmpfs", disk]
     if shutil.which("mount") is None or subprocess.run(mounted, capture_output=True).returncode != 0:
-        print("skipped: store, a full disk, since no tmpfs may be mounted here")
+        skip("a full disk", "no tmpfs may be mounted here")
         return
     try:
         check_full_disk(os.path.join(disk, "full.store"), os.path.join(disk, "other"))
     finally:
         subprocess.run(["umount", disk], check=True)
-    print("store: a full disk is told with the system's words")
+    print("store: a full disk is reported with the system's message")
 
 
 def fill(path):
-    """Takes what room there is."""
+    """Fills the disk."""
     with open(path, "wb", buffering=0) as file:
         try:
             while True:
@@ -686,26 +688,26 @@ def check_full_disk(store, other):
     words = f"planner: {store}: No space left on device (os error 28)\n".encode()
     with open(other, "wb") as file:
         file.write(bytes(2_000_000))
-    got = subprocess.run([PROGRAM, "format", store], capture_output=True)
+    got = run_program("format", store)
     wanted = (3, f"cannot read {store}\n".encode(), words)
     if (got.returncode, got.stdout, got.stderr) != wanted:
         fail(f"full: format: status {got.returncode}, {got.stdout!r}, {got.stderr!r}")
     if os.path.getsize(store) != 0:
         fail("full: what was written of the store is still there")
     os.remove(store)
-    got = subprocess.run([PROGRAM, "load", store, "lilim", INSTANCE], capture_output=True)
+    got = run_program("load", store, "lilim", INSTANCE)
     if (got.returncode, got.stdout, got.stderr) != wanted:
         fail(f"full: load: status {got.returncode}, {got.stdout!r}, {got.stderr!r}")
     os.remove(other)
     format_store(store)
-    # With the room that the store has taken, a disk that is full behind it does no harm.
+    # Once the store has taken its space, a disk that fills up afterwards does no harm.
     fill(other)
     run(store, load_lines() + b"build\ncheckpoint\n")
     with subprocess.Popen(
         [PROGRAM, "run", store], stdin=subprocess.PIPE, stdout=subprocess.PIPE, stderr=subprocess.PIPE
     ) as process:
         process.stdout.readline()
-        # Somebody cuts the store, and the room is gone.
+        # Somebody cuts the store, and its space is gone.
         os.truncate(store, 0)
         fill(other + "-more")
         told, errors = process.communicate(b"checkpoint\nshow\n")
@@ -714,9 +716,7 @@ def check_full_disk(store, other):
 
 
 def main():
-    if not os.access(PROGRAM, os.X_OK):
-        print(f"skipped: store, since {PROGRAM} is not built (rt ci builds it)")
-        return
+    require_program()
     stops = int(sys.argv[1]) if len(sys.argv) > 1 else 200
     with tempfile.TemporaryDirectory() as folder:
         check_session(folder)
@@ -724,11 +724,11 @@ def main():
         check_strict(folder)
         check_repeating(folder)
         check_tries(folder)
-        check_readme(folder)
+        check_documents(folder)
         check_calls(folder)
         check_stages(folder)
         check_copies(folder)
-        check_readme_copies(folder)
+        check_documents_copies(folder)
         check_doubts(folder)
         check_remains(folder)
         check_two_at_once(folder)

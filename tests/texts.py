@@ -1,21 +1,21 @@
 #!/usr/bin/env python3
-"""Compares what the built program says of verdicts and of texts that it refuses, and its timetables, with texts that were worked out
-by hand. As tests in Rattle such long texts are slow: proving them takes minutes.
+"""Compares the program's explanations of verdicts and of refused texts, and its timetables, with texts that
+were worked out by hand. As tests in Rattle such long texts are slow: proving them takes minutes.
 
-Of the audit's line the number of the rule alone is compared, where a text is refused the line: the faults' names are tested by
-crates/test_text. Timetables that leave requests out are too.
+For the audit's line only the number of the rule is compared, and for a refused text only the line number:
+crates/test_text tests the names of the faults. It also tests timetables that leave requests out.
 
     tests/texts.py
 """
 
 import pathlib
 import re
-import subprocess
 import sys
 import tempfile
 
-TOP = pathlib.Path(__file__).resolve().parent.parent
-PROGRAM = TOP / "crates" / "planner" / "out" / "planner"
+# Python leaves no files beside the scripts.
+sys.dont_write_bytecode = True
+from planner import fail, outcome, require_program  # noqa: E402
 
 # One pickup and its delivery: the vehicle serves them at 5 and at 12, and is back at 24.
 ONE_PAIR = (
@@ -48,7 +48,7 @@ THREE_CUSTOMERS = (
     b"EOF\n"
 )
 
-# The delivery's latest is 11.
+# The delivery's latest start is 11.
 LATEST_11 = (
     b"2 10 1\n"
     b"0 0 0 0 0 100 0 0 0\n"
@@ -64,7 +64,7 @@ EARLIEST_8 = (
     b"2 6 8 -4 0 60 2 1 0\n"
 )
 
-# The vehicle has to be back at 23.
+# The vehicle must be back at 23.
 RETURN_23 = (
     b"2 10 1\n"
     b"0 0 0 0 0 23 0 0 0\n"
@@ -72,7 +72,7 @@ RETURN_23 = (
     b"2 6 8 -4 0 60 2 1 0\n"
 )
 
-# The vehicle holds 3.
+# The capacity is 3.
 CAPACITY_3 = (
     b"2 3 1\n"
     b"0 0 0 0 0 100 0 0 0\n"
@@ -90,7 +90,7 @@ TWO_PAIRS = (
     b"4 2 2 -1 0 50 0 3 0\n"
 )
 
-# Both deliveries can be served by 11 alone.
+# Each delivery can only be served until 11.
 LATE_TWICE = (
     b"2 10 1\n"
     b"0 0 0 0 0 100 0 0 0\n"
@@ -106,7 +106,7 @@ BOTH = (
     b"Cost 20\n"
 )
 
-# The vehicle waits for the pickup from 5 to 8. The delivery's latest is 20, 7 after the pickup.
+# The vehicle waits for the pickup from 5 to 8. The delivery's latest start is 20, which is 7 after the pickup.
 LATEST_20 = (
     b"2 10 1\n"
     b"0 0 0 0 0 100 0 0 0\n"
@@ -114,7 +114,7 @@ LATEST_20 = (
     b"2 6 8 -4 0 20 2 1 0\n"
 )
 
-# The vehicle has to be back at 66: the delivery starts by 54 and the pickup by 47.
+# The vehicle must be back at 66: the delivery starts by 54 and the pickup by 47.
 RETURN_66 = (
     b"2 10 1\n"
     b"0 0 0 0 0 66 0 0 0\n"
@@ -122,7 +122,8 @@ RETURN_66 = (
     b"2 6 8 -4 0 60 2 1 0\n"
 )
 
-# The kind, the instance and the solution, the number of the rule that is broken, 0 for none, and what is said behind the audit's line.
+# The kind, the instance and the solution, the number of the broken rule, 0 for none, and the text after the
+# audit's line.
 EXPLAINED = [
     (
         "lilim",
@@ -312,7 +313,7 @@ EXPLAINED = [
         "    4      0        5         22        15  overload\n"
         "places that break this rule: 1\n",
     ),
-    # Several bugs at once: each rule behind the first one is counted, too.
+    # Several faults together: each rule after the first one is counted, too.
     (
         "lilim",
         b"2 3 1\n"
@@ -330,7 +331,7 @@ EXPLAINED = [
         "places that break rule 7: 1\n"
         "places that break rule 8: 1\n",
     ),
-    # The depot in a route, and a stop that stands in two of too many.
+    # The depot in a route, and a stop that is in two of too many routes.
     (
         "lilim",
         ONE_PAIR,
@@ -347,7 +348,7 @@ EXPLAINED = [
         "  route 1 place 4 stop 0\n"
         "places that break rule 2: 1\n",
     ),
-    # Nodes of a .vrp text in place of its customers, and customers that count from 0.
+    # Nodes of a .vrp text instead of its customers, and customers counted from 0.
     (
         "vrp",
         THREE_CUSTOMERS,
@@ -377,7 +378,7 @@ EXPLAINED = [
     ),
 ]
 
-# The kind and the text of an instance that is refused, and what is said of it.
+# The kind and the text of an instance that is refused, and the explanation.
 REFUSED_INSTANCES = [
     (
         "lilim",
@@ -707,7 +708,7 @@ REFUSED_INSTANCES = [
     ),
 ]
 
-# A solution that is refused, and what is said of it.
+# A solution that is refused, and the explanation.
 REFUSED_SOLUTIONS = [
     (
         b"Route #1: 1 x\n"
@@ -777,8 +778,8 @@ REFUSED_SOLUTIONS = [
     ),
 ]
 
-# The kind, the instance, the solution and the last words, and the timetable behind the audit's line: none where stops are unknown or
-# stand twice.
+# The kind, the instance, the solution and the last arguments, and the timetable after the audit's line: none if
+# stops are unknown or visited twice.
 TIMETABLES = [
     (
         "lilim",
@@ -887,22 +888,21 @@ TIMETABLES = [
 
 
 def answer(folder, word, kind, instance, solution, *more):
-    """The first line that the program prints of these texts, and all behind it."""
+    """Returns the first line that the program prints for these texts, and the text after it."""
     paths = [folder / "instance", folder / "solution"]
     for path, text in zip(paths, (instance, solution)):
         path.write_bytes(text)
-    told = subprocess.run([PROGRAM, word, kind, *paths, *more], capture_output=True)
-    first, _, behind = told.stdout.decode("ascii").partition("\n")
-    return first, behind
+    first, _, rest = outcome(word, kind, *paths, *more)[1].partition("\n")
+    return first, rest
 
 
 def expect(name, got, wanted):
     if got != wanted:
-        sys.exit(f"texts: {name}\ngot:\n{got}\nwanted:\n{wanted}")
+        fail(f"{name}\ngot:\n{got}\nwanted:\n{wanted}")
 
 
 def rule_of(first):
-    """The number of the rule that the audit's line names, 0 where the plan passes."""
+    """Returns the number of the rule that the audit's line names, 0 if the plan passes."""
     words = first.split()
     return 0 if words[0] == "pass" else int(words[1])
 
@@ -913,52 +913,53 @@ def line_of(told):
 
 def check_explained(folder):
     for kind, instance, solution, rule, told in EXPLAINED:
-        first, behind = answer(folder, "explain", kind, instance, solution)
+        first, rest = answer(folder, "explain", kind, instance, solution)
         expect(solution, rule_of(first), rule)
-        expect(solution, behind, told)
+        expect(solution, rest, told)
 
 
 def check_refused(folder):
     for kind, text, told in REFUSED_INSTANCES:
-        first, behind = answer(folder, "explain", kind, text, BOTH)
+        first, rest = answer(folder, "explain", kind, text, BOTH)
         expect(text, (first.split()[0], first.split()[2]), ("instance", line_of(told)))
-        expect(text, behind, told)
+        expect(text, rest, told)
     for text, told in REFUSED_SOLUTIONS:
-        first, behind = answer(folder, "explain", "lilim", ONE_PAIR, text)
+        first, rest = answer(folder, "explain", "lilim", ONE_PAIR, text)
         expect(text, (first.split()[0], first.split()[2]), ("solution", line_of(told)))
-        expect(text, behind, told)
+        expect(text, rest, told)
 
 
 def check_lengths(folder):
-    # A sentence and a heading of 90 bytes, 23 rows of 13, a count of 32, 20 places: 8 of 25 bytes and 12 of 26, and counts of 29 and 28.
+    # A sentence and a heading of 90 bytes, 23 rows of 13, a count of 32, 20 places: 8 of 25 bytes and 12 of 26,
+    # and counts of 29 and 28.
     solution = b"Route #1:" + 23 * b" 9" + b"\nCost 0\n"
-    _, behind = answer(folder, "explain", "lilim", ONE_PAIR, solution)
+    _, rest = answer(folder, "explain", "lilim", ONE_PAIR, solution)
     last = ["  route 1 place 21 stop 9", "places that break rule 2: 22", "places that break rule 3: 2"]
-    expect("20 further places", (len(behind), behind.splitlines()[-3:]), (990, last))
-    # 4,000 customers in one route, at two corners in turn: each way but the return is 2,828,427, and the sum has 11 digits.
+    expect("20 further places", (len(rest), rest.splitlines()[-3:]), (990, last))
+    # 4,000 customers in one route, alternating between two corners: each leg except the return is 2,828,427,
+    # and the sum has 11 digits.
     count = 4000
     nodes = ["1 -1000000 -1000000\n"] + [f"{n} {1000000 * (-1) ** n} {1000000 * (-1) ** n}\n" for n in range(2, count + 2)]
     demands = [f"{n} 0\n" for n in range(1, count + 2)]
     head = f"DIMENSION : {count + 1}\nEDGE_WEIGHT_TYPE : EUC_2D\nCAPACITY : 0\nNODE_COORD_SECTION\n"
     instance = head + "".join(nodes) + "DEMAND_SECTION\n" + "".join(demands) + "DEPOT_SECTION\n1 -1\nEOF\n"
     solution = "Route #1: " + " ".join(str(n) for n in range(1, count + 1)) + "\n"
-    _, behind = answer(folder, "explain", "vrp", instance.encode(), solution.encode(), "routes")
+    _, rest = answer(folder, "explain", "vrp", instance.encode(), solution.encode(), "routes")
     driven = 2828427 * count
-    expect("a long sum", behind.splitlines()[-1].split(), ["sum", str(count), str(driven), "0"])
+    expect("a long sum", rest.splitlines()[-1].split(), ["sum", str(count), str(driven), "0"])
     # A sentence of 62 bytes with its end, 200 bytes of the line, and its end.
-    _, behind = answer(folder, "explain", "lilim", ONE_PAIR, 300 * b"x")
-    expect("a long line", len(behind), 263)
+    _, rest = answer(folder, "explain", "lilim", ONE_PAIR, 300 * b"x")
+    expect("a long line", len(rest), 263)
 
 
 def check_timetables(folder):
     for kind, instance, solution, more, told in TIMETABLES:
-        _, behind = answer(folder, "timetable", kind, instance, solution, *more)
-        expect(solution, behind, told)
+        _, rest = answer(folder, "timetable", kind, instance, solution, *more)
+        expect(solution, rest, told)
 
 
 def main():
-    if not PROGRAM.exists():
-        sys.exit(f"texts: {PROGRAM} is not built: run rt ci, or ./planner once")
+    require_program()
     with tempfile.TemporaryDirectory() as name:
         folder = pathlib.Path(name)
         check_explained(folder)
@@ -966,7 +967,7 @@ def main():
         check_lengths(folder)
         check_timetables(folder)
     count = len(EXPLAINED) + len(REFUSED_INSTANCES) + len(REFUSED_SOLUTIONS) + len(TIMETABLES)
-    print(f"texts: {count} texts are as they were worked out by hand")
+    print(f"texts: {count} texts are as worked out by hand")
 
 
 if __name__ == "__main__":

@@ -1,8 +1,8 @@
 #!/usr/bin/env python3
-"""Takes stores of version 1 over into new ones by the built program, on real files.
+"""Upgrades stores of version 1 to new ones with the built program, on real files.
 
-The old store is written here by the table of version 1 in docs/FORMATS.md: one customer, just loaded, and two records, that
-build and search 256 steps. Wants the program that rt ci leaves.
+The old store is written here by the table of version 1 in docs/FORMATS.md: one customer, just loaded, and two
+records, which build and search 256 steps. Needs the program that rt ci leaves.
 """
 import os
 import struct
@@ -10,22 +10,19 @@ import subprocess
 import sys
 import tempfile
 
-TOP = os.path.dirname(os.path.dirname(os.path.abspath(__file__)))
-PROGRAM = os.path.join(TOP, "crates", "planner", "out", "planner")
+# Python leaves no files beside the scripts.
+sys.dont_write_bytecode = True
+from planner import PROGRAM, fail, outcome, read, require_program, write  # noqa: E402
+
 SECTOR, OLD_SECTORS, NEW_BYTES = 512, 802, 4_326_400
-# Where version 1 has the snapshot of an odd sequence.
+# The position of the snapshot of an odd sequence in version 1.
 HALF = 530
 LATEST = 100_000_000
 NO_FILE = "No such file or directory (os error 2)"
 
 
-def fail(text):
-    print("upgrade: " + text)
-    sys.exit(1)
-
-
 def state():
-    """One customer of demand 6 at (3, 4), capacity 10, by version 1's shorter fields."""
+    """Returns a state with one customer of demand 6 at (3, 4), capacity 10, in version 1's shorter fields."""
     head = struct.pack(">BBQQIHH", 1, 2, 0, 0, 10, 1, 2)
     depot = struct.pack(">iiII", 0, 0, 0, LATEST)
     stop = struct.pack(">HiiiIII", 1, 3, 4, 6, 0, LATEST, 0)
@@ -47,36 +44,29 @@ def old_store():
 
 
 def expect(status, line, told, *words):
-    """The program ends so, prints this line, and tells this on standard error."""
-    got = subprocess.run([PROGRAM, *words], capture_output=True, text=True, timeout=60)
-    wanted = (status, line + "\n", f"planner: {told}\n" if told else "")
-    if (got.returncode, got.stdout, got.stderr) != wanted:
-        fail(f"{words}: {got.returncode}, {got.stdout!r}, {got.stderr!r}; wanted {wanted}")
+    """Checks that the program has this status, prints this line, and prints this on standard error."""
+    got, wanted = outcome(*words, timeout=60), (status, line + "\n", f"planner: {told}\n" if told else "")
+    if got != wanted:
+        fail(f"{words}: {got}; wanted {wanted}")
 
 
 def expect_line(status, line, *words):
-    """The program ends so, and prints a line that begins so."""
-    got = subprocess.run([PROGRAM, *words], capture_output=True, text=True)
-    if got.returncode != status or not got.stdout.startswith(line) or got.stdout.count("\n") != 1:
-        fail(f"{words}: {got.returncode}, {got.stdout!r}; wanted {status}, {line!r}")
-
-
-def write(path, contents):
-    with open(path, "wb") as file:
-        file.write(contents)
+    """Checks that the program has this status, and prints a line that begins like this."""
+    got, output, _ = outcome(*words)
+    if got != status or not output.startswith(line) or output.count("\n") != 1:
+        fail(f"{words}: {got}, {output!r}; wanted {status}, {line!r}")
 
 
 def holds(path, contents):
-    with open(path, "rb") as file:
-        if file.read() != contents:
-            fail(f"{path} was changed")
+    if read(path) != contents:
+        fail(f"{path} was changed")
 
 
 def check_new(new):
-    """The new store opens with the plan of the old one, and repeats nothing."""
+    """Checks that the new store opens with the plan of the old one, and repeats nothing."""
     if os.path.getsize(new) != NEW_BYTES:
         fail(f"the new store has {os.path.getsize(new)} bytes")
-    got = subprocess.run([PROGRAM, "run", new], input=b"print\nshow\n", capture_output=True).stdout.decode()
+    got = outcome("run", new, lines="print\nshow\n")[1]
     lines = got.split("\n")
     for line in ["opened 0", "Route #1: 1", "Cost 10", "requests 1 next 2", "steps 256 place 4096", "cost 0 0 10"]:
         if line not in lines:
@@ -90,7 +80,7 @@ def check_files(folder):
     holds(old, old_store())
     check_new(new)
     expect(2, "store BadVersion", f"{old}: it is of another version: `planner upgrade OLD NEW` takes a store of version 1 over into a new one", "run", old)
-    # a store that is there already is replaced, also by one that was upgraded before
+    # an existing store is replaced, also by one that was upgraded before
     expect(0, "ok", "", "upgrade", old, new)
     check_new(new)
     newer = os.path.join(folder, "newer.store")
@@ -104,11 +94,11 @@ def check_files(folder):
 
 def expect_none(path):
     if os.path.exists(path):
-        fail(f"{path} was made, though nothing stands in it")
+        fail(f"{path} was created, but must not be")
 
 
 def check_refused_old(folder):
-    """What an old store is refused for leaves the new file as it is, or not there."""
+    """Checks that a refused old store leaves the new file as it is, or missing."""
     old, new = os.path.join(folder, "refused.store"), os.path.join(folder, "kept.store")
     spoiled = bytearray(old_store())
     spoiled[HALF * SECTOR] = 7
@@ -165,7 +155,7 @@ def check_refusals(folder):
 
 
 def check_in_use(folder):
-    """Neither store may be open in another process."""
+    """Checks that neither store may be open in another process."""
     old, new = os.path.join(folder, "used-old.store"), os.path.join(folder, "used.store")
     write(old, old_store())
     expect(0, "ok", "", "format", new)
@@ -181,16 +171,14 @@ def check_in_use(folder):
 
 
 def main():
-    if not os.access(PROGRAM, os.X_OK):
-        print(f"skipped: upgrade, since {PROGRAM} is not built (rt ci builds it)")
-        return
+    require_program()
     with tempfile.TemporaryDirectory() as folder:
         check_files(folder)
         check_one_file(folder)
         check_refused_old(folder)
         check_refusals(folder)
         check_in_use(folder)
-    print("upgrade: stores of version 1 are taken over, and what can't be is told and left alone")
+    print("upgrade: stores of version 1 are converted, and others are reported and left alone")
 
 
 if __name__ == "__main__":

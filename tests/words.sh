@@ -1,11 +1,12 @@
 #!/bin/sh
-# Checks what only the built program shows of its words: what goes to standard error, the status of the process, a word
-# that is not UTF-8, and an output that can't be written. What the words mean is run by crates/run_words.
+# Checks what only the built program shows about its arguments: standard error, the status of the process, an
+# argument that is not UTF-8, and an output that can't be written. The crate `cli_tests` tests the meaning of
+# the arguments.
 set -u
 
 top=$(CDPATH='' cd -- "$(dirname -- "$0")/.." && pwd -P) || exit 1
 program=$top/crates/planner/out/planner
-# Builds the program where rt ci has not.
+# Builds the program if rt ci has not.
 if [ "$("$top/planner")" != 'pass 0 1 20' ]; then
     echo "words: ./planner does not answer" >&2
     exit 1
@@ -23,7 +24,8 @@ fail() {
     failures=$((failures + 1))
 }
 
-# expect STATUS OUTPUT ERROR WORDS..: the program ends so, and these begin standard output and standard error; '' is nothing.
+# expect STATUS OUTPUT ERROR WORDS..: checks the status, and the beginnings of standard output and standard
+# error; '' means empty.
 expect() {
     wanted="$1, '$2', '$3'"
     shift 3
@@ -34,16 +36,16 @@ expect() {
 
 cd -- "$top/examples" || exit 1
 for path in *.txt *.sol *.vrp; do
-    cmp -- "$path" "$top/crates/run_words/data/$path" || fail "run_words has another $path"
+    cmp -- "$path" "$top/crates/cli_tests/data/$path" || fail "cli_tests has another $path"
 done
 
 expect 0 'pass 0 1 20' ''
 expect 0 'pass 0 10 829' '' audit lilim lc101.txt "$top/examples/lc101.sol"
-# Text behind the cost line is not read, which is told, and nothing else changes.
+# Text after the cost line is not read. This is reported, and nothing else changes.
 printf 'Route #1: 1 2\nCost 20\n\nTime 3\nCost 5\n' >"$folder/timed.sol"
 expect 0 'pass 0 1 20' "planner: $folder/timed.sol: line 4 is behind the cost line and not read" audit lilim one-pair.txt "$folder/timed.sol"
 expect 0 'pass 0 1 20' "planner: $folder/timed.sol: line 4 is behind the cost line and not read" explain lilim one-pair.txt "$folder/timed.sol"
-# The routes alone: without a cost line, or with one of any word; what is broken is told all the same.
+# With `routes`: no cost line, or one with any word. A broken rule is reported all the same.
 grep -v '^Cost' lc101.sol >"$folder/routes.sol"
 expect 2 'solution NoCost 11' '' audit lilim lc101.txt "$folder/routes.sol"
 expect 0 'pass 0 10 829' '' audit lilim lc101.txt "$folder/routes.sol" routes
@@ -56,7 +58,7 @@ sed 's/^Route #5:.*//' "$folder/routes.sol" >"$folder/fewer.sol"
 expect 1 'broken 3 route 0 place 0 stop 42' '' audit lilim lc101.txt "$folder/fewer.sol" routes
 sed 's/^Route #2/Rouet #2/' "$folder/routes.sol" >"$folder/slip.sol"
 expect 2 'solution BadLine 2' '' explain lilim lc101.txt "$folder/slip.sol" routes
-# On standard error a list tells what stands behind a cost line, and of a bad line its number and why.
+# For a list, standard error reports text after a cost line, and for a bad line its number and the reason.
 {
     printf 'one-pair.txt\t%s\n' "$folder/timed.sol"
     printf '# a comment\n\none-pair.txt\t\none-pair.txt\tone-pair.sol\t450.5\na\tb\tc\td\n\tone-pair.sol\t20\none-pair.txt\tone-pair.sol\t1 20\t\n'
@@ -73,7 +75,7 @@ $why 6: bad line: it has more than two tabs
 $why 7: bad line: a path is empty
 $why 8: bad line: it has more than two tabs
 $why 9: bad line: a path is not UTF-8" ] || fail "audits: not why lines are bad"
-# A limit of a .vrp instance that no rule asks is named, and none that stands behind the end.
+# A limit of a .vrp instance that no rule checks is named, but not one after the end.
 sed '2i vehicles : 5' P-n16-k8.vrp >"$folder/limited.vrp"
 expect 0 'pass 0 0 450' "planner: $folder/limited.vrp: line 2 names a limit that is not asked" audit vrp "$folder/limited.vrp" P-n16-k8.sol
 expect 0 'pass 0 0 450' "planner: $folder/limited.vrp: line 2 names a limit that is not asked" explain vrp "$folder/limited.vrp" P-n16-k8.sol routes
@@ -91,7 +93,7 @@ got=$(printf 'lc101.txt\t%s\t10 829\n' "$folder/routes.sol" "$folder/fraction.so
 expect 1 'broken 5 route 1 place 1 stop 2' '' audit lilim one-pair.txt one-pair-reversed.sol
 expect 2 'instance FieldCount 1' '' audit lilim one-pair.sol one-pair.sol
 expect 3 'cannot read nowhere' 'planner: nowhere: No such file or directory (os error 2)' audit lilim one-pair.txt nowhere
-expect 0 'Says whether a solution keeps the rules, and the first rule that it breaks' '' audit --help
+expect 0 'Checks a solution against the rules, and names the first that it breaks' '' audit --help
 
 got=$("$program" audit lilim - lc101.sol <lc101.txt)
 [ "$got" = 'pass 0 10 829' ] || fail "audit of an instance on standard input: $got"
@@ -106,11 +108,11 @@ expect 64 '' "error: invalid value 'LILIM' for '<KIND>'" audit LILIM one-pair.tx
 expect 64 '' "error: unrecognized subcommand 'judge'" judge one-pair.txt one-pair.sol
 expect 0 'planner 0.1.0' '' --version
 
-# What ./planner answers where nothing is built, as here, is what the program answers.
-mkdir -p -- "$folder/bare/tools" "$folder/bare/crates/run_words" || exit 1
+# If nothing is built, as here, ./planner answers as the program does.
+mkdir -p -- "$folder/bare/tools" "$folder/bare/crates/cli_tests" || exit 1
 cp -- "$top/planner" "$folder/bare"
 cp -- "$top/tools/answer_words.sh" "$folder/bare/tools"
-cp -- "$top/crates/run_words/stdout" "$folder/bare/crates/run_words"
+cp -- "$top/crates/cli_tests/stdout" "$folder/bare/crates/cli_tests"
 alike() {
     "$program" "$@" >"$folder/output" 2>"$folder/error"
     wanted=$?
@@ -134,7 +136,7 @@ for words in -h --help help -V --version judge 'help judge' 'help --help' 'help 
     alike $words
 done
 
-# An explanation stands behind the audit's line; a picture that can't be drawn is told on standard error.
+# An explanation follows the audit's line. A picture that can't be drawn is reported on standard error.
 expect 0 'pass 0 10 829' '' explain lilim lc101.txt lc101.sol
 expect 1 'broken 5 route 1 place 1 stop 2' '' explain lilim one-pair.txt one-pair-reversed.sol
 expect 3 'cannot read nowhere' 'planner: nowhere: No such file or directory (os error 2)' explain lilim one-pair.txt nowhere
@@ -164,7 +166,7 @@ if [ -c /dev/full ]; then
     [ "$status, $got" = "3, $full" ] || fail "draw to a full output: status $status, '$got'"
 fi
 
-# A solution goes to standard output, what is told of the search to standard error.
+# A solution goes to standard output, the progress of the search to standard error.
 expect 0 'Route #1: 1 2' 'at 0 0 1 20' solve lilim one-pair.txt 3
 expect 2 '' 'instance FieldCount 1' solve lilim one-pair.sol 3
 expect 3 '' 'planner: nowhere: No such file or directory (os error 2)' solve lilim nowhere 3 7
@@ -174,12 +176,14 @@ expect 64 '' 'error: STEPS and DEVIATION are 0 to 1000000000 and SEED 0 to 18446
 [ "$("$program" solve lilim one-pair.txt +3 2>&1 | sed -n 3p)" = 'Usage: planner solve <KIND> <INSTANCE> <STEPS> [SEED] [DEVIATION]' ] || fail "solve: not its own usage"
 [ "$("$program" solve lilim one-pair.txt 3 2>/dev/null)" = "$(cat one-pair.sol)" ] || fail "solve: not the one plan of one pair"
 [ "$("$program" solve lilim one-pair.txt 3 2>&1 >/dev/null)" = "$(printf 'at %d 0 1 20\n' 0 1 2 3)" ] || fail "solve: not a line for each step"
-# A second pair that no vehicle can serve beside the first: one vehicle, and both are due at the same time at places apart.
+# A second pair that no vehicle can serve together with the first: there is one vehicle, and both pairs are due
+# at the same time in different places.
 printf '1 10 1\n0 0 0 0 0 100 0 0 0\n1 30 0 4 0 30 0 0 2\n2 31 0 -4 0 60 0 1 0\n3 -30 0 4 0 30 0 0 4\n4 -31 0 -4 0 60 0 3 0\n' >"$folder/two-pairs.txt"
 expect 1 'Route #1: 3 4' 'at 0 1 1 62' solve lilim "$folder/two-pairs.txt" 1
 [ "$("$program" solve lilim "$folder/two-pairs.txt" 0 2>&1 >/dev/null)" = "$(printf 'at 0 1 1 62\nunplanned 1: 3\nwhy 3: alone: a vehicle can serve it\nwhy 3: vehicle 1: stop 1 would start 60 late\nwhy 3: fleet: 1 of 1 vehicles are used\n')" ] || fail "solve: two pairs for one vehicle"
 [ "$("$program" solve lilim "$folder/two-pairs.txt" 0 2>/dev/null)" = 'Route #1: 1 2' ] || fail "solve: the routes of a plan that is not whole"
-# It has no cost line: a timetable takes it as a partial plan, an audit does not, and neither takes half a request.
+# It has no cost line: a timetable accepts it as a partial plan, an audit does not, and neither accepts half a
+# request.
 printf 'Route #1: 1 2\n' >"$folder/partial.sol"
 cat >"$folder/sheet" <<'END'
 partial 1 1 62
@@ -203,13 +207,13 @@ printf 'Route #1: 1\n' >"$folder/half.sol"
 expect 2 'solution NoCost 2' '' timetable lilim "$folder/two-pairs.txt" "$folder/half.sol"
 printf 'Route #1: 1 2\nCost 62\n' >"$folder/half.sol"
 expect 1 'broken 3 route 0 place 0 stop 3' '' timetable lilim "$folder/two-pairs.txt" "$folder/half.sol"
-# So is the plan of a store.
+# The same for the plan of a store.
 printf 'build\n' >"$folder/lines"
 [ "$("$program" load "$folder/partial.store" lilim "$folder/two-pairs.txt")" = ok ] || fail "load: two pairs"
 "$program" run "$folder/partial.store" <"$folder/lines" >/dev/null 2>&1 || fail "run: two pairs"
 expect 0 'partial 1 1 62' '' timetable "$folder/partial.store"
 cmp -s "$folder/output" "$folder/sheet" || fail "timetable: a partial plan of a store: $(cat "$folder/output")"
-# The plan is handed on before it is known why: in one pipe it stands before the reasons.
+# The plan is written before the reasons are known: in one pipe it comes before them.
 [ "$("$program" solve lilim "$folder/two-pairs.txt" 0 2>&1)" = "$(printf 'at 0 1 1 62\nRoute #1: 1 2\nunplanned 1: 3\nwhy 3: alone: a vehicle can serve it\nwhy 3: vehicle 1: stop 1 would start 60 late\nwhy 3: fleet: 1 of 1 vehicles are used\n')" ] || fail "solve: the plan waits for the reasons"
 # The optimum of an instance of Christofides and Eilon (1969), with each of three seeds.
 for seed in 1 2 3; do
@@ -219,7 +223,8 @@ for seed in 1 2 3; do
 done
 "$program" solve lilim lc101.txt 500 9 >"$folder/lc101.sol" 2>/dev/null && "$program" audit lilim lc101.txt "$folder/lc101.sol" >/dev/null || fail "audit does not pass what solve prints"
 
-# Why a request of a known instance is left out, by another program, which tries each place of each route.
+# The reasons why a request of a known instance is left out, from another program, which tries each place of
+# each route.
 sed 's/ 3 7 8/ 7 8/; s/ 75$//' lc101.sol >"$folder/lc101-3.sol"
 cat >"$folder/answers" <<'END'
 unplanned 3
@@ -240,7 +245,7 @@ sed 1d "$folder/answers" >"$folder/whys"
 "$program" timetable lilim lc101.txt "$folder/lc101-3.sol" | sed -n '/^unplanned/,$p' | cmp -s -- "$folder/answers" - || fail "timetable: why a request of lc101 is left out"
 "$program" timetable lilim lc101.txt "$folder/lc101-3.sol" tabs | sed -n 's/^why\t3\t/why 3: /p' | cmp -s -- - "$folder/whys" || fail "timetable tabs: why a request of lc101 is left out"
 
-# An instance on standard input is loaded into a store that is not there yet, and a text that is refused leaves none.
+# An instance on standard input is loaded into a new store, and a text that is refused leaves none.
 "$program" load "$folder/day.store" lilim - 7 <one-pair.sol >/dev/null
 status=$?
 [ "$status" = 2 ] && [ ! -e "$folder/day.store" ] || fail "load of a bad instance: status $status, wanted 2, or a store is there"
@@ -250,7 +255,7 @@ expect 3 'cannot read nowhere/day.store' 'planner: nowhere/day.store: No such fi
 expect 64 '' 'error: SEED is 0 to 18446744073709551615, in digits alone' load "$folder/day.store" lilim one-pair.txt 7.5
 expect 64 '' "error: invalid value 'careful' for '[strict]'" run "$folder/day.store" careful
 
-# One answer for each line of a list, whatever the others are.
+# One answer for each line of a list, whatever the other lines are.
 printf 'one-pair.txt\tone-pair.sol\none-pair.txt\nnowhere\tone-pair.sol\none-pair.txt\tone-pair-reversed.sol' >"$folder/pairs"
 printf 'one-pair.txt\tone-pair.sol\tpass 0 1 20\nbad line\nnowhere\tone-pair.sol\tcannot read nowhere\none-pair.txt\tone-pair-reversed.sol\tbroken 5 route 1 place 1 stop 2\n' >"$folder/answers"
 "$program" audits lilim "$folder/pairs" >"$folder/output" 2>/dev/null
@@ -259,13 +264,14 @@ status=$?
 "$program" audits lilim - <"$folder/pairs" 2>/dev/null | cmp -s -- "$folder/answers" - || fail "audits -: other answers"
 [ "$(printf '\n \t\none-pair.txt\tone-pair.sol\n' | "$program" audits lilim - 2>/dev/null)" = "$(printf 'bad line\nbad line\none-pair.txt\tone-pair.sol\tpass 0 1 20')" ] || fail "audits: a blank line ends the list"
 expect 3 'cannot read nowhere' 'planner: nowhere: No such file or directory (os error 2)' audits lilim nowhere
-# Beside a best-known cost: 9 of 820 are 1.098 percent.
+# With a best-known cost: 9 of 820 are 1.098 percent.
 printf 'lc101.txt\tlc101.sol\t%s\n' '10 829' '10 820' 829 '9 829' '828.94' >"$folder/pairs"
 printf 'lc101.txt\tlc101.sol\tpass 0 10 829 %s\n' 'gap 0.00' 'gap 1.10' 'gap 0.00' 'vehicles +1' >"$folder/answers"
 echo 'bad line' >>"$folder/answers"
 "$program" audits lilim "$folder/pairs" | cmp -s -- "$folder/answers" - || fail "audits: other comparisons with best-known costs"
 
-# What solves writes has the bytes that solve prints, one answer for each line, and nothing is overwritten.
+# The files of solves have the bytes that solve prints. There is one answer for each line, and nothing is
+# overwritten.
 solved=$folder/solved
 mkdir -- "$solved" || exit 1
 echo mine >"$solved/mine.sol"
@@ -283,7 +289,8 @@ cmp -s -- "$folder/lc101.sol" "$solved/lc101.sol" || fail "solves: not the solut
 [ "$(find "$solved" | wc -l)" = 5 ] || fail "solves: another file is there"
 "$program" solves lilim - 500 9 <"$folder/tasks" 2>/dev/null | head -n 1 | grep -q 'there already' || fail "solves -: not there already"
 
-# Each answer is handed on as soon as it is known, whatever it is: the next file, whose name may stand there already, has not come yet.
+# Each answer is written as soon as it is known, whatever it is. The next file, whose name may already exist,
+# has not arrived yet.
 mkfifo -- "$folder/late" || exit 1
 for words in audits solves; do
     case $words in
@@ -310,7 +317,7 @@ for words in audits solves; do
     waits=
 done
 
-# The picture of a store's plan is that of its printed solution: the vehicles that are not used stand behind the others here.
+# The picture of a store's plan is that of its printed solution: the unused vehicles come after the others here.
 "$program" load "$folder/drawn.store" lilim lc101.txt 7 >/dev/null
 ( echo build; echo print ) | "$program" run "$folder/drawn.store" | sed '1,2d;$d' >"$folder/drawn.sol"
 "$program" draw lilim lc101.txt "$folder/drawn.sol" >"$folder/drawn.svg"
@@ -320,7 +327,7 @@ expect 3 '' 'planner: nowhere: No such file or directory (os error 2)' draw nowh
 expect 2 '' 'no NoSuchRoute' draw "$folder/drawn.store" 26
 expect 64 '' 'error: the words are STORE [ROUTE] or KIND INSTANCE SOLUTION [ROUTE], KIND is lilim or vrp, and ROUTE a number, in digits alone' draw lilim one-pair.txt
 
-# A solution on standard input becomes the store's plan, and what the store holds is an instance that audits its plan.
+# A solution on standard input becomes the store's plan, and the instance of the store audits it.
 [ "$("$program" adopt "$folder/drawn.store" - <lc101.sol)" = 'ok' ] || fail "adopt of a solution on standard input"
 [ "$(echo print | "$program" run "$folder/drawn.store" | sed '1d;$d')" = "$(cat lc101.sol)" ] || fail "adopt: not the plan that was adopted"
 "$program" instance "$folder/drawn.store" >"$folder/held.txt" || fail "instance: status $?"
@@ -331,7 +338,7 @@ expect 0 'ok' '' format "$folder/no.store"
 expect 2 'no NoInstance' '' adopt "$folder/no.store" lc101.sol
 expect 2 'no NoInstance' '' instance "$folder/no.store"
 
-# A path is taken only as UTF-8.
+# A path is accepted only as UTF-8.
 latin=$(printf 'caf\351.sol')
 cp one-pair.sol "$folder/$latin"
 expect 64 '' 'error: a word is not UTF-8 text' audit lilim one-pair.txt "$folder/$latin"
@@ -343,7 +350,8 @@ if [ -c /dev/full ]; then
     "$program" format "$folder/full.store" >/dev/null || fail 'format for a full output'
     got=$("$program" check "$folder/full.store" 2>&1 >/dev/full)
     [ "$got" = "$full" ] || fail "check to a full output: '$got'"
-    # What tells that a store can't be opened goes by bytes that were counted, and keeps the reason all the same.
+    # The message that a store can't be opened goes through a writer that counts bytes, and keeps the reason all
+    # the same.
     got=$("$program" check nowhere 2>&1 >/dev/full | tail -n 1)
     [ "$got" = "$full" ] || fail "check of no store to a full output: '$got'"
 else

@@ -1,13 +1,15 @@
 #!/bin/sh
-# Answers words that want no program, as the program would: help, the version, and words that ask for nothing. The status is that of
-# the answer, 0 or 64, and 1 where the words want the program. What each word has behind it is read off its help.
+# Answers arguments that need no program, as the program would: help, the version, and usage errors. The status
+# is that of the answer, 0 or 64, and 1 if the arguments need the program. The arguments of each command are
+# read from its help.
 set -u
 
 top=$(CDPATH='' cd -- "$(dirname -- "$0")/.." && pwd -P)
 
-# What the program prints of these words, with bars between them. It stands in the list with which the gate compares its answers.
+# Prints the program's output for these arguments, given with bars between them, from the list with which the
+# gate compares its answers.
 text_of() {
-    sed -n "/^> $1\$/,/^= /p" "$top/crates/run_words/stdout" | sed '1d;$d'
+    sed -n "/^> $1\$/,/^= /p" "$top/crates/cli_tests/stdout" | sed '1d;$d'
 }
 
 # Prints this text, and ends.
@@ -16,7 +18,7 @@ print_text() {
     exit 0
 }
 
-# Tells why the words are refused, with a line of usage where there is one, and ends.
+# Prints why the arguments are refused, with a line of usage if there is one, and ends.
 refuse() {
     printf 'error: %s\n\n' "$1" >&2
     [ -z "$2" ] || printf '%s\n\n' "$2" >&2
@@ -24,7 +26,7 @@ refuse() {
     exit 64
 }
 
-# Whether the program has this command.
+# Succeeds if the program has this command.
 is_command() {
     for command in $(text_of help | sed -n '/^Commands:/,/^$/s/^  \([a-z]*\) .*/\1/p'); do
         [ "$command" != "$1" ] || return 0
@@ -32,7 +34,7 @@ is_command() {
     return 1
 }
 
-# Refuses a word that is none of the values that the command ($1) has for it ($2).
+# Refuses a word that is not one of the values that the command ($1) allows for this argument ($2).
 check_value() {
     values=$(text_of "help|$1" |
         awk -v name="$2" '$1 == name && match($0, /\[possible values: .*\]/) { print substr($0, RSTART, RLENGTH) }')
@@ -44,7 +46,7 @@ check_value() {
     esac
 }
 
-# Answers the words behind a command, where they ask for its help or are not as its usage has them.
+# Answers the arguments of a command if they request its help or do not match its usage.
 check_words() {
     name=$1
     shift
@@ -60,7 +62,7 @@ check_words() {
     done
     missing=
     is_flag=true
-    # The usage has brackets.
+    # The usage has brackets, which must not expand as patterns.
     set -f
     for place in ${usage#"Usage: planner $name"}; do
         if [ $# -gt 0 ]; then

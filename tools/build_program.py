@@ -1,10 +1,11 @@
 #!/usr/bin/env python3
 """Proves and builds a program of the repository: tools/build_program.py NAME.
 
-Its libraries are proved side by side, each once those below it stand, the one with most crates above it first, as many at once as
-cores and memory allow. `rt` holds the crates below the one that it works on, so two runs in one tree wait for each other: here each
-lane has a tree of its own, which shares by hard links what is proved already. A run that was interrupted is gone on from. A second
-run waits for the first. What the prover says where it refuses a crate goes to standard output; the status is 1 then.
+Its libraries are proved in parallel, each after those below it, the one with most crates above it first, as
+many at a time as cores and memory allow. `rt` locks the crates below the one that it works on, so two runs in
+one tree wait for each other. Therefore each lane has a tree of its own, which shares by hard links what is
+already proved. An interrupted run is continued. A second run waits for the first. If the prover refuses a
+crate, its output goes to standard output, and the status is 1.
 """
 import contextlib
 import fcntl
@@ -18,7 +19,7 @@ import sys
 import time
 
 TOP = pathlib.Path(__file__).resolve().parent.parent
-# Beside the sources, for hard links, and where the gate looks for none.
+# Beside the sources, for hard links, and ignored by the gate.
 LANES = TOP / ".git" / "lanes" if (TOP / ".git").is_dir() else TOP / "lanes"
 SOURCES = ("src", "specs", "proofs")
 MEMORY = 4_000_000_000
@@ -27,19 +28,19 @@ SIGNALS = (signal.SIGTERM, signal.SIGINT, signal.SIGHUP)
 
 
 def listed_crates():
-    """The lines of crates.txt, by the names of their crates."""
+    """Returns the lines of crates.txt, by the names of their crates."""
     lines = [line.split("#")[0] for line in (TOP / "crates.txt").read_text().splitlines()]
     return {line.split(":")[0].split()[0]: line for line in lines if line.strip()}
 
 
 def read_crates():
-    """The crates of the repository, each with those of them that it stands on."""
+    """Returns the crates of the repository, each with those that it depends on."""
     listed = listed_crates()
     return {name: [it for it in line.split(":")[1].split() if it in listed] for name, line in listed.items()}
 
 
 def below(crates, name):
-    """The crates that this one stands on, directly or not."""
+    """Returns the crates that this one depends on, directly or not."""
     found = set(crates[name])
     for it in crates[name]:
         found |= below(crates, it)
@@ -47,34 +48,38 @@ def below(crates, name):
 
 
 def lane_count():
-    """How many provers may run at once."""
+    """Returns how many provers may run at the same time."""
     free = int(re.search(r"MemAvailable:\s+(\d+)", pathlib.Path("/proc/meminfo").read_text())[1]) * 1024
     return max(1, min(len(os.sched_getaffinity(0)), free // MEMORY))
 
 
 def begin(words, folder, log):
-    """Begins a command in a session of its own, so that it can be ended with all that it begins."""
+    """Starts a command in a session of its own, so that it can be ended with all its children."""
     return subprocess.Popen(
         words, cwd=folder, stdin=subprocess.DEVNULL, stdout=log, stderr=subprocess.STDOUT, start_new_session=True
     )
 
 
 def stop(process):
-    """Ends the command, with all that it began."""
+    """Ends the command with all its children."""
     with contextlib.suppress(ProcessLookupError):
         os.killpg(process.pid, signal.SIGTERM)
     process.wait()
 
 
 def link(source, target):
-    """Gives the target the files of the source, in place of its own. Both folders are apart, and the disk holds the files once."""
+    """Replaces the files of the target by those of the source. The folders are separate, and the disk holds the
+    files once.
+    """
     shutil.rmtree(target, ignore_errors=True)
     if source.is_dir():
         shutil.copytree(source, target, copy_function=os.link)
 
 
 class Lane:
-    """A tree with the sources of these crates and its list of them, as `rt` wants it, in which one crate at a time is proved."""
+    """A tree with the sources of these crates and the list of them that `rt` needs, in which one crate at a
+    time is proved.
+    """
 
     def __init__(self, folder, names):
         self.crates = folder / "crates"
@@ -89,7 +94,7 @@ class Lane:
         shutil.copy(TOP / "HANDLES", folder)
 
     def begin(self, name, libraries, jobs):
-        """Begins to prove the crate over the libraries, which stand."""
+        """Starts to prove the crate over its libraries, which are proved."""
         self.name = name
         for it in libraries:
             link(TOP / "crates" / it / "out" / "rlib", self.crates / it / "out" / "rlib")
@@ -98,7 +103,7 @@ class Lane:
             self.process = begin(["rt", "lib", "--jobs", str(jobs)], self.crates / name, log)
 
     def end(self):
-        """Takes home what is kept of the crate. Gives its name, and whether it is proved."""
+        """Saves what the prover kept of the crate. Returns its name, and whether it is proved."""
         link(self.crates / self.name / "out", TOP / "crates" / self.name / "out")
         name, is_proved = self.name, self.process.returncode == 0
         self.name = self.process = None
@@ -106,7 +111,9 @@ class Lane:
 
 
 def take_home():
-    """Takes home what lanes have kept, and removes them, on which nobody waits: they hold tens of thousands of files."""
+    """Saves what lanes have kept, and removes the lanes in the background, since they hold tens of thousands of
+    files.
+    """
     for kept in LANES.glob("*/crates/*/out/incremental"):
         home = TOP / "crates" / kept.parent.parent.name / "out"
         if not (home / "rlib" / "stamp").exists():
@@ -119,7 +126,7 @@ def take_home():
 
 
 def tell(name, number, count):
-    """Tells which crate is being proved."""
+    """Prints which crate is being proved."""
     print(f"planner: proving {name} ({number} of {count})", file=sys.stderr, flush=True)
 
 
@@ -133,7 +140,7 @@ def prove(crates, program, lanes):
         ready = [it for it in left if libraries[it] <= proved]
         idle = [it for it in lanes if not it.process]
         for number, (lane, name) in enumerate(zip(idle, ready)):
-            # Cores that no other crate waits for go to the first.
+            # Cores that no other crate needs go to the first.
             jobs = min(MOST_JOBS, len(idle) - min(len(idle), len(ready)) + 1) if number == 0 else 1
             left.remove(name)
             tell(name, len(names) - len(left), len(names) + 1)
@@ -150,7 +157,7 @@ def prove(crates, program, lanes):
 
 
 def prove_libraries(crates, program):
-    """Proves the libraries of the program in lanes, which are removed behind that, however it ends."""
+    """Proves the libraries of the program in lanes, which are removed afterwards, whatever the result."""
     take_home()
     names = sorted(below(crates, program), key=list(crates).index)
     lanes = []
@@ -165,7 +172,7 @@ def prove_libraries(crates, program):
 
 
 def build(crates, program):
-    """Builds the program over its libraries, which stand."""
+    """Builds the program over its libraries, which are proved."""
     count = len(below(crates, program)) + 1
     tell(program, count, count)
     process = begin(["rt", "run"], TOP / "crates" / program, None)
@@ -176,14 +183,14 @@ def build(crates, program):
 
 
 def end(*_):
-    """Ends the run, once: what has begun to be taken home is."""
+    """Ends the run, once. A save that has begun is completed."""
     for it in SIGNALS:
         signal.signal(it, signal.SIG_IGN)
     sys.exit(3)
 
 
 def wait_for_others():
-    """Waits for another run in this tree, and gives what keeps further ones waiting while it is open."""
+    """Waits for another run in this tree, and returns the lock that makes later runs wait while it is open."""
     held = open(TOP / "crates.txt", encoding="utf-8")
     try:
         fcntl.flock(held, fcntl.LOCK_EX | fcntl.LOCK_NB)
@@ -199,7 +206,7 @@ def main():
         print(__doc__, file=sys.stderr)
         return 64
     for it in SIGNALS:
-        # What calls this may have it pass over one, as `nohup` does.
+        # The caller may have it ignore a signal, as `nohup` does.
         if signal.getsignal(it) != signal.SIG_IGN:
             signal.signal(it, end)
     program = sys.argv[1]

@@ -1,9 +1,10 @@
 #!/usr/bin/env python3
-"""Which contracts of public functions have changed since a commit: tools/contracts.py COMMIT [CRATE..]
+"""Lists the contracts of public functions that have changed since a commit: tools/contracts.py COMMIT [CRATE..]
 
-Told are the public functions that are gone or new, those whose parameters or clauses read otherwise, each with its lines before (-) and now (+), and
-the definitions that read otherwise and are reached from a public contract, with one function that reaches each. White space and comments don't
-count. Nothing is judged: whether a promise got weaker is for who reads the list. The status is 0 where nothing changed, else 1.
+Prints the public functions that are gone or new, those with changed parameters or clauses, each with its lines
+before (-) and now (+), and the changed definitions that a public contract reaches, with one function that
+reaches each. White space and comments don't count. Nothing is judged: whether a promise got weaker is for the
+reader to decide. The status is 0 if nothing changed, else 1.
 """
 import difflib
 import pathlib
@@ -12,7 +13,8 @@ import subprocess
 import sys
 
 TOP = pathlib.Path(__file__).resolve().parent.parent
-# A public function, or one of a public trait or of an impl of one, up to the line on which its body begins or its declaration ends.
+# A public function, or one of a public trait or its impl, up to the line on which its body begins or its
+# declaration ends.
 FUNCTION = re.compile(r"^( *)(?:pub )?(?:const )?fn (\w+)(.*?)^\1?(?:\{\}?|[^\n]*;)$", re.M | re.S)
 BLOCK = re.compile(r"^( *)(pub (?:trait|mod) \w+|impl\b[^\n{]*)", re.M)
 DEFINES = re.compile(r"^ *(?:(?:abbrev|unfoldable|data|record|pub|private|module) )*([^\s:(]+)(?= [:({]|\s)", re.M)
@@ -24,7 +26,9 @@ def git(*words):
 
 
 def files_at(commit):
-    """The sources and definitions of each crate, at a commit or, where none is named, as they stand: path and text."""
+    """Returns the sources and definitions of each crate, at a commit or, without one, in the working tree: path
+    and text.
+    """
     names = git("ls-tree", "-r", "--name-only", commit, "crates") if commit else git("ls-files", "-co", "--exclude-standard", "crates")
     for name in names.split("\n"):
         if re.fullmatch(r"crates/\w+/(src/.*\.rt|specs/.*\.antt)", name) and "/tests/" not in name:
@@ -35,13 +39,13 @@ def files_at(commit):
 
 
 def plain(text):
-    """The text without comments, its white space as single blanks."""
+    """Returns the text without comments, its white space as single blanks."""
     lines = (line for line in text.split("\n") if not re.match(r" *(--|//)", line))
     return " ".join(" ".join(lines).split())
 
 
 def owner_at(text, place, indent):
-    """The type or trait whose block a function stands in, where it is indented."""
+    """Returns the type or trait whose block contains a function, if the function is indented."""
     if not indent:
         return ""
     blocks = [it for it in BLOCK.finditer(text, 0, place) if len(it[1]) < len(indent)]
@@ -49,7 +53,7 @@ def owner_at(text, place, indent):
 
 
 def functions_of(path, text):
-    """Each public function's name and its signature with the clauses, a line each."""
+    """Returns each public function's name, and its signature with the clauses, one line each."""
     for found in FUNCTION.finditer(text):
         owner = owner_at(text, found.start(), found[1])
         is_public = found[0].lstrip().startswith("pub fn") or found[0].lstrip().startswith("pub const fn")
@@ -61,7 +65,7 @@ def functions_of(path, text):
 
 
 def definitions_of(path, text):
-    """Each definition's name and text: what stands between blank lines is one."""
+    """Returns each definition's name and text. Blank lines separate definitions."""
     for block in re.split(r"\n\s*\n", text):
         body = "\n".join(line for line in block.split("\n") if not re.match(r"\s*(--|use )", line))
         found = DEFINES.search(body)
@@ -70,14 +74,14 @@ def definitions_of(path, text):
 
 
 def crates_at(commit):
-    """Each crate with itself and the crates that it stands on, from crates.txt."""
+    """Returns each crate with itself and the crates that it depends on, from crates.txt."""
     text = git("show", f"{commit}:crates.txt") if commit else (TOP / "crates.txt").read_text()
     rows = (line.split("#")[0].partition(":") for line in text.split("\n"))
     return {name.split()[0]: [name.split()[0], *below.split()] for name, _, below in rows if name.strip()}
 
 
 class Tree:
-    """The contracts and definitions of a commit, or of what stands."""
+    """The contracts and definitions of a commit, or of the working tree."""
 
     def __init__(self, commit):
         self.functions, self.definitions, self.stands_on = {}, {}, crates_at(commit)
@@ -90,12 +94,12 @@ class Tree:
                     self.definitions.setdefault((path.split("/")[1], name), set()).add(body)
 
     def found(self, crate, text):
-        """The definitions that a text of a crate names, each in the first crate that has it."""
+        """Returns the definitions that a text of a crate names, each in the first crate that has it."""
         for word in set(NAME.findall(text)) - {"_"}:
             yield from [(it, word) for it in self.stands_on.get(crate, []) if (it, word) in self.definitions][:1]
 
     def reached(self, names):
-        """Each definition that these functions reach, with one function that does."""
+        """Returns each definition that these functions reach, with one function that does."""
         by = {}
         for function in names:
             left = list(self.found(function.split("::")[0], " ".join(self.functions.get(function, []))))

@@ -1,12 +1,14 @@
 #!/usr/bin/env python3
-"""How long each function of a crate takes to prove: tools/proof_times.py CRATE [--test], of its tests with --test.
+"""Measures how long each function of a crate takes to prove: tools/proof_times.py CRATE [--test]. With --test,
+measures the functions of its tests.
 
-Prints seconds of the clock, the most first, their share, and the dearest modules that the prover makes of it: `Lts` is what the borrow
-checker leaves, which grows with ways out times live values, `Proof` what answers the goals. The libraries below have to be proved, as
-`rt check CRATE` does.
+Prints elapsed seconds, the longest first, their share, and the most expensive modules that the prover makes of
+the function: `Lts` is the work of the borrow checker, which grows with exits times live values, `Proof` what
+answers the goals. The libraries below must be proved, as `rt check CRATE` does.
 
-The crate is proved from nothing in a copy, one module behind another, over a folder where the prover keeps each module as it ends with
-it: a module took the time since the one before was kept. Beside other work all figures are larger.
+The crate is proved from nothing in a copy, one module after another, over a folder where the prover saves each
+module when it ends with it: a module's time is the time since the previous one was saved. Beside other work all
+times are longer.
 """
 import collections
 import pathlib
@@ -20,7 +22,7 @@ import time
 TOP = pathlib.Path(__file__).resolve().parent.parent
 CRATES = TOP / "crates"
 SHOWN = 30
-# What the prover does before it has ended with a first module: it reads the crate and the libraries.
+# The prover's work before it ends with the first module: it reads the crate and the libraries.
 BEFORE = ("(reading)", "")
 # The modules that the prover makes of a function, below its own name.
 OF_A_FUNCTION = {
@@ -30,13 +32,13 @@ OF_A_FUNCTION = {
 
 
 def libraries_of(name):
-    """The libraries that crates.txt names behind a crate."""
+    """Returns the libraries that crates.txt lists for a crate."""
     line = re.search(rf"^{name}:(.*)$", (TOP / "crates.txt").read_text(), re.MULTILINE)
     return ["std", *line[1].split()] if line else None
 
 
 def command_of(kit, name, words):
-    """The check of the crate in the folder where it runs, over the libraries as they are proved."""
+    """Returns the command that checks the crate in the folder where it runs, over the proved libraries."""
     root = "src/main.rt" if (CRATES / name / "src" / "main.rt").is_file() else "src/lib.rt"
     command = [kit / "bin" / "rattle", "check", "--crate-name", name, root, "--jobs", "1", *words]
     for library in libraries_of(name):
@@ -48,7 +50,7 @@ def command_of(kit, name, words):
 
 
 def part_of(name, module):
-    """The function, type or file that a module is of, and which of its modules it is."""
+    """Returns the function, type or file that a module belongs to, and which of its modules it is."""
     path = re.sub(rf"^Rattle-{name}(-proofs|-specs)?\.?(proofs\.|specs\.)?(contracts\.)?", "", module)
     parts = path.split(".")
     end = next((at for at, part in enumerate(parts) if part in OF_A_FUNCTION), None)
@@ -56,7 +58,7 @@ def part_of(name, module):
 
 
 def seconds_by_part(name, began, kept):
-    """The seconds until each module was kept, summed by what it is of and by which module it is."""
+    """Returns the seconds until each module was saved, summed by its owner and by the kind of module."""
     seconds = collections.defaultdict(collections.Counter)
     for at, module in sorted((it.stat().st_mtime, it.stem) for it in kept.glob("*/*.oantt")):
         part, kind = part_of(name, module) if seconds else BEFORE

@@ -1,4 +1,4 @@
-//! Small stand-ins for what the search takes of the kit: `Vec`, the map in insertion order, the generator of ChaCha20. Memory is never refused.
+//! Small stand-ins for the parts of the kit that the search uses: `Vec`, the map in insertion order, the generator of ChaCha20. No allocation fails.
 #![allow(dead_code)]
 use std::collections::HashMap;
 use std::ops::{Deref, DerefMut};
@@ -340,15 +340,15 @@ impl Buffer {
     }
 }
 
-/// What may log.
+/// A handle that can log.
 pub trait Log {
     fn log(&self, said: std::fmt::Arguments);
 }
 
-/// Tells each try on standard error.
-pub struct Tried;
+/// Prints each attempt on standard error.
+pub struct Attempts;
 
-impl Log for Tried {
+impl Log for Attempts {
     fn log(&self, said: std::fmt::Arguments) {
         eprintln!("{said}");
     }

@@ -1,4 +1,4 @@
-//! Builds a plan by best insertion, makes steps in memory, and prints what it costs then: `search|anneal|reduce KIND INSTANCE STEPS SEED DEVIATION`.
+//! Builds a plan by best insertion, makes steps in memory, and prints the cost of the result: `search|anneal|reduce KIND INSTANCE STEPS SEED DEVIATION`.
 use kit::Global;
 use move_ops::Draft;
 use plan_types::{Pins, Plan, Problem, Route, Routes};
@@ -35,14 +35,14 @@ fn main() {
         "anneal" | "reduce" => anneal_search::anneal_steps,
         _ => seeded_search::search_steps,
     };
-    let (begun, first) = match words[0].as_str() {
+    let (start, first) = match words[0].as_str() {
         "reduce" => {
-            let tried = fleet_tries::try_fleets(&kit::Tried, Global, &problem, &pins, &plan, number(4), 0, number(3) as u32).unwrap();
-            (tried.plan, tried.step)
+            let reduction = fleet_reduction::reduce_fleet(&kit::Attempts, Global, &problem, &pins, &plan, number(4), 0, number(3) as u32).unwrap();
+            (reduction.plan, reduction.step)
         }
         _ => (plan, 0),
     };
-    let found = steps(Global, &problem, &pins, &begun, &begun, number(5) as u32, number(4), first, number(3) - first).unwrap();
+    let found = steps(Global, &problem, &pins, &start, &start, number(5) as u32, number(4), first, number(3) - first).unwrap();
     let cost = route_sched::plan_cost(&problem, &found.plan);
     println!("cost {} {} {}", cost.unplanned, cost.vehicles, cost.distance);
 }

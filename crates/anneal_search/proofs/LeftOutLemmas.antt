@@ -1,4 +1,5 @@
--- What a candidate leaves out stands among the requests that were put in again, and how often each was left out.
+-- The requests that a candidate leaves out are among those that were inserted again, and the counters of
+-- absences are bounded
 use Rattle.std.proofs.Common.{◌≡◌, ◌∙◌, ℕ, not, true, false, List, [], ◌∷◌, map, filter, Some, refl, sym, ap, subst, inl, inr, nat_eq}
 use Rattle.std.specs.List.{AllByRecursion}
 use Rattle.std.specs.Map.{lookup}
@@ -11,7 +12,7 @@ use Rattle.seeded_search.specs.Steps.{unplanned_names}
 use Rattle.anneal_search.specs.Absences.{HoldLeftOut, is_left_out, left_out}
 use Rattle.anneal_search.specs.Annealing.{recreated}
 use Rattle.anneal_search.specs.Orders.{ordered}
-use Rattle.anneal_search.proofs.MissingLemmas.{entries_found}
+use Rattle.anneal_search.proofs.UnplannedNameLemmas.{entries_found}
 use Rattle.anneal_search.proofs.PlacedLemmas.{placed_all_keeps}
 
 module _ (p : Instance) (left new : List (List ℕ)) (kept : (r : Request) → is_planned left r ≡ true → is_planned new r ≡ true) where
@@ -28,10 +29,10 @@ module _ (p : Instance) (left new : List (List ℕ)) (kept : (r : Request) → i
         ])
   ]
 
--- all that is left out once requests were put in was left out before
+-- Every request that is left out after insertions was left out before them
 pub held : (p : Instance) (pins : List (List ℕ)) (w : ℕ) (left new : List (List ℕ)) (names : List ℕ) → IsInstance p → names ≡ unplanned_names p left
     → new ≡ recreated p pins w left → HoldLeftOut p new names
 held p pins w left new names valid is made =
     let kept : (r : Request) → is_planned left r ≡ true → is_planned new r ≡ true =
     λ r had. subst (λ l. is_planned l r ≡ true) (sym made) (placed_all_keeps p pins r (ordered p w (unplanned_names p left)) left had) in
-    ap (left_out p new) is ∙ among p left new kept p.requests (entries_found p.requests valid.rising)
+    ap (left_out p new) is ∙ among p left new kept p.requests (entries_found p.requests valid.ascending)

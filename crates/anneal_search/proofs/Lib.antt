@@ -1,21 +1,20 @@
--- The lemma files; upper crates may cite those that are `pub`.
+-- The lemma files. Crates that use this one may cite those that are `pub`.
 mod AnnealLemmas
 mod BoundLemmas
 mod CutLemmas
-mod FrontLemmas
+mod NearestStopLemmas
 mod LeftOutLemmas
-mod LookLemmas
-mod MetLemmas
-mod MissingLemmas
+mod ScanLemmas
+mod ScanOrderLemmas
+mod UnplannedNameLemmas
 mod NearLemmas
 mod NearestLemmas
 mod OrderLemmas
 pub mod PlacedLemmas
 mod PlannedLemmas
-pub mod RequestCounts
 pub mod SortLemmas
-mod SeatLemmas
+mod HintLemmas
 mod StopLemmas
 mod StringExamples
 mod StringLemmas
-mod TryLemmas
+mod AttemptLemmas

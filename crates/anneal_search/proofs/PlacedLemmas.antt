@@ -1,4 +1,4 @@
--- A request that is put into a plan is planned there, beside all that were planned before.
+-- A request that is inserted into a plan is planned then, like all that were planned before
 use Rattle.std.proofs.Common.{◌≡◌, ℕ, ◌+◌, ◌||◌, true, false, not, List, [], ◌∷◌, length, Option, Some, None, unwrap_or, refl, sym, subst, inl, inr, arith}
 use Rattle.std.specs.List.{concat}
 use Rattle.std.specs.Option.{option_and_then}
@@ -8,7 +8,7 @@ use Rattle.plan_types.specs.declared.requests.Request.{Request}
 use Rattle.plan_types.specs.declared.requests.Request.TheVariants.{Single, Pair}
 use Rattle.route_sched.specs.Cost.{has_stop, is_planned}
 use Rattle.plan_audit.specs.Passes.{passes}
-use Rattle.move_ops.specs.Insertion.{Insertion, request_named, of_vehicle, passing, inserted, with_request_at, is_place_of, best_insertion, put_in}
+use Rattle.move_ops.specs.Insertion.{Insertion, request_named, route_of, passing, inserted, with_request_at, is_place_of, best_insertion, inserted_at}
 use Rattle.move_ops.specs.Drafts.{placed}
 use Rattle.move_ops.proofs.Counting.{planned_where}
 use Rattle.move_ops.proofs.Fitting.{had_often, often_had}
@@ -16,16 +16,16 @@ use Rattle.move_ops.proofs.Inserting.{numbers_of, times_inserted}
 use Rattle.move_ops.proofs.Replacing.{times_with}
 use Rattle.move_ops.proofs.Times.{some_same, times}
 use Rattle.seeded_search.specs.Steps.{placed_all}
-use Rattle.seeded_search.proofs.WalkLemmas.{and_then_some, then_some}
+use Rattle.seeded_search.proofs.SearchLemmas.{and_then_some, then_some}
 
--- how often numbers stand with a request put in
+-- The number of times that a number occurs after a request is inserted
 times_then : (n : ℕ) (pins routes : List (List ℕ)) (r : Request) (x : Insertion) → is_place_of pins routes r x ≡ true
     → times n (concat (with_request_at routes r x)) ≡ times n (numbers_of r) + times n (concat routes)
 times_then n pins routes r x at =
     let a = and_parts _ _ at in
     let b = and_parts _ _ a.1 in
-    let e = times_with n routes x.0 (inserted r x.1 x.2 (of_vehicle routes x.0)) (leb-true 1 x.0 a.0) (leb-true x.0 (length routes) b.0) in
-    let f = times_inserted n r x.1 x.2 (of_vehicle routes x.0) in
+    let e = times_with n routes x.0 (inserted r x.1 x.2 (route_of routes x.0)) (leb-true 1 x.0 a.0) (leb-true x.0 (length routes) b.0) in
+    let f = times_inserted n r x.1 x.2 (route_of routes x.0) in
     omega arith
 
 module _ (pins routes : List (List ℕ)) (r : Request) (x : Insertion) (at : is_place_of pins routes r x ≡ true) where
@@ -51,8 +51,8 @@ module _ (pins routes : List (List ℕ)) (r : Request) (x : Insertion) (at : is_
   pub planned_now : is_planned new r ≡ true
   planned_now = planned_where new r (λ n. let e = times_then n pins routes r x at in omega arith)
 
--- a chain of tests and look-ups gives the plan
-pub put_in_gives : (p : Instance) (pins routes : List (List ℕ)) (name : ℕ) (x : Insertion) (y : List (List ℕ)) → put_in p pins routes name x ≡ Some y
+-- If all tests and look-ups succeed, the result is the plan with the request
+pub put_in_gives : (p : Instance) (pins routes : List (List ℕ)) (name : ℕ) (x : Insertion) (y : List (List ℕ)) → inserted_at p pins routes name x ≡ Some y
     → (r : Request) × (request_named p name ≡ Some r) × (is_planned routes r ≡ false) × (is_place_of pins routes r x ≡ true) × (passes p pins y ≡ true) × (y ≡ with_request_at routes r x)
 put_in_gives p pins routes name x y is =
     let t = and_then_some _ (request_named p name) y is in
@@ -65,16 +65,16 @@ put_in_gives p pins routes name x y is =
 
 module _ (p : Instance) (pins : List (List ℕ)) (s : Request) where
   placed_keeps : (routes : List (List ℕ)) (name : ℕ) → is_planned routes s ≡ true → is_planned (placed p pins routes name) s ≡ true
-  placed_keeps routes name had = by (option_and_then (put_in p pins routes name) (best_insertion p pins routes name)) refl
+  placed_keeps routes name had = by (option_and_then (inserted_at p pins routes name) (best_insertion p pins routes name)) refl
     where
-      by : (o : Option (List (List ℕ))) → option_and_then (put_in p pins routes name) (best_insertion p pins routes name) ≡ o → is_planned (unwrap_or o routes) s ≡ true
+      by : (o : Option (List (List ℕ))) → option_and_then (inserted_at p pins routes name) (best_insertion p pins routes name) ≡ o → is_planned (unwrap_or o routes) s ≡ true
       by None e = had
       by (Some y) e =
-          let t = and_then_some (put_in p pins routes name) (best_insertion p pins routes name) y e in
+          let t = and_then_some (inserted_at p pins routes name) (best_insertion p pins routes name) y e in
           let g = put_in_gives p pins routes name t.0 y t.2 in
           subst (λ l. is_planned l s ≡ true) (sym g.5) (planned_kept pins routes g.0 t.0 g.3 s had)
 
-  -- requests that are placed one after another
+  -- A planned request stays planned while several others are inserted one by one
   pub placed_all_keeps : (names : List ℕ) (routes : List (List ℕ)) → is_planned routes s ≡ true → is_planned (placed_all p pins routes names) s ≡ true
   placed_all_keeps [] routes had = had
   placed_all_keeps (name ∷ names) routes had = placed_all_keeps names (placed p pins routes name) (placed_keeps routes name had)

@@ -1,4 +1,4 @@
--- A table of a route has the stops that the problem has under the route's numbers.
+-- The table of a route has the stops of the problem with the route's numbers
 use Rattle.std.proofs.Common.{◌≡◌, ℕ, suc, ◌+◌, ◌<◌, ◌≤◌, eqb, false, List, [], ◌∷◌, length, Option, Some, None, refl, sym, ap, subst, ◌∙◌, inl, inr, arith, add-one, Bor}
 use Rattle.std.specs.List.{AllByRecursion}
 use Rattle.std.specs.Option.{option_copied}
@@ -12,15 +12,15 @@ use Rattle.plan_types.specs.declared.requests.Request.TheVariants.{Single, Pair}
 use Rattle.plan_types.specs.declared.requests.Stop.{Stop}
 use Rattle.nint_dist.specs.Distance.{distance}
 use Rattle.route_sched.specs.Route.{place, stop_numbered}
-use Rattle.anneal_search.specs.Going.{found_from}
-use Rattle.anneal_search.specs.declared.routes.Near.{Near}
-use Rattle.anneal_search.specs.Nearest.{near}
+use Rattle.anneal_search.specs.StepLoops.{found_from}
+use Rattle.anneal_search.specs.declared.routes.NearStop.{NearStop}
+use Rattle.anneal_search.specs.NearestRoutes.{near}
 use Rattle.anneal_search.proofs.BoundLemmas.{none_beyond}
 
 not_zero : (n : ℕ) → 1 ≤ n → eqb n 0 ≡ false
 not_zero n h = grind (arith, h)
 
--- no request has a stop 0
+-- No request has a stop 0
 zero_in : (es : List (ℕ × Request)) → AllByRecursion (λ e. IsRequest e.1) es → first_some (stop_in 0) es ≡ None
 zero_in [] h = refl
 zero_in ((n, Single s) ∷ es) h = rw (not_zero s.number h.0.0.from_one) (zero_in es h.1)
@@ -38,15 +38,15 @@ module _ (p : Instance) (valid : IsInstance p) where
   unfolding place
   stop_there route k = subst (λ i. stop_numbered p (slice_index (0 ∷ route) i) ≡ unwrap_or (stop_at p (slice_index route k)) p.depot) (sym (add-one k)) (numbered (slice_index route k))
 
--- where each stop is farther away than the limit, none is found
-pub none_found : (p : Instance) (center : Stop) (vehicle k : ℕ) (limit : Near) (ns : List ℕ)
+-- If each stop is farther away than the limit, none is found
+pub none_found : (p : Instance) (center : Stop) (vehicle k : ℕ) (limit : NearStop) (ns : List ℕ)
     → ((j : ℕ) → j < length ns → limit.distance < distance center (unwrap_or (stop_at p (slice_index ns j)) p.depot))
     → found_from p center vehicle (Some limit) None k ns ≡ None
 none_found p center vehicle k limit [] far = refl
 none_found p center vehicle k limit (n ∷ ns) far =
     rw (none_beyond (near p center vehicle k n) limit (far 0 (omega arith))) (none_found p center vehicle (k + 1) limit ns (λ j below. far (suc j) (omega arith)))
 
--- a stop that is found is known by its number
+-- A stop that is found has its number
 pub stop_known : (p : Instance) (n : ℕ) (o : Option (Bor Stop)) → option_copied o ≡ stop_at p n
     → IfSome o (λ s. (s.now.number ≡ n) × IsStop s.now × (n < p.next_number)) → IfSome o (λ s. stop_at p s.now.number ≡ Some s.now)
 stop_known p n None found is = tt

@@ -1,4 +1,4 @@
--- Stops and used routes, counted up to the front.
+-- The numbers of stops and used routes, counted in the used part of the plan
 use Rattle.std.proofs.Common.{◌≡◌, ℕ, zero, suc, ◌+◌, ◌<◌, ◌≤◌, ◌==◌, Bool, true, false, not, cond, List, [], ◌∷◌, length, drop, get_or, refl, sym, ap, ◌∙◌, arith, add-one}
 use Rattle.std.specs.Int.{from_bool}
 use Rattle.std.specs.List.{concat}
@@ -6,28 +6,28 @@ use Rattle.std.proofs.lemmas.List.{drop_more, length-append, nil_from_length}
 use Rattle.std.proofs.lemmas.List.Sums.{sum_by-cons}
 use Rattle.std.proofs.lemmas.Option.{unwrap_or-slice_get}
 use Rattle.route_sched.specs.Cost.{used_count}
-use Rattle.move_ops.specs.Insertion.{of_vehicle}
-use Rattle.move_ops.specs.Drafts.{AreIdleBehind}
+use Rattle.move_ops.specs.Insertion.{route_of}
+use Rattle.move_ops.specs.Drafts.{AreIdleAfter}
 
-route_at : (plan : List (List ℕ)) (k : ℕ) → of_vehicle plan (k + 1) ≡ get_or plan k []
+route_at : (plan : List (List ℕ)) (k : ℕ) → route_of plan (k + 1) ≡ get_or plan k []
 route_at plan k = rw (add-one k) (unwrap_or-slice_get plan k [])
 
-drop_at : (routes : List (List ℕ)) (k : ℕ) → k < length routes → drop k routes ≡ of_vehicle routes (k + 1) ∷ drop (k + 1) routes
+drop_at : (routes : List (List ℕ)) (k : ℕ) → k < length routes → drop k routes ≡ route_of routes (k + 1) ∷ drop (k + 1) routes
 drop_at routes k within = drop_more routes k [] within ∙ ap (λ r. r ∷ drop (k + 1) routes) (sym (route_at routes k))
 
-later : (r : List ℕ) (routes : List (List ℕ)) (k j : ℕ) → j < k + 2 → AreIdleBehind j (r ∷ routes) → AreIdleBehind k routes
+later : (r : List ℕ) (routes : List (List ℕ)) (k j : ℕ) → j < k + 2 → AreIdleAfter j (r ∷ routes) → AreIdleAfter k routes
 later r routes k j low idle zero above = refl
 later r routes k j low idle (suc i) above = idle (suc (suc i)) (omega arith)
 
 -- ---- stops
 pub stops_more : (routes : List (List ℕ)) (k count all : ℕ) → k < length routes → count + length (concat (drop k routes)) ≡ all
-    → count + length (of_vehicle routes (k + 1)) + length (concat (drop (k + 1) routes)) ≡ all
+    → count + length (route_of routes (k + 1)) + length (concat (drop (k + 1) routes)) ≡ all
 stops_more routes k count all within so_far =
-    let here : length (concat (drop k routes)) ≡ length (of_vehicle routes (k + 1)) + length (concat (drop (k + 1) routes)) =
-    ap (λ (rs : List (List ℕ)). length (concat rs)) (drop_at routes k within) ∙ length-append (of_vehicle routes (k + 1)) (concat (drop (k + 1) routes)) in
+    let here : length (concat (drop k routes)) ≡ length (route_of routes (k + 1)) + length (concat (drop (k + 1) routes)) =
+    ap (λ (rs : List (List ℕ)). length (concat rs)) (drop_at routes k within) ∙ length-append (route_of routes (k + 1)) (concat (drop (k + 1) routes)) in
     omega arith
 
-none_left : (routes : List (List ℕ)) (front : ℕ) → AreIdleBehind front routes → length (concat (drop front routes)) ≡ 0
+none_left : (routes : List (List ℕ)) (front : ℕ) → AreIdleAfter front routes → length (concat (drop front routes)) ≡ 0
 none_left [] zero idle = refl
 none_left [] (suc front) idle = refl
 none_left (r ∷ routes) zero idle =
@@ -37,7 +37,7 @@ none_left (r ∷ routes) zero idle =
     e ∙ (let sum : length r + length (concat routes) ≡ 0 = omega arith in sum)
 none_left (r ∷ routes) (suc front) idle = none_left routes front (later r routes front (suc front) (omega arith) idle)
 
-pub stops_end : (routes : List (List ℕ)) (front count all : ℕ) → AreIdleBehind front routes → count + length (concat (drop front routes)) ≡ all → count ≡ all
+pub stops_end : (routes : List (List ℕ)) (front count all : ℕ) → AreIdleAfter front routes → count + length (concat (drop front routes)) ≡ all → count ≡ all
 stops_end routes front count all idle so_far = let e = none_left routes front idle in omega arith
 
 -- ---- used routes
@@ -55,14 +55,14 @@ used_most route = by (length route == 0)
     by true = omega arith
     by false = omega arith
 
-pub used_more : (routes : List (List ℕ)) (k count new all : ℕ) → k < length routes → new ≡ count + used (of_vehicle routes (k + 1)) → count + used_count (drop k routes) ≡ all
+pub used_more : (routes : List (List ℕ)) (k count new all : ℕ) → k < length routes → new ≡ count + used (route_of routes (k + 1)) → count + used_count (drop k routes) ≡ all
     → new + used_count (drop (k + 1) routes) ≡ all
 used_more routes k count new all within made so_far =
-    let here : used_count (drop k routes) ≡ used (of_vehicle routes (k + 1)) + used_count (drop (k + 1) routes) =
-    ap used_count (drop_at routes k within) ∙ sum_by-cons used (of_vehicle routes (k + 1)) (drop (k + 1) routes) in
+    let here : used_count (drop k routes) ≡ used (route_of routes (k + 1)) + used_count (drop (k + 1) routes) =
+    ap used_count (drop_at routes k within) ∙ sum_by-cons used (route_of routes (k + 1)) (drop (k + 1) routes) in
     omega arith
 
-none_used : (routes : List (List ℕ)) (front : ℕ) → AreIdleBehind front routes → used_count (drop front routes) ≡ 0
+none_used : (routes : List (List ℕ)) (front : ℕ) → AreIdleAfter front routes → used_count (drop front routes) ≡ 0
 none_used [] zero idle = refl
 none_used [] (suc front) idle = refl
 none_used (r ∷ routes) zero idle =
@@ -72,5 +72,5 @@ none_used (r ∷ routes) zero idle =
     e ∙ (let sum : used r + used_count routes ≡ 0 = omega arith in sum)
 none_used (r ∷ routes) (suc front) idle = none_used routes front (later r routes front (suc front) (omega arith) idle)
 
-pub used_end : (routes : List (List ℕ)) (front count all : ℕ) → AreIdleBehind front routes → count + used_count (drop front routes) ≡ all → count ≡ all
+pub used_end : (routes : List (List ℕ)) (front count all : ℕ) → AreIdleAfter front routes → count + used_count (drop front routes) ≡ all → count ≡ all
 used_end routes front count all idle so_far = let e = none_used routes front idle in omega arith

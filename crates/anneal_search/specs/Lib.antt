@@ -1,17 +1,17 @@
--- what public contracts reach
+-- Definitions that public contracts use
 pub mod Draws
 pub mod Sorting
 pub mod Orders
-pub mod Nearest
+pub mod NearestRoutes
 pub mod Strings
 pub mod Annealing
-pub mod Trying
-pub mod TryLaws
+pub mod AttemptState
+pub mod AttemptLaws
 pub mod AnnealLaws
 pub mod StringLaws
--- of private functions alone
-pub mod Going
-pub mod Fronts
-pub mod Missing
+-- Definitions that only private functions use
+pub mod StepLoops
+pub mod NearestStops
+pub mod UnplannedNames
 pub mod Absences
-pub mod Attempts
+pub mod AttemptSteps

@@ -1,14 +1,15 @@
-//! How often each request was left out of a candidate, by its name, and what it weighs.
+//! Absence counters: how often each request was left out of a candidate, by name, and the weight of several
+//! requests.
 ghost use Rattle.std.specs.Prelude.{◌≡◌, ℕ, ◌+◌, ◌<◌, ◌^◌, IfOk, length};
 ghost use Rattle.move_ops.specs.Drafts.{draft_of};
-ghost use Rattle.anneal_search.specs.Trying.{absences_of, counted, once_more, weight};
+ghost use Rattle.anneal_search.specs.AttemptState.{absences_of, counted, counted_once, weight};
 ghost use Rattle.anneal_search.specs.Absences.{AreAtMost, is_left_out, left_out};
 
 use move_ops::{Draft, request_named};
 use plan_types::{OutOfMemory, Problem};
 use std::alloc::Global;
 
-/// Those of the names whose requests have no stop in the draft.
+/// Returns those names whose requests have no stop in the draft.
 pub(crate) fn left_out(
     alloc: Global,
     problem: &Problem,
@@ -56,7 +57,7 @@ fn count_in(absences: &mut [u64], names: &[u32])
 
 fn count_once(absences: &mut [u64], name: u32)
     requires { absences_of absences.old name + 1 < 2 ^ 64 }
-    ensures { absences.new ≡ once_more absences.old name }
+    ensures { absences.new ≡ counted_once absences.old name }
 {
     let name = name as usize;
     if name < absences.len() {
@@ -64,7 +65,7 @@ fn count_once(absences: &mut [u64], name: u32)
     }
 }
 
-/// How often these requests were left out in all.
+/// Returns how often these requests were left out in all.
 pub(crate) fn weight(absences: &[u64], names: &[u32]) -> u128
     ensures { result ≡ weight absences.now names.now }
 {

@@ -1,52 +1,53 @@
-//! What nearest stops, strings and orders mean, and what annealing steps keep: each law for every word, seed and step.
-ghost use Rattle.anneal_search.specs.AnnealLaws.{AnnealStepsAddUp, AnnealStepsKeepPassing, AnnealedNeverCostMore};
-ghost use Rattle.anneal_search.specs.TryLaws.{TriesAreShort, TriesKeepPassing};
-ghost use Rattle.anneal_search.specs.StringLaws.{StringsLieAround, NearestAreLeast, RoutesAreRising, OrdersAreRising};
+//! Laws of nearest stops, strings, orders and annealing steps: each holds for every word, seed and step.
+ghost use Rattle.anneal_search.specs.AnnealLaws.{AnnealStepsAddUp, AnnealStepsKeepPassing, AnnealingNeverCostsMore};
+ghost use Rattle.anneal_search.specs.AttemptLaws.{AttemptsAreBounded, AttemptsKeepPassing};
+ghost use Rattle.anneal_search.specs.StringLaws.{StringsLieAround, NearestStopIsClosest, RoutesAreAscending, OrdersAreAscending};
 
-use plan_types::costs_are_in_order;
+use plan_types::costs_are_totally_ordered;
 
-/// A string has its route's nearest stop, lies within the route, and takes out no more stops than it may, beside one that it keeps, which
-/// stands within it.
+/// Proves that a string contains the nearest stop of its route, lies within the route, and removes no more stops
+/// than it may. It may keep one more stop inside.
 pub fn strings_lie_around()
     ensures { StringsLieAround }
 {}
 
-/// The nearest stop of a route is one of its stops, none of them is nearer, and each route with stops has one.
-pub fn nearest_are_least()
-    ensures { NearestAreLeast }
+/// Proves that the nearest stop of a route is one of its stops, that none is nearer, and that each route with
+/// stops has one.
+pub fn nearest_stop_is_closest()
+    ensures { NearestStopIsClosest }
 {}
 
-/// The routes of which the first are cut are those of all used vehicles, each with its nearest stop, rising by the distance and number of
-/// these stops.
-pub fn routes_are_rising()
-    ensures { RoutesAreRising }
+/// Proves that the nearest routes are those of all used vehicles, each with its nearest stop, in ascending
+/// order of the distance and number of these stops. A step cuts the first of them.
+pub fn routes_are_ascending()
+    ensures { RoutesAreAscending }
 {}
 
-/// The order that a word picks has the same names, rising by key, salt and name.
-pub fn orders_are_rising()
-    ensures { OrdersAreRising }
+/// Proves that the order that a word picks has the same names, in ascending order of key, salt and name.
+pub fn orders_are_ascending()
+    ensures { OrdersAreAscending }
 {}
 
-/// So many annealing steps and then so many more are all of them at once, however they are cut.
+/// Proves that annealing steps followed by more steps equal all of them in one call.
 pub fn anneal_steps_add_up()
     ensures { AnnealStepsAddUp }
 {}
 
-/// Annealing walks on from plans that pass to plans that pass.
+/// Proves that annealing leads from plans that pass to plans that pass.
 pub fn anneal_steps_keep_passing()
     ensures { AnnealStepsKeepPassing }
 {}
 
-/// The incumbent of annealing never costs more.
-pub fn annealed_never_cost_more()
-    ensures { AnnealedNeverCostMore }
+/// Proves that the incumbent of annealing never becomes more expensive.
+pub fn annealing_never_costs_more()
+    ensures { AnnealingNeverCostsMore }
 {
-    costs_are_in_order();
+    costs_are_totally_ordered();
 }
 
-/// A try goes on from plans that pass to plans that pass, makes at most the steps that it is given, and where there are any one at least
-/// if its plan leaves a request out.
-pub fn tries_keep_passing()
-    ensures passing { TriesKeepPassing }
-    ensures short { TriesAreShort }
+/// Proves that an attempt leads from plans that pass to plans that pass, and makes at most the given number of
+/// steps. If that is not 0 and its plan leaves a request out, it makes at least one.
+pub fn attempts_keep_passing()
+    ensures passing { AttemptsKeepPassing }
+    ensures short { AttemptsAreBounded }
 {}

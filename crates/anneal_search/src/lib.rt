@@ -1,78 +1,69 @@
-//! A second search: annealing, whose steps tear strings of neighbouring stops out of routes and put their
-//! requests in again.
+//! Annealing, the second search: its steps remove strings of neighbouring stops from routes and insert their
+//! requests again.
 //!
-//! `anneal_steps` makes many steps and `anneal_step` one, both in the form of `search_steps` and `search_step`
-//! (`seeded_search`) and asking the same. `anneal_on` makes further steps of a walk that is kept, for the command `Anneal`
-//! (`command_core`). `try_steps` makes steps of a try to serve every request, for `fleet_tries`.
-//!
-//! Modules, in reading order:
-//! - `draws`: what a word draws, and what is left of it.
-//! - `sorting`: where an item goes in a list that is sorted by insertion.
-//! - `routes`: the routes nearest to a stop, by a look at each.
-//! - `fronts`: the stops nearest to a stop.
-//! - `around`: the routes nearest to a stop, by its front.
-//! - `strings`: the strings, and the requests that go with them.
-//! - `missing`: the requests that are unplanned once those are taken out.
-//! - `orders`: the order in which requests are put in again.
-//! - `candidates`: the candidate that a step's words make.
-//! - `search`: what it replaces; one step, and many.
-//! - `absences`: how often each request was left out.
-//! - `trying`: a try to serve every request, whose steps compare plans by that.
-//! - `laws`: what nearest stops, strings and orders mean, and what steps keep, without code.
-//!
-//! Specs: `Annealing` and `Trying` (a step of each kind, as a definition that computes), below them `Draws`, `Strings`
-//! with `Nearest`, and `Orders` with `Sorting`; `AnnealLaws`, `TryLaws` and `StringLaws`. `Going`, `Fronts`, `Missing`, `Absences`
-//! and `Attempts` follow the code.
+//! `anneal_step` and `anneal_steps` have the form and the requirements of `search_step` and `search_steps`
+//! (`seeded_search`). `continue_annealing` continues a search state, for the command `Anneal` (`command_core`).
+//! `attempt_steps` makes the steps of an attempt to serve every request, for `fleet_reduction`.
 //!
 //! Source: Christiaens and Vanden Berghe, Slack Induction by String Removals (2020), in whole numbers; Dueck
 //! and Scheuer, Threshold Accepting (1990).
 //!
-//! How a step works: its words draw a stop, and cut a string of neighbouring stops around it out of each of
-//! the nearest routes. The requests that can be moved and have a stop in a string are removed at once. All
-//! that are unplanned then are put in where they are best, one after another, in an order by one of sixteen
-//! keys. The candidate becomes the working plan where it is near the working plan itself, so annealing climbs
-//! step by step; it then becomes the incumbent too where it costs no more. A fifth to three fifths of the candidates
-//! can't come near, and are dropped once that is seen, while requests are still put in (`place_all_near`). In a try, a
-//! candidate is near that leaves such requests out as were left out less often.
+//! The words of a step draw a stop, and cut a string of neighbouring stops around it out of each of the nearest
+//! routes. All movable requests with a stop in a string are removed at once. Then all unplanned requests are
+//! inserted one by one, each at its best place, in the order of one of sixteen keys.
 //!
-//! A step finds the nearest routes along a front of the sixteen stops nearest to its own, which a walk of many steps
-//! keeps; where that is too short, or there is none, it looks at the coordinates of each stop. It sorts by insertion. What
-//! stands below (`Walk`, `Draft`) is shared with the search.
+//! If the candidate is near the working plan, it becomes the working plan, so annealing climbs step by step. If
+//! it then costs no more than the incumbent, it becomes the incumbent, too. A fifth to three fifths of the
+//! candidates turn out too far away while requests are still being inserted, and are dropped then
+//! (`place_all_if_near`). In an attempt, candidates are compared in another way, by the requests that they
+//! leave out (`attempt_steps`).
 //!
-//! Proved:
-//! - `draw` is the whole part and the rest of `w m / 2^32`, `ordered` the order that a word picks;
-//! - `anneal_step`, `anneal_steps` and `anneal_on` give exactly the plans of the definition's step and steps
-//!   (`found`, `walked`), which pass (`passing`, `walk`), or tell want of memory;
-//! - what the definitions mean: the nearest stop of a route is nearest (`nearest_are_least`), the routes rise
-//!   by theirs (`routes_are_rising`); a string has that stop, lies in the route and takes out no more than it
-//!   may (`strings_lie_around`); an order has the same names, rising by key, salt and name
-//!   (`orders_are_rising`);
-//! - `try_steps` gives the best plan of the definition's steps, and the number behind the last of them (`tried`);
-//! - the laws of a try: plans that pass are tried on from to such, and no step is made too many (`tries_keep_passing`);
-//! - the laws of steps: steps add up, however they are cut (`anneal_steps_add_up`); plans that pass are walked
-//!   on to such (`anneal_steps_keep_passing`); the incumbent never costs more (`annealed_never_cost_more`).
+//! The sixteen nearest stops of a stop, which a search state of many steps keeps, lead to the nearest routes.
+//! If they are too few, or are not kept, a step scans the stops of the routes instead.
+//!
+//! Modules, in reading order:
+//! - `draws`: what a word draws, and the rest of the word
+//! - `sorting`: the place of an item in a list sorted by insertion
+//! - `routes`: the routes nearest to a stop, by the stops of all routes
+//! - `nearest_stops`: the nearest stops of a stop
+//! - `routes_by_nearest_stops`: the routes nearest to a stop, by its nearest stops
+//! - `strings`: the strings, and the requests with a stop in them
+//! - `missing_names`: the requests that are unplanned after the requests of the strings are removed
+//! - `orders`: the order in which requests are inserted
+//! - `candidates`: the candidate of a step
+//! - `search`: the plans that a candidate replaces; one step, and many steps
+//! - `absences`: how often each request was left out
+//! - `attempts`: an attempt to serve every request, which compares plans by these counts
+//! - `laws`: what nearest stops, strings and orders mean, and what steps preserve
+//!
+//! Proved: `anneal_step`, `anneal_steps`, `continue_annealing` and `attempt_steps` return exactly the plans of
+//! the definitions in `specs/Annealing.antt` and `specs/Trying.antt`, or `OutOfMemory`. Plans that pass lead to
+//! plans that pass, the incumbent never becomes more expensive, and splitting many annealing steps changes
+//! nothing. The laws say what the definitions mean: nearest stops are nearest, strings lie around them and are
+//! no longer than allowed, and orders are sorted permutations.
 #![tactic(auto)]
 
 mod absences;
-mod around;
+mod attempts;
 mod candidates;
 mod draws;
-mod fronts;
 mod laws;
-mod missing;
+mod missing_names;
+mod nearest_stops;
 mod orders;
 mod routes;
+mod routes_by_nearest_stops;
 mod search;
 mod sorting;
 mod strings;
-mod trying;
 
-pub use draws::{Drawn, draw};
+pub use attempts::{Reduction, attempt_steps};
+pub use draws::{DrawnItem, draw};
 pub use laws::{
-    anneal_steps_add_up, anneal_steps_keep_passing, annealed_never_cost_more, nearest_are_least,
-    orders_are_rising, routes_are_rising, strings_lie_around, tries_keep_passing,
+    anneal_steps_add_up, anneal_steps_keep_passing, annealing_never_costs_more,
+    attempts_keep_passing, nearest_stop_is_closest, orders_are_ascending, routes_are_ascending,
+    strings_lie_around,
 };
 pub use orders::ordered;
-pub use search::{anneal_on, anneal_step, anneal_steps};
+pub use search::{anneal_step, anneal_steps, continue_annealing};
 pub use sorting::first_place;
-pub use trying::{Tried, try_steps};

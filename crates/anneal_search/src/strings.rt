@@ -1,74 +1,76 @@
-//! The strings that a step cuts out of routes, and the requests that go with them.
+//! The strings that a step cuts out of routes, and the requests with a stop in them.
 ghost use Rattle.std.specs.Prelude.{◌≡◌, ◌++◌, ◌<◌, ◌≤◌, true, Some, All, IfOk, IfSome, OnOk, length};
 ghost use Rattle.std.specs.List.{concat};
 ghost use Rattle.std.specs.Option.{option_copied};
 ghost use Rattle.plan_types.specs.Instance.{stop_at};
 ghost use Rattle.plan_types.specs.Limits.{IsStop};
-ghost use Rattle.nint_dist.specs.Distance.{IsPlaced};
+ghost use Rattle.nint_dist.specs.Distance.{HasValidCoordinates};
 ghost use Rattle.route_sched.specs.Cost.{has_stop, used_count};
 ghost use Rattle.move_ops.specs.Drafts.{draft_of, IsDraftOf};
-ghost use Rattle.seeded_search.specs.Nearby.{AreFronts};
+ghost use Rattle.seeded_search.specs.SpatialIndex.{AreNearestStopLists};
 ghost use Rattle.seeded_search.specs.Steps.{movable_names};
-ghost use Rattle.anneal_search.specs.Strings.{longest, route_count, placed_cut, cut_of, cut_stops, strings_of, seed, stop_drawn, movable_at, movable_of, ruined_around, ruined_names};
-ghost use Rattle.anneal_search.specs.Going.{ArePlanned, IsCutOf, IsInRoute};
+ghost use Rattle.anneal_search.specs.Strings.{longest, route_count, placed_cut, cut_of, cut_stops, strings_of, seed, drawn_stop, movable_at, movable_of, ruined_around, ruined_names};
+ghost use Rattle.anneal_search.specs.StepLoops.{ArePlanned, IsCutOf, IsInRoute};
 
-use crate::around::routes_around;
-use crate::draws::{Drawn, draw};
-use crate::routes::Near;
+use crate::draws::{DrawnItem, draw};
+use crate::routes::NearStop;
+use crate::routes_by_nearest_stops::routes_around;
 use move_ops::{Draft, request_named};
 use plan_types::{OutOfMemory, Pins, Problem, Stop};
-use seeded_search::Nearby;
+use seeded_search::SpatialIndex;
 use std::alloc::Global;
 
-/// Where a string lies in a route. Places count from 0.
+/// The position of a string in a route. Places count from 0.
 #[derive(Clone, Copy, Debug, PartialEq, Eq)]
 pub struct Cut {
-    /// Its first stop.
+    /// The place of the string's first stop.
     pub first: usize,
-    /// Behind its last stop.
+    /// The place after the string's last stop.
     pub end: usize,
-    /// The stop within that it keeps.
+    /// The place of the stop inside the string that stays, if there is one.
     pub kept: Option<usize>,
 }
 
-/// The requests that the words of a step take out: those that can be moved and have a stop in a string, as often as they have one.
+/// Returns the requests that the words of a step remove: the movable ones with a stop in a string, once for each
+/// such stop.
 pub(crate) fn ruined_names(
     alloc: Global,
     problem: &Problem,
     pins: &Pins,
     draft: &Draft,
-    nearby: &mut Nearby,
+    spatial_index: &mut SpatialIndex,
     movable: &[u32],
     words: &[u32; 16],
 ) -> Result<Vec<u32>, OutOfMemory>
     requires draft { IsDraftOf problem.now pins.now.routes draft.now }
     requires movable { movable.now
         ≡ movable_names problem.now pins.now.routes (draft_of draft.now) }
-    requires fronts { AreFronts problem.now nearby.old }
+    requires nearest_stops { AreNearestStopLists problem.now spatial_index.old }
     ensures names { IfOk result (λ names. names.items
         ≡ ruined_names problem.now pins.now.routes (draft_of draft.now) words.now) }
-    ensures fronts { OnOk result (AreFronts problem.now nearby.new) }
+    ensures nearest_stops { OnOk result (AreNearestStopLists problem.now spatial_index.new) }
 {
     match seed(problem, movable, words[0]) {
-        Some(center) => ruined_around(alloc, problem, pins, draft, nearby, center, words),
+        Some(center) => ruined_around(alloc, problem, pins, draft, spatial_index, center, words),
         None => Ok(Vec::new(alloc)),
     }
 }
 
-// The stop around which strings are cut.
+// Returns the stop around which strings are cut.
 fn seed<'a>(problem: &'a Problem, movable: &[u32], word: u32) -> Option<&'a Stop>
     ensures found { option_copied result ≡ seed problem.now movable.now word }
     ensures stop { IfSome result (λ s. IsStop s.now) }
     ensures known { IfSome result (λ s. stop_at problem.now s.now.number ≡ Some s.now) }
 {
-    let Drawn { number, rest } = draw(word, movable.len());
+    let DrawnItem { number, rest } = draw(word, movable.len());
     let name = movable.get(number)?;
-    stop_drawn(problem, *name, rest)
+    drawn_stop(problem, *name, rest)
 }
 
-// Of a request that is drawn, the single stop, or by the rest the pickup or the delivery.
-fn stop_drawn(problem: &Problem, name: u32, rest: u32) -> Option<&Stop>
-    ensures found { option_copied result ≡ stop_drawn problem.now name rest }
+// Returns the stop of the drawn request: the single stop, or the pickup or the delivery as the rest of the word
+// says.
+fn drawn_stop(problem: &Problem, name: u32, rest: u32) -> Option<&Stop>
+    ensures found { option_copied result ≡ drawn_stop problem.now name rest }
     ensures stop { IfSome result (λ s. IsStop s.now) }
     ensures known { IfSome result (λ s. stop_at problem.now s.now.number ≡ Some s.now) }
 {
@@ -86,26 +88,27 @@ fn ruined_around(
     problem: &Problem,
     pins: &Pins,
     draft: &Draft,
-    nearby: &mut Nearby,
+    spatial_index: &mut SpatialIndex,
     center: &Stop,
     words: &[u32; 16],
 ) -> Result<Vec<u32>, OutOfMemory>
     requires draft { IsDraftOf problem.now pins.now.routes draft.now }
-    requires center { IsPlaced center.now }
+    requires center { HasValidCoordinates center.now }
     requires known { stop_at problem.now center.now.number ≡ Some center.now }
-    requires fronts { AreFronts problem.now nearby.old }
+    requires nearest_stops { AreNearestStopLists problem.now spatial_index.old }
     ensures names { IfOk result (λ names. names.items
         ≡ ruined_around problem.now pins.now.routes (draft_of draft.now) words.now center.now) }
-    ensures fronts { OnOk result (AreFronts problem.now nearby.new) }
+    ensures nearest_stops { OnOk result (AreNearestStopLists problem.now spatial_index.new) }
 {
     let longest = longest(draft);
     let count = route_count(longest, words[1]);
-    let nears = routes_around(alloc, problem, draft, nearby, center, count)?;
+    let nears = routes_around(alloc, problem, draft, spatial_index, center, count)?;
     let stops = strings_of(alloc, draft, longest, &nears, words)?;
     movable_of(alloc, problem, pins, draft, &stops)
 }
 
-// The most stops that a string has, beside one that it may keep: 10, or as many as routes have on average.
+// Returns the greatest number of stops that a string removes: 10, or the mean length of the used routes, rounded
+// down, if that is smaller. One more stop may stay inside.
 fn longest(draft: &Draft) -> usize
     ensures value { result ≡ longest (draft_of draft.now) }
     ensures bound { result ≤ 10 }
@@ -117,7 +120,7 @@ fn longest(draft: &Draft) -> usize
     (stops / u128::from(used)).min(10) as usize
 }
 
-// How many stops the routes have, and how many routes are not empty.
+// The number of stops in all routes, and the number of routes that are not empty.
 #[derive(Clone, Copy)]
 struct Totals {
     stops: u128,
@@ -130,7 +133,7 @@ fn totals_of(draft: &Draft) -> Totals
 {
     let mut stops = 0;
     let mut used = 0;
-    for index in 0..draft.front() {
+    for index in 0..draft.used_len() {
         let route = draft.route(index + 1);
         stops += route.len() as u128;
         used += u64::from(!route.is_empty());
@@ -138,8 +141,8 @@ fn totals_of(draft: &Draft) -> Totals
     Totals { stops, used }
 }
 
-// How many routes are cut. Christiaens and Vanden Berghe draw between 1 and 4 * 10 / (1 + longest), where about ten stops are to go on
-// average: one always, and a part of 4 * 10 - (1 + longest) in pieces of 1 + longest.
+// Returns the number of routes to cut. Christiaens and Vanden Berghe draw between 1 and 4 * 10 / (1 + longest),
+// to remove about ten stops on average: here 1, and a part of 4 * 10 - (1 + longest) in units of 1 + longest.
 fn route_count(longest: usize, word: u32) -> usize
     requires { longest ≤ 10 }
     ensures value { result ≡ route_count longest word }
@@ -149,12 +152,12 @@ fn route_count(longest: usize, word: u32) -> usize
     (1 + cuts / (1 + longest)).min(12)
 }
 
-// The stops of the strings of these routes.
+// Returns the stops of the strings in these routes.
 fn strings_of(
     alloc: Global,
     draft: &Draft,
     longest: usize,
-    nears: &[Near],
+    nears: &[NearStop],
     words: &[u32; 16],
 ) -> Result<Vec<u32>, OutOfMemory>
     requires few { length nears.now ≤ 12 }
@@ -173,7 +176,7 @@ fn strings_of(
     Ok(stops)
 }
 
-// Adds the stops of a string, but the one that it keeps.
+// Appends the stops of a string, except the one that stays.
 fn push_stops(stops: &mut Vec<u32>, route: &[u32], cut: &Cut) -> Result<(), OutOfMemory>
     requires { IsCutOf (length route.now) cut.now }
     ensures { OnOk result (stops.new.items ≡ stops.old.items ++ cut_stops route.now cut.now) }
@@ -187,13 +190,13 @@ fn push_stops(stops: &mut Vec<u32>, route: &[u32], cut: &Cut) -> Result<(), OutO
     }
 }
 
-// Where the string of a route of so many stops lies that has the one at this place.
+// Returns the position of the string that contains this place, in a route of `stops` stops.
 fn cut_of(longest: usize, word: u32, stops: usize, place: usize) -> Cut
     requires { place < stops }
     ensures value { result ≡ cut_of longest word stops place }
     ensures within { IsCutOf stops result }
 {
-    let Drawn { number, rest } = draw(word, stops.min(longest));
+    let DrawnItem { number, rest } = draw(word, stops.min(longest));
     let taken = 1 + number;
     if taken < 2 || stops <= taken {
         return placed_cut(rest, stops, place, taken, false);
@@ -202,7 +205,7 @@ fn cut_of(longest: usize, word: u32, stops: usize, place: usize) -> Cut
     placed_cut(splits.rest, stops, place, taken, splits.number == 1)
 }
 
-// Where it lies, among the places where it can begin.
+// Returns the position of the string, drawn from all positions that contain this place.
 fn placed_cut(word: u32, stops: usize, place: usize, taken: usize, keeps: bool) -> Cut
     requires place { place < stops }
     requires some { 1 ≤ taken }
@@ -214,7 +217,7 @@ fn placed_cut(word: u32, stops: usize, place: usize, taken: usize, keeps: bool) 
     let count = if keeps { taken + 1 } else { taken };
     let low = (place + 1).saturating_sub(count);
     let high = place.min(stops - count);
-    let Drawn { number, rest } = draw(word, high - low + 1);
+    let DrawnItem { number, rest } = draw(word, high - low + 1);
     let first = low + number;
     let kept = if keeps {
         Some(first + 1 + draw(rest, taken - 1).number)
@@ -228,7 +231,7 @@ fn placed_cut(word: u32, stops: usize, place: usize, taken: usize, keeps: bool) 
     }
 }
 
-// The movable requests of these stops.
+// Returns the movable requests of these stops.
 fn movable_of(
     alloc: Global,
     problem: &Problem,
@@ -250,7 +253,8 @@ fn movable_of(
     Ok(names)
 }
 
-// Its request is planned, since the stop is: whether a stop of it is pinned is left to ask.
+// Returns the request of a stop if it is movable. Since the stop is planned, so is its request; only its pins
+// have to be checked.
 fn movable_at(problem: &Problem, pins: &Pins, draft: &Draft, stop: u32) -> Option<u32>
     requires draft { IsDraftOf problem.now pins.now.routes draft.now }
     requires planned { has_stop (draft_of draft.now) stop ≡ true }

@@ -1,9 +1,9 @@
--- The lemma files, which upper crates may cite.
-pub mod ExaminedLemmas
+-- The lemma files, which crates above this one may use.
+pub mod ExaminationLemmas
 pub mod FileLemmas
 pub mod ListLemmas
 pub mod PartialLemmas
 pub mod RoutesLemmas
 pub mod SpelledLemmas
-pub mod TakenLemmas
+pub mod ReadListLemmas
 pub mod UsageLemmas

@@ -1,17 +1,17 @@
--- What a verdict says of the rules on stops, and of the routes of a partial plan.
+-- Lemmas about a verdict and the rules on stops, and about the routes of a partial plan.
 use Rattle.std.proofs.Common.{◌≡◌, ℕ, ◌<◌, true, List, [], All, inl, inr, arith, subst, sym}
 use Rattle.std.proofs.lemmas.Bool.{ltb-true}
 use Rattle.plan_types.specs.Instance.{Instance}
 use Rattle.plan_types.specs.declared.requests.Kind.{Kind}
-use Rattle.route_sched.specs.Route.{AreLiveOnce, IsPlan}
-use Rattle.plan_audit.proofs.LocalLemmas.{plans_are_local}
+use Rattle.route_sched.specs.Route.{AreDistinctStops, IsPlan}
+use Rattle.plan_audit.proofs.LocalLemmas.{plans_are_disjoint_routes}
 use Rattle.plan_audit.proofs.StepLemmas.{plan_from}
 use Rattle.plan_audit.specs.Verdict.{IsVerdict, KeepsRules, planned}
 use Rattle.plan_audit.specs.declared.rules.Verdict.{Verdict}
 use Rattle.plan_audit.specs.declared.rules.Verdict.TheVariants.{Broken, Pass}
 use Rattle.auditor_cli.specs.Partial.{ArePartial, IsPartialOf, keeps_stops}
-use Rattle.auditor_cli.specs.declared.audit.Examined.{Examined}
-use Rattle.auditor_cli.specs.declared.audit.Examined.TheVariants.{BadInstance, BadSolution, Judged}
+use Rattle.auditor_cli.specs.declared.audit.Examination.{Examination}
+use Rattle.auditor_cli.specs.declared.audit.Examination.TheVariants.{BadInstance, BadSolution, Judged}
 use Rattle.auditor_cli.specs.declared.partial.PartialPlan.{PartialPlan}
 
 pub stops_kept : (p : Instance) (routes : List (List ℕ)) (v : Verdict) → IsVerdict p (planned routes []) v → keeps_stops v ≡ true → KeepsRules 1 8 p (planned routes [])
@@ -21,13 +21,13 @@ stops_kept p routes (Broken rule q j t) is kept m r i n from to b =
     let above : 8 < rule = ltb-true 8 rule kept in
     elim (is.2.least m r i n from (omega (arith, to)) b) [ inl less ↦ omega (arith, number, above, to, less) | inr same ↦ (let e = same.0 in omega (arith, number, above, to, e)) ]
 
--- the routes of a partial plan have live stops, each once
-pub partial_live : (kind : Kind) (instance solution : List ℕ) (partial : PartialPlan) → ArePartial kind instance solution partial → All (AreLiveOnce partial.problem) partial.plan.routes
+-- The routes of a partial plan have current stops, each once.
+pub partial_live : (kind : Kind) (instance solution : List ℕ) (partial : PartialPlan) → ArePartial kind instance solution partial → All (AreDistinctStops partial.problem) partial.plan.routes
 partial_live kind instance solution partial are = by are.routes are.is_partial
   where
-    by : (routes : Examined) → IsPartialOf routes partial → All (AreLiveOnce partial.problem) partial.plan.routes
+    by : (routes : Examination) → IsPartialOf routes partial → All (AreDistinctStops partial.problem) partial.plan.routes
     by (BadInstance fault) is = absurd is
     by (BadSolution fault) is = absurd is
     by (Judged problem printed verdict) is =
         let plan : IsPlan problem printed.routes = plan_from problem (planned printed.routes []) is.2.is_partial.stops in
-        subst (λ p. All (AreLiveOnce p) partial.plan.routes) (sym is.0) (subst (All (AreLiveOnce problem)) (sym is.1) (((plans_are_local problem printed.routes).0 plan).0))
+        subst (λ p. All (AreDistinctStops p) partial.plan.routes) (sym is.0) (subst (All (AreDistinctStops problem)) (sym is.1) (((plans_are_disjoint_routes problem printed.routes).0 plan).0))

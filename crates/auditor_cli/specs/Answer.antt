@@ -1,4 +1,4 @@
--- What the program answers to an audit of two texts: a line and a status.
+-- The answer of the program to an audit of two texts: a line and a status.
 use Rattle.std.specs.Prelude.{◌≡◌, ◌≤◌, ◌⊎◌, ◌↔◌, ℕ, Bool, true, false, List, codes}
 use Rattle.plan_audit.specs.Laws.{AreAllPlanned, IsSoundPlan}
 use Rattle.route_sched.specs.Cost.{total_length, used_count}
@@ -19,59 +19,59 @@ use Rattle.auditor_cli.specs.AnswerText.{broken_text, fault_text, pass_text}
 use Rattle.auditor_cli.specs.RoutesAlone.{routes_text}
 use Rattle.auditor_cli.specs.declared.answer.AuditAnswer.{AuditAnswer}
 
--- the answer for a text that is refused
+-- The answer for a text that is refused.
 abbrev pub refused_answer : List ℕ → List ℕ → ℕ → AuditAnswer
 refused_answer text name line = record { line = fault_text text name line; status = 2 }
 
--- the answer for a verdict
+-- The answer for a verdict.
 abbrev pub verdict_answer : Verdict → AuditAnswer
 verdict_answer (Pass cost) = record { line = pass_text cost; status = 0 }
 verdict_answer (Broken rule route place stop) = record { line = broken_text rule route place stop; status = 1 }
 
--- the instance spells no problem: its first fault is told
+-- The instance spells no problem, and the answer names its first fault.
 pub record RefusesInstance (kind : Kind) (instance : List ℕ) (answer : AuditAnswer) : Type 0 where
   pub fault : ReadFault
   pub first : IsFirstFault (InstanceFault kind instance) fault
-  pub told : answer ≡ refused_answer (codes "instance") (instance_names.kind_name fault.kind) fault.line
+  pub reported : answer ≡ refused_answer (codes "instance") (instance_names.kind_name fault.kind) fault.line
 
--- the instance spells a problem, and the solution's text is refused
+-- The instance spells a problem, and the solution is refused.
 pub record RefusesSolution (kind : Kind) (instance solution : List ℕ) (answer : AuditAnswer) : Type 0 where
   pub problem : Instance
   pub spelled : SpellsInstance kind instance problem
   pub fault : SolFault
   pub first : sol_faults.IsFirstFault solution fault
-  pub told : answer ≡ refused_answer (codes "solution") (solution_names.kind_name fault.kind) fault.line
+  pub reported : answer ≡ refused_answer (codes "solution") (solution_names.kind_name fault.kind) fault.line
 
--- the verdict on a solution
+-- The verdict on a solution.
 abbrev pub IsSolutionVerdict : Instance → Solution → Verdict → Type 0
 IsSolutionVerdict problem plan verdict = IsVerdict problem (printed plan.routes plan.cost) verdict
 
--- the answer is that of a verdict on these values
-pub record TellsVerdict (problem : Instance) (plan : Solution) (answer : AuditAnswer) : Type 0 where
+-- The answer is that of a verdict on these values.
+pub record AnswersVerdict (problem : Instance) (plan : Solution) (answer : AuditAnswer) : Type 0 where
   pub verdict : Verdict
   pub is_verdict : IsSolutionVerdict problem plan verdict
-  pub told : answer ≡ verdict_answer verdict
+  pub reported : answer ≡ verdict_answer verdict
 
--- both texts spell a value, and the answer is that of the verdict on the two values
+-- Both texts spell a value, and the answer is that of the verdict on the two values.
 pub record Judges (kind : Kind) (instance solution : List ℕ) (answer : AuditAnswer) : Type 0 where
   pub problem : Instance
   pub problem_spelled : SpellsInstance kind instance problem
   pub problem_kept : IsInstance problem
   pub plan : Solution
   pub plan_spelled : sol_faults.Spells solution plan
-  pub verdict : TellsVerdict problem plan answer
+  pub verdict : AnswersVerdict problem plan answer
 
--- the answer to the audit of a solution's text against the text of an instance of this kind
+-- The answer to the audit of a solution against an instance of this kind.
 abbrev pub IsAnswer : Kind → List ℕ → List ℕ → AuditAnswer → Type 0
 IsAnswer kind instance solution answer = RefusesInstance kind instance answer ⊎ (RefusesSolution kind instance solution answer ⊎ Judges kind instance solution answer)
 
--- whatever two values the texts spell, the answer is that of a verdict on these
+-- Whatever two values the texts spell, the answer is that of a verdict on them.
 abbrev pub JudgesSpelled : Kind → List ℕ → List ℕ → AuditAnswer → Type 0
 JudgesSpelled kind instance solution answer =
-    (problem : Instance) (plan : Solution) → SpellsInstance kind instance problem → sol_faults.Spells solution plan → TellsVerdict problem plan answer
+    (problem : Instance) (plan : Solution) → SpellsInstance kind instance problem → sol_faults.Spells solution plan → AnswersVerdict problem plan answer
 
--- both texts spell values, and the solution is sound, serves each request, uses no more vehicles than there are, and prints the
--- distance that it drives
+-- Both texts spell values, and the solution is sound, serves each request, uses no more vehicles than there are,
+-- and prints its true distance.
 pub record AreSound (kind : Kind) (instance solution : List ℕ) : Type 0 where
   pub problem : Instance
   pub problem_spelled : SpellsInstance kind instance problem
@@ -82,13 +82,13 @@ pub record AreSound (kind : Kind) (instance solution : List ℕ) : Type 0 where
   pub fleet : used_count plan.routes ≤ problem.fleet
   pub distance : plan.cost ≡ total_length problem plan.routes
 
--- status 0 says just that
+-- The status is 0 exactly if the texts are sound in this sense.
 abbrev pub SaysSound : Kind → List ℕ → List ℕ → AuditAnswer → Type 0
 SaysSound kind instance solution answer = (answer.status ≡ 0) ↔ AreSound kind instance solution
 
--- ---- the routes alone
+-- ---- The routes only
 
--- both texts spell a value, whatever cost is printed, and the answer is that of the verdict on the routes
+-- Both texts spell a value, whatever cost is printed, and the answer is that of the verdict on the routes.
 pub record JudgesRoutes (kind : Kind) (instance solution : List ℕ) (answer : AuditAnswer) : Type 0 where
   pub problem : Instance
   pub problem_spelled : SpellsInstance kind instance problem
@@ -97,15 +97,16 @@ pub record JudgesRoutes (kind : Kind) (instance solution : List ℕ) (answer : A
   pub plan_spelled : sol_faults.Spells (routes_text solution) plan
   pub verdict : Verdict
   pub is_verdict : IsRoutesVerdict problem plan.routes verdict
-  pub told : answer ≡ verdict_answer verdict
+  pub reported : answer ≡ verdict_answer verdict
 
--- the answer to the audit of the routes of a solution's text, which needs no cost line
+-- The answer to the audit of the routes of a solution, which needs no cost line.
 abbrev pub IsRoutesAnswer : Kind → List ℕ → List ℕ → AuditAnswer → Type 0
 IsRoutesAnswer kind instance solution answer =
     RefusesInstance kind instance answer
     ⊎ (RefusesSolution kind instance (routes_text solution) answer ⊎ JudgesRoutes kind instance solution answer)
 
--- both texts spell values, and the routes are sound, serve each request, and are no more than there are vehicles
+-- Both texts spell values, and the routes are sound, serve each request, and use no more vehicles than there
+-- are.
 pub record HasSoundRoutes (kind : Kind) (instance solution : List ℕ) : Type 0 where
   pub problem : Instance
   pub problem_spelled : SpellsInstance kind instance problem
@@ -115,11 +116,11 @@ pub record HasSoundRoutes (kind : Kind) (instance solution : List ℕ) : Type 0 
   pub complete : AreAllPlanned problem plan.routes
   pub fleet : used_count plan.routes ≤ problem.fleet
 
--- status 0 says just that
+-- The status is 0 exactly if the routes are sound in this sense.
 abbrev pub SaysRoutesSound : Kind → List ℕ → List ℕ → AuditAnswer → Type 0
 SaysRoutesSound kind instance solution answer = (answer.status ≡ 0) ↔ HasSoundRoutes kind instance solution
 
--- the answer to the audit of a solution, or of its routes alone
+-- The answer to the audit of a solution, or only of its routes.
 abbrev pub IsAnswerBy : Bool → Kind → List ℕ → List ℕ → AuditAnswer → Type 0
 IsAnswerBy false kind instance solution answer = IsAnswer kind instance solution answer
 IsAnswerBy true kind instance solution answer = IsRoutesAnswer kind instance solution answer

@@ -1,18 +1,18 @@
--- Why a line of the list of `audits` names no pair.
+-- The reason why a line of a list for `audits` is bad.
 use Rattle.std.specs.Prelude.{ℕ, ◌==◌, ◌||◌, nat_lt, is_none, List, ◌++◌, length, codes, decimal, Option, Some, None, if◌then◌else◌}
 use Rattle.std.specs.List.{position_or_len}
 use Rattle.plan_types.specs.declared.requests.Kind.{Kind}
 use Rattle.plan_types.specs.declared.requests.Kind.TheVariants.{LiLim, Vrp}
-use Rattle.text_lines.specs.Lines.{ended}
-use Rattle.best_known.specs.BestKnown.{best_in}
+use Rattle.text_lines.specs.Lines.{with_line_feed}
+use Rattle.auditor_cli.specs.BestKnown.{best_in}
 use Rattle.auditor_cli.specs.Columns.{cut, is_tab}
 
--- the third column of a list of instances of this kind
+-- The reason for a bad third column, in a list of instances of this kind.
 abbrev pub cost_reason : Kind → List ℕ
 cost_reason LiLim = codes "the third column is no best-known cost, as 10 829 or 829"
 cost_reason Vrp = codes "the third column is no best-known cost, as 829"
 
--- two columns that are no paths
+-- The reason for two columns that are not paths.
 abbrev pub paths_reason : List ℕ → List ℕ → List ℕ
 paths_reason instance solution = if (length instance == 0) || (length solution == 0) then codes "a path is empty" else codes "a path is not UTF-8"
 
@@ -22,7 +22,7 @@ columns_reason k instance solution column =
     else if is_none (best_in k column) then cost_reason k
     else paths_reason instance solution
 
--- what stands behind the first tab, and behind the second, if there is one
+-- The reason for a bad line, by its first column and by what follows its first tab.
 abbrev pub rest_reason : Kind → List ℕ → List ℕ → Option (List ℕ × List ℕ) → List ℕ
 rest_reason k instance rest None = paths_reason instance rest
 rest_reason k instance rest (Some p) = columns_reason k instance p.0 p.1
@@ -34,6 +34,6 @@ reason_by k line (Some p) = rest_reason k p.0 p.1 (cut p.1)
 abbrev pub bad_reason : Kind → List ℕ → List ℕ
 bad_reason k line = reason_by k line (cut line)
 
--- what is told of line n of a list
+-- The note on line n of a list.
 abbrev pub bad_note : List ℕ → ℕ → List ℕ → List ℕ
-bad_note list n why = ended (codes "planner: " ++ list ++ codes ": line " ++ decimal n ++ codes ": bad line: " ++ why)
+bad_note list n why = with_line_feed (codes "planner: " ++ list ++ codes ": line " ++ decimal n ++ codes ": bad line: " ++ why)

@@ -1,11 +1,11 @@
--- Columns of a line, with tabs between them.
+-- The columns of a line, separated by tabs.
 use Rattle.std.specs.Prelude.{ℕ, ◌==◌, Bool, List, [], ◌∷◌, take, drop, Option, Some, None}
 use Rattle.std.specs.List.{position_or_len}
 
 abbrev pub is_tab : ℕ → Bool
 is_tab b = b == 9
 
--- what stands before and behind the first tab of a text, if it has one
+-- The text before and the text after the first tab, if there is one.
 abbrev pub cut_at : List ℕ → List ℕ → Option (List ℕ × List ℕ)
 cut_at front [] = None
 cut_at front (tab ∷ rest) = Some (front, rest)

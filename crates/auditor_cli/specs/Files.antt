@@ -1,4 +1,5 @@
--- What is told of files. Those that were read stand in lists, the newest first: `was` as it stood before, `now` behind it.
+-- The lines that are printed for files. The files that were read are in lists, newest first: `was` before, and
+-- `now` afterwards.
 use Rattle.std.specs.Prelude.{◌≡◌, ◌⊎◌, ℕ, Bool, List, ◌∷◌, Option, Result, Ok, Err, IfOk}
 use Rattle.std.specs.Io.KnownBytes.{Appends}
 use Rattle.std.specs.declared.alloc.AllocError.{AllocError}
@@ -6,48 +7,49 @@ use Rattle.std.specs.declared.io.ErrorKind.{ErrorKind}
 use Rattle.plan_types.specs.declared.requests.Kind.{Kind}
 use Rattle.auditor_cli.specs.Answer.{IsAnswerBy}
 use Rattle.auditor_cli.specs.Reads.{FileRead}
-use Rattle.auditor_cli.specs.Telling.{answer_line, answer_status, unread_line, unread_status}
+use Rattle.auditor_cli.specs.Messages.{answer_line, answer_status, read_failure_line, read_failure_status}
 use Rattle.auditor_cli.specs.declared.answer.AuditAnswer.{AuditAnswer}
 
--- what is told of two texts whose answer is of this kind, and the status that goes with it
-abbrev pub IsToldOfTextsBy : (List ℕ → List ℕ → AuditAnswer → Type 0) → List ℕ → List ℕ → List ℕ → ℕ → Type 0
-IsToldOfTextsBy IsAnswered instance solution text status =
+-- The line and the status for two texts, for any relation between the texts and their answer.
+abbrev pub IsPrintedForTextsBy : (List ℕ → List ℕ → AuditAnswer → Type 0) → List ℕ → List ℕ → List ℕ → ℕ → Type 0
+IsPrintedForTextsBy IsAnswered instance solution text status =
     (answer : Result AuditAnswer AllocError) × IfOk answer (IsAnswered instance solution) × (text ≡ answer_line answer) × (status ≡ answer_status answer)
 
-abbrev pub TellsTextsBy : (List ℕ → List ℕ → AuditAnswer → Type 0) → List ℕ → List ℕ → Option (List ℕ) → Option (List ℕ) → ℕ → Type 0
-TellsTextsBy IsAnswered instance solution before after status =
-    (text : List ℕ) × IsToldOfTextsBy IsAnswered instance solution text status × Appends before after text
+abbrev pub PrintsTextsBy : (List ℕ → List ℕ → AuditAnswer → Type 0) → List ℕ → List ℕ → Option (List ℕ) → Option (List ℕ) → ℕ → Type 0
+PrintsTextsBy IsAnswered instance solution before after status =
+    (text : List ℕ) × IsPrintedForTextsBy IsAnswered instance solution text status × Appends before after text
 
--- both files were read, the instance first, and these are their texts
+-- Both files were read, the instance first, and these are their texts.
 abbrev pub AreBothRead : List ℕ → List ℕ → List ℕ → List ℕ → List FileRead → List FileRead → Type 0
 AreBothRead instance solution x y was now = now ≡ (solution, Ok y) ∷ (instance, Ok x) ∷ was
 
--- the file of this path is the first one that can't be read, and the last one that was asked for
+-- The file at this path can't be read. It is the last file that was requested, and all files before it were
+-- read.
 abbrev pub IsUnread : List ℕ → List ℕ → List ℕ → ErrorKind → List FileRead → List FileRead → Type 0
 IsUnread instance solution path kind was now =
     ((path ≡ instance) × (now ≡ (instance, Err kind) ∷ was))
     ⊎ ((path ≡ solution) × ((x : List ℕ) × (now ≡ (solution, Err kind) ∷ (instance, Ok x) ∷ was)))
 
--- each was read once, or the first one that can't be read is the last one that was asked for
+-- Each file was read once; or the first file that can't be read is the last one that was requested.
 abbrev pub AreReadInTurn : List ℕ → List ℕ → List FileRead → List FileRead → Type 0
 AreReadInTurn instance solution was now =
     ((x : List ℕ) × (y : List ℕ) × AreBothRead instance solution x y was now) ⊎ ((path : List ℕ) × (kind : ErrorKind) × IsUnread instance solution path kind was now)
 
--- what is told of two files: the answer for their texts, or that one can't be read
-abbrev pub IsToldOfFilesBy : (List ℕ → List ℕ → AuditAnswer → Type 0) → List ℕ → List ℕ → List FileRead → List FileRead → List ℕ → ℕ → Type 0
-IsToldOfFilesBy IsAnswered instance solution was now text status =
-    ((x : List ℕ) × (y : List ℕ) × AreBothRead instance solution x y was now × IsToldOfTextsBy IsAnswered x y text status)
-    ⊎ ((path : List ℕ) × (error : ErrorKind) × IsUnread instance solution path error was now × (text ≡ unread_line path error) × (status ≡ unread_status error))
+-- The line and the status for two files: the answer for their texts, or a line for the file that can't be read.
+abbrev pub IsPrintedForFilesBy : (List ℕ → List ℕ → AuditAnswer → Type 0) → List ℕ → List ℕ → List FileRead → List FileRead → List ℕ → ℕ → Type 0
+IsPrintedForFilesBy IsAnswered instance solution was now text status =
+    ((x : List ℕ) × (y : List ℕ) × AreBothRead instance solution x y was now × IsPrintedForTextsBy IsAnswered x y text status)
+    ⊎ ((path : List ℕ) × (error : ErrorKind) × IsUnread instance solution path error was now × (text ≡ read_failure_line path error) × (status ≡ read_failure_status error))
 
-abbrev pub TellsFilesBy : (List ℕ → List ℕ → AuditAnswer → Type 0) → List ℕ → List ℕ → List FileRead → List FileRead → Option (List ℕ) → Option (List ℕ) → ℕ → Type 0
-TellsFilesBy IsAnswered instance solution was now before after status =
-    (text : List ℕ) × IsToldOfFilesBy IsAnswered instance solution was now text status × Appends before after text
+abbrev pub PrintsFilesBy : (List ℕ → List ℕ → AuditAnswer → Type 0) → List ℕ → List ℕ → List FileRead → List FileRead → Option (List ℕ) → Option (List ℕ) → ℕ → Type 0
+PrintsFilesBy IsAnswered instance solution was now before after status =
+    (text : List ℕ) × IsPrintedForFilesBy IsAnswered instance solution was now text status × Appends before after text
 
--- what `audit` tells of two files, of the routes of the solution alone or not
-abbrev pub IsToldOfFiles : Bool → Kind → List ℕ → List ℕ → List FileRead → List FileRead → List ℕ → ℕ → Type 0
-IsToldOfFiles routes_alone k instance solution was now text status =
-    IsToldOfFilesBy (IsAnswerBy routes_alone k) instance solution was now text status
+-- The line that `audit` prints for two files, for the solution or only for its routes.
+abbrev pub IsPrintedForFiles : Bool → Kind → List ℕ → List ℕ → List FileRead → List FileRead → List ℕ → ℕ → Type 0
+IsPrintedForFiles routes_alone k instance solution was now text status =
+    IsPrintedForFilesBy (IsAnswerBy routes_alone k) instance solution was now text status
 
-abbrev pub TellsFiles : Bool → Kind → List ℕ → List ℕ → List FileRead → List FileRead → Option (List ℕ) → Option (List ℕ) → ℕ → Type 0
-TellsFiles routes_alone k instance solution was now before after status =
-    TellsFilesBy (IsAnswerBy routes_alone k) instance solution was now before after status
+abbrev pub PrintsFiles : Bool → Kind → List ℕ → List ℕ → List FileRead → List FileRead → Option (List ℕ) → Option (List ℕ) → ℕ → Type 0
+PrintsFiles routes_alone k instance solution was now before after status =
+    PrintsFilesBy (IsAnswerBy routes_alone k) instance solution was now before after status

@@ -1,19 +1,21 @@
--- what public contracts reach
+-- Modules that public contracts use.
 pub mod Answer
 pub mod AnswerText
-pub mod Auditing
+pub mod Program
 pub mod BadLines
-pub mod Behind
+pub mod BestKnown
+pub mod IgnoredLines
 pub mod Columns
-pub mod Compared
-pub mod Examined
-pub mod Explained
+pub mod Compare
+pub mod Examination
+pub mod Explain
 pub mod Files
-pub mod Listed
+pub mod Gaps
+pub mod Audits
 pub mod Partial
 pub mod Reads
 pub mod RoutesAlone
-pub mod Telling
-pub use Rattle.command_line.specs.Asked
--- of private functions alone
-pub mod Noted
+pub mod Messages
+pub use Rattle.command_line.specs.Invocations
+-- Modules that only private functions use.
+pub mod FileOutcome

@@ -1,7 +1,7 @@
 //! The lines that answer an audit.
 //!
-//! Lines are written by `format!`, where the text of a solution is printed number by number without taking memory
-//! for each.
+//! Lines are built with `format!`, whereas a solution is printed number by number, without allocating for each
+//! number.
 ghost use Rattle.std.specs.Prelude.{◌≡◌, ◌++◌, ℕ, List, IfOk};
 ghost use Rattle.auditor_cli.specs.AnswerText.{broken_text, fault_text, partial_text, pass_text, planned_text};
 
@@ -26,7 +26,7 @@ impl From<String> for AuditLine {
 
     ghost from_gives = { λ text line. line ≡ string_bytes text };
 
-    /// Takes no memory.
+    /// Converts without allocating.
     fn from(text: String) -> AuditLine {
         AuditLine {
             bytes: text.into_bytes(),
@@ -35,14 +35,14 @@ impl From<String> for AuditLine {
 }
 
 impl AuditLine {
-    /// The bytes of the line.
+    /// Returns the bytes of the line.
     pub fn as_bytes(&self) -> &[u8]
         ensures { result.now ≡ self.now }
     {
         self.bytes.as_slice()
     }
 
-    /// The line with a further text behind it.
+    /// Returns the line with `text` appended.
     pub fn with(self, text: &str) -> Result<AuditLine, OutOfMemory>
         ensures { IfOk result (λ line. line ≡ self ++ text.now) }
     {
@@ -51,7 +51,7 @@ impl AuditLine {
         Ok(AuditLine { bytes })
     }
 
-    /// Gives the bytes back, without taking memory.
+    /// Returns the bytes without allocating.
     pub fn into_vec(self) -> Vec<u8>
         ensures { result.items ≡ self }
     {
@@ -60,15 +60,15 @@ impl AuditLine {
     }
 }
 
-/// What the program prints for an audit, and the status that it ends with.
+/// The line that the program prints for an audit, and its exit status.
 #[derive(Debug, Drop)]
 pub struct AuditAnswer {
     pub line: AuditLine,
-    /// 0 for a solution that passes, 1 for a broken rule, 2 for a text that is refused.
+    /// The exit status: 0 for a solution that passes, 1 for a broken rule, 2 for a file that is refused.
     pub status: u8,
 }
 
-/// The line for a solution that breaks no rule: `pass UNPLANNED VEHICLES DISTANCE`.
+/// Returns the line for a solution that breaks no rule: `pass UNPLANNED VEHICLES DISTANCE`.
 pub fn pass_line(alloc: Global, cost: Cost) -> Result<AuditLine, OutOfMemory>
     ensures { IfOk result (λ line. line ≡ pass_text cost) }
 {
@@ -81,7 +81,7 @@ pub fn pass_line(alloc: Global, cost: Cost) -> Result<AuditLine, OutOfMemory>
     Ok(AuditLine::from(text))
 }
 
-/// The line for a plan that leaves requests out: `partial UNPLANNED VEHICLES DISTANCE`.
+/// Returns the line for a plan that leaves requests out: `partial UNPLANNED VEHICLES DISTANCE`.
 pub fn partial_line(alloc: Global, cost: Cost) -> Result<AuditLine, OutOfMemory>
     ensures { IfOk result (λ line. line ≡ partial_text cost) }
 {
@@ -94,7 +94,7 @@ pub fn partial_line(alloc: Global, cost: Cost) -> Result<AuditLine, OutOfMemory>
     Ok(AuditLine::from(text))
 }
 
-/// The line for a plan that breaks no rule: it passes, or is partial.
+/// Returns the line for a plan that breaks no rule, which passes or is partial.
 pub fn planned_line(alloc: Global, cost: Cost) -> Result<AuditLine, OutOfMemory>
     ensures { IfOk result (λ line. line ≡ planned_text cost) }
 {
@@ -105,7 +105,7 @@ pub fn planned_line(alloc: Global, cost: Cost) -> Result<AuditLine, OutOfMemory>
     }
 }
 
-/// The line for a broken rule: `broken RULE route R place P stop S`. Routes and places count from 1.
+/// Returns the line for a broken rule: `broken RULE route R place P stop S`. Routes and places count from 1.
 pub fn broken_line(
     alloc: Global,
     rule: u32,
@@ -119,7 +119,8 @@ pub fn broken_line(
     Ok(AuditLine::from(text))
 }
 
-/// The line for a text that is refused: `TEXT NAME LINE`, with the name of its fault. Lines count from 1.
+/// Returns the line for a text that is refused: `TEXT NAME LINE`, with the name of its fault. Lines count from
+/// 1.
 pub fn fault_line(
     alloc: Global,
     text: &str,

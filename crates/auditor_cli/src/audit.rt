@@ -1,27 +1,27 @@
 //! The audit of two texts.
 ghost use Rattle.std.specs.Prelude.{◌≡◌, ◌≢◌, ◌≤◌, IfOk};
 ghost use Rattle.auditor_cli.specs.Answer.{IsAnswer, IsAnswerBy, IsRoutesAnswer, JudgesSpelled, SaysRoutesSound, SaysSound, refused_answer, verdict_answer};
-ghost use Rattle.auditor_cli.specs.Examined.{AreExaminedForRoutes, AreRoutesExamined, IsExamined, IsExaminedBy, answer_of};
-ghost use Rattle.auditor_cli.specs.declared.audit.Examined.TheVariants.{BadInstance, BadSolution};
+ghost use Rattle.auditor_cli.specs.Examination.{AreExaminedForRoutes, AreRoutesExamined, IsExamined, IsExaminedBy, answer_of};
+ghost use Rattle.auditor_cli.specs.declared.audit.Examination.TheVariants.{BadInstance, BadSolution};
 
 use crate::answer::{AuditAnswer, broken_line, fault_line, pass_line};
 use crate::routes_alone::routes_text;
 use crate::status::{BROKEN, DONE, REFUSED};
 use instance_read::{ReadFault, ReadFaultKind, read_instance};
 use plan_audit::{
-    Verdict, audit_routes, audit_solution, routes_are_judged_by_true_cost,
-    solutions_pass_where_they_are_sound,
+    Verdict, audit_routes, audit_solution, routes_are_judged_by_true_cost, solutions_pass_iff_sound,
 };
 use plan_types::{Kind, OutOfMemory, Problem};
 use sol_text::{SolFault, SolFaultKind, Solution, read_sol};
 use std::alloc::{AllocError, Global};
 
-/// Audits a solution's text against an instance's text.
+/// Audits a solution against an instance.
 ///
-/// The line is `pass UNPLANNED VEHICLES DISTANCE` with status 0, `broken RULE route R place P stop S` with status 1 for
-/// the least broken rule, or `instance NAME LINE` or `solution NAME LINE` with status 2 for a text that is refused, the
-/// instance first. So the status is 0 just where both texts spell values and the solution is sound, serves each request,
-/// keeps the fleet, and prints the distance that it drives.
+/// The line is `pass UNPLANNED VEHICLES DISTANCE` with status 0; or `broken RULE route R place P stop S` with
+/// status 1 for the lowest-numbered broken rule; or `instance NAME LINE` or `solution NAME LINE` with status 2
+/// for a text that is refused, the instance first. So the status is 0 exactly if both texts can be parsed and
+/// the solution is sound, serves every request, uses no more vehicles than there are, and prints its true
+/// distance.
 ///
 /// # Errors
 ///
@@ -37,7 +37,7 @@ pub fn audit_text(
     ensures status { IfOk result (λ answer. answer.status ≤ 2) }
     ensures sound { IfOk result (SaysSound kind instance.now solution.now) }
 {
-    solutions_pass_where_they_are_sound();
+    solutions_pass_iff_sound();
     audit_both(alloc, kind, instance, solution)
 }
 
@@ -54,9 +54,10 @@ fn audit_both(
     answer_of(alloc, &examined)
 }
 
-/// Audits the routes of a solution's text against an instance's text, whatever cost it prints: as `audit_text`, but that
-/// rule 11 is not asked, and the text may have no cost line, or one with any word. So the status is 0 just where both texts
-/// spell values and the routes are sound, serve each request and keep the fleet; the line tells the distance that they drive.
+/// Audits the routes of a solution against an instance, whatever cost the solution prints. It differs from
+/// `audit_text` in two ways: rule 11 is not checked, and the cost line may be missing or hold any word. So the
+/// status is 0 exactly if both texts can be parsed and the routes are sound, serve every request and use no
+/// more vehicles than there are. The line has the true distance of the routes.
 ///
 /// # Errors
 ///
@@ -71,7 +72,7 @@ pub fn audit_routes_text(
     ensures status { IfOk result (λ answer. answer.status ≤ 2) }
     ensures sound { IfOk result (SaysRoutesSound kind instance.now solution.now) }
 {
-    solutions_pass_where_they_are_sound();
+    solutions_pass_iff_sound();
     routes_are_judged_by_true_cost();
     audit_both_routes(alloc, kind, instance, solution)
 }
@@ -89,7 +90,7 @@ fn audit_both_routes(
     answer_of(alloc, &examined)
 }
 
-/// Audits a solution's text, or its routes alone.
+/// Audits a solution, or only its routes.
 pub(crate) fn audit_by(
     alloc: Global,
     kind: Kind,
@@ -107,24 +108,24 @@ pub(crate) fn audit_by(
     }
 }
 
-/// What an instance's text and a solution's text are.
+/// An instance and a solution that were parsed and audited.
 #[derive(Debug, Drop)]
-pub enum Examined {
-    /// The instance's text is refused.
+pub enum Examination {
+    /// The instance is refused.
     BadInstance(ReadFault),
-    /// The solution's text is refused.
+    /// The solution is refused.
     BadSolution(SolFault),
-    /// Both spell a value, on which this is the verdict.
+    /// Both texts were parsed, and this is the verdict.
     Judged(Problem, Solution, Verdict),
 }
 
-/// Reads both texts, the instance first, and audits the solution.
+/// Parses both texts, the instance first, and audits the solution.
 pub fn examine(
     alloc: Global,
     kind: Kind,
     instance: &[u8],
     solution: &[u8],
-) -> Result<Examined, OutOfMemory>
+) -> Result<Examination, OutOfMemory>
     ensures { IfOk result (IsExamined kind instance.now solution.now) }
 {
     let problem = match read_instance(alloc, kind, instance) {
@@ -136,16 +137,17 @@ pub fn examine(
         Err(fault) => return bad_solution(fault),
     };
     let verdict = audit_solution(alloc, &problem, &solution)?;
-    Ok(Examined::Judged(problem, solution, verdict))
+    Ok(Examination::Judged(problem, solution, verdict))
 }
 
-/// The same of the routes of the solution alone. The solution that is read has a cost of 0, which nobody asks.
+/// Parses both texts, the instance first, and audits only the routes of the solution. The parsed solution has a
+/// cost of 0, which is not used.
 pub(crate) fn examine_routes(
     alloc: Global,
     kind: Kind,
     instance: &[u8],
     solution: &[u8],
-) -> Result<Examined, OutOfMemory>
+) -> Result<Examination, OutOfMemory>
     ensures { IfOk result (AreRoutesExamined kind instance.now solution.now) }
 {
     let text = routes_text(alloc, solution)?;
@@ -157,7 +159,7 @@ fn examine_for_routes(
     kind: Kind,
     instance: &[u8],
     text: &[u8],
-) -> Result<Examined, OutOfMemory>
+) -> Result<Examination, OutOfMemory>
     ensures { IfOk result (AreExaminedForRoutes kind instance.now text.now) }
 {
     let problem = match read_instance(alloc, kind, instance) {
@@ -169,17 +171,17 @@ fn examine_for_routes(
         Err(fault) => return bad_solution(fault),
     };
     let verdict = audit_routes(alloc, &problem, solution.routes.as_slice())?;
-    Ok(Examined::Judged(problem, solution, verdict))
+    Ok(Examination::Judged(problem, solution, verdict))
 }
 
-/// Reads both texts, and audits the solution, or its routes alone.
+/// Parses both texts, and audits the solution or only its routes.
 pub(crate) fn examine_by(
     alloc: Global,
     kind: Kind,
     routes_alone: bool,
     instance: &[u8],
     solution: &[u8],
-) -> Result<Examined, OutOfMemory>
+) -> Result<Examination, OutOfMemory>
     ensures { IfOk result (IsExaminedBy routes_alone kind instance.now solution.now) }
 {
     if routes_alone {
@@ -189,34 +191,34 @@ pub(crate) fn examine_by(
     }
 }
 
-fn bad_instance(fault: ReadFault) -> Result<Examined, OutOfMemory>
+fn bad_instance(fault: ReadFault) -> Result<Examination, OutOfMemory>
     ensures { IfOk result (λ examined. (fault.kind ≢ ReadFaultKind.OutOfMemory)
         × (examined ≡ BadInstance fault)) }
 {
     match fault.kind {
         ReadFaultKind::OutOfMemory => Err(AllocError),
-        _ => Ok(Examined::BadInstance(fault)),
+        _ => Ok(Examination::BadInstance(fault)),
     }
 }
 
-fn bad_solution(fault: SolFault) -> Result<Examined, OutOfMemory>
+fn bad_solution(fault: SolFault) -> Result<Examination, OutOfMemory>
     ensures { IfOk result (λ examined. (fault.kind ≢ SolFaultKind.OutOfMemory)
         × (examined ≡ BadSolution fault)) }
 {
     match fault.kind {
         SolFaultKind::OutOfMemory => Err(AllocError),
-        _ => Ok(Examined::BadSolution(fault)),
+        _ => Ok(Examination::BadSolution(fault)),
     }
 }
 
-/// What is told of them.
-pub fn answer_of(alloc: Global, examined: &Examined) -> Result<AuditAnswer, OutOfMemory>
+/// Returns the answer for the examined texts.
+pub fn answer_of(alloc: Global, examined: &Examination) -> Result<AuditAnswer, OutOfMemory>
     ensures { IfOk result (λ answer. answer ≡ answer_of examined.now) }
 {
     match examined {
-        Examined::BadInstance(fault) => refused(alloc, "instance", fault.name(), fault.line),
-        Examined::BadSolution(fault) => refused(alloc, "solution", fault.name(), fault.line),
-        Examined::Judged(_, _, verdict) => verdict_told(alloc, *verdict),
+        Examination::BadInstance(fault) => refused(alloc, "instance", fault.name(), fault.line),
+        Examination::BadSolution(fault) => refused(alloc, "solution", fault.name(), fault.line),
+        Examination::Judged(_, _, verdict) => verdict_answer(alloc, *verdict),
     }
 }
 
@@ -230,8 +232,8 @@ fn refused(alloc: Global, text: &str, name: &str, line: u64) -> Result<AuditAnsw
     })
 }
 
-/// What is told of a verdict.
-pub fn verdict_told(alloc: Global, verdict: Verdict) -> Result<AuditAnswer, OutOfMemory>
+/// Returns the answer for a verdict.
+pub fn verdict_answer(alloc: Global, verdict: Verdict) -> Result<AuditAnswer, OutOfMemory>
     ensures { IfOk result (λ answer. answer ≡ verdict_answer verdict) }
 {
     match verdict {

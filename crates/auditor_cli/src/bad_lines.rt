@@ -1,17 +1,17 @@
-//! Why a line of the list of `audits` names no pair.
+//! The reason why a line of a list for `audits` is bad.
 ghost use Rattle.std.specs.Prelude.{◌≡◌, OnOk};
 ghost use Rattle.std.specs.Io.KnownBytes.{Appends};
 ghost use Rattle.auditor_cli.specs.BadLines.{bad_note, bad_reason, columns_reason, cost_reason, paths_reason};
 
-use crate::behind::ListLine;
+use crate::best_known::BestKnown;
 use crate::columns::{cut, tab_at};
-use best_known::BestKnown;
+use crate::ignored_lines::ListLine;
 use plan_types::Kind;
 use std::io;
 use std::io::Write;
 
-/// Tells which line of a list names no pair, and why.
-pub(crate) fn tell_reason<E: Write>(
+/// Prints which line of a list is bad, and why.
+pub(crate) fn print_bad_line_reason<E: Write>(
     place: ListLine<'_>,
     kind: Kind,
     line: &[u8],

@@ -1,29 +1,29 @@
-//! The audit of the two texts that are built in.
+//! The audit of the two built-in texts.
 ghost use Rattle.std.specs.Prelude.{◌≡◌, ◌≤◌, IfOk};
 ghost use Rattle.plan_types.specs.declared.requests.Kind.TheVariants.{LiLim};
-ghost use Rattle.auditor_cli.specs.Telling.{TellsAudit, example_instance, example_solution};
+ghost use Rattle.auditor_cli.specs.Messages.{PrintsAudit, example_instance, example_solution};
 
 use crate::audit::audit_text;
-use crate::telling::tell_audit;
+use crate::messages::print_audit;
 use plan_types::Kind;
 use std::alloc::Global;
 use std::io;
 use std::io::Write;
 
-/// An instance with one pickup and its delivery, in Li and Lim's format.
+/// The built-in instance: one pickup and its delivery, in Li and Lim's format.
 const EXAMPLE_INSTANCE: &str =
     "2 10 1\n0 0 0 0 0 100 0 0 0\n1 3 4 4 0 50 2 0 2\n2 6 8 -4 0 60 2 1 0\n";
-/// A solution of it that passes.
+/// The built-in solution, which passes.
 const EXAMPLE_SOLUTION: &str = "Route #1: 1 2\nCost 20\n";
 
-/// Tells the audit of the two texts that are built in.
+/// Prints the audit of the two built-in texts.
 pub fn audit_example<W: Write>(alloc: Global, output: &mut W) -> io::Result<u8>
     ensures status { IfOk result (λ status. status ≤ 4) }
-    ensures told { IfOk result (TellsAudit LiLim example_instance example_solution
+    ensures reported { IfOk result (PrintsAudit LiLim example_instance example_solution
         (W.contents output.old) (W.contents output.new)) }
 {
     let instance = EXAMPLE_INSTANCE.as_bytes();
     let solution = EXAMPLE_SOLUTION.as_bytes();
     let answer = audit_text(alloc, Kind::LiLim, instance, solution);
-    tell_audit(output, &answer)
+    print_audit(output, &answer)
 }

@@ -1,19 +1,19 @@
-//! A list of the files that were read or made, which only clauses read.
+//! The record of the files that were read or made. Only contracts use it.
 ghost use Rattle.std.specs.Prelude.{◌≡◌, [], ◌∷◌};
-ghost use Rattle.auditor_cli.specs.Noted.{given};
+ghost use Rattle.auditor_cli.specs.FileOutcome.{given};
 
 use ghost_values::{Ghost, ListOf};
 use std::io::ErrorKind;
 use std::marker::Model;
 
-/// What came of reading or making a file.
+/// The result of reading or making a file.
 #[derive(Clone, Copy)]
 pub(crate) enum Outcome {
     Done,
     Failed(ErrorKind),
 }
 
-/// A file by its path, and the bytes that were moved or what kind of error it was.
+/// The path of a file, with the bytes read or written, or the kind of the error.
 type Entry = (ListOf<u8>, Result<ListOf<u8>, ErrorKind>);
 
 /// The files that were read or made, the newest first.

@@ -1,4 +1,4 @@
-//! The files that the words name: those that are read, and those that are made.
+//! The files on a command line: those that are read, and those that are made.
 ghost use Rattle.std.specs.Prelude.{◌≡◌, List, [], ◌∷◌, IfOk, MatchResult};
 ghost use Rattle.std.specs.Io.{StopsAt};
 ghost use Rattle.std.specs.IoError.{error_kind};
@@ -11,55 +11,56 @@ use std::path::Path;
 use std::rt::Files;
 use std::{fs, io};
 
-/// What reads files by their paths, each whole or line by line. It tells what it read and what that gave.
+/// A reader of files by path, each completely or line by line. It records what it reads, with the results.
 pub trait ReadFiles {
     /// A file that is read line by line.
-    type Opened: Drop;
+    type OpenFile: Drop;
 
-    /// What was read so far, the newest first.
+    /// The files read so far, newest first.
     ghost reads: { Self → List FileRead };
 
-    /// Reads the whole of a file.
+    /// Reads the whole file.
     fn read(&mut self, path: &str) -> io::Result<Vec<u8>>
         ensures { MatchResult result
             (λ text. reads self.new ≡ (path.now, Ok text.items) ∷ reads self.old)
             (λ error. reads self.new ≡ (path.now, Err (error_kind error)) ∷ reads self.old) };
 
-    /// Opens a file to be read line by line, and reads nothing of it.
-    fn open(&mut self, path: &str) -> io::Result<Self::Opened>
+    /// Opens a file for reading line by line. Reads nothing from it.
+    fn open(&mut self, path: &str) -> io::Result<Self::OpenFile>
         ensures { MatchResult result
             (λ _. reads self.new ≡ reads self.old)
             (λ error. reads self.new ≡ (path.now, Err (error_kind error)) ∷ reads self.old) };
 
-    /// Reads the next line of a file that was opened by this path, with the line feed that ends it. Without one it is the rest of
-    /// the file, and nothing at its end.
-    fn read_line(&mut self, path: &str, opened: &mut Self::Opened) -> io::Result<Vec<u8>>
+    /// Reads the next line of a file that was opened from this path, with its line feed. Returns the rest of
+    /// the file if no line feed is left, and nothing at its end.
+    fn read_line(&mut self, path: &str, opened: &mut Self::OpenFile) -> io::Result<Vec<u8>>
         ensures noted { MatchResult result
             (λ line. reads self.new ≡ (path.now, Ok line.items) ∷ reads self.old)
             (λ error. reads self.new ≡ (path.now, Err (error_kind error)) ∷ reads self.old) }
         ensures line { IfOk result (λ line. StopsAt line.items 10) };
 }
 
-/// What makes new files, each whole, by its path. It tells what it wrote where, and where it wrote nothing.
+/// A maker of new files by path, each written as a whole. It records the path and the bytes of each file, or
+/// the error.
 pub trait WriteFiles {
-    /// What was written so far or could not be, the newest first.
+    /// The files written so far, or not written because of an error, newest first.
     ghost writes: { Self → List FileWrite };
 
-    /// Fails where no new file can be made under the path, as far as that is known beforehand: for one, where something stands
-    /// there already.
-    fn look(&mut self, path: &str) -> io::Result<()>
+    /// Checks, as far as possible beforehand, that a new file can be made at the path. Fails, for example, if a
+    /// file already exists there.
+    fn check_new(&mut self, path: &str) -> io::Result<()>
         ensures { MatchResult result
             (λ _. writes self.new ≡ writes self.old)
             (λ error. writes self.new ≡ (path.now, Err (error_kind error)) ∷ writes self.old) };
 
-    /// Writes the whole of a new file. What stands under the path already stays as it is, and is an error.
+    /// Writes a whole new file. If something already exists at the path, leaves it as it is and fails.
     fn write_new(&mut self, path: &str, text: &[u8]) -> io::Result<()>
         ensures { MatchResult result
             (λ _. writes self.new ≡ (path.now, Ok text.now) ∷ writes self.old)
             (λ error. writes self.new ≡ (path.now, Err (error_kind error)) ∷ writes self.old) };
 }
 
-// The files of the system, and what came of those that were asked for.
+// The files of the system, and the results of those that were requested.
 #[derive(Drop)]
 struct Host<'a, R> {
     rt: &'a R,
@@ -76,7 +77,7 @@ impl<'a, R> Host<'a, R> {
         }
     }
 
-    // Notes a file by what was read or written.
+    // Records a file with the bytes read or written.
     fn done(&mut self, path: &str, text: &[u8])
         ensures { self.new.noted ≡ (path.now, Ok text.now) ∷ self.old.noted }
     {
@@ -85,7 +86,8 @@ impl<'a, R> Host<'a, R> {
 }
 
 impl<'a, R: Eprint> Host<'a, R> {
-    // Notes a file that can't be read or made, and tells why, but where something stands in the way of a new one. Gives the error back.
+    // Records a file that can't be read or made, and prints the reason, unless it is that a new file already
+    // exists. Returns the error.
     fn fail(&mut self, path: &str, error: io::Error) -> io::Error
         ensures noted { self.new.noted ≡ (path.now, Err (error_kind error)) ∷ self.old.noted }
         ensures same { result ≡ error }
@@ -99,15 +101,15 @@ impl<'a, R: Eprint> Host<'a, R> {
     }
 }
 
-/// The files of the system, and standard input for `-`. Why one can't be read is told on standard error, in the system's
-/// words.
+/// The files of the system, with standard input for the path `-`. If a file can't be read, the system's error is
+/// printed on standard error.
 #[derive(Drop)]
 pub struct HostFiles<'a, R> {
     host: Host<'a, R>,
 }
 
 impl<'a, R> HostFiles<'a, R> {
-    /// None has been read yet.
+    /// Makes a reader that has read nothing yet.
     pub fn new(rt: &'a R) -> HostFiles<'a, R>
         ensures { result.host.noted ≡ [] }
     {
@@ -118,7 +120,7 @@ impl<'a, R> HostFiles<'a, R> {
 }
 
 impl<'a, R: Files + Eprint + AllocGlobal> ReadFiles for HostFiles<'a, R> {
-    type Opened = BufReader<R::File>;
+    type OpenFile = BufReader<R::File>;
 
     ghost reads = { λ f. f.host.noted };
 
@@ -133,7 +135,7 @@ impl<'a, R: Files + Eprint + AllocGlobal> ReadFiles for HostFiles<'a, R> {
     }
 
     fn open(&mut self, path: &str) -> io::Result<BufReader<R::File>> {
-        match open_under(self.host.rt, path) {
+        match open_source(self.host.rt, path) {
             Ok(opened) => Ok(opened),
             Err(error) => Err(self.host.fail(path, error)),
         }
@@ -151,25 +153,25 @@ impl<'a, R: Files + Eprint + AllocGlobal> ReadFiles for HostFiles<'a, R> {
     }
 }
 
-// The path of the system.
+// Returns the system's path for a path on the command line: `-` is standard input.
 fn source_of(path: &str) -> &str {
     if path == "-" { "/dev/stdin" } else { path }
 }
 
-fn open_under<R: Files + AllocGlobal>(rt: &R, path: &str) -> io::Result<BufReader<R::File>> {
+fn open_source<R: Files + AllocGlobal>(rt: &R, path: &str) -> io::Result<BufReader<R::File>> {
     let file = fs::open(rt, source_of(path))?;
     BufReader::new(rt.alloc(), file)
 }
 
-/// New files of the system, each on the disk before it is told as written. Why one can't be made is told on standard error, in
-/// the system's words, but where something stands there already.
+/// New files of the system. Each is on the disk before it is recorded as written. If a file can't be made, the
+/// system's error is printed on standard error, except if the file already exists.
 #[derive(Drop)]
 pub struct HostNewFiles<'a, R> {
     host: Host<'a, R>,
 }
 
 impl<'a, R> HostNewFiles<'a, R> {
-    /// None has been made yet.
+    /// Makes a writer that has written nothing yet.
     pub fn new(rt: &'a R) -> HostNewFiles<'a, R>
         ensures { result.host.noted ≡ [] }
     {
@@ -182,15 +184,15 @@ impl<'a, R> HostNewFiles<'a, R> {
 impl<'a, R: Files<File = File> + Eprint> WriteFiles for HostNewFiles<'a, R> {
     ghost writes = { λ f. f.host.noted };
 
-    fn look(&mut self, path: &str) -> io::Result<()> {
-        match look_under(self.host.rt, path) {
+    fn check_new(&mut self, path: &str) -> io::Result<()> {
+        match check_new_file(self.host.rt, path) {
             Ok(()) => Ok(()),
             Err(error) => Err(self.host.fail(path, error)),
         }
     }
 
     fn write_new(&mut self, path: &str, text: &[u8]) -> io::Result<()> {
-        match write_under(self.host.rt, path, text) {
+        match write_new_file(self.host.rt, path, text) {
             Ok(()) => {
                 self.host.done(path, text);
                 Ok(())
@@ -200,13 +202,14 @@ impl<'a, R: Files<File = File> + Eprint> WriteFiles for HostNewFiles<'a, R> {
     }
 }
 
-// Fails where no new file can be made under the path: one is made and removed. So what a folder refuses is told before a long search.
-fn look_under<R: Files<File = File>>(rt: &R, path: &str) -> io::Result<()> {
+// Checks that a new file can be made at the path: makes one and removes it. So a folder that refuses it is
+// reported before a long search.
+fn check_new_file<R: Files<File = File>>(rt: &R, path: &str) -> io::Result<()> {
     open_new(rt, path)?;
     fs::remove_file(rt, path)
 }
 
-// A file where nothing stands, be it a link that leads nowhere.
+// Makes a file at a path that does not exist, not even as a dangling link.
 fn open_new<R: Files<File = File>>(rt: &R, path: &str) -> io::Result<File> {
     OpenOptions::new()
         .write(true)
@@ -214,8 +217,8 @@ fn open_new<R: Files<File = File>>(rt: &R, path: &str) -> io::Result<File> {
         .open(rt, path)
 }
 
-// Writes a new file and puts it and its name on the disk. One that could not be written whole is removed.
-fn write_under<R: Files<File = File>>(rt: &R, path: &str, text: &[u8]) -> io::Result<()> {
+// Writes a new file, and syncs the file and its name. Removes a file that could not be written completely.
+fn write_new_file<R: Files<File = File>>(rt: &R, path: &str, text: &[u8]) -> io::Result<()> {
     let mut file = open_new(rt, path)?;
     let written = match write_whole(&mut file, text) {
         Ok(()) => sync_folder(rt, path),
@@ -232,7 +235,7 @@ fn write_whole(file: &mut File, text: &[u8]) -> io::Result<()> {
     file.sync_all()
 }
 
-// Puts the names of the file's folder on the disk. Some file systems have no sync of a folder.
+// Syncs the folder of the file, so that the file's name is on the disk. Some file systems can't sync a folder.
 fn sync_folder<R: Files<File = File>>(rt: &R, path: &str) -> io::Result<()> {
     let folder = match Path::new(path).parent() {
         Some(folder) if !folder.as_str().is_empty() => folder.as_str(),

@@ -1,80 +1,75 @@
-//! The words `audit`, `audits` and `explain`: what they read, print and end with. It stands below all that plans, so that an audit
-//! waits for no search and no store.
+//! The subcommands `audit`, `audits` and `explain`: what they read and print, and with which status they end.
+//! This crate needs neither the search nor the store, so the program `auditor` builds without them.
 //!
-//! Entry functions: `audit_words`, called by `auditor`, does what the words ask for where that is an audit; `audit_text` audits two
-//! texts in memory. `planner_cli` calls the functions of single words, and what reads and makes files.
+//! Entry functions: `audit_args`, called by `auditor`, executes a command line that requests an audit.
+//! `audit_text` audits two texts in memory. `planner_cli` calls the functions of the single subcommands, and
+//! uses the types that read and make files.
 //!
 //! Source: this project's own; status 64 is `EX_USAGE` of BSD's `sysexits.h`.
 //!
-//! How it works: each word has one function over whatever reads files and the writers (`audit_files`, `audits_read`,
-//! `explain_read`). Both texts are read whole before either is looked into. A list is read line by line, and each line is answered
-//! before the next one is read.
+//! Each subcommand is one function that is generic over the writers and over what reads files (`audit_files`,
+//! `audit_list`, `explain_files`). Both files are read completely before either is parsed. A list is read line
+//! by line, and each line is answered before the next one is read.
 //!
 //! Modules, in reading order:
-//! - `status`: the statuses that the program ends with
+//! - `status`: the exit statuses
 //! - `answer`: the lines that answer an audit
-//! - `routes_alone`: the routes of a solution's text, without its cost
-//! - `audit`, `example`: the audit of two texts, and of the two that are built in
-//! - `partial`: plans that leave requests out, for words that show a plan
-//! - `telling`, `usage`: lines for files that can't be read or made, and for words that ask for nothing
-//! - `file_record`, `files`: what reads files and what makes them, and the lists of those that were read and made
-//! - `behind`: what stands behind the cost line of a solution, and limits of an instance that are not asked
-//! - `columns`, `bad_lines`: columns with tabs between them, and why a line of a list names no pair
-//! - `audited`, `compared`, `listed`: the words `audit` and `audits`, also beside a best-known cost
-//! - `explained`: the word `explain`
-//! - `auditing`: `audit_words`
+//! - `routes_alone`: the routes of a solution, without its cost
+//! - `audit`, `example`: the audit of two texts, and of the two built-in ones
+//! - `partial`: plans that leave requests out, for subcommands that show a plan
+//! - `messages`, `usage`: the lines for files that can't be read or made, and for help and usage errors
+//! - `file_record`, `files`: what reads and makes files, and the record of these files
+//! - `ignored_lines`: notes on ignored lines of a solution and an instance
+//! - `columns`, `bad_lines`: columns separated by tabs, and the reason why a line of a list is bad
+//! - `best_known`, `gaps`: best-known costs, and how a plan's cost compares with one
+//! - `audit_pair`, `compare`, `audits`: the subcommands `audit` and `audits`, also with a best-known cost
+//! - `explain`: the subcommand `explain`
+//! - `program`: `audit_args`
 //!
-//! Said by `specs/Answer.antt`, `Auditing.antt` and `Reads.antt`, and word by word by `Files.antt`, `Behind.antt`, `Listed.antt`, `BadLines.antt`,
-//! `Compared.antt`, `Explained.antt` and `Partial.antt`. Proved:
-//! - `audit_text`: line and status are those of the first fault or of the verdict on what the texts spell; the
-//!   status is 0 exactly where both spell a value and the solution keeps the rules, serves every request, keeps the
-//!   fleet and prints the distance that it drives (`SaysSound`)
-//! - `audit_routes_text`: the same of the routes alone, whatever cost is printed, or none; the status is 0 exactly where
-//!   both spell a value and the solution keeps the rules, serves every request and keeps the fleet (`SaysRoutesSound`)
-//! - `audit_words`, of words without hyphen that ask for something (`EndsWith`): which files were read, and in which order, of a
-//!   list the list first; what was written to the output and to the errors, and the status that goes with it, but for an answer
-//!   that could not be printed; of words that ask for more than an audit one line on the errors and status 64
-//! - `audits_read` (`TellsList`): of each line what `audit` tells of that pair alone, behind a pass also how its cost compares with
-//!   the best-known one that the line names; or `bad line`; the greatest status. The lines are those of all bytes that were read, and
-//!   the files of a line were read before the next line was. Behind them a list that can't be read on is told
-//! - `explain_read` (`TellsExplained`): the audit's line and what it rests on
-//! - `examine_plan` (`IsPlanExamined`): what both texts are, as for an audit; but route lines without a cost line are a partial plan where
-//!   they keep the rules 1 to 8, use no more vehicles than there are and leave a request out
-//! - `HostFiles` notes each file of the system with what reading it gave, `HostNewFiles` each that was to be made with what was
-//!   written; what is under a path no contract says
+//! Proved for `audit_text` and `audit_routes_text`: the answer is that of the first fault, or that of the
+//! verdict on the values that the two texts represent. The status is 0 exactly if the solution is sound, serves
+//! every request, uses no more vehicles than there are, and, for `audit_text`, prints its true distance
+//! (`SaysSound`, `SaysRoutesSound`). Proved for `audit_args`, if no argument except `-` begins with a hyphen
+//! (`EndsWith`): which files are read, in which order, and the status; and what is printed, unless the output
+//! fails. No contract covers what the system's files contain: `HostFiles` and `HostNewFiles` record each file
+//! with the result of reading or writing it.
 #![tactic(auto)]
 
 mod answer;
 mod audit;
-mod audited;
-mod auditing;
+mod audit_pair;
+mod audits;
 mod bad_lines;
-mod behind;
+mod best_known;
 mod columns;
-mod compared;
+mod compare;
 mod example;
-mod explained;
+mod explain;
 mod file_record;
 mod files;
-mod listed;
+mod gaps;
+mod ignored_lines;
+mod messages;
 mod partial;
+mod program;
 mod routes_alone;
 pub mod status;
-mod telling;
 mod usage;
 
 pub use answer::{AuditAnswer, AuditLine, planned_line};
-pub use audit::{Examined, answer_of, audit_routes_text, audit_text, examine};
-pub use audited::{audit_files, read_both};
-pub use auditing::audit_words;
-pub use behind::tell_limit;
+pub use audit::{Examination, answer_of, audit_routes_text, audit_text, examine};
+pub use audit_pair::{audit_files, read_both};
+pub use audits::{audit_list, pair_of, print_bad_line, worse_status};
+pub use best_known::BestKnown;
 pub use example::audit_example;
-pub use explained::{Explanation, explain_read, tell_explained, tell_explanation};
+pub use explain::{Explanation, explain_files, print_explanation, print_explanation_result};
 pub use files::{HostFiles, HostNewFiles, ReadFiles, WriteFiles};
+pub use ignored_lines::print_ignored_limit;
 pub use instance_read::read_instance;
-pub use listed::{audits_read, greater, pair_of, tell_bad_line};
-pub use partial::{PartialPlan, PlanExamined, examine_plan, partial_answer};
-pub use telling::{
-    status_of, tell_audit, tell_unread, tell_unwritten, tell_want_of_memory, write_line,
+pub use messages::{
+    print_audit, print_out_of_memory, print_read_failure, print_write_failure, status_of,
+    write_line,
 };
-pub use usage::{command_words, tell_usage};
+pub use partial::{PartialPlan, PlanExamination, examine_plan, partial_answer};
+pub use program::audit_args;
+pub use usage::{command_args, print_usage};

@@ -1,10 +1,10 @@
-//! A plan that leaves requests out, as `solve` prints one: route lines without a cost line.
+//! Partial plans: plans that leave requests out, as `solve` prints them, with route lines but no cost line.
 ghost use Rattle.std.specs.Prelude.{◌≡◌, IfOk, MatchOption};
-ghost use Rattle.auditor_cli.specs.Examined.{IsBadSolution};
+ghost use Rattle.auditor_cli.specs.Examination.{IsBadSolution};
 ghost use Rattle.auditor_cli.specs.Partial.{IsCostOfPartial, IsNotPartial, IsPartialOf, IsPartialPlan, IsPlanExamined, keeps_stops, partial_answer};
 
 use crate::answer::{AuditAnswer, partial_line};
-use crate::audit::{Examined, examine, examine_routes};
+use crate::audit::{Examination, examine, examine_routes};
 use crate::status::BROKEN;
 use plan_audit::{Rule, Verdict, audit};
 use plan_types::{Cost, Kind, OutOfMemory, Pins, Plan, Problem, Routes};
@@ -12,69 +12,68 @@ use route_sched::{plan_cost, used_count};
 use sol_text::{SolFault, SolFaultKind, Solution};
 use std::alloc::Global;
 
-/// A plan that keeps the rules and leaves requests out, each of them whole.
+/// A plan that breaks no rule and leaves requests out, never only one stop of a pair.
 #[derive(Debug, Drop)]
 pub struct PartialPlan {
     pub problem: Problem,
     pub plan: Plan,
-    /// The first of its numbers is how many requests are left out.
+    /// The cost; its first number is the number of requests left out.
     pub cost: Cost,
 }
 
-/// What two texts are, where the second one may be a partial plan.
+/// Two texts that were examined; the second one may be a partial plan.
 #[derive(Debug, Drop)]
-pub enum PlanExamined {
-    /// As an audit takes them.
-    Whole(Examined),
-    /// Route lines without a cost line, which are a partial plan.
+pub enum PlanExamination {
+    /// The texts were examined as for an audit.
+    Whole(Examination),
+    /// The route lines have no cost line and form a partial plan.
     Partial(PartialPlan),
 }
 
-/// Reads both texts as `examine` does; but where all that a solution lacks is its cost line, it may be a
-/// partial plan.
+/// Examines both texts as `examine` does. But if a solution only lacks its cost line, it may be a partial plan.
 pub fn examine_plan(
     alloc: Global,
     kind: Kind,
     instance: &[u8],
     solution: &[u8],
-) -> Result<PlanExamined, OutOfMemory>
+) -> Result<PlanExamination, OutOfMemory>
     ensures { IfOk result (IsPlanExamined kind instance.now solution.now) }
 {
     match examine(alloc, kind, instance, solution)? {
-        Examined::BadSolution(fault) => {
+        Examination::BadSolution(fault) => {
             partial_or_refused(alloc, kind, instance, solution, fault)
         }
-        examined => Ok(PlanExamined::Whole(examined)),
+        examined => Ok(PlanExamination::Whole(examined)),
     }
 }
 
-// What a solution's text with this fault is.
+// Examines two texts whose solution has this fault: it may be a partial plan.
 fn partial_or_refused(
     alloc: Global,
     kind: Kind,
     instance: &[u8],
     solution: &[u8],
     fault: SolFault,
-) -> Result<PlanExamined, OutOfMemory>
+) -> Result<PlanExamination, OutOfMemory>
     requires { IsBadSolution kind instance.now solution.now fault }
     ensures { IfOk result (IsPlanExamined kind instance.now solution.now) }
 {
     if fault.kind != SolFaultKind::NoCost {
-        return Ok(PlanExamined::Whole(Examined::BadSolution(fault)));
+        return Ok(PlanExamination::Whole(Examination::BadSolution(fault)));
     }
     let routes = examine_routes(alloc, kind, instance, solution)?;
     match partial_of(alloc, routes)? {
-        Some(partial) => Ok(PlanExamined::Partial(partial)),
-        None => Ok(PlanExamined::Whole(Examined::BadSolution(fault))),
+        Some(partial) => Ok(PlanExamination::Partial(partial)),
+        None => Ok(PlanExamination::Whole(Examination::BadSolution(fault))),
     }
 }
 
-// The partial plan that the routes alone are, if they are one.
-fn partial_of(alloc: Global, routes: Examined) -> Result<Option<PartialPlan>, OutOfMemory>
+// Returns the partial plan that the routes form, if they form one.
+fn partial_of(alloc: Global, routes: Examination) -> Result<Option<PartialPlan>, OutOfMemory>
     ensures { IfOk result (λ found. MatchOption found (IsNotPartial routes) (IsPartialOf routes)) }
 {
     match routes {
-        Examined::Judged(problem, printed, _) => partial_plan(alloc, problem, printed),
+        Examination::Judged(problem, printed, _) => partial_plan(alloc, problem, printed),
         _ => Ok(None),
     }
 }
@@ -102,7 +101,7 @@ fn partial_plan(
     }
 }
 
-// What the plan costs, if it is a partial one.
+// Returns the cost of the plan, if it is a partial one.
 fn partial_cost(alloc: Global, problem: &Problem, plan: &Plan) -> Result<Option<Cost>, OutOfMemory>
     ensures { IfOk result (λ found. MatchOption found
         (IsPartialPlan problem.now plan.now.routes → ⊥)
@@ -121,8 +120,8 @@ fn partial_cost(alloc: Global, problem: &Problem, plan: &Plan) -> Result<Option<
     Ok(is_partial.then_some(cost))
 }
 
-// Whether none of the rules 1 to 8 is broken, which ask of a stop or a return. Rule 9 of a plan in a store asks for a route
-// for each vehicle.
+// Returns whether none of the rules 1 to 8 is broken. These rules concern stops and returns. Rule 9 is not
+// considered: for a plan in a store it requires exactly one route per vehicle.
 fn keeps_stops(verdict: Verdict) -> bool
     ensures { result ≡ keeps_stops verdict }
 {
@@ -132,7 +131,7 @@ fn keeps_stops(verdict: Verdict) -> bool
     }
 }
 
-/// The answer for a partial plan.
+/// Returns the answer for a partial plan.
 pub fn partial_answer(alloc: Global, cost: Cost) -> Result<AuditAnswer, OutOfMemory>
     ensures { IfOk result (λ answer. answer ≡ partial_answer cost) }
 {

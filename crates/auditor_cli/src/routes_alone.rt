@@ -1,4 +1,4 @@
-//! The routes of a solution's text, without its cost.
+//! The routes of a solution, without its cost.
 ghost use Rattle.std.specs.Prelude.{◌≡◌, ◌++◌, IfOk, OnOk};
 ghost use Rattle.std.specs.List.{flat_map};
 ghost use Rattle.sol_text.specs.LineShapes.{is_cost_line};
@@ -10,8 +10,8 @@ use sol_text::cost_word;
 use std::alloc::Global;
 use text_lines::Lines;
 
-/// The text that is read where the routes of a solution alone are asked: its lines before the first cost line, all of
-/// them where there is none, and a cost of 0 behind them. What the cost line of the solution says is not looked at.
+/// Returns the text that is parsed if only the routes of a solution are audited: its lines before the first cost
+/// line, or all lines if there is none, and then a cost of 0. The cost line of the solution is not parsed.
 pub(crate) fn routes_text(alloc: Global, solution: &[u8]) -> Result<Vec<u8>, OutOfMemory>
     ensures value { IfOk result (λ text. text.items ≡ routes_text solution.now) }
     ensures lines { IfOk result (λ text. HasLinesOf solution.now text.items) }

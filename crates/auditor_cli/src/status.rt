@@ -1,14 +1,14 @@
-//! The statuses that the program ends with.
+//! The exit statuses of the program.
 
-/// What was asked for was done; for an audit, the solution passes.
+/// Success; for an audit, the solution passes.
 pub const DONE: u8 = 0;
-/// The solution breaks a rule, or a strict serving ended at a refusal.
+/// The solution breaks a rule, or a strict run ended at a refusal.
 pub const BROKEN: u8 = 1;
-/// A text is refused.
+/// A text or a store is refused.
 pub const REFUSED: u8 = 2;
 /// A file cannot be read, or an answer cannot be printed.
 pub const FILE: u8 = 3;
-/// Memory ran out.
+/// Out of memory.
 pub const OUT_OF_MEMORY: u8 = 4;
-/// The words of the command line ask for nothing that the program does.
+/// Usage error: the command line does not request anything that the program does.
 pub const USAGE: u8 = 64;

@@ -1,7 +1,7 @@
-//! The words of the command line, and what is told of those that ask for nothing: help, or a mistake.
+//! The arguments of the command line, and the output for those that request help or have an error.
 ghost use Rattle.std.specs.Prelude.{◌≡◌, ◌≢◌, ◌⊎◌, IfErr, IfOk};
 ghost use Rattle.clap.specs.Words.{kind_of};
-ghost use Rattle.command_line.specs.Asked.{usage_status_of};
+ghost use Rattle.command_line.specs.Invocations.{usage_status_of};
 
 use crate::status::{DONE, OUT_OF_MEMORY, USAGE};
 use clap::Error;
@@ -10,9 +10,9 @@ use std::env::Env;
 use std::io::Write;
 use std::{env, io};
 
-/// Tells help and the version, where they were asked for, on the output, and a fault of the words on the errors, and gives the
-/// status. Of want of memory nothing is told.
-pub fn tell_usage<W: Write, E: Write>(
+/// Prints help or the version on the output, or a usage error on `errors`, and returns the status. If memory ran
+/// out, prints nothing.
+pub fn print_usage<W: Write, E: Write>(
     error: &Error,
     output: &mut W,
     errors: &mut E,
@@ -35,9 +35,9 @@ pub fn tell_usage<W: Write, E: Write>(
     }
 }
 
-/// The words of the command line, the program's name first, or the status that tells why there are none: want of memory, or a word that
-/// is not UTF-8 text.
-pub fn command_words<R: Env + Eprint + AllocGlobal>(rt: &R) -> Result<Vec<String>, u8>
+/// Returns the command line, which begins with the program's name. Fails with a status if memory ran out or an
+/// argument is not UTF-8.
+pub fn command_args<R: Env + Eprint + AllocGlobal>(rt: &R) -> Result<Vec<String>, u8>
     ensures { IfErr result (λ status. (status ≡ 4) ⊎ (status ≡ 64)) }
 {
     match env::args(rt) {

@@ -1,16 +1,16 @@
--- A record that is written behind the others is one of them.
+-- After a record is written at the end of the journal, it is one of the journal's records.
 use Rattle.std.proofs.Common.{◌≡◌, ◌⊎◌, inl, inr, ⊎_elim, ℕ, suc, ◌+◌, ◌*◌, ◌%◌, ◌<◌, ◌≤◌, List, [], ◌∷◌, ◌++◌, length, sym, ◌∙◌, ap, subst, arith, length-append}
 use Rattle.std.proofs.lemmas.Bool.{cases_lt}
 use Rattle.sector_disk.specs.Image.{sector, written}
 use Rattle.sector_disk.specs.ImageLaws.{length-written}
 use Rattle.checkpoint.specs.declared.layouts.Layout.{Layout}
 use Rattle.checkpoint.specs.Layouts.{half_at}
-use Rattle.checkpoint.specs.Stores.{Stores, record_sectors, begins_with}
+use Rattle.checkpoint.specs.Stores.{Stores, record_sectors, leading_number}
 use Rattle.checkpoint.proofs.Runs.{same_run, same_records, record_sectors-more, sector_written, written_outside}
 use Rattle.checkpoint.proofs.Carried.{half_inside, same_valid}
 
 module _ (layout : Layout) (image : List ℕ) (sequence : ℕ) (state : List ℕ) (journal : List (List ℕ)) (bytes : List ℕ)
-    (stored : Stores layout image sequence state journal) (one : length bytes ≡ 512) (mark : begins_with bytes ≡ sequence) (free : length journal < 256) where
+    (stored : Stores layout image sequence state journal) (one : length bytes ≡ 512) (mark : leading_number bytes ≡ sequence) (free : length journal < 256) where
   abbrev with_record : List ℕ
   with_record = written (2 + length journal) bytes image
 
@@ -35,11 +35,11 @@ module _ (layout : Layout) (image : List ℕ) (sequence : ℕ) (state : List ℕ
   more : length (journal ++ bytes ∷ []) ≡ suc (length journal)
   more = omega (arith, length-append journal (bytes ∷ []))
 
-  marks : (i : ℕ) → i < suc (length journal) → begins_with (sector (2 + i) with_record) ≡ sequence
+  marks : (i : ℕ) → i < suc (length journal) → leading_number (sector (2 + i) with_record) ≡ sequence
   marks i below = ⊎_elim
-      (λ (old : i < length journal). ap begins_with (outside (2 + i) (inl (omega (arith, old)))) ∙ stored.marked i old)
+      (λ (old : i < length journal). ap leading_number (outside (2 + i) (inl (omega (arith, old)))) ∙ stored.marked i old)
       (λ (from : length journal ≤ i). let at : i ≡ length journal = omega (arith, below, from) in
-      ap (λ (k : ℕ). begins_with (sector (2 + k) with_record)) at ∙ ap begins_with here ∙ mark)
+      ap (λ (k : ℕ). leading_number (sector (2 + k) with_record)) at ∙ ap leading_number here ∙ mark)
       (cases_lt i (length journal))
 
   pub added : Stores layout with_record sequence state (journal ++ bytes ∷ [])
@@ -56,5 +56,5 @@ module _ (layout : Layout) (image : List ℕ) (sequence : ℕ) (state : List ℕ
         (same_records 0 (length journal) image with_record (λ j from to. outside (2 + j) (inl (omega (arith, to)))) ∙ stored.records)
         ∙ ap (λ (s : List ℕ). journal ++ s ∷ []) (ap (λ (k : ℕ). sector (2 + k) with_record) (omega arith) ∙ here);
     marked = λ i below. marks i (omega (arith, below, more));
-    rest = λ i from to. subst (λ (s : List ℕ). begins_with s < sequence) (sym (outside (2 + i) (inr (omega (arith, from, more))))) (stored.rest i (omega (arith, from, more)) to);
+    rest = λ i from to. subst (λ (s : List ℕ). leading_number s < sequence) (sym (outside (2 + i) (inr (omega (arith, from, more))))) (stored.rest i (omega (arith, from, more)) to);
   }

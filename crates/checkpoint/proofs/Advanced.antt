@@ -1,4 +1,4 @@
--- A header that is written makes the snapshot in its half count.
+-- After a header is written, the snapshot in its half is the current one.
 use Rattle.std.proofs.Common.{◌≡◌, inr, ⊎_elim, ℕ, ◌+◌, ◌*◌, ◌%◌, ◌^◌, ◌<◌, ◌≤◌, List, [], length, refl, sym, ◌∙◌, ap, subst, arith}
 use Rattle.std.proofs.lemmas.Bool.{cases_lt}
 use Rattle.sector_disk.specs.Image.{sector, written}
@@ -7,15 +7,15 @@ use Rattle.checkpoint.specs.declared.layouts.Layout.{Layout}
 use Rattle.checkpoint.specs.declared.headers.Header.{Header}
 use Rattle.checkpoint.specs.Layouts.{sectors_in, half_at}
 use Rattle.checkpoint.specs.Headers.{header_bytes}
-use Rattle.checkpoint.specs.Stores.{IsValid, Stores, snapshot_in, begins_with}
+use Rattle.checkpoint.specs.Stores.{IsValid, Stores, snapshot_in, leading_number}
 use Rattle.checkpoint.proofs.Runs.{same_run, sector_written, written_outside}
 use Rattle.checkpoint.proofs.Carried.{half_inside}
 use Rattle.checkpoint.proofs.HeaderBytes.{same_sequence}
 
--- no valid header and no record goes beyond this sequence
+-- no valid header and no record has a greater sequence
 pub record Below (layout : Layout) (sequence : ℕ) (image : List ℕ) : Type 0 where
   pub headers : (other : Header) → IsValid layout image other → other.sequence ≤ sequence
-  pub records : (i : ℕ) → i < 256 → begins_with (sector (2 + i) image) ≤ sequence
+  pub records : (i : ℕ) → i < 256 → leading_number (sector (2 + i) image) ≤ sequence
 
 pub stored_below : (layout : Layout) (image : List ℕ) (sequence : ℕ) (state : List ℕ) (journal : List (List ℕ)) → Stores layout image sequence state journal → Below layout sequence image
 stored_below layout image sequence state journal stored = record {
@@ -64,5 +64,5 @@ module _ (layout : Layout) (sequence : ℕ) (image state : List ℕ) (room : 512
     count = omega arith;
     records = refl;
     marked = λ i none. absurd (omega (arith, none));
-    rest = λ i from to. subst (λ (s : List ℕ). begins_with s < sequence + 1) (sym (outside (2 + i) (omega arith))) (omega (arith, below.records i to));
+    rest = λ i from to. subst (λ (s : List ℕ). leading_number s < sequence + 1) (sym (outside (2 + i) (omega arith))) (omega (arith, below.records i to));
   }

@@ -1,17 +1,18 @@
--- What an image stores rests on its headers, its records and one half. So whatever leaves these alone leaves it.
+-- The content of an image depends on its headers, its records and one half. So changes of other sectors
+-- preserve it.
 use Rattle.std.proofs.Common.{◌≡◌, ◌⊎◌, inl, inr, ⊎_elim, ℕ, zero, suc, ◌+◌, ◌%◌, ◌<◌, ◌≤◌, List, length, refl, sym, ◌∙◌, ap, subst, arith}
 use Rattle.sector_disk.specs.Image.{sector}
 use Rattle.checkpoint.specs.declared.layouts.Layout.{Layout}
 use Rattle.checkpoint.specs.declared.headers.Header.{Header}
 use Rattle.checkpoint.specs.Layouts.{sectors_in, half_at}
-use Rattle.checkpoint.specs.Stores.{IsValid, Stores, begins_with}
+use Rattle.checkpoint.specs.Stores.{IsValid, Stores, leading_number}
 use Rattle.checkpoint.proofs.Runs.{same_run, same_records}
 
--- even or odd
+-- every number is even or odd
 pub parity : (n : ℕ) → (n % 2 ≡ 0) ⊎ (n % 2 ≡ 1)
 parity n = elim (n % 2) as (λ r. r < 2 → (r ≡ 0) ⊎ (r ≡ 1)) [ zero ↦ λ h. inl refl | suc r ↦ λ h. inr (omega arith) ] (omega arith)
 
--- a half ends where the layout ends, or before
+-- a half is inside the layout
 pub half_inside : (layout : Layout) (sequence : ℕ) → half_at layout sequence + layout.half ≤ sectors_in layout
 half_inside layout sequence = ⊎_elim
     (λ (even : sequence % 2 ≡ 0). rw even (omega arith))
@@ -19,11 +20,11 @@ half_inside layout sequence = ⊎_elim
     (parity sequence)
 
 module _ (layout : Layout) (a b : List ℕ) (size : length b ≡ length a) where
-  -- a valid header stays where its sector stays
+  -- a valid header stays valid if its sector is unchanged
   pub same_valid : (header : Header) → sector (header.sequence % 2) b ≡ sector (header.sequence % 2) a → IsValid layout a header → IsValid layout b header
   same_valid header same valid = record { room = omega (arith, valid.room, size); bytes = same ∙ valid.bytes; first = valid.first; last = valid.last; some = valid.some; fits = valid.fits }
 
-  -- the same records, as far as they are of this sequence and where none of it follow
+  -- two images with the same record sectors and the same half
   module _ (sequence : ℕ) (same : (i : ℕ) → i < 258 → sector i b ≡ sector i a)
       (half : (j : ℕ) → j < layout.half → sector (half_at layout sequence + j) b ≡ sector (half_at layout sequence + j) a) where
     pub carried : (state : List ℕ) (journal : List (List ℕ)) → Stores layout a sequence state journal → Stores layout b sequence state journal
@@ -36,8 +37,8 @@ module _ (layout : Layout) (a b : List ℕ) (size : length b ≡ length a) where
           (omega (arith, half_inside layout sequence, stored.header.valid.room)) size half stored.header.valid.fits ∙ stored.snapshot;
       count = stored.count;
       records = same_records 0 (length journal) a b (λ j from to. same (2 + j) (omega (arith, stored.count))) ∙ stored.records;
-      marked = λ i below. ap begins_with (same (2 + i) (omega (arith, stored.count))) ∙ stored.marked i below;
-      rest = λ i from to. subst (λ (s : List ℕ). begins_with s < sequence) (sym (same (2 + i) (omega arith))) (stored.rest i from to);
+      marked = λ i below. ap leading_number (same (2 + i) (omega (arith, stored.count))) ∙ stored.marked i below;
+      rest = λ i from to. subst (λ (s : List ℕ). leading_number s < sequence) (sym (same (2 + i) (omega arith))) (stored.rest i from to);
     }
       where
         back : (other : Header) → IsValid layout b other → IsValid layout a other

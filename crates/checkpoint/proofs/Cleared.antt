@@ -1,26 +1,26 @@
--- Zeros in the headers and the records are no store.
+-- An image with zeros in the headers and the records has no store.
 use Rattle.std.proofs.Common.{◌≡◌, ⊎_elim, ℕ, ◌+◌, ◌-◌, ◌*◌, ◌%◌, ◌<◌, ◌≤◌, List, length, take, replicate, refl, sym, ◌∙◌, ap, arith}
 use Rattle.std.proofs.lemmas.List.{drop-replicate, take-replicate}
 use Rattle.sector_disk.specs.Image.{sector, written}
 use Rattle.sector_disk.specs.ImageLaws.{length-written, sector-written_inside}
-use Rattle.checkpoint.specs.Puts.{IsZeros}
-use Rattle.checkpoint.specs.Written.{front_size}
+use Rattle.checkpoint.specs.DurableWrites.{IsZeros}
+use Rattle.checkpoint.specs.WrittenImages.{front_size}
 use Rattle.checkpoint.specs.declared.layouts.Layout.{Layout}
 use Rattle.checkpoint.specs.declared.headers.Header.{Header}
 use Rattle.checkpoint.specs.Headers.{header_bytes, HasOtherVersion, magic}
-use Rattle.checkpoint.specs.Stores.{IsValid, IsUnformatted, begins_with}
+use Rattle.checkpoint.specs.Stores.{IsValid, IsUnformatted, leading_number}
 use Rattle.checkpoint.proofs.Advanced.{Below}
 
 -- the headers and the records are zeros
 pub record IsCleared (image : List ℕ) : Type 0 where
   pub zeros : (i : ℕ) → i < 258 → sector i image ≡ replicate 512 0
 
--- zeros do not begin with the magic
+-- a sector of zeros does not begin with the magic
 not_magic : take 8 (replicate 512 0) ≡ magic → ⊥
 not_magic same = cc
 
-no_header : (layout : Layout) (image : List ℕ) → IsCleared image → (header : Header) → IsValid layout image header → ⊥
-no_header layout image cleared header valid =
+missing_header_fault : (layout : Layout) (image : List ℕ) → IsCleared image → (header : Header) → IsValid layout image header → ⊥
+missing_header_fault layout image cleared header valid =
     let same : replicate 512 0 ≡ header_bytes layout.version header = sym (cleared.zeros (header.sequence % 2) (omega arith)) ∙ valid.bytes in
     not_magic (ap (λ (bytes : List ℕ). take 8 bytes) same)
 
@@ -29,7 +29,7 @@ no_other version bytes zeros other = not_magic (ap (λ (b : List ℕ). take 8 b)
 
 pub cleared_unformatted : (layout : Layout) (image : List ℕ) → IsCleared image → IsUnformatted layout image
 cleared_unformatted layout image cleared = record {
-  none = λ header valid. no_header layout image cleared header valid;
+  none = λ header valid. missing_header_fault layout image cleared header valid;
   no_other = λ is. ⊎_elim
       (λ first. no_other layout.version (sector 0 image) (cleared.zeros 0 (omega arith)) first)
       (λ second. no_other layout.version (sector 1 image) (cleared.zeros 1 (omega arith)) second)
@@ -38,11 +38,11 @@ cleared_unformatted layout image cleared = record {
 
 pub cleared_below : (layout : Layout) (image : List ℕ) → IsCleared image → Below layout 0 image
 cleared_below layout image cleared = record {
-  headers = λ other valid. absurd (no_header layout image cleared other valid);
-  records = λ i below. let none : begins_with (sector (2 + i) image) ≡ begins_with (replicate 512 0) = ap begins_with (cleared.zeros (2 + i) (omega arith)) in omega (arith, none);
+  headers = λ other valid. absurd (missing_header_fault layout image cleared other valid);
+  records = λ i below. let none : leading_number (sector (2 + i) image) ≡ leading_number (replicate 512 0) = ap leading_number (cleared.zeros (2 + i) (omega arith)) in omega (arith, none);
 }
 
--- a write of zeros to all of them
+-- writing zeros over the headers and the records clears them
 pub clears : (n : ℕ) (zeros image : List ℕ) → IsZeros n zeros → n ≡ 512 * 258 → 512 * 258 ≤ length image → IsCleared (written 0 zeros image)
 clears n zeros image is long room = record {
   zeros = λ i below.
@@ -58,7 +58,7 @@ length_cleared n zeros image is long room =
     let whole : length zeros ≡ 512 * 258 = is.long ∙ long in
     length-written 0 258 zeros image whole (omega (arith, room))
 
--- the zeros of a front are those of its size
+-- the front has 132,096 bytes
 pub size_is : 132096 ≡ front_size
 unfolding front_size
 size_is = refl

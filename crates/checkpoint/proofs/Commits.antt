@@ -1,4 +1,4 @@
--- What the calls that write a snapshot leave, where each image stores something before.
+-- The effect of the calls that write a snapshot on images that store something.
 use Rattle.std.proofs.Common.{◌≡◌, ◌⊎◌, inl, inr, ⊎_elim, ℕ, ◌+◌, ◌*◌, ◌/◌, ◌%◌, ◌^◌, ◌<◌, ◌≤◌, List, [], length, take, drop, refl, sym, ◌∙◌, ap, subst, arith, length-take}
 use Rattle.sector_disk.specs.Image.{sector, written, Mixes}
 use Rattle.sector_disk.specs.ImageLaws.{length-written, mixes_outside}
@@ -7,14 +7,14 @@ use Rattle.sector_disk.specs.Calls.{IsInCommit}
 use Rattle.checkpoint.specs.declared.headers.Header.{Header}
 use Rattle.checkpoint.specs.Headers.{header_bytes}
 use Rattle.checkpoint.specs.Layouts.{half_at, version_2}
-use Rattle.checkpoint.specs.Stores.{Stores, HasStored, snapshot_in, begins_with}
-use Rattle.checkpoint.specs.Puts.{IsInSnapshot}
-use Rattle.checkpoint.specs.Written.{half_of, with_snapshot, with_both}
+use Rattle.checkpoint.specs.Stores.{Stores, HasStored, snapshot_in, leading_number}
+use Rattle.checkpoint.specs.DurableWrites.{IsInSnapshot}
+use Rattle.checkpoint.specs.WrittenImages.{half_of, with_snapshot, with_both}
 use Rattle.checkpoint.proofs.Runs.{read_written}
 use Rattle.checkpoint.proofs.Carried.{parity, half_inside, carried}
 use Rattle.checkpoint.proofs.Advanced.{Below, stored_below, advanced}
 
--- a write of whole sectors into the half of the next sequence
+-- A write of the snapshot, as whole sectors, into the half for the next sequence.
 module _ (header : Header) (bytes : List ℕ) (sequence : ℕ) (next : header.sequence ≡ sequence + 1) (whole : length bytes % 512 ≡ 0) (fits : length bytes ≤ 512 * 4096) where
   sectors : length bytes ≡ 512 * (length bytes / 512)
   sectors = omega (arith, whole)
@@ -25,7 +25,7 @@ module _ (header : Header) (bytes : List ℕ) (sequence : ℕ) (next : header.se
   inside : (before : List ℕ) → 512 * 8450 ≤ length before → 512 * half_of header + 512 * (length bytes / 512) ≤ length before
   inside before room = omega (arith, half_inside version_2 header.sequence, few, room)
 
-  -- the other half lies elsewhere
+  -- Each sector of the half for the current sequence is outside the new snapshot.
   apart : (j : ℕ) → j < 4096 → (half_at version_2 sequence + j < half_of header) ⊎ (half_of header + length bytes / 512 ≤ half_at version_2 sequence + j)
   apart j within = ⊎_elim
       (λ (even : sequence % 2 ≡ 0). inl (omega (arith, next, even, within)))
@@ -35,7 +35,7 @@ module _ (header : Header) (bytes : List ℕ) (sequence : ℕ) (next : header.se
   low : (i : ℕ) → i < 258 → i < half_of header
   low i below = omega (arith, below)
 
-  -- in a mixture with it the headers and the records are the old ones
+  -- A mixture of the old image and this write has the old headers and records.
   pub front_stays : (before image : List ℕ) → 512 * 8450 ≤ length before → Mixes before (written (half_of header) bytes before) image → (i : ℕ) → i < 258 → sector i image ≡ sector i before
   front_stays before image room mix i below = mixes_outside (half_of header) (length bytes / 512) bytes before image sectors (inside before room) mix i (inl (low i below))
 
@@ -50,7 +50,7 @@ module _ (header : Header) (bytes : List ℕ) (sequence : ℕ) (next : header.se
   pub whole_mix : (before : List ℕ) → 512 * 8450 ≤ length before → Mixes before (written (half_of header) bytes before) (written (half_of header) bytes before)
   whole_mix before room = record { size = length-written (half_of header) (length bytes / 512) bytes before sectors (inside before room); each = λ i. inr refl }
 
-  -- below the sequence, also behind the write
+  -- After the write, too, no valid header and no record has a greater sequence.
   pub below_stays : (before : List ℕ) → 512 * 8450 ≤ length before → Below version_2 sequence before → Below version_2 sequence (with_snapshot header bytes before)
   below_stays before room below =
       let mix = whole_mix before room in
@@ -65,10 +65,10 @@ module _ (header : Header) (bytes : List ℕ) (sequence : ℕ) (next : header.se
           some = valid.some;
           fits = valid.fits;
         });
-        records = λ i within. subst (λ (s : List ℕ). begins_with s ≤ sequence) (sym (same (2 + i) (omega arith))) (below.records i within);
+        records = λ i within. subst (λ (s : List ℕ). leading_number s ≤ sequence) (sym (same (2 + i) (omega arith))) (below.records i within);
       }
 
-  -- with the header it is the store of the next sequence
+  -- When the header is written too, the image stores the snapshot under the next sequence.
   pub becomes : (before : List ℕ) → 512 * 8450 ≤ length before → Below version_2 sequence before → header.sequence ≤ 2 ^ 60 → 1 ≤ header.length → header.length ≤ length bytes
       → Stores version_2 (with_both header bytes before) header.sequence (take header.length bytes) []
   becomes before room below last some long =
@@ -85,7 +85,7 @@ module _ (header : Header) (bytes : List ℕ) (sequence : ℕ) (next : header.se
       (with_snapshot header bytes before)) header.sequence state []) counted
       (subst (λ (q : ℕ). Stores version_2 (written (q % 2) (header_bytes 2 (record { sequence = q; length = length state })) (with_snapshot header bytes before)) q state []) (sym next) new)
 
-  -- each moment of the four calls, where each image stores something of the sequence before
+  -- Each moment of the four calls, if each image stores something under the sequence before.
   module _ (state : List ℕ) (journal : List (List ℕ)) (possible : List ℕ → Type 0) (seen : List ℕ) (here : possible seen)
       (stored : (image : List ℕ) → possible image → Stores version_2 image sequence state journal) (last : header.sequence ≤ 2 ^ 60) (some : 1 ≤ header.length)
       (long : header.length ≤ length bytes) where
@@ -94,15 +94,15 @@ module _ (header : Header) (bytes : List ℕ) (sequence : ℕ) (next : header.se
 
     pub in_commit : (calls m : ℕ) (image : List ℕ) → IsInSnapshot header bytes possible seen calls m image
         → IsInCommit (HasStored sequence state journal) (HasStored header.sequence (take header.length bytes) []) 4 2 calls m image
-    in_commit calls m image put = record {
-      from = put.from;
-      to = put.to;
+    in_commit calls m image write_and_sync = record {
+      from = write_and_sync.from;
+      to = write_and_sync.to;
       early = λ before. ⊎_elim
           (λ old. reached old.1)
           (λ new. absurd (omega (arith, before, new.0)))
-          put.stage;
-      either = ⊎_elim (λ old. inl (reached old.1)) (λ new. inr (is_now new.1)) put.stage;
-      done = λ end. is_now (put.done end);
+          write_and_sync.stage;
+      either = ⊎_elim (λ old. inl (reached old.1)) (λ new. inr (is_now new.1)) write_and_sync.stage;
+      done = λ end. is_now (write_and_sync.done end);
     }
       where
         reached : Reached (half_of header) bytes possible image → Stores version_2 image sequence state journal

@@ -1,4 +1,4 @@
--- Each image holds something, or has a cause to hold nothing: every question of the definition has an answer.
+-- Every image holds something or has a fault, since each property in the definitions can be decided.
 use Rattle.std.proofs.Common.{
   ◌-◌,
   ◌≡◌,
@@ -40,9 +40,9 @@ use Rattle.std.proofs.lemmas.Bool.{cases_lt}
 use Rattle.std.proofs.lemmas.List.Elements.{All-take, All-drop}
 use Rattle.byteorder.specs.Endian.{big_bytes}
 use Rattle.sector_disk.specs.Image.{sector}
-use Rattle.command_core.specs.Runs.{IsState}
-use Rattle.command_core.specs.declared.states.State.{State}
-use Rattle.command_core.specs.declared.commands.Command.{Command}
+use Rattle.command_types.specs.States.{IsState}
+use Rattle.command_types.specs.declared.states.State.{State}
+use Rattle.command_types.specs.declared.commands.Command.{Command}
 use Rattle.state_codec.specs.declared.version.Version.{Version}
 use Rattle.state_codec.specs.declared.version.Version.TheVariants.{One, Two}
 use Rattle.state_codec.specs.declared.fault.CodecFault.{CodecFault}
@@ -50,7 +50,7 @@ use Rattle.state_codec.specs.declared.fault.CodecFault.TheVariants as codec
 use Rattle.state_codec.specs.Bytes.{state_bytes}
 use Rattle.state_codec.specs.Limits.{IsStateOf}
 use Rattle.state_codec.specs.Laws.{BytesAreDecided, RecordsAreDecided}
-use Rattle.state_codec.specs.Refused.{Decodes}
+use Rattle.state_codec.specs.DecodeResults.{Decodes}
 use Rattle.checkpoint.specs.declared.layouts.Layout.{Layout}
 use Rattle.checkpoint.specs.declared.headers.Header.{Header}
 use Rattle.checkpoint.specs.declared.places.Place.{Place}
@@ -58,14 +58,14 @@ use Rattle.checkpoint.specs.declared.faults.StoreFault.{StoreFault}
 use Rattle.checkpoint.specs.declared.faults.StoreFault.TheVariants as store
 use Rattle.checkpoint.specs.Layouts.{sectors_in, half_at}
 use Rattle.checkpoint.specs.Headers.{magic, header_bytes, HasOtherVersion}
-use Rattle.checkpoint.specs.Numbers.{HaveNumbers, next_number_of, all_added}
-use Rattle.checkpoint.specs.Stores.{IsValid, IsOfOtherVersion, Counts, snapshot_in, begins_with}
+use Rattle.checkpoint.specs.Numbers.{HaveValidNumbers, next_number_of, added_stops}
+use Rattle.checkpoint.specs.Stores.{IsValid, IsOfOtherVersion, IsCurrentHeader, snapshot_in, leading_number}
 use Rattle.checkpoint.specs.Holds.{Holds, layout_of}
-use Rattle.checkpoint.specs.Reads.{IsOfParity, IsLed, HasRecords, IsClearFrom, HasStrayFrom}
-use Rattle.checkpoint.specs.Holdless.{HoldsNothing}
+use Rattle.checkpoint.specs.Reads.{IsOfParity, HasLeadingRecords, HasRecords, IsClearFrom, HasStrayFrom}
+use Rattle.checkpoint.specs.InvalidImages.{HoldsNothing}
 use Rattle.checkpoint.proofs.HeaderBytes.{small_half, read_of, read_back}
 use Rattle.checkpoint.proofs.Heads.{counts_first, counts_second, counts_zeroth, counts_next, none_valid}
-use Rattle.checkpoint.proofs.Led.{none_led, more_led, led_to, led_full}
+use Rattle.checkpoint.proofs.LeadingRecords.{none_led, more_led, led_to, led_full}
 use Rattle.checkpoint.proofs.Loading.{holds_here}
 
 -- ---- properties, numbers and bytes
@@ -106,7 +106,7 @@ same_bytes (x ∷ xs) (y ∷ ys) = by (both (same_number x y) (same_bytes xs ys)
 -- ---- headers
 
 module _ (layout : Layout) (image : List ℕ) (half : layout.half < 2 ^ 32) where
-  -- a valid header is what its sector reads as
+  -- a valid header is the result of decoding its sector
   is_read : (index : ℕ) (header : Header) → header.sequence % 2 ≡ index → IsValid layout image header → header ≡ read_of (sector index image)
   is_read index header parity valid = sym (ap read_of (ap (λ (i : ℕ). sector i image) (sym parity) ∙ valid.bytes)
       ∙ read_back layout.version header (omega (arith, valid.last)) (omega (arith, valid.fits, half)))
@@ -114,7 +114,7 @@ module _ (layout : Layout) (image : List ℕ) (half : layout.half < 2 ^ 32) wher
   abbrev IsIn : ℕ → Header → Type 0
   IsIn index header = (header.sequence % 2 ≡ index) × IsValid layout image header
 
-  -- whether a header stands in this sector and is valid
+  -- a header is in this sector and valid, or it is not
   is_in : (index : ℕ) (header : Header) → IsAnswered (IsIn index header)
   is_in index header = by
       (both (same_number (header.sequence % 2) index)
@@ -130,7 +130,7 @@ module _ (layout : Layout) (image : List ℕ) (half : layout.half < 2 ^ 32) wher
       (is_in index (read_of (sector index image)))
 
   abbrev IsCounted : Type 0
-  IsCounted = ((header : Header) × Counts layout image header) ⊎ ((header : Header) → ¬ IsValid layout image header)
+  IsCounted = ((header : Header) × IsCurrentHeader layout image header) ⊎ ((header : Header) → ¬ IsValid layout image header)
 
   of_both : (first second : Option Header) → IsOfParity layout image 0 first → IsOfParity layout image 1 second → IsCounted
   of_both None None zeroth next = inr (none_valid layout image zeroth next)
@@ -144,7 +144,7 @@ module _ (layout : Layout) (image : List ℕ) (half : layout.half < 2 ^ 32) wher
   counted : IsCounted
   counted = let first = in_sector 0 in let second = in_sector 1 in of_both first.0 second.0 first.1 second.1
 
--- whether a sector is of another version
+-- a sector has another version, or it does not
 of_other : (version : ℕ) (bytes : List ℕ) → IsAnswered (HasOtherVersion version bytes)
 of_other version bytes = both (same_bytes (take 8 bytes) magic) (unless (same_bytes (take 4 (drop 8 bytes)) (big_bytes 4 version)))
 
@@ -154,26 +154,26 @@ is_other layout image = by (both (at_most (512 * 802) (length image)) (either (o
 
 -- ---- the journal
 
--- from an index on, some sector is a stray one, or none is
+-- from an index on, some sector is stray, or none is
 strays : (image : List ℕ) (sequence left index : ℕ) → index + left ≡ 256 → IsClearFrom index image sequence ⊎ HasStrayFrom index image sequence
 strays image sequence zero index whole = inl (λ k low high. absurd (omega (arith, low, high, whole)))
 strays image sequence (suc left) index whole = ⊎_elim
-    (λ (less : begins_with (sector (2 + index) image) < sequence). ⊎_elim
+    (λ (less : leading_number (sector (2 + index) image) < sequence). ⊎_elim
     (λ (clear : IsClearFrom (suc index) image sequence). inl (λ k low high. ⊎_elim
     (λ (after : index < k). clear k (omega (arith, after)) high)
-    (λ (at : k ≤ index). let here : index ≡ k = omega (arith, at, low) in subst (λ (i : ℕ). begins_with (sector (2 + i) image) < sequence) here less) (cases_lt index k)))
+    (λ (at : k ≤ index). let here : index ≡ k = omega (arith, at, low) in subst (λ (i : ℕ). leading_number (sector (2 + i) image) < sequence) here less) (cases_lt index k)))
     (λ (stray : HasStrayFrom (suc index) image sequence). inr (stray.0, omega (arith, stray.1), stray.2, stray.3))
     (strays image sequence left (suc index) (omega (arith, whole))))
-    (λ (more : sequence ≤ begins_with (sector (2 + index) image)). inr (index, omega arith, omega (arith, whole), more))
-    (cases_lt (begins_with (sector (2 + index) image)) sequence)
+    (λ (more : sequence ≤ leading_number (sector (2 + index) image)). inr (index, omega arith, omega (arith, whole), more))
+    (cases_lt (leading_number (sector (2 + index) image)) sequence)
 
-numbered : (version : Version) (state : State) (commands : List Command) → IsAnswered (HaveNumbers version state commands)
-numbered One state commands = at_most (next_number_of state + all_added commands) 4001
+numbered : (version : Version) (state : State) (commands : List Command) → IsAnswered (HaveValidNumbers version state commands)
+numbered One state commands = at_most (next_number_of state + added_stops commands) 4001
 numbered Two state commands = inl tt
 
 module _ (bytes : BytesAreDecided) (records : RecordsAreDecided) where
-  -- the first sectors that are records
-  leading : (version : Version) (image : List ℕ) (sequence left index : ℕ) (commands : List Command) → length commands ≡ index → index + left ≡ 256 → IsLed version image sequence commands
+  -- the leading sectors that are records
+  leading : (version : Version) (image : List ℕ) (sequence left index : ℕ) (commands : List Command) → length commands ≡ index → index + left ≡ 256 → HasLeadingRecords version image sequence commands
       → (all : List Command) × HasRecords version image sequence all
   leading version image sequence zero index commands count whole led = (commands, led_full version image sequence commands index count (omega (arith, whole)) led)
   leading version image sequence (suc left) index commands count whole led = ⊎_elim
@@ -185,10 +185,10 @@ module _ (bytes : BytesAreDecided) (records : RecordsAreDecided) where
   abbrev IsDecided : Version → List ℕ → Type 0
   IsDecided version image = ((state : State) × (commands : List Command) × (place : Place) × Holds version image state commands place) ⊎ ((fault : StoreFault) × HoldsNothing version image fault)
 
-  module _ (version : Version) (image : List ℕ) (header : Header) (counts : Counts (layout_of version) image header) where
+  module _ (version : Version) (image : List ℕ) (header : Header) (counts : IsCurrentHeader (layout_of version) image header) where
     bad : (state : State) → snapshot_in (layout_of version) image header.sequence header.length ≡ state_bytes version state → IsStateOf version state → IsState state → (commands : List Command)
-        → HasRecords version image header.sequence commands → HasStrayFrom (length commands) image header.sequence ⊎ (¬ HaveNumbers version state commands) → IsDecided version image
-    bad state is told facts commands has why = inr (
+        → HasRecords version image header.sequence commands → HasStrayFrom (length commands) image header.sequence ⊎ (¬ HaveValidNumbers version state commands) → IsDecided version image
+    bad state is reported facts commands has why = inr (
       store.Codec codec.BadField,
       (
         header,
@@ -199,7 +199,7 @@ module _ (bytes : BytesAreDecided) (records : RecordsAreDecided) where
             state = state;
             snapshot = is;
             facts = facts;
-            told = told;
+            reported = reported;
             journal = record { commands = commands; records = has; why = why };
           },
         ),
@@ -207,21 +207,21 @@ module _ (bytes : BytesAreDecided) (records : RecordsAreDecided) where
     )
 
     of_state : (state : State) → IsState state → IsStateOf version state → snapshot_in (layout_of version) image header.sequence header.length ≡ state_bytes version state → IsDecided version image
-    of_state state facts told is =
+    of_state state facts reported is =
         let led = leading version image header.sequence 256 0 [] refl (omega arith) (none_led version image header.sequence) in
         let commands = led.0 in
         let has = led.1 in
         ⊎_elim
         (λ (clear : IsClearFrom (length commands) image header.sequence). ⊎_elim
-        (λ (numbers : HaveNumbers version state commands). inl (
+        (λ (numbers : HaveValidNumbers version state commands). inl (
           state,
           commands,
           record { sequence = header.sequence; used = length commands },
           holds_here version image header counts state commands
-              (length commands) is told facts has clear numbers refl,
+              (length commands) is reported facts has clear numbers refl,
         ))
-        (λ (past : ¬ HaveNumbers version state commands). bad state is told facts commands has (inr past)) (numbered version state commands))
-        (λ (stray : HasStrayFrom (length commands) image header.sequence). bad state is told facts commands has (inl stray))
+        (λ (past : ¬ HaveValidNumbers version state commands). bad state is reported facts commands has (inr past)) (numbered version state commands))
+        (λ (stray : HasStrayFrom (length commands) image header.sequence). bad state is reported facts commands has (inl stray))
         (strays image header.sequence (256 - length commands) (length commands) (omega (arith, has.count)))
 
     of_fault : (fault : CodecFault) → fault ≢ codec.OutOfMemory → Decodes version (snapshot_in (layout_of version) image header.sequence header.length) (Err fault) → IsDecided version image

@@ -1,4 +1,4 @@
--- A snapshot without records, from what an image stores to what it holds.
+-- A snapshot without records: the bytes that an image stores determine the content that it holds.
 use Rattle.std.proofs.Common.{◌≡◌, ⊎_elim, inl, inr, ℕ, ◌+◌, ◌≤◌, List, [], Result, Ok, Err, OnOk, refl, subst, arith}
 use Rattle.std.proofs.lemmas.Result.{on_ok_weaker}
 use Rattle.sector_disk.specs.declared.sectors.Sectors as sectors
@@ -6,9 +6,9 @@ use Rattle.sector_disk.specs.Sectors.{Only}
 use Rattle.sector_disk.specs.Throughout.{weakened}
 use Rattle.sector_disk.specs.Calls.{Each, During, Commits}
 use Rattle.sector_disk.specs.CommitLaws.{commits_by}
-use Rattle.command_core.specs.Runs.{IsState}
-use Rattle.command_core.specs.declared.states.State.{State}
-use Rattle.command_core.specs.declared.states.State.TheVariants.{Empty, Loaded}
+use Rattle.command_types.specs.States.{IsState}
+use Rattle.command_types.specs.declared.states.State.{State}
+use Rattle.command_types.specs.declared.states.State.TheVariants.{Empty, Loaded}
 use Rattle.state_codec.specs.declared.version.Version.TheVariants.{Two}
 use Rattle.state_codec.specs.Bytes.{state_bytes}
 use Rattle.state_codec.specs.Limits.{IsStateOf}
@@ -17,17 +17,17 @@ use Rattle.checkpoint.specs.declared.faults.FormatFault.TheVariants.{TooSmall, D
 use Rattle.checkpoint.specs.declared.places.Place.{Place}
 use Rattle.checkpoint.specs.Layouts.{version_2}
 use Rattle.checkpoint.specs.Stores.{Stores, HasStored, IsUnformatted}
-use Rattle.command_core.specs.declared.commands.Command.{Command}
+use Rattle.command_types.specs.declared.commands.Command.{Command}
 use Rattle.checkpoint.specs.Holds.{Holds, HoldsAt, journal}
 use Rattle.checkpoint.specs.Moments.{IsInFormat}
-use Rattle.checkpoint.specs.Refused.{OnCalls}
-use Rattle.checkpoint.specs.Places.{behind_snapshot}
-use Rattle.checkpoint.specs.Making.{Formats, MakesStore}
+use Rattle.checkpoint.specs.Refusals.{OnCalls}
+use Rattle.checkpoint.specs.Places.{place_after_snapshot}
+use Rattle.checkpoint.specs.Formatting.{Formats, FormatsStore}
 use Rattle.checkpoint.proofs.Journals.{holds_still}
 
-told : (state : State) → IsStateOf Two state
-told Empty = tt
-told (Loaded job) = tt
+reported : (state : State) → IsStateOf Two state
+reported Empty = tt
+reported (Loaded job) = tt
 
 pub new_holds : (image : List ℕ) (state : State) (sequence : ℕ) (bytes : List ℕ) → bytes ≡ state_bytes Two state → IsState state
     → Stores version_2 image sequence bytes [] → Holds Two image state [] (record { sequence = sequence; used = 0 })
@@ -35,12 +35,12 @@ new_holds image state sequence bytes is facts stored = record {
   stored = subst (λ (b : List ℕ). Stores version_2 image sequence b []) is stored;
   used = refl;
   facts = facts;
-  told = told state;
+  reported = reported state;
   recorded = λ k d below. absurd (omega (arith, below));
   numbers = tt;
 }
 
--- a format, from what each image has behind it to what it has by that
+-- in the guarantee for a moment of a format, Y may be replaced by a weaker property
 formats_within : (Y Z : List ℕ → Type 0) → ((image : List ℕ) → Y image → Z image) → (calls m : ℕ) (image : List ℕ)
     → IsInFormat (IsUnformatted version_2) Y calls m image → IsInFormat (IsUnformatted version_2) Z calls m image
 formats_within Y Z by calls m image within = record {
@@ -58,7 +58,8 @@ on_calls (Err TooSmall) go here = tt
 on_calls (Err OutOfMemory) go here = tt
 
 module _ {D : Type 0} (on : sectors.Ghosts D) where
-  -- what is possible at the return of a success is of the last moment
+  -- the guarantee after Ok, from that for each moment: an image that is possible after Ok belongs to the last
+  -- moment
   at_end : {T : Type 0} (result : Result T FormatFault) (old new : D) (Y : List ℕ → Type 0)
       → ((t : ℕ) (image : List ℕ) → t ≤ on.clock new → on.possible new image → on.possible_since new t (on.calls new) image) → OnOk result (on.calls new ≡ on.calls old + 6)
       → OnCalls result (During on old new (IsInFormat (IsUnformatted version_2) Y)) → OnOk result (Each on new Y)
@@ -79,7 +80,7 @@ module _ {D : Type 0} (on : sectors.Ghosts D) where
   }
 
   pub makes_by : (Y Z : List ℕ → Type 0) (written : List ℕ) (result : Result Place FormatFault) (old new : D) → ((image : List ℕ) → Y image → Z image)
-      → MakesStore on Y written result old new → MakesStore on Z written result old new
+      → FormatsStore on Y written result old new → FormatsStore on Z written result old new
   makes_by Y Z written result old new by is = record {
     place = is.place;
     too_small = is.too_small;
@@ -88,12 +89,12 @@ module _ {D : Type 0} (on : sectors.Ghosts D) where
     formats = λ honest. formats_by result Y Z written old new by (is.formats honest);
   }
 
--- a commit, from what each image stores to what it holds
+-- a commit of a snapshot: the bytes that each image stores determine the content that it holds
 module _ (place : Place) (state : State) (bytes : List ℕ) (is : bytes ≡ state_bytes Two state) (facts : IsState state)
     (possible : List ℕ → Type 0) (seen : List ℕ) (here : possible seen) (old : State) (commands : List Command) (held : (image : List ℕ) → possible image → Holds Two image old commands place) where
   module _ {D : Type 0} (on : sectors.Ghosts D) where
     pub saved : {T E : Type 0} (result : Result T E) (start end : D)
         → Commits on result 4 2 (HasStored place.sequence (state_bytes Two old) (journal Two place.sequence 0 commands)) (HasStored (place.sequence + 1) bytes []) start end
-        → Commits on result 4 2 (HoldsAt old commands place) (HoldsAt state [] (behind_snapshot place)) start end
+        → Commits on result 4 2 (HoldsAt old commands place) (HoldsAt state [] (place_after_snapshot place)) start end
     saved result start end = commits_by _ _ _ _ (λ image. holds_still image old commands place seen (held seen here))
         (λ image. new_holds image state (place.sequence + 1) bytes is facts) on result 4 2 start end

@@ -1,13 +1,13 @@
--- The headers of an image by its front.
+-- The headers of an image, read from its front.
 use Rattle.std.proofs.Common.{◌≡◌, ◌⊎◌, ⊎_elim, inl, inr, ℕ, ◌%◌, ◌^◌, ◌<◌, ◌≤◌, List, Some, None, sym, ◌∙◌, ap, subst, arith}
 use Rattle.sector_disk.specs.Image.{sector}
 use Rattle.checkpoint.specs.declared.layouts.Layout.{Layout}
 use Rattle.checkpoint.specs.declared.headers.Header.{Header}
 use Rattle.checkpoint.specs.declared.faults.StoreFault.TheVariants as store
 use Rattle.checkpoint.specs.Headers.{header_bytes, HasOtherVersion}
-use Rattle.checkpoint.specs.Stores.{IsValid, Counts}
+use Rattle.checkpoint.specs.Stores.{IsValid, IsCurrentHeader}
 use Rattle.checkpoint.specs.Reads.{IsImageFront, IsAllowed, IsOfParity}
-use Rattle.checkpoint.specs.Holdless.{HasNoHeader}
+use Rattle.checkpoint.specs.InvalidImages.{HasNoHeader}
 use Rattle.checkpoint.proofs.Runs.{sector_front}
 use Rattle.checkpoint.proofs.Carried.{parity}
 use Rattle.checkpoint.proofs.HeaderBytes.{same_sequence}
@@ -40,13 +40,13 @@ module _ (layout : Layout) (sectors : ℕ) (front image : List ℕ) (whole : IsI
   pub allowed_of_valid : (header : Header) → header.sequence % 2 ≡ index → IsValid layout image header → IsAllowed layout sectors header index
   allowed_of_valid header of valid = record { room = omega (arith, valid.room, whole.size); parity = of; first = valid.first; last = valid.last; some = valid.some; fits = valid.fits }
 
-  -- no header was read
+  -- no header was decoded from the sector
   pub none_there : ((header : Header) → header.sequence < 2 ^ 64 → header.length < 2 ^ 64 → bytes ≡ header_bytes layout.version header → None ≡ Some header) → layout.half < 2 ^ 32
       → IsOfParity layout image index None
   none_there all half header of valid =
       let some : None ≡ Some header = all header (omega (arith, valid.last)) (omega (arith, valid.fits, half)) (read_of_valid header of valid) in cc
 
-  -- one was read that is not allowed
+  -- the header in a sector was decoded, but is not allowed there
   pub not_there : (read : Header) → ((header : Header) → header.sequence < 2 ^ 64 → header.length < 2 ^ 64 → bytes ≡ header_bytes layout.version header
       → Some read ≡ Some header) → layout.half < 2 ^ 32
       → ¬ IsAllowed layout sectors read index → IsOfParity layout image index None
@@ -55,7 +55,7 @@ module _ (layout : Layout) (sectors : ℕ) (front image : List ℕ) (whole : IsI
       let is : header ≡ read = cc in
       not (subst (λ (h : Header). IsAllowed layout sectors h index) is (allowed_of_valid header of valid))
 
--- the header that counts, by what the two sectors have
+-- the current header is determined by the two header sectors
 module _ (layout : Layout) (image : List ℕ) where
   pub same_sector : (a b : Header) → a.sequence % 2 ≡ b.sequence % 2 → IsValid layout image a → IsValid layout image b → a.sequence ≡ b.sequence
   same_sector a b of valid_a valid_b = same_sequence layout.version a b (omega (arith, valid_a.last)) (omega (arith, valid_b.last))
@@ -68,21 +68,21 @@ module _ (layout : Layout) (image : List ℕ) where
       (λ odd. inr (same_sector other second (odd ∙ sym next.0) valid next.1))
       (parity other.sequence)
 
-  pub counts_second : (first second : Header) → IsOfParity layout image 0 (Some first) → IsOfParity layout image 1 (Some second) → first.sequence < second.sequence → Counts layout image second
+  pub counts_second : (first second : Header) → IsOfParity layout image 0 (Some first) → IsOfParity layout image 1 (Some second) → first.sequence < second.sequence → IsCurrentHeader layout image second
   counts_second first second zeroth next less = record {
     valid = next.1;
     greatest = λ other valid. ⊎_elim (λ is. omega (arith, is, less)) (λ is. omega (arith, is))
         (counts_both first second zeroth next other valid);
   }
 
-  pub counts_first : (first second : Header) → IsOfParity layout image 0 (Some first) → IsOfParity layout image 1 (Some second) → second.sequence ≤ first.sequence → Counts layout image first
+  pub counts_first : (first second : Header) → IsOfParity layout image 0 (Some first) → IsOfParity layout image 1 (Some second) → second.sequence ≤ first.sequence → IsCurrentHeader layout image first
   counts_first first second zeroth next less = record {
     valid = zeroth.1;
     greatest = λ other valid. ⊎_elim (λ is. omega (arith, is)) (λ is. omega (arith, is, less))
         (counts_both first second zeroth next other valid);
   }
 
-  pub counts_zeroth : (first : Header) → IsOfParity layout image 0 (Some first) → IsOfParity layout image 1 None → Counts layout image first
+  pub counts_zeroth : (first : Header) → IsOfParity layout image 0 (Some first) → IsOfParity layout image 1 None → IsCurrentHeader layout image first
   counts_zeroth first zeroth none = record {
     valid = zeroth.1;
     greatest = λ other valid. ⊎_elim
@@ -90,7 +90,7 @@ module _ (layout : Layout) (image : List ℕ) where
         (λ odd. absurd (none other odd valid)) (parity other.sequence);
   }
 
-  pub counts_next : (second : Header) → IsOfParity layout image 0 None → IsOfParity layout image 1 (Some second) → Counts layout image second
+  pub counts_next : (second : Header) → IsOfParity layout image 0 None → IsOfParity layout image 1 (Some second) → IsCurrentHeader layout image second
   counts_next second none next = record {
     valid = next.1;
     greatest = λ other valid. ⊎_elim
@@ -101,7 +101,7 @@ module _ (layout : Layout) (image : List ℕ) where
   pub none_valid : IsOfParity layout image 0 None → IsOfParity layout image 1 None → (header : Header) → ¬ IsValid layout image header
   none_valid zeroth next header valid = ⊎_elim (λ even. zeroth header even valid) (λ odd. next header odd valid) (parity header.sequence)
 
--- which of the two refusals it is
+-- the two cases of the fault: another version, or no header at all
 module _ (layout : Layout) (sectors : ℕ) (front image : List ℕ) (whole : IsImageFront sectors front image) (room : 802 ≤ sectors) (none : (header : Header) → ¬ IsValid layout image header) where
   pub foreign : (index : ℕ) → (index ≡ 0) ⊎ (index ≡ 1) → HasOtherVersion layout.version (sector index front) → HasNoHeader layout image store.BadVersion
   foreign index which other = record {

@@ -1,5 +1,5 @@
--- The lemma files, for this crate alone.
-mod PutCalls
+-- The lemma files of this crate.
+mod DurableWriteCalls
 mod SnapshotCalls
 mod Runs
 mod Carried
@@ -13,9 +13,9 @@ mod NewStore
 mod Journals
 mod Fresh
 mod Heads
-mod Doubting
-mod Agreeing
-mod Led
+mod IntegrityLemmas
+mod ConsistencyLemmas
+mod LeadingRecords
 mod Loading
-mod OneThing
+mod UniqueStates
 mod Decided

@@ -1,4 +1,4 @@
--- What the parts that are read make of an image.
+-- The parts that are read determine the content of an image.
 use Rattle.std.proofs.Common.{
   ◌≡◌,
   inl,
@@ -34,31 +34,31 @@ use Rattle.std.proofs.Common.{
 }
 use Rattle.std.proofs.lemmas.List.Elements.{All-head, All-tail}
 use Rattle.sector_disk.specs.Image.{sector}
-use Rattle.command_core.specs.Runs.{IsState}
-use Rattle.command_core.specs.declared.states.State.{State}
-use Rattle.command_core.specs.declared.commands.Command.{Command}
+use Rattle.command_types.specs.States.{IsState}
+use Rattle.command_types.specs.declared.states.State.{State}
+use Rattle.command_types.specs.declared.commands.Command.{Command}
 use Rattle.state_codec.specs.declared.version.Version.{Version}
 use Rattle.state_codec.specs.Bytes.{state_bytes, record_bytes}
 use Rattle.state_codec.specs.Limits.{IsStateOf, IsRecorded}
 use Rattle.checkpoint.specs.declared.headers.Header.{Header}
-use Rattle.checkpoint.specs.Numbers.{HaveNumbers}
+use Rattle.checkpoint.specs.Numbers.{HaveValidNumbers}
 use Rattle.checkpoint.specs.Layouts.{half_at}
-use Rattle.checkpoint.specs.Stores.{Counts, snapshot_in, record_sectors, begins_with}
+use Rattle.checkpoint.specs.Stores.{IsCurrentHeader, snapshot_in, record_sectors, leading_number}
 use Rattle.checkpoint.specs.Holds.{Holds, layout_of, journal}
 use Rattle.checkpoint.specs.Reads.{IsImageFront, HasRecords, IsClearFrom, HasStrayFrom}
-use Rattle.checkpoint.specs.Holdless.{HasBadJournal, IsAstray, HoldsNothing, UnlessUnread, IsOfHeaders, IsOfJournal, IsOfBytes, told_of}
-use Rattle.checkpoint.specs.Refused.{faults_of_store}
+use Rattle.checkpoint.specs.InvalidImages.{HasBadJournal, HasMismatchedJournal, HoldsNothing, UnlessReadFailed, IsHeaderFault, IsJournalFault, IsContentFault, store_fault_of}
+use Rattle.checkpoint.specs.Refusals.{faults_of_store}
 use Rattle.checkpoint.specs.declared.faults.StoreFault.{StoreFault}
 use Rattle.checkpoint.specs.declared.faults.StoreFault.TheVariants as store
 use Rattle.state_codec.specs.declared.fault.CodecFault.{CodecFault}
 use Rattle.state_codec.specs.declared.fault.CodecFault.TheVariants as codec
-use Rattle.state_codec.specs.Refused.{Decodes}
+use Rattle.state_codec.specs.DecodeResults.{Decodes}
 use Rattle.checkpoint.proofs.Runs.{same_records}
 use Rattle.checkpoint.proofs.Carried.{half_inside}
 use Rattle.checkpoint.proofs.Journals.{record_begins, length-journal}
 use Rattle.checkpoint.proofs.Heads.{in_front}
 
--- a sector of the records, by its command
+-- a record sector is the record of its command
 pub record_there : (version : Version) (image : List ℕ) (sequence index : ℕ) (commands : List Command) → All (IsRecorded version) commands
     → record_sectors index (length commands) image ≡ journal version sequence index commands → (i : ℕ) → i < length commands
     → (command : Command) × IsRecorded version command × (sector (2 + (index + i)) image ≡ record_bytes version sequence (index + i) command)
@@ -75,13 +75,13 @@ record_there version image sequence index (command ∷ commands) recorded same (
     let found = record_there version image sequence (suc index) commands (All-tail (IsRecorded version) command commands recorded) rest i (omega (arith, below)) in
     (found.0, found.1, subst (λ (k : ℕ). sector (2 + k) image ≡ record_bytes version sequence k found.0) (let e : suc index + i ≡ index + suc i = omega arith in e) found.2)
 
--- what an image holds, by its parts
-module _ (version : Version) (image : List ℕ) (header : Header) (counts : Counts (layout_of version) image header) where
+-- the parts of an image determine its content
+module _ (version : Version) (image : List ℕ) (header : Header) (counts : IsCurrentHeader (layout_of version) image header) where
   pub holds_here : (state : State) (commands : List Command) (used : ℕ)
       → snapshot_in (layout_of version) image header.sequence header.length ≡ state_bytes version state → IsStateOf version state → IsState state
-      → HasRecords version image header.sequence commands → IsClearFrom (length commands) image header.sequence → HaveNumbers version state commands → used ≡ length commands
+      → HasRecords version image header.sequence commands → IsClearFrom (length commands) image header.sequence → HaveValidNumbers version state commands → used ≡ length commands
       → Holds version image state commands (record { sequence = header.sequence; used = used })
-  holds_here state commands used snapshot told facts has clear numbers is_used =
+  holds_here state commands used snapshot reported facts has clear numbers is_used =
       let valid = counts.valid in
       let room : header.length ≤ length (drop (512 * half_at (layout_of version) header.sequence) image) = simp length-drop
       (omega (arith, valid.fits, valid.room, half_inside (layout_of version) header.sequence)) in
@@ -91,23 +91,23 @@ module _ (version : Version) (image : List ℕ) (header : Header) (counts : Coun
       let long : length (journal version header.sequence 0 commands) ≡ length commands = length-journal version header.sequence 0 commands in
       record {
         stored = record {
-          header = subst (λ (n : ℕ). Counts (layout_of version) image (record { sequence = header.sequence; length = n })) size counts;
+          header = subst (λ (n : ℕ). IsCurrentHeader (layout_of version) image (record { sequence = header.sequence; length = n })) size counts;
           snapshot = ap (λ (n : ℕ). snapshot_in (layout_of version) image header.sequence n) (sym size) ∙ snapshot;
           count = omega (arith, long, has.count);
           records = ap (λ (n : ℕ). record_sectors 0 n image) long ∙ has.led.records;
           marked = λ i below.
               let found = record_there version image header.sequence 0 commands has.led.recorded has.led.records i (omega (arith, below, long)) in
-              ap (λ (k : ℕ). begins_with (sector (2 + k) image)) (let e : i ≡ 0 + i = omega arith in e) ∙ ap begins_with found.2 ∙ record_begins version header.sequence (0 + i) found.0 fits;
+              ap (λ (k : ℕ). leading_number (sector (2 + k) image)) (let e : i ≡ 0 + i = omega arith in e) ∙ ap leading_number found.2 ∙ record_begins version header.sequence (0 + i) found.0 fits;
           rest = λ i from to. clear i (omega (arith, from, long)) to;
         };
         used = is_used;
         facts = facts;
-        told = told;
+        reported = reported;
         recorded = has.led.recorded;
         numbers = numbers;
       }
 
-module _ (version : Version) (sectors : ℕ) (front image : List ℕ) (whole : IsImageFront sectors front image) (header : Header) (counts : Counts (layout_of version) image header) where
+module _ (version : Version) (sectors : ℕ) (front image : List ℕ) (whole : IsImageFront sectors front image) (header : Header) (counts : IsCurrentHeader (layout_of version) image header) where
   same : (i : ℕ) → i < 256 → sector (2 + i) image ≡ sector (2 + i) front
   same i below = sym (in_front sectors front image whole (2 + i) (omega (arith, below)))
 
@@ -123,19 +123,19 @@ module _ (version : Version) (sectors : ℕ) (front image : List ℕ) (whole : I
   stray_there state commands has stray = record {
     commands = commands;
     records = records_there commands has;
-    why = inl (stray.0, stray.1, stray.2, subst (λ (s : List ℕ). header.sequence ≤ begins_with s) (sym (same stray.0 stray.2)) stray.3);
+    why = inl (stray.0, stray.1, stray.2, subst (λ (s : List ℕ). header.sequence ≤ leading_number s) (sym (same stray.0 stray.2)) stray.3);
   }
 
-  past_there : (state : State) (commands : List Command) → HasRecords version front header.sequence commands → ¬ HaveNumbers version state commands
+  past_there : (state : State) (commands : List Command) → HasRecords version front header.sequence commands → ¬ HaveValidNumbers version state commands
       → HasBadJournal version image header.sequence state
   past_there state commands has past = record { commands = commands; records = records_there commands has; why = inr past }
 
   bad_here : (state : State) → HasBadJournal version front header.sequence state → HasBadJournal version image header.sequence state
   bad_here state bad = ⊎_elim (stray_there state bad.commands bad.records) (past_there state bad.commands bad.records) bad.why
 
-  -- what the front's journal is refused for, that of the image is
-  pub bad_there : (state : State) (fault : StoreFault) → UnlessUnread (λ fault. HasBadJournal version front header.sequence state) fault
-      → UnlessUnread (λ fault. HasBadJournal version image header.sequence state) fault
+  -- a fault of the journal that is found in the front is a fault of the image
+  pub bad_there : (state : State) (fault : StoreFault) → UnlessReadFailed (λ fault. HasBadJournal version front header.sequence state) fault
+      → UnlessReadFailed (λ fault. HasBadJournal version image header.sequence state) fault
   bad_there state store.DeviceFault bad = tt
   bad_there state store.OutOfMemory bad = tt
   bad_there state store.NotFormatted bad = bad_here state bad
@@ -145,46 +145,46 @@ module _ (version : Version) (sectors : ℕ) (front image : List ℕ) (whole : I
 
   pub holds_there : (state : State) (commands : List Command) (used : ℕ)
       → snapshot_in (layout_of version) image header.sequence header.length ≡ state_bytes version state → IsStateOf version state → IsState state
-      → HasRecords version front header.sequence commands → IsClearFrom (length commands) front header.sequence → HaveNumbers version state commands → used ≡ length commands
+      → HasRecords version front header.sequence commands → IsClearFrom (length commands) front header.sequence → HaveValidNumbers version state commands → used ≡ length commands
       → Holds version image state commands (record { sequence = header.sequence; used = used })
-  holds_there state commands used snapshot told facts has clear numbers is_used =
-      holds_here version image header counts state commands used snapshot told facts (records_there commands has)
-      (λ i from to. subst (λ (s : List ℕ). begins_with s < header.sequence) (sym (same i to)) (clear i from to)) numbers is_used
+  holds_there state commands used snapshot reported facts has clear numbers is_used =
+      holds_here version image header counts state commands used snapshot reported facts (records_there commands has)
+      (λ i from to. subst (λ (s : List ℕ). leading_number s < header.sequence) (sym (same i to)) (clear i from to)) numbers is_used
 
--- what the journal refuses, of an image whose header counts
+-- a fault of the journal is the fault of an image with a current header
 pub journal_refused : {T : Type 0} (P : T → Type 0) (version : Version) (image : List ℕ) (header : Header) (state : State)
-    → Counts (layout_of version) image header → (HasBadJournal version image header.sequence state → IsAstray version image header)
-    → (result : Result T StoreFault) → IfErr result IsOfJournal
-    → MatchResult result P (UnlessUnread (λ fault. HasBadJournal version image header.sequence state))
-    → MatchResult result P (UnlessUnread (HoldsNothing version image))
-journal_refused P version image header state counts astray (Ok x) kind told = told
-journal_refused P version image header state counts astray (Err store.OutOfMemory) kind told = tt
-journal_refused P version image header state counts astray (Err (store.Codec codec.BadField)) kind told = (header, counts, inr (refl, astray told))
-journal_refused P version image header state counts astray (Err (store.Codec codec.Truncated)) kind told = absurd kind
-journal_refused P version image header state counts astray (Err (store.Codec (codec.PlanRefused rule))) kind told = absurd kind
-journal_refused P version image header state counts astray (Err (store.Codec codec.OutOfMemory)) kind told = absurd kind
-journal_refused P version image header state counts astray (Err store.NotFormatted) kind told = absurd kind
-journal_refused P version image header state counts astray (Err store.BadVersion) kind told = absurd kind
-journal_refused P version image header state counts astray (Err store.Spent) kind told = absurd kind
-journal_refused P version image header state counts astray (Err store.DeviceFault) kind told = absurd kind
+    → IsCurrentHeader (layout_of version) image header → (HasBadJournal version image header.sequence state → HasMismatchedJournal version image header)
+    → (result : Result T StoreFault) → IfErr result IsJournalFault
+    → MatchResult result P (UnlessReadFailed (λ fault. HasBadJournal version image header.sequence state))
+    → MatchResult result P (UnlessReadFailed (HoldsNothing version image))
+journal_refused P version image header state counts astray (Ok x) kind reported = reported
+journal_refused P version image header state counts astray (Err store.OutOfMemory) kind reported = tt
+journal_refused P version image header state counts astray (Err (store.Codec codec.BadField)) kind reported = (header, counts, inr (refl, astray reported))
+journal_refused P version image header state counts astray (Err (store.Codec codec.Truncated)) kind reported = absurd kind
+journal_refused P version image header state counts astray (Err (store.Codec (codec.PlanRefused rule))) kind reported = absurd kind
+journal_refused P version image header state counts astray (Err (store.Codec codec.OutOfMemory)) kind reported = absurd kind
+journal_refused P version image header state counts astray (Err store.NotFormatted) kind reported = absurd kind
+journal_refused P version image header state counts astray (Err store.BadVersion) kind reported = absurd kind
+journal_refused P version image header state counts astray (Err store.Spent) kind reported = absurd kind
+journal_refused P version image header state counts astray (Err store.DeviceFault) kind reported = absurd kind
 
--- what the codec refuses
-pub codec_refused : (version : Version) (image : List ℕ) (header : Header) (bytes : List ℕ) → Counts (layout_of version) image header
+-- a fault of decoding is the fault of the image
+pub codec_refused : (version : Version) (image : List ℕ) (header : Header) (bytes : List ℕ) → IsCurrentHeader (layout_of version) image header
     → bytes ≡ snapshot_in (layout_of version) image header.sequence header.length
-    → (fault : CodecFault) → Decodes version bytes (Err fault) → UnlessUnread (HoldsNothing version image) (told_of fault)
-codec_refused version image header bytes counts is codec.Truncated told = (header, counts, inl (subst (λ (b : List ℕ). Decodes version b (Err codec.Truncated)) is told))
-codec_refused version image header bytes counts is codec.BadField told = (header, counts, inl (subst (λ (b : List ℕ). Decodes version b (Err codec.BadField)) is told))
-codec_refused version image header bytes counts is (codec.PlanRefused rule) told = (header, counts, inl (subst (λ (b : List ℕ). Decodes version b (Err (codec.PlanRefused rule))) is told))
-codec_refused version image header bytes counts is codec.OutOfMemory told = tt
+    → (fault : CodecFault) → Decodes version bytes (Err fault) → UnlessReadFailed (HoldsNothing version image) (store_fault_of fault)
+codec_refused version image header bytes counts is codec.Truncated reported = (header, counts, inl (subst (λ (b : List ℕ). Decodes version b (Err codec.Truncated)) is reported))
+codec_refused version image header bytes counts is codec.BadField reported = (header, counts, inl (subst (λ (b : List ℕ). Decodes version b (Err codec.BadField)) is reported))
+codec_refused version image header bytes counts is (codec.PlanRefused rule) reported = (header, counts, inl (subst (λ (b : List ℕ). Decodes version b (Err (codec.PlanRefused rule))) is reported))
+codec_refused version image header bytes counts is codec.OutOfMemory reported = tt
 
-pub of_bytes : (fault : CodecFault) → IsOfBytes (told_of fault)
+pub of_bytes : (fault : CodecFault) → IsContentFault (store_fault_of fault)
 of_bytes codec.Truncated = tt
 of_bytes codec.BadField = tt
 of_bytes (codec.PlanRefused rule) = tt
 of_bytes codec.OutOfMemory = tt
 
--- what the headers tell is no failed call
-pub no_fault_more : (fault : StoreFault) → IsOfHeaders fault → (faults : ℕ) → faults_of_store fault faults ≡ faults
+-- a fault of the headers does not count as a failed call
+pub no_fault_more : (fault : StoreFault) → IsHeaderFault fault → (faults : ℕ) → faults_of_store fault faults ≡ faults
 no_fault_more store.NotFormatted kind faults = refl
 no_fault_more store.BadVersion kind faults = refl
 no_fault_more store.DeviceFault kind faults = absurd kind

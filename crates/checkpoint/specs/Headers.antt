@@ -6,7 +6,8 @@ use Rattle.checkpoint.specs.declared.headers.Header.{Header}
 abbrev pub magic : List ℕ
 magic = codes "PDRSTORE"
 
--- the magic, the version in 4 bytes, the sequence and the snapshot's length in 8 each, and zeros to the sector's end
+-- the magic, the version in 4 bytes, the sequence and the snapshot's length in 8 bytes each, and zeros to the
+-- end of the sector
 abbrev pub header_bytes : ℕ → Header → List ℕ
 header_bytes version header = magic ++ big_bytes 4 version ++ big_bytes 8 header.sequence ++ big_bytes 8 header.length ++ replicate 484 0
 

@@ -1,20 +1,20 @@
--- Where the parts of a store lie.
+-- The layout of a store.
 use Rattle.std.specs.Prelude.{ℕ, ◌+◌, ◌*◌, ◌%◌, ◌^◌}
 use Rattle.checkpoint.specs.declared.layouts.Layout.{Layout}
 
--- the store that is written now, 8,450 sectors
+-- the store of the current version, 8,450 sectors
 abbrev pub version_2 : Layout
 version_2 = record { version = 2; half = 4096 }
 
--- the store of old, 802 sectors
+-- an old store, 802 sectors
 abbrev pub version_1 : Layout
 version_1 = record { version = 1; half = 272 }
 
--- how many records a journal has room for
+-- the number of records that a journal has room for
 abbrev pub journal_room : ℕ
 journal_room = 256
 
--- the sectors before the halves: two headers and the records
+-- the number of sectors before the halves: two headers and the records
 abbrev pub front_sectors : ℕ
 front_sectors = 2 + journal_room
 
@@ -26,10 +26,10 @@ last_sequence = 2 ^ 60
 abbrev pub sectors_in : Layout → ℕ
 sectors_in layout = front_sectors + 2 * layout.half
 
--- the first sector of the half of a sequence
+-- the first sector of the half for a sequence
 abbrev pub half_at : Layout → ℕ → ℕ
 half_at layout sequence = front_sectors + layout.half * (sequence % 2)
 
--- the sectors of the smallest store of any version
-abbrev pub least_sectors : ℕ
-least_sectors = sectors_in version_1
+-- the number of sectors of the smallest store of any version
+abbrev pub min_sectors : ℕ
+min_sectors = sectors_in version_1

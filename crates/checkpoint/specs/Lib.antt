@@ -1,4 +1,4 @@
--- what public contracts reach
+-- modules that public contracts use
 pub mod Layouts
 pub mod Headers
 pub mod Stores
@@ -6,17 +6,17 @@ pub mod Numbers
 pub mod Holds
 pub mod Places
 pub mod Moments
-pub mod Written
+pub mod WrittenImages
 pub mod Reads
-pub mod Holdless
-pub mod Refused
+pub mod InvalidImages
+pub mod Refusals
 pub mod Loads
-pub mod Doubts
+pub mod Integrity
 pub mod Changes
-pub mod Making
+pub mod Formatting
 pub mod Names
 pub mod Laws
--- of private functions alone
+-- modules that only private functions use
 pub mod Journals
-pub mod Puts
+pub mod DurableWrites
 pub mod Encoding

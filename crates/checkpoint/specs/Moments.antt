@@ -1,7 +1,9 @@
--- What a stop may leave within a call that changes a store, by the number of device calls that have finished: m in all, and `calls` when it began.
+-- The images that a crash may leave within a call that changes a store, by the number of finished device calls:
+-- m in all, of which `calls` had finished when the call began.
 use Rattle.std.specs.Prelude.{◌≡◌, ◌⊎◌, ℕ, ◌+◌, ◌≤◌, List}
 
--- Within the six calls of a format. When two have finished there is no store; from the header's write on there may be the new one, and at last it alone.
+-- A moment within the six calls of a format. After two finished calls there is no store. From the header's
+-- write on there may be the new one, and after the last call only the new one.
 pub record IsInFormat (unformatted new : List ℕ → Type 0) (calls m : ℕ) (image : List ℕ) : Type 0 where
   pub from : calls ≤ m
   pub to : m ≤ calls + 6

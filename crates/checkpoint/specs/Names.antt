@@ -1,7 +1,7 @@
--- The names of faults and doubts.
+-- The names of faults and integrity warnings.
 use Rattle.std.specs.Prelude.{ℕ, List, codes}
-use Rattle.checkpoint.specs.declared.doubts.Doubt.{Doubt}
-use Rattle.checkpoint.specs.declared.doubts.Doubt.TheVariants as doubts
+use Rattle.checkpoint.specs.declared.integrity.IntegrityWarning.{IntegrityWarning}
+use Rattle.checkpoint.specs.declared.integrity.IntegrityWarning.TheVariants as doubts
 use Rattle.checkpoint.specs.declared.faults.FormatFault.{FormatFault}
 use Rattle.checkpoint.specs.declared.faults.FormatFault.TheVariants as format
 use Rattle.checkpoint.specs.declared.faults.StoreFault.{StoreFault}
@@ -20,8 +20,8 @@ store_fault_name store.Spent = codes "Spent"
 store_fault_name store.OutOfMemory = codes "OutOfMemory"
 store_fault_name store.DeviceFault = codes "DeviceFault"
 
-abbrev pub doubt_name : Doubt → List ℕ
-doubt_name doubts.HeaderLost = codes "HeaderLost"
-doubt_name doubts.HeadersApart = codes "HeadersApart"
-doubt_name doubts.RecordDamaged = codes "RecordDamaged"
-doubt_name doubts.RecordsMixed = codes "RecordsMixed"
+abbrev pub integrity_warning_name : IntegrityWarning → List ℕ
+integrity_warning_name doubts.HeaderLost = codes "HeaderLost"
+integrity_warning_name doubts.HeadersApart = codes "HeadersApart"
+integrity_warning_name doubts.RecordDamaged = codes "RecordDamaged"
+integrity_warning_name doubts.RecordsMixed = codes "RecordsMixed"

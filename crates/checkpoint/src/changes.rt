@@ -1,40 +1,42 @@
 //! Commits of records and of snapshots.
 //!
-//! Within the write of a header a count of finished calls can't tell whether the write has begun, so of a snapshot's commit
-//! either image may be there from two finished calls on. `Spent` is told before memory is asked for.
+//! During the write of a header, the number of finished calls does not show whether the write has begun. So
+//! once two calls of a snapshot's commit have finished, an image may hold the old content or the new one.
+//! `Spent` is reported before memory is allocated.
 ghost use Rattle.std.specs.Prelude.{◌≡◌, ◌+◌, ◌*◌, ◌%◌, ◌<◌, ◌≤◌, ◌^◌, ℕ, List, [], ◌∷◌, ◌++◌, length, take, ◌↔◌, OnOk, IfOk, IfErr, IsErrOf, MatchResult};
-ghost use Rattle.command_core.specs.Runs.{IsState};
-ghost use Rattle.command_core.specs.declared.states.State.{State};
-ghost use Rattle.command_core.specs.declared.commands.Command.{Command};
+ghost use Rattle.command_types.specs.States.{IsState};
+ghost use Rattle.command_types.specs.declared.states.State.{State};
+ghost use Rattle.command_types.specs.declared.commands.Command.{Command};
 ghost use Rattle.sector_disk.specs.Sectors.{Only, more, faults_after};
 ghost use Rattle.sector_disk.specs.Calls.{Calls, CommitsFrom};
 ghost use Rattle.state_codec.specs.declared.version.Version.TheVariants.{Two};
 ghost use Rattle.state_codec.specs.Limits.{IsRecorded};
 ghost use Rattle.state_codec.specs.Bytes.{state_bytes};
-ghost use Rattle.checkpoint.specs.Changes.{IsPlaced, IsUnspent, HasRecordRoom, ChangesStore};
+ghost use Rattle.checkpoint.specs.Changes.{IsStorePlace, IsUnspent, HasRecordRoom, ChangesStore};
 ghost use Rattle.checkpoint.specs.Encoding.{IsSnapshot};
 ghost use Rattle.checkpoint.specs.Holds.{HoldsAt};
-ghost use Rattle.checkpoint.specs.Refused.{IsRefusedCommit, faults_after_reading};
+ghost use Rattle.checkpoint.specs.Refusals.{IsRefusedCommit, faults_after_reading};
 ghost use Rattle.checkpoint.specs.Layouts.{version_2, journal_room, last_sequence, sectors_in};
-ghost use Rattle.checkpoint.specs.Places.{behind_record, behind_snapshot};
-ghost use Rattle.checkpoint.specs.Written.{to_whole_sectors, with_record, with_state};
+ghost use Rattle.checkpoint.specs.Places.{place_after_record, place_after_snapshot};
+ghost use Rattle.checkpoint.specs.WrittenImages.{to_whole_sectors, with_record, with_state};
 
+use crate::durable_writes::{advance, extend};
 use crate::encoding::snapshot_of;
 use crate::faults::StoreFault;
 use crate::headers::Header;
 use crate::layouts::LAST_SEQUENCE;
 use crate::places::Place;
-use crate::puts::{advance, extend};
-use command_core::{Command, State};
+use command_types::{Command, State};
 use sector_disk::{DeviceFault, Sectors};
 use state_codec::encode_record;
 use std::alloc::Global;
 
-/// Commits a command as one more record. Asks for room in the journal and a command that has a record, on the device of a store that stands at this place.
-/// Two device calls, and no memory.
+/// Commits a command as one more record, with two device calls and without allocating. The caller guarantees
+/// that the store on the device is at this place, that the journal has room, and that the command has a record.
 ///
-/// Where each image of the device held a state and commands at this place, each holds them at every moment of the call, with or without this command
-/// last; after `Ok` each holds them with it, at the place returned, and is what reads gave before with one sector written: that of the record.
+/// If each image of the device held a state and commands at this place, each holds them at every moment of the
+/// call, with or without this command appended. After `Ok` each image holds them with the command, at the
+/// returned place. It is then the image that reads returned before, except for the sector of the record.
 pub fn commit_record<D: Sectors>(
     device: &mut D,
     place: Place,
@@ -43,10 +45,10 @@ pub fn commit_record<D: Sectors>(
     requires { HasRecordRoom (D.len device.old) place command.now }
 
     ensures fails { IfErr result (λ fault. fault ≡ StoreFault.DeviceFault) }
-    ensures place { IfOk result (λ next. next ≡ behind_record place) }
+    ensures place { IfOk result (λ next. next ≡ place_after_record place) }
     ensures called { Calls D.Sectors (more result 2) (faults_after result) device.old device.new }
     ensures changes { ChangesStore D.Sectors result 2 0 place
-        (λ state commands. HoldsAt state (commands ++ command.now ∷ []) (behind_record place))
+        (λ state commands. HoldsAt state (commands ++ command.now ∷ []) (place_after_record place))
         (with_record place command.now (D.seen device.old)) device.old device.new }
 {
     let bytes = encode_record(place.sequence, place.used, command);
@@ -59,7 +61,7 @@ pub fn commit_record<D: Sectors>(
     }
 }
 
-// Commits the snapshot of a state, which is the first of these whole sectors, under the next sequence.
+// Commits the snapshot of a state under the next sequence. `bytes` is the snapshot, padded to whole sectors.
 fn save<D: Sectors>(
     device: &mut D,
     place: Place,
@@ -70,11 +72,11 @@ fn save<D: Sectors>(
     requires snapshot { IsSnapshot state.now size bytes.now }
     requires unspent { IsUnspent (D.len device.old) place }
 
-    ensures answer { MatchResult result (λ next. next ≡ behind_snapshot place)
+    ensures answer { MatchResult result (λ next. next ≡ place_after_snapshot place)
         (λ fault. fault ≡ StoreFault.DeviceFault) }
     ensures called { Calls D.Sectors (more result 4) (faults_after result) device.old device.new }
     ensures changes { ChangesStore D.Sectors result 4 2 place
-        (λ _ _. HoldsAt state.now [] (behind_snapshot place))
+        (λ _ _. HoldsAt state.now [] (place_after_snapshot place))
         (with_state (place.sequence + 1) state.now (D.seen device.old)) device.old device.new }
 {
     let sequence = place.sequence + 1;
@@ -91,27 +93,30 @@ fn save<D: Sectors>(
     }
 }
 
-/// Commits a state as a snapshot under the next sequence, with an empty journal: the snapshot into the other half, a sync, its header, a sync. Asks for the device
-/// of a store that stands at this place. `Spent` where the sequence is 2^60; neither that nor `OutOfMemory` has called the device.
+/// Commits a state as a snapshot under the next sequence, with an empty journal: writes the snapshot into the
+/// other half, syncs, writes its header, syncs. The caller guarantees that the store on the device is at this
+/// place. Returns `Spent` if the sequence is 2^60. `Spent` and `OutOfMemory` are reported before the device is
+/// called.
 ///
-/// Where each image of the device held a state and commands at this place, each holds these or this state alone at every moment of the call: these until two
-/// calls have finished and the header's write begins, and this state alone after `Ok`, at the place returned. Then the image is what reads gave before
-/// with the snapshot's sectors written, the last one filled up with zeros, and the header's.
+/// If each image of the device held a state and commands at this place, each holds either these or only the new
+/// state at every moment of the call. It holds the old content until two calls have finished and the write of
+/// the header begins. After `Ok` it holds only the new state, at the returned place. It is then the image that
+/// reads returned before, except for the sectors of the padded snapshot and of the header.
 pub fn commit_snapshot<D: Sectors>(
     alloc: Global,
     device: &mut D,
     place: Place,
     state: &State,
 ) -> Result<Place, StoreFault>
-    requires { IsPlaced (D.len device.old) place }
+    requires { IsStorePlace (D.len device.old) place }
 
-    ensures answer { MatchResult result (λ next. next ≡ behind_snapshot place)
+    ensures answer { MatchResult result (λ next. next ≡ place_after_snapshot place)
         (λ fault. IsRefusedCommit fault device.old device.new) }
     ensures spent { IsErrOf result StoreFault.Spent ↔ (place.sequence ≡ last_sequence) }
     ensures called { Calls D.Sectors (more result 4) (faults_after_reading result)
         device.old device.new }
     ensures changes { ChangesStore D.Sectors result 4 2 place
-        (λ _ _. HoldsAt state.now [] (behind_snapshot place))
+        (λ _ _. HoldsAt state.now [] (place_after_snapshot place))
         (with_state (place.sequence + 1) state.now (D.seen device.old)) device.old device.new }
 {
     if LAST_SEQUENCE <= place.sequence {

@@ -1,11 +1,11 @@
-//! Why a store can't be made, read or changed.
+//! The reasons why a store can't be created, read or changed.
 ghost use Rattle.std.specs.Prelude.{◌≡◌};
 
 use state_codec::CodecFault;
 use std::alloc::{AllocError, AllocFailed};
 use thiserror::Error;
 
-/// Why a device was not formatted.
+/// The reason why a device was not formatted.
 #[derive(Clone, Copy, Debug, PartialEq, Eq, Error)]
 pub enum FormatFault {
     #[error("the device is too small")]
@@ -19,7 +19,7 @@ pub enum FormatFault {
 impl FormatFault {
     ghost use Rattle.checkpoint.specs.Names.{format_fault_name};
 
-    /// Its name, as answers print it.
+    /// Returns the name of the fault, as answers print it.
     pub fn name(&self) -> &'static str
         ensures { result.now ≡ format_fault_name self.now }
     {
@@ -42,14 +42,15 @@ impl From<AllocError> for FormatFault {
     }
 }
 
-/// Why a store was not read or not changed.
+/// The reason why a store was not read or not changed.
 #[derive(Clone, Copy, Debug, PartialEq, Eq, Error)]
 pub enum StoreFault {
     #[error("the device holds no store")]
     NotFormatted,
     #[error("the store is of another version")]
     BadVersion,
-    /// The snapshot's bytes are no state, or the journal has a record that does not belong to it. Want of memory is `OutOfMemory`.
+    /// The snapshot's bytes are not a state, or the journal has a record that does not belong to it. If memory
+    /// runs out, the fault is `OutOfMemory` instead.
     #[error("the store is broken: {0}")]
     Codec(CodecFault),
     /// The sequence is 2^60. Nothing was written.
@@ -64,7 +65,7 @@ pub enum StoreFault {
 impl StoreFault {
     ghost use Rattle.checkpoint.specs.Names.{store_fault_name};
 
-    /// Its name, as answers print it.
+    /// Returns the name of the fault, as answers print it.
     pub fn name(&self) -> &'static str
         ensures { result.now ≡ store_fault_name self.now }
     {

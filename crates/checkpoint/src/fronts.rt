@@ -1,26 +1,26 @@
-//! What the headers and the records of a device tell.
+//! The front of a device: its headers and records.
 ghost use Rattle.std.specs.Prelude.{◌≡◌, ◌≢◌, ◌+◌, ◌*◌, ◌%◌, ◌<◌, ◌≤◌, ◌^◌, ◌↔◌, ℕ, List, length, take, OnOk, OnErr, IfOk, IfErr, IfSome, IsTrue, MatchOption, MatchResult, Some, None};
 ghost use Rattle.sector_disk.specs.Image.{sector};
 ghost use Rattle.checkpoint.specs.Headers.{HasOtherVersion};
-ghost use Rattle.checkpoint.specs.Layouts.{journal_room, front_sectors, least_sectors};
-ghost use Rattle.checkpoint.specs.Stores.{IsValid, Counts, begins_with};
+ghost use Rattle.checkpoint.specs.Layouts.{journal_room, front_sectors, min_sectors};
+ghost use Rattle.checkpoint.specs.Stores.{IsValid, IsCurrentHeader, leading_number};
 ghost use Rattle.checkpoint.specs.Reads.{IsImageFront, FitsLayout, IsAllowed, IsOfParity, HasRecords, IsClearFrom, HasStrayFrom};
-ghost use Rattle.checkpoint.specs.Holdless.{HasNoHeader, IsOfHeaders};
-ghost use Rattle.command_core.specs.declared.commands.Command.{Command};
+ghost use Rattle.checkpoint.specs.InvalidImages.{HasNoHeader, IsHeaderFault};
+ghost use Rattle.command_types.specs.declared.commands.Command.{Command};
 ghost use Rattle.state_codec.specs.Bytes.{record_bytes};
 ghost use Rattle.state_codec.specs.Limits.{IsRecorded};
 ghost use Rattle.checkpoint.specs.declared.headers.Header.{Header};
 
 use crate::faults::StoreFault;
-use crate::headers::{Header, MAGIC, begins_with, header_in};
+use crate::headers::{Header, MAGIC, header_in, leading_number};
 use crate::layouts::{LAST_SEQUENCE, Layout, RECORDS, sectors_in};
-use command_core::Command;
+use command_types::Command;
 use sector_disk::SECTOR_SIZE;
 use state_codec::version::Version;
 use state_codec::{decode_record, decode_record_v1};
 use std::alloc::{AllocError, Global};
 
-/// A sector of the front of a device.
+/// Returns the sector with this index in the front of a device.
 pub(crate) fn sector_at(front: &[u8], i: usize) -> [u8; SECTOR_SIZE]
     requires { 512 * i + 512 ≤ length front.now }
     ensures { result ≡ sector i front.now }
@@ -30,7 +30,7 @@ pub(crate) fn sector_at(front: &[u8], i: usize) -> [u8; SECTOR_SIZE]
     sector
 }
 
-// Whether a header may stand in this sector of a device of so many sectors.
+// Returns whether a header is allowed in this sector of a device with `sectors` sectors.
 fn is_allowed(layout: Layout, sectors: u64, header: Header, index: u64) -> bool
     ensures { IsTrue result ↔ IsAllowed layout sectors header index }
 {
@@ -43,7 +43,7 @@ fn is_allowed(layout: Layout, sectors: u64, header: Header, index: u64) -> bool
     1 <= header.length && header.length <= 512 * u64::from(layout.half)
 }
 
-/// The valid header in one of the first two sectors.
+/// Returns the valid header in one of the first two sectors, if there is one.
 pub(crate) fn valid_header(
     layout: Layout,
     sectors: u64,
@@ -68,18 +68,18 @@ pub(crate) fn valid_header(
     }
 }
 
-// Whether a sector has the magic and another version.
+// Returns whether a sector has the magic and another version.
 fn is_of_other_version(version: u32, sector: &[u8; SECTOR_SIZE]) -> bool
     ensures { IsTrue result ↔ HasOtherVersion version sector.now }
 {
     &sector[..8] == MAGIC.as_slice() && &sector[8..12] != version.to_be_bytes().as_slice()
 }
 
-// What is told where no header is valid.
-fn no_header(layout: Layout, front: &[u8]) -> StoreFault
+// Returns the fault of a device without a valid header.
+fn missing_header_fault(layout: Layout, front: &[u8]) -> StoreFault
     requires front { length front.now ≡ 512 * front_sectors }
-    ensures kind { IsOfHeaders result }
-    ensures told { (sectors : ℕ) (image : List ℕ) → least_sectors ≤ sectors
+    ensures kind { IsHeaderFault result }
+    ensures reported { (sectors : ℕ) (image : List ℕ) → min_sectors ≤ sectors
         → IsImageFront sectors front.now image
         → ((header : Header) → ¬ IsValid layout image header) → HasNoHeader layout image result }
 {
@@ -92,18 +92,18 @@ fn no_header(layout: Layout, front: &[u8]) -> StoreFault
     StoreFault::NotFormatted
 }
 
-/// The header that counts, on a device of so many sectors.
+/// Returns the current header of a device with `sectors` sectors: the valid one with the greatest sequence.
 pub(crate) fn current_header(
     layout: Layout,
     sectors: u64,
     front: &[u8],
 ) -> Result<Header, StoreFault>
     requires front { length front.now ≡ 512 * front_sectors }
-    requires room { least_sectors ≤ sectors }
-    ensures kind { IfErr result IsOfHeaders }
+    requires room { min_sectors ≤ sectors }
+    ensures kind { IfErr result IsHeaderFault }
     ensures fits { IfOk result (FitsLayout layout sectors) }
     ensures found { (image : List ℕ) → IsImageFront sectors front.now image
-        → MatchResult result (λ header. Counts layout image header)
+        → MatchResult result (λ header. IsCurrentHeader layout image header)
         (λ fault. HasNoHeader layout image fault) }
 {
     let first = valid_header(layout, sectors, front, 0);
@@ -121,12 +121,12 @@ pub(crate) fn current_header(
         },
         None => match second {
             Some(second) => Ok(second),
-            None => Err(no_header(layout, front)),
+            None => Err(missing_header_fault(layout, front)),
         },
     }
 }
 
-/// The command whose record of this sequence and index a sector is, if it is one.
+/// Returns the command whose record, with this sequence and index, is this sector, if there is one.
 pub(crate) fn command_in(
     version: Version,
     sector: &[u8; SECTOR_SIZE],
@@ -144,7 +144,7 @@ pub(crate) fn command_in(
     }
 }
 
-/// The commands of the records of a sequence, up to the first sector that is none.
+/// Returns the commands of the records of a sequence, up to the first sector that is not such a record.
 pub(crate) fn leading_commands(
     alloc: Global,
     version: Version,
@@ -169,15 +169,16 @@ pub(crate) fn leading_commands(
     Ok(commands)
 }
 
-/// The first record sector from this index on that begins with this sequence or a greater one.
-pub(crate) fn stray_from(front: &[u8], used: usize, sequence: u64) -> Option<usize>
+/// Returns the index of the first record sector, from `used` on, that begins with this sequence or a greater
+/// one.
+pub(crate) fn first_stray_record(front: &[u8], used: usize, sequence: u64) -> Option<usize>
     requires front { length front.now ≡ 512 * front_sectors }
     requires used { used ≤ journal_room }
     ensures { MatchOption result (IsClearFrom used front.now sequence)
         (λ i. HasStrayFrom used front.now sequence) }
 {
     for i in used..RECORDS as usize {
-        if sequence <= begins_with(&sector_at(front, 2 + i)) {
+        if sequence <= leading_number(&sector_at(front, 2 + i)) {
             return Some(i);
         }
     }

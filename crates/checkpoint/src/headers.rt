@@ -1,7 +1,7 @@
-//! The bytes of a header, both ways.
+//! Encodes and decodes headers.
 ghost use Rattle.std.specs.Prelude.{◌≡◌, ℕ, ◌^◌, ◌<◌, ◌≤◌, length, IfSome, Some, None};
 ghost use Rattle.checkpoint.specs.Headers.{header_bytes};
-ghost use Rattle.checkpoint.specs.Stores.{begins_with};
+ghost use Rattle.checkpoint.specs.Stores.{leading_number};
 ghost use Rattle.checkpoint.specs.declared.headers.Header.{Header};
 
 use byteorder::{BigEndian, ByteOrder};
@@ -9,7 +9,7 @@ use sector_disk::SECTOR_SIZE;
 
 pub(crate) const MAGIC: [u8; 8] = *b"PDRSTORE";
 
-/// What a header says of the store.
+/// A header of a store.
 #[derive(Clone, Copy, Debug, PartialEq, Eq)]
 pub struct Header {
     /// The sequence of the snapshot and of its records.
@@ -18,7 +18,7 @@ pub struct Header {
     pub length: u64,
 }
 
-/// A header's sector.
+/// Returns the sector of a header.
 pub(crate) fn header_sector(version: u32, header: Header) -> [u8; SECTOR_SIZE]
     ensures { result ≡ header_bytes version header }
 {
@@ -30,10 +30,10 @@ pub(crate) fn header_sector(version: u32, header: Header) -> [u8; SECTOR_SIZE]
     sector
 }
 
-/// The number in the first eight bytes, the highest first.
-pub(crate) fn begins_with(bytes: &[u8]) -> u64
+/// Returns the big-endian number in the first eight bytes.
+pub(crate) fn leading_number(bytes: &[u8]) -> u64
     requires { 8 ≤ length bytes.now }
-    ensures { result ≡ begins_with bytes.now }
+    ensures { result ≡ leading_number bytes.now }
 {
     match bytes {
         [a, b, c, d, e, f, g, h, ..] => u64::from_be_bytes([*a, *b, *c, *d, *e, *f, *g, *h]),
@@ -41,7 +41,7 @@ pub(crate) fn begins_with(bytes: &[u8]) -> u64
     }
 }
 
-/// The header that a sector of a store of this version holds.
+/// Returns the header that a sector holds in a store of this version, if it holds one.
 pub(crate) fn header_in(version: u32, sector: &[u8]) -> Option<Header>
     requires { length sector.now ≡ 512 }
     ensures only { IfSome result (λ header. sector.now ≡ header_bytes version header) }
@@ -49,8 +49,8 @@ pub(crate) fn header_in(version: u32, sector: &[u8]) -> Option<Header>
         → sector.now ≡ header_bytes version header → result ≡ Some header }
 {
     let header = Header {
-        sequence: begins_with(&sector[12..]),
-        length: begins_with(&sector[20..]),
+        sequence: leading_number(&sector[12..]),
+        length: leading_number(&sector[20..]),
     };
     if sector == header_sector(version, header).as_slice() {
         Some(header)

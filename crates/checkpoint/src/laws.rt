@@ -1,30 +1,32 @@
-//! What holds of every image.
-ghost use Rattle.checkpoint.specs.Laws.{HoldAtMostOne, NeverBoth, HaveOneCause, HoldOrHaveACause, AgreeingIsUndoubted, RecordsKeepAgreement, SnapshotsKeepAgreement, HeadersKeepAgreement, FormatsAgree};
+//! Laws about every image.
+ghost use Rattle.checkpoint.specs.Laws.{HoldAtMostOne, NeverBoth, HaveOneFault, HoldOrHaveAFault, ConsistentHasNoWarning, RecordsKeepConsistency, SnapshotsKeepConsistency, HeadersKeepConsistency, FormatsAreConsistent};
 
-use state_codec::{bytes_have_one_answer, encodings_tell_values_apart};
+use state_codec::{bytes_have_one_answer, encodings_are_injective};
 
-/// An image holds at most one state, list of commands and place, never beside a cause to hold nothing, and of these causes it has at most one.
-pub fn images_hold_one_thing()
+/// Proves that an image holds at most one state with its commands and place, has no fault if it holds one, and
+/// has at most one fault.
+pub fn images_hold_at_most_one_state()
     ensures one { HoldAtMostOne }
     ensures never_both { NeverBoth }
-    ensures one_cause { HaveOneCause }
+    ensures one_fault { HaveOneFault }
 {
-    encodings_tell_values_apart();
+    encodings_are_injective();
     bytes_have_one_answer();
 }
 
-/// Every image holds something, or there is a cause that it holds nothing.
-pub fn images_hold_or_have_a_cause()
-    ensures { HoldOrHaveACause }
+/// Proves that every image holds a state or has a fault.
+pub fn images_hold_a_state_or_have_a_fault()
+    ensures { HoldOrHaveAFault }
 {
     bytes_have_one_answer();
 }
 
-/// A new store agrees with itself, and so does each image that a stop within a commit leaves of one that did; there is no reason to doubt it.
-pub fn commits_leave_no_doubt()
-    ensures undoubted { AgreeingIsUndoubted }
-    ensures records { RecordsKeepAgreement }
-    ensures snapshots { SnapshotsKeepAgreement }
-    ensures headers { HeadersKeepAgreement }
-    ensures formats { FormatsAgree }
+/// Proves that a new store is consistent, and so is each image that a crash within a commit leaves of a
+/// consistent store. A consistent store has no integrity warning.
+pub fn commits_leave_no_integrity_warning()
+    ensures without_warning { ConsistentHasNoWarning }
+    ensures records { RecordsKeepConsistency }
+    ensures snapshots { SnapshotsKeepConsistency }
+    ensures headers { HeadersKeepConsistency }
+    ensures formats { FormatsAreConsistent }
 {}

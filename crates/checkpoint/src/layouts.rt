@@ -1,50 +1,51 @@
-//! Where the parts of a store lie.
+//! The layout of a store.
 ghost use Rattle.std.specs.Prelude.{◌≡◌};
 ghost use Rattle.checkpoint.specs.Layouts.{sectors_in, half_at};
 ghost use Rattle.checkpoint.specs.Holds.{layout_of};
 
 use state_codec::version::Version;
 
-/// Where the parts of a store lie. Sectors 0 and 1 are headers and 2..=257 records. Two halves for snapshots follow.
+/// The layout of a store. Sectors 0 and 1 are headers, sectors 2..=257 records. Two halves for snapshots
+/// follow.
 #[derive(Clone, Copy, Debug, PartialEq, Eq)]
 pub struct Layout {
     /// The version of the format that the headers name.
     pub version: u32,
-    /// How many sectors a half has.
+    /// The number of sectors of each half.
     pub half: u32,
 }
 
-/// How many records a journal has room for.
+/// The number of records that a journal has room for.
 pub const RECORDS: u32 = 256;
 
 /// The last sequence of a store.
 pub const LAST_SEQUENCE: u64 = 1 << 60;
 
-/// The sectors before the halves: two headers and the records.
+/// The number of sectors before the halves: two headers and the records.
 const FRONT_SECTORS: u64 = 2 + RECORDS as u64;
 
-/// Their bytes.
-pub(crate) const FRONT: usize = FRONT_SECTORS as usize * 512;
+/// The number of bytes before the halves.
+pub(crate) const FRONT_BYTES: usize = FRONT_SECTORS as usize * 512;
 
-/// The sectors of a store that is written.
+/// The number of sectors of a store of the current version.
 pub const SECTORS: u64 = FRONT_SECTORS + 2 * VERSION_2.half as u64;
 
-/// The sectors of the smallest store of any version.
-pub const LEAST_SECTORS: u64 = FRONT_SECTORS + 2 * VERSION_1.half as u64;
+/// The number of sectors of the smallest store of any version.
+pub const MIN_SECTORS: u64 = FRONT_SECTORS + 2 * VERSION_1.half as u64;
 
-/// The store of old, 802 sectors.
+/// The layout of an old store: 802 sectors. It is only read.
 const VERSION_1: Layout = Layout {
     version: 1,
     half: 272,
 };
 
-/// The store that is written, 8,450 sectors.
+/// The layout of a store of the current version: 8,450 sectors.
 pub(crate) const VERSION_2: Layout = Layout {
     version: 2,
     half: 4096,
 };
 
-/// Where the parts of a store of this version lie.
+/// Returns the layout of a version of the format.
 pub(crate) fn layout_of(version: Version) -> Layout
     ensures { result ≡ layout_of version }
 {
@@ -54,14 +55,14 @@ pub(crate) fn layout_of(version: Version) -> Layout
     }
 }
 
-/// How many sectors a store has.
+/// Returns the number of sectors of a store with this layout.
 pub(crate) fn sectors_in(layout: Layout) -> u64
     ensures { result ≡ sectors_in layout }
 {
     FRONT_SECTORS + 2 * u64::from(layout.half)
 }
 
-/// The first sector of the half of a sequence.
+/// Returns the first sector of the half that holds the snapshot of a sequence.
 pub(crate) fn half_start(layout: Layout, sequence: u64) -> u64
     ensures { result ≡ half_at layout sequence }
 {

@@ -1,65 +1,62 @@
-//! A store on a device: two headers, a journal of 256 records, and two halves for snapshots in turn.
+//! A store on a device: two headers, a journal of 256 records, and two halves that hold snapshots in turn.
 //!
-//! `format` and `format_with` make a store, `load` reads one of a version, `commit_record` and `commit_snapshot` change it. `recover` calls
-//! these, and `planner_cli` calls `format`. `load_latest` and `load_latest_v1` are `load` of either version.
+//! `format` and `format_with` create a store, `load` reads a store of a given version, `commit_record` and
+//! `commit_snapshot` change it. `load_latest` and `load_latest_v1` call `load` for the current version and for
+//! version 1.
 //!
-//! A snapshot goes into the half of the next sequence, which is not the one that counts, and is synced; then its header is
-//! written over the older of the two, and synced. So at each moment a header is valid whose snapshot is whole. A record is one
-//! sector behind the journal's end, with the sequence of its snapshot; those of an older sequence don't count. Reading takes
-//! the valid header of the greater sequence, its snapshot, and the records of its sequence up to the first sector that is
-//! none; a sector from there on that begins with that sequence or a greater one is a fault.
+//! Each snapshot has a sequence: a number that grows by one. A new snapshot is written into the half that does
+//! not hold the current one, and synced. Then its header is written over the older header, and synced. So at
+//! each moment there is a valid header whose snapshot is complete. A record takes one sector after the end of
+//! the journal, with the sequence of its snapshot; records of an older sequence are ignored. A reader takes the
+//! valid header with the greater sequence, its snapshot, and the records of that sequence up to the first
+//! sector that is not one of them. If a sector from there on begins with that sequence or a greater one, the
+//! store is refused.
 //!
 //! Modules, in reading order:
-//! - `places`, `faults`: where a store stands, and why it can't be made, read or changed
-//! - `layouts`, `headers`, `zeros`, `encoding`: where its parts lie, and the bytes of a header and of a snapshot
-//! - `puts`: a run of sectors that is written and synced; a snapshot and its header; a record
-//! - `making`: a new store; `changes`: a commit
-//! - `reads`, `fronts`, `numbers`, `loads`: reading, what headers and records tell, and what a store holds
-//! - `doubts`: what tells of damage in a store that opens all the same
-//! - `laws`: what holds of every image
+//! - `places`, `faults`: the place of a store, and the reasons why it can't be created, read or changed
+//! - `layouts`, `headers`, `zeros`, `encoding`: the parts of a store, and the bytes of a header and of a
+//!   snapshot
+//! - `durable_writes`: writes followed by a sync: a run of sectors, a snapshot with its header, a record
+//! - `formatting`: creates a store; `changes`: commits to it
+//! - `reads`, `fronts`, `numbers`, `loads`: read a store: its sectors, its headers and records, and its content
+//! - `integrity`: finds signs of damage in a store that may still open
+//! - `laws`: laws about every image
 //!
-//! The format is this project's own. `specs/Layouts.antt` and `specs/Headers.antt` have the sectors and the header's bytes,
-//! `specs/Stores.antt` what an image stores as bytes, `specs/Holds.antt` the state, commands and place that it holds,
-//! `specs/Holdless.antt` why it holds nothing, `specs/Doubts.antt` why it may be doubted, `specs/Loads.antt` what reading answers, `specs/Changes.antt` what a commit makes,
-//! `specs/Moments.antt` what a stop leaves within a call, `specs/Making.antt` what a
-//! format makes, `specs/Written.antt` which sectors a change writes, with which bytes, `specs/Places.antt` the places that
-//! changes lead to.
+//! The format is this project's own; `specs/Layouts.antt`, `specs/Headers.antt` and `specs/Stores.antt` define
+//! it.
 //!
-//! Proved:
-//! - An image holds at most one state, list of commands and place, never beside a cause to hold nothing, and of these
-//!   causes it has at most one (`images_hold_one_thing`); each holds something or has one (`images_hold_or_have_a_cause`).
-//! - Of an honest device: `load` gives what the image that reads give holds, or the cause (`found`), and changes
-//!   nothing (`reads`). `commit_snapshot` and `commit_record` say for each moment, by the number of finished calls, which of the
-//!   old and the new an image may hold, and that after `Ok` it holds the new alone (`commits`); so does `format` (`formats`). The
-//!   image is then what reads gave before with these sectors written, zeros that fill them up among them, and no other (`durable`).
-//! - Of an honest device `doubts_about` tells which reasons there are to doubt the image that reads give (`found`), and changes nothing (`reads`).
-//!   A new store gives none, nor does any image that a stop within a commit leaves of one that agreed with itself (`commits_leave_no_doubt`).
-//! - Of any device: what is loaded keeps the facts of a state, and its place those of a store (`standing`).
-//! - `TooSmall`, `Spent` and want of memory come before any device call (`kept`, `answer`); `DeviceFault` only where `faults`
-//!   rose, or stood at its last value (`called`).
+//! Proved: an image holds exactly one state with its commands and place, or has exactly one fault. For an
+//! honest device `load` returns that, unless memory runs out or the device fails, and changes nothing. Within a
+//! commit to an honest device, the number of finished device calls determines whether an image may hold the old
+//! content, the new content, or either; after `Ok` it holds the new one. `format` guarantees that from its
+//! first sync on an image has no store or the new one. A new store has no integrity warning, nor has any image
+//! that a crash within a commit leaves of a consistent store.
 #![tactic(auto)]
 
 mod changes;
-mod doubts;
+mod durable_writes;
 mod encoding;
 mod faults;
+mod formatting;
 mod fronts;
 mod headers;
+mod integrity;
 mod laws;
 mod layouts;
 mod loads;
-mod making;
 mod numbers;
 mod places;
-mod puts;
 mod reads;
 mod zeros;
 
 pub use changes::{commit_record, commit_snapshot};
-pub use doubts::{Doubt, Doubts, doubts_about};
 pub use faults::{FormatFault, StoreFault};
-pub use laws::{commits_leave_no_doubt, images_hold_one_thing, images_hold_or_have_a_cause};
-pub use layouts::{LAST_SEQUENCE, LEAST_SECTORS, RECORDS, SECTORS};
+pub use formatting::{format, format_with};
+pub use integrity::{IntegrityWarning, IntegrityWarnings, check_integrity};
+pub use laws::{
+    commits_leave_no_integrity_warning, images_hold_a_state_or_have_a_fault,
+    images_hold_at_most_one_state,
+};
+pub use layouts::{LAST_SEQUENCE, MIN_SECTORS, RECORDS, SECTORS};
 pub use loads::{Loaded, load, load_latest, load_latest_v1};
-pub use making::{format, format_with};
 pub use places::Place;

@@ -1,19 +1,19 @@
-//! The numbers of the stops that a journal adds. In version 1 they are judged from the snapshot's next number and from how many
-//! stops each record adds, without applying a command.
+//! The numbers of the stops that a journal adds. For version 1 they are checked without executing a command:
+//! they follow from the snapshot's next number and the number of stops that each record adds.
 ghost use Rattle.std.specs.Prelude.{◌≡◌, ◌≤◌, ◌*◌, ◌↔◌, length, IsTrue};
 ghost use Rattle.checkpoint.specs.Layouts.{journal_room};
-ghost use Rattle.checkpoint.specs.Numbers.{all_added, next_number_of, HaveNumbers};
+ghost use Rattle.checkpoint.specs.Numbers.{added_stops, next_number_of, HaveValidNumbers};
 
-use command_core::{Command, State};
+use command_types::{Command, State};
 use state_codec::version::Version;
 
 /// The last stop number of version 1.
-const LAST_NUMBER: u32 = 4000;
+const MAX_STOP_NUMBER_V1: u32 = 4000;
 
-// How many stops the commands of a journal add.
-fn all_added(commands: &[Command]) -> u32
+// Returns the number of stops that the commands of a journal add.
+fn added_stops(commands: &[Command]) -> u32
     requires { length commands.now ≤ journal_room }
-    ensures added { result ≡ all_added commands.now }
+    ensures added { result ≡ added_stops commands.now }
     ensures few { result ≤ 512 }
 {
     let mut added = 0;
@@ -23,7 +23,7 @@ fn all_added(commands: &[Command]) -> u32
     added
 }
 
-// The number of the next stop that is added to a state.
+// Returns the number that the next added stop of a state gets.
 fn next_number_of(state: &State) -> u32
     ensures next { result ≡ next_number_of state.now }
     ensures low { result ≤ 40001 }
@@ -34,13 +34,13 @@ fn next_number_of(state: &State) -> u32
     }
 }
 
-/// Whether the stops that the commands of a journal add to a state have numbers of the version.
-pub(crate) fn have_numbers(version: Version, state: &State, commands: &[Command]) -> bool
+/// Returns whether the version allows the numbers of all stops that the commands of a journal add to a state.
+pub(crate) fn have_valid_numbers(version: Version, state: &State, commands: &[Command]) -> bool
     requires { length commands.now ≤ journal_room }
-    ensures { IsTrue result ↔ HaveNumbers version state.now commands.now }
+    ensures { IsTrue result ↔ HaveValidNumbers version state.now commands.now }
 {
     match version {
-        Version::One => next_number_of(state) + all_added(commands) <= LAST_NUMBER + 1,
+        Version::One => next_number_of(state) + added_stops(commands) <= MAX_STOP_NUMBER_V1 + 1,
         Version::Two => true,
     }
 }

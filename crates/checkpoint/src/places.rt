@@ -1,10 +1,10 @@
-//! Where a store stands.
+//! The place of a store.
 
-/// Where the journal of a store goes on.
+/// The place at which the journal of a store continues.
 #[derive(Clone, Copy, Debug, PartialEq, Eq)]
 pub struct Place {
-    /// The sequence of the snapshot that counts, 1..=2^60.
+    /// The sequence of the current snapshot, 1..=2^60.
     pub sequence: u64,
-    /// How many records of this sequence there are, 0..=256.
+    /// The number of records of this sequence, 0..=256.
     pub used: u32,
 }

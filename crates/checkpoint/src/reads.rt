@@ -1,15 +1,15 @@
-//! Reading a run of sectors.
+//! Reads runs of sectors.
 ghost use Rattle.std.specs.Prelude.{◌≡◌, ◌+◌, ◌*◌, ◌%◌, ◌<◌, ◌≤◌, ℕ, List, length, take, drop, OnOk, OnErr, IfOk, IfErr};
 ghost use Rattle.sector_disk.specs.Sectors.{IsWholeRun};
 ghost use Rattle.checkpoint.specs.Reads.{ReadsOnly};
-ghost use Rattle.checkpoint.specs.Refused.{IsOfReading, faults_after_reading};
+ghost use Rattle.checkpoint.specs.Refusals.{IsOfReading, faults_after_reading};
 
 use crate::faults::StoreFault;
 use crate::zeros::zeros;
 use sector_disk::{DeviceFault, Sectors};
 use std::alloc::Global;
 
-/// The bytes of a run of whole sectors.
+/// Reads the bytes of a run of whole sectors.
 pub(crate) fn read_run<D: Sectors>(
     alloc: Global,
     device: &mut D,

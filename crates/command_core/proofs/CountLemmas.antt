@@ -1,4 +1,4 @@
--- How many items pass a test, and what is told by how often numbers stand in lists.
+-- Lemmas about the number of items that pass a test, and about how often a number occurs in lists
 use Rattle.std.proofs.Common.{◌≡◌, ℕ, zero, suc, ◌<◌, ◌≤◌, Bool, true, false, cond, not, List, [], ◌∷◌, ◌++◌, Some, refl, sym, ap, subst, ◌∙◌, inl, inr, arith, nat_eq}
 use Rattle.std.specs.Prelude.{count_by}
 use Rattle.std.specs.List.{AllByRecursion, concat, starts_with}
@@ -8,10 +8,10 @@ use Rattle.std.proofs.lemmas.Bool.Decides.{eqb_tells}
 use Rattle.std.proofs.lemmas.List.Sums.{sum_by-cons}
 use Rattle.plan_audit.specs.Passes.{has, are_distinct}
 use Rattle.move_ops.proofs.Fitting.{had_often, often_had}
-use Rattle.fleet_tries.proofs.CrewLemmas.{count_more, one_more}
+use Rattle.fleet_reduction.proofs.SubfleetLemmas.{count_more, one_more}
 use Rattle.move_ops.proofs.Times.{none_some, some_same, times, one_here, none_here}
 
--- a test that passes no more items, and one item less
+-- If a test is stricter than another one, and rejects an item that the other one passes, it passes fewer items
 pub count_less : {X : Type 0} (f g : X → Bool) (es : List (ℕ × X)) (name : ℕ) (x : X) → ((y : X) → g y ≡ true → f y ≡ true) → lookup (nat_eq name) es ≡ Some x → f x ≡ true → g x ≡ false
     → count_by (λ e. g e.1) es < count_by (λ e. f e.1) es
 count_less f g [] name x each at passed failed = absurd (none_some x at)
@@ -34,7 +34,7 @@ count_less f g (e ∷ es) name x each at passed failed =
           omega arith)
     ]
 
--- distinct numbers are those that stand once
+-- Each number of a list of distinct numbers occurs once
 pub at_most_once : (xs : List ℕ) → are_distinct xs ≡ true → (n : ℕ) → times n xs ≤ 1
 at_most_once [] once n = omega arith
 at_most_once (x ∷ xs) once n =
@@ -61,12 +61,12 @@ distinct_from (x ∷ xs) few =
     by false e = refl
     by true e = absurd (let h = had_often xs x e in let g = few x in let k = one_here x x refl in omega arith)
 
--- what holds of each number that stands in a list
+-- If a property holds for each number that occurs in a list, it holds for all items
 pub all_standing : (P : ℕ → Type 0) (xs : List ℕ) → ((n : ℕ) → 1 ≤ times n xs → P n) → AllByRecursion P xs
 all_standing P [] each = tt
 all_standing P (x ∷ xs) each = (each x (let e = one_here x x refl in omega arith), all_standing P xs (λ n h. each n (omega arith)))
 
--- and the other way round
+-- If a property holds for all items of a list, it holds for each number that occurs in it
 pub standing : (P : ℕ → Type 0) (xs : List ℕ) → AllByRecursion P xs → (n : ℕ) → 1 ≤ times n xs → P n
 standing P [] all n some = absurd (omega arith)
 standing P (x ∷ xs) all n some = elim (eqb_tells n x) [
@@ -74,7 +74,7 @@ standing P (x ∷ xs) all n some = elim (eqb_tells n x) [
   | inr t ↦ (let e = none_here n x t.0 in standing P xs all.1 n (omega arith))
 ]
 
--- and of the lists that are joined
+-- If a property holds for all items of joined lists, it holds for each of them
 all_parts : (P : ℕ → Type 0) (xs ys : List ℕ) → AllByRecursion P (xs ++ ys) → AllByRecursion P xs × AllByRecursion P ys
 all_parts P [] ys all = (tt, all)
 all_parts P (x ∷ xs) ys all = let rest = all_parts P xs ys all.1 in ((all.0, rest.0), rest.1)
@@ -91,7 +91,7 @@ pub all_joined : (P : ℕ → Type 0) (lists : List (List ℕ)) → AllByRecursi
 all_joined P [] all = tt
 all_joined P (l ∷ lists) all = all_join P l (concat lists) all.0 (all_joined P lists all.1)
 
--- a front of a list has no number more often
+-- A number occurs in a prefix of a list no more often than in the list
 pub times_front : (n : ℕ) (xs front : List ℕ) → starts_with nat_eq xs front ≡ true → times n front ≤ times n xs
 times_front n xs [] begins = omega arith
 times_front n [] (m ∷ front) begins = absurd (let h : false ≡ true = begins in cc)

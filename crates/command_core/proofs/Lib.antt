@@ -1,17 +1,15 @@
--- The lemma files, of which upper crates may cite those that are pub.
-pub mod AddLemmas
-mod AskedLemmas
+-- The lemma files. Those that are `pub` may be used in crates above.
+mod StepLimitLemmas
 pub mod CountLemmas
 pub mod Examples
-pub mod FactLemmas
-mod JudgeLemmas
+pub mod InvariantLemmas
+mod PlanCheckLemmas
 pub mod ListLemmas
 pub mod MarkLemmas
 pub mod NumberLemmas
-pub mod PassLemmas
 pub mod PinLemmas
-pub mod PlacedLemmas
+pub mod InsertionLemmas
 mod ReduceLemmas
 pub mod RunLemmas
 pub mod SearchLemmas
-pub mod TakeLemmas
+pub mod WithdrawLemmas

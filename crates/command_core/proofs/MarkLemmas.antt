@@ -1,4 +1,4 @@
--- Marks that tell which requests are planned.
+-- Marks show which requests are planned
 use Rattle.std.proofs.Common.{◌≡◌, ℕ, ◌<◌, ◌||◌, not, Bool, false, List, [], ◌∷◌, Some, slice_get, refl, ap, ◌∙◌}
 use Rattle.std.specs.List.{AllByRecursion, list_any}
 use Rattle.std.specs.Prelude.{slice_index_or}
@@ -17,7 +17,7 @@ any_same : (f g : Stop → Bool) (P : Stop → Type 0) (xs : List Stop) → ((x 
 any_same f g P [] same all = refl
 any_same f g P (x ∷ xs) same all = ap (λ b. b || list_any f xs) (same x all.0) ∙ ap (λ b. g x || b) (any_same f g P xs same all.1)
 
--- the list has a mark at each number below `len` that is a stop of these routes
+-- The list has a mark at each number below `len` that is a stop of these routes
 abbrev pub AreMarks : List (List ℕ) → ℕ → List Bool → Type 0
 AreMarks routes len marks = (n : ℕ) → n < len → slice_index_or marks n false ≡ has_stop routes n
 

@@ -1,14 +1,14 @@
--- Pins that are set and taken away, and plans without a stop.
+-- Lemmas about setting and removing pins, and about plans without stops
 use Rattle.std.proofs.Common.{◌≡◌, ℕ, zero, suc, ◌-◌, ◌≤◌, Bool, true, List, [], ◌∷◌, length, take, set, replicate, is_some, refl, ap, eqb, nat_eq, arith}
 use Rattle.std.specs.List.{list_all, concat, starts_with}
 use Rattle.std.proofs.lemmas.Bool.{and_parts, and_from, eq-eqb}
 use Rattle.std.proofs.lemmas.List.{length-replicate}
 use Rattle.plan_types.specs.Instance.{Instance, stop_at}
 use Rattle.plan_audit.specs.Passes.{are_distinct, begin_with_pins, feasible_alone, passes}
-use Rattle.move_ops.specs.Insertion.{of_vehicle, with_route}
+use Rattle.move_ops.specs.Insertion.{route_of, with_route}
 use Rattle.command_core.specs.Effects.{no_stops}
-use Rattle.fleet_tries.proofs.PickedLemmas.{none_feasible}
-use Rattle.command_core.proofs.PassLemmas.{parts_of, from_parts}
+use Rattle.fleet_reduction.proofs.PickedLemmas.{none_feasible}
+use Rattle.command_types.proofs.PassLemmas.{parts_of, from_parts}
 
 nothing : (n : ℕ) → concat (replicate n []) ≡ []
 nothing zero = refl
@@ -22,7 +22,7 @@ none_pinned : (n : ℕ) → begin_with_pins (replicate n []) (replicate n []) �
 none_pinned zero = refl
 none_pinned (suc n) = none_pinned n
 
--- a plan without a stop passes
+-- A plan without stops passes
 pub none_passes : (p : Instance) → passes p (no_stops p) (no_stops p) ≡ true
 none_passes p =
     from_parts p (no_stops p) (no_stops p) (record {
@@ -33,13 +33,13 @@ none_passes p =
       pinned = none_pinned p.fleet;
     })
 
--- a route begins with its own first stops
+-- A route begins with any of its prefixes
 begins : (route : List ℕ) (k : ℕ) → starts_with nat_eq route (take k route) ≡ true
 begins route zero = refl
 begins [] (suc k) = refl
 begins (n ∷ route) (suc k) = and_from (nat_eq n n) _ (eq-eqb n n refl) (begins route k)
 
--- a pin of no stop is kept
+-- After a pin is emptied, all routes still begin with their pins
 set_none : (routes pins : List (List ℕ)) (i : ℕ) → begin_with_pins routes pins ≡ true → begin_with_pins routes (set pins i []) ≡ true
 set_none routes [] i kept = kept
 set_none [] (pin ∷ pins) zero kept = (and_parts (eqb (length pin) 0) (begin_with_pins [] pins) kept).1
@@ -48,8 +48,8 @@ set_none (route ∷ routes) (pin ∷ pins) zero kept = (and_parts (starts_with n
 set_none (route ∷ routes) (pin ∷ pins) (suc i) kept =
     let both = and_parts (starts_with nat_eq route pin) (begin_with_pins routes pins) kept in and_from (starts_with nat_eq route pin) _ both.0 (set_none routes pins i both.1)
 
--- so are the first stops of the vehicle's route
-set_front : (routes pins : List (List ℕ)) (i k : ℕ) → begin_with_pins routes pins ≡ true → begin_with_pins routes (set pins i (take k (of_vehicle routes (suc i)))) ≡ true
+-- After a pin is set to the first stops of its vehicle's route, all routes still begin with their pins
+set_front : (routes pins : List (List ℕ)) (i k : ℕ) → begin_with_pins routes pins ≡ true → begin_with_pins routes (set pins i (take k (route_of routes (suc i)))) ≡ true
 set_front routes [] i k kept = kept
 set_front [] (pin ∷ pins) zero k kept = and_from (eqb (length (take k [])) 0) _ (empty k) (and_parts (eqb (length pin) 0) (begin_with_pins [] pins) kept).1
   where
@@ -63,7 +63,7 @@ set_front (route ∷ routes) (pin ∷ pins) zero k kept =
 set_front (route ∷ routes) (pin ∷ pins) (suc i) k kept =
     let both = and_parts (starts_with nat_eq route pin) (begin_with_pins routes pins) kept in and_from (starts_with nat_eq route pin) _ both.0 (set_front routes pins i k both.1)
 
--- one list more that passes a test
+-- Replacing an item by one that passes a test keeps a list in which all items pass
 pub set_all : {X : Type 0} (test : X → Bool) (xs : List X) (i : ℕ) (x : X) → list_all test xs ≡ true → test x ≡ true → list_all test (set xs i x) ≡ true
 set_all test [] i x all one = all
 set_all test (y ∷ xs) zero x all one = and_from (test x) _ one (and_parts (test y) (list_all test xs) all).1
@@ -81,11 +81,11 @@ module _ (p : Instance) (pins routes : List (List ℕ)) (good : passes p pins ro
         pinned = set_none routes pins (v - 1) (parts.pinned);
       })
 
-  pub pinned_passes : (v k : ℕ) → 1 ≤ v → passes p (with_route pins v (take k (of_vehicle routes v))) routes ≡ true
+  pub pinned_passes : (v k : ℕ) → 1 ≤ v → passes p (with_route pins v (take k (route_of routes v))) routes ≡ true
   pinned_passes zero k from = absurd (omega arith)
   pinned_passes (suc i) k from =
       let parts = parts_of p pins routes good in
       let e : suc i - 1 ≡ i = omega arith in
-      let kept : begin_with_pins routes (set pins (suc i - 1) (take k (of_vehicle routes (suc i)))) ≡ true = rw e (set_front routes pins i k (parts.pinned)) in
-      from_parts p (with_route pins (suc i) (take k (of_vehicle routes (suc i)))) routes
+      let kept : begin_with_pins routes (set pins (suc i - 1) (take k (route_of routes (suc i)))) ≡ true = rw e (set_front routes pins i k (parts.pinned)) in
+      from_parts p (with_route pins (suc i) (take k (route_of routes (suc i)))) routes
       (record { live = parts.live; distinct = parts.distinct; fleet = parts.fleet; feasible = parts.feasible; pinned = kept })

@@ -1,29 +1,29 @@
--- What many commands keep: the plan's cost between changes, and the facts of states.
+-- Sequences of commands never raise the plan's cost between changes, and preserve the invariants of states
 use Rattle.std.proofs.Common.{◌≡◌, ℕ, zero, suc, ◌+◌, ◌-◌, ◌≤◌, ◌||◌, Bool, true, false, cond, not, IsTrue, List, [], ◌∷◌, Some, None, refl, ◌∙◌, arith}
 use Rattle.std.specs.List.{list_any}
 use Rattle.plan_types.specs.Cost.{CostsAreTotal, CostsAreTransitive, BelowIsAtMost}
 use Rattle.route_sched.specs.Cost.{cost_of}
 use Rattle.plan_audit.specs.Passes.{passes}
-use Rattle.seeded_search.specs.Steps.{unplanned_names, walked}
+use Rattle.seeded_search.specs.Steps.{unplanned_names, search_plans}
 use Rattle.seeded_search.specs.StepLaws.{IncumbentsNeverCostMore}
 use Rattle.anneal_search.specs.Annealing.{anneal_steps}
-use Rattle.anneal_search.specs.AnnealLaws.{AnnealedNeverCostMore}
-use Rattle.fleet_tries.specs.Laws.{TriesNeverCostMore}
-use Rattle.fleet_tries.specs.Tries.{all_tries}
+use Rattle.anneal_search.specs.AnnealLaws.{AnnealingNeverCostsMore}
+use Rattle.fleet_reduction.specs.Laws.{AttemptsNeverCostMore}
+use Rattle.fleet_reduction.specs.Attempts.{all_attempts}
 use Rattle.command_core.specs.Effects.{effect}
-use Rattle.command_core.specs.Refusing.{is_dearer, refusal}
-use Rattle.command_core.specs.Commands.{changes_requests, changes_pins, is_change}
+use Rattle.command_core.specs.Refusals.{costs_more, refusal}
+use Rattle.command_types.specs.Commands.{changes_requests, changes_pins, is_change}
 use Rattle.command_core.specs.Runs.{after, AreAccepted, last_change}
-use Rattle.command_core.specs.RunLaws.{EffectsKeepFacts, RunsKeepFacts, IsNoWorse, CostsNeverRise, HaveSamePins, PlansNeverCostMore}
-use Rattle.command_core.specs.declared.states.State.{State}
-use Rattle.command_core.specs.declared.states.State.TheVariants.{Empty, Loaded}
-use Rattle.command_core.specs.declared.refusals.Refusal.{Refusal}
-use Rattle.command_core.specs.declared.refusals.Refusal.TheVariants.{NotAPlan, Dearer}
-use Rattle.command_core.specs.declared.commands.Command.{Command}
-use Rattle.command_core.specs.declared.commands.Command.TheVariants.{Load, Add, Add1, Withdraw, Pin, Unpin, Build, Search, Anneal, Reduce, Adopt}
-use Rattle.command_core.proofs.PlacedLemmas.{same_cost, placed_all_cost}
+use Rattle.command_core.specs.RunLaws.{CommandsKeepInvariants, RunsKeepInvariants, IsNoWorse, CostsNeverRise, HaveSamePins, PlansNeverCostMore}
+use Rattle.command_types.specs.declared.states.State.{State}
+use Rattle.command_types.specs.declared.states.State.TheVariants.{Empty, Loaded}
+use Rattle.command_types.specs.declared.refusals.Refusal.{Refusal}
+use Rattle.command_types.specs.declared.refusals.Refusal.TheVariants.{NotAPlan, Dearer}
+use Rattle.command_types.specs.declared.commands.Command.{Command}
+use Rattle.command_types.specs.declared.commands.Command.TheVariants.{Load, Add, Add1, Withdraw, Pin, Unpin, Build, Search, Anneal, Reduce, Adopt}
+use Rattle.command_core.proofs.InsertionLemmas.{same_cost, placed_all_cost}
 
-pub runs_keep_facts : EffectsKeepFacts → RunsKeepFacts
+pub runs_keep_facts : CommandsKeepInvariants → RunsKeepInvariants
 runs_keep_facts keep s [] is accepted = is
 runs_keep_facts keep s (c ∷ cs) is accepted = runs_keep_facts keep (effect s c) cs (keep s c is accepted.0 accepted.1) accepted.2
 
@@ -33,18 +33,18 @@ clash h = absurd (let g = h in cc)
 refused : {X : Type 0} (r : Refusal) → Some r ≡ None → X
 refused r h = absurd (let g = h in cc)
 
--- before the first Load no other command is accepted
+-- Before the first Load no other command is accepted
 not_loaded : {X : Type 0} (c : Command) → refusal Empty c ≡ None → changes_requests c ≡ false → X
 not_loaded (Load p seed) none kept = clash kept
 not_loaded c none kept = refused _ none
 
--- what is adopted costs no more
+-- An adopted plan costs no more than the incumbent
 no_dearer : (passing dearer : Bool) → cond (not passing) (Some NotAPlan) (cond dearer (Some Dearer) None) ≡ None → IsTrue (not dearer)
 no_dearer true false none = refl
 no_dearer true true none = refused Dearer none
 no_dearer false dearer none = refused NotAPlan none
 
-module _ (total : CostsAreTotal) (transitive : CostsAreTransitive) (below : BelowIsAtMost) (search : IncumbentsNeverCostMore) (anneal : AnnealedNeverCostMore) (tries : TriesNeverCostMore) where
+module _ (total : CostsAreTotal) (transitive : CostsAreTransitive) (below : BelowIsAtMost) (search : IncumbentsNeverCostMore) (anneal : AnnealingNeverCostsMore) (tries : AttemptsNeverCostMore) where
   pub costs_never_rise : CostsNeverRise
   costs_never_rise (Loaded j) (Load p seed) none kept = clash kept
   costs_never_rise (Loaded j) (Add q a b) none kept = clash kept
@@ -56,20 +56,20 @@ module _ (total : CostsAreTotal) (transitive : CostsAreTransitive) (below : Belo
   costs_never_rise (Loaded j) (Anneal count) none kept =
       record { problem = refl; cost = anneal j.problem j.pins j.deviation j.seed j.steps count (record { incumbent = j.plan; working = j.work }) }
   costs_never_rise (Loaded j) (Reduce count) none kept =
-      let t = all_tries j.problem j.pins j.seed count j.steps j.plan in
-      let s = anneal_steps j.problem j.pins j.deviation j.seed t.step (j.steps + count - t.step) (walked t.plan t.plan) in
+      let t = all_attempts j.problem j.pins j.seed count j.steps j.plan in
+      let s = anneal_steps j.problem j.pins j.deviation j.seed t.step (j.steps + count - t.step) (search_plans t.plan t.plan) in
       record {
         problem = refl;
         cost =
             transitive (cost_of j.problem s.incumbent) (cost_of j.problem t.plan) (cost_of j.problem j.plan)
-            (anneal j.problem j.pins j.deviation j.seed t.step (j.steps + count - t.step) (walked t.plan t.plan))
+            (anneal j.problem j.pins j.deviation j.seed t.step (j.steps + count - t.step) (search_plans t.plan t.plan))
             (tries j.problem j.pins j.plan j.seed count j.steps);
       }
-  costs_never_rise (Loaded j) (Adopt plan) none kept = record { problem = refl; cost = no_dearer (passes j.problem j.pins plan.routes) (is_dearer j.problem plan.routes j.plan) none }
+  costs_never_rise (Loaded j) (Adopt plan) none kept = record { problem = refl; cost = no_dearer (passes j.problem j.pins plan.routes) (costs_more j.problem plan.routes j.plan) none }
   costs_never_rise (Loaded j) c none kept = record { problem = refl; cost = same_cost total transitive below j.problem j.pins j.plan }
   costs_never_rise Empty c none kept = not_loaded c none kept
 
-  -- as good, with the same pins
+  -- The second state is no worse than the first and has the same pins
   abbrev IsAsGood : State → State → Type 0
   IsAsGood s t = IsNoWorse s t × HaveSamePins s t
 
@@ -96,7 +96,7 @@ module _ (total : CostsAreTotal) (transitive : CostsAreTransitive) (below : Belo
   neither false b none = (refl, none)
   neither true b none = clash none
 
-  -- a command that is no change
+  -- A command that may not change requests or pins keeps the pins
   pins_kept : (s : State) (c : Command) → refusal s c ≡ None → is_change c ≡ false → HaveSamePins s (effect s c)
   pins_kept (Loaded j) (Load p seed) none kept = clash kept
   pins_kept (Loaded j) (Add q a b) none kept = clash kept
@@ -110,7 +110,7 @@ module _ (total : CostsAreTotal) (transitive : CostsAreTransitive) (below : Belo
   one_kept : (s : State) (c : Command) → refusal s c ≡ None → is_change c ≡ false → IsAsGood s (effect s c)
   one_kept s c none kept = (costs_never_rise s c none (neither (changes_requests c) (changes_pins c) kept).0, pins_kept s c none kept)
 
-  -- where no command is a change
+  -- If none of these commands changes requests or pins, both stay the same and the plan costs no more
   all_kept : (s : State) (cs : List Command) → AreAccepted s cs → list_any is_change cs ≡ false → IsAsGood s (after s cs)
   all_kept s [] accepted none = as_good s
   all_kept s (c ∷ cs) accepted none =

@@ -1,57 +1,57 @@
--- Searches join: so many steps and then so many more are all of them at once. So do annealings.
+-- Several searches lead to the same state as one search with the same number of steps, and so do annealings
 use Rattle.std.proofs.Common.{◌≡◌, ℕ, ◌+◌, Bool, true, false, List, [], ◌∷◌, refl, sym, ap, ◌∙◌, arith}
 use Rattle.std.specs.Prelude.{sum_by}
 use Rattle.std.specs.List.{list_all}
 use Rattle.std.proofs.lemmas.Bool.{and_parts}
 use Rattle.std.proofs.lemmas.List.Sums.{sum_by-cons}
-use Rattle.seeded_search.specs.Steps.{Walked, steps}
+use Rattle.seeded_search.specs.Steps.{SearchPlans, steps}
 use Rattle.seeded_search.specs.StepLaws.{StepsAddUp}
 use Rattle.anneal_search.specs.AnnealLaws.{AnnealStepsAddUp}
 use Rattle.anneal_search.specs.Annealing.{anneal_steps}
-use Rattle.command_core.specs.Job.{JobValue}
+use Rattle.command_types.specs.Job.{JobValue}
 use Rattle.command_core.specs.Effects.{searched, annealed, job_after}
-use Rattle.command_core.specs.Commands.{is_annealing, is_searching, steps_of}
+use Rattle.command_types.specs.Commands.{is_annealing, is_searching, steps_of}
 use Rattle.command_core.specs.Runs.{after}
 use Rattle.command_core.specs.RunLaws.{SearchesAddUp, RunsAreOneSearch, AnnealingsAddUp, RunsAreOneAnnealing}
-use Rattle.command_core.specs.declared.states.State.TheVariants.{Loaded}
-use Rattle.command_core.specs.declared.commands.Command.{Command}
-use Rattle.command_core.specs.declared.commands.Command.TheVariants.{Search, Checkpoint, Anneal}
+use Rattle.command_types.specs.declared.states.State.TheVariants.{Loaded}
+use Rattle.command_types.specs.declared.commands.Command.{Command}
+use Rattle.command_types.specs.declared.commands.Command.TheVariants.{Search, Checkpoint, Anneal}
 
--- a job with other plans and another number of steps
-abbrev walked_on : JobValue → Walked → ℕ → JobValue
-walked_on j s n = record j { plan = s.incumbent; work = s.working; steps = n }
+-- The job with other plans and another number of steps
+abbrev with_search_plans : JobValue → SearchPlans → ℕ → JobValue
+with_search_plans j s n = record j { plan = s.incumbent; work = s.working; steps = n }
 
-abbrev walked : JobValue → Walked
+abbrev walked : JobValue → SearchPlans
 walked j = record { incumbent = j.plan; working = j.work }
 
 pub searches_add_up : StepsAddUp → SearchesAddUp
 searches_add_up add_up j a b =
     let e : j.steps + a + b ≡ j.steps + (a + b) = omega arith in
     let s = steps j.problem j.pins j.deviation j.seed j.steps a (walked j) in
-    ap (λ n. walked_on j (steps j.problem j.pins j.deviation j.seed (j.steps + a) b s) n) e
-    ∙ sym (ap (λ s. walked_on j s (j.steps + (a + b))) (add_up j.problem j.pins j.deviation j.seed j.steps a b (walked j)))
+    ap (λ n. with_search_plans j (steps j.problem j.pins j.deviation j.seed (j.steps + a) b s) n) e
+    ∙ sym (ap (λ s. with_search_plans j s (j.steps + (a + b))) (add_up j.problem j.pins j.deviation j.seed j.steps a b (walked j)))
 
 pub no_search : (j : JobValue) → searched j 0 ≡ j
 unfolding steps
-no_search j = let e : j.steps + 0 ≡ j.steps = omega arith in ap (λ n. walked_on j (walked j) n) e
+no_search j = let e : j.steps + 0 ≡ j.steps = omega arith in ap (λ n. with_search_plans j (walked j) n) e
 
 pub annealings_add_up : AnnealStepsAddUp → AnnealingsAddUp
 annealings_add_up add_up j a b =
     let e : j.steps + a + b ≡ j.steps + (a + b) = omega arith in
     let s = anneal_steps j.problem j.pins j.deviation j.seed j.steps a (walked j) in
-    ap (λ n. walked_on j (anneal_steps j.problem j.pins j.deviation j.seed (j.steps + a) b s) n) e
-    ∙ sym (ap (λ s. walked_on j s (j.steps + (a + b))) (add_up j.problem j.pins j.deviation j.seed j.steps a b (walked j)))
+    ap (λ n. with_search_plans j (anneal_steps j.problem j.pins j.deviation j.seed (j.steps + a) b s) n) e
+    ∙ sym (ap (λ s. with_search_plans j s (j.steps + (a + b))) (add_up j.problem j.pins j.deviation j.seed j.steps a b (walked j)))
 
 no_annealing : (j : JobValue) → annealed j 0 ≡ j
 unfolding anneal_steps
-no_annealing j = let e : j.steps + 0 ≡ j.steps = omega arith in ap (λ n. walked_on j (walked j) n) e
+no_annealing j = let e : j.steps + 0 ≡ j.steps = omega arith in ap (λ n. with_search_plans j (walked j) n) e
 
 -- ---- many commands
 
 clash : {X : Type 0} → false ≡ true → X
 clash h = absurd (let g = h in cc)
 
--- what the one command makes of a job is what so many steps make of it
+-- The effect of the command on a job is that of its steps
 abbrev Makes : Command → (Command → Bool) → (JobValue → ℕ → JobValue) → Type 0
 Makes c is_one made = is_one c ≡ true → (j : JobValue) → job_after j c ≡ made j (steps_of c)
 

@@ -1,107 +1,111 @@
--- What each command makes of a state. Vehicles count from 1.
+-- The effect of each command on a state. Vehicles are numbered from 1.
 use Rattle.std.specs.Prelude.{ℕ, ◌+◌, ◌-◌, List, [], ◌∷◌, map, filter, take, replicate, not, Bool, if◌then◌else◌}
 use Rattle.std.specs.List.{list_any, zip}
 use Rattle.plan_types.specs.Instance.{Instance, with_request, without_request}
 use Rattle.plan_types.specs.declared.requests.Request.{Request}
 use Rattle.plan_audit.specs.Passes.{feasible_alone}
-use Rattle.move_ops.specs.Insertion.{of_vehicle, with_route}
+use Rattle.move_ops.specs.Insertion.{route_of, with_route}
 use Rattle.move_ops.specs.Moves.{is_of_named}
-use Rattle.seeded_search.specs.Steps.{unplanned_names, placed_all, steps, walked}
+use Rattle.seeded_search.specs.Steps.{unplanned_names, placed_all, steps, search_plans}
 use Rattle.anneal_search.specs.Annealing.{anneal_steps}
-use Rattle.fleet_tries.specs.Tries.{all_tries}
-use Rattle.command_core.specs.Job.{JobValue}
-use Rattle.command_core.specs.Wishes.{single_at, pair_at}
-use Rattle.command_core.specs.declared.states.State.{State}
-use Rattle.command_core.specs.declared.states.State.TheVariants.{Empty, Loaded}
-use Rattle.command_core.specs.declared.commands.Command.{Command}
-use Rattle.command_core.specs.declared.commands.Command.TheVariants.{Load, Add, Add1, Withdraw, Pin, Unpin, Build, Search, Checkpoint, Deviation, Anneal, Reduce, Adopt}
+use Rattle.fleet_reduction.specs.Attempts.{all_attempts}
+use Rattle.command_types.specs.Job.{JobValue}
+use Rattle.command_types.specs.AddedRequests.{single_at, pair_at}
+use Rattle.command_types.specs.declared.states.State.{State}
+use Rattle.command_types.specs.declared.states.State.TheVariants.{Empty, Loaded}
+use Rattle.command_types.specs.declared.commands.Command.{Command}
+use Rattle.command_types.specs.declared.commands.Command.TheVariants.{Load, Add, Add1, Withdraw, Pin, Unpin, Build, Search, Checkpoint, Deviation, Anneal, Reduce, Adopt}
 
--- a list for each vehicle, with no stop
+-- An empty list for each vehicle
 abbrev pub no_stops : Instance → List (List ℕ)
 no_stops p = replicate p.fleet []
 
--- Load: this problem and seed; no request is planned, nothing is pinned, no step is made, and the deviation is 0
+-- Load: this problem and seed. No request is planned, nothing is pinned, no step is made, and the deviation is
+-- 0.
 abbrev pub loaded : Instance → ℕ → JobValue
 loaded p seed = record { problem = p; pins = no_stops p; plan = no_stops p; work = no_stops p; deviation = 0; seed = seed; steps = 0 }
 
--- Each other command but Search, Anneal, Reduce and Checkpoint sets the working plan to the incumbent that it leaves.
+-- Every other command except Search, Anneal, Reduce and Checkpoint resets the working plan to the new incumbent.
 
 -- Add, Add1: one more request, unplanned
 abbrev pub added : JobValue → Request → JobValue
 added j r = record j { problem = with_request j.problem r; work = j.plan }
 
--- the vehicle visits a stop of the request with this name
+-- The vehicle visits a stop of the request with this name
 abbrev pub serves : Instance → ℕ → List ℕ → Bool
 serves p name route = list_any (is_of_named p (name ∷ [])) route
 
--- its route without the stops of that request
+-- The route without the stops of the request
 abbrev pub route_without : Instance → ℕ → List ℕ → List ℕ
 route_without p name route = filter (λ n. not (is_of_named p (name ∷ []) n)) route
 
--- What a vehicle with this pin and route does once the request is withdrawn. If it served the request, its stops are taken out; where the
--- route is then not feasible alone, it becomes the pin, so that the other requests behind the pin become unplanned.
-abbrev pub route_left : Instance → ℕ → List ℕ → List ℕ → List ℕ
-route_left p name pin route =
+-- The route of a vehicle after the request is withdrawn. If the vehicle served the request, its stops are
+-- removed. If the rest is infeasible, only the pin stays, and the other requests after the pin become unplanned.
+abbrev pub remaining_route : Instance → ℕ → List ℕ → List ℕ → List ℕ
+remaining_route p name pin route =
     if serves p name route
     then (if feasible_alone (without_request p name) (route_without p name route) then route_without p name route else pin)
     else route
 
--- this for each vehicle
-abbrev pub routes_left : Instance → ℕ → List (List ℕ) → List (List ℕ) → List (List ℕ)
-routes_left p name pins routes = map (λ e. route_left p name e.0 e.1) (zip pins routes)
+-- The routes of all vehicles after the request is withdrawn
+abbrev pub remaining_routes : Instance → ℕ → List (List ℕ) → List (List ℕ) → List (List ℕ)
+remaining_routes p name pins routes = map (λ e. remaining_route p name e.0 e.1) (zip pins routes)
 
--- Withdraw: the request is taken out, of the problem and of the plan
+-- Withdraw: the request is removed from the problem and the plan
 abbrev pub withdrawn : JobValue → ℕ → JobValue
 withdrawn j name =
-    let plan = routes_left j.problem name j.pins j.plan in
+    let plan = remaining_routes j.problem name j.pins j.plan in
     record j { problem = without_request j.problem name; plan = plan; work = plan }
 
--- the job with these pins
+-- The job with these pins
 abbrev pub with_pins : JobValue → List (List ℕ) → JobValue
 with_pins j pins = record j { pins = pins; work = j.plan }
 
--- Pin: the first k stops of the route of vehicle v become its pin, in place of an older one
+-- Pin: the first k stops of the route of vehicle v replace its pin
 abbrev pub pinned : JobValue → ℕ → ℕ → JobValue
-pinned j v k = with_pins j (with_route j.pins v (take k (of_vehicle j.plan v)))
+pinned j v k = with_pins j (with_route j.pins v (take k (route_of j.plan v)))
 
 -- Unpin: the vehicle has no pin
 abbrev pub unpinned : JobValue → ℕ → JobValue
 unpinned j v = with_pins j (with_route j.pins v [])
 
--- Build: each unplanned request, by rising name, is put at its best insertion, or stays unplanned where it has none
+-- Build: inserts the unplanned requests in ascending order of name, each at its best place. A request without a
+-- place stays unplanned
 abbrev pub built : JobValue → JobValue
 built j =
     let plan = placed_all j.problem j.pins j.plan (unplanned_names j.problem j.plan) in
     record j { plan = plan; work = plan }
 
--- Search: so many steps, from the number of those already made on
+-- Search: makes this many steps. Their numbers continue those of the steps already made
 abbrev pub searched : JobValue → ℕ → JobValue
 searched j count =
     let s = steps j.problem j.pins j.deviation j.seed j.steps count (record { incumbent = j.plan; working = j.work }) in
     record j { plan = s.incumbent; work = s.working; steps = j.steps + count }
 
--- Anneal: so many annealing steps, from the number of those already made on
+-- Anneal: makes this many annealing steps. Their numbers continue those of the steps already made
 abbrev pub annealed : JobValue → ℕ → JobValue
 annealed j count =
-    let s = anneal_steps j.problem j.pins j.deviation j.seed j.steps count (walked j.plan j.work) in
+    let s = anneal_steps j.problem j.pins j.deviation j.seed j.steps count (search_plans j.plan j.work) in
     record j { plan = s.incumbent; work = s.working; steps = j.steps + count }
 
--- Reduce: so many steps, from the incumbent on: those of tries with fewer vehicles, and annealing steps in place of those that they leave
+-- Reduce: makes this many steps, starting at the incumbent: first attempts to use fewer vehicles, then
+-- annealing with the remaining steps
 abbrev pub reduced : JobValue → ℕ → JobValue
 reduced j count =
-    let t = all_tries j.problem j.pins j.seed count j.steps j.plan in
-    let s = anneal_steps j.problem j.pins j.deviation j.seed t.step (j.steps + count - t.step) (walked t.plan t.plan) in
+    let t = all_attempts j.problem j.pins j.seed count j.steps j.plan in
+    let s = anneal_steps j.problem j.pins j.deviation j.seed t.step (j.steps + count - t.step) (search_plans t.plan t.plan) in
     record j { plan = s.incumbent; work = s.working; steps = j.steps + count }
 
--- Deviation: how far steps may go, in a search from the incumbent, in annealing from the working plan
+-- Deviation: sets the limit for the working plan's distance. A search compares with the incumbent, annealing
+-- with the previous working plan
 abbrev pub with_deviation : JobValue → ℕ → JobValue
 with_deviation j d = record j { work = j.plan; deviation = d }
 
--- Adopt: these routes from elsewhere are the plan
+-- Adopt: these routes become the plan and the working plan
 abbrev pub adopted : JobValue → List (List ℕ) → JobValue
 adopted j routes = record j { plan = routes; work = routes }
 
--- what a command makes of a job
+-- The job after this command
 abbrev pub job_after : JobValue → Command → JobValue
 job_after j (Load p seed) = loaded p seed
 job_after j (Add q a b) = added j (pair_at j.problem.next_number q a b)
@@ -117,7 +121,7 @@ job_after j (Anneal count) = annealed j count
 job_after j (Reduce count) = reduced j count
 job_after j (Adopt plan) = adopted j plan.routes
 
--- What a command makes of a state. Before the first Load nothing else is accepted.
+-- The state after a command. Before the first Load no other command is accepted.
 abbrev pub effect : State → Command → State
 effect (Loaded j) c = Loaded (job_after j c)
 effect Empty (Load p seed) = Loaded (loaded p seed)

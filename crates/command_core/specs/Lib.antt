@@ -1,14 +1,9 @@
--- what public contracts reach
+-- Definitions that public contracts use
 pub mod Changes
-pub mod Commands
 pub mod Effects
-pub mod Job
-pub mod Names
-pub mod Refusing
+pub mod Refusals
 pub mod RunLaws
 pub mod Runs
-pub mod Wishes
--- of private functions alone
-pub mod Fields
-pub mod Kept
+-- Definitions that only private functions use
+pub mod KeptSearch
 pub mod Marks

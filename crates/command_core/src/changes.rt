@@ -1,29 +1,29 @@
-//! What a command changes of a state. It is made beside the state and then put in, and what stood before comes out in
-//! the same form: put in again, it leads back.
+//! The change that a command makes to a state. It is built beside the state and then swapped in. The swap
+//! returns the old parts in the same form, and swapping them in restores the state.
 ghost use Rattle.std.specs.Prelude.{◌≡◌};
-ghost use Rattle.command_core.specs.Job.{IsJob};
-ghost use Rattle.command_core.specs.Runs.{IsState};
+ghost use Rattle.command_types.specs.Job.{IsJob};
+ghost use Rattle.command_types.specs.States.{IsState};
 ghost use Rattle.command_core.specs.Changes.{job_with, with_change};
 
-use crate::states::{Job, State};
+use command_types::{Job, State};
 use plan_types::{Pins, Plan};
 use std::mem;
 
-/// What is changed of a job whose problem stays.
+/// A change to a job that keeps its problem.
 #[derive(Debug, Drop)]
 pub enum JobChange {
     Nothing,
-    /// The pins, and the working plan.
+    /// New pins and a new working plan.
     Pinned { pins: Pins, work: Plan },
-    /// The working plan, and how far steps may go.
+    /// A new working plan and a new deviation.
     Working { work: Plan, deviation: u32 },
-    /// Both plans, and how many steps were made.
+    /// New plans, and the new number of steps made.
     Plans { plan: Plan, work: Plan, steps: u64 },
 }
 
 impl JobChange {
-    // Lets the job become the changed one, and gives what leads back. Takes no memory.
-    fn put_in(self, job: &mut Job) -> JobChange
+    // Swaps the change into the job and returns the change that restores the old job. Allocates nothing.
+    fn swap_into(self, job: &mut Job) -> JobChange
         requires { IsJob (job_with self job.old) }
         ensures new { job.new ≡ job_with self job.old }
         ensures back { job_with result job.new ≡ job.old }
@@ -47,27 +47,27 @@ impl JobChange {
     }
 }
 
-/// What is changed of a state.
+/// A change to a state.
 #[derive(Debug, Drop)]
 pub enum Change {
-    /// All of it.
-    Whole(State),
-    /// Parts of its job.
-    Within(JobChange),
+    /// A whole new state.
+    Replace(State),
+    /// New parts of the state's job.
+    Update(JobChange),
 }
 
 impl Change {
-    /// Lets the state become the changed one, and gives what leads back. Takes no memory.
-    pub(crate) fn put_in(self, state: &mut State) -> Change
+    /// Swaps the change into the state and returns the change that restores the old state. Allocates nothing.
+    pub(crate) fn swap_into(self, state: &mut State) -> Change
         requires { IsState (with_change self state.old) }
         ensures new { state.new ≡ with_change self state.old }
         ensures back { with_change result state.new ≡ state.old }
     {
         match self {
-            Change::Whole(new) => Change::Whole(mem::replace(state, new)),
-            Change::Within(change) => match state {
-                State::Empty => Change::Within(JobChange::Nothing),
-                State::Loaded(job) => Change::Within(change.put_in(job)),
+            Change::Replace(new) => Change::Replace(mem::replace(state, new)),
+            Change::Update(change) => match state {
+                State::Empty => Change::Update(JobChange::Nothing),
+                State::Loaded(job) => Change::Update(change.swap_into(job)),
             },
         }
     }

@@ -1,56 +1,59 @@
-//! What commands keep, each law for every state and every list of commands.
-ghost use Rattle.command_core.specs.RunLaws.{EffectsKeepFacts, RunsKeepFacts, CostsNeverRise, PlansNeverCostMore, SearchesAddUp, RunsAreOneSearch, AnnealingsAddUp, RunsAreOneAnnealing, NextNumbersRise, GivenNumbersAreNew, AcceptedFitRecords};
+//! Laws of commands: each holds for every state and every list of commands.
+ghost use Rattle.command_core.specs.RunLaws.{CommandsKeepInvariants, RunsKeepInvariants, CostsNeverRise, PlansNeverCostMore, SearchesAddUp, RunsAreOneSearch, AnnealingsAddUp, RunsAreOneAnnealing, NextNumberNeverFalls, AssignedNumbersAreNew, AcceptedFitRecords};
 
-use anneal_search::{anneal_steps_add_up, anneal_steps_keep_passing, annealed_never_cost_more};
-use fleet_tries::{tries_keep_plans, tries_never_cost_more};
-use plan_audit::{feasibility_is_local, passes_are_local, pins_are_live_once, plans_are_local};
+use anneal_search::{anneal_steps_add_up, anneal_steps_keep_passing, annealing_never_costs_more};
+use fleet_reduction::{attempts_keep_plans, attempts_never_cost_more};
+use plan_audit::{
+    feasibility_is_local, passing_is_local, pins_are_distinct_stops, plans_are_disjoint_routes,
+};
 use plan_types::{
-    costs_are_in_order, numbers_are_below_the_next, put_adds_one_request, requests_stand_by_name,
-    take_removes_one_request,
+    costs_are_totally_ordered, numbers_are_below_next_number, put_adds_one_request,
+    requests_are_stored_by_name, take_removes_one_request,
 };
 use seeded_search::{incumbents_never_cost_more, steps_add_up, steps_keep_passing};
 
-/// What accepted commands make of a state keeps the facts of states: plan and working plan pass with the pins, and each pin alone is a
-/// feasible route.
-pub fn effects_keep_facts()
-    ensures one { EffectsKeepFacts }
-    ensures many { RunsKeepFacts }
+/// Proves that accepted commands keep the invariants of states: the plan and the working plan pass with the
+/// pins, and each pin alone is a feasible route.
+pub fn commands_keep_invariants()
+    ensures one { CommandsKeepInvariants }
+    ensures many { RunsKeepInvariants }
 {
-    passes_are_local();
-    plans_are_local();
-    pins_are_live_once();
+    passing_is_local();
+    plans_are_disjoint_routes();
+    pins_are_distinct_stops();
     feasibility_is_local();
-    numbers_are_below_the_next();
+    numbers_are_below_next_number();
     put_adds_one_request();
     take_removes_one_request();
-    requests_stand_by_name();
+    requests_are_stored_by_name();
     steps_keep_passing();
     anneal_steps_keep_passing();
-    tries_keep_plans();
+    attempts_keep_plans();
 }
 
-/// An accepted command that changes no request never makes the plan cost more.
+/// Proves that an accepted command that changes no request never makes the plan more expensive.
 pub fn costs_never_rise()
     ensures { CostsNeverRise }
 {
-    costs_are_in_order();
+    costs_are_totally_ordered();
     incumbents_never_cost_more();
-    annealed_never_cost_more();
-    tries_never_cost_more();
+    annealing_never_costs_more();
+    attempts_never_cost_more();
 }
 
-/// After accepted commands, the plan costs no more than it did at any moment since the last change of requests or pins, and requests and
-/// pins are as they were then.
+/// Proves that, after accepted commands, the plan costs no more than at any moment since the last change of
+/// requests or pins, and that requests and pins are as they were then.
 pub fn plans_never_cost_more()
     ensures { PlansNeverCostMore }
 {
-    costs_are_in_order();
+    costs_are_totally_ordered();
     incumbents_never_cost_more();
-    annealed_never_cost_more();
-    tries_never_cost_more();
+    annealing_never_costs_more();
+    attempts_never_cost_more();
 }
 
-/// Searches leave what one search of all their steps would, however they are cut and with checkpoints between them or not.
+/// Proves that several searches, with or without checkpoints between them, lead to the same state as one search
+/// with the same number of steps.
 pub fn searches_add_up()
     ensures two { SearchesAddUp }
     ensures many { RunsAreOneSearch }
@@ -58,7 +61,8 @@ pub fn searches_add_up()
     steps_add_up();
 }
 
-/// Annealings leave what one annealing of all their steps would, however they are cut and with checkpoints between them or not.
+/// Proves that several annealings, with or without checkpoints between them, lead to the same state as one
+/// annealing with the same number of steps.
 pub fn annealings_add_up()
     ensures two { AnnealingsAddUp }
     ensures many { RunsAreOneAnnealing }
@@ -66,13 +70,13 @@ pub fn annealings_add_up()
     anneal_steps_add_up();
 }
 
-/// No stop number is given twice, unless a Load begins anew.
-pub fn given_numbers_are_new()
-    ensures next { NextNumbersRise }
-    ensures given { GivenNumbersAreNew }
+/// Proves that no stop number is assigned twice before the next `Load`.
+pub fn assigned_numbers_are_new()
+    ensures next { NextNumberNeverFalls }
+    ensures given { AssignedNumbersAreNew }
 {}
 
-/// An accepted command that a store writes down as it is has fields that a record holds.
+/// Proves that, if a store writes an accepted command as a record, its fields fit into the record.
 pub fn accepted_commands_fit_records()
     ensures { AcceptedFitRecords }
 {}

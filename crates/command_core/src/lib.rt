@@ -1,89 +1,68 @@
-//! The state of a planner, and what each command makes of it. No bytes, no device, no text.
+//! The planner's state machine: which commands a state accepts, and the state that each command leads to. It
+//! knows nothing of bytes, devices or text.
 //!
-//! Entry functions: `check` tells whether a state accepts a command, and a `Planner` is a state that commands change in
-//! its place: a session's (`recover`), and a solving's (`plan_solve`). `apply` makes the new state beside the old one;
-//! the program has no use for it, and tests try each command by it. `state_codec` and `checkpoint` write and read the
-//! types, `command_text` the answers (`unplanned_names`).
+//! `check` returns whether a state accepts a command. A `Planner` holds a state and executes commands in place;
+//! `recover` uses it for sessions, `plan_solve` for solving without a store. `apply` returns the new state and
+//! keeps the old one; only tests use it. The types of commands, states and refusals are in `command_types`.
 //!
-//! Source: this project's own. Requests come in (`Add`, `Add1`), go (`Withdraw`) and are planned (`Build`, `Search`,
-//! `Anneal`, `Reduce`); `Adopt` takes a plan from elsewhere. `Pin` and `Unpin` say which stops a vehicle keeps at the front of
-//! its route.
+//! Requests are added (`Add`, `Add1`), withdrawn (`Withdraw`) and planned (`Build`, `Search`, `Anneal`,
+//! `Reduce`). `Adopt` replaces the plan by one from elsewhere. `Pin` and `Unpin` choose which stops must stay
+//! at the start of a vehicle's route. Every command except `Search`, `Anneal`, `Reduce` and `Checkpoint` resets
+//! the working plan to the incumbent.
 //!
-//! How it works: a command makes what it changes beside the state (`Change`), so want of memory changes nothing. It is
-//! then put in, and what stood before comes out, to be put back where a commit fails. A planner keeps the walk of a
-//! search, of annealing or of a reduction, whose tables the next one goes on by, until another command changes the job.
-//! Every command but `Search`, `Anneal`, `Reduce` and `Checkpoint` sets the working plan to the incumbent that it leaves.
+//! A command first builds the changed parts beside the state (`Change`), so running out of memory changes
+//! nothing. The planner then swaps them in and returns the old parts, with which a failed commit can be rolled
+//! back. After a command that makes steps, the planner keeps the search state with its tables, so that the next
+//! steps continue it, until another command changes the job.
+//!
+//! Source: this project's own.
 //!
 //! Modules, in reading order:
-//! - `limits`: the limits of commands and states
-//! - `commands`: `Command`, what is said of each whatever the state, and where a new stop lies
-//! - `states`: `State`, and the `Job` that a loaded state holds
-//! - `refusals`: why a command is refused
-//! - `lists`: routes and pins of vehicles
-//! - `checking`: `check`
-//! - `changes`: what a command changes, put in and put back
-//! - `applying`: `apply`, and a line for each command
+//! - `acceptance`: `check`
+//! - `changes`: the change that a command makes, swapped in and back
+//! - `effects`: `apply`, and the dispatch of each command to its module
 //! - `planners`: `Planner`
-//! - `loading`, `adding`, `withdrawing`, `pinning`: requests and pins
-//! - `judging`, `adopting`: a plan from elsewhere
-//! - `marks`: which requests are unplanned
-//! - `placing`, `planning`, `walking`, `reducing`: `Build` and `Deviation`, `Search` and `Anneal`, `Reduce`
-//! - `laws`: what commands keep
+//! - `load`, `add`, `withdraw`, `pin`: requests and pins
+//! - `plan_check`, `adopt`: a plan from elsewhere
+//! - `marks`: finds the unplanned requests
+//! - `insertion`, `build`, `step`, `reduce`: `Build` and `Deviation`, `Search` and `Anneal`, `Reduce`
+//! - `laws`: the properties that every sequence of commands preserves
 //!
-//! Said by `specs/Job.antt`, `Commands.antt`, `Effects.antt`, `Refusing.antt`, `Runs.antt`, `RunLaws.antt` and `Changes.antt`.
-//! Proved:
-//! - `Job` (its type's invariant): plan and working plan pass with the pins, each pin alone is a feasible route,
-//!   deviation and steps keep their limits
-//! - `is_recorded`, `steps`, `makes_steps`, `stops_added` of a `Command`: what its definition says
-//! - `check`: the first cause for a refusal (`refusal`), without memory
-//! - `apply`: `ok`, the state that the command makes (`effect`); `err`, that refusal, or want of memory
-//! - `Planner::change`: the same in its place, and what leads back (`IsChanged`); refused, the state stays (`kept`).
-//!   `change_accepted`: of a command that `check` has accepted, which is not judged again
-//!   `put_back`: what stood before. A walk that is kept is one of the state's plans (its type's invariant)
-//! - `unplanned_names`: the names of the requests without a stop in any route, rising
-//! - `effects_keep_facts`: what accepted commands make of a state keeps the facts of a `Job`
-//! - `costs_never_rise`, `plans_never_cost_more`: the plan costs no more than at any moment since the last change of
-//!   requests or pins
-//! - `searches_add_up`, `annealings_add_up`: searches, however cut, are one search of all their steps, annealings one
-//!   annealing
-//! - `given_numbers_are_new`: no stop number is given twice, unless a `Load` begins anew
-//! - `accepted_commands_fit_records`: an accepted command that has a record (`is_recorded`) fits it
+//! Proved: an accepted command makes exactly the state that `specs/Effects.antt` defines, a refused one changes
+//! nothing and gets the first refusal that applies, or the answer is `OutOfMemory`. In the state after any
+//! accepted commands, both plans pass the auditor with the pins, and each pin alone is a feasible route. The
+//! plan never costs more than at any moment since the last change of requests or pins. Splitting a search or an
+//! annealing run into several commands changes nothing. No stop number is assigned twice before the next
+//! `Load`.
 #![tactic(auto)]
 
-mod adding;
-mod adopting;
-mod applying;
+mod acceptance;
+mod add;
+mod adopt;
+mod build;
 mod changes;
-mod checking;
-mod commands;
-mod judging;
+mod effects;
+mod insertion;
 mod laws;
-mod limits;
-mod lists;
-mod loading;
+mod load;
 mod marks;
-mod pinning;
-mod placing;
+mod pin;
+mod plan_check;
 mod planners;
-mod planning;
-mod reducing;
-mod refusals;
-mod states;
-mod walking;
-mod withdrawing;
+mod reduce;
+mod step;
+mod withdraw;
 
-pub use applying::apply;
+pub use acceptance::check;
 pub use changes::{Change, JobChange};
-pub use checking::check;
-pub use commands::{Command, Spot};
-pub use laws::{
-    accepted_commands_fit_records, annealings_add_up, costs_never_rise, effects_keep_facts,
-    given_numbers_are_new, plans_never_cost_more, searches_add_up,
+pub use command_types::{
+    Command, Job, MAX_ANNEAL_STEPS, MAX_REDUCE_STEPS, MAX_SEARCH_STEPS, MAX_STEPS, Refusal, Spot,
+    State, is_coordinate, is_demand, is_spot,
 };
-pub use limits::{
-    MAX_ANNEAL_COUNT, MAX_COUNT, MAX_REDUCE_COUNT, MAX_STEPS, is_coordinate, is_demand, is_spot,
+pub use effects::apply;
+pub use laws::{
+    accepted_commands_fit_records, annealings_add_up, assigned_numbers_are_new,
+    commands_keep_invariants, costs_never_rise, plans_never_cost_more, searches_add_up,
 };
 pub use marks::unplanned_names;
 pub use planners::Planner;
-pub use refusals::Refusal;
-pub use states::{Job, State};

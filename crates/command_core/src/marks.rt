@@ -1,4 +1,4 @@
-//! Which requests are unplanned, by marks at the stops that are planned.
+//! Unplanned requests, found by marks at the planned stops.
 ghost use Rattle.std.specs.Prelude.{◌≡◌, ◌<◌, ◌||◌, false, not, IfOk, slice_get, slice_index_or};
 ghost use Rattle.std.specs.Option.{option_and_then};
 ghost use Rattle.seeded_search.specs.Names.{name_where, names_where};
@@ -6,10 +6,11 @@ ghost use Rattle.seeded_search.specs.Steps.{unplanned_names};
 ghost use Rattle.command_core.specs.Marks.{is_marked};
 
 use move_ops::marks;
-use plan_types::{OutOfMemory, Problem, Request, Route, numbers_are_below_the_next};
+use plan_types::{OutOfMemory, Problem, Request, Route, numbers_are_below_next_number};
 use std::alloc::Global;
 
-/// The names of the requests without a stop in any route, rising. The time is linear in the problem and the routes.
+/// Returns the names of the requests without a stop in any route, in ascending order. Its time is linear in the
+/// problem and the routes.
 pub fn unplanned_names(
     alloc: Global,
     problem: &Problem,
@@ -17,12 +18,12 @@ pub fn unplanned_names(
 ) -> Result<Vec<u32>, OutOfMemory>
     ensures { IfOk result (λ names. names.items ≡ unplanned_names problem.now routes.now) }
 {
-    numbers_are_below_the_next();
+    numbers_are_below_next_number();
     let planned = marks(alloc, routes, problem.next_number as usize)?;
     unmarked_names(alloc, problem, &planned)
 }
 
-// The names of the requests that have no stop among the planned ones.
+// Returns the names of the requests without a marked stop.
 fn unmarked_names(
     alloc: Global,
     problem: &Problem,

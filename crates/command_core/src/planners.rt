@@ -1,70 +1,71 @@
-//! A state that commands change in its place.
+//! `Planner`: a state that commands change in place.
 ghost use Rattle.std.specs.Prelude.{◌≡◌, ◌⊎◌, None, Some, IfOk, IfErr};
-ghost use Rattle.command_core.specs.Runs.{IsState};
-ghost use Rattle.command_core.specs.Refusing.{refusal};
+ghost use Rattle.command_types.specs.States.{IsState};
+ghost use Rattle.command_core.specs.Refusals.{refusal};
 ghost use Rattle.command_core.specs.Changes.{with_change, IsChanged};
 
-use crate::applying::{Carried, carry_out, keep_facts};
+use crate::acceptance::check;
 use crate::changes::Change;
-use crate::checking::check;
-use crate::commands::Command;
-use crate::laws::effects_keep_facts;
-use crate::refusals::Refusal;
-use crate::states::State;
+use crate::effects::{CommandOutcome, execute, keep_invariants};
+use crate::laws::commands_keep_invariants;
+use command_types::{Command, Refusal, State};
 use log::Log;
 use log::sink::Discard;
-use seeded_search::Walk;
+use seeded_search::SearchState;
 use std::alloc::Global;
 use std::marker::Model;
 use std::mem;
 
-/// A state that commands change in its place, so that what they leave is not copied.
+/// A state that commands change in place, without a copy.
 #[derive(Drop)]
 pub struct Planner {
     state: State,
-    /// The walk over its plans, where the last command that changed the state made steps.
-    walk: Option<Walk>,
+    /// The search state over the plans of the state, if the last command that changed the state made steps.
+    search_state: Option<SearchState>,
 }
 
 impl Model for Planner {
-    ghost use Rattle.command_core.specs.declared.states.State.{State};
+    ghost use Rattle.command_types.specs.declared.states.State.{State};
 
     ghost Value = { State };
 
-    ghost use Rattle.command_core.specs.Kept.{IsKept};
+    ghost use Rattle.command_core.specs.KeptSearch.{IsKept};
 
     ghost view = { λ p. p.state };
 
-    ghost invariant = { λ p. IsKept p.state p.walk };
+    ghost invariant = { λ p. IsKept p.state p.search_state };
 }
 
 impl Planner {
-    /// A planner in this state.
+    /// Returns a planner in this state.
     pub fn new(state: State) -> Planner
         ensures { result ≡ state }
     {
-        Planner { state, walk: None }
+        Planner {
+            state,
+            search_state: None,
+        }
     }
 
-    /// What it knows.
+    /// Returns the state.
     pub fn state(&self) -> &State
         ensures { result.now ≡ self.now }
     {
         &self.state
     }
 
-    /// Gives its state away.
+    /// Consumes the planner and returns its state.
     pub fn into_state(self) -> State
         ensures { result ≡ self }
     {
         self.state
     }
 
-    /// Carries the command out, and gives what stood before.
+    /// Executes the command and returns the change that restores the old state.
     ///
     /// # Errors
     ///
-    /// Those of `apply`. The state is then as it was.
+    /// Those of `apply`. The state is then unchanged.
     pub fn change(&mut self, alloc: Global, command: &Command) -> Result<Change, Refusal>
         ensures ok { IfOk result (λ before. IsChanged self.old command.now before self.new) }
         ensures err { IfErr result (λ r. (refusal self.old command.now ≡ Some r)
@@ -75,12 +76,12 @@ impl Planner {
         self.change_accepted(&Discard, alloc, command)
     }
 
-    /// The same of a command that `check` accepts, which is not judged again. Each try with fewer vehicles is logged as it
-    /// ends.
+    /// Executes a command that `check` accepts, without checking it again, and returns the change that restores
+    /// the old state. Each attempt with fewer vehicles is logged when it ends.
     ///
     /// # Errors
     ///
-    /// `OutOfMemory`. The state is then as it was.
+    /// `OutOfMemory`. The state is then unchanged.
     pub fn change_accepted<R: Log>(
         &mut self,
         rt: &R,
@@ -92,20 +93,23 @@ impl Planner {
         ensures err { IfErr result (λ r. r ≡ Refusal.OutOfMemory) }
         ensures kept { IfErr result (λ _. self.new ≡ self.old) }
     {
-        effects_keep_facts();
-        keep_facts(&self.state, command);
-        let kept = mem::replace(&mut self.walk, None);
-        let Carried { change, walk } = carry_out(rt, alloc, &self.state, kept, command)?;
-        self.walk = walk;
-        Ok(change.put_in(&mut self.state))
+        commands_keep_invariants();
+        keep_invariants(&self.state, command);
+        let kept = mem::replace(&mut self.search_state, None);
+        let CommandOutcome {
+            change,
+            search_state,
+        } = execute(rt, alloc, &self.state, kept, command)?;
+        self.search_state = search_state;
+        Ok(change.swap_into(&mut self.state))
     }
 
-    /// Puts back what stood before a command. Takes no memory.
-    pub fn put_back(&mut self, before: Change)
+    /// Restores the state before a command. Allocates nothing.
+    pub fn roll_back(&mut self, before: Change)
         requires { IsState (with_change before self.old) }
         ensures { self.new ≡ with_change before self.old }
     {
-        self.walk = None;
-        drop(before.put_in(&mut self.state));
+        self.search_state = None;
+        drop(before.swap_into(&mut self.state));
     }
 }

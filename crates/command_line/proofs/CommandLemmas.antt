@@ -1,4 +1,4 @@
--- What the program's command makes of words that do not begin with a hyphen.
+-- The parsing of arguments that do not begin with a hyphen.
 use Rattle.std.proofs.Common.{
   ◌≡◌,
   ◌∙◌,
@@ -102,61 +102,61 @@ use Rattle.std.specs.Option.{option_map_or}
 use Rattle.std.proofs.lemmas.Slice.Eq.{bytes_eq-Decides}
 use Rattle.clap.proofs.WalkLemmas.{first_value-rows, list_any-map}
 use Rattle.clap.proofs.OnLiterals.{clap_on_literals}
-use Rattle.command_line.specs.declared.words.Invocation.{Invocation}
-use Rattle.command_line.specs.Asked.{
+use Rattle.command_line.specs.declared.arguments.Invocation.{Invocation}
+use Rattle.command_line.specs.Invocations.{
   ArePositional,
-  WordsAsked,
+  InvocationValue,
   IsRefusal,
-  PathsAsked,
+  PathsValue,
   ReadsMatches,
   ReadsWords,
-  adopt_asked,
+  parsed_adopt,
   adopt_in,
-  asked_by,
-  asked_with,
+  parsed_words,
+  parsed_command,
   asks_help,
   audit,
   check,
   deviation_or_none,
-  draw_asked,
+  parsed_draw,
   draw_in,
   explain,
   format,
   is_positional_word,
-  judged_asked,
-  judged_from,
-  judged_in,
+  parsed_audit,
+  audit_from,
+  audit_in,
   kind_named,
-  list_asked,
-  list_from,
-  list_in,
+  parsed_audits,
+  audits_from,
+  audits_in,
   load,
-  load_asked,
+  parsed_load,
   load_from,
   load_in,
   run,
-  run_asked,
+  parsed_run,
   run_in,
   seed_named,
   solve,
   solves,
   steps_named,
-  store_asked,
+  parsed_store,
   store_in,
   store_instance,
-  task_asked,
-  task_from,
-  task_in,
-  tasks_asked,
-  tasks_from,
-  tasks_in,
-  timetable_asked,
+  parsed_solve,
+  solve_from,
+  solve_in,
+  parsed_solves,
+  solves_from,
+  solves_in,
+  parsed_timetable,
   timetable_in,
-  told_by,
-  told_by_other,
-  told_of,
-  told_of_store,
-  upgrade_asked,
+  matched_command,
+  matched_other_command,
+  matched_invocation,
+  matched_store_command,
+  parsed_upgrade,
   upgrade_in,
   usage_status_of,
 }
@@ -178,7 +178,7 @@ use Rattle.command_line.specs.CommandLine.{
   upgrade_app,
 }
 
--- ---- a word that does not begin with a hyphen is a value
+-- ---- an argument that does not begin with a hyphen is a value
 
 is_no_hyphen : (b : Bool) → not b ≡ true → b ≡ false
 is_no_hyphen true e = absurd (true≢false (sym e))
@@ -202,7 +202,7 @@ word_passes s (b ∷ []) h p = by (b == 45) refl
     by false e = rw (e, e) refl
 word_passes s (b ∷ d ∷ bs) h p = let e : (b == 45) ≡ false = is_no_hyphen (b == 45) p in rw (e, e) refl
 
--- where the walk stands between two words
+-- a state of the parse between two arguments
 abbrev standing : Held → ℕ → Walk
 standing h position = record { held = h; waiting = idle; position = position; is_trailing = false; stopped = None }
 
@@ -235,7 +235,7 @@ or_else-nil : (kinds : Kinds) → or_else kinds [] ≡ kinds
 or_else-nil [] = refl
 or_else-nil (k ∷ ks) = refl
 
--- ---- the two levels
+-- ---- the two levels of commands
 
 abbrev the_app : Bor (List (Bor Text)) → Bor (List (Bor Text)) → App
 the_app names modes = built (planner_app names modes)
@@ -244,9 +244,9 @@ pub no_words : (names modes : Bor (List (Bor Text))) → built_fault (the_app na
 unfolding clap_on_literals
 no_words names modes = refl
 
--- ---- commands whose words are values
+-- ---- commands whose arguments are values
 
--- the argument takes one word, and leaves what follows to the others
+-- the rule takes exactly one argument
 abbrev takes_one : Rule → Bool
 takes_one a = not (is_multiple a) && not a.trailing_var_arg
 
@@ -265,7 +265,7 @@ found_takes test takes (x ∷ xs) a all is = by (test x) refl (found_takes test 
     by true e later = let same : x ≡ a = (let h : Some x ≡ Some a = rw e at is in cc) in subst (λ y. takes y ≡ true) same (both_true (takes x) _ all).0
     by false e later = later (rw e at is)
 
--- what is held, and where the next word goes, after one more value
+-- the values held after one more argument, if a rule takes it
 abbrev taken : List Rule → Option Rule → Text → Held → Held
 taken rules None w h = h
 taken rules (Some a) w h = positional_held rules a w h
@@ -274,7 +274,7 @@ abbrev position_after : Option Rule → ℕ → ℕ
 position_after None position = position
 position_after (Some a) position = next_position a position
 
--- so word after word: what is held at the end, and the first fault
+-- the values held after these arguments, one by one
 abbrev held_after : List Rule → Held → ℕ → List Text → Held
 held_after rules h position [] = h
 held_after rules h position (w ∷ words) = held_after rules (taken rules (arg_by_index rules position) w h) (position_after (arg_by_index rules position) position) words
@@ -287,17 +287,17 @@ fault_among s h position (w ∷ words) =
 abbrev fault_at_end : Shape → Held → Kinds
 fault_at_end s h = or_else (settle_fault s.rules s.args_override_self h) (or_else (defaults_fault (settled s.rules h).rows s.rules) (check_fault s (finished s.rules h) false))
 
--- the fault and the rows of a command with these words
+-- the fault of a command with these arguments, if there is one
 abbrev leaf_fault : Shape → List Text → Kinds
 leaf_fault s words = or_else (fault_among s nothing_held 1 words) (fault_at_end s (held_after s.rules nothing_held 1 words))
 
 abbrev leaf_rows : Shape → List Text → List Row
 leaf_rows s words = finished s.rules (held_after s.rules nothing_held 1 words)
 
-stands_behind : (rules : List Rule) (o : Option Rule) (w : Text) (h : Held) (position : ℕ) → ((a : Rule) → o ≡ Some a → takes_one a ≡ true)
+stands_after : (rules : List Rule) (o : Option Rule) (w : Text) (h : Held) (position : ℕ) → ((a : Rule) → o ≡ Some a → takes_one a ≡ true)
     → to_positional rules o w (standing h position) h ≡ standing (taken rules o w h) (position_after o position)
-stands_behind rules None w h position one = refl
-stands_behind rules (Some a) w h position one =
+stands_after rules None w h position one = refl
+stands_after rules (Some a) w h position one =
     let both = both_true (not (is_multiple a)) (not a.trailing_var_arg) (one a refl) in
     let single : is_multiple a ≡ false = is_no_hyphen (is_multiple a) both.0 in
     let free : a.trailing_var_arg ≡ false = is_no_hyphen a.trailing_var_arg both.1 in
@@ -308,7 +308,7 @@ module _ (s : Shape) (one : take_one_each s.rules ≡ true) where
       → walked s.rules [] (standing h position) w ≡ standing (taken s.rules (arg_by_index s.rules position) w h) (position_after (arg_by_index s.rules position) position)
   walked_on h position w p =
       walked-value s.rules h position w p
-      ∙ stands_behind s.rules (arg_by_index s.rules position) w h position (λ a is. found_takes (λ a. option_map_or (λ k. k == position) a.index false) takes_one s.rules a one is)
+      ∙ stands_after s.rules (arg_by_index s.rules position) w h position (λ a is. found_takes (λ a. option_map_or (λ k. k == position) a.index false) takes_one s.rules a one is)
 
   walk_holds : (h : Held) (position : ℕ) (words : List Text) → ArePositional words → (fold (walked s.rules []) (standing h position) words).held ≡ held_after s.rules h position words
   walk_holds h position [] p = refl
@@ -332,9 +332,9 @@ module _ (s : Shape) (one : take_one_each s.rules ≡ true) where
   rows_are : (words : List Text) → ArePositional words → (rows_at s words).1 ≡ leaf_rows s words
   rows_are words p = ap (finished s.rules) (walk_holds nothing_held 1 words p)
 
--- ---- what the parse of the words tells
+-- ---- the result of the parse
 
--- each kind is a mistake's
+-- each kind of error is a usage error
 abbrev AreMistakes : Kinds → Type 0
 AreMistakes [] = Unit {0}
 AreMistakes (k ∷ ks) = (usage_status_of k ≡ 64) × AreMistakes ks
@@ -347,9 +347,10 @@ abbrev IsSomeKind : Kinds → Type 0
 IsSomeKind [] = ⊥
 IsSomeKind (k ∷ ks) = Unit {0}
 
--- the words pass and ask for what the matches say, or they ask for nothing, and fail by a mistake or for help
-abbrev pub IsJudged : Type 0 → Kinds → Option WordsAsked → Option WordsAsked → Type 0
-IsJudged Help faults asked told = ((faults ≡ []) × (asked ≡ told)) ⊎ ((IsFault faults ⊎ (Help × IsSomeKind faults)) × (asked ≡ None))
+-- either the parse succeeds and its matches mean what the arguments mean, or the arguments have no meaning and
+-- the parse fails with a usage error or for help
+abbrev pub IsJudged : Type 0 → Kinds → Option InvocationValue → Option InvocationValue → Type 0
+IsJudged Help faults asked reported = ((faults ≡ []) × (asked ≡ reported)) ⊎ ((IsFault faults ⊎ (Help × IsSomeKind faults)) × (asked ≡ None))
 
 fault_then : (a b : Kinds) → AreMistakes a → IsFault b → IsFault (or_else a b)
 fault_then [] b m h = h
@@ -359,7 +360,7 @@ fault_first : (a b : Kinds) → IsFault a → IsFault (or_else a b)
 fault_first [] b h = absurd h
 fault_first (k ∷ ks) b h = h
 
--- the fault of a kind by the tests of the two names
+-- the fault of an argument that must be one of two names, by the tests for them
 abbrev unless_named : Bool → Bool → Kinds
 unless_named true b = []
 unless_named false true = []
@@ -373,7 +374,7 @@ accepted_by false false = refl
 accepts_names : (names : Bor (List (Bor Text))) (k : Text) → IsKindNames names → list_any (λ name. bytes_eq name.now k) names.now ≡ (bytes_eq (codes "lilim") k || (bytes_eq (codes "vrp") k || false))
 accepts_names names k kinds = list_any-map (λ t. bytes_eq t k) (λ (n : Bor Text). n.now) names.now ∙ ap (list_any (λ t. bytes_eq t k)) kinds
 
--- the fault of a word that is to name a kind
+-- the fault of an argument that must be a kind
 abbrev fault_of_kind : Text → Kinds
 fault_of_kind k = unless_named (bytes_eq (codes "lilim") k) (bytes_eq (codes "vrp") k)
 
@@ -388,30 +389,30 @@ mistakes_by false false = (refl, tt)
 kind_mistakes : (fault : Kinds) (k : Text) → fault ≡ fault_of_kind k → AreMistakes fault
 kind_mistakes fault k is = subst AreMistakes (sym is) (mistakes_by (bytes_eq (codes "lilim") k) (bytes_eq (codes "vrp") k))
 
--- words of the right number are judged by their kind
-judged_kind : (Help : Type 0) (a b : Bool) (faults : Kinds) (asked told : Option WordsAsked) → faults ≡ unless_named a b
+-- if there are as many arguments as needed, only the kind can be wrong
+judged_kind : (Help : Type 0) (a b : Bool) (faults : Kinds) (asked reported : Option InvocationValue) → faults ≡ unless_named a b
     → ((if a then Some LiLim else (if b then Some Vrp else None)) ≡ None → asked ≡ None)
-    → asked ≡ told → IsJudged Help faults asked told
-judged_kind Help true b faults asked told f e same = inl (f, same)
-judged_kind Help false true faults asked told f e same = inl (f, same)
-judged_kind Help false false faults asked told f e same = inr (inl (subst IsFault (sym f) (refl, tt)), e refl)
+    → asked ≡ reported → IsJudged Help faults asked reported
+judged_kind Help true b faults asked reported f e same = inl (f, same)
+judged_kind Help false true faults asked reported f e same = inl (f, same)
+judged_kind Help false false faults asked reported f e same = inr (inl (subst IsFault (sym f) (refl, tt)), e refl)
 
-judged_leaf : (Help : Type 0) (s : Shape) → take_one_each s.rules ≡ true → (words : List Text) → ArePositional words → (asked : Option WordsAsked) (tell : List Row → Option WordsAsked)
+judged_leaf : (Help : Type 0) (s : Shape) → take_one_each s.rules ≡ true → (words : List Text) → ArePositional words → (asked : Option InvocationValue) (tell : List Row → Option InvocationValue)
     → IsJudged Help (leaf_fault s words) asked (tell (leaf_rows s words)) → IsJudged Help (level_fault s [] nothing_held words false []) asked (tell (rows_at s words).1)
 judged_leaf Help s one words p asked tell judged =
     subst (λ (f : Kinds). IsJudged Help f asked (tell (rows_at s words).1)) (sym (level_is s one words p))
     (subst (λ (rows : List Row). IsJudged Help (leaf_fault s words) asked (tell rows)) (sym (rows_are s one words p)) judged)
 
--- ---- commands with a word that names a kind
+-- ---- commands with an argument that is a kind
 
 abbrev missing : Kinds
 missing = kind.MissingRequiredArgument ∷ []
 
--- the fault of that word, as the parser finds it
+-- the fault of the argument KIND, as the parser finds it
 abbrev kind_fault : Bor (List (Bor Text)) → Text → Kinds
 kind_fault names k = or_else (if list_any (λ name. bytes_eq name.now k) names.now then [] else kind.InvalidValue ∷ []) []
 
--- such commands, as built
+-- a command with the arguments of `audit`, as `clap` builds it
 abbrev paths_shape : Text → Bor (List (Bor Text)) → Shape
 paths_shape name names = built_leaf (paths_app name names).top
 
@@ -427,40 +428,40 @@ solves_shape names = built_leaf (solves_app names).top
 abbrev load_shape : Bor (List (Bor Text)) → Shape
 load_shape names = built_leaf (load_app names).top
 
--- nothing is asked for without a kind
-no_kind_no_paths : (does : PathsAsked → Bool → WordsAsked) (o : Option Kind) (i s : Text) (last : Option Text) → o ≡ None
-    → judged_from does (option_map (λ k. record { kind = k; instance = i; solution = s }) o) last ≡ None
-no_kind_no_paths does o i s last none = ap (λ o. judged_from does (option_map (λ k. record { kind = k; instance = i; solution = s }) o) last) none
+-- without a kind the arguments have no meaning
+no_kind_no_paths : (does : PathsValue → Bool → InvocationValue) (o : Option Kind) (i s : Text) (last : Option Text) → o ≡ None
+    → audit_from does (option_map (λ k. record { kind = k; instance = i; solution = s }) o) last ≡ None
+no_kind_no_paths does o i s last none = ap (λ o. audit_from does (option_map (λ k. record { kind = k; instance = i; solution = s }) o) last) none
 
-no_kind_no_list : (o : Option Kind) (l : Text) (last : Option Text) → o ≡ None → list_from o l last ≡ None
-no_kind_no_list o l last none = ap (λ o. list_from o l last) none
+no_kind_no_list : (o : Option Kind) (l : Text) (last : Option Text) → o ≡ None → audits_from o l last ≡ None
+no_kind_no_list o l last none = ap (λ o. audits_from o l last) none
 
-no_kind_no_task : (o : Option Kind) (i : Text) (n s : Option ℕ) (d : Option (Option ℕ)) → o ≡ None → option_map solve (task_from o i n s d) ≡ None
-no_kind_no_task o i n s d none = ap (λ o. option_map solve (task_from o i n s d)) none
+no_kind_no_task : (o : Option Kind) (i : Text) (n s : Option ℕ) (d : Option (Option ℕ)) → o ≡ None → option_map solve (solve_from o i n s d) ≡ None
+no_kind_no_task o i n s d none = ap (λ o. option_map solve (solve_from o i n s d)) none
 
-no_kind_no_tasks : (o : Option Kind) (l : Text) (n s : Option ℕ) → o ≡ None → option_map solves (tasks_from o l n s) ≡ None
-no_kind_no_tasks o l n s none = ap (λ o. option_map solves (tasks_from o l n s)) none
+no_kind_no_tasks : (o : Option Kind) (l : Text) (n s : Option ℕ) → o ≡ None → option_map solves (solves_from o l n s) ≡ None
+no_kind_no_tasks o l n s none = ap (λ o. option_map solves (solves_from o l n s)) none
 
 no_kind_no_load : (w : Text) (o : Option Kind) (i : Text) (s : Option ℕ) → o ≡ None → option_map load (load_from w o i s) ≡ None
 no_kind_no_load w o i s none = ap (λ o. option_map load (load_from w o i s)) none
 
 module _ (Help : Type 0) (names : Bor (List (Bor Text))) (kinds : IsKindNames names) where
-  too_few : (k : Text) (told : Option WordsAsked) → IsJudged Help (or_else (kind_fault names k) missing) None told
-  too_few k told = inr (inl (fault_then (kind_fault names k) missing (kind_mistakes _ k (known_fault names k kinds)) (refl, tt)), refl)
+  too_few : (k : Text) (reported : Option InvocationValue) → IsJudged Help (or_else (kind_fault names k) missing) None reported
+  too_few k reported = inr (inl (fault_then (kind_fault names k) missing (kind_mistakes _ k (known_fault names k kinds)) (refl, tt)), refl)
 
-  still_too_few : (k : Text) (told : Option WordsAsked) → IsJudged Help (or_else (or_else (kind_fault names k) []) missing) None told
-  still_too_few k told = subst (λ (f : Kinds). IsJudged Help (or_else f missing) None told) (sym (or_else-nil (kind_fault names k))) (too_few k told)
+  still_too_few : (k : Text) (reported : Option InvocationValue) → IsJudged Help (or_else (or_else (kind_fault names k) []) missing) None reported
+  still_too_few k reported = subst (λ (f : Kinds). IsJudged Help (or_else f missing) None reported) (sym (or_else-nil (kind_fault names k))) (too_few k reported)
 
-  too_many : (k : Text) (end : Kinds) (told : Option WordsAsked) → IsJudged Help (or_else (or_else (kind_fault names k) (kind.UnknownArgument ∷ [])) end) None told
-  too_many k end told =
+  too_many : (k : Text) (end : Kinds) (reported : Option InvocationValue) → IsJudged Help (or_else (or_else (kind_fault names k) (kind.UnknownArgument ∷ [])) end) None reported
+  too_many k end reported =
       inr (inl (fault_first _ end (fault_then (kind_fault names k) (kind.UnknownArgument ∷ []) (kind_mistakes _ k (known_fault names k kinds)) (refl, tt))), refl)
 
-  enough : (k : Text) (asked told : Option WordsAsked) → (kind_named k ≡ None → asked ≡ None) → asked ≡ told → IsJudged Help (or_else (or_else (kind_fault names k) []) []) asked told
-  enough k asked told none same =
-      judged_kind Help (bytes_eq (codes "lilim") k) (bytes_eq (codes "vrp") k) _ asked told (or_else-nil _ ∙ or_else-nil _ ∙ known_fault names k kinds) none same
+  enough : (k : Text) (asked reported : Option InvocationValue) → (kind_named k ≡ None → asked ≡ None) → asked ≡ reported → IsJudged Help (or_else (or_else (kind_fault names k) []) []) asked reported
+  enough k asked reported none same =
+      judged_kind Help (bytes_eq (codes "lilim") k) (bytes_eq (codes "vrp") k) _ asked reported (or_else-nil _ ∙ or_else-nil _ ∙ known_fault names k kinds) none same
 
-  judged_paths : (does : PathsAsked → Bool → WordsAsked) (name : Text) (words : List Text)
-      → IsJudged Help (leaf_fault (paths_shape name names) words) (judged_asked does words) (judged_in does (leaf_rows (paths_shape name names) words))
+  judged_paths : (does : PathsValue → Bool → InvocationValue) (name : Text) (words : List Text)
+      → IsJudged Help (leaf_fault (paths_shape name names) words) (parsed_audit does words) (audit_in does (leaf_rows (paths_shape name names) words))
   unfolding clap_on_literals
   judged_paths does name [] = inr (inl (refl, tt), refl)
   judged_paths does name (k ∷ []) = too_few k _
@@ -469,7 +470,7 @@ module _ (Help : Type 0) (names : Bor (List (Bor Text))) (kinds : IsKindNames na
   judged_paths does name (k ∷ i ∷ s ∷ r ∷ []) = enough k _ _ (no_kind_no_paths does (kind_named k) i s (Some r)) refl
   judged_paths does name (k ∷ i ∷ s ∷ r ∷ x ∷ rest) = too_many k _ _
 
-  judged_list : (words : List Text) → IsJudged Help (leaf_fault (audits_shape names) words) (list_asked words) (list_in (leaf_rows (audits_shape names) words))
+  judged_list : (words : List Text) → IsJudged Help (leaf_fault (audits_shape names) words) (parsed_audits words) (audits_in (leaf_rows (audits_shape names) words))
   unfolding clap_on_literals
   judged_list [] = inr (inl (refl, tt), refl)
   judged_list (k ∷ []) = too_few k _
@@ -478,7 +479,7 @@ module _ (Help : Type 0) (names : Bor (List (Bor Text))) (kinds : IsKindNames na
   judged_list (k ∷ l ∷ r ∷ x ∷ rest) = too_many k _ _
 
   judged_task : (words : List Text)
-      → IsJudged Help (leaf_fault (solve_shape names) words) (option_map solve (task_asked words)) (option_map solve (task_in (leaf_rows (solve_shape names) words)))
+      → IsJudged Help (leaf_fault (solve_shape names) words) (option_map solve (parsed_solve words)) (option_map solve (solve_in (leaf_rows (solve_shape names) words)))
   unfolding clap_on_literals
   judged_task [] = inr (inl (refl, tt), refl)
   judged_task (k ∷ []) = too_few k _
@@ -489,7 +490,7 @@ module _ (Help : Type 0) (names : Bor (List (Bor Text))) (kinds : IsKindNames na
   judged_task (k ∷ i ∷ n ∷ s ∷ d ∷ x ∷ rest) = too_many k _ _
 
   judged_tasks : (words : List Text)
-      → IsJudged Help (leaf_fault (solves_shape names) words) (option_map solves (tasks_asked words)) (option_map solves (tasks_in (leaf_rows (solves_shape names) words)))
+      → IsJudged Help (leaf_fault (solves_shape names) words) (option_map solves (parsed_solves words)) (option_map solves (solves_in (leaf_rows (solves_shape names) words)))
   unfolding clap_on_literals
   judged_tasks [] = inr (inl (refl, tt), refl)
   judged_tasks (k ∷ []) = too_few k _
@@ -499,7 +500,7 @@ module _ (Help : Type 0) (names : Bor (List (Bor Text))) (kinds : IsKindNames na
   judged_tasks (k ∷ l ∷ n ∷ s ∷ x ∷ rest) = too_many k _ _
 
   judged_load : (words : List Text)
-      → IsJudged Help (leaf_fault (load_shape names) words) (option_map load (load_asked words)) (option_map load (load_in (leaf_rows (load_shape names) words)))
+      → IsJudged Help (leaf_fault (load_shape names) words) (option_map load (parsed_load words)) (option_map load (load_in (leaf_rows (load_shape names) words)))
   unfolding clap_on_literals
   judged_load [] = inr (inl (refl, tt), refl)
   judged_load (w ∷ []) = inr (inl (refl, tt), refl)
@@ -528,7 +529,7 @@ table_shape = built_leaf timetable_app.top
 abbrev draw_shape : Shape
 draw_shape = built_leaf draw_app.top
 
--- the fault of a word that is to be `strict`
+-- the fault of an argument that must be `strict`
 abbrev unless_strict : Bool → Kinds
 unless_strict true = []
 unless_strict false = kind.InvalidValue ∷ []
@@ -550,36 +551,36 @@ judged_mode Help true store faults f = inl (f, refl)
 judged_mode Help false store faults f = inr (inl (subst IsFault (sym f) (refl, tt)), refl)
 
 module _ (Help : Type 0) where
-  judged_store : (does : Text → WordsAsked) (name : Text) (words : List Text)
-      → IsJudged Help (leaf_fault (store_shape name) words) (option_map does (store_asked words)) (option_map does (store_in (leaf_rows (store_shape name) words)))
+  judged_store : (does : Text → InvocationValue) (name : Text) (words : List Text)
+      → IsJudged Help (leaf_fault (store_shape name) words) (option_map does (parsed_store words)) (option_map does (store_in (leaf_rows (store_shape name) words)))
   unfolding clap_on_literals
   judged_store does name [] = inr (inl (refl, tt), refl)
   judged_store does name (w ∷ []) = inl (refl, refl)
   judged_store does name (w ∷ x ∷ rest) = inr (inl (refl, tt), refl)
 
   judged_run : (modes : Bor (List (Bor Text))) → IsModeNames modes → (words : List Text)
-      → IsJudged Help (leaf_fault (run_shape modes) words) (run_asked words) (run_in (leaf_rows (run_shape modes) words))
+      → IsJudged Help (leaf_fault (run_shape modes) words) (parsed_run words) (run_in (leaf_rows (run_shape modes) words))
   unfolding clap_on_literals
   judged_run modes named [] = inr (inl (refl, tt), refl)
   judged_run modes named (w ∷ []) = inl (refl, refl)
   judged_run modes named (w ∷ m ∷ []) = judged_mode Help (bytes_eq (codes "strict") m) w _ (or_else-nil _ ∙ known_mode modes m named)
   judged_run modes named (w ∷ m ∷ x ∷ rest) = inr (inl (refl, tt), refl)
 
-  judged_adopt : (words : List Text) → IsJudged Help (leaf_fault adopt_shape words) (adopt_asked words) (adopt_in (leaf_rows adopt_shape words))
+  judged_adopt : (words : List Text) → IsJudged Help (leaf_fault adopt_shape words) (parsed_adopt words) (adopt_in (leaf_rows adopt_shape words))
   unfolding clap_on_literals
   judged_adopt [] = inr (inl (refl, tt), refl)
   judged_adopt (store ∷ []) = inr (inl (refl, tt), refl)
   judged_adopt (store ∷ solution ∷ []) = inl (refl, refl)
   judged_adopt (store ∷ solution ∷ x ∷ rest) = inr (inl (refl, tt), refl)
 
-  judged_upgrade : (words : List Text) → IsJudged Help (leaf_fault upgrade_shape words) (upgrade_asked words) (upgrade_in (leaf_rows upgrade_shape words))
+  judged_upgrade : (words : List Text) → IsJudged Help (leaf_fault upgrade_shape words) (parsed_upgrade words) (upgrade_in (leaf_rows upgrade_shape words))
   unfolding clap_on_literals
   judged_upgrade [] = inr (inl (refl, tt), refl)
   judged_upgrade (old ∷ []) = inr (inl (refl, tt), refl)
   judged_upgrade (old ∷ new ∷ []) = inl (refl, refl)
   judged_upgrade (old ∷ new ∷ x ∷ rest) = inr (inl (refl, tt), refl)
 
-  judged_table : (words : List Text) → IsJudged Help (leaf_fault table_shape words) (timetable_asked words) (timetable_in (leaf_rows table_shape words))
+  judged_table : (words : List Text) → IsJudged Help (leaf_fault table_shape words) (parsed_timetable words) (timetable_in (leaf_rows table_shape words))
   unfolding clap_on_literals
   judged_table [] = inr (inl (refl, tt), refl)
   judged_table (a ∷ []) = inl (refl, refl)
@@ -588,7 +589,7 @@ module _ (Help : Type 0) where
   judged_table (a ∷ b ∷ c ∷ d ∷ []) = inl (refl, refl)
   judged_table (a ∷ b ∷ c ∷ d ∷ x ∷ rest) = inr (inl (refl, tt), refl)
 
-  judged_draw : (words : List Text) → IsJudged Help (leaf_fault draw_shape words) (draw_asked words) (draw_in (leaf_rows draw_shape words))
+  judged_draw : (words : List Text) → IsJudged Help (leaf_fault draw_shape words) (parsed_draw words) (draw_in (leaf_rows draw_shape words))
   unfolding clap_on_literals
   judged_draw [] = inr (inl (refl, tt), refl)
   judged_draw (a ∷ []) = inl (refl, refl)
@@ -599,7 +600,7 @@ module _ (Help : Type 0) where
 
 -- ---- the subcommands
 
--- the first word is a subcommand, `help`, or a word too many
+-- the first argument is a subcommand, `help`, or one that is not expected
 abbrev stop_in : Bor (List (Bor Text)) → Bor (List (Bor Text)) → List Text → Option (Text × List Row)
 stop_in names modes words = entered (the_app names modes) (stop_after (the_app names modes).top.rules (names_of (the_app names modes)) words)
 
@@ -627,7 +628,7 @@ module _ (names modes : Bor (List (Bor Text))) (name : Text) (s : Shape) (named 
   no_walk_fault =
       ap₂ {C = Kinds} or_else name_turn (ap (λ (w : Walk). walk_fault app.top (names_of app) w words) name_walked ∙ stopped_fault app.top (names_of app) name [] words)
 
-  -- the words behind it are those of the subcommand alone
+  -- after the subcommand's name, the fault is that of the subcommand with the remaining arguments
   named_fault : built_fault app nothing_held (name ∷ words) ≡ level_fault s [] nothing_held words false []
   unfolding clap_on_literals
   named_fault =
@@ -637,17 +638,17 @@ module _ (names modes : Bor (List (Bor Text))) (name : Text) (s : Shape) (named 
       no_walk_fault words_walked
       ∙ rw named.1 (or_else-nil (level_fault s [] nothing_held words false []))
 
-  named_stop : told_of (stop_in names modes (name ∷ words)) ≡ told_by s.name (rows_at s words).1
-  named_stop = ap (λ (w : Walk). told_of (entered app w.stopped)) words_walked ∙ rw named.1 refl
+  named_stop : matched_invocation (stop_in names modes (name ∷ words)) ≡ matched_command s.name (rows_at s words).1
+  named_stop = ap (λ (w : Walk). matched_invocation (entered app w.stopped)) words_walked ∙ rw named.1 refl
 
-  -- and they are judged by its walk over values
-  judged_named : (Help : Type 0) (w : Text) (asked : Option WordsAsked) → take_one_each s.rules ≡ true → ArePositional words → name ≡ w
-      → IsJudged Help (leaf_fault s words) asked (told_by s.name (leaf_rows s words)) → IsJudged Help (built_fault app nothing_held (w ∷ words)) asked (told_of (stop_in names modes (w ∷ words)))
+  -- the arguments are valid if those of the subcommand are
+  judged_named : (Help : Type 0) (w : Text) (asked : Option InvocationValue) → take_one_each s.rules ≡ true → ArePositional words → name ≡ w
+      → IsJudged Help (leaf_fault s words) asked (matched_command s.name (leaf_rows s words)) → IsJudged Help (built_fault app nothing_held (w ∷ words)) asked (matched_invocation (stop_in names modes (w ∷ words)))
   judged_named Help w asked one p is judged =
-      subst (λ (v : Text). IsJudged Help (built_fault app nothing_held (v ∷ words)) asked (told_of (stop_in names modes (v ∷ words)))) is
-      (subst (λ (f : Kinds). IsJudged Help f asked (told_of (stop_in names modes (name ∷ words)))) (sym named_fault)
-      (subst (λ (t : Option WordsAsked). IsJudged Help (level_fault s [] nothing_held words false []) asked t) (sym named_stop)
-      (judged_leaf Help s one words p asked (told_by s.name) judged)))
+      subst (λ (v : Text). IsJudged Help (built_fault app nothing_held (v ∷ words)) asked (matched_invocation (stop_in names modes (v ∷ words)))) is
+      (subst (λ (f : Kinds). IsJudged Help f asked (matched_invocation (stop_in names modes (name ∷ words)))) (sym named_fault)
+      (subst (λ (t : Option InvocationValue). IsJudged Help (level_fault s [] nothing_held words false []) asked t) (sym named_stop)
+      (judged_leaf Help s one words p asked (matched_command s.name) judged)))
 
 help_fault : (names modes : Bor (List (Bor Text))) (words : List Text) → IsSomeKind (built_fault (the_app names modes) nothing_held (codes "help" ∷ words))
 unfolding clap_on_literals
@@ -659,7 +660,7 @@ all_names =
     (codes "solves", []) ∷ (codes "format", []) ∷ (codes "load", []) ∷ (codes "run", []) ∷ (codes "adopt", []) ∷ (codes "instance", []) ∷
     (codes "check", []) ∷ (codes "upgrade", []) ∷ (codes "help", []) ∷ []
 
--- the word is no subcommand's name
+-- the argument is not the name of a subcommand
 record IsOther (w : Text) : Type 0 where
   positional : is_positional_word w ≡ true
   no_audit : bytes_eq (codes "audit") w ≡ false
@@ -711,8 +712,8 @@ judged_other names modes w words true h o =
     inr (h, subst (λ (v : Text). IsSomeKind (built_fault (the_app names modes) nothing_held (v ∷ words))) is (help_fault names modes words))
 judged_other names modes w words false h o = inl (fault_first _ _ (stray_first names modes w words o h))
 
--- what is asked for by a name, and what by another word
-by_name : (P : Option WordsAsked → Type 0) (name w : Text) (this other : Option WordsAsked) → (name ≡ w → P this) → (bytes_eq name w ≡ false → P other) → P (if bytes_eq name w then this else other)
+-- a property of the meaning holds if it holds both when the argument is this name and when it is another
+by_name : (P : Option InvocationValue → Type 0) (name w : Text) (this other : Option InvocationValue) → (name ≡ w → P this) → (bytes_eq name w ≡ false → P other) → P (if bytes_eq name w then this else other)
 by_name P name w this other here there = by (bytes_eq name w) refl
   where
     by : (b : Bool) → bytes_eq name w ≡ b → P (if b then this else other)
@@ -723,14 +724,14 @@ module _ (names modes : Bor (List (Bor Text))) (kinds : IsKindNames names) (know
   abbrev AsksHelp : Type 0
   AsksHelp = asks_help (w ∷ words) ≡ true
 
-  abbrev Judged : Option WordsAsked → Type 0
-  Judged asked = IsJudged AsksHelp (built_fault (the_app names modes) nothing_held (w ∷ words)) asked (told_of (stop_in names modes (w ∷ words)))
+  abbrev Judged : Option InvocationValue → Type 0
+  Judged asked = IsJudged AsksHelp (built_fault (the_app names modes) nothing_held (w ∷ words)) asked (matched_invocation (stop_in names modes (w ∷ words)))
 
-  of_command : (name : Text) (s : Shape) (asked : Option WordsAsked) → IsNamed (the_app names modes) name s → take_one_each s.rules ≡ true
-      → IsJudged AsksHelp (leaf_fault s words) asked (told_by s.name (leaf_rows s words)) → name ≡ w → Judged asked
+  of_command : (name : Text) (s : Shape) (asked : Option InvocationValue) → IsNamed (the_app names modes) name s → take_one_each s.rules ≡ true
+      → IsJudged AsksHelp (leaf_fault s words) asked (matched_command s.name (leaf_rows s words)) → name ≡ w → Judged asked
   of_command name s asked named one judged is = judged_named names modes name s named words AsksHelp w asked one (both_true (is_positional_word w) _ positional).1 is judged
 
-  judged_first : Judged (asked_with words w)
+  judged_first : Judged (parsed_command words w)
   judged_first =
       by_name Judged (codes "audit") w _ _ (of_command (codes "audit") (paths_shape (codes "audit") names) _ (refl, refl, refl) refl
       (judged_paths AsksHelp names kinds audit (codes "audit") words)) (λ no_audit.
@@ -770,13 +771,13 @@ module _ (names modes : Bor (List (Bor Text))) (kinds : IsKindNames names) (know
         refl,
       )))))))))))))))
 
--- the parse of words that do not begin with a hyphen
+-- parsing arguments that do not begin with a hyphen
 pub judged_words : (names modes : Bor (List (Bor Text))) (words : List Text) → IsKindNames names → IsModeNames modes → ArePositional words
-    → IsJudged (asks_help words ≡ true) (built_fault (the_app names modes) nothing_held words) (asked_by words) (told_of (stop_in names modes words))
+    → IsJudged (asks_help words ≡ true) (built_fault (the_app names modes) nothing_held words) (parsed_words words) (matched_invocation (stop_in names modes words))
 judged_words names modes [] kinds known p = inl (no_words names modes, refl)
 judged_words names modes (w ∷ words) kinds known p = judged_first names modes kinds known w words p
 
--- ---- the values of words
+-- ---- the values of arguments
 
 pub value_is : (f : Found) (id : Text) (o : Option Text) → o ≡ first_value f id → first_of id (rows_of f) ≡ o
 value_is f id o e = sym (e ∙ first_value-rows f id)
@@ -790,12 +791,12 @@ is_not false n = refl
 other_name : (name w : Text) → (w ≡ name → ⊥) → bytes_eq name w ≡ false
 other_name name w n = is_not (bytes_eq name w) (λ e. n (sym ((bytes_eq-Decides name w).0 e)))
 
-pub told_other : (w : Text) (rows : List Row) → (w ≡ codes "audit" → ⊥) → (w ≡ codes "explain" → ⊥) → told_by w rows ≡ told_by_other w rows
-told_other w rows a e = rw (other_name (codes "audit") w a, other_name (codes "explain") w e) refl
+pub reported_other : (w : Text) (rows : List Row) → (w ≡ codes "audit" → ⊥) → (w ≡ codes "explain" → ⊥) → matched_command w rows ≡ matched_other_command w rows
+reported_other w rows a e = rw (other_name (codes "audit") w a, other_name (codes "explain") w e) refl
 
-pub told_store : (w : Text) (rows : List Row) → (w ≡ codes "audits" → ⊥) → (w ≡ codes "solve" → ⊥) → (w ≡ codes "solves" → ⊥) → (w ≡ codes "draw" → ⊥)
-    → (w ≡ codes "timetable" → ⊥) → told_by_other w rows ≡ told_of_store w rows
-told_store w rows a s ss d t = rw (
+pub reported_store : (w : Text) (rows : List Row) → (w ≡ codes "audits" → ⊥) → (w ≡ codes "solve" → ⊥) → (w ≡ codes "solves" → ⊥) → (w ≡ codes "draw" → ⊥)
+    → (w ≡ codes "timetable" → ⊥) → matched_other_command w rows ≡ matched_store_command w rows
+reported_store w rows a s ss d t = rw (
   other_name (codes "audits") w a,
   other_name (codes "solve") w s,
   other_name (codes "solves") w ss,
@@ -804,9 +805,9 @@ told_store w rows a s ss d t = rw (
   other_name (codes "timetable") w t,
 ) refl
 
-pub told_run : (w : Text) (rows : List Row) → (w ≡ codes "format" → ⊥) → (w ≡ codes "load" → ⊥) → (w ≡ codes "adopt" → ⊥) → (w ≡ codes "instance" → ⊥)
-    → (w ≡ codes "check" → ⊥) → (w ≡ codes "upgrade" → ⊥) → told_of_store w rows ≡ run_in rows
-told_run w rows f l a i c u =
+pub reported_run : (w : Text) (rows : List Row) → (w ≡ codes "format" → ⊥) → (w ≡ codes "load" → ⊥) → (w ≡ codes "adopt" → ⊥) → (w ≡ codes "instance" → ⊥)
+    → (w ≡ codes "check" → ⊥) → (w ≡ codes "upgrade" → ⊥) → matched_store_command w rows ≡ run_in rows
+reported_run w rows f l a i c u =
     rw (
       other_name (codes "format") w f,
       other_name (codes "load") w l,
@@ -829,13 +830,13 @@ pub is_simple_command : (command : Command) → IsPlannerCommand command → is_
 is_simple_command command h = ap is_simple_and_free h.app ∙ simple_app h.names h.mode_names
 
 judged_app : (names modes : Bor (List (Bor Text))) (texts : List Text) → IsKindNames names → IsModeNames modes → ArePositional (drop 1 texts)
-    → IsJudged (asks_help (drop 1 texts) ≡ true) (fault_of (planner_app names modes) texts) (asked_by (drop 1 texts)) (told_of (subcommand_of (planner_app names modes) texts))
+    → IsJudged (asks_help (drop 1 texts) ≡ true) (fault_of (planner_app names modes) texts) (parsed_words (drop 1 texts)) (matched_invocation (subcommand_of (planner_app names modes) texts))
 judged_app names modes texts kinds named p = judged_words names modes (drop 1 texts) kinds named p
 
 pub judged : (command : Command) (texts : List Text) → IsPlannerCommand command → ArePositional (drop 1 texts)
-    → IsJudged (asks_help (drop 1 texts) ≡ true) (fault_of (app_of command) texts) (asked_by (drop 1 texts)) (told_of (subcommand_of (app_of command) texts))
+    → IsJudged (asks_help (drop 1 texts) ≡ true) (fault_of (app_of command) texts) (parsed_words (drop 1 texts)) (matched_invocation (subcommand_of (app_of command) texts))
 judged command texts h p =
-    subst (λ (a : App). IsJudged (asks_help (drop 1 texts) ≡ true) (fault_of a texts) (asked_by (drop 1 texts)) (told_of (subcommand_of a texts))) (sym h.app)
+    subst (λ (a : App). IsJudged (asks_help (drop 1 texts) ≡ true) (fault_of a texts) (parsed_words (drop 1 texts)) (matched_invocation (subcommand_of a texts))) (sym h.app)
     (judged_app h.names h.mode_names texts h.kinds h.modes p)
 
 mistakes : (faults : Kinds) → IsFault faults → AreMistakes faults
@@ -847,11 +848,11 @@ mistake_among k [] h a = absurd a
 mistake_among k (x ∷ xs) h (inl e) = ap usage_status_of e ∙ h.0
 mistake_among k (x ∷ xs) h (inr a) = mistake_among k xs h.1 a
 
-pub refused : (words : List Text) (faults : Kinds) (told : Option WordsAsked) (e : Error) → IsJudged (asks_help words ≡ true) faults (asked_by words) told → HasKind faults e → IsRefusal words e
-refused words faults told e (inl passed) has =
+pub refused : (words : List Text) (faults : Kinds) (reported : Option InvocationValue) (e : Error) → IsJudged (asks_help words ≡ true) faults (parsed_words words) reported → HasKind faults e → IsRefusal words e
+refused words faults reported e (inl passed) has =
     let in_none : HasKind [] e = subst (λ (f : Kinds). HasKind f e) passed.0 has in
     elim in_none [ inl m ↦ inl m | inr none ↦ absurd none ]
-refused words faults told e (inr failing) has =
+refused words faults reported e (inr failing) has =
     elim has [
       | inl m ↦ inl m
       | inr among ↦ inr (
@@ -866,28 +867,28 @@ refused words faults told e (inr failing) has =
 nothing_failed : (faults : Kinds) → faults ≡ [] → IsSomeKind faults → ⊥
 nothing_failed faults none h = subst IsSomeKind none h
 
-pub accepted : (Help : Type 0) (faults : Kinds) (asked told : Option WordsAsked) → IsJudged Help faults asked told → faults ≡ [] → asked ≡ told
-accepted Help faults asked told (inl passed) none = passed.1
-accepted Help faults asked told (inr failing) none =
+pub accepted : (Help : Type 0) (faults : Kinds) (asked reported : Option InvocationValue) → IsJudged Help faults asked reported → faults ≡ [] → asked ≡ reported
+accepted Help faults asked reported (inl passed) none = passed.1
+accepted Help faults asked reported (inr failing) none =
     elim failing.0 [ inl fault ↦ absurd (subst IsFault none fault) | inr help ↦ absurd (nothing_failed faults none help.1) ]
 
--- what a parse that gives matches says of the words
+-- if the parse returns matches, they mean what the arguments mean
 pub parsed : (command : Command) (texts : List Text) (m : ArgMatches) → IsPlannerCommand command → ArePositional (drop 1 texts)
     → (is_simple_and_free (app_of command) ≡ true → fault_of (app_of command) texts ≡ [])
-    → HasMatchesOf (app_of command) texts m → asked_by (drop 1 texts) ≡ told_of (subcommand_rows_of m)
+    → HasMatchesOf (app_of command) texts m → parsed_words (drop 1 texts) ≡ matched_invocation (subcommand_rows_of m)
 parsed command texts m h p no_fault matches =
-    accepted _ _ _ _ (judged command texts h p) (no_fault (is_simple_command command h)) ∙ ap told_of (sym (matches (ap is_simple h.app ∙ is_simple_app h.names h.mode_names)).1)
+    accepted _ _ _ _ (judged command texts h p) (no_fault (is_simple_command command h)) ∙ ap matched_invocation (sym (matches (ap is_simple h.app ∙ is_simple_app h.names h.mode_names)).1)
 
--- `?` passes the error up as it is
+-- `?` returns the error unchanged
 pub passed_up : (words : List Text) (r : Result Invocation Error) (e : Error) → IsErrAnd r (λ y. y ≡ e) → IsRefusal words e → ReadsWords words r
 passed_up words (Ok x) e is h = absurd is
 passed_up words (Err y) e is h = subst (λ (z : Error). IsRefusal words z) (sym is) h
 
--- what is read of the matches is what is read of the words that they are of
-pub read_of : (words : List Text) (told : Option WordsAsked) (r : Result Invocation Error) → asked_by words ≡ told → ReadsMatches told r → ReadsWords words r
-read_of words told (Ok invocation) same read = same ∙ read
-read_of words told (Err error) same (inl memory) = inl memory
-read_of words told (Err error) same (inr refused) = inr (same ∙ refused.0, inr refused.1)
+-- the matches are read as the invocation that the arguments mean
+pub read_of : (words : List Text) (reported : Option InvocationValue) (r : Result Invocation Error) → parsed_words words ≡ reported → ReadsMatches reported r → ReadsWords words r
+read_of words reported (Ok invocation) same read = same ∙ read
+read_of words reported (Err error) same (inl memory) = inl memory
+read_of words reported (Err error) same (inr refused) = inr (same ∙ refused.0, inr refused.1)
 
 -- ---- the subcommand's name and its rows
 
@@ -902,7 +903,7 @@ paired (Some b) f g n r en er =
     let e' : g b ≡ r = cc in
     rw (e, e') refl
 
-pub told_name : (m : ArgMatches) (n : Text) (r : List Row) → Some n ≡ subcommand_name_of m
-    → Some r ≡ option_map (λ (p : Text × List Row). p.1) (subcommand_rows_of m) → told_by n r ≡ told_of (subcommand_rows_of m)
-told_name m n r en er =
-    sym (ap told_of (paired (out-ArgMatches m).subcommand (λ b. (out-SubCommand (box_value b)).name.now) (λ b. rows_of (found_of (out-SubCommand (box_value b)).matches)) n r en er))
+pub reported_name : (m : ArgMatches) (n : Text) (r : List Row) → Some n ≡ subcommand_name_of m
+    → Some r ≡ option_map (λ (p : Text × List Row). p.1) (subcommand_rows_of m) → matched_command n r ≡ matched_invocation (subcommand_rows_of m)
+reported_name m n r en er =
+    sym (ap matched_invocation (paired (out-ArgMatches m).subcommand (λ b. (out-SubCommand (box_value b)).name.now) (λ b. rows_of (found_of (out-SubCommand (box_value b)).matches)) n r en er))

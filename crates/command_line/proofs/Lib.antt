@@ -1,2 +1,2 @@
--- The lemma file, which upper crates may cite.
+-- The lemma file, which crates above may cite.
 pub mod CommandLemmas

@@ -1,4 +1,4 @@
--- The command of the program, as its parser sees it.
+-- The program's command, as `clap` parses it.
 use Rattle.std.specs.Prelude.{◌≡◌, List, [], ◌∷◌, codes, Some, true, false, map}
 use Rattle.std.specs.Borrow.{Bor}
 use Rattle.clap.specs.Words.{App, Rule, Text, app_of, new_app, new_rule, rule_of, with_rule, with_subcommand}
@@ -8,81 +8,82 @@ use Rattle.clap.specs.declared.builder.Command.{Command}
 use Rattle.clap.specs.declared.builder.Command.TheViews.{out-Command}
 use Rattle.clap.specs.declared.builder.value_parser.ValueParser.TheVariants.{Names}
 
--- a word that has to stand there
-abbrev pub word_rule : Text → Rule
-word_rule id = record (new_rule id) { required = true }
+-- A required argument.
+abbrev pub required_rule : Text → Rule
+required_rule id = record (new_rule id) { required = true }
 
 abbrev pub kind_rule : Bor (List (Bor Text)) → Rule
-kind_rule names = record (word_rule (codes "KIND")) { parser = Some (Names names) }
+kind_rule names = record (required_rule (codes "KIND")) { parser = Some (Names names) }
 
--- A command of this name whose first word is KIND, one of the names.
+-- A command with this name whose first argument is KIND, one of the names.
 abbrev pub kind_app : Text → Bor (List (Bor Text)) → App
 kind_app name names = with_rule (new_app name) (kind_rule names)
 
--- `KIND INSTANCE SOLUTION [routes]`
+-- `KIND INSTANCE SOLUTION [routes]`.
 abbrev pub paths_app : Text → Bor (List (Bor Text)) → App
 paths_app name names =
-    let solution = with_rule (with_rule (kind_app name names) (word_rule (codes "INSTANCE"))) (word_rule (codes "SOLUTION")) in
+    let solution = with_rule (with_rule (kind_app name names) (required_rule (codes "INSTANCE"))) (required_rule (codes "SOLUTION")) in
     with_rule solution (new_rule (codes "routes"))
 
--- `audits KIND LIST [routes]`
+-- `audits KIND LIST [routes]`.
 abbrev pub audits_app : Bor (List (Bor Text)) → App
-audits_app names = with_rule (with_rule (kind_app (codes "audits") names) (word_rule (codes "LIST"))) (new_rule (codes "routes"))
+audits_app names = with_rule (with_rule (kind_app (codes "audits") names) (required_rule (codes "LIST"))) (new_rule (codes "routes"))
 
--- `solve KIND INSTANCE STEPS [SEED [DEVIATION]]`
+-- `solve KIND INSTANCE STEPS [SEED [DEVIATION]]`.
 abbrev pub solve_app : Bor (List (Bor Text)) → App
 solve_app names =
-    let steps = with_rule (with_rule (kind_app (codes "solve") names) (word_rule (codes "INSTANCE"))) (word_rule (codes "STEPS")) in
+    let steps = with_rule (with_rule (kind_app (codes "solve") names) (required_rule (codes "INSTANCE"))) (required_rule (codes "STEPS")) in
     with_rule (with_rule steps (new_rule (codes "SEED"))) (new_rule (codes "DEVIATION"))
 
--- `solves KIND LIST STEPS [SEED]`
+-- `solves KIND LIST STEPS [SEED]`.
 abbrev pub solves_app : Bor (List (Bor Text)) → App
 solves_app names =
-    let steps = with_rule (with_rule (kind_app (codes "solves") names) (word_rule (codes "LIST"))) (word_rule (codes "STEPS")) in
+    let steps = with_rule (with_rule (kind_app (codes "solves") names) (required_rule (codes "LIST"))) (required_rule (codes "STEPS")) in
     with_rule steps (new_rule (codes "SEED"))
 
--- a command of this name with the word `STORE`
+-- A command with this name and the argument `STORE`.
 abbrev pub store_app : Text → App
-store_app name = with_rule (new_app name) (word_rule (codes "STORE"))
+store_app name = with_rule (new_app name) (required_rule (codes "STORE"))
 
--- a word that may be left out, and is one of the names
+-- An optional argument that is one of the names.
 abbrev pub mode_rule : Bor (List (Bor Text)) → Rule
 mode_rule modes = record (new_rule (codes "strict")) { parser = Some (Names modes) }
 
--- `run STORE [strict]`
+-- `run STORE [strict]`.
 abbrev pub run_app : Bor (List (Bor Text)) → App
-run_app modes = with_rule (with_rule (new_app (codes "run")) (word_rule (codes "STORE"))) (mode_rule modes)
+run_app modes = with_rule (with_rule (new_app (codes "run")) (required_rule (codes "STORE"))) (mode_rule modes)
 
--- `load STORE KIND INSTANCE [SEED]`
+-- `load STORE KIND INSTANCE [SEED]`.
 abbrev pub load_app : Bor (List (Bor Text)) → App
 load_app names =
-    with_rule (with_rule (with_rule (with_rule (new_app (codes "load")) (word_rule (codes "STORE"))) (kind_rule names)) (word_rule (codes "INSTANCE"))) (new_rule (codes "SEED"))
+    with_rule (with_rule (with_rule (with_rule (new_app (codes "load")) (required_rule (codes "STORE"))) (kind_rule names)) (required_rule (codes "INSTANCE"))) (new_rule (codes "SEED"))
 
--- `adopt STORE SOLUTION`
+-- `adopt STORE SOLUTION`.
 abbrev pub adopt_app : App
-adopt_app = with_rule (with_rule (new_app (codes "adopt")) (word_rule (codes "STORE"))) (word_rule (codes "SOLUTION"))
+adopt_app = with_rule (with_rule (new_app (codes "adopt")) (required_rule (codes "STORE"))) (required_rule (codes "SOLUTION"))
 
--- `upgrade OLD NEW`
+-- `upgrade OLD NEW`.
 abbrev pub upgrade_app : App
-upgrade_app = with_rule (with_rule (new_app (codes "upgrade")) (word_rule (codes "OLD"))) (word_rule (codes "NEW"))
+upgrade_app = with_rule (with_rule (new_app (codes "upgrade")) (required_rule (codes "OLD"))) (required_rule (codes "NEW"))
 
--- with the words that name a store or a solution: `STORE|KIND`, a second one, `SOLUTION` and a last one
+-- A command with the arguments that name a store or a solution: `STORE|KIND`, the given second one, `SOLUTION`,
+-- and the given last one.
 abbrev pub with_plan_rules : App → Rule → Rule → App
-with_plan_rules a second last = with_rule (with_rule (with_rule (with_rule a (word_rule (codes "STORE|KIND"))) second) (new_rule (codes "SOLUTION"))) last
+with_plan_rules a second last = with_rule (with_rule (with_rule (with_rule a (required_rule (codes "STORE|KIND"))) second) (new_rule (codes "SOLUTION"))) last
 
--- `timetable STORE [tabs]` or `timetable KIND INSTANCE SOLUTION [tabs]`
+-- `timetable STORE [tabs]` or `timetable KIND INSTANCE SOLUTION [tabs]`.
 abbrev pub timetable_app : App
 timetable_app = with_plan_rules (new_app (codes "timetable")) (new_rule (codes "tabs|INSTANCE")) (new_rule (codes "tabs"))
 
--- `draw STORE [ROUTE]` or `draw KIND INSTANCE SOLUTION [ROUTE]`
+-- `draw STORE [ROUTE]` or `draw KIND INSTANCE SOLUTION [ROUTE]`.
 abbrev pub draw_app : App
 draw_app = with_plan_rules (new_app (codes "draw")) (new_rule (codes "ROUTE|INSTANCE")) (new_rule (codes "ROUTE"))
 
--- a command that tells its version
+-- A command with a version.
 abbrev pub versioned_app : Text → App
 versioned_app name = on_top (λ s. record s { has_version = true }) (new_app name)
 
--- with the commands that take a solution
+-- A command with the subcommands that take a solution.
 abbrev pub with_solution_apps : Bor (List (Bor Text)) → App → App
 with_solution_apps names above =
     let audit = with_subcommand above (paths_app (codes "audit") names).top in
@@ -90,11 +91,11 @@ with_solution_apps names above =
     let explain = with_subcommand audits (paths_app (codes "explain") names).top in
     with_subcommand (with_subcommand explain timetable_app.top) draw_app.top
 
--- with the commands that make one
+-- A command with the subcommands that make a solution.
 abbrev pub with_search_apps : Bor (List (Bor Text)) → App → App
 with_search_apps names above = with_subcommand (with_subcommand above (solve_app names).top) (solves_app names).top
 
--- with the commands that make or change a store
+-- A command with the subcommands that make, change or read a store.
 abbrev pub with_store_apps : Bor (List (Bor Text)) → Bor (List (Bor Text)) → App → App
 with_store_apps names modes above =
     let load = with_subcommand (with_subcommand above (store_app (codes "format")).top) (load_app names).top in
@@ -102,7 +103,7 @@ with_store_apps names modes above =
     let instance = with_subcommand adopt (store_app (codes "instance")).top in
     with_subcommand (with_subcommand instance (store_app (codes "check")).top) upgrade_app.top
 
--- one level of subcommands
+-- The program's command, with one level of subcommands.
 abbrev pub planner_app : Bor (List (Bor Text)) → Bor (List (Bor Text)) → App
 planner_app names modes =
     with_store_apps names modes (with_search_apps names (with_solution_apps names (versioned_app (codes "planner"))))
@@ -119,12 +120,12 @@ mode_words = codes "strict" ∷ []
 abbrev pub IsModeNames : Bor (List (Bor Text)) → Type 0
 IsModeNames modes = map (λ name. name.now) modes.now ≡ mode_words
 
--- the argument is this word, and of this command alone
-pub record IsWord (r : Rule) (arg : Arg) : Type 0 where
+-- The argument has this rule, and belongs to this command only.
+pub record IsArg (r : Rule) (arg : Arg) : Type 0 where
   pub rule : rule_of arg ≡ r
   pub local : arg.global ≡ false
 
--- the command is this one, with no subcommand
+-- The command has this definition and no subcommands.
 pub record IsLeafCommand (a : App) (command : Command) : Type 0 where
   pub app : app_of command ≡ a
   pub local : (out-Command command).has_globals ≡ false

@@ -1,4 +1,4 @@
--- what public contracts reach
-pub mod Asked
--- of private functions alone
+-- Definitions in public contracts.
+pub mod Invocations
+-- Definitions in the contracts of private functions.
 pub mod CommandLine

@@ -1,30 +1,27 @@
-//! The words of the command line: what they ask for, and what help says of them.
+//! The program's command line: its arguments, their meaning, and the help texts.
 //!
-//! Entry function: `read_words`, called by `planner_cli` and `auditor_cli`. It stands below all that searches and stores, and waits for
-//! none of it.
+//! The entry point is `parse_arguments`; `planner_cli` and `auditor_cli` call it. The crate is below all crates
+//! that search or store, so building it waits for none of them.
+//!
+//! `clap` splits the arguments and prints help and usage errors. This crate defines the commands for `clap`,
+//! and reads the kinds of instance and the numbers in the arguments that `clap` accepts.
 //!
 //! Source: this project's own; the parser is `clap`.
 //!
-//! How it works: `clap` cuts the words, tells help and mistakes; of what it lets pass, kinds, steps and seeds are
-//! read here.
-//!
 //! Modules, in reading order:
-//! - `words`: `Invocation`, what words ask for, and `read_words`
-//! - `commands`: what `clap` is told of the words
-//! - `matches`: what the words that it matched ask for
-//! - `help`: what the program says of itself
+//! - `arguments`: `Invocation`, the parsed command line, and `parse_arguments`
+//! - `commands`: the definition of the commands for `clap`
+//! - `matches`: from the matched arguments to the invocation
+//! - `help`: the help texts
 //!
-//! Said by `specs/Asked.antt`. Proved of `read_words`, where no word but `-` begins with a hyphen
-//! (`ArePositional`): what the words ask for comes (`asked_by`); an error, other than for want of memory, only
-//! where they ask for nothing, and it is told as a mistake but where they ask for help (`ReadsWords`).
-//!
-//! `read_words` and `Invocation` are public since what words ask for is said there; `run_words` of `planner_cli` says what is
-//! then done.
+//! Proved, if no argument except `-` begins with a hyphen (`ArePositional`): `parse_arguments` returns the
+//! invocation that the arguments mean (`parsed_words`). An error other than out of memory occurs only if the
+//! arguments have no meaning. It has the status of a usage error, unless they request help (`ReadsWords`).
 #![tactic(auto)]
 
+mod arguments;
 mod commands;
 mod help;
 mod matches;
-mod words;
 
-pub use words::{Invocation, Loading, Paths, Solving, SolvingList, read_words};
+pub use arguments::{Invocation, LoadArgs, Paths, SolveArgs, SolvesArgs, parse_arguments};

@@ -1,29 +1,29 @@
--- An input is cut at its first line feed, and goes on behind the bytes that the line announces.
+-- An input is cut at its first line feed, and continues after the bytes that the line announces.
 use Rattle.std.proofs.Common.{◌≡◌, ◌∙◌, ℕ, zero, suc, ◌+◌, ◌<◌, Bool, true, false, not, cond, if◌then◌else◌, List, [], ◌∷◌, ◌++◌, length, take, drop, get_or, refl, sym, ap, arith}
 use Rattle.std.specs.Str.Lines.{strip_carriage_return}
 use Rattle.std.proofs.lemmas.Bool.{ne_eqb}
 use Rattle.std.proofs.lemmas.List.{drop_all, take_all, get_or_default}
 use Rattle.std.proofs.Math.Seq.{drop-append-add, take-append_seam}
-use Rattle.text_lines.specs.Lines.{HasNoFeed}
-use Rattle.command_text.specs.Asking.{asked}
-use Rattle.command_text.specs.Cutting.{Piece, announced, asked_first, ends, first_piece, line_len, pieces_behind, pieces_of}
+use Rattle.text_lines.specs.Lines.{HasNoLineFeed}
+use Rattle.command_text.specs.Parsing.{requested}
+use Rattle.command_text.specs.Cutting.{Piece, announced, requested_first, ends, first_piece, line_len, pieces_after, pieces_of}
 use Rattle.command_text.specs.Laws.{PiecesEnd, PiecesFollow, cut_at, piece_at}
 
 pub none : pieces_of [] ≡ []
-unfolding pieces_behind
+unfolding pieces_after
 none = refl
 
-skip : (k : ℕ) (text : List ℕ) → pieces_behind k text ≡ pieces_of (drop k text)
-unfolding pieces_behind
+skip : (k : ℕ) (text : List ℕ) → pieces_after k text ≡ pieces_of (drop k text)
+unfolding pieces_after
 skip zero [] = refl
 skip (suc k) [] = refl
 skip zero (b ∷ bs) = refl
 skip (suc k) (b ∷ bs) = skip k bs
 
--- the first line has so many bytes
+-- the pieces of a text whose first line has `len` bytes
 abbrev cut_by : ℕ → List ℕ → List Piece
 cut_by len text =
-    let a = asked (strip_carriage_return (take len text)) in
+    let a = requested (strip_carriage_return (take len text)) in
     let p = piece_at a (drop (len + 1) text) in
     p ∷ (if ends p then [] else pieces_of (drop (len + 1 + announced a) text))
 
@@ -31,32 +31,32 @@ one_more : (n m : ℕ) → n + 1 + m ≡ suc (n + m)
 one_more n m = omega arith
 
 first_is : (text : List ℕ) → 0 < length text → pieces_of text ≡ cut_by (line_len text) text
-unfolding pieces_behind
+unfolding pieces_after
 first_is [] some = absurd (omega (arith, some))
 first_is (b ∷ bs) some =
     let text = b ∷ bs in
-    let n = announced (asked_first text) in
+    let n = announced (requested_first text) in
     ap (λ ps. first_piece text ∷ (if ends (first_piece text) then [] else ps)) (skip (line_len text + n) bs ∙ ap (λ k. pieces_of (drop k text)) (sym (one_more (line_len text) n)))
 
-module _ (text line rest : List ℕ) (len : ℕ) (front : take len text ≡ line) (behind : drop (len + 1) text ≡ rest) (further : (n : ℕ) → drop (len + 1 + n) text ≡ drop n rest) where
-  by_parts : cut_by len text ≡ cut_at (asked (strip_carriage_return line)) rest
+module _ (text line rest : List ℕ) (len : ℕ) (front : take len text ≡ line) (following : drop (len + 1) text ≡ rest) (further : (n : ℕ) → drop (len + 1 + n) text ≡ drop n rest) where
+  by_parts : cut_by len text ≡ cut_at (requested (strip_carriage_return line)) rest
   by_parts =
-      let a = asked (strip_carriage_return line) in
-      ap (λ l. let a' = asked (strip_carriage_return l) in let p = piece_at a' (drop (len + 1) text) in p ∷ (if ends p then [] else pieces_of (drop (len + 1 + announced a') text))) front
-      ∙ ap (λ r. piece_at a r ∷ (if ends (piece_at a r) then [] else pieces_of (drop (len + 1 + announced a) text))) behind
+      let a = requested (strip_carriage_return line) in
+      ap (λ l. let a' = requested (strip_carriage_return l) in let p = piece_at a' (drop (len + 1) text) in p ∷ (if ends p then [] else pieces_of (drop (len + 1 + announced a') text))) front
+      ∙ ap (λ r. piece_at a r ∷ (if ends (piece_at a r) then [] else pieces_of (drop (len + 1 + announced a) text))) following
       ∙ ap (λ r. piece_at a rest ∷ (if ends (piece_at a rest) then [] else pieces_of r)) (further (announced a))
 
-no_feed_at : (line : List ℕ) → HasNoFeed line → (j : ℕ) → j < length line → get_or line j 0 ≡ 10 → ⊥
+no_feed_at : (line : List ℕ) → HasNoLineFeed line → (j : ℕ) → j < length line → get_or line j 0 ≡ 10 → ⊥
 no_feed_at line no_feed j below here = no_feed (j, below, get_or_default line j 10 0 below ∙ here)
 
 longer : (n m : ℕ) → n ≡ m → 1 + n ≡ suc m
 longer n m is = omega (arith, is)
 
-feed_behind : (line rest : List ℕ) → ((j : ℕ) → j < length line → get_or line j 0 ≡ 10 → ⊥) → line_len (line ++ 10 ∷ rest) ≡ length line
-feed_behind [] rest none = refl
-feed_behind (b ∷ bs) rest none =
+feed_after : (line rest : List ℕ) → ((j : ℕ) → j < length line → get_or line j 0 ≡ 10 → ⊥) → line_len (line ++ 10 ∷ rest) ≡ length line
+feed_after [] rest none = refl
+feed_after (b ∷ bs) rest none =
     ap (λ t. cond (not t) (1 + line_len (bs ++ 10 ∷ rest)) 0) (ne_eqb b 10 (none 0 (omega arith)))
-    ∙ longer (line_len (bs ++ 10 ∷ rest)) (length bs) (feed_behind bs rest (λ j below here. none (suc j) (omega (arith, below)) here))
+    ∙ longer (line_len (bs ++ 10 ∷ rest)) (length bs) (feed_after bs rest (λ j below here. none (suc j) (omega (arith, below)) here))
 
 no_feed_there : (line : List ℕ) → ((j : ℕ) → j < length line → get_or line j 0 ≡ 10 → ⊥) → line_len line ≡ length line
 no_feed_there [] none = refl
@@ -73,7 +73,7 @@ add_together len n = omega arith
 pub follow : PiecesFollow
 follow line rest no_feed =
     let text = line ++ 10 ∷ rest in
-    first_is text (some_bytes line rest) ∙ ap (λ n. cut_by n text) (feed_behind line rest (no_feed_at line no_feed))
+    first_is text (some_bytes line rest) ∙ ap (λ n. cut_by n text) (feed_after line rest (no_feed_at line no_feed))
     ∙ by_parts text line rest (length line) (take-append_seam line (10 ∷ rest)) (drop-append-add line (10 ∷ rest) 1)
     (λ n. ap (λ k. drop k text) (add_together (length line) n) ∙ drop-append-add line (10 ∷ rest) (suc n))
 
@@ -87,7 +87,7 @@ nothing_more false n = ap pieces_of (nothing_left n) ∙ none
 
 pub last : PiecesEnd
 last line no_feed some =
-    let a = asked (strip_carriage_return line) in
+    let a = requested (strip_carriage_return line) in
     first_is line some ∙ ap (λ n. cut_by n line) (no_feed_there line (no_feed_at line no_feed))
     ∙ by_parts line line [] (length line) (take_all (length line) line (omega arith)) (drop_all (length line + 1) line (omega arith))
     (λ n. drop_all (length line + 1 + n) line (omega arith) ∙ sym (nothing_left n))

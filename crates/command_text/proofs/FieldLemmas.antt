@@ -1,16 +1,16 @@
--- Numbers that are taken one by one.
+-- Taking the numbers of a line one by one.
 use Rattle.std.proofs.Common.{◌≡◌, inl, inr, ℕ, ◌<◌, ◌≤◌, List, [], ◌∷◌, ◌++◌, length, slice_index_or, Option, Some, None, refl, sym, ◌∙◌, ap, arith, length-append}
 use Rattle.std.proofs.lemmas.List.{append_assoc, append-nil}
 use Rattle.std.specs.Option.{option_and_then, option_map, option_map_or}
-use Rattle.command_core.specs.declared.commands.Spot.{Spot}
-use Rattle.command_text.specs.Asking.{fields_of, field_in, numbers_asked, spot_of, spots_asked}
+use Rattle.command_types.specs.declared.commands.Spot.{Spot}
+use Rattle.command_text.specs.Parsing.{fields_of, field_in, parse_numbers, spot_of, parse_two_spots}
 use Rattle.command_text.specs.Numbers.{IsNoCommand}
-use Rattle.command_text.specs.declared.asked.Asked.{Asked}
-use Rattle.command_text.specs.declared.asked.Asked.TheVariants.{BadLine}
+use Rattle.command_text.specs.declared.parsed_command.ParsedCommand.{ParsedCommand}
+use Rattle.command_text.specs.declared.parsed_command.ParsedCommand.TheVariants.{BadLine}
 use Rattle.command_text.specs.declared.fields.Field.{Field}
 use Rattle.command_text.specs.declared.verbs.Verb.{Verb}
 
--- these, and then those that the words left are
+-- the numbers of the words are these, followed by those of the words that are left
 abbrev pub TakesOn : List (List ℕ) → List Field → List (List ℕ) → Type 0
 TakesOn words xs left = fields_of words ≡ option_map (λ fs. xs ++ fs) (fields_of left)
 
@@ -48,10 +48,10 @@ unfolding fields_of
 all_taken words xs so_far = so_far ∙ ap Some (append-nil xs)
 
 pub eleven : (v : Verb) (fs : List Field) (d : Field) → 11 ≤ length fs → length fs < 12
-    → spots_asked v (slice_index_or fs 0 d) (spot_of (slice_index_or fs 1 d) (slice_index_or fs 2 d) (slice_index_or fs 3 d) (slice_index_or fs 4 d) (slice_index_or fs 5 d))
+    → parse_two_spots v (slice_index_or fs 0 d) (spot_of (slice_index_or fs 1 d) (slice_index_or fs 2 d) (slice_index_or fs 3 d) (slice_index_or fs 4 d) (slice_index_or fs 5 d))
     (spot_of (slice_index_or fs 6 d) (slice_index_or fs 7 d) (slice_index_or fs 8 d) (slice_index_or fs 9 d) (slice_index_or fs 10 d))
-    ≡ numbers_asked v fs
-unfolding numbers_asked
+    ≡ parse_numbers v fs
+unfolding parse_numbers
 eleven v [] d least most = absurd (omega (arith, least))
 eleven v (a0 ∷ []) d least most = absurd (omega (arith, least))
 eleven v (a0 ∷ a1 ∷ []) d least most = absurd (omega (arith, least))
@@ -66,9 +66,9 @@ eleven v (a0 ∷ a1 ∷ a2 ∷ a3 ∷ a4 ∷ a5 ∷ a6 ∷ a7 ∷ a8 ∷ a9 ∷ 
 eleven v (a0 ∷ a1 ∷ a2 ∷ a3 ∷ a4 ∷ a5 ∷ a6 ∷ a7 ∷ a8 ∷ a9 ∷ a10 ∷ []) d least most = refl
 eleven v (a0 ∷ a1 ∷ a2 ∷ a3 ∷ a4 ∷ a5 ∷ a6 ∷ a7 ∷ a8 ∷ a9 ∷ a10 ∷ a11 ∷ more) d least most = absurd (omega (arith, most))
 
--- no command has more numbers
-pub too_long : (v : Verb) (fs : List Field) → 11 < length fs → numbers_asked v fs ≡ BadLine
-unfolding numbers_asked
+-- a line with more than 11 numbers is bad, since no command has more
+pub too_long : (v : Verb) (fs : List Field) → 11 < length fs → parse_numbers v fs ≡ BadLine
+unfolding parse_numbers
 too_long v [] least = absurd (omega (arith, least))
 too_long v (a0 ∷ []) least = absurd (omega (arith, least))
 too_long v (a0 ∷ a1 ∷ []) least = absurd (omega (arith, least))
@@ -83,16 +83,16 @@ too_long v (a0 ∷ a1 ∷ a2 ∷ a3 ∷ a4 ∷ a5 ∷ a6 ∷ a7 ∷ a8 ∷ a9 �
 too_long v (a0 ∷ a1 ∷ a2 ∷ a3 ∷ a4 ∷ a5 ∷ a6 ∷ a7 ∷ a8 ∷ a9 ∷ a10 ∷ []) least = absurd (omega (arith, least))
 too_long v (a0 ∷ a1 ∷ a2 ∷ a3 ∷ a4 ∷ a5 ∷ a6 ∷ a7 ∷ a8 ∷ a9 ∷ a10 ∷ a11 ∷ more) least = refl
 
--- as the code puts the two spots together
-pub eleven_read : (v : Verb) (fs : List Field) (d : Field) (a b : Option Spot) (read : Asked) → 11 ≤ length fs → length fs < 12
+-- a line of eleven numbers is parsed with the two spots that the code assembles
+pub eleven_read : (v : Verb) (fs : List Field) (d : Field) (a b : Option Spot) (read : ParsedCommand) → 11 ≤ length fs → length fs < 12
     → a ≡ spot_of (slice_index_or fs 1 d) (slice_index_or fs 2 d) (slice_index_or fs 3 d) (slice_index_or fs 4 d) (slice_index_or fs 5 d)
     → b ≡ spot_of (slice_index_or fs 6 d) (slice_index_or fs 7 d) (slice_index_or fs 8 d) (slice_index_or fs 9 d) (slice_index_or fs 10 d)
-    → read ≡ spots_asked v (slice_index_or fs 0 d) a b → read ≡ numbers_asked v fs
+    → read ≡ parse_two_spots v (slice_index_or fs 0 d) a b → read ≡ parse_numbers v fs
 eleven_read v fs d a b read least most first second is =
-    is ∙ ap (λ s. spots_asked v (slice_index_or fs 0 d) s b) first
-    ∙ ap (λ s. spots_asked v (slice_index_or fs 0 d) (spot_of (slice_index_or fs 1 d) (slice_index_or fs 2 d) (slice_index_or fs 3 d) (slice_index_or fs 4 d) (slice_index_or fs 5 d)) s) second
+    is ∙ ap (λ s. parse_two_spots v (slice_index_or fs 0 d) s b) first
+    ∙ ap (λ s. parse_two_spots v (slice_index_or fs 0 d) (spot_of (slice_index_or fs 1 d) (slice_index_or fs 2 d) (slice_index_or fs 3 d) (slice_index_or fs 4 d) (slice_index_or fs 5 d)) s) second
     ∙ eleven v fs d least most
 
-pub no_command : (v : Verb) (words : List (List ℕ)) → IsNoCommand words → BadLine ≡ option_map_or (numbers_asked v) (fields_of words) BadLine
-no_command v words (inl none) = sym (ap (λ o. option_map_or (numbers_asked v) o BadLine) none)
-no_command v words (inr many) = sym (ap (λ o. option_map_or (numbers_asked v) o BadLine) many.1 ∙ too_long v many.0 many.2)
+pub no_command : (v : Verb) (words : List (List ℕ)) → IsNoCommand words → BadLine ≡ option_map_or (parse_numbers v) (fields_of words) BadLine
+no_command v words (inl none) = sym (ap (λ o. option_map_or (parse_numbers v) o BadLine) none)
+no_command v words (inr many) = sym (ap (λ o. option_map_or (parse_numbers v) o BadLine) many.1 ∙ too_long v many.0 many.2)

@@ -1,20 +1,20 @@
--- The longest front of the places of a route.
+-- Lemmas about the longest prefix of a route whose places pass a test.
 use Rattle.std.proofs.Common.{◌≡◌, ◌∙◌, ℕ, suc, ◌+◌, ◌-◌, ◌<◌, ◌≤◌, Bool, true, false, cond, List, [], ◌∷◌, length, Option, Some, None, sym, refl, ap, arith, eqb}
 use Rattle.std.specs.Prelude.{◌||◌}
 use Rattle.std.specs.List.{AllByRecursion, find, list_any, prefix_len, range_with_len}
 use Rattle.std.proofs.lemmas.Bool.{eqb-true}
 use Rattle.std.proofs.lemmas.Map.Steps.{length-le_from_distinct_below}
 use Rattle.plan_types.specs.Instance.{Instance, IsInstance}
-use Rattle.route_sched.specs.Route.{AreLiveOnce}
-use Rattle.route_sched.specs.Visiting.{visit_after, visits_from}
-use Rattle.route_sched.proofs.LiveStops.{live_numbers}
-use Rattle.route_sched.proofs.Visited.{visits_from-cons}
+use Rattle.route_sched.specs.Route.{AreDistinctStops}
+use Rattle.route_sched.specs.VisitList.{visit_after, visits_from}
+use Rattle.route_sched.proofs.KnownStops.{live_numbers}
+use Rattle.route_sched.proofs.VisitLemmas.{visits_from-cons}
 use Rattle.command_core.specs.Effects.{job_after}
-use Rattle.command_core.specs.Job.{JobValue}
-use Rattle.command_core.specs.declared.commands.Command.TheVariants.{Pin}
-use Rattle.command_text.specs.Freezing.{freeze_commands, frozen, frozen_among, pinned_before}
+use Rattle.command_types.specs.Job.{JobValue}
+use Rattle.command_types.specs.declared.commands.Command.TheVariants.{Pin}
+use Rattle.command_text.specs.Freezing.{freeze_commands, new_pin_len, freeze_vehicles, pinned_before}
 
--- the front of the numbers from k to before n that passes
+-- the length of the longest prefix of k..n whose numbers all pass
 abbrev pub front : (ℕ → Bool) → ℕ → ℕ → ℕ
 front test k n = prefix_len test (range_with_len k (n - k))
 
@@ -32,11 +32,11 @@ front_ends test k n below is = front_step test k n below ∙ ap (λ b. cond b (1
 pub front_none : (test : ℕ → Bool) (k n : ℕ) → n ≤ k → front test k n ≡ 0
 front_none test k n past = let left : n - k ≡ 0 = omega (arith, past) in ap (λ m. prefix_len test (range_with_len k m)) left
 
--- there is a visit of each place
+-- a route has a visit for each of its places
 pub no_visit : {X : Type 0} (p : Instance) (route : List ℕ) (k : ℕ) → k ≤ length route → visits_from p route k ≡ [] → X
 no_visit p route k le none = absurd (let h : visit_after p route k ∷ visits_from p route (k + 1) ≡ [] = sym (visits_from-cons p route k le) ∙ none in cc)
 
--- ---- the first number from k to before n that passes
+-- ---- the first number of k..n that passes
 abbrev pub first_from : (ℕ → Bool) → ℕ → ℕ → Option ℕ
 first_from test k n = find test (range_with_len k (n - k))
 
@@ -54,7 +54,7 @@ first_later test k n below is = first_step test k n below ∙ ap (λ b. cond b (
 pub first_none : (test : ℕ → Bool) (k n : ℕ) → n ≤ k → first_from test k n ≡ None
 first_none test k n past = let left : n - k ≡ 0 = omega (arith, past) in ap (λ m. find test (range_with_len k m)) left
 
--- ---- a route has no more stops than numbers
+-- ---- a route has no more stops than there are numbers
 in_or : (q n : ℕ) (b rest : Bool) (P : Type 0) → eqb q n ≡ b → (b || rest) ≡ true → (q ≡ n → P) → (rest ≡ true → P) → P
 in_or q n true rest P is e f g = f (eqb-true q n is)
 in_or q n false rest P is e f g = g e
@@ -63,7 +63,7 @@ below_all : (ns : List ℕ) (most q : ℕ) → AllByRecursion (λ n. n ≤ most)
 below_all [] most q all e = absurd cc
 below_all (n ∷ ns) most q all e = in_or q n (eqb q n) (list_any (eqb q) ns) (q < most + 1) refl e (λ same. let le = all.0 in omega (arith, same, le)) (λ f. below_all ns most q all.1 f)
 
-pub few_stops : (p : Instance) (route : List ℕ) → IsInstance p → AreLiveOnce p route → length route ≤ 40001
+pub few_stops : (p : Instance) (route : List ℕ) → IsInstance p → AreDistinctStops p route → length route ≤ 40001
 few_stops p route is once =
     length-le_from_distinct_below route 40001 once.distinct (λ q e. below_all route 40000 q (live_numbers p route is once) e)
 
@@ -72,16 +72,16 @@ module _ (t : ℕ) (j : JobValue) (v : ℕ) where
   abbrev vehicles : ℕ
   vehicles = j.problem.fleet + 1
 
-  one_left : v < vehicles → freeze_commands t v j ≡ pinned_before (frozen_among t (v + 1) (vehicles - (v + 1))) v (frozen t j v) j
-  unfolding frozen_among
-  one_left below = let left : vehicles - v ≡ suc (vehicles - (v + 1)) = omega (arith, below) in ap (λ n. frozen_among t v n j) left
+  one_left : v < vehicles → freeze_commands t v j ≡ pinned_before (freeze_vehicles t (v + 1) (vehicles - (v + 1))) v (new_pin_len t j v) j
+  unfolding freeze_vehicles
+  one_left below = let left : vehicles - v ≡ suc (vehicles - (v + 1)) = omega (arith, below) in ap (λ n. freeze_vehicles t v n j) left
 
-  pub next_pin : (k : ℕ) → v < vehicles → frozen t j v ≡ Some k → freeze_commands t v j ≡ Pin v k ∷ freeze_commands t (v + 1) (job_after j (Pin v k))
-  next_pin k below is = one_left below ∙ ap (λ o. pinned_before (frozen_among t (v + 1) (vehicles - (v + 1))) v o j) is
+  pub next_pin : (k : ℕ) → v < vehicles → new_pin_len t j v ≡ Some k → freeze_commands t v j ≡ Pin v k ∷ freeze_commands t (v + 1) (job_after j (Pin v k))
+  next_pin k below is = one_left below ∙ ap (λ o. pinned_before (freeze_vehicles t (v + 1) (vehicles - (v + 1))) v o j) is
 
-  pub no_pin : v < vehicles → frozen t j v ≡ None → freeze_commands t v j ≡ freeze_commands t (v + 1) j
-  no_pin below is = one_left below ∙ ap (λ o. pinned_before (frozen_among t (v + 1) (vehicles - (v + 1))) v o j) is
+  pub no_pin : v < vehicles → new_pin_len t j v ≡ None → freeze_commands t v j ≡ freeze_commands t (v + 1) j
+  no_pin below is = one_left below ∙ ap (λ o. pinned_before (freeze_vehicles t (v + 1) (vehicles - (v + 1))) v o j) is
 
   pub none_left : vehicles ≤ v → freeze_commands t v j ≡ []
-  unfolding frozen_among
-  none_left past = let left : vehicles - v ≡ 0 = omega (arith, past) in ap (λ n. frozen_among t v n j) left
+  unfolding freeze_vehicles
+  none_left past = let left : vehicles - v ≡ 0 = omega (arith, past) in ap (λ n. freeze_vehicles t v n j) left

@@ -1,5 +1,5 @@
--- The lemma files, which upper crates may cite.
-pub mod AgainLemmas
+-- The lemma files, which crates above may cite.
+pub mod RepeatLemmas
 pub mod CutLemmas
 pub mod FieldLemmas
 pub mod FreezeLemmas
@@ -8,7 +8,7 @@ pub mod ReadLemmas
 pub mod ReadingLemmas
 pub mod RouteLemmas
 pub mod ScanLemmas
-pub mod SeatLemmas
+pub mod VehicleAssignmentLemmas
 pub mod StagingLemmas
 pub mod StateLemmas
 pub mod StepLemmas

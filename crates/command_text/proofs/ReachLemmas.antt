@@ -1,34 +1,34 @@
--- A line that makes the steps up to a number, cut off by whatever becomes of its tries and asked for again, ends where an uncut one ends.
+-- `reach N`, cut off by any fate of an attempt and repeated, ends in the same state as an uninterrupted one.
 use Rattle.std.proofs.Common.{◌≡◌, ◌∙◌, inl, inr, ℕ, zero, suc, ◌+◌, ◌-◌, ◌^◌, ◌<◌, ◌≤◌, Bool, true, false, None, if◌then◌else◌, List, [], ◌∷◌, map, Ok, Err, refl, sym, ap, subst, arith}
 use Rattle.std.specs.Prelude.{nat_le, sum_by, take}
 use Rattle.std.specs.List.{list_all}
 use Rattle.std.proofs.lemmas.Bool.{and_parts, cases_Bool, le-leb, leb-true}
 use Rattle.std.proofs.lemmas.Bool.Decides.{leb_tells}
 use Rattle.std.proofs.lemmas.List.Sums.{sum_by-cons}
-use Rattle.plan_types.specs.Limits.{most_asked_steps}
-use Rattle.command_core.specs.Commands.{is_searching, steps_of}
+use Rattle.plan_types.specs.Limits.{max_requested_steps}
+use Rattle.command_types.specs.Commands.{is_searching, steps_of}
 use Rattle.command_core.specs.Effects.{searched}
-use Rattle.command_core.specs.Job.{JobValue}
-use Rattle.command_core.specs.Refusing.{refusal}
+use Rattle.command_types.specs.Job.{JobValue}
+use Rattle.command_core.specs.Refusals.{refusal}
 use Rattle.command_core.specs.RunLaws.{RunsAreOneSearch, SearchesAddUp}
 use Rattle.command_core.specs.Runs.{AreAccepted}
-use Rattle.command_core.specs.declared.commands.Command.{Command}
-use Rattle.command_core.specs.declared.commands.Command.TheVariants.{Search}
-use Rattle.command_core.specs.declared.refusals.Refusal.TheVariants.{Range}
-use Rattle.command_core.specs.declared.states.State.{State}
-use Rattle.command_core.specs.declared.states.State.TheVariants.{Empty, Loaded}
-use Rattle.command_text.specs.Answering.{Fate, Serving, begun, carried_all, counts_of, made_or, steps_to_make}
+use Rattle.command_types.specs.declared.commands.Command.{Command}
+use Rattle.command_types.specs.declared.commands.Command.TheVariants.{Search}
+use Rattle.command_types.specs.declared.refusals.Refusal.TheVariants.{Range}
+use Rattle.command_types.specs.declared.states.State.{State}
+use Rattle.command_types.specs.declared.states.State.TheVariants.{Empty, Loaded}
+use Rattle.command_text.specs.Answering.{Fate, ServerState, unbroken_session, executed_all, counts_of, steps_or_refusal, steps_to_make}
 use Rattle.command_text.specs.Laws.{ReachedLinesMayBeCut}
-use Rattle.command_text.specs.declared.steps.Goal.TheVariants as goal
-use Rattle.command_text.specs.declared.steps.Steps.TheVariants as makes
-use Rattle.command_text.proofs.AgainLemmas.{all_cut, all_whole}
+use Rattle.command_text.specs.declared.steps.StepRequest.TheVariants as goal
+use Rattle.command_text.specs.declared.steps.StepCursor.TheVariants as makes
+use Rattle.command_text.proofs.RepeatLemmas.{all_cut, all_whole}
 use Rattle.command_text.proofs.StepLemmas.{large_count, no_counts, small_count}
 
--- the commands of so many steps of the search
+-- the operations of n search steps
 abbrev searches : ℕ → List Command
 searches n = map Search (counts_of 256 n)
 
--- they are accepted, are searches, and make so many steps
+-- the operations are accepted, are searches, and make n steps
 record AreSearches (j : JobValue) (n : ℕ) (cs : List Command) : Type 0 where
   pub accepted : (0 < n → j.steps + n ≤ 2 ^ 60) → AreAccepted (Loaded j) cs
   pub searching : list_all is_searching cs ≡ true
@@ -73,7 +73,7 @@ all_searches (suc fuel) (suc n) within j = elim (leb_tells 256 (suc n)) [
       (subst (λ (k : ℕ). AreSearches j k (Search (suc n) ∷ searches (suc n - suc n))) sum whole))
 ]
 
--- a first part of searches makes no more steps
+-- a prefix of search operations makes no more steps than all of them
 record IsFront (cs front : List Command) : Type 0 where
   pub searching : list_all is_searching front ≡ true
   pub sum : sum_by steps_of front ≤ sum_by steps_of cs
@@ -90,45 +90,45 @@ fronts (suc count) (c ∷ cs) all =
     record { searching = rw (both.0, rest.searching) refl; sum = omega (arith, more, one, other) }
 
 module _ (one : RunsAreOneSearch) (add_up : SearchesAddUp) (n : ℕ) (room : n ≤ 2 ^ 60) where
-  abbrev left_by : Serving → State
-  left_by s = (made_or s (steps_to_make s.state (goal.Reach n))).left.state
+  abbrev left_by : ServerState → State
+  left_by s = (steps_or_refusal s (steps_to_make s.state (goal.Reach n))).left.state
 
-  abbrev is_asked : JobValue → Bool
-  is_asked j = nat_le n (j.steps + most_asked_steps)
+  abbrev is_requested : JobValue → Bool
+  is_requested j = nat_le n (j.steps + max_requested_steps)
 
-  not_begun : (j : JobValue) (fates : List Fate) → is_asked j ≡ false → left_by (begun (Loaded j) fates) ≡ Loaded j
-  not_begun j fates e = ap (λ b. (made_or (begun (Loaded j) fates) (if b then Ok (makes.Search (n - j.steps)) else Err Range)).left.state) e
+  not_begun : (j : JobValue) (fates : List Fate) → is_requested j ≡ false → left_by (unbroken_session (Loaded j) fates) ≡ Loaded j
+  not_begun j fates e = ap (λ b. (steps_or_refusal (unbroken_session (Loaded j) fates) (if b then Ok (makes.Search (n - j.steps)) else Err Range)).left.state) e
 
-  is_begun : (j : JobValue) (fates : List Fate) → is_asked j ≡ true → left_by (begun (Loaded j) fates) ≡ (carried_all (begun (Loaded j) fates) (searches (n - j.steps))).left.state
-  is_begun j fates e = ap (λ b. (made_or (begun (Loaded j) fates) (if b then Ok (makes.Search (n - j.steps)) else Err Range)).left.state) e
+  is_begun : (j : JobValue) (fates : List Fate) → is_requested j ≡ true → left_by (unbroken_session (Loaded j) fates) ≡ (executed_all (unbroken_session (Loaded j) fates) (searches (n - j.steps))).left.state
+  is_begun j fates e = ap (λ b. (steps_or_refusal (unbroken_session (Loaded j) fates) (if b then Ok (makes.Search (n - j.steps)) else Err Range)).left.state) e
 
   all_of : (j : JobValue) → AreSearches j (n - j.steps) (searches (n - j.steps))
   all_of j = all_searches (n - j.steps) (n - j.steps) (omega arith) j
 
-  uncut : (j : JobValue) → is_asked j ≡ true → left_by (begun (Loaded j) []) ≡ Loaded (searched j (n - j.steps))
+  uncut : (j : JobValue) → is_requested j ≡ true → left_by (unbroken_session (Loaded j) []) ≡ Loaded (searched j (n - j.steps))
   uncut j e =
       let all = all_of j in
       let cs = searches (n - j.steps) in
       is_begun j [] e ∙ all_whole (Loaded j) cs (all.accepted (λ some. omega arith)) ∙ one j cs all.searching ∙ ap (λ k. Loaded (searched j k)) all.sum
 
-  line_cut : (j : JobValue) (fates : List Fate) → is_asked j ≡ true → left_by (begun (left_by (begun (Loaded j) fates)) []) ≡ left_by (begun (Loaded j) [])
+  line_cut : (j : JobValue) (fates : List Fate) → is_requested j ≡ true → left_by (unbroken_session (left_by (unbroken_session (Loaded j) fates)) []) ≡ left_by (unbroken_session (Loaded j) [])
   line_cut j fates e =
       let all = all_of j in
       let cs = searches (n - j.steps) in
-      let cut = all_cut (begun (Loaded j) fates) cs in
+      let cut = all_cut (unbroken_session (Loaded j) fates) cs in
       let front = fronts cut.count cs all.searching in
       let made = sum_by steps_of (take cut.count cs) in
       let few : made ≤ n - j.steps = subst (λ (k : ℕ). made ≤ k) all.sum front.sum in
-      let left : left_by (begun (Loaded j) fates) ≡ Loaded (searched j made) = is_begun j fates e ∙ cut.is ∙ one j (take cut.count cs) front.searching in
-      let asked = leb-true n (j.steps + most_asked_steps) e in
-      let still : is_asked (searched j made) ≡ true = le-leb n (j.steps + made + most_asked_steps) (omega (arith, asked)) in
+      let left : left_by (unbroken_session (Loaded j) fates) ≡ Loaded (searched j made) = is_begun j fates e ∙ cut.is ∙ one j (take cut.count cs) front.searching in
+      let requested = leb-true n (j.steps + max_requested_steps) e in
+      let still : is_requested (searched j made) ≡ true = le-leb n (j.steps + made + max_requested_steps) (omega (arith, requested)) in
       let sum : made + (n - (j.steps + made)) ≡ n - j.steps = omega (arith, few) in
-      ap (λ (s : State). left_by (begun s [])) left ∙ uncut (searched j made) still ∙ ap Loaded (add_up j made (n - (j.steps + made)))
+      ap (λ (s : State). left_by (unbroken_session s [])) left ∙ uncut (searched j made) still ∙ ap Loaded (add_up j made (n - (j.steps + made)))
       ∙ ap (λ k. Loaded (searched j k)) sum ∙ sym (uncut j e)
 
 pub reached_lines_may_be_cut : RunsAreOneSearch → SearchesAddUp → ReachedLinesMayBeCut
 reached_lines_may_be_cut one add_up n Empty fates room = refl
-reached_lines_may_be_cut one add_up n (Loaded j) fates room = elim (cases_Bool (is_asked one add_up n room j)) [
+reached_lines_may_be_cut one add_up n (Loaded j) fates room = elim (cases_Bool (is_requested one add_up n room j)) [
   | inl t ↦ line_cut one add_up n room j fates t
-  | inr f ↦ ap (λ (s : State). left_by one add_up n room (begun s [])) (not_begun one add_up n room j fates f)
+  | inr f ↦ ap (λ (s : State). left_by one add_up n room (unbroken_session s [])) (not_begun one add_up n room j fates f)
 ]

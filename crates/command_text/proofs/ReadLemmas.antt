@@ -1,8 +1,8 @@
--- A text spells one problem at most, and none where it has a fault; it has one first fault.
+-- A text has at most one problem, none if it has a fault, and one first fault.
 use Rattle.std.proofs.Common.{◌≡◌, ◌∙◌, inl, inr, ℕ, List, Result, Ok, Err, sym, ap, refl, arith, IfOk, IfErr, ◌==◌, if◌then◌else◌}
 use Rattle.plan_types.specs.Instance.{Instance}
 use Rattle.plan_types.specs.declared.requests.Kind.{Kind}
-use Rattle.instance_read.specs.Faults.{Class, IsFirstFault, IsNoLater, IsNoLaterPlace, TellsFirstFault, rank}
+use Rattle.instance_read.specs.Faults.{Class, IsFirstFault, IsNoLater, IsNoLaterPlace, ReportsFirstFault, rank}
 use Rattle.instance_read.specs.Faults.Class.{OfLine, OfText}
 use Rattle.instance_read.specs.declared.faults.ReadFault.{ReadFault}
 use Rattle.instance_read.specs.declared.faults.ReadFaultKind.{ReadFaultKind}
@@ -21,10 +21,10 @@ use Rattle.instance_read.specs.declared.faults.ReadFaultKind.TheVariants.{
   Truncated,
   OutOfMemory,
 }
-use Rattle.instance_read.specs.Readings.{InstanceFault, IsFound, IsUnlessMemory, SpellsInstance}
+use Rattle.instance_read.specs.Readings.{InstanceFault, IsReadResult, IsUnlessOutOfMemory, SpellsInstance}
 use Rattle.instance_read.proofs.SpelledLemmas.{no_fault, problem_once}
 
--- the kind with this rank
+-- the kind of fault with this rank
 kind_at : ℕ → ReadFaultKind
 kind_at n =
     if n == 1 then FieldCount else
@@ -78,10 +78,10 @@ both_first OfText OfText f g a b = same_place f g a b
 fault_once : (Fault : Class → ℕ → ReadFaultKind → Type 0) (f g : ReadFault) → IsFirstFault Fault f → IsFirstFault Fault g → f ≡ g
 fault_once Fault f g a b = both_first a.0 b.0 f g (a.2 b.0 g.line g.kind b.1) (b.2 a.0 f.line f.kind a.1)
 
--- what a reader gave is what the text spells
+-- a reader returns the contents of the text
 pub read_once : (kind : Kind) (text : List ℕ) (result found : Result Instance ReadFault) → IfOk result (SpellsInstance kind text)
-    → IfErr result (TellsFirstFault (InstanceFault kind text)) → IsFound kind text found
-    → IsUnlessMemory result found
+    → IfErr result (ReportsFirstFault (InstanceFault kind text)) → IsReadResult kind text found
+    → IsUnlessOutOfMemory result found
 read_once kind text (Ok p) (Ok q) spells tells is = inl (ap Ok (problem_once kind text p q spells is))
 read_once kind text (Ok p) (Err g) spells tells is = absurd (no_fault kind text p spells is.0 g.line g.kind is.1)
 read_once kind text (Err f) found spells (inl none) is = inr (ap Err none)

@@ -1,4 +1,4 @@
--- The first word of a line, byte by byte.
+-- Scanning the first word of a line, byte by byte.
 use Rattle.std.proofs.Common.{
   ◌≡◌,
   ◌∙◌,
@@ -34,9 +34,9 @@ use Rattle.std.specs.Str.Lines.{strip_carriage_return}
 use Rattle.std.proofs.lemmas.Bool.{cases_Bool, eq-eqb, eqb-true, eqb-false, ne_eqb, both_ways}
 use Rattle.std.proofs.lemmas.List.{get_or_at}
 use Rattle.std.proofs.Math.Seq.{take-append_seam}
-use Rattle.text_lines.specs.Words.{AreMadeOfWords, EndsWord, IsMadeOf, IsWord, is_blank, is_blank_line, words_of}
-use Rattle.command_text.specs.Asking.{announces_text}
-use Rattle.command_text.specs.Scanning.{next_letter, says_whole, scanned, scanned_on, scanned_byte}
+use Rattle.text_lines.specs.Words.{LinesSplitIntoWords, EndsWord, ConsistsOfWords, IsWord, is_blank, is_blank_line, words_of}
+use Rattle.command_text.specs.Parsing.{announces_text}
+use Rattle.command_text.specs.Scanning.{next_letter, is_announcement, scanned, scanned_on, scanned_byte}
 use Rattle.command_text.specs.declared.first_word.FirstWord.{FirstWord}
 use Rattle.command_text.specs.declared.first_word.FirstWord.TheVariants.{Nothing, L, Lo, Loa, A, Ad, Ado, Adop, Whole, WholeAndReturn, Over, Other}
 
@@ -44,7 +44,7 @@ pub scanned_append : (w : FirstWord) (xs ys : List ℕ) → scanned_on w (xs ++ 
 scanned_append w [] ys = refl
 scanned_append w (x ∷ xs) ys = scanned_append (scanned_byte w x) xs ys
 
--- the word is whole, where no carriage return is dropped
+-- the first word is whole, whether or not a blank follows it
 abbrev is_whole : FirstWord → Bool
 is_whole Whole = true
 is_whole Over = true
@@ -65,30 +65,30 @@ returned (b ∷ bs) = other bs
 abbrev NoBlank : List ℕ → Type 0
 NoBlank word = AllByRecursion (λ b. is_blank b ≡ false) word
 
--- from this state on, the rest of the word are these letters
+-- from this state on, the rest of the word must be these letters
 abbrev TellsWord : FirstWord → List ℕ → Type 0
 TellsWord state letters = (word rest : List ℕ) → NoBlank word → EndsWord rest → is_whole (scanned_on state (word ++ rest)) ≡ bytes_eq letters word
 
 return_is_no_blank : (b : ℕ) → is_blank b ≡ true → b ≡ 13 → ⊥
 return_is_no_blank b blank is = let not_so : is_blank b ≡ false = ap is_blank is in both_ways (is_blank b) not_so blank
 
--- behind the whole word
-behind_blank : (b : ℕ) (bs : List ℕ) → is_blank b ≡ true → is_whole (scanned_on (scanned_byte Whole b) bs) ≡ true
-behind_blank b bs blank = elim (cases_Bool (b == 13)) [
+-- after the whole word and a blank, the word stays whole
+after_blank : (b : ℕ) (bs : List ℕ) → is_blank b ≡ true → is_whole (scanned_on (scanned_byte Whole b) bs) ≡ true
+after_blank b bs blank = elim (cases_Bool (b == 13)) [
   | inl t ↦ absurd (return_is_no_blank b blank (eqb-true b 13 t))
   | inr f ↦ rw (f, blank) (over bs)
 ]
 
-behind_letter : (b : ℕ) (bs : List ℕ) → is_blank b ≡ false → is_whole (scanned_on (scanned_byte Whole b) bs) ≡ false
-behind_letter b bs letter = elim (cases_Bool (b == 13)) [
+after_letter : (b : ℕ) (bs : List ℕ) → is_blank b ≡ false → is_whole (scanned_on (scanned_byte Whole b) bs) ≡ false
+after_letter b bs letter = elim (cases_Bool (b == 13)) [
   | inl t ↦ rw t (returned bs)
   | inr f ↦ rw (f, letter) (other bs)
 ]
 
 all_letters : TellsWord Whole []
 all_letters [] [] not_so ends = refl
-all_letters [] (b ∷ rest) not_so ends = behind_blank b rest ends
-all_letters (a ∷ word) rest not_so ends = behind_letter a (word ++ rest) not_so.0
+all_letters [] (b ∷ rest) not_so ends = after_blank b rest ends
+all_letters (a ∷ word) rest not_so ends = after_letter a (word ++ rest) not_so.0
 
 module _ (state longer : FirstWord) (letter : ℕ) (letters : List ℕ) (step : (b : ℕ) → scanned_byte state b ≡ next_letter letter b longer)
     (is_letter : is_blank letter ≡ false) (too_short : is_whole state ≡ false) (more : TellsWord longer letters) where
@@ -109,35 +109,35 @@ module _ (state longer : FirstWord) (letter : ℕ) (letters : List ℕ) (step : 
     | inr f ↦ wrong a (word ++ rest) f ∙ sym (ap (λ t. t && bytes_eq letters word) (ne_eqb letter a (λ is. eqb-false a letter f (sym is))))
   ]
 
-behind_loa : TellsWord Loa (100 ∷ [])
-behind_loa = one_letter Loa Whole 100 [] (λ b. refl) refl refl all_letters
+after_loa : TellsWord Loa (100 ∷ [])
+after_loa = one_letter Loa Whole 100 [] (λ b. refl) refl refl all_letters
 
-behind_lo : TellsWord Lo (97 ∷ 100 ∷ [])
-behind_lo = one_letter Lo Loa 97 (100 ∷ []) (λ b. refl) refl refl behind_loa
+after_lo : TellsWord Lo (97 ∷ 100 ∷ [])
+after_lo = one_letter Lo Loa 97 (100 ∷ []) (λ b. refl) refl refl after_loa
 
-behind_l : TellsWord L (111 ∷ 97 ∷ 100 ∷ [])
-behind_l = one_letter L Lo 111 (97 ∷ 100 ∷ []) (λ b. refl) refl refl behind_lo
+after_l : TellsWord L (111 ∷ 97 ∷ 100 ∷ [])
+after_l = one_letter L Lo 111 (97 ∷ 100 ∷ []) (λ b. refl) refl refl after_lo
 
-behind_adop : TellsWord Adop (116 ∷ [])
-behind_adop = one_letter Adop Whole 116 [] (λ b. refl) refl refl all_letters
+after_adop : TellsWord Adop (116 ∷ [])
+after_adop = one_letter Adop Whole 116 [] (λ b. refl) refl refl all_letters
 
-behind_ado : TellsWord Ado (112 ∷ 116 ∷ [])
-behind_ado = one_letter Ado Adop 112 (116 ∷ []) (λ b. refl) refl refl behind_adop
+after_ado : TellsWord Ado (112 ∷ 116 ∷ [])
+after_ado = one_letter Ado Adop 112 (116 ∷ []) (λ b. refl) refl refl after_adop
 
-behind_ad : TellsWord Ad (111 ∷ 112 ∷ 116 ∷ [])
-behind_ad = one_letter Ad Ado 111 (112 ∷ 116 ∷ []) (λ b. refl) refl refl behind_ado
+after_ad : TellsWord Ad (111 ∷ 112 ∷ 116 ∷ [])
+after_ad = one_letter Ad Ado 111 (112 ∷ 116 ∷ []) (λ b. refl) refl refl after_ado
 
-behind_a : TellsWord A (100 ∷ 111 ∷ 112 ∷ 116 ∷ [])
-behind_a = one_letter A Ad 100 (111 ∷ 112 ∷ 116 ∷ []) (λ b. refl) refl refl behind_ad
+after_a : TellsWord A (100 ∷ 111 ∷ 112 ∷ 116 ∷ [])
+after_a = one_letter A Ad 100 (111 ∷ 112 ∷ 116 ∷ []) (λ b. refl) refl refl after_ad
 
--- the state behind a first letter, by whether it is that of either word
+-- the state after a first letter, by whether it is that of `load` or that of `adopt`
 abbrev first_of : Bool → Bool → FirstWord
 first_of l a = if l then L else if a then A else Other
 
 first_letter : (b : ℕ) → is_blank b ≡ false → scanned_byte Nothing b ≡ first_of (b == 108) (b == 97)
 first_letter b not_so = ap (λ t. if t then Nothing else first_of (b == 108) (b == 97)) not_so
 
--- whether the rest are those of either word
+-- whether the rest of the word completes `load` or `adopt`
 abbrev either : Bool → Bool → List ℕ → Bool
 either l a word = (l && bytes_eq (111 ∷ 97 ∷ 100 ∷ []) word) || (a && bytes_eq (100 ∷ 111 ∷ 112 ∷ 116 ∷ []) word)
 
@@ -147,9 +147,9 @@ or_false false = refl
 
 by_letter : (word rest : List ℕ) → NoBlank word → EndsWord rest → (l a : Bool) → (l ≡ true → a ≡ false) → is_whole (scanned_on (first_of l a) (word ++ rest)) ≡ either l a word
 by_letter word rest free ends true a apart =
-    behind_l word rest free ends ∙ sym (or_false (bytes_eq (111 ∷ 97 ∷ 100 ∷ []) word))
+    after_l word rest free ends ∙ sym (or_false (bytes_eq (111 ∷ 97 ∷ 100 ∷ []) word))
     ∙ ap (λ t. bytes_eq (111 ∷ 97 ∷ 100 ∷ []) word || (t && bytes_eq (100 ∷ 111 ∷ 112 ∷ 116 ∷ []) word)) (sym (apart refl))
-by_letter word rest free ends false true apart = behind_a word rest free ends
+by_letter word rest free ends false true apart = after_a word rest free ends
 by_letter word rest free ends false false apart = other (word ++ rest)
 
 turned : (a b : ℕ) → (a == b) ≡ (b == a)
@@ -172,18 +172,18 @@ blanks (b ∷ bs) all = elim (cases_Bool (is_blank b)) [
   | inr f ↦ absurd (both_ways (is_blank_line (b ∷ bs)) (ap (λ t. t && is_blank_line bs) f) all)
 ]
 
-made : (line : List ℕ) (words : List (List ℕ)) → IsMadeOf line words → is_whole (scanned line) ≡ announces_text words
+made : (line : List ℕ) (words : List (List ℕ)) → ConsistsOfWords line words → is_whole (scanned line) ≡ announces_text words
 made line [] is = ap is_whole (blanks line is)
 made line (word ∷ words) is =
     ap (λ l. is_whole (scanned l)) is.2 ∙ ap is_whole (scanned_append Nothing is.0 (word ++ is.1)) ∙ ap (λ w. is_whole (scanned_on w (word ++ is.1))) (blanks is.0 is.3)
     ∙ whole_word word is.1 is.4 is.5
 
 -- ---- the carriage return at the end
-one_of : (b : Bool) (x y : FirstWord) → says_whole x ≡ is_whole x → says_whole y ≡ is_whole y → says_whole (if b then x else y) ≡ is_whole (if b then x else y)
+one_of : (b : Bool) (x y : FirstWord) → is_announcement x ≡ is_whole x → is_announcement y ≡ is_whole y → is_announcement (if b then x else y) ≡ is_whole (if b then x else y)
 one_of true x y sx sy = sx
 one_of false x y sx sy = sy
 
-no_return : (w : FirstWord) (b : ℕ) → (b == 13) ≡ false → says_whole (scanned_byte w b) ≡ is_whole (scanned_byte w b)
+no_return : (w : FirstWord) (b : ℕ) → (b == 13) ≡ false → is_announcement (scanned_byte w b) ≡ is_whole (scanned_byte w b)
 no_return Nothing b not_so =
     one_of (is_blank b) Nothing (if b == 108 then L else next_letter 97 b A) refl (one_of (b == 108) L (next_letter 97 b A) refl (one_of (b == 97) A Other refl refl))
 no_return L b not_so = one_of (b == 111) Lo Other refl refl
@@ -198,7 +198,7 @@ no_return WholeAndReturn b not_so = refl
 no_return Over b not_so = refl
 no_return Other b not_so = refl
 
-with_return : (w : FirstWord) → says_whole (scanned_byte w 13) ≡ is_whole w
+with_return : (w : FirstWord) → is_announcement (scanned_byte w 13) ≡ is_whole w
 with_return Nothing = refl
 with_return L = refl
 with_return Lo = refl
@@ -231,21 +231,21 @@ stripped front b =
     ∙ ap (λ x. if x == 13 then take (length front) line else line) (get_or_at front b [] 0 (length front) refl)
     ∙ ap (λ f. if b == 13 then f else line) (take-append_seam front (b ∷ []))
 
-at_end : (front : List ℕ) (b : ℕ) → says_whole (scanned (front ++ b ∷ [])) ≡ is_whole (scanned (strip_carriage_return (front ++ b ∷ [])))
+at_end : (front : List ℕ) (b : ℕ) → is_announcement (scanned (front ++ b ∷ [])) ≡ is_whole (scanned (strip_carriage_return (front ++ b ∷ [])))
 at_end front b = elim (cases_Bool (b == 13)) [
   | inl t ↦ (
-      ap says_whole (scanned_append Nothing front (b ∷ [])) ∙ ap (λ c. says_whole (scanned_byte (scanned front) c)) (eqb-true b 13 t) ∙ with_return (scanned front)
+      ap is_announcement (scanned_append Nothing front (b ∷ [])) ∙ ap (λ c. is_announcement (scanned_byte (scanned front) c)) (eqb-true b 13 t) ∙ with_return (scanned front)
       ∙ sym (ap (λ l. is_whole (scanned l)) (stripped front b ∙ ap (λ t. if t then front else front ++ b ∷ []) t)))
   | inr f ↦ (
-      ap says_whole (scanned_append Nothing front (b ∷ [])) ∙ no_return (scanned front) b f ∙ sym (ap is_whole (scanned_append Nothing front (b ∷ [])))
+      ap is_announcement (scanned_append Nothing front (b ∷ [])) ∙ no_return (scanned front) b f ∙ sym (ap is_whole (scanned_append Nothing front (b ∷ [])))
       ∙ sym (ap (λ l. is_whole (scanned l)) (stripped front b ∙ ap (λ t. if t then front else front ++ b ∷ []) f)))
 ]
 
-without_return : (piece : List ℕ) → says_whole (scanned piece) ≡ is_whole (scanned (strip_carriage_return piece))
+without_return : (piece : List ℕ) → is_announcement (scanned piece) ≡ is_whole (scanned (strip_carriage_return piece))
 without_return [] = refl
-without_return (b ∷ bs) = let e = ending b bs in subst (λ l. says_whole (scanned l) ≡ is_whole (scanned (strip_carriage_return l))) (sym e.whole) (at_end e.front e.byte)
+without_return (b ∷ bs) = let e = ending b bs in subst (λ l. is_announcement (scanned l) ≡ is_whole (scanned (strip_carriage_return l))) (sym e.whole) (at_end e.front e.byte)
 
-pub says_first_word : AreMadeOfWords → (piece : List ℕ) → says_whole (scanned piece) ≡ announces_text (words_of (strip_carriage_return piece))
+pub says_first_word : LinesSplitIntoWords → (piece : List ℕ) → is_announcement (scanned piece) ≡ announces_text (words_of (strip_carriage_return piece))
 says_first_word made_of piece =
     let line = strip_carriage_return piece in
     without_return piece ∙ made line (words_of line) ((made_of line (words_of line)).0 refl)

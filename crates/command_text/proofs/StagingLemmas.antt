@@ -1,4 +1,5 @@
--- Annealing by stages: how many commands are allowed for makes no difference, and what is cut off is made by the same commands.
+-- Annealing in stages: the limit on the number of operations makes no difference, and an interrupted list is
+-- continued by the same operations.
 use Rattle.std.proofs.Common.{◌≡◌, ◌∙◌, inl, inr, ℕ, zero, suc, ◌+◌, ◌-◌, ◌*◌, ◌<◌, ◌≤◌, ◌^◌, Bool, true, false, if◌then◌else◌, List, [], ◌∷◌, Option, Some, None, refl, sym, ap, subst, arith}
 use Rattle.std.specs.Prelude.{nat_lt, min, take}
 use Rattle.std.specs.Option.{option_map}
@@ -6,23 +7,23 @@ use Rattle.std.proofs.Math.Nat.{mul-le-mul_left}
 use Rattle.std.proofs.lemmas.Bool.{cases_Bool, ltb-true, ltb-false, le-leb, le-ltb}
 use Rattle.plan_types.specs.declared.requests.Kind.{Kind}
 use Rattle.plan_types.specs.declared.requests.Kind.TheVariants.{LiLim, Vrp}
-use Rattle.anneal_stages.specs.Stages.{boundary, stage_among, stage_of}
-use Rattle.command_core.specs.Commands.{IsCommand, changes_requests, is_load, steps_of}
+use Rattle.annealing_schedule.specs.Stages.{boundary, stage_among, stage_of}
+use Rattle.command_types.specs.Commands.{IsCommand, changes_requests, is_load, steps_of}
 use Rattle.command_core.specs.Effects.{job_after, with_deviation}
-use Rattle.command_core.specs.Job.{JobValue}
-use Rattle.command_core.specs.Refusing.{refusal, steps_refusal}
+use Rattle.command_types.specs.Job.{JobValue}
+use Rattle.command_core.specs.Refusals.{refusal, steps_refusal}
 use Rattle.command_core.specs.Runs.{after}
-use Rattle.command_core.specs.declared.commands.Command.{Command}
-use Rattle.command_core.specs.declared.commands.Command.TheVariants.{Anneal, Deviation, Load, Reduce}
-use Rattle.command_core.specs.declared.states.State.TheVariants.{Loaded}
+use Rattle.command_types.specs.declared.commands.Command.{Command}
+use Rattle.command_types.specs.declared.commands.Command.TheVariants.{Anneal, Deviation, Load, Reduce}
+use Rattle.command_types.specs.declared.states.State.TheVariants.{Loaded}
 use Rattle.command_core.proofs.NumberLemmas.{steps_counted}
 use Rattle.command_text.specs.Answering.{commands_of}
-use Rattle.command_text.specs.declared.steps.Steps.TheVariants as makes
+use Rattle.command_text.specs.declared.steps.StepCursor.TheVariants as makes
 use Rattle.command_text.specs.Laws.{StagesMayBeCut}
 use Rattle.command_text.specs.Staging.{
   commands_in_stage,
-  first_end,
-  half_way,
+  first_anneal_end,
+  halfway,
   made_by,
   making,
   next_deviation,
@@ -48,14 +49,14 @@ found_by : (from to n k m : ℕ) (rest : Option ℕ) (b : Bool) → nat_lt n (bo
 found_by from to n k m rest true t later is = subst (λ i. n < boundary from to (i + 1)) (some_is k m is) (ltb-true n (boundary from to (k + 1)) t)
 found_by from to n k m rest false t later is = later is
 
--- it ends behind the step
-ends_behind : (from to n k left m : ℕ) → stage_among from to n k left ≡ Some m → n < boundary from to (m + 1)
+-- the end of the stage comes after the step
+ends_after : (from to n k left m : ℕ) → stage_among from to n k left ≡ Some m → n < boundary from to (m + 1)
 unfolding stage_among
-ends_behind from to n k zero m e = none_is m e
-ends_behind from to n k (suc left) m e =
-    found_by from to n k m (stage_among from to n (k + 1) left) (nat_lt n (boundary from to (k + 1))) refl (ends_behind from to n (k + 1) left m) e
+ends_after from to n k zero m e = none_is m e
+ends_after from to n k (suc left) m e =
+    found_by from to n k m (stage_among from to n (k + 1) left) (nat_lt n (boundary from to (k + 1))) refl (ends_after from to n (k + 1) left m) e
 
--- no boundary is behind the last step
+-- once all steps up to `to` are made, every boundary of a stage is passed
 bounded : (from to n m : ℕ) → m ≤ 20 → from ≤ n → to ≤ n → boundary from to m ≤ n
 bounded from to n m few begun past = let most : (to - from) * m ≤ (to - from) * 20 = mul-le-mul_left (to - from) few in omega (arith, most, begun, past)
 
@@ -72,7 +73,7 @@ none_past from to n past = elim (cases_Bool (nat_lt n from)) [
   | inr f ↦ ap (λ b. if b then None else stage_among from to n 0 20) f ∙ none_among from to n 0 20 refl (ltb-false n from f) past
 ]
 
--- nothing lies between them where the first number is above the second
+-- if `from` is above `to`, no step belongs to a stage
 pub none_between : (from to n : ℕ) → to < from → stage_of from to n ≡ None
 none_between from to n above = elim (cases_Bool (nat_lt n from)) [
   | inl t ↦ ap (λ b. if b then None else stage_among from to n 0 20) t
@@ -84,7 +85,7 @@ ends_of from to n k e = at (nat_lt n from) e
   where
     at : (b : Bool) → (if b then None else stage_among from to n 0 20) ≡ Some k → n < boundary from to (k + 1)
     at true is = none_is k is
-    at false is = ends_behind from to n 0 20 k is
+    at false is = ends_after from to n 0 20 k is
 
 pub before_end : (from to n k : ℕ) → stage_of from to n ≡ Some k → n < to
 before_end from to n k e = elim (cases_Bool (nat_lt n to)) [
@@ -109,9 +110,10 @@ module _ (from to : ℕ) where
       at true t is = none_is k is
       at false f is = (ltb-false n from f, few_among n 0 20 k is)
 
--- ---- what is due
+-- ---- the operation that is due
 
--- it makes a step at least, and none behind the last one; so it is accepted where the last one is
+-- an operation that is due makes at least one step, and none after the last one. So it is accepted if the last
+-- step is within the limits
 pub record IsDue (from to n : ℕ) (c : Command) : Type 0 where
   pub begun : from ≤ n
   pub some : 0 < steps_of c
@@ -147,7 +149,7 @@ reduce_due from to n end begun below within = record {
   fits = λ j same room. free_within 524288 j n (min (end - n) 524288) (omega (arith, below)) (omega arith) (omega (arith, below, within, room)) same;
 }
 
--- a stage ends at the last number or before
+-- a stage ends before the last step or at it
 end_within : (from to n k : ℕ) → stage_of from to n ≡ Some k → boundary from to (k + 1) ≤ to
 end_within from to n k e =
     let found = few_stages from to n k e in
@@ -163,7 +165,7 @@ staged_due from to n (Some k) c found is =
     subst (IsDue from to n) (some_is (stage_piece from to n k) c is)
     (anneal_due from to n (boundary from to (k + 1)) (few_stages from to n k found).0 (ends_of from to n k found) (end_within from to n k found))
 
--- what is due from a later step on is due from an earlier one on
+-- an operation that is due in a range is also due in a range that begins earlier
 later_due : (from mid to n : ℕ) (c : Command) → from ≤ mid → IsDue mid to n c → IsDue from to n c
 later_due from mid to n c before due = let begun = due.begun in record {
   begun = omega (arith, before, begun);
@@ -174,24 +176,24 @@ later_due from mid to n c before due = let begun = due.begun in record {
   fits = due.fits;
 }
 
-reducing_due : (from to n : ℕ) (c : Command) (early warm first : Bool) → nat_lt n from ≡ early → nat_lt n (first_end from to) ≡ warm → nat_lt n (half_way from to) ≡ first
-    → (if early then None else if warm then Some (Anneal (min (first_end from to - n) 16384)) else if first
-    then Some (Reduce (min (half_way from to - n) 524288)) else staged_steps (half_way from to) to n) ≡ Some c
+reducing_due : (from to n : ℕ) (c : Command) (early warm first : Bool) → nat_lt n from ≡ early → nat_lt n (first_anneal_end from to) ≡ warm → nat_lt n (halfway from to) ≡ first
+    → (if early then None else if warm then Some (Anneal (min (first_anneal_end from to - n) 16384)) else if first
+    then Some (Reduce (min (halfway from to - n) 524288)) else staged_steps (halfway from to) to n) ≡ Some c
     → IsDue from to n c
 reducing_due from to n c true warm first e w h is = none_is c is
 reducing_due from to n c false true first e w h is =
     let begun = ltb-false n from e in
-    let below = ltb-true n (first_end from to) w in
-    subst (IsDue from to n) (some_is (Anneal (min (first_end from to - n) 16384)) c is) (anneal_due from to n (first_end from to) begun below (omega (arith, begun, below)))
+    let below = ltb-true n (first_anneal_end from to) w in
+    subst (IsDue from to n) (some_is (Anneal (min (first_anneal_end from to - n) 16384)) c is) (anneal_due from to n (first_anneal_end from to) begun below (omega (arith, begun, below)))
 reducing_due from to n c false false true e w h is =
     let begun = ltb-false n from e in
-    let below = ltb-true n (half_way from to) h in
-    subst (IsDue from to n) (some_is (Reduce (min (half_way from to - n) 524288)) c is) (reduce_due from to n (half_way from to) begun below (omega (arith, begun, below)))
+    let below = ltb-true n (halfway from to) h in
+    subst (IsDue from to n) (some_is (Reduce (min (halfway from to - n) 524288)) c is) (reduce_due from to n (halfway from to) begun below (omega (arith, begun, below)))
 reducing_due from to n c false false false e w h is =
-    later_due from (half_way from to) to n c (omega arith) (staged_due (half_way from to) to n (stage_of (half_way from to) to n) c refl is)
+    later_due from (halfway from to) to n c (omega arith) (staged_due (halfway from to) to n (stage_of (halfway from to) to n) c refl is)
 
 is_due : (kind : Kind) (from to n : ℕ) (c : Command) → steps_due kind from to n ≡ Some c → IsDue from to n c
-is_due LiLim from to n c is = reducing_due from to n c (nat_lt n from) (nat_lt n (first_end from to)) (nat_lt n (half_way from to)) refl refl refl is
+is_due LiLim from to n c is = reducing_due from to n c (nat_lt n from) (nat_lt n (first_anneal_end from to)) (nat_lt n (halfway from to)) refl refl refl is
 is_due Vrp from to n c is = staged_due from to n (stage_of from to n) c refl is
 
 pub no_load : (c : Command) → changes_requests c ≡ false → is_load c ≡ false
@@ -202,7 +204,7 @@ module _ (from to : ℕ) where
   pub due : (j : JobValue) (c : Command) → next_steps from to j ≡ Some c → IsDue from to j.steps c
   due j c e = is_due j.problem.kind from to j.steps c e
 
-  -- a step at least is made, and none behind the last
+  -- an operation makes at least one step, and there are steps left before it
   pub goes_on : (j : JobValue) (c : Command) → next_steps from to j ≡ Some c → (j.steps < (job_after j c).steps) × (j.steps < to)
   goes_on j c e =
       let d = due j c e in
@@ -211,7 +213,7 @@ module _ (from to : ℕ) where
       let last = d.last in
       (omega (arith, counted, some), omega (arith, some, last))
 
-  -- ---- however many commands are allowed for
+  -- ---- the limit on the number of operations makes no difference
 
   same_made : (f g : JobValue → List Command) (j : JobValue) (o : Option Command) → ((c : Command) → o ≡ Some c → f (job_after j c) ≡ g (job_after j c)) → made_by f o j ≡ made_by g o j
   same_made f g j None rest = refl
@@ -235,10 +237,10 @@ module _ (from to : ℕ) where
   enough (suc f) (suc g) j first second =
       one_more (suc f) (suc g) j (λ i c same e. let on = goes_on i c e in enough f g (job_after i c) (omega (arith, on.0, on.1, same, first)) (omega (arith, on.0, on.1, same, second)))
 
-  -- ---- the next command
+  -- ---- the next operation
 
-  behind : (j : JobValue) (c : Command) → next_steps from to j ≡ Some c → staged_within from to (to - j.steps) (job_after j c) ≡ stage_commands from to (job_after j c)
-  behind j c e =
+  following : (j : JobValue) (c : Command) → next_steps from to j ≡ Some c → staged_within from to (to - j.steps) (job_after j c) ≡ stage_commands from to (job_after j c)
+  following j c e =
       let on = goes_on j c e in
       let one : to - j.steps ≡ suc (to - j.steps - 1) = omega (arith, on.1) in
       ap (λ n. staged_within from to n (job_after j c)) one ∙ enough (to - j.steps - 1) (to - (job_after j c).steps) (job_after j c) (omega (arith, on.0, on.1)) (omega arith)
@@ -247,9 +249,9 @@ module _ (from to : ℕ) where
   none_made j e = ap (λ o. made_by (staged_within from to (to - j.steps)) o j) e
 
   pub next_made : (j : JobValue) (c : Command) → next_steps from to j ≡ Some c → commands_in_stage from to j ≡ c ∷ stage_commands from to (job_after j c)
-  next_made j c e = ap (λ o. made_by (staged_within from to (to - j.steps)) o j) e ∙ ap (λ cs. c ∷ cs) (behind j c e)
+  next_made j c e = ap (λ o. made_by (staged_within from to (to - j.steps)) o j) e ∙ ap (λ cs. c ∷ cs) (following j c e)
 
-  -- where a deviation is set before the next steps, it comes first
+  -- if a deviation is set before the next steps, it comes first
   pub next_set : (j : JobValue) (d : ℕ) → next_deviation from to j ≡ Some d → stage_commands from to j ≡ Deviation d ∷ commands_in_stage from to (with_deviation j d)
   unfolding staged_within
   next_set j d e = ap (λ o. set_before (making from to (staged_within from to (to - j.steps))) o j) e
@@ -258,14 +260,15 @@ module _ (from to : ℕ) where
   unfolding staged_within
   none_set j e = ap (λ o. set_before (making from to (staged_within from to (to - j.steps))) o j) e
 
-  -- ---- cut anywhere
+  -- ---- a list of operations that is cut anywhere
 
-  -- behind the first so many of these commands, all that are said again lead where these lead
+  -- after the first `count` of these operations, repeating the command leads to the same state as these
+  -- operations
   abbrev LeadsOn : JobValue → ℕ → List Command → Type 0
   LeadsOn j count commands =
       let mid = after (Loaded j) (take count commands) in after mid (commands_of (makes.Stages from to) mid) ≡ after (Loaded j) commands
 
-  -- a deviation that is set again is the same
+  -- setting a deviation a second time changes nothing
   set_again : (j : JobValue) (d : ℕ) → next_deviation from to j ≡ Some d → LeadsOn j 1 (stage_commands from to j)
   set_again j d e = subst (LeadsOn j 1) (sym (next_set j d e)) (ap (after (Loaded (with_deviation j d))) (next_set (with_deviation j d) d e))
 

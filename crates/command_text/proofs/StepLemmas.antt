@@ -1,4 +1,4 @@
--- The pieces of steps, from the first on.
+-- Steps are split into pieces, beginning with the first one.
 use Rattle.std.proofs.Common.{◌≡◌, ◌∙◌, inl, inr, ℕ, suc, ◌-◌, ◌/◌, ◌%◌, ◌<◌, ◌≤◌, List, [], ◌∷◌, ◌++◌, replicate, if◌then◌else◌, ◌==◌, sym, ap, refl, arith}
 use Rattle.std.proofs.Math.Nat.{div-eq-sub-div, div-eq_of_lt, mod-eq-sub-mod, mod-eq_of_lt, zero-div, zero-mod}
 use Rattle.std.proofs.Math.Numerals.{suc-eq-add-one}

@@ -1,10 +1,11 @@
--- A loop over names: each is the word, or those behind it tell.
+-- A loop over a table of names: either the first name is the word, or the result is that of the rest of the
+-- table.
 use Rattle.std.proofs.Common.{sym, suc, zero, ◌≡◌, ℕ, ◌<◌, ◌≤◌, true, false, List, [], ◌∷◌, length, map, refl, ap, arith, bytes_eq, slice_index_or, Bor, Some, None}
 use Rattle.std.specs.Prelude.{drop, if◌then◌else◌}
 use Rattle.command_text.specs.declared.verbs.Verb.{Verb}
-use Rattle.command_text.specs.Asking.{verb_among}
+use Rattle.command_text.specs.Parsing.{verb_among}
 
--- names as they are read, with what each names
+-- the names in the table as bytes, each with its command
 abbrev pub names_of : List (Bor (List ℕ) × Verb) → List (List ℕ × Verb)
 names_of verbs = map (λ named. (named.0.now, named.1)) verbs
 

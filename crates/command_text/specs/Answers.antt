@@ -1,51 +1,53 @@
--- The lines that answer, byte by byte. Numbers are in decimal.
+-- The lines of answers, byte by byte. Numbers are in decimal.
 use Rattle.std.specs.Prelude.{ℕ, List, ◌++◌, [], ◌∷◌, codes, decimal}
 use Rattle.plan_types.specs.declared.plans.Cost.{Cost}
 use Rattle.route_sched.specs.Cost.{cost_of}
-use Rattle.command_core.specs.Job.{JobValue}
-use Rattle.command_core.specs.Names.{refusal_name}
+use Rattle.command_types.specs.Job.{JobValue}
+use Rattle.command_types.specs.Names.{refusal_name}
 use Rattle.instance_read.specs.Names.{kind_name}
 use Rattle.instance_read.specs.declared.faults.ReadFaultKind.{ReadFaultKind}
 use Rattle.instance_read.specs.declared.faults.ReadFaultKind.TheVariants.{OutOfMemory}
 use Rattle.sol_text.specs.Names.{kind_name as sol_name}
 use Rattle.sol_text.specs.declared.faults.SolFaultKind.{SolFaultKind}
 use Rattle.sol_text.specs.declared.faults.SolFaultKind.TheVariants as sol
-use Rattle.plan_seats.specs.declared.faults.Unseated.{Unseated as UnseatedBy}
-use Rattle.plan_seats.specs.declared.faults.Unseated.TheVariants as unseated
+use Rattle.vehicle_assignment.specs.declared.faults.AssignmentFault.{AssignmentFault as UnseatedBy}
+use Rattle.vehicle_assignment.specs.declared.faults.AssignmentFault.TheVariants as unseated
 use Rattle.command_text.specs.declared.help.TheConstants.{HELP}
 use Rattle.command_text.specs.declared.answers.Answer.{Answer}
-use Rattle.command_text.specs.declared.answers.Answer.TheVariants.{Ok, BadLine, Truncated, Broken, Refused, Read, Unseated, Unplanned, Spent, DeviceFault}
+use Rattle.command_text.specs.declared.answers.Answer.TheVariants.{Ok, BadLine, Truncated, Broken, Refused, Read, AssignmentFault, Unplanned, Spent, DeviceFault}
 
--- with its line feed
+-- A line with its line feed.
 abbrev pub line : List ℕ → List ℕ
 line text = text ++ 10 ∷ []
 
--- `no NAME`
+-- `no NAME`.
 abbrev pub no_text : List ℕ → List ℕ
 no_text name = codes "no " ++ name
 
--- a fault of an instance's text: `no NAME LINE`; want of memory is in no line
+-- A fault of an instance's text: `no NAME LINE`. Out of memory has no line number.
 abbrev pub read_text : ReadFaultKind → ℕ → List ℕ
 read_text OutOfMemory number = no_text (codes "OutOfMemory")
 read_text kind number = no_text (kind_name kind) ++ codes " " ++ decimal number
 
--- a fault of a solution's text: `no NAME LINE`; want of memory is in no line
+-- A fault of a solution's text: `no NAME LINE`. Out of memory has no line number.
 abbrev pub sol_fault_text : SolFaultKind → ℕ → List ℕ
 sol_fault_text sol.OutOfMemory number = no_text (codes "OutOfMemory")
 sol_fault_text kind number = no_text (sol_name kind) ++ codes " " ++ decimal number
 
--- the rule that a solution breaks: `broken RULE route R place P stop S`
+-- The rule that a solution breaks: `broken RULE route R place P stop S`.
 abbrev pub broken_text : ℕ → ℕ → ℕ → ℕ → List ℕ
 broken_text rule route place stop = codes "broken " ++ decimal rule ++ codes " route " ++ decimal route ++ codes " place " ++ decimal place ++ codes " stop " ++ decimal stop
 
--- why a solution is no plan: its text's fault; the auditor's line and, as a second one, `no NotAPlan`; or `no Pinned`
+-- The reason why a solution is not a plan: the fault of its text, or the auditor's line and then `no NotAPlan`,
+-- or `no Pinned`.
 abbrev pub unseated_text : UnseatedBy → List ℕ
 unseated_text (unseated.Sol fault) = sol_fault_text fault.kind fault.line
 unseated_text (unseated.Broken rule route place stop) = line (broken_text rule route place stop) ++ no_text (codes "NotAPlan")
-unseated_text (unseated.Pinned vehicle) = no_text (codes "Pinned")
+unseated_text (unseated.PinWithoutRoute vehicle) = no_text (codes "Pinned")
 unseated_text unseated.OutOfMemory = no_text (codes "OutOfMemory")
 
--- the line that ends the answer to a command, without its line feed; where the auditor is asked, the line before it too
+-- The line that ends the answer to a command, without its line feed. If a solution breaks a rule, the auditor's
+-- line comes before it.
 abbrev pub answer_text : Answer → List ℕ
 answer_text Ok = codes "ok"
 answer_text BadLine = no_text (codes "BadLine")
@@ -53,27 +55,27 @@ answer_text Truncated = no_text (codes "Truncated")
 answer_text Broken = no_text (codes "Broken")
 answer_text (Refused refusal) = no_text (refusal_name refusal)
 answer_text (Read fault) = read_text fault.kind fault.line
-answer_text (Unseated why) = unseated_text why
+answer_text (AssignmentFault why) = unseated_text why
 answer_text Unplanned = no_text (codes "Unplanned")
 answer_text Spent = no_text (codes "Spent")
 answer_text DeviceFault = codes "fault device"
 
--- `U V D`
+-- `U V D`: the unplanned requests, the vehicles and the distance.
 abbrev pub cost_text : Cost → List ℕ
 cost_text cost = decimal cost.unplanned ++ codes " " ++ decimal cost.vehicles ++ codes " " ++ decimal cost.distance
 
--- the number that the next order gets: `next N`
+-- The number that the next order gets: `next N`.
 abbrev pub next_text : JobValue → List ℕ
 next_text j = codes "next " ++ decimal j.problem.next_number
 
--- what `help` tells: the text of this constant
+-- The answer to `help`: the text of the constant `HELP`.
 unfoldable pub help_text : List ℕ
 help_text = HELP.now
 
--- a pin that a line has set: `pin V K`
+-- A pin that a command has set: `pin V K`.
 abbrev pub pin_text : ℕ → ℕ → List ℕ
 pin_text v k = codes "pin " ++ decimal v ++ codes " " ++ decimal k
 
--- how far a search is: `at STEPS UNPLANNED VEHICLES DISTANCE`
+-- The progress of a search: `at STEPS UNPLANNED VEHICLES DISTANCE`.
 abbrev pub at_text : JobValue → List ℕ
 at_text j = codes "at " ++ decimal j.steps ++ codes " " ++ cost_text (cost_of j.problem j.plan)

@@ -1,55 +1,58 @@
--- What the line `freeze T` keeps: of each vehicle the stops to which it has set off by a time, as its pin.
+-- The pins of `freeze T`: for each vehicle, the stops to which it has departed by a time.
 use Rattle.std.specs.Prelude.{ℕ, zero, suc, ◌+◌, ◌-◌, max, nat_le, nat_lt, is_none, if◌then◌else◌, Bool, List, [], ◌∷◌, length, Option, Some, None}
 use Rattle.std.specs.List.{find, prefix_len, range_with_len}
 use Rattle.std.specs.Option.{option_and_then}
 use Rattle.plan_types.specs.Instance.{Instance}
-use Rattle.route_sched.specs.Visiting.{visit_after}
+use Rattle.route_sched.specs.VisitList.{visit_after}
 use Rattle.route_sched.specs.declared.visits.Visit.{Visit}
-use Rattle.move_ops.specs.Insertion.{of_vehicle}
+use Rattle.move_ops.specs.Insertion.{route_of}
 use Rattle.command_core.specs.Effects.{job_after}
-use Rattle.command_core.specs.Job.{JobValue}
-use Rattle.command_core.specs.Refusing.{job_refusal}
-use Rattle.command_core.specs.declared.commands.Command.{Command}
-use Rattle.command_core.specs.declared.commands.Command.TheVariants.{Pin}
+use Rattle.command_types.specs.Job.{JobValue}
+use Rattle.command_core.specs.Refusals.{job_refusal}
+use Rattle.command_types.specs.declared.commands.Command.{Command}
+use Rattle.command_types.specs.declared.commands.Command.TheVariants.{Pin}
 
--- the vehicle sets off to this place by time t: service starts there no later than the way behind t, and an early van waits where it was
-abbrev pub has_set_off : ℕ → Visit → Bool
-has_set_off t v = nat_le v.start (t + v.leg)
+-- Whether the vehicle departs to this place by time t: service starts there at most the leg's travel time after
+-- t. A vehicle that would be early waits at the place before.
+abbrev pub has_departed : ℕ → Visit → Bool
+has_departed t v = nat_le v.start (t + v.leg)
 
--- to how many stops of its route a vehicle has set off by time t: those of the longest front to each of which it has
-abbrev pub set_off_count : Instance → List ℕ → ℕ → ℕ
-set_off_count p route t = prefix_len (λ k. has_set_off t (visit_after p route k)) (range_with_len 0 (length route))
+-- The number of stops of its route to which a vehicle has departed by time t: the length of the longest prefix
+-- with a departure to every stop.
+abbrev pub departed_count : Instance → List ℕ → ℕ → ℕ
+departed_count p route t = prefix_len (λ k. has_departed t (visit_after p route k)) (range_with_len 0 (length route))
 
 module _ (j : JobValue) where
-  -- the first so many stops of vehicle v may be pinned
+  -- Whether the first k stops of vehicle v may be pinned.
   abbrev pub may_be_pinned : ℕ → ℕ → Bool
   may_be_pinned v k = is_none (job_refusal j (Pin v k))
 
-  -- the least number of stops, k at least, that may be pinned of vehicle v
+  -- The smallest number of stops of vehicle v, k or more, that may be pinned.
   abbrev pub pin_end : ℕ → ℕ → Option ℕ
-  pin_end v k = find (may_be_pinned v) (range_with_len k (length (of_vehicle j.plan v) + 1 - k))
+  pin_end v k = find (may_be_pinned v) (range_with_len k (length (route_of j.plan v) + 1 - k))
 
--- a number above another
+-- The number n, if it is above `low`.
 abbrev pub above : ℕ → ℕ → Option ℕ
 above low n = if nat_lt low n then Some n else None
 
--- How many stops of vehicle v are pinned at time t, where those are more than its pin has: the stops to which it has set off, and as many
--- more as it takes until these may be pinned.
-abbrev pub frozen : ℕ → JobValue → ℕ → Option ℕ
-frozen t j v =
-    let pinned = length (of_vehicle j.pins v) in
-    option_and_then (above pinned) (pin_end j v (max pinned (set_off_count j.problem (of_vehicle j.plan v) t)))
+-- The number of stops of vehicle v that are pinned at time t, if it is more than its pin has: the stops to
+-- which it has departed, and as many more as it takes until they may be pinned.
+abbrev pub new_pin_len : ℕ → JobValue → ℕ → Option ℕ
+new_pin_len t j v =
+    let pinned = length (route_of j.pins v) in
+    option_and_then (above pinned) (pin_end j v (max pinned (departed_count j.problem (route_of j.plan v) t)))
 
--- that pin, and what follows then
+-- The operation that sets the given pin, and the operations after it. Without a pin, only the operations that
+-- follow.
 abbrev pub pinned_before : (JobValue → List Command) → ℕ → Option ℕ → JobValue → List Command
 pinned_before follows v None j = follows j
 pinned_before follows v (Some k) j = Pin v k ∷ follows (job_after j (Pin v k))
 
--- the pins of so many vehicles, from vehicle v on
-unfoldable pub frozen_among : ℕ → ℕ → ℕ → JobValue → List Command
-frozen_among t v zero j = []
-frozen_among t v (suc n) j = pinned_before (frozen_among t (v + 1) n) v (frozen t j v) j
+-- The pins of n vehicles, beginning with vehicle v.
+unfoldable pub freeze_vehicles : ℕ → ℕ → ℕ → JobValue → List Command
+freeze_vehicles t v zero j = []
+freeze_vehicles t v (suc n) j = pinned_before (freeze_vehicles t (v + 1) n) v (new_pin_len t j v) j
 
--- those of vehicle v and all behind it
+-- The pins of vehicle v and all vehicles after it.
 abbrev pub freeze_commands : ℕ → ℕ → JobValue → List Command
-freeze_commands t v j = frozen_among t v (j.problem.fleet + 1 - v) j
+freeze_commands t v j = freeze_vehicles t v (j.problem.fleet + 1 - v) j

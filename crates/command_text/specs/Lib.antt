@@ -1,7 +1,7 @@
--- what public contracts say
+-- Definitions in public contracts.
 pub mod Answering
 pub mod Answers
-pub mod Asking
+pub mod Parsing
 pub mod Cutting
 pub mod Freezing
 pub mod Laws
@@ -10,6 +10,6 @@ pub mod Readings
 pub mod Scanning
 pub mod Showing
 pub mod Staging
--- of private functions alone
+-- Definitions in the contracts of private functions.
 pub mod Lines
 pub mod Numbers

@@ -1,8 +1,8 @@
--- A line in a place of a fixed size.
+-- A line in a buffer of fixed size.
 use Rattle.std.specs.Prelude.{ℕ, ◌≤◌, List, take}
 use Rattle.command_text.specs.declared.answers.ShortLine.TheInside.{Inside}
 
--- what contracts see
+-- The value of a line in contracts: its used bytes.
 abbrev pub used_bytes : Inside → List ℕ
 used_bytes l = take l.used l.bytes
 

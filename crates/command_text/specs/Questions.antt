@@ -1,35 +1,36 @@
--- What is told of a job where a line asks, and what is refused.
+-- The answers to questions about a job, and their refusals.
 use Rattle.std.specs.Prelude.{ℕ, List, [], Option, Some, None, if◌then◌else◌, unwrap_or}
 use Rattle.plan_types.specs.Instance.{Instance, name_at}
 use Rattle.plan_timetable.specs.Timetable.{timetable_text, vehicle_text}
 use Rattle.plan_timetable.specs.declared.forms.Form.TheVariants.{Columns}
-use Rattle.plan_why.specs.Why.{why_at}
-use Rattle.move_ops.specs.Insertion.{of_vehicle}
+use Rattle.request_explanation.specs.Why.{why_at}
+use Rattle.move_ops.specs.Insertion.{route_of}
 use Rattle.seeded_search.specs.Steps.{unplanned_names}
-use Rattle.command_core.specs.Job.{JobValue}
-use Rattle.command_core.specs.Refusing.{is_vehicle}
-use Rattle.command_core.specs.declared.refusals.Refusal.{Refusal}
-use Rattle.command_core.specs.declared.refusals.Refusal.TheVariants.{NoSuchRequest, Range}
+use Rattle.command_types.specs.Job.{JobValue}
+use Rattle.command_core.specs.Refusals.{is_vehicle}
+use Rattle.command_types.specs.declared.refusals.Refusal.{Refusal}
+use Rattle.command_types.specs.declared.refusals.Refusal.TheVariants.{NoSuchRequest, Range}
 use Rattle.command_text.specs.declared.questions.Question.{Question}
 use Rattle.command_text.specs.declared.questions.Question.TheVariants.{Timetable, VehicleTimetable, Why}
 
--- there is no such vehicle
+-- The refusal of a vehicle that the fleet does not have.
 abbrev pub vehicle_refusal : Instance → ℕ → Option Refusal
 vehicle_refusal p v = if is_vehicle p v then None else Some Range
 
--- no request has the stop, so there is no name of one
+-- The refusal of a stop that no request has, so that there is no name.
 abbrev pub stop_refusal : Option ℕ → Option Refusal
 stop_refusal None = Some NoSuchRequest
 stop_refusal (Some name) = None
 
--- why a job leaves a question open
+-- The refusal of a question.
 abbrev pub question_refusal : JobValue → Question → Option Refusal
 question_refusal j Timetable = None
 question_refusal j (VehicleTimetable v) = vehicle_refusal j.problem v
 question_refusal j (Why stop) = stop_refusal (name_at j.problem stop)
 
--- What is told of the incumbent plan, for people: the timetable of all vehicles, or that of one; or why a request is where it is.
+-- The answer about the incumbent plan, for people: the timetable of all vehicles or of one, or the reason why a
+-- request is at its place.
 abbrev pub question_text : JobValue → Question → List ℕ
 question_text j Timetable = timetable_text Columns j.problem j.pins j.plan (unplanned_names j.problem j.plan)
-question_text j (VehicleTimetable v) = vehicle_text Columns j.problem v (of_vehicle j.plan v)
+question_text j (VehicleTimetable v) = vehicle_text Columns j.problem v (route_of j.plan v)
 question_text j (Why stop) = unwrap_or (why_at j.problem j.pins j.plan stop) []

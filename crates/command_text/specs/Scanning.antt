@@ -4,7 +4,7 @@ use Rattle.text_lines.specs.Words.{is_blank}
 use Rattle.command_text.specs.declared.first_word.FirstWord.{FirstWord}
 use Rattle.command_text.specs.declared.first_word.FirstWord.TheVariants.{Nothing, L, Lo, Loa, A, Ad, Ado, Adop, Whole, WholeAndReturn, Over, Other}
 
--- the word goes on with this letter, or is another one
+-- The next longer prefix if the byte is this letter, else another word.
 abbrev pub next_letter : ℕ → ℕ → FirstWord → FirstWord
 next_letter letter b longer = if b == letter then longer else Other
 
@@ -26,12 +26,12 @@ abbrev pub scanned_on : FirstWord → List ℕ → FirstWord
 scanned_on word [] = word
 scanned_on word (b ∷ bs) = scanned_on (scanned_byte word b) bs
 
--- what the bytes so far tell
+-- The state of the scan after these bytes.
 abbrev pub scanned : List ℕ → FirstWord
 scanned bytes = scanned_on Nothing bytes
 
-abbrev pub says_whole : FirstWord → Bool
-says_whole Whole = true
-says_whole WholeAndReturn = true
-says_whole Over = true
-says_whole _ = false
+abbrev pub is_announcement : FirstWord → Bool
+is_announcement Whole = true
+is_announcement WholeAndReturn = true
+is_announcement Over = true
+is_announcement _ = false

@@ -1,39 +1,40 @@
--- What `show` and `print` write. Vehicles count from 1.
+-- The answers to `show` and `print`. Vehicles count from 1.
 use Rattle.std.specs.Prelude.{ℕ, ◌+◌, ◌*◌, ◌==◌, if◌then◌else◌, List, [], ◌∷◌, ◌++◌, length, codes, decimal}
 use Rattle.std.specs.List.{flat_map}
 use Rattle.route_sched.specs.Cost.{cost_of, total_length}
 use Rattle.seeded_search.specs.Steps.{unplanned_names}
 use Rattle.sol_text.specs.Written.{customers_text, solution_text, used_routes}
 use Rattle.sol_text.specs.declared.read.Solution.{Solution}
-use Rattle.command_core.specs.Job.{JobValue}
+use Rattle.command_types.specs.Job.{JobValue}
 use Rattle.command_text.specs.Answers.{cost_text, line}
 
--- `KEY V: a b ..` of a list that is not empty, else nothing
+-- `KEY V: a b ..` for a list that is not empty, else nothing.
 abbrev pub list_text : List ℕ → ℕ → List ℕ → List ℕ
 list_text key vehicle stops =
     if length stops == 0 then [] else line (key ++ codes " " ++ decimal vehicle ++ codes ":" ++ customers_text stops)
 
--- this for each vehicle, from this one on
+-- The lines `KEY V: a b ..` of these vehicles, beginning with the vehicle of this number.
 abbrev pub lists_text : List ℕ → ℕ → List (List ℕ) → List ℕ
 lists_text key vehicle [] = []
 lists_text key vehicle (stops ∷ lists) = list_text key vehicle stops ++ lists_text key (vehicle + 1) lists
 
--- `unplanned R`
+-- `unplanned R`.
 abbrev pub unplanned_text : ℕ → List ℕ
 unplanned_text name = line (codes "unplanned " ++ decimal name)
 
--- `requests N next X`, and `steps S place P`, where the next step's words begin
+-- `requests N next X`, and `steps S place P`. P is the position of the next step's random words.
 abbrev pub counts_text : JobValue → List ℕ
 counts_text j =
     line (codes "requests " ++ decimal (length j.problem.requests) ++ codes " next " ++ decimal j.problem.next_number)
     ++ line (codes "steps " ++ decimal j.steps ++ codes " place " ++ decimal (16 * j.steps))
 
--- `deviation D` and `work U V D`, what the working plan costs, where the deviation is above 0
+-- `deviation D` and `work U V D`, the cost of the working plan, if the deviation is above 0.
 abbrev pub work_text : JobValue → List ℕ
 work_text j =
     if j.deviation == 0 then [] else line (codes "deviation " ++ decimal j.deviation) ++ line (codes "work " ++ cost_text (cost_of j.problem j.work))
 
--- all pins, then all routes, then the requests that are in no route, by rising name, and the cost
+-- The counts, all pins, all routes, the requests in no route in ascending order of name, the cost, and the
+-- lines of the working plan.
 abbrev pub show_text : JobValue → List ℕ
 show_text j =
     counts_text j
@@ -43,10 +44,10 @@ show_text j =
     ++ line (codes "cost " ++ cost_text (cost_of j.problem j.plan))
     ++ work_text j
 
--- the solution that is printed: the routes that are not empty, and the distance driven
+-- The printed solution: the routes that are not empty, and their distance.
 abbrev pub solution_of : JobValue → Solution
 solution_of j = record { routes = used_routes j.plan; cost = total_length j.problem j.plan }
 
--- its text
+-- The text of the printed solution.
 abbrev pub print_text : JobValue → List ℕ
 print_text j = solution_text (used_routes j.plan) (total_length j.problem j.plan)

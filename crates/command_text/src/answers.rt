@@ -1,21 +1,22 @@
-//! The lines that answer.
+//! The lines of answers.
 ghost use Rattle.std.specs.Prelude.{◌≡◌, ◌≤◌, ◌+◌, ◌++◌, [], codes, decimal, length};
 ghost use Rattle.instance_read.specs.Names.{kind_name};
 ghost use Rattle.route_sched.specs.Cost.{cost_of};
 ghost use Rattle.command_text.specs.Answers.{at_text, broken_text, cost_text, next_text, no_text, pin_text, read_text, sol_fault_text, unseated_text};
-ghost use Rattle.command_text.specs.Answering.{progress_behind};
+ghost use Rattle.command_text.specs.Answering.{progress_after};
 
 use command_core::{Command, Job, Refusal};
 use instance_read::{ReadFault, ReadFaultKind};
 use itoa::Buffer;
-use plan_audit::passes_are_local;
-use plan_seats::Unseated;
+use plan_audit::passing_is_local;
 use plan_types::Cost;
 use route_sched::plan_cost;
 use sol_text::{SolFault, SolFaultKind};
 use std::marker::Model;
+use vehicle_assignment::AssignmentFault;
 
-/// A short line without its line feed, in a place of its own: an answer to what was carried out must not want memory.
+/// A short line without its line feed, in a fixed buffer, since an answer to an executed operation must not run
+/// out of memory.
 #[derive(Debug, Drop)]
 pub struct ShortLine {
     bytes: [u8; 128],
@@ -74,7 +75,7 @@ impl ShortLine {
         self.put_number(cost.distance);
     }
 
-    /// The bytes of the line.
+    /// Returns the bytes of the line.
     pub fn as_bytes(&self) -> &[u8]
         ensures { result.now ≡ self.now }
     {
@@ -82,22 +83,22 @@ impl ShortLine {
     }
 }
 
-/// How the answer to a command ends.
+/// The end of the answer to a command.
 #[derive(Clone, Copy, Debug, PartialEq, Eq)]
 pub enum Answer {
     Ok,
-    /// The line asks for nothing that there is.
+    /// The line is not a command.
     BadLine,
     /// The input ended before the announced bytes did.
     Truncated,
-    /// The device failed in a command before.
+    /// The device failed in an earlier command.
     Broken,
     Refused(Refusal),
-    /// The text of an instance has this fault.
+    /// The instance's text has this fault.
     Read(ReadFault),
-    /// The text of a solution is no plan.
-    Unseated(Unseated),
-    /// Requests are in no route, so there is no solution to be printed.
+    /// The solution's text is not a plan.
+    AssignmentFault(AssignmentFault),
+    /// There are requests in no route, so there is no solution to print.
     Unplanned,
     /// The store can't be written any more.
     Spent,
@@ -108,7 +109,8 @@ pub enum Answer {
 impl Answer {
     ghost use Rattle.command_text.specs.Answers.{answer_text};
 
-    /// Its line: `ok`, `no NAME`, `no NAME LINE` or `fault device`; of a solution that breaks a rule two lines, the auditor's first.
+    /// Returns the line of the answer: `ok`, `no NAME`, `no NAME LINE` or `fault device`. For a solution that
+    /// breaks a rule there are two lines, the auditor's first.
     pub fn line(&self) -> ShortLine
         ensures { result ≡ answer_text self.now }
     {
@@ -119,7 +121,7 @@ impl Answer {
             Answer::Broken => no_line("Broken"),
             Answer::Refused(refusal) => no_line(refusal.name()),
             Answer::Read(fault) => fault_line(*fault),
-            Answer::Unseated(why) => unseated_line(*why),
+            Answer::AssignmentFault(why) => unseated_line(*why),
             Answer::Unplanned => no_line("Unplanned"),
             Answer::Spent => no_line("Spent"),
             Answer::DeviceFault => words("fault device"),
@@ -161,13 +163,13 @@ fn fault_line(fault: ReadFault) -> ShortLine
     }
 }
 
-// Why a solution's text is no plan.
-fn unseated_line(why: Unseated) -> ShortLine
+// Returns the answer to a solution's text that is not a plan.
+fn unseated_line(why: AssignmentFault) -> ShortLine
     ensures { result ≡ unseated_text why }
 {
     match why {
-        Unseated::Sol(fault) => sol_fault_line(fault),
-        Unseated::Broken {
+        AssignmentFault::Sol(fault) => sol_fault_line(fault),
+        AssignmentFault::Broken {
             rule,
             route,
             place,
@@ -177,8 +179,8 @@ fn unseated_line(why: Unseated) -> ShortLine
             line.put("\nno NotAPlan");
             line
         }
-        Unseated::Pinned(_) => no_line("Pinned"),
-        Unseated::OutOfMemory => no_line("OutOfMemory"),
+        AssignmentFault::PinWithoutRoute(_) => no_line("Pinned"),
+        AssignmentFault::OutOfMemory => no_line("OutOfMemory"),
     }
 }
 
@@ -212,15 +214,15 @@ fn broken_line(rule: u32, route: u64, place: u64, stop: u32) -> ShortLine
     line
 }
 
-/// What the incumbent costs.
+/// Returns the cost of the incumbent plan.
 pub(crate) fn cost(job: &Job) -> Cost
     ensures { result ≡ cost_of job.now.problem job.now.plan }
 {
-    passes_are_local();
+    passing_is_local();
     plan_cost(&job.problem, &job.plan)
 }
 
-/// How far a search is: `at STEPS UNPLANNED VEHICLES DISTANCE`.
+/// Returns the line with the progress of a search: `at STEPS UNPLANNED VEHICLES DISTANCE`.
 pub fn at_line(job: &Job) -> ShortLine
     ensures { result ≡ at_text job.now }
 {
@@ -233,19 +235,19 @@ pub fn at_line(job: &Job) -> ShortLine
     line
 }
 
-/// What is told behind a command of a line that takes several.
+/// The line printed after an operation of a command that takes several.
 #[derive(Clone, Copy, Debug, PartialEq, Eq)]
 pub enum Progress {
     Nothing,
-    /// How far the steps are (`at_line`).
+    /// The steps so far (`at_line`).
     Stepped,
-    /// Which pin it was (`pin_line`).
+    /// The pin that was set (`pin_line`).
     Pinned { vehicle: u32, stops: u32 },
 }
 
-/// What is told behind this command, where a line takes several.
-pub fn progress_behind(command: &Command) -> Progress
-    ensures { result ≡ progress_behind command.now }
+/// Returns the line to print after this operation, if it belongs to a command that takes several.
+pub fn progress_after(command: &Command) -> Progress
+    ensures { result ≡ progress_after command.now }
 {
     match command {
         Command::Pin(vehicle, stops) => Progress::Pinned {
@@ -257,7 +259,7 @@ pub fn progress_behind(command: &Command) -> Progress
     }
 }
 
-/// A pin that a line has set: `pin V K`.
+/// Returns the line for a pin that a command has set: `pin V K`.
 pub fn pin_line(vehicle: u32, stops: u32) -> ShortLine
     ensures { result ≡ pin_text vehicle stops }
 {
@@ -269,7 +271,8 @@ pub fn pin_line(vehicle: u32, stops: u32) -> ShortLine
     line
 }
 
-/// The number that the next order gets, the pickup's of a pair: `next N`.
+/// Returns the line with the number that the next order gets: `next N`. For a pair this is the number of its
+/// pickup.
 pub fn next_line(job: &Job) -> ShortLine
     ensures { result ≡ next_text job.now }
 {

@@ -1,15 +1,16 @@
-//! The numbers of a line: an integer is kept as each field may hold it, and judged where the command is known.
+//! The numbers of a line. Each integer is kept in every form that a field may need, and checked once the
+//! command is known.
 ghost use Rattle.std.specs.Prelude.{◌≡◌, ◌<◌, ◌≤◌, ◌++◌, [], ◌∷◌, length, None, Some, MatchOption, OnSome};
-ghost use Rattle.command_text.specs.Asking.{as_u32, field_in, field_of, fields_of};
+ghost use Rattle.command_text.specs.Parsing.{as_u32, field_in, field_of, fields_of};
 ghost use Rattle.command_text.specs.Numbers.{IsNoCommand};
 
 use std::marker::Model;
 use text_lines::{Number, Words};
 
-/// The most numbers that a command has.
-const MOST: usize = 11;
+/// The maximum count of numbers in a command.
+const MAX_NUMBERS: usize = 11;
 
-/// An integer, where an `i32` holds it, and where a `u64` does.
+/// An integer as an `i32` and as a `u64`, if it fits.
 #[derive(Clone, Copy)]
 pub(crate) struct Field {
     pub(crate) signed: Option<i32>,
@@ -26,7 +27,7 @@ impl Field {
         }
     }
 
-    /// The number, if a `u32` holds it.
+    /// Returns the number if it fits a `u32`.
     pub(crate) fn as_u32(&self) -> Option<u32>
         ensures { result ≡ as_u32 self.now }
     {
@@ -34,7 +35,7 @@ impl Field {
     }
 }
 
-// The integer that a word is.
+// Reads a word as an integer.
 fn integer(word: &[u8]) -> Option<Field>
     ensures { result ≡ field_in word.now }
 {
@@ -78,12 +79,12 @@ impl Fields {
         }
     }
 
-    // Takes one more, where there is room.
+    // Adds a number if there is room.
     fn push(&mut self, field: Field) -> Option<()>
         ensures none { result ≡ None → 11 ≤ length self.old }
         ensures some { OnSome result (self.new ≡ self.old ++ field ∷ []) }
     {
-        if self.used == MOST {
+        if self.used == MAX_NUMBERS {
             return None;
         }
         self.fields[self.used] = field;
@@ -91,7 +92,7 @@ impl Fields {
         Some(())
     }
 
-    /// The numbers so far, in order.
+    /// Returns the numbers so far, in order.
     pub(crate) fn as_slice(&self) -> &[Field]
         ensures { result.now ≡ self.now }
     {
@@ -99,7 +100,8 @@ impl Fields {
     }
 }
 
-/// The integers that the words are. `None` where one is none, or where there are more than any command has.
+/// Reads the words as integers. Returns `None` if a word is not an integer, or if there are more words than any
+/// command has.
 pub(crate) fn integers(words: &mut Words<'_>) -> Option<Fields>
     ensures { MatchOption result (IsNoCommand words.old)
         (λ fields. fields_of words.old ≡ Some fields) }

@@ -1,44 +1,45 @@
-//! The first word of a line that comes in parts.
+//! The first word of a line that arrives in parts.
 ghost use Rattle.std.specs.Prelude.{◌≡◌, ℕ, List, ◌++◌, []};
 ghost use Rattle.std.specs.Str.Lines.{strip_carriage_return};
 ghost use Rattle.text_lines.specs.Words.{words_of};
-ghost use Rattle.command_text.specs.Asking.{announces_text};
-ghost use Rattle.command_text.specs.Scanning.{says_whole, scanned, scanned_byte, scanned_on};
+ghost use Rattle.command_text.specs.Parsing.{announces_text};
+ghost use Rattle.command_text.specs.Scanning.{is_announcement, scanned, scanned_byte, scanned_on};
 
-use text_lines::words_make_the_line;
+use text_lines::lines_split_into_words;
 
-/// What the bytes of a line so far tell of its first word: a line that is too long to be kept is told apart by it.
+/// The state of scanning a line's first word. For a line that is too long to be kept, it shows whether the line
+/// announces a text.
 #[derive(Clone, Copy, Debug, PartialEq, Eq)]
 pub enum FirstWord {
-    /// Blanks alone.
+    /// Only blanks so far.
     Nothing,
-    /// Behind blanks, a front of `load`.
+    /// After blanks, a prefix of `load`.
     L,
     Lo,
     Loa,
-    /// A front of `adopt`.
+    /// A prefix of `adopt`.
     A,
     Ad,
     Ado,
     Adop,
-    /// The whole of either.
+    /// The whole of `load` or `adopt`.
     Whole,
-    /// It and a carriage return, which belongs to the word unless the line ends with it.
+    /// The whole word and then a carriage return. It belongs to the word unless the line ends with it.
     WholeAndReturn,
-    /// It and a blank.
+    /// The whole word and then a blank.
     Over,
     Other,
 }
 
 impl FirstWord {
-    /// Before the first byte.
+    /// Returns the state before the first byte.
     pub fn new() -> FirstWord
         ensures { result ≡ scanned [] }
     {
         FirstWord::Nothing
     }
 
-    /// With these bytes behind those so far.
+    /// Returns the state after these bytes too.
     pub fn take(self, bytes: &[u8]) -> FirstWord
         ensures { (before : List ℕ) → self ≡ scanned before
             → result ≡ scanned (before ++ bytes.now) }
@@ -77,17 +78,18 @@ impl FirstWord {
         }
     }
 
-    /// Whether the first word of the line, all of whose bytes before its line feed were taken, announces a text.
+    /// Returns whether the first word announces a text, once all bytes of the line before its line feed were
+    /// taken.
     pub fn announces_text(self) -> bool
         ensures { (piece : List ℕ) → self ≡ scanned piece
             → result ≡ announces_text (words_of (strip_carriage_return piece)) }
     {
-        words_make_the_line();
-        self.says_whole()
+        lines_split_into_words();
+        self.is_announcement()
     }
 
-    fn says_whole(self) -> bool
-        ensures { result ≡ says_whole self }
+    fn is_announcement(self) -> bool
+        ensures { result ≡ is_announcement self }
     {
         match self {
             FirstWord::Whole | FirstWord::WholeAndReturn | FirstWord::Over => true,

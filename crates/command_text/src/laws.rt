@@ -1,43 +1,46 @@
-//! How an input is cut and answered, each law for every input, and that what texts are read as is a function.
+//! The laws of cutting and answering an input, each for every input, and the existence of a `Reading`.
 ghost use Rattle.std.specs.Prelude.{◌≡◌, []};
 ghost use Rattle.command_text.specs.Cutting.{pieces_of};
-ghost use Rattle.command_text.specs.Laws.{PiecesEnd, PiecesFollow, ReachedLinesMayBeCut, ReadingsAgree, SomeReadingIs, StagedLinesMayBeCut, StagesMayBeCut, StatesFollow};
+ghost use Rattle.command_text.specs.Laws.{PiecesEnd, PiecesFollow, ReachedLinesMayBeCut, ReadingsAgree, SomeReadingExists, StagedLinesMayBeCut, StagesMayBeCut, StatesFollow};
 
 use command_core::searches_add_up;
-use instance_read::each_text_is_read;
-use plan_seats::texts_are_seated;
+use instance_read::every_text_has_one_reading;
+use vehicle_assignment::assignment_is_unique;
 
-/// An input is cut into lines, each with the bytes that it announces.
+/// Proves that an input is cut into lines, each with the bytes that it announces.
 pub fn pieces_follow()
     ensures none { pieces_of [] ≡ [] }
     ensures ended { PiecesFollow }
     ensures last { PiecesEnd }
 {}
 
-/// The state that a session is left with is the one after the commands that it has carried out.
+/// Proves that the session ends in the state after the operations that it has executed.
 pub fn states_follow()
     ensures { StatesFollow }
 {}
 
-/// Annealing by stages that is cut off behind any of its commands, and asked for again, ends in the state of the one that is not cut.
+/// Proves that `anneal FROM TO`, cut off after any of its operations and repeated, ends in the same state as
+/// without the interruption.
 pub fn stages_may_be_cut()
     ensures commands { StagesMayBeCut }
     ensures lines { StagedLinesMayBeCut }
 {}
 
-/// So a line that makes the steps up to a number, cut off and asked for again, ends in the state of the one that is not cut.
+/// Proves that `reach N`, cut off after any of its operations and repeated, ends in the same state as without
+/// the interruption.
 pub fn reaches_may_be_cut()
     ensures { ReachedLinesMayBeCut }
 {
     searches_add_up();
 }
 
-/// Each text of either kind spells a problem or has a first fault, and no two of them; and it is one plan of a problem with its
-/// pins, or there is one cause why not. So there is a reading, and what is promised for every reading is promised for that one.
+/// Proves that each text of either kind of instance has one problem or one first fault. Each text of a
+/// solution, for a problem and its pins, has one plan or one reason why there is none. So a `Reading` exists,
+/// and a guarantee for every reading holds for that one.
 pub fn texts_have_a_reading()
-    ensures some { SomeReadingIs }
+    ensures some { SomeReadingExists }
     ensures one { ReadingsAgree }
 {
-    each_text_is_read();
-    texts_are_seated();
+    every_text_has_one_reading();
+    assignment_is_unique();
 }

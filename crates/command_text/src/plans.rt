@@ -1,17 +1,17 @@
-//! The text of a solution, which follows an `adopt` line.
+//! The text of a solution, which follows an `adopt` command.
 ghost use Rattle.command_text.specs.Readings.{IsPlanUnlessMemory, IsReading, Reading};
 
 use command_core::Job;
-use plan_seats::{Unseated, seated_plan, texts_are_seated};
 use plan_types::Plan;
 use std::alloc::Global;
+use vehicle_assignment::{AssignmentFault, assign_vehicles, assignment_is_unique};
 
-/// Reads the text of a solution of the job's problem: the plan that it is with the job's pins, or why it is none, unless memory
-/// runs out.
-pub fn read_plan(alloc: Global, job: &Job, text: &[u8]) -> Result<Plan, Unseated>
+/// Reads the text of a solution of the job's problem. Returns its plan, which keeps the job's pins, the reason
+/// why it is not such a plan, or out of memory.
+pub fn read_plan(alloc: Global, job: &Job, text: &[u8]) -> Result<Plan, AssignmentFault>
     ensures { (reading : Reading) → IsReading reading
         → IsPlanUnlessMemory result (reading.plan job.now.problem job.now.pins text.now) }
 {
-    texts_are_seated();
-    seated_plan(alloc, &job.problem, &job.pins, text)
+    assignment_is_unique();
+    assign_vehicles(alloc, &job.problem, &job.pins, text)
 }

@@ -1,36 +1,37 @@
-//! What is told of a job where a line asks: what it refuses to tell, and the text.
+//! The answers to questions about a job, and their refusals.
 ghost use Rattle.std.specs.Prelude.{◌≡◌, [], All, IfOk, string_bytes, true, unwrap_or};
 ghost use Rattle.plan_types.specs.Instance.{name_at};
-ghost use Rattle.route_sched.specs.Route.{AreLiveOnce};
+ghost use Rattle.route_sched.specs.Route.{AreDistinctStops};
 ghost use Rattle.plan_timetable.specs.declared.forms.Form.TheVariants.{Columns};
 ghost use Rattle.plan_timetable.specs.Timetable.{timetable_text, vehicle_text};
 ghost use Rattle.plan_audit.specs.Passes.{passes};
-ghost use Rattle.plan_why.specs.Why.{why_at};
-ghost use Rattle.move_ops.specs.Insertion.{of_vehicle};
+ghost use Rattle.request_explanation.specs.Why.{why_at};
+ghost use Rattle.move_ops.specs.Insertion.{route_of};
 ghost use Rattle.seeded_search.specs.Steps.{unplanned_names};
 ghost use Rattle.command_text.specs.Questions.{question_refusal, question_text, stop_refusal, vehicle_refusal};
 
 use crate::showing::Text;
 use command_core::{Job, Refusal, unplanned_names};
-use move_ops::of_vehicle;
-use plan_audit::{passes_are_local, plans_are_local};
+use move_ops::route_of;
+use plan_audit::{passing_is_local, plans_are_disjoint_routes};
 use plan_timetable::{Form, timetable, vehicle_timetable};
 use plan_types::{OutOfMemory, Pins, Plan, Problem, Route};
-use plan_why::why;
+use request_explanation::why;
 use std::alloc::Global;
 
-/// What a line asks of a job.
+/// A question about a job.
 #[derive(Clone, Copy, Debug, PartialEq, Eq)]
 pub enum Question {
-    /// When each vehicle is where.
+    /// The timetable of every vehicle.
     Timetable,
-    /// When this vehicle is where; they count from 1.
+    /// The timetable of this vehicle, counted from 1.
     VehicleTimetable(u32),
-    /// Why the request that has this stop is where it is, or in no route.
+    /// The reason why the request with this stop is at its place, or in no route.
     Why(u32),
 }
 
-/// Why a job leaves a question open: `Range` of a vehicle that the fleet has not, `NoSuchRequest` of a stop that no request has.
+/// Returns why a question is refused: `Range` for a vehicle outside the fleet, `NoSuchRequest` for a stop that
+/// no request has.
 pub fn question_refusal(job: &Job, question: Question) -> Option<Refusal>
     ensures { result ≡ question_refusal job.now question }
 {
@@ -60,37 +61,39 @@ fn stop_refusal(problem: &Problem, stop: u32) -> Option<Refusal>
     }
 }
 
-/// What is told of a job, in whole lines for people.
+/// Returns the answer to a question about a job, in whole lines for people.
 pub fn question_text(alloc: Global, job: &Job, question: Question) -> Result<Text, OutOfMemory>
     ensures { IfOk result (λ text. text ≡ question_text job.now question) }
 {
-    Ok(Text::from_string(told(alloc, job, question)?))
+    Ok(Text::from_string(answer_string(alloc, job, question)?))
 }
 
-fn told(alloc: Global, job: &Job, question: Question) -> Result<String, OutOfMemory>
+fn answer_string(alloc: Global, job: &Job, question: Question) -> Result<String, OutOfMemory>
     ensures { IfOk result (λ text. string_bytes text ≡ question_text job.now question) }
 {
-    passes_are_local();
-    plans_are_local();
+    passing_is_local();
+    plans_are_disjoint_routes();
     let problem = &job.problem;
     let routes = job.plan.routes.as_slice();
     match question {
         Question::Timetable => {
             let pins = job.pins.routes.as_slice();
-            whole_timetable(alloc, problem, pins, routes)
+            fleet_timetable(alloc, problem, pins, routes)
         }
-        Question::VehicleTimetable(vehicle) => vehicle_day(alloc, problem, routes, vehicle),
-        Question::Why(stop) => reason(alloc, problem, &job.pins, &job.plan, stop),
+        Question::VehicleTimetable(vehicle) => one_vehicle_timetable(
+            alloc, problem, routes, vehicle,
+        ),
+        Question::Why(stop) => explanation(alloc, problem, &job.pins, &job.plan, stop),
     }
 }
 
-fn whole_timetable(
+fn fleet_timetable(
     alloc: Global,
     problem: &Problem,
     pins: &[Route],
     routes: &[Route],
 ) -> Result<String, OutOfMemory>
-    requires { All (AreLiveOnce problem.now) routes.now }
+    requires { All (AreDistinctStops problem.now) routes.now }
     ensures { IfOk result (λ text. string_bytes text ≡ timetable_text Columns problem.now
         pins.now routes.now (unplanned_names problem.now routes.now)) }
 {
@@ -99,23 +102,23 @@ fn whole_timetable(
     timetable(alloc, problem, pins, routes, names, Form::Columns)
 }
 
-fn vehicle_day(
+fn one_vehicle_timetable(
     alloc: Global,
     problem: &Problem,
     routes: &[Route],
     vehicle: u32,
 ) -> Result<String, OutOfMemory>
-    requires { All (AreLiveOnce problem.now) routes.now }
+    requires { All (AreDistinctStops problem.now) routes.now }
     ensures { IfOk result (λ text. string_bytes text
-        ≡ vehicle_text Columns problem.now vehicle (of_vehicle routes.now vehicle)) }
+        ≡ vehicle_text Columns problem.now vehicle (route_of routes.now vehicle)) }
 {
     let vehicle = u64::from(vehicle);
-    let route = of_vehicle(routes, vehicle);
+    let route = route_of(routes, vehicle);
     vehicle_timetable(alloc, problem, vehicle, route, Form::Columns)
 }
 
-// Why the request that has this stop is where it is; no line where there is none.
-fn reason(
+// Returns why the request with this stop is at its place. The text is empty if no request has the stop.
+fn explanation(
     alloc: Global,
     problem: &Problem,
     pins: &Pins,

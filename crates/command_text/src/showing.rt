@@ -1,4 +1,4 @@
-//! What `show`, `print` and `instance` write.
+//! The answers to `show`, `print` and `instance`.
 ghost use Rattle.std.specs.Prelude.{◌≡◌, ◌<◌, ◌≤◌, ◌*◌, ◌^◌, ◌++◌, [], true, false, IfOk, OnOk, IsErrOf, IsOkUnless, codes, decimal, string_bytes};
 ghost use Rattle.route_sched.specs.Cost.{cost_of, unplanned_count};
 ghost use Rattle.instance_text.specs.Formats.{has_format};
@@ -15,14 +15,14 @@ use crate::answers::cost;
 use command_core::{Job, unplanned_names};
 use instance_text::{WriteFault, write_instance};
 use itoa::Buffer;
-use plan_audit::passes_are_local;
+use plan_audit::passing_is_local;
 use plan_types::{Cost, OutOfMemory, Route};
 use route_sched::plan_cost;
 use sol_text::{WriteSolFault, write_sol};
 use std::alloc::Global;
 use std::marker::Model;
 
-/// The bytes of whole lines, each with its line feed.
+/// Whole lines as bytes, each with its line feed.
 #[derive(Debug, Drop)]
 pub struct Text {
     bytes: Vec<u8>,
@@ -53,7 +53,7 @@ impl Text {
         }
     }
 
-    /// The bytes of the lines.
+    /// Returns the bytes of the lines.
     pub fn as_bytes(&self) -> &[u8]
         ensures { result.now ≡ self.now }
     {
@@ -73,7 +73,7 @@ impl Text {
         self.put(buffer.format(n))
     }
 
-    // A word and the number behind it.
+    // Appends a word, a blank and a number.
     fn put_named(&mut self, name: &str, n: u64) -> Result<(), OutOfMemory>
         ensures { OnOk result (self.new ≡ self.old ++ (name.now ++ decimal n)) }
     {
@@ -97,7 +97,7 @@ impl Text {
         self.put("\n")
     }
 
-    // Each stop behind a blank.
+    // Appends each stop after a blank.
     fn put_stops(&mut self, stops: &[u32]) -> Result<(), OutOfMemory>
         ensures { OnOk result (self.new ≡ self.old ++ customers_text stops.now) }
     {
@@ -151,7 +151,7 @@ impl Text {
         self.put("\n")
     }
 
-    // 16 times a number of steps, which may be 2^64.
+    // Appends 16 times this number of steps. The product may be 2^64.
     fn put_place(&mut self, steps: u64) -> Result<(), OutOfMemory>
         requires { steps ≤ 2 ^ 60 }
         ensures { OnOk result (self.new ≡ self.old ++ decimal (16 * steps)) }
@@ -171,8 +171,8 @@ impl Text {
     }
 }
 
-/// The lines of `show`: numbers, pins, routes, unplanned requests and costs. Takes time linear in them but for
-/// `plan_cost`, which looks for each delivery's pickup.
+/// Returns the lines of `show`: numbers, pins, routes, unplanned requests and costs. Takes linear time, except
+/// for `plan_cost`, which searches for the pickup of each delivery.
 pub fn show(alloc: Global, job: &Job) -> Result<Text, OutOfMemory>
     ensures { IfOk result (λ text. text ≡ show_text job.now) }
 {
@@ -187,40 +187,40 @@ pub fn show(alloc: Global, job: &Job) -> Result<Text, OutOfMemory>
     Ok(text)
 }
 
-// What the working plan costs.
+// Returns the cost of the working plan.
 fn work_cost(job: &Job) -> Cost
     ensures { result ≡ cost_of job.now.problem job.now.work }
 {
-    passes_are_local();
+    passing_is_local();
     plan_cost(&job.problem, &job.work)
 }
 
-/// The text of the solution, as `sol_text` writes it.
+/// Returns the solution's text, as `sol_text` writes it.
 ///
 /// # Errors
 ///
-/// `Unplanned` where a request is in no route, then `OutOfMemory`.
+/// `Unplanned` if a request is in no route, then `OutOfMemory`.
 pub fn print(alloc: Global, job: &Job) -> Result<Text, WriteSolFault>
     ensures text { IfOk result (λ text. text ≡ print_text job.now) }
-    // It is read back so.
+    // The text reads back as this solution.
     ensures spells { IfOk result (λ text. Spells text (solution_of job.now)) }
     ensures unplanned { let n = unplanned_count job.now.problem job.now.plan in 0 < n
         → IsErrOf result (write.Unplanned n) }
     ensures planned { unplanned_count job.now.problem job.now.plan ≡ 0
         → IsOkUnless result write.OutOfMemory }
 {
-    passes_are_local();
+    passing_is_local();
     match write_sol(alloc, &job.problem, &job.plan) {
         Ok(bytes) => Ok(Text { bytes }),
         Err(fault) => Err(fault),
     }
 }
 
-/// The problem as the text of an instance, as `instance_text` writes it.
+/// Returns the problem as an instance's text, as `instance_text` writes it.
 ///
 /// # Errors
 ///
-/// `NoFormat` where the format of its kind can't say it, then `OutOfMemory`.
+/// `NoFormat` if the format of its kind can't express it, then `OutOfMemory`.
 pub fn print_instance(alloc: Global, job: &Job) -> Result<Text, WriteFault>
     ensures text { IfOk result (λ text. text ≡ instance_text job.now.problem) }
     ensures no_format { has_format job.now.problem ≡ false

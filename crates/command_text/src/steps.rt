@@ -1,63 +1,66 @@
-//! How many steps a line makes, and by which commands; a line that keeps what has begun makes pins in their place.
+//! The steps of a command and the operations that make them. `freeze` makes pins instead of steps.
 ghost use Rattle.std.specs.Prelude.{◌≡◌, ◌-◌, ◌≤◌, ◌<◌, [], ◌∷◌, ◌^◌, MatchOption};
 ghost use Rattle.command_core.specs.Effects.{effect};
-ghost use Rattle.command_core.specs.declared.states.State.TheVariants.{Empty, Loaded};
-ghost use Rattle.command_text.specs.Answering.{begun_at, commands_of, counts_of, stages_to_go, steps_from, steps_to_make, steps_to_reach, unless_spent};
+ghost use Rattle.command_types.specs.declared.states.State.TheVariants.{Empty, Loaded};
+ghost use Rattle.command_text.specs.Answering.{steps_to_freeze, commands_of, counts_of, steps_in_stages, steps_from, steps_to_make, steps_to_reach, unless_spent};
 
-use crate::freezing::next_frozen;
-use crate::staging::{next_in_stage, next_staged};
-use command_core::{Command, Job, MAX_COUNT, MAX_STEPS, Refusal, State};
+use crate::freezing::next_freeze_command;
+use crate::staging::{next_in_stage, next_stage_command};
+use command_core::{Command, Job, MAX_SEARCH_STEPS, MAX_STEPS, Refusal, State};
 use plan_types::Kind;
-use plan_types::limits::MAX_ASKED_STEPS;
+use plan_types::limits::MAX_REQUESTED_STEPS;
 
-/// The most annealing steps of one command of a line, so that its progress is told often and little is lost by a stop.
-pub(crate) const MAX_ANNEALED: u32 = 16_384;
+/// The maximum number of annealing steps in one operation, so that progress is printed often and a crash loses
+/// little.
+pub(crate) const MAX_ANNEAL_STEPS: u32 = 16_384;
 
-/// The most steps of one command of a line that tries fewer vehicles: a try goes no further than its command.
-pub(crate) const MAX_REDUCED: u32 = 524_288;
+/// The maximum number of steps in one operation that looks for fewer vehicles. An attempt ends with its
+/// operation.
+pub(crate) const MAX_REDUCE_STEPS: u32 = 524_288;
 
-/// What a line asks for that takes several commands: steps, or pins.
+/// A command that takes several operations: steps, or pins.
 #[derive(Clone, Copy, Debug, PartialEq, Eq)]
-pub enum Goal {
-    /// So many of the search, 1..=`MAX_ASKED_STEPS`.
+pub enum StepRequest {
+    /// This many search steps, 1..=`MAX_REQUESTED_STEPS`.
     Search(u32),
-    /// Of the search, until so many are made, 0..=2^60.
+    /// Search steps until the state has made this many, 0..=2^60.
     Reach(u64),
-    /// So many of annealing, 1..=`MAX_ASKED_STEPS`.
+    /// This many annealing steps, 1..=`MAX_REQUESTED_STEPS`.
     Anneal(u32),
-    /// So many of tries of fewer vehicles, 1..=`MAX_ASKED_STEPS`.
+    /// This many steps that look for fewer vehicles, 1..=`MAX_REQUESTED_STEPS`.
     Reduce(u32),
-    /// Of annealing by stages, from one number to before another: the first is not above the second, this one 0..=2^60.
+    /// The steps `from..to` of annealing in stages, with `from <= to <= 2^60`.
     Stages { from: u64, to: u64 },
-    /// The pins of what has begun by this time, 0..=100,000,000.
+    /// The pins of all stops to which a vehicle has departed by this time, 0..=100,000,000.
     Freeze(u32),
 }
 
-/// What a line has left to make: steps, or pins.
+/// The steps or pins that a command still has to make.
 #[derive(Clone, Copy, Debug, PartialEq, Eq)]
-pub enum Steps {
-    /// So many of the search.
+pub enum StepCursor {
+    /// This many search steps.
     Search(u32),
-    /// So many of annealing.
+    /// This many annealing steps.
     Anneal(u32),
-    /// So many of tries of fewer vehicles.
+    /// This many steps that look for fewer vehicles.
     Reduce(u32),
-    /// Those of annealing by stages that are left to before the second number.
+    /// The rest of the steps `from..to` of annealing in stages.
     Stages { from: u64, to: u64 },
-    /// The same where the deviation of the stage is set.
+    /// Like `Stages`, with the deviation of the stage already set.
     InStage { from: u64, to: u64 },
-    /// The pins of what has begun by this time, from this vehicle on.
+    /// The pins of `freeze` for this time, from vehicle `first` on.
     Freeze { time: u32, first: u32 },
 }
 
-/// What a line makes: for `reach N` as many steps as the state lacks, and none where it has made so many.
+/// Returns the steps that a command makes. For `reach N` these are the steps that the state lacks, none if it
+/// has made N or more.
 ///
 /// # Errors
 ///
-/// `NoInstance` before the first `load`; `StepsSpent` where `search N`, `anneal N` or `reduce N` would lead above 2^60 steps;
-/// `Range` where more than `MAX_ASKED_STEPS` are lacking for `reach N` or `anneal FROM TO`, or the state has not made FROM; `NoTimes` for
-/// `freeze T` of an instance without times.
-pub fn steps_to_make(state: &State, goal: Goal) -> Result<Steps, Refusal>
+/// `NoInstance` before the first `load`. `StepsSpent` if `search N`, `anneal N` or `reduce N` would pass 2^60
+/// steps. `Range` if `reach N` or `anneal FROM TO` lacks more than `MAX_REQUESTED_STEPS` steps, or if the state has
+/// not reached FROM. `NoTimes` for `freeze T` on an instance without times.
+pub fn steps_to_make(state: &State, goal: StepRequest) -> Result<StepCursor, Refusal>
     ensures { result ≡ steps_to_make state.now goal }
 {
     match state {
@@ -66,21 +69,21 @@ pub fn steps_to_make(state: &State, goal: Goal) -> Result<Steps, Refusal>
     }
 }
 
-fn steps_from(job: &Job, goal: Goal) -> Result<Steps, Refusal>
+fn steps_from(job: &Job, goal: StepRequest) -> Result<StepCursor, Refusal>
     ensures { result ≡ steps_from job.now goal }
 {
     match goal {
-        Goal::Search(count) => unless_spent(job, count, Steps::Search(count)),
-        Goal::Anneal(count) => unless_spent(job, count, Steps::Anneal(count)),
-        Goal::Reduce(count) => unless_spent(job, count, Steps::Reduce(count)),
-        Goal::Reach(number) => steps_to_reach(job, number),
-        Goal::Stages { from, to } => stages_to_go(job, from, to),
-        Goal::Freeze(time) => begun_at(job.problem.kind, time),
+        StepRequest::Search(count) => unless_spent(job, count, StepCursor::Search(count)),
+        StepRequest::Anneal(count) => unless_spent(job, count, StepCursor::Anneal(count)),
+        StepRequest::Reduce(count) => unless_spent(job, count, StepCursor::Reduce(count)),
+        StepRequest::Reach(number) => steps_to_reach(job, number),
+        StepRequest::Stages { from, to } => steps_in_stages(job, from, to),
+        StepRequest::Freeze(time) => steps_to_freeze(job.problem.kind, time),
     }
 }
 
-// Where a job may make so many more steps.
-fn unless_spent(job: &Job, count: u32, steps: Steps) -> Result<Steps, Refusal>
+// Returns the steps if the job may make this many more.
+fn unless_spent(job: &Job, count: u32, steps: StepCursor) -> Result<StepCursor, Refusal>
     ensures { result ≡ unless_spent job.now count steps }
 {
     if job.steps + u64::from(count) <= MAX_STEPS {
@@ -90,64 +93,69 @@ fn unless_spent(job: &Job, count: u32, steps: Steps) -> Result<Steps, Refusal>
     }
 }
 
-fn steps_to_reach(job: &Job, number: u64) -> Result<Steps, Refusal>
+fn steps_to_reach(job: &Job, number: u64) -> Result<StepCursor, Refusal>
     ensures { result ≡ steps_to_reach job.now number }
 {
-    if number <= job.steps + MAX_ASKED_STEPS {
-        Ok(Steps::Search(number.saturating_sub(job.steps) as u32))
+    if number <= job.steps + MAX_REQUESTED_STEPS {
+        Ok(StepCursor::Search(number.saturating_sub(job.steps) as u32))
     } else {
         Err(Refusal::Range)
     }
 }
 
-fn stages_to_go(job: &Job, from: u64, to: u64) -> Result<Steps, Refusal>
-    ensures { result ≡ stages_to_go job.now from to }
+fn steps_in_stages(job: &Job, from: u64, to: u64) -> Result<StepCursor, Refusal>
+    ensures { result ≡ steps_in_stages job.now from to }
 {
-    if from <= job.steps && to <= job.steps + MAX_ASKED_STEPS {
-        Ok(Steps::Stages { from, to })
+    if from <= job.steps && to <= job.steps + MAX_REQUESTED_STEPS {
+        Ok(StepCursor::Stages { from, to })
     } else {
         Err(Refusal::Range)
     }
 }
 
-// Where an instance has times.
-fn begun_at(kind: Kind, time: u32) -> Result<Steps, Refusal>
-    ensures { result ≡ begun_at kind time }
+// Returns the pins of `freeze` if the instance has times.
+fn steps_to_freeze(kind: Kind, time: u32) -> Result<StepCursor, Refusal>
+    ensures { result ≡ steps_to_freeze kind time }
 {
     match kind {
-        Kind::LiLim => Ok(Steps::Freeze { time, first: 1 }),
+        Kind::LiLim => Ok(StepCursor::Freeze { time, first: 1 }),
         Kind::Vrp => Err(Refusal::NoTimes),
     }
 }
 
-/// The next command of these, and what is left behind it; `None` where none is.
+/// Returns the next of these operations and the cursor after it, or `None` if none is left.
 #[tactic(auto, using(crate::proofs::StepLemmas::no_counts))]
-pub fn next_command(steps: Steps, state: &State) -> Option<(Command, Steps)>
+pub fn next_command(steps: StepCursor, state: &State) -> Option<(Command, StepCursor)>
     ensures { MatchOption result (commands_of steps state.now ≡ [])
         (λ x. commands_of steps state.now ≡ x.0 ∷ commands_of x.1 (effect state.now x.0)) }
 {
     match steps {
-        Steps::Search(0) => None,
-        Steps::Anneal(0) => None,
-        Steps::Reduce(0) => None,
-        Steps::Search(left) => {
+        StepCursor::Search(0) => None,
+        StepCursor::Anneal(0) => None,
+        StepCursor::Reduce(0) => None,
+        StepCursor::Search(left) => {
             let count = next_count(left);
             Some((
                 Command::Search(count),
-                Steps::Search(left - u32::from(count)),
+                StepCursor::Search(left - u32::from(count)),
             ))
         }
-        Steps::Anneal(left) => {
-            let count = next_piece(left, MAX_ANNEALED);
-            Some((Command::Anneal(count), Steps::Anneal(left - count)))
+        StepCursor::Anneal(left) => {
+            let count = next_piece(left, MAX_ANNEAL_STEPS);
+            Some((Command::Anneal(count), StepCursor::Anneal(left - count)))
         }
-        Steps::Reduce(left) => {
-            let count = next_piece(left, MAX_REDUCED);
-            Some((Command::Reduce(count), Steps::Reduce(left - count)))
+        StepCursor::Reduce(left) => {
+            let count = next_piece(left, MAX_REDUCE_STEPS);
+            Some((Command::Reduce(count), StepCursor::Reduce(left - count)))
         }
-        Steps::Stages { from, to } => next_staged(from, to, job_in(state)?),
-        Steps::InStage { from, to } => next_in_stage(from, to, job_in(state)?),
-        Steps::Freeze { time, first } => next_frozen(state, job_in(state)?, time, first),
+        StepCursor::Stages { from, to } => next_stage_command(from, to, job_in(state)?),
+        StepCursor::InStage { from, to } => next_in_stage(from, to, job_in(state)?),
+        StepCursor::Freeze { time, first } => next_freeze_command(
+            state,
+            job_in(state)?,
+            time,
+            first,
+        ),
     }
 }
 
@@ -160,7 +168,7 @@ fn job_in(state: &State) -> Option<&Job>
     }
 }
 
-/// How many steps the next command of a search makes that has so many left: at most 256.
+/// Returns how many search steps the next operation makes if this many are left: at most 256.
 #[tactic(auto, using(crate::proofs::StepLemmas::large_count, crate::proofs::StepLemmas::small_count))]
 pub fn next_count(left: u32) -> u16
     requires { 0 < left }
@@ -168,14 +176,14 @@ pub fn next_count(left: u32) -> u16
     ensures least { 0 < result }
     ensures most { result ≤ left }
 {
-    if left < u32::from(MAX_COUNT) {
+    if left < u32::from(MAX_SEARCH_STEPS) {
         left as u16
     } else {
-        MAX_COUNT
+        MAX_SEARCH_STEPS
     }
 }
 
-// How many steps the next command makes of so many that are left, where one makes so many at most.
+// Returns how many steps the next operation makes if `left` are left and one operation makes at most `most`.
 #[tactic(auto, using(crate::proofs::StepLemmas::large_count, crate::proofs::StepLemmas::small_count))]
 fn next_piece(left: u32, most: u32) -> u32
     requires left { 0 < left }

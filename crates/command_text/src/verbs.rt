@@ -1,16 +1,16 @@
-//! The lines but those that announce a text: their names, and what each asks for with its numbers.
+//! The commands that announce no text: their names, and their meaning with their numbers.
 ghost use Rattle.std.specs.Prelude.{◌≡◌, bytes_eq, map};
-ghost use Rattle.command_text.specs.Asking.{add1_of, add_of, anneal_of, bare_asked, count_of, double_asked, freeze_of, kind_named, pin_of, plain_or, reach_of, reduce_of, search_of, single_asked, spot_asked, spot_of, spots_asked, stages_of, steps_or, verb_among, verb_named};
+ghost use Rattle.command_text.specs.Parsing.{add1_of, add_of, anneal_of, parse_no_numbers, count_of, parse_two_numbers, freeze_of, kind_named, pin_of, plain_or, reach_of, reduce_of, search_of, parse_one_number, parse_spot, spot_of, parse_two_spots, stages_of, steps_or, verb_among, verb_named};
 
-use crate::asked::Asked;
 use crate::fields::Field;
+use crate::parsed_command::ParsedCommand;
 use crate::questions::Question;
-use crate::steps::Goal;
+use crate::steps::StepRequest;
 use command_core::{Command, MAX_STEPS, Refusal, Spot};
 use plan_types::Kind;
-use plan_types::limits::{MAX_ASKED_STEPS, MAX_TIME};
+use plan_types::limits::{MAX_REQUESTED_STEPS, MAX_TIME};
 
-/// What the first word of a line names.
+/// The first word of a command.
 #[derive(Clone, Copy)]
 pub(crate) enum Verb {
     Load,
@@ -37,7 +37,7 @@ pub(crate) enum Verb {
     Help,
 }
 
-/// The commands by their names.
+/// The commands by name.
 const VERBS: [(&[u8], Verb); 22] = [
     (b"load", Verb::Load),
     (b"adopt", Verb::Adopt),
@@ -63,14 +63,14 @@ const VERBS: [(&[u8], Verb); 22] = [
     (b"help", Verb::Help),
 ];
 
-/// The command that a word names.
+/// Returns the command that a word names.
 pub(crate) fn verb_named(word: &[u8]) -> Option<Verb>
     ensures { result ≡ verb_named word.now }
 {
     verb_among(&VERBS, word)
 }
 
-// The command that the word names among these.
+// Returns the command that the word names in this table.
 fn verb_among(verbs: &[(&[u8], Verb)], word: &[u8]) -> Option<Verb>
     ensures { result ≡ verb_among (map (λ named. (named.0.now, named.1)) verbs.now) word.now }
 {
@@ -82,14 +82,14 @@ fn verb_among(verbs: &[(&[u8], Verb)], word: &[u8]) -> Option<Verb>
     None
 }
 
-/// Whether a word is this name.
+/// Returns whether a word is this name.
 pub(crate) fn is_word(word: &[u8], name: &[u8]) -> bool
     ensures { result ≡ bytes_eq name.now word.now }
 {
     name == word
 }
 
-/// The kind of instance that a word names.
+/// Returns the kind of instance that a word names.
 pub(crate) fn kind_named(word: &[u8]) -> Option<Kind>
     ensures { result ≡ kind_named word.now }
 {
@@ -100,43 +100,43 @@ pub(crate) fn kind_named(word: &[u8]) -> Option<Kind>
     }
 }
 
-/// What a name alone asks for.
-pub(crate) fn bare_asked(verb: Verb) -> Asked
-    ensures { result ≡ bare_asked verb }
+/// Parses a command without numbers.
+pub(crate) fn parse_no_numbers(verb: Verb) -> ParsedCommand
+    ensures { result ≡ parse_no_numbers verb }
 {
     match verb {
-        Verb::Build => Asked::Plain(Command::Build),
-        Verb::Checkpoint => Asked::Plain(Command::Checkpoint),
-        Verb::Print => Asked::Print,
-        Verb::Instance => Asked::PrintInstance,
-        Verb::Show => Asked::Show,
-        Verb::Timetable => Asked::Tell(Question::Timetable),
-        Verb::Next => Asked::Next,
-        Verb::Help => Asked::Help,
-        _ => Asked::BadLine,
+        Verb::Build => ParsedCommand::Plain(Command::Build),
+        Verb::Checkpoint => ParsedCommand::Plain(Command::Checkpoint),
+        Verb::Print => ParsedCommand::Print,
+        Verb::Instance => ParsedCommand::PrintInstance,
+        Verb::Show => ParsedCommand::Show,
+        Verb::Timetable => ParsedCommand::Ask(Question::Timetable),
+        Verb::Next => ParsedCommand::Next,
+        Verb::Help => ParsedCommand::Help,
+        _ => ParsedCommand::BadLine,
     }
 }
 
-/// With one number: R, V, N, D or T.
-pub(crate) fn single_asked(verb: Verb, number: &Field) -> Asked
-    ensures { result ≡ single_asked verb number.now }
+/// Parses a command with one number: R, V, N, D or T.
+pub(crate) fn parse_one_number(verb: Verb, number: &Field) -> ParsedCommand
+    ensures { result ≡ parse_one_number verb number.now }
 {
     match verb {
         Verb::Withdraw => match number.as_u32() {
-            Some(name) => Asked::Plain(Command::Withdraw(name)),
-            None => Asked::Refused(Refusal::NoSuchRequest),
+            Some(name) => ParsedCommand::Plain(Command::Withdraw(name)),
+            None => ParsedCommand::Refused(Refusal::NoSuchRequest),
         },
         Verb::Unpin => match number.as_u32() {
-            Some(vehicle) => Asked::Plain(Command::Unpin(vehicle)),
-            None => Asked::Refused(Refusal::NoSuchPlace),
+            Some(vehicle) => ParsedCommand::Plain(Command::Unpin(vehicle)),
+            None => ParsedCommand::Refused(Refusal::NoSuchPlace),
         },
         Verb::Timetable => match number.as_u32() {
-            Some(vehicle) => Asked::Tell(Question::VehicleTimetable(vehicle)),
-            None => Asked::Refused(Refusal::Range),
+            Some(vehicle) => ParsedCommand::Ask(Question::VehicleTimetable(vehicle)),
+            None => ParsedCommand::Refused(Refusal::Range),
         },
         Verb::Why => match number.as_u32() {
-            Some(name) => Asked::Tell(Question::Why(name)),
-            None => Asked::Refused(Refusal::NoSuchRequest),
+            Some(name) => ParsedCommand::Ask(Question::Why(name)),
+            None => ParsedCommand::Refused(Refusal::NoSuchRequest),
         },
         Verb::Search => steps_or(search_of(number.unsigned)),
         Verb::Reach => steps_or(reach_of(number.unsigned)),
@@ -144,59 +144,59 @@ pub(crate) fn single_asked(verb: Verb, number: &Field) -> Asked
         Verb::Reduce => steps_or(reduce_of(number.unsigned)),
         Verb::Freeze => steps_or(freeze_of(number.unsigned)),
         Verb::Deviation => match number.as_u32() {
-            Some(deviation) => Asked::Plain(Command::Deviation(deviation)),
-            None => Asked::Refused(Refusal::Range),
+            Some(deviation) => ParsedCommand::Plain(Command::Deviation(deviation)),
+            None => ParsedCommand::Refused(Refusal::Range),
         },
-        _ => Asked::BadLine,
+        _ => ParsedCommand::BadLine,
     }
 }
 
-/// With two: V K, or FROM TO.
-pub(crate) fn double_asked(verb: Verb, first: &Field, second: &Field) -> Asked
-    ensures { result ≡ double_asked verb first.now second.now }
+/// Parses a command with two numbers: V K, or FROM TO.
+pub(crate) fn parse_two_numbers(verb: Verb, first: &Field, second: &Field) -> ParsedCommand
+    ensures { result ≡ parse_two_numbers verb first.now second.now }
 {
     match verb {
         Verb::Pin => plain_or(Refusal::NoSuchPlace, pin_of(first, second)),
         Verb::Anneal => steps_or(stages_of(first.unsigned, second.unsigned)),
-        _ => Asked::BadLine,
+        _ => ParsedCommand::BadLine,
     }
 }
 
-/// With a demand and one spot: Q X Y E L S.
-pub(crate) fn spot_asked(verb: Verb, demand: &Field, spot: Option<Spot>) -> Asked
-    ensures { result ≡ spot_asked verb demand.now spot }
+/// Parses a command with a demand and one spot: Q X Y E L S.
+pub(crate) fn parse_spot(verb: Verb, demand: &Field, spot: Option<Spot>) -> ParsedCommand
+    ensures { result ≡ parse_spot verb demand.now spot }
 {
     match verb {
         Verb::Add1 => plain_or(Refusal::Range, add1_of(demand, spot)),
-        _ => Asked::BadLine,
+        _ => ParsedCommand::BadLine,
     }
 }
 
-/// With a demand and two spots: Q X Y E L S X Y E L S.
-pub(crate) fn spots_asked(
+/// Parses a command with a demand and two spots: Q X Y E L S X Y E L S.
+pub(crate) fn parse_two_spots(
     verb: Verb,
     demand: &Field,
     pickup: Option<Spot>,
     delivery: Option<Spot>,
-) -> Asked
-    ensures { result ≡ spots_asked verb demand.now pickup delivery }
+) -> ParsedCommand
+    ensures { result ≡ parse_two_spots verb demand.now pickup delivery }
 {
     match verb {
         Verb::Add => plain_or(Refusal::Range, add_of(demand, pickup, delivery)),
-        _ => Asked::BadLine,
+        _ => ParsedCommand::BadLine,
     }
 }
 
-fn plain_or(refusal: Refusal, command: Option<Command>) -> Asked
+fn plain_or(refusal: Refusal, command: Option<Command>) -> ParsedCommand
     ensures { result ≡ plain_or refusal command }
 {
     match command {
-        Some(command) => Asked::Plain(command),
-        None => Asked::Refused(refusal),
+        Some(command) => ParsedCommand::Plain(command),
+        None => ParsedCommand::Refused(refusal),
     }
 }
 
-/// X Y E L S.
+/// Returns the spot X Y E L S, if each number fits its field.
 pub(crate) fn spot_of(
     x: &Field,
     y: &Field,
@@ -240,56 +240,59 @@ fn pin_of(vehicle: &Field, stops: &Field) -> Option<Command>
     Some(Command::Pin(vehicle.as_u32()?, stops.as_u32()?))
 }
 
-fn steps_or(goal: Option<Goal>) -> Asked
+fn steps_or(goal: Option<StepRequest>) -> ParsedCommand
     ensures { result ≡ steps_or goal }
 {
     match goal {
-        Some(goal) => Asked::Steps(goal),
-        None => Asked::Refused(Refusal::Range),
+        Some(goal) => ParsedCommand::Steps(goal),
+        None => ParsedCommand::Refused(Refusal::Range),
     }
 }
 
-fn search_of(steps: Option<u64>) -> Option<Goal>
+fn search_of(steps: Option<u64>) -> Option<StepRequest>
     ensures { result ≡ search_of steps }
 {
-    Some(Goal::Search(count_of(steps)?))
+    Some(StepRequest::Search(count_of(steps)?))
 }
 
-fn anneal_of(steps: Option<u64>) -> Option<Goal>
+fn anneal_of(steps: Option<u64>) -> Option<StepRequest>
     ensures { result ≡ anneal_of steps }
 {
-    Some(Goal::Anneal(count_of(steps)?))
+    Some(StepRequest::Anneal(count_of(steps)?))
 }
 
-fn reduce_of(steps: Option<u64>) -> Option<Goal>
+fn reduce_of(steps: Option<u64>) -> Option<StepRequest>
     ensures { result ≡ reduce_of steps }
 {
-    Some(Goal::Reduce(count_of(steps)?))
+    Some(StepRequest::Reduce(count_of(steps)?))
 }
 
-fn freeze_of(time: Option<u64>) -> Option<Goal>
+fn freeze_of(time: Option<u64>) -> Option<StepRequest>
     ensures { result ≡ freeze_of time }
 {
     match time {
-        Some(time) if time <= u64::from(MAX_TIME) => Some(Goal::Freeze(time as u32)),
+        Some(time) if time <= u64::from(MAX_TIME) => Some(StepRequest::Freeze(time as u32)),
         _ => None,
     }
 }
 
-fn reach_of(goal: Option<u64>) -> Option<Goal>
+fn reach_of(goal: Option<u64>) -> Option<StepRequest>
     ensures { result ≡ reach_of goal }
 {
     match goal {
-        Some(goal) if goal <= MAX_STEPS => Some(Goal::Reach(goal)),
+        Some(goal) if goal <= MAX_STEPS => Some(StepRequest::Reach(goal)),
         _ => None,
     }
 }
 
-fn stages_of(from: Option<u64>, to: Option<u64>) -> Option<Goal>
+fn stages_of(from: Option<u64>, to: Option<u64>) -> Option<StepRequest>
     ensures { result ≡ stages_of from to }
 {
     match (from, to) {
-        (Some(from), Some(to)) if from <= to && to <= MAX_STEPS => Some(Goal::Stages { from, to }),
+        (Some(from), Some(to)) if from <= to && to <= MAX_STEPS => Some(StepRequest::Stages {
+            from,
+            to,
+        }),
         _ => None,
     }
 }
@@ -298,7 +301,7 @@ fn count_of(steps: Option<u64>) -> Option<u32>
     ensures { result ≡ count_of steps }
 {
     match steps {
-        Some(steps) if 1 <= steps && steps <= MAX_ASKED_STEPS => Some(steps as u32),
+        Some(steps) if 1 <= steps && steps <= MAX_REQUESTED_STEPS => Some(steps as u32),
         _ => None,
     }
 }

@@ -1,10 +1,12 @@
-//! Values that only clauses read: the text that is meant to be told, the calls that a file has answered, what a writer held at a
-//! moment. They take no memory, and nothing is done for them at run time.
+//! Ghost values, which only contracts read: for example the bytes that should have been printed, or the system
+//! calls that a file has answered. They take no memory and cost no time when the program runs.
 //!
-//! A `Ghost` is made by `of`, or by `after` from an earlier one and what is handed in. Which value it has is picked by the
-//! caller's proof (`ghost-of`, `ghost-after` in its `Invariants.antt`), so the caller's own clause says what it is.
+//! `Ghost::of` makes a `Ghost`, and `Ghost::after` makes one from an earlier `Ghost` and a new value. The
+//! caller's proof chooses the value (`ghost-of`, `ghost-after` in its `Invariants.antt`), so the caller's own
+//! contract says what the value is.
 //!
-//! Proved: a `Ghost` is made at any value that is picked. Since it has no bytes, `of` is proved by hand, and nothing else is.
+//! Proved: a `Ghost` can be made with any value that the proof chooses. Since it has no bytes, `of` is proved
+//! by hand, and nothing else is.
 #![tactic(auto)]
 
 ghost use Rattle.std.specs.Prelude.{◌≡◌, [], List};
@@ -12,7 +14,7 @@ ghost use Rattle.std.specs.Borrow.{ftrue};
 
 use std::marker::{Model, PhantomData};
 
-/// The type of a list as clauses see it, for a `Ghost`. There is no value of it.
+/// A list type as contracts see it, for use in a `Ghost`. No value of it exists at run time.
 pub struct ListOf<T> {
     marker: PhantomData<T>,
 }
@@ -23,7 +25,7 @@ impl<T> Model for ListOf<T> {
     ghost view = { λ _. [] };
 }
 
-/// A `T` as clauses see it, as `value`.
+/// A `T` as contracts see it, in the ghost field `value`.
 pub struct Ghost<T> {
     marker: PhantomData<T>,
     pub ghost value: { T },
@@ -33,7 +35,8 @@ impl<T> Model for Ghost<T> {
     ghost also_owns = { λ _. ftrue };
 }
 
-// By hand: derived, it would ask that `T` is `Drop`, which the type of a value that only clauses read need not be.
+// Not derived, because a derived implementation would require `T: Drop`. A type that only contracts read need
+// not be `Drop`.
 impl<T> Drop for Ghost<T> {
     fn drop(self) {
         let Ghost { marker: _ } = self;
@@ -41,7 +44,7 @@ impl<T> Drop for Ghost<T> {
 }
 
 impl<T> Ghost<T> {
-    /// Any value.
+    /// Returns a `Ghost` with the value that the caller's proof chooses.
     pub fn of() -> Ghost<T>
         ghost value: { T }
         ensures { result.value ≡ value }
@@ -51,7 +54,7 @@ impl<T> Ghost<T> {
         }
     }
 
-    /// Any value, which may be picked from this one and from what is handed in.
+    /// Returns a `Ghost` with a value that the caller's proof may choose from this one and from the argument.
     pub fn after<A: Copy>(&self, _more: A) -> Ghost<T>
         ghost value: { T }
         ensures { result.value ≡ value }

@@ -13,12 +13,12 @@ use Rattle.plan_types.specs.Limits.{IsDemand, IsVisit}
 use Rattle.plan_types.specs.Request.{IsRequest, stop_in}
 use Rattle.plan_types.specs.declared.requests.Request.{Request}
 use Rattle.plan_types.specs.declared.requests.Request.TheVariants.{Single}
-use Rattle.instance_read.specs.declared.vrp_draft.VrpFields.{VrpFields}
+use Rattle.instance_read.specs.declared.vrp_draft.VrpDraft.{VrpDraft}
 use Rattle.instance_read.specs.Drafts.{IsDraft, IsPoint, nodes_in}
-use Rattle.instance_read.specs.VrpWalk.{customer_in, customers_in, demand_at, drafted_stop, point_at}
+use Rattle.instance_read.specs.DraftLines.{customer_in, customers_in, demand_at, drafted_stop, point_at}
 use Rattle.instance_read.proofs.PairLemmas.{not_some, with_entry-last}
 
--- an entry within its limits, or what stands for one
+-- an entry within its limits, or the default, which is within them too
 module _ {X : Type 0} (P : X → Type 0) (default : X) (here : P default) where
   entry_within : (o : Option X) → IfSome o P → P (unwrap_or o default)
   entry_within None h = here
@@ -32,7 +32,7 @@ module _ {X : Type 0} (P : X → Type 0) (default : X) (here : P default) where
       (λ past. subst Q (sym (get_or_past table n None past)) here)
       (cases_lt n (length table))
 
-module _ (draft : VrpFields) (valid : IsDraft draft) where
+module _ (draft : VrpDraft) (valid : IsDraft draft) where
   point_within : (n : ℕ) → IsPoint (point_at draft n)
   point_within n = table_within IsPoint (pos 0, pos 0) ((grind (arith, ints), grind (arith, ints)), (grind (arith, ints), grind (arith, ints))) draft.coordinates.items valid.coordinates n
 
@@ -42,32 +42,32 @@ module _ (draft : VrpFields) (valid : IsDraft draft) where
   pub visit_within : (demand : ℤ) (n : ℕ) → IsVisit (drafted_stop draft demand n)
   visit_within demand n = record { x = (point_within n).0; y = (point_within n).1; window = omega arith; latest = omega arith; service = omega arith }
 
-  most_nodes : (o : Option ℕ) → IfSome o (λ n. (2 ≤ n) × (n ≤ 40001)) → unwrap_or o 0 ≤ 40001
-  most_nodes None h = omega arith
-  most_nodes (Some n) h = h.1
+  max_nodes : (o : Option ℕ) → IfSome o (λ n. (2 ≤ n) × (n ≤ 40001)) → unwrap_or o 0 ≤ 40001
+  max_nodes None h = omega arith
+  max_nodes (Some n) h = h.1
 
   pub customer_valid : (n : ℕ) → 1 ≤ n → n < nodes_in draft → IsRequest (Single (drafted_stop draft (demand_at draft n) n))
   customer_valid n one below =
-      (record { from_one = one; to_most = omega (arith, below, most_nodes draft.nodes valid.nodes); visit = visit_within (demand_at draft n) n }, demand_within n)
+      (record { from_one = one; to_max = omega (arith, below, max_nodes draft.nodes valid.nodes); visit = visit_within (demand_at draft n) n }, demand_within n)
 
 -- a number above those of the customers is free
-none_before : (draft : VrpFields) (n from count : ℕ) → from + count ≤ n → first_some (stop_in n) (map (customer_in draft) (range_with_len from count)) ≡ None
+none_before : (draft : VrpDraft) (n from count : ℕ) → from + count ≤ n → first_some (stop_in n) (map (customer_in draft) (range_with_len from count)) ≡ None
 none_before draft n from zero le = refl
 none_before draft n from (suc count) le =
     let other : eqb from n ≡ false = ne_eqb from n (omega (arith, le)) in
     ap (λ b. option_or (cond b (Some (drafted_stop draft (demand_at draft from) from)) None) (first_some (stop_in n) (map (customer_in draft) (range_with_len (from + 1) count)))) other
     ∙ none_before draft n (from + 1) count (omega (arith, le))
 
-pub customer_free : (draft : VrpFields) (problem : Instance) (n : ℕ) → 1 ≤ n → problem.requests ≡ customers_in draft (n - 1) → IsTaken problem (Single (drafted_stop draft (demand_at draft n) n)) → ⊥
+pub customer_free : (draft : VrpDraft) (problem : Instance) (n : ℕ) → 1 ≤ n → problem.requests ≡ customers_in draft (n - 1) → IsTaken problem (Single (drafted_stop draft (demand_at draft n) n)) → ⊥
 customer_free draft problem n one is taken =
     not_some (stop_at problem n) (ap (first_some (stop_in n)) is ∙ none_before draft n 1 (n - 1) (omega (arith, one))) taken
 
-all_below : (draft : VrpFields) (n from count : ℕ) → from + count ≤ n → AllByRecursion (λ (e : ℕ × Request). e.0 < n) (map (customer_in draft) (range_with_len from count))
+all_below : (draft : VrpDraft) (n from count : ℕ) → from + count ≤ n → AllByRecursion (λ (e : ℕ × Request). e.0 < n) (map (customer_in draft) (range_with_len from count))
 all_below draft n from zero le = tt
 all_below draft n from (suc count) le = (omega (arith, le), all_below draft n (from + 1) count (omega (arith, le)))
 
--- the problem with one customer more
-pub customer_put : (draft : VrpFields) (base before after : Instance) (n : ℕ) → 1 ≤ n → before ≡ record base { requests = customers_in draft (n - 1); next_number = n }
+-- adding the next customer to the problem of the customers before it
+pub customer_put : (draft : VrpDraft) (base before after : Instance) (n : ℕ) → 1 ≤ n → before ≡ record base { requests = customers_in draft (n - 1); next_number = n }
     → after ≡ with_request before (Single (drafted_stop draft (demand_at draft n) n)) → after ≡ record base { requests = customers_in draft n; next_number = n + 1 }
 customer_put draft base before after n one is put =
     let s = drafted_stop draft (demand_at draft n) n in

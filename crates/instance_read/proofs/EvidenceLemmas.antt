@@ -1,36 +1,36 @@
--- The evidence of a fault of a word is the first word at fault of its line.
+-- The evidence for a bad number is the first bad number in its line.
 use Rattle.std.proofs.Common.{◌≡◌, ℕ, zero, suc, ◌+◌, ◌<◌, true, false, cond, ◌⊎◌, inl, inr, ⊎_elim, List, [], ◌∷◌, ◌++◌, length, drop, Some, refl, sym, ap, subst, ◌∙◌, arith, ℤ}
 use Rattle.std.specs.Prelude.{◌||◌, ◌==◌, slice_get, slice_index_or}
 use Rattle.std.proofs.lemmas.Bool.{cases_Bool, eq-eqb, false_from_ne_true, eqb-true, false≢true, or_from, or_left, or_right}
 use Rattle.text_lines.specs.Lines.{lines_of}
 use Rattle.text_lines.specs.Numbers.{number_of}
 use Rattle.text_lines.specs.Words.{is_blank_line, words_of}
-use Rattle.instance_read.specs.EvidenceLaws.{any_faulty, EvidenceShowsTheWord, IsFirstWord, IsOfWord, NumbersShowTheWord, ShowsWord, fields_behind, limits_behind}
+use Rattle.instance_read.specs.EvidenceLaws.{any_faulty, EvidenceShowsTheWord, IsFirstWord, IsWordFault, NumbersShowTheWord, ShowsWord, fields_after, limits_after}
 use Rattle.instance_read.specs.Faults.{Class, OfLine, OfText}
-use Rattle.instance_read.specs.Fields.{any_beyond, has_no_number, is_beyond, is_no_number, is_that}
+use Rattle.instance_read.specs.Fields.{any_beyond, has_no_number, is_beyond, is_no_number, passes_test}
 use Rattle.instance_read.specs.Lilim.{LilimFault, header_limits, row_fault}
-use Rattle.instance_read.specs.LilimEvidence.{header_fields, line_evidence, row_evidence, spot_from, task_fields}
+use Rattle.instance_read.specs.LilimEvidence.{header_fields, line_evidence, row_evidence, line_and_previous, task_fields}
 use Rattle.instance_read.specs.Lilim.{task_limits}
 use Rattle.instance_read.specs.Rows.{Row, rows_from, rows_of}
-use Rattle.instance_read.specs.Walk.{LinesAbove}
+use Rattle.instance_read.specs.TaskFaults.{LinesAbove}
 use Rattle.instance_read.specs.WordEvidence.{faulty_word, is_faulty, numbers_evidence}
 use Rattle.instance_read.specs.declared.evidence.Evidence.{Evidence}
 use Rattle.instance_read.specs.declared.evidence.Evidence.TheVariants.{Word}
 use Rattle.instance_read.specs.declared.evidence.Field.{Field}
-use Rattle.instance_read.specs.declared.evidence.Field.TheVariants.{Surplus}
+use Rattle.instance_read.specs.declared.evidence.Field.TheVariants.{ExtraWord}
 use Rattle.instance_read.specs.declared.faults.ReadFaultKind.{ReadFaultKind}
 use Rattle.instance_read.specs.declared.faults.ReadFaultKind.TheVariants.{BadNumber, Range}
 use Rattle.instance_read.proofs.RowLemmas.{rows_blank, rows_nil, rows_read}
-use Rattle.instance_read.proofs.WalkLemmas.{rows_above}
+use Rattle.instance_read.proofs.TaskFaultLemmas.{rows_above}
 
 module _ (kind : ReadFaultKind) (fields : List Field) (limits : List (ℤ × ℤ)) where
   abbrev word_of : ℕ → List ℕ → Evidence
-  word_of k word = Word (slice_index_or fields k Surplus) word (slice_get limits k)
+  word_of k word = Word (slice_index_or fields k ExtraWord) word (slice_get limits k)
 
-  abbrev IsFound : ℕ → List (List ℕ) → Type 0
-  IsFound k words = IsFirstWord kind fields limits k words (faulty_word kind fields limits k words)
+  abbrev IsReadResult : ℕ → List (List ℕ) → Type 0
+  IsReadResult k words = IsFirstWord kind fields limits k words (faulty_word kind fields limits k words)
 
-  here_found : (k : ℕ) (w : List ℕ) (words : List (List ℕ)) → is_faulty kind (slice_get limits k) w ≡ true → IsFound k (w ∷ words)
+  here_found : (k : ℕ) (w : List ℕ) (words : List (List ℕ)) → is_faulty kind (slice_get limits k) w ≡ true → IsReadResult k (w ∷ words)
   here_found k w words here =
       let at : k ≡ k + 0 = omega arith in
       record {
@@ -43,7 +43,7 @@ module _ (kind : ReadFaultKind) (fields : List Field) (limits : List (ℤ × ℤ
         first = refl;
       }
 
-  later_found : (k : ℕ) (w : List ℕ) (words : List (List ℕ)) → is_faulty kind (slice_get limits k) w ≡ false → IsFound (k + 1) words → IsFound k (w ∷ words)
+  later_found : (k : ℕ) (w : List ℕ) (words : List (List ℕ)) → is_faulty kind (slice_get limits k) w ≡ false → IsReadResult (k + 1) words → IsReadResult k (w ∷ words)
   later_found k w words fine rest =
       let at : k + 1 + length rest.front ≡ k + suc (length rest.front) = omega arith in
       record {
@@ -56,7 +56,7 @@ module _ (kind : ReadFaultKind) (fields : List Field) (limits : List (ℤ × ℤ
         first = or_from _ _ fine rest.first;
       }
 
-  found : (k : ℕ) (words : List (List ℕ)) → any_faulty kind limits k words ≡ true → IsFound k words
+  found : (k : ℕ) (words : List (List ℕ)) → any_faulty kind limits k words ≡ true → IsReadResult k words
   found k [] e = absurd (false≢true e)
   found k (w ∷ words) e =
       ⊎_elim
@@ -64,7 +64,7 @@ module _ (kind : ReadFaultKind) (fields : List Field) (limits : List (ℤ × ℤ
       (λ fine. later_found k w words fine (found (k + 1) words (sym (ap (λ b. b || any_faulty kind limits (k + 1) words) fine) ∙ e)))
       (cases_Bool (is_faulty kind (slice_get limits k) w))
 
--- a line with a word that is no number
+-- a line with a word that is not a number has a word at fault
 no_number : (limits : List (ℤ × ℤ)) (k : ℕ) (words : List (List ℕ)) → has_no_number words ≡ true → any_faulty BadNumber limits k words ≡ true
 no_number limits k [] e = absurd (false≢true e)
 no_number limits k (w ∷ words) e =
@@ -90,13 +90,13 @@ beyond_here limits k w words l at rest e =
     ⊎_elim
     (λ here. or_left _ _ (ap (λ o. is_faulty Range o w) at ∙ here))
     (λ fine. or_right _ _ (rest (sym (ap (λ b. b || any_beyond (drop (k + 1) limits) words) fine) ∙ e)))
-    (cases_Bool (is_that (is_beyond l) (number_of w)))
+    (cases_Bool (passes_test (is_beyond l) (number_of w)))
 
 none_beyond : (limits : List (ℤ × ℤ)) → any_beyond limits [] ≡ false
 none_beyond [] = refl
 none_beyond (l ∷ limits) = refl
 
--- a line with a number beyond its limits
+-- a line with a number beyond its limits has a word at fault
 beyond : (limits : List (ℤ × ℤ)) (k : ℕ) (words : List (List ℕ)) → any_beyond (drop k limits) words ≡ true → any_faulty Range limits k words ≡ true
 beyond limits k [] e = absurd (false≢true (sym (none_beyond (drop k limits)) ∙ e))
 beyond limits k (w ∷ words) e =
@@ -119,7 +119,7 @@ rows_filled n (l ∷ ls) =
     (λ read. subst P (sym (rows_read n l ls read)) (read, rows_filled (n + 1) ls))
     (cases_Bool (is_blank_line l))
 
--- the text of the last of these lines; this one, where there is none
+-- the text of the last of these lines, or this text if there is none
 abbrev last_text : List ℕ → List Row → List ℕ
 last_text text [] = text
 last_text text (row ∷ rows) = last_text row.text rows
@@ -128,33 +128,33 @@ last_filled : (text : List ℕ) (rows after : List Row) → is_blank_line text �
 last_filled text [] after e h = e
 last_filled text (row ∷ rows) after e h = last_filled row.text rows after h.0 h.1
 
--- behind a line the numbers are a task's
-behind_line : (kind : ReadFaultKind) (words : List (List ℕ)) (text : List ℕ)
+-- after another line, the numbers are those of a task
+after_line : (kind : ReadFaultKind) (words : List (List ℕ)) (text : List ℕ)
     → is_blank_line text ≡ false → row_evidence kind words text ≡ numbers_evidence kind task_fields task_limits words
-behind_line kind words [] e = absurd (false≢true (sym e))
-behind_line kind words (b ∷ text) e = refl
+after_line kind words [] e = absurd (false≢true (sym e))
+after_line kind words (b ∷ text) e = refl
 
 above_here : (n : ℕ) (before : List Row) (row : Row) (after : List Row) → LinesAbove n (before ++ row ∷ after) → n < row.line
 above_here n [] row after l = l.0
 above_here n (r ∷ before) row after l = omega (arith, l.0, above_here r.line before row after l.1)
 
--- the line with a number, and the one before it
+-- the line with a number, and the line before it, are found by the number
 spot_is : (n m : ℕ) (text : List ℕ) (before : List Row) (row : Row) (after : List Row) → LinesAbove m (before ++ row ∷ after) → row.line ≡ n
-    → spot_from n text (before ++ row ∷ after) ≡ (last_text text before, row.text)
-spot_is n m text [] row after l at = ap (λ b. cond b (text, row.text) (spot_from n row.text after)) (eq-eqb row.line n at)
+    → line_and_previous n text (before ++ row ∷ after) ≡ (last_text text before, row.text)
+spot_is n m text [] row after l at = ap (λ b. cond b (text, row.text) (line_and_previous n row.text after)) (eq-eqb row.line n at)
 spot_is n m text (r ∷ before) row after l at =
     let other : (r.line == n) ≡ false = false_from_ne_true (r.line == n) (λ e. omega (arith, eqb-true r.line n e, at, above_here r.line before row after l.1)) in
-    ap (λ b. cond b (text, r.text) (spot_from n r.text (before ++ row ∷ after))) other ∙ spot_is n r.line r.text before row after l.1 at
+    ap (λ b. cond b (text, r.text) (line_and_previous n r.text (before ++ row ∷ after))) other ∙ spot_is n r.line r.text before row after l.1 at
 
--- The first word at fault, where a line has one.
+-- the first word at fault, if a line has one
 module _ (text : List ℕ) (before : List Row) (row : Row) (after : List Row) (splits : rows_of text ≡ before ++ row ∷ after) where
-  spot : spot_from row.line [] (rows_of text) ≡ (last_text [] before, row.text)
+  spot : line_and_previous row.line [] (rows_of text) ≡ (last_text [] before, row.text)
   spot =
       let P : List Row → Type 0 = LinesAbove 0 in
-      ap (spot_from row.line []) splits ∙ spot_is row.line 0 [] before row after (subst P splits (rows_above 0 (lines_of text))) refl
+      ap (line_and_previous row.line []) splits ∙ spot_is row.line 0 [] before row after (subst P splits (rows_above 0 (lines_of text))) refl
 
   evidence_is : (kind : ReadFaultKind)
-      → let s = spot_from row.line [] (rows_of text) in line_evidence (rows_of text) s.0 s.1 kind ≡ line_evidence (rows_of text) (last_text [] before) row.text kind
+      → let s = line_and_previous row.line [] (rows_of text) in line_evidence (rows_of text) s.0 s.1 kind ≡ line_evidence (rows_of text) (last_text [] before) row.text kind
   evidence_is kind = ap (λ (s : List ℕ × List ℕ). line_evidence (rows_of text) s.0 s.1 kind) spot
 
   filled : AreFilled (before ++ row ∷ after)
@@ -164,15 +164,15 @@ pub numbers_show_the_word : NumbersShowTheWord
 numbers_show_the_word fields limits words =
     (λ e. found BadNumber fields limits 0 words (no_number limits 0 words e), λ e. found Range fields limits 0 words (beyond limits 0 words e))
 
--- the evidence of a task's line is that of its numbers
+-- the evidence for a task's line is that for its numbers
 task_numbers : (kind : ReadFaultKind) (header : Row) (before : List Row) (row : Row) (after : List Row) → AreFilled (header ∷ before ++ row ∷ after)
     → numbers_evidence kind task_fields task_limits (words_of row.text) ≡ row_evidence kind (words_of row.text) (last_text header.text before)
 task_numbers kind header before row after h =
-    sym (behind_line kind (words_of row.text) (last_text header.text before) (last_filled header.text before (row ∷ after) h.0 h.1))
+    sym (after_line kind (words_of row.text) (last_text header.text before) (last_filled header.text before (row ∷ after) h.0 h.1))
 
 shown : (rows : List Row) (before : List Row) (row : Row) (after : List Row) (kind : ReadFaultKind)
-    → AreFilled (before ++ row ∷ after) → IsOfWord kind → row_fault before row kind ≡ true
-    → IsFirstWord kind (fields_behind before) (limits_behind before) 0 (words_of row.text) (line_evidence rows (last_text [] before) row.text kind)
+    → AreFilled (before ++ row ∷ after) → IsWordFault kind → row_fault before row kind ≡ true
+    → IsFirstWord kind (fields_after before) (limits_after before) 0 (words_of row.text) (line_evidence rows (last_text [] before) row.text kind)
 shown rows [] row after BadNumber h of has = (numbers_show_the_word header_fields header_limits (words_of row.text)).0 has
 shown rows [] row after Range h of has = (numbers_show_the_word header_fields header_limits (words_of row.text)).1 has
 shown rows (header ∷ before) row after BadNumber h of has =
@@ -184,11 +184,11 @@ shown rows (header ∷ before) row after Range h of has =
 shown rows before row after kind h of has = absurd of
 
 of_fault : (text : List ℕ) (line : ℕ) (kind : ReadFaultKind) (class : Class)
-    → LilimFault text class line kind → IsOfWord kind → ShowsWord text (record { line = line; kind = kind })
+    → LilimFault text class line kind → IsWordFault kind → ShowsWord text (record { line = line; kind = kind })
 of_fault text line kind OfLine f of =
     let rows = rows_of text in
-    let P : Evidence → Type 0 = IsFirstWord kind (fields_behind f.0) (limits_behind f.0) 0 (words_of f.1.text) in
-    let is = sym (evidence_is text f.0 f.1 f.2 f.3 kind) ∙ ap (λ n. line_evidence rows (spot_from n [] rows).0 (spot_from n [] rows).1 kind) f.4 in
+    let P : Evidence → Type 0 = IsFirstWord kind (fields_after f.0) (limits_after f.0) 0 (words_of f.1.text) in
+    let is = sym (evidence_is text f.0 f.1 f.2 f.3 kind) ∙ ap (λ n. line_evidence rows (line_and_previous n [] rows).0 (line_and_previous n [] rows).1 kind) f.4 in
     (f.0, f.1, f.2, f.3, f.4, subst P is (shown rows f.0 f.1 f.2 kind (filled text f.0 f.1 f.2 f.3) of f.5))
 of_fault text line BadNumber OfText f of = absurd f
 of_fault text line Range OfText f of = absurd f

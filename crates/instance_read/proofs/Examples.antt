@@ -1,4 +1,4 @@
--- What the definitions give for two worked texts.
+-- The values of the definitions for two worked texts.
 use Rattle.std.proofs.Common.{◌≡◌, ℕ, true, false, List, [], ◌∷◌, ◌++◌, refl, pos, negsuc, map}
 use Rattle.std.specs.Prelude.{codes}
 use Rattle.text_lines.specs.Lines.{lines_of, pieces_of}
@@ -43,7 +43,7 @@ last_request : (vrp_problem (placed_of V)).requests ≡ (
 unfolding lines_of pieces_of words_of number_of whole_of digits_of is_digits rows_from key_of value_of placed_from
 last_request = refl
 
--- a pickup and its delivery
+-- a text with a pickup and its delivery
 abbrev L : List ℕ
 L = codes "2 10 1" ++ line_end (codes "0 0 0 0 0 100 0 0 0") ++ line_end (codes "1 3 4 4 0 50 2 0 2") ++ line_end (codes "2 6 8 -4 0 60 2 1 0") ++ line_end []
 
@@ -55,7 +55,7 @@ pairs : pairs_of (customers_of L) ≡ (
 unfolding lines_of pieces_of words_of number_of whole_of digits_of is_digits rows_from customers_of task_of
 pairs = refl
 
--- the same where the delivery names task 3
+-- the text L, except that the delivery names task 3
 M : List ℕ
 M = codes "2 10 1" ++ line_end (codes "0 0 0 0 0 100 0 0 0") ++ line_end (codes "1 3 4 4 0 50 2 0 2") ++ line_end (codes "2 6 8 -4 0 60 2 3 0") ++ line_end []
 

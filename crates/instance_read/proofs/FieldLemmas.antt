@@ -15,7 +15,7 @@ slice_get-drop (x ∷ xs) (suc i) = slice_get-drop xs i
 pub field-drop : (words : List (List ℕ)) (i : ℕ) → field (drop i words) 0 ≡ field words i
 field-drop words i = ap (option_and_then number_of) (slice_get-drop words i)
 
--- one field more is read
+-- one more field is read
 pub values_more : (limits : List (ℤ × ℤ)) (words rest : List (List ℕ)) (values : List ℤ) (i : ℕ) (v : ℤ) → i < length values → rest ≡ drop i words
     → ((k : ℕ) → k < i → HasValue limits words values k) → IsValue (get_or limits i (pos 0, pos 0)) (field rest 0) v → (k : ℕ) → k < i + 1 → HasValue limits words (set values i v) k
 values_more limits words rest values i v l at before here =
@@ -29,7 +29,7 @@ field_within [] (suc k) z e = cc
 field_within (w ∷ words) zero z e = omega arith
 field_within (w ∷ words) (suc k) z e = let l = field_within words k z e in omega arith
 
--- no word is left after so many numbers
+-- after `count` numbers no word is left
 pub no_more : (count : ℕ) (limits : List (ℤ × ℤ)) (words : List (List ℕ)) (values : List ℤ) → ((k : ℕ) → k < count → HasValue limits words values k) → drop count words ≡ [] → length words ≡ count
 no_more zero limits words values read e = ap length e
 no_more (suc n) limits words values read e =

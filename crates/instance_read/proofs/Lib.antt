@@ -5,7 +5,7 @@ pub mod KindLemmas
 pub mod NumberLemmas
 pub mod VrpFieldLemmas
 pub mod TaskLemmas
-pub mod WalkLemmas
+pub mod TaskFaultLemmas
 pub mod TableLemmas
 pub mod PairLemmas
 pub mod LilimLemmas
@@ -15,7 +15,7 @@ pub mod Examples
 pub mod NodeLemmas
 pub mod KeyLemmas
 pub mod CustomerLemmas
-pub mod KnowLemmas
+pub mod DraftLemmas
 pub mod NodeStepLemmas
 pub mod LineLemmas
 pub mod ReadingLemmas

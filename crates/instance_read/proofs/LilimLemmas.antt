@@ -1,4 +1,4 @@
--- The first fault of a Li-Lim text, from what its lines have.
+-- The first fault of a Li-Lim text, from the faults of its lines.
 use Rattle.std.proofs.Common.{◌≡◌, ℕ, zero, suc, ◌+◌, ◌<◌, ◌≤◌, Bool, true, false, cond, ◌⊎◌, inl, inr, ⊎_elim, List, [], ◌∷◌, ◌++◌, length, map, drop, Option}
 use Rattle.std.proofs.Common.{Some, None, refl, sym, ap, subst, ◌∙◌, arith, length-append}
 use Rattle.std.specs.Prelude.{find, Contains}
@@ -12,13 +12,13 @@ use Rattle.instance_read.specs.declared.faults.ReadFault.{ReadFault}
 use Rattle.instance_read.specs.declared.faults.ReadFaultKind.{ReadFaultKind}
 use Rattle.instance_read.specs.declared.faults.ReadFaultKind.TheVariants.{PairMismatch, Truncated}
 use Rattle.instance_read.specs.declared.tasks.Task.{Task}
-use Rattle.instance_read.specs.Faults.{Class, OfLine, OfText, rank, HasNone, IsFirstFault, IsNoLater, IsNoLaterPlace}
+use Rattle.instance_read.specs.Faults.{Class, OfLine, OfText, rank, HasNoFault, IsFirstFault, IsNoLater, IsNoLaterPlace}
 use Rattle.instance_read.specs.Lilim.{LilimFault, customers_of, header_fault, row_fault, task_fault}
 use Rattle.instance_read.specs.Pairs.{is_mismatched, task_of}
 use Rattle.instance_read.specs.Rows.{Row, rows_of}
 use Rattle.instance_read.specs.Tables.{ArePaired}
-use Rattle.instance_read.specs.Walk.{HasNoKind, IsFirstKind, TaskLineFault, HasNoTaskFault, IsFirstTaskFault, LinesAbove}
-use Rattle.instance_read.proofs.WalkLemmas.{rows_above, fault_above}
+use Rattle.instance_read.specs.TaskFaults.{HasNoKind, IsFirstKind, TaskLineFault, HasNoTaskFault, IsFirstTaskFault, LinesAbove}
+use Rattle.instance_read.proofs.TaskFaultLemmas.{rows_above, fault_above}
 
 pub cons_head : {X : Type 0} (x y : X) (xs ys : List X) → x ∷ xs ≡ y ∷ ys → x ≡ y
 cons_head x y xs ys e = cc
@@ -26,7 +26,7 @@ cons_head x y xs ys e = cc
 pub cons_tail : {X : Type 0} (x y : X) (xs ys : List X) → x ∷ xs ≡ y ∷ ys → xs ≡ ys
 cons_tail x y xs ys e = cc
 
--- a task line with a fault, among task lines
+-- a fault of one task line is a fault of these task lines
 split_fault : (previous : Option Task) (rows before : List Row) (row : Row) (after : List Row) (line : ℕ) (kind : ReadFaultKind) → rows ≡ before ++ row ∷ after
     → row.line ≡ line → task_fault (last_or previous (map task_of before)) (words_of row.text) kind ≡ true → TaskLineFault previous rows line kind
 split_fault previous [] [] row after line kind e at fault = absurd (cc)
@@ -39,7 +39,7 @@ split_fault previous (r ∷ rows) (b ∷ before) row after line kind e at fault 
     let P : Row → Type 0 = λ q. TaskLineFault (Some (task_of q)) rows line kind in
     inr (subst P same (split_fault (Some (task_of b)) rows before row after line kind (cons_tail r b rows (before ++ row ∷ after) e) at fault))
 
--- where it stands
+-- the lines before and after a line with a fault
 abbrev Split : Option Task → List Row → ℕ → ReadFaultKind → Type 0
 Split previous rows line kind =
     (before : List Row) × (row : Row) × (after : List Row) × (rows ≡ before ++ row ∷ after) × (row.line ≡ line)
@@ -64,7 +64,7 @@ line_cases rows header rest [] row after line kind is split at fault =
 line_cases rows header rest (b ∷ before) row after line kind is split at fault =
     inr (split_fault None rest before row after line kind (cons_tail header b rest (before ++ row ∷ after) (sym is ∙ split)) at fault)
 
--- a fault of the whole text
+-- a task on this line is mismatched
 abbrev Mismatch : List ℕ → ℕ → Type 0
 Mismatch text line = (t : Task) × Contains (customers_of text) t × (t.line ≡ line) × (is_mismatched (customers_of text) t ≡ true)
 
@@ -83,7 +83,7 @@ customers_none : (text : List ℕ) → length (rows_of text) < 2 → customers_o
 unfolding customers_of
 customers_none text short = ap (map task_of) (drop_all 2 (rows_of text) (omega arith))
 
--- A text that is cut: no header, or no depot, and no fault of a line.
+-- facts about a text that is cut off: no header, or no depot, and no fault in a line
 module _ (text : List ℕ) (short : length (rows_of text) < 2) (clean : (line : ℕ) (kind : ReadFaultKind) → LilimFault text OfLine line kind → ⊥) where
   cut_cases : (class : Class) (line : ℕ) (kind : ReadFaultKind) → LilimFault text class line kind → IsNoLater OfText (length (lines_of text) + 1) Truncated class line kind
   cut_cases OfLine line kind f = clean line kind f
@@ -101,7 +101,7 @@ no_rows_first text is =
     cut_first text (omega (arith, ap length is)) (λ line kind f.
     omega (arith, ap length (sym is ∙ f.3), length-append f.0 (f.1 ∷ f.2)))
 
--- A text with a header.
+-- facts about a text with a header
 module _ (text : List ℕ) (header : Row) (rest : List Row) (is : rows_of text ≡ header ∷ rest) where
   pub rest_above : LinesAbove header.line rest
   rest_above = let P : List Row → Type 0 = LinesAbove 0 in (subst P is (rows_above 0 (lines_of text))).1
@@ -142,7 +142,8 @@ module _ (text : List ℕ) (header : Row) (rest : List Row) (is : rows_of text �
         let P : List Row → Type 0 = λ xs. TaskLineFault None xs line kind in
         subst P none (only_tasks line kind (line_fault line kind f)))
 
--- the first task that a test finds is one of the tasks, and stands on the least line that has one
+-- the first task that a test finds is one of the tasks, and its line is the smallest of those of all tasks that
+-- pass the test
 contains_head : {X : Type 0} (x : X) (xs : List X) → Contains (x ∷ xs) x
 contains_head x xs = (0, omega arith, refl)
 
@@ -188,7 +189,7 @@ holds_in P [] u all here = absurd (none_contained u here)
 holds_in P (t ∷ ts) u all (zero, l, at) = subst P at all.0
 holds_in P (t ∷ ts) u all (suc k, l, at) = holds_in P ts u all.1 (k, omega arith, at)
 
--- A text with a header and a depot, and no fault of a line.
+-- facts about a text with a header and a depot, and no fault in a line
 module _ (text : List ℕ) (header depot : Row) (customers : List Row) (is : rows_of text ≡ header ∷ depot ∷ customers)
     (sound : HasNoKind (header_fault (words_of header.text))) (clean : HasNoTaskFault None (depot ∷ customers)) where
   tasks : customers_of text ≡ map task_of customers
@@ -237,5 +238,5 @@ module _ (text : List ℕ) (header depot : Row) (customers : List Row) (is : row
       (λ cut. not_cut line cut.1)
       (text_cases text line kind f)
 
-  pub has_none : ArePaired (map task_of customers) → HasNone (LilimFault text)
+  pub has_none : ArePaired (map task_of customers) → HasNoFault (LilimFault text)
   has_none paired = none_cases paired

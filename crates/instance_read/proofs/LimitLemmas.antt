@@ -1,4 +1,4 @@
--- What lines without a fault say of the header and of the tasks.
+-- The limits that the header and the tasks keep in lines without a fault.
 use Rattle.std.proofs.Common.{◌≡◌, ℕ, zero, suc, ◌<◌, ◌≤◌, false, List, [], ◌∷◌, length, get_or, map, Option, Some, None, inl, inr, refl, sym, ap, subst, ◌∙◌, arith, ℤ, pos, negsuc}
 use Rattle.std.specs.Prelude.{int_lt, ◌≤ℤ◌, is_none, ◌==◌, unwrap_or}
 use Rattle.std.specs.Int.RustNames.{unsigned_abs}
@@ -11,13 +11,13 @@ use Rattle.plan_types.specs.Limits.{IsVisit}
 use Rattle.instance_read.specs.declared.faults.ReadFaultKind.TheVariants.{BadNumber, Range, FieldCount, TaskOrder, EmptyWindow}
 use Rattle.instance_read.specs.declared.tasks.FleetLine.{FleetLine}
 use Rattle.instance_read.specs.declared.tasks.Task.{Task}
-use Rattle.instance_read.specs.Fields.{field, value_at, is_that, is_beyond, any_beyond, has_no_number, is_no_number, exceeds}
+use Rattle.instance_read.specs.Fields.{field, value_at, passes_test, is_beyond, any_beyond, has_no_number, is_no_number, exceeds}
 use Rattle.instance_read.specs.FieldValues.{IsValue}
 use Rattle.instance_read.specs.Lilim.{header_fault, header_limits, is_out_of_order, task_fault, task_limits}
 use Rattle.instance_read.specs.Pairs.{task_of}
 use Rattle.instance_read.specs.Rows.{Row}
-use Rattle.instance_read.specs.Tables.{AreTasks, HeaderKeepsLimits, IsCustomer, RisesFrom, IsHeader}
-use Rattle.instance_read.specs.Walk.{HasNoKind, HasNoTaskFault}
+use Rattle.instance_read.specs.Tables.{AreTasks, HeaderKeepsLimits, IsCustomer, AscendsFrom, IsHeader}
+use Rattle.instance_read.specs.TaskFaults.{HasNoKind, HasNoTaskFault}
 use Rattle.instance_read.proofs.TaskLemmas.{from_zero}
 
 pub within_from : (least most z : ℤ) → is_beyond (least, most) z ≡ false → (least ≤ℤ z) × (z ≤ℤ most)
@@ -30,13 +30,13 @@ within_from least most z e =
 most_from : (most n : ℕ) → int_lt (pos most) (pos n) ≡ false → n ≤ most
 most_from most n e = ltb-false most n e
 
--- a number of 0 or more, within its limit
+-- a number in 0..most has an absolute value of at most `most`
 magnitude_le : (most : ℕ) (z : ℤ) → is_beyond (pos 0, pos most) z ≡ false → unsigned_abs z ≤ most
 magnitude_le most (pos n) e = most_from most n (or_parts (int_lt (pos n) (pos 0)) (int_lt (pos most) (pos n)) e).1
 magnitude_le most (negsuc n) e = absurd (false≢true (sym e))
 
 -- each number of a line without a fault keeps its limits
-value_here : (limits : ℤ × ℤ) (number : Option ℤ) → is_none number ≡ false → is_that (is_beyond limits) number ≡ false → IsValue limits number (unwrap_or number (pos 0))
+value_here : (limits : ℤ × ℤ) (number : Option ℤ) → is_none number ≡ false → passes_test (is_beyond limits) number ≡ false → IsValue limits number (unwrap_or number (pos 0))
 value_here limits None some h = absurd (false≢true (sym some))
 value_here limits (Some z) some h = (refl, h)
 
@@ -45,9 +45,9 @@ pub values_of : (limits : List (ℤ × ℤ)) (words : List (List ℕ)) (k : ℕ)
 values_of [] words k fits numbers h l = absurd (omega arith)
 values_of (x ∷ limits) [] k fits numbers h l = absurd (omega arith)
 values_of (x ∷ limits) (w ∷ words) zero fits numbers h l =
-    value_here x (number_of w) (or_parts (is_no_number w) (has_no_number words) numbers).0 (or_parts (is_that (is_beyond x) (number_of w)) (any_beyond limits words) h).0
+    value_here x (number_of w) (or_parts (is_no_number w) (has_no_number words) numbers).0 (or_parts (passes_test (is_beyond x) (number_of w)) (any_beyond limits words) h).0
 values_of (x ∷ limits) (w ∷ words) (suc k) fits numbers h l =
-    values_of limits words k (omega arith) (or_parts (is_no_number w) (has_no_number words) numbers).1 (or_parts (is_that (is_beyond x) (number_of w)) (any_beyond limits words) h).1 (omega arith)
+    values_of limits words k (omega arith) (or_parts (is_no_number w) (has_no_number words) numbers).1 (or_parts (passes_test (is_beyond x) (number_of w)) (any_beyond limits words) h).1 (omega arith)
 
 pub from_one_to : (most : ℕ) (z : ℤ) → is_beyond (pos 1, pos most) z ≡ false → (1 ≤ unsigned_abs z) × (unsigned_abs z ≤ most)
 from_one_to most (pos n) e =
@@ -65,7 +65,7 @@ header_limits_of words header none is =
       capacity = rw is.1 (magnitude_le 1000000 (value_at words 1) capacity.1);
     }
 
--- the window is not empty
+-- the time window of a task without a fault is not empty
 window_from : (e l : ℤ) → is_beyond (pos 0, pos 100000000) e ≡ false → is_beyond (pos 0, pos 100000000) l ≡ false → int_lt l e ≡ false → unsigned_abs e ≤ unsigned_abs l
 window_from (pos a) (pos b) low high h = ltb-false b a h
 window_from (pos a) (negsuc b) low high h = absurd (false≢true (sym high))
@@ -74,7 +74,7 @@ window_from (negsuc a) l low high h = absurd (false≢true (sym low))
 exceeds-is : (a b : ℤ) (x y : Option ℤ) → x ≡ Some a → y ≡ Some b → exceeds x y ≡ int_lt b a
 exceeds-is a b x y p q = ap (λ o. exceeds o y) p ∙ ap (λ o. exceeds (Some a) o) q
 
--- The task of a line without a fault, after the task before it.
+-- the task of a line without a fault, after the task before it
 module _ (previous : Option Task) (row : Row) (none : HasNoKind (task_fault previous (words_of row.text))) where
   nine : length (words_of row.text) ≡ 9
   nine = eqb-true (length (words_of row.text)) 9 (not-false (length (words_of row.text) == 9) (none FieldCount))
@@ -105,7 +105,7 @@ module _ (previous : Option Task) (row : Row) (none : HasNoKind (task_fault prev
   demand_small = (within_from (negsuc 999999) (pos 1000000) (value_at (words_of row.text) 3) (value 3 (omega arith)).1).1
 
   pub customer_of : 0 < (task_of row).stop.number → IsCustomer (task_of row)
-  customer_of above = record { stop = record { from_one = omega arith; to_most = number_small; visit = visit_of }; demand = demand_small }
+  customer_of above = record { stop = record { from_one = omega arith; to_max = number_small; visit = visit_of }; demand = demand_small }
 
   pub in_order : is_out_of_order previous (pos (task_of row).stop.number) ≡ false
   unfolding task_of
@@ -113,7 +113,7 @@ module _ (previous : Option Task) (row : Row) (none : HasNoKind (task_fault prev
       let words = words_of row.text in
       let first = value 0 (omega arith) in
       ap (is_out_of_order previous) (sym (from_zero (pos 40000) (value_at words 0) first.1))
-      ∙ sym (ap (is_that (is_out_of_order previous)) first.0) ∙ none TaskOrder
+      ∙ sym (ap (passes_test (is_out_of_order previous)) first.0) ∙ none TaskOrder
 
 none_head : (previous : Option Task) (row : Row) (rows : List Row) → HasNoTaskFault previous (row ∷ rows) → HasNoKind (task_fault previous (words_of row.text))
 none_head previous row rows h k = false_from_ne_true (task_fault previous (words_of row.text) k) (λ e. h row.line k (inl (refl, e)))
@@ -124,10 +124,10 @@ none_tail previous row rows h line kind f = h line kind (inr f)
 rises : (previous : Task) (row : Row) → HasNoKind (task_fault (Some previous) (words_of row.text)) → previous.stop.number < (task_of row).stop.number
 rises previous row none = ltb-true previous.stop.number (task_of row).stop.number (not-false (int_lt (pos previous.stop.number) (pos (task_of row).stop.number)) (in_order (Some previous) row none))
 
-rising_tasks : (previous : Task) (rows : List Row) → HasNoTaskFault (Some previous) rows → RisesFrom previous.stop.number (map task_of rows)
-rising_tasks previous [] h = tt
-rising_tasks previous (row ∷ rows) h =
-    (rises previous row (none_head (Some previous) row rows h), rising_tasks (task_of row) rows (none_tail (Some previous) row rows h))
+ascending_tasks : (previous : Task) (rows : List Row) → HasNoTaskFault (Some previous) rows → AscendsFrom previous.stop.number (map task_of rows)
+ascending_tasks previous [] h = tt
+ascending_tasks previous (row ∷ rows) h =
+    (rises previous row (none_head (Some previous) row rows h), ascending_tasks (task_of row) rows (none_tail (Some previous) row rows h))
 
 valid_tasks : (previous : Task) (rows : List Row) → HasNoTaskFault (Some previous) rows → AllByRecursion IsCustomer (map task_of rows)
 valid_tasks previous [] h = tt
@@ -143,10 +143,10 @@ are_tasks depot customers h =
     let none = none_head None depot customers h in
     let rest = none_tail None depot customers h in
     let first : (task_of depot).stop.number ≡ 0 = zero_from (task_of depot).stop.number (in_order None depot none) in
-    let P : ℕ → Type 0 = λ n. RisesFrom n (map task_of customers) in
+    let P : ℕ → Type 0 = λ n. AscendsFrom n (map task_of customers) in
     record {
       first = first;
       visit = visit_of None depot none;
       valid = valid_tasks (task_of depot) customers rest;
-      rising = subst P first (rising_tasks (task_of depot) customers rest);
+      ascending = subst P first (ascending_tasks (task_of depot) customers rest);
     }

@@ -1,10 +1,10 @@
--- A draft tells the faults of a line, and knows it after it was taken.
+-- A draft determines the faults of a line, and has the line's data after it was taken.
 use Rattle.std.proofs.Common.{◌≡◌, ℕ, false, List, [], ◌∷◌, ◌++◌, set, Option, Some, None, refl, sym, ap, ◌∙◌, arith, ℤ, pos, negsuc}
 use Rattle.std.specs.Prelude.{find, is_some, unwrap_or, slice_index_or}
 use Rattle.std.specs.Option.{option_map, option_map_or}
 use Rattle.text_lines.specs.Words.{words_of}
 use Rattle.instance_read.specs.declared.faults.ReadFaultKind.{ReadFaultKind}
-use Rattle.instance_read.specs.declared.vrp_draft.VrpFields.{VrpFields}
+use Rattle.instance_read.specs.declared.vrp_draft.VrpDraft.{VrpDraft}
 use Rattle.instance_read.specs.declared.vrp_lines.Key.{Key}
 use Rattle.instance_read.specs.declared.vrp_lines.Key.TheVariants.{Dimension, Capacity, Coordinates, Demands, End}
 use Rattle.instance_read.specs.declared.vrp_lines.Section.{Section}
@@ -14,18 +14,18 @@ use Rattle.instance_read.specs.Rows.{Row}
 use Rattle.instance_read.specs.Vrp.{any_key, coordinate_limits, demand_limits, first_key, has_key, has_node, in_coordinates, in_demands, is_node_line, key_fault}
 use Rattle.instance_read.specs.Vrp.{key_number, node_fault, nodes_of, place_fault}
 use Rattle.instance_read.specs.VrpLines.{Placed, key_of, value_of}
-use Rattle.instance_read.specs.VrpWalk.{Knows, demand_in, number_in, point_in}
-use Rattle.instance_read.specs.Walk.{HasNoKind}
-use Rattle.instance_read.proofs.KnowLemmas.{any_is_find, any_same, find_same, knows_key, placed, some_map}
+use Rattle.instance_read.specs.DraftLines.{IsDraftOfLines, demand_in, number_in, point_in}
+use Rattle.instance_read.specs.TaskFaults.{HasNoKind}
+use Rattle.instance_read.proofs.DraftLemmas.{any_is_find, any_same, find_same, knows_key, placed, some_map}
 use Rattle.instance_read.proofs.NodeStepLemmas.{entry_more, index_is_node, node_below, node_free, node_of, number_is}
 
--- how many nodes are announced
+-- the number of nodes that the first DIMENSION line announces, or 0 if there is no such line
 pub nodes_map : (o : Option Row) → unwrap_or (option_map number_in o) 0 ≡ option_map_or number_in o 0
 nodes_map None = refl
 nodes_map (Some row) = refl
 
--- A draft that knows the lines before tells the faults of a line.
-module _ (before : List Placed) (draft : VrpFields) (known : Knows before draft) where
+-- a draft with the data of the earlier lines determines the faults of a line
+module _ (before : List Placed) (draft : VrpDraft) (known : IsDraftOfLines before draft) where
   pub announced_is : any_key Dimension before ≡ is_some draft.nodes
   announced_is =
       any_is_find (has_key Dimension) before
@@ -55,7 +55,7 @@ module _ (before : List Placed) (draft : VrpFields) (known : Knows before draft)
   same_fault row (DepotLine seen) kind = refl
   same_fault row AfterEnd kind = refl
 
--- what stays as it was after a line of a section
+-- the parts that stay the same after a line of a section
 module _ (before : List Placed) (p : Placed) (outside : (key : Key) → has_key key p ≡ false) where
   any_stays : (key : Key) → any_key key (before ++ p ∷ []) ≡ any_key key before
   any_stays key = any_same before p (has_key key) (outside key)
@@ -63,10 +63,10 @@ module _ (before : List Placed) (p : Placed) (outside : (key : Key) → has_key 
   first_stays : (key : Key) → first_key key (before ++ p ∷ []) ≡ first_key key before
   first_stays key = ap (option_map (λ (q : Placed). q.row)) (find_same before p (has_key key) (outside key))
 
-  module _ (old new : VrpFields) (known : Knows before old) (seen : new.seen ≡ old.seen) (nodes : new.nodes ≡ old.nodes) (capacity : new.capacity ≡ old.capacity) (end : new.end ≡ old.end) where
+  module _ (old new : VrpDraft) (known : IsDraftOfLines before old) (seen : new.seen ≡ old.seen) (nodes : new.nodes ≡ old.nodes) (capacity : new.capacity ≡ old.capacity) (end : new.end ≡ old.end) where
     section_knows : ((z : ℤ) → entry_at new.coordinates.items z ≡ option_map point_in (find (is_node_line in_coordinates z) (before ++ p ∷ [])))
         → ((z : ℤ) → entry_at new.demands.items z ≡ option_map demand_in (find (is_node_line in_demands z) (before ++ p ∷ [])))
-        → (old.coordinates.items ≡ [] → new.coordinates.items ≡ []) → (old.demands.items ≡ [] → new.demands.items ≡ []) → Knows (before ++ p ∷ []) new
+        → (old.coordinates.items ≡ [] → new.coordinates.items ≡ []) → (old.demands.items ≡ [] → new.demands.items ≡ []) → IsDraftOfLines (before ++ p ∷ []) new
     section_knows coordinates demands no_coordinates no_demands =
         record {
           seen = λ key. ap (λ s. slice_index_or s (key_number key) false) seen ∙ known.seen key ∙ sym (any_stays key);
@@ -82,20 +82,20 @@ module _ (before : List Placed) (p : Placed) (outside : (key : Key) → has_key 
 set_none : {X : Type 0} (xs : List X) (i : ℕ) (x : X) → xs ≡ [] → set xs i x ≡ []
 set_none xs i x e = ap (λ l. set l i x) e
 
--- a line that says nothing
-knows_same : (before : List Placed) (row : Row) (place : Section) (old new : VrpFields) → ((key : Key) → has_key key (placed row place) ≡ false)
+-- a line without data changes nothing in the draft
+knows_same : (before : List Placed) (row : Row) (place : Section) (old new : VrpDraft) → ((key : Key) → has_key key (placed row place) ≡ false)
     → ((z : ℤ) → is_node_line in_coordinates z (placed row place) ≡ false) → ((z : ℤ) → is_node_line in_demands z (placed row place) ≡ false)
-    → Knows before old → new ≡ old → Knows (before ++ placed row place ∷ []) new
+    → IsDraftOfLines before old → new ≡ old → IsDraftOfLines (before ++ placed row place ∷ []) new
 knows_same before row place old new outside no_point no_demand known is =
     let p = placed row place in
-    section_knows before p outside old new known (ap (λ (d : VrpFields). d.seen) is) (ap (λ (d : VrpFields). d.nodes) is) (ap (λ (d : VrpFields). d.capacity) is) (ap (λ (d : VrpFields). d.end) is)
-    (λ z. ap (λ (d : VrpFields). entry_at d.coordinates.items z) is ∙ known.coordinates z ∙ ap (option_map point_in) (sym (find_same before p (is_node_line in_coordinates z) (no_point z))))
-    (λ z. ap (λ (d : VrpFields). entry_at d.demands.items z) is ∙ known.demands z ∙ ap (option_map demand_in) (sym (find_same before p (is_node_line in_demands z) (no_demand z))))
-    (λ e. ap (λ (d : VrpFields). d.coordinates.items) is ∙ e)
-    (λ e. ap (λ (d : VrpFields). d.demands.items) is ∙ e)
+    section_knows before p outside old new known (ap (λ (d : VrpDraft). d.seen) is) (ap (λ (d : VrpDraft). d.nodes) is) (ap (λ (d : VrpDraft). d.capacity) is) (ap (λ (d : VrpDraft). d.end) is)
+    (λ z. ap (λ (d : VrpDraft). entry_at d.coordinates.items z) is ∙ known.coordinates z ∙ ap (option_map point_in) (sym (find_same before p (is_node_line in_coordinates z) (no_point z))))
+    (λ z. ap (λ (d : VrpDraft). entry_at d.demands.items z) is ∙ known.demands z ∙ ap (option_map demand_in) (sym (find_same before p (is_node_line in_demands z) (no_demand z))))
+    (λ e. ap (λ (d : VrpDraft). d.coordinates.items) is ∙ e)
+    (λ e. ap (λ (d : VrpDraft). d.demands.items) is ∙ e)
 
-pub knows_more : (before : List Placed) (row : Row) (place : Section) (old new : VrpFields) → IsDraft old → Knows before old → FitsSection place old
-    → HasNoKind (line_fault old row place) → TakesLine old row place new → Knows (before ++ placed row place ∷ []) new
+pub knows_more : (before : List Placed) (row : Row) (place : Section) (old new : VrpDraft) → IsDraft old → IsDraftOfLines before old → FitsSection place old
+    → HasNoKind (line_fault old row place) → TakesLine old row place new → IsDraftOfLines (before ++ placed row place ∷ []) new
 knows_more before row Outside old new valid known fits none takes = knows_key before row old new (key_of row) refl valid known none takes
 knows_more before row (CoordinateLine n) old new valid known fits none takes =
     let p = placed row (CoordinateLine n) in
@@ -104,14 +104,14 @@ knows_more before row (CoordinateLine n) old new valid known fits none takes =
     let limits = (negsuc 999999, pos 1000000) ∷ (negsuc 999999, pos 1000000) ∷ [] in
     let node = node_of limits (nodes_in old) table words none in
     let is = takes.1 ∙ ap (λ k. set table k (Some (point_in p))) (index_is_node limits (nodes_in old) table words none) in
-    section_knows before p (λ key. refl) old new known (ap (λ (d : VrpFields). d.seen) takes.0) (ap (λ (d : VrpFields). d.nodes) takes.0)
-    (ap (λ (d : VrpFields). d.capacity) takes.0) (ap (λ (d : VrpFields). d.end) takes.0)
+    section_knows before p (λ key. refl) old new known (ap (λ (d : VrpDraft). d.seen) takes.0) (ap (λ (d : VrpDraft). d.nodes) takes.0)
+    (ap (λ (d : VrpDraft). d.capacity) takes.0) (ap (λ (d : VrpDraft). d.end) takes.0)
     (λ z. ap (λ t. entry_at t z) is
     ∙ entry_more in_coordinates point_in before p refl table node.0 (number_is limits (nodes_in old) table words none)
     (omega (arith, fits.1, node_below limits (nodes_in old) table words none)) (node_free limits (nodes_in old) table words none) known.coordinates z)
-    (λ z. ap (λ (d : VrpFields). entry_at d.demands.items z) takes.0 ∙ known.demands z ∙ ap (option_map demand_in) (sym (find_same before p (is_node_line in_demands z) refl)))
+    (λ z. ap (λ (d : VrpDraft). entry_at d.demands.items z) takes.0 ∙ known.demands z ∙ ap (option_map demand_in) (sym (find_same before p (is_node_line in_demands z) refl)))
     (λ e. takes.1 ∙ set_none table (node_index words) (Some (point_in p)) e)
-    (λ e. ap (λ (d : VrpFields). d.demands.items) takes.0 ∙ e)
+    (λ e. ap (λ (d : VrpDraft). d.demands.items) takes.0 ∙ e)
 knows_more before row (DemandLine n) old new valid known fits none takes =
     let p = placed row (DemandLine n) in
     let words = words_of row.text in
@@ -119,13 +119,13 @@ knows_more before row (DemandLine n) old new valid known fits none takes =
     let limits = (pos 0, pos 1000000) ∷ [] in
     let node = node_of limits (nodes_in old) table words none in
     let is = takes.1 ∙ ap (λ k. set table k (Some (demand_in p))) (index_is_node limits (nodes_in old) table words none) in
-    section_knows before p (λ key. refl) old new known (ap (λ (d : VrpFields). d.seen) takes.0) (ap (λ (d : VrpFields). d.nodes) takes.0)
-    (ap (λ (d : VrpFields). d.capacity) takes.0) (ap (λ (d : VrpFields). d.end) takes.0)
-    (λ z. ap (λ (d : VrpFields). entry_at d.coordinates.items z) takes.0 ∙ known.coordinates z ∙ ap (option_map point_in) (sym (find_same before p (is_node_line in_coordinates z) refl)))
+    section_knows before p (λ key. refl) old new known (ap (λ (d : VrpDraft). d.seen) takes.0) (ap (λ (d : VrpDraft). d.nodes) takes.0)
+    (ap (λ (d : VrpDraft). d.capacity) takes.0) (ap (λ (d : VrpDraft). d.end) takes.0)
+    (λ z. ap (λ (d : VrpDraft). entry_at d.coordinates.items z) takes.0 ∙ known.coordinates z ∙ ap (option_map point_in) (sym (find_same before p (is_node_line in_coordinates z) refl)))
     (λ z. ap (λ t. entry_at t z) is
     ∙ entry_more in_demands demand_in before p refl table node.0 (number_is limits (nodes_in old) table words none)
     (omega (arith, fits.1, node_below limits (nodes_in old) table words none)) (node_free limits (nodes_in old) table words none) known.demands z)
-    (λ e. ap (λ (d : VrpFields). d.coordinates.items) takes.0 ∙ e)
+    (λ e. ap (λ (d : VrpDraft). d.coordinates.items) takes.0 ∙ e)
     (λ e. takes.1 ∙ set_none table (node_index words) (Some (demand_in p)) e)
 knows_more before row (DepotLine seen) old new valid known fits none takes = knows_same before row (DepotLine seen) old new (λ key. refl) (λ z. refl) (λ z. refl) known takes
 knows_more before row AfterEnd old new valid known fits none takes = knows_same before row AfterEnd old new (λ key. refl) (λ z. refl) (λ z. refl) known takes

@@ -1,4 +1,4 @@
--- What a draft knows after the line of a node.
+-- The draft after the line of a node.
 use Rattle.std.proofs.Common.{Less, Equal, Greater, ◌≡◌, ◌≢◌, ℕ, zero, suc, ◌+◌, ◌-◌, ◌<◌, Bool, true, false, cond, ◌⊎◌, inl, inr, eqb, List, [], ◌∷◌, ◌++◌}
 use Rattle.std.proofs.Common.{length, set, Option, Some, None, ⊎_elim, refl, sym, ap, subst, ◌∙◌, arith, ℤ, pos, negsuc, get_or-set_same, get_or-set_other}
 use Rattle.std.specs.Prelude.{find, slice_index_or, int_lt, ◌||◌, ◌&&◌}
@@ -10,11 +10,11 @@ use Rattle.text_lines.specs.Words.{words_of}
 use Rattle.instance_read.specs.declared.faults.ReadFaultKind.TheVariants.{BadNumber, FieldCount, Range, NodeRepeated}
 use Rattle.instance_read.specs.declared.vrp_lines.Section.{Section}
 use Rattle.instance_read.specs.Drafts.{entry_at, is_taken, node_index}
-use Rattle.instance_read.specs.Fields.{field, is_beyond, is_that, value_at}
+use Rattle.instance_read.specs.Fields.{field, is_beyond, passes_test, value_at}
 use Rattle.instance_read.specs.Vrp.{is_node_line, node_fault}
 use Rattle.instance_read.specs.VrpLines.{Placed}
-use Rattle.instance_read.specs.Walk.{HasNoKind}
-use Rattle.instance_read.proofs.KnowLemmas.{find_new, find_same, map_none, some_false}
+use Rattle.instance_read.specs.TaskFaults.{HasNoKind}
+use Rattle.instance_read.proofs.DraftLemmas.{find_new, find_same, map_none, some_false}
 use Rattle.instance_read.proofs.LimitLemmas.{values_of}
 
 -- the test for one number
@@ -37,12 +37,12 @@ one_other m n ne =
     (λ le. apart (int_lt (pos m) (pos n)) (int_lt (pos n) (pos m)) (inl (lt-ltb m n (omega (arith, le, ne)))))
     (cases_lt n m)
 
--- A line of a section, with the number of a node that no line before it has.
+-- a line of a section, with the number of a node that no earlier line has
 module _ {X : Type 0} (section : Section → Bool) (value_in : Placed → X) (before : List Placed) (p : Placed) (inside : section p.place ≡ true) (table : List (Option X))
     (node : ℕ) (number : field (words_of p.row.text) 0 ≡ Some (pos (suc node))) (within : node < length table) (free : slice_index_or table node None ≡ None)
     (known : (z : ℤ) → entry_at table z ≡ option_map value_in (find (is_node_line section z) before)) where
   line_is : (z : ℤ) → is_node_line section z p ≡ is_one z (pos (suc node))
-  line_is z = ap (λ b. b && is_that (is_one z) (field (words_of p.row.text) 0)) inside ∙ ap (is_that (is_one z)) number
+  line_is z = ap (λ b. b && passes_test (is_one z) (field (words_of p.row.text) 0)) inside ∙ ap (passes_test (is_one z)) number
 
   none_at : find (is_node_line section (pos (suc node))) before ≡ None
   none_at = map_none value_in (find (is_node_line section (pos (suc node))) before) (sym (known (pos (suc node))) ∙ free)
@@ -66,13 +66,13 @@ module _ {X : Type 0} (section : Section → Bool) (value_in : Placed → X) (be
   entry_more (pos zero) = known (pos zero) ∙ other (pos zero) (one_other 0 (suc node) (omega arith))
   entry_more (pos (suc m)) = entry_cases m (eqb m node) refl
 
--- a node within its limits
+-- a node within its limits is one above an index of the table
 node_from : (nodes : ℕ) (v : ℤ) → is_beyond (pos 1, pos nodes) v ≡ false → (k : ℕ) × (v ≡ pos (suc k)) × (k < nodes)
 node_from nodes (pos zero) e = absurd (false≢true (sym e ∙ ap (λ b. b || int_lt (pos nodes) (pos 0)) (lt-ltb 0 1 (omega arith))))
 node_from nodes (pos (suc k)) e = (k, refl, ltb-false nodes (suc k) (or_parts (int_lt (pos (suc k)) (pos 1)) (int_lt (pos nodes) (pos (suc k))) e).1)
 node_from nodes (negsuc k) e = absurd (false≢true (sym e))
 
--- what a line of a node without a fault says of its node
+-- the node of a line without a fault
 module _ {X : Type 0} (more : List (ℤ × ℤ)) (nodes : ℕ) (table : List (Option X)) (words : List (List ℕ))
     (none : HasNoKind (node_fault (length more + 1) ((pos 1, pos nodes) ∷ more) (is_taken table) words)) where
   first_value : (field words 0 ≡ Some (value_at words 0)) × (is_beyond (pos 1, pos nodes) (value_at words 0) ≡ false)
@@ -93,4 +93,4 @@ module _ {X : Type 0} (more : List (ℤ × ℤ)) (nodes : ℕ) (table : List (Op
   node_below = node_of.2
 
   pub node_free : slice_index_or table node_of.0 None ≡ None
-  node_free = some_false (slice_index_or table node_of.0 None) (sym (ap (is_that (is_taken table)) number_is) ∙ none NodeRepeated)
+  node_free = some_false (slice_index_or table node_of.0 None) (sym (ap (passes_test (is_taken table)) number_is) ∙ none NodeRepeated)

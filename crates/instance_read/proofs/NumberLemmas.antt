@@ -1,4 +1,5 @@
--- The numbers of a line, and what is told where they are not so many within their limits.
+-- The numbers of a line, and the fault that is reported if there are too few or too many, or one is not within
+-- its limits.
 use Rattle.std.proofs.Common.{◌≡◌, ℕ, zero, suc, ◌<◌, ◌≤◌, Bool, true, false, cond, List, [], ◌∷◌, length, get_or, Option, Some, None, refl, sym, ap, subst, ◌∙◌, arith, ℤ, pos}
 use Rattle.std.specs.Prelude.{is_none, not, ◌==◌, unwrap_or}
 use Rattle.std.proofs.lemmas.Bool.{eqb-true, or_left, or_right, or_parts, or_from, not-false, not_from_true, eq-eqb, cond_both, false_from_ne_true, false≢true}
@@ -6,13 +7,13 @@ use Rattle.text_lines.specs.Numbers.{number_of}
 use Rattle.instance_read.specs.declared.faults.ReadFaultKind.{ReadFaultKind}
 use Rattle.instance_read.specs.declared.faults.ReadFaultKind.TheVariants.{BadNumber, Range, FieldCount, TooManyStops}
 use Rattle.instance_read.specs.Faults.{rank}
-use Rattle.instance_read.specs.Fields.{field, value_at, is_that, is_beyond, any_beyond, has_no_number, is_no_number}
+use Rattle.instance_read.specs.Fields.{field, value_at, passes_test, is_beyond, any_beyond, has_no_number, is_no_number}
 use Rattle.instance_read.specs.FieldValues.{IsValue, IsNoValue, HasNoValue, HasNumbers, HasNoNumbers, numbers_fault, numbers_kind}
-use Rattle.instance_read.specs.Walk.{HasNoKind, IsFirstKind}
+use Rattle.instance_read.specs.TaskFaults.{HasNoKind, IsFirstKind}
 use Rattle.instance_read.proofs.KindLemmas.{count_first, number_first, first_from, stops_or_range}
 
--- a number beyond its limits
-beyond_first : (limits : ℤ × ℤ) (number : Option ℤ) → is_none number ≡ false → IsNoValue limits number → is_that (is_beyond limits) number ≡ true
+-- a number that is not a value within its limits is beyond them
+beyond_first : (limits : ℤ × ℤ) (number : Option ℤ) → is_none number ≡ false → IsNoValue limits number → passes_test (is_beyond limits) number ≡ true
 beyond_first limits None e h = absurd (false≢true (sym e))
 beyond_first limits (Some z) e h = h z refl
 
@@ -31,15 +32,15 @@ any_beyond-false [] words value h = refl
 any_beyond-false (x ∷ limits) [] value h = refl
 any_beyond-false (x ∷ limits) (w ∷ words) value h =
     let first = h 0 (omega arith) in
-    or_from _ _ (ap (is_that (is_beyond x)) first.0 ∙ first.1) (any_beyond-false limits words (λ k. value (suc k)) (λ k l. h (suc k) (omega arith)))
+    or_from _ _ (ap (passes_test (is_beyond x)) first.0 ∙ first.1) (any_beyond-false limits words (λ k. value (suc k)) (λ k l. h (suc k) (omega arith)))
 
--- the numbers of a line are numbers
+-- if there is a number at each place of a line, all its words are numbers
 pub numbers_of : (words : List (List ℕ)) (v : ℕ → ℤ) → ((k : ℕ) → k < length words → field words k ≡ Some (v k)) → has_no_number words ≡ false
 numbers_of [] v h = refl
 numbers_of (w ∷ words) v h =
     or_from (is_no_number w) (has_no_number words) (ap (λ (o : Option ℤ). is_none o) (h 0 (omega arith))) (numbers_of words (λ k. v (suc k)) (λ k l. h (suc k) (omega arith)))
 
--- what is told of a line that has not so many numbers within their limits
+-- the fault that is reported for a line without `count` numbers within their limits
 module _ (count : ℕ) (limits : List (ℤ × ℤ)) (words : List (List ℕ)) where
   range_last : not (length words == count) ≡ false → has_no_number words ≡ false → (k : ReadFaultKind) → rank k < 4 → numbers_fault count limits words k ≡ false
   range_last many numbers FieldCount l = many
@@ -63,17 +64,17 @@ module _ (count : ℕ) (limits : List (ℤ × ℤ)) (words : List (List ℕ)) wh
   earlier : (kind k : ReadFaultKind) → IsFirstKind (numbers_fault count limits words) kind → rank k < rank kind → numbers_fault count limits words k ≡ false
   earlier kind k first l = false_from_ne_true (numbers_fault count limits words k) (λ e. absurd (omega (arith, first.1 k e)))
 
-  -- a line that may have more faults
+  -- a line that may have other faults too
   module _ (fault : ReadFaultKind → Bool) (counts : fault FieldCount ≡ not (length words == count)) (numbers : fault BadNumber ≡ has_no_number words) where
-    -- where a first number above the most stops is one too many
+    -- the fault of a line whose first number is beyond its limits: one stop too many, or out of range
     pub stops_first : (stops : Bool) (kind : ReadFaultKind) → kind ≡ cond stops TooManyStops Range → fault TooManyStops ≡ stops
-        → (stops ≡ false → any_beyond limits words ≡ true → fault Range ≡ true) → (told : ReadFaultKind) → told ≡ Range → IsFirstKind (numbers_fault count limits words) told → IsFirstKind fault kind
-    stops_first stops kind is many range told at first_told =
+        → (stops ≡ false → any_beyond limits words ≡ true → fault Range ≡ true) → (reported : ReadFaultKind) → reported ≡ Range → IsFirstKind (numbers_fault count limits words) reported → IsFirstKind fault kind
+    stops_first stops kind is many range reported at first_reported =
         let First : ReadFaultKind → Type 0 = IsFirstKind (numbers_fault count limits words) in
-        let first = subst First at first_told in
+        let first = subst First at first_reported in
         stops_or_range fault stops kind is (counts ∙ earlier Range FieldCount first (omega arith)) (numbers ∙ earlier Range BadNumber first (omega arith)) many (λ few. range few first.0)
 
--- A line that has so many words, each a number within its limits, has no fault.
+-- a line of `count` words, each of them a number within its limits, has no fault
 pub numbers_none : (count : ℕ) (limits : List (ℤ × ℤ)) (words : List (List ℕ)) (values : List ℤ) → length limits ≡ count → HasNumbers count limits words values
     → HasNoKind (numbers_fault count limits words)
 numbers_none count limits words values sized h FieldCount = not_from_true (length words == count) (eq-eqb (length words) count h.0)

@@ -1,4 +1,5 @@
--- The pairs of tasks that rise and are all paired: each can be put, and stands after those of lesser names.
+-- The pairs of tasks in ascending order that are all paired: each can be added, and comes after those with
+-- smaller names.
 use Rattle.std.proofs.Common.{Less, Equal, Greater, ◌≡◌, ℕ, zero, suc, ◌+◌, ◌<◌, ◌≤◌, Bool, true, false, not, cond, ◌⊎◌, inl, inr, List, [], ◌∷◌, ◌++◌, length}
 use Rattle.std.proofs.Common.{get_or, take, Option, Some, None, refl, sym, ap, subst, ◌∙◌, arith, eqb, ℤ, pos}
 use Rattle.std.specs.Prelude.{◌||◌, ◌==◌, nat_lt, neg_ℤ, ◌≤ℤ◌, ◌+ℤ◌, int_lt, IsSome, find}
@@ -16,12 +17,12 @@ use Rattle.plan_types.specs.declared.requests.Request.{Request}
 use Rattle.plan_types.specs.declared.requests.Request.TheVariants.{Pair}
 use Rattle.instance_read.specs.declared.tasks.Task.{Task}
 use Rattle.instance_read.specs.Pairs.{find_task, is_mismatched, is_uneven, is_wrong_delivery, last_number, pair_of, pairs_of}
-use Rattle.instance_read.specs.Tables.{ArePaired, AreTasks, IsCustomer, RisesFrom}
+use Rattle.instance_read.specs.Tables.{ArePaired, AreTasks, IsCustomer, AscendsFrom}
 use Rattle.instance_read.specs.Lilim.{depot_from, problem_from}
 use Rattle.instance_read.specs.declared.tasks.FleetLine.{FleetLine}
 use Rattle.plan_types.specs.declared.requests.Kind.TheVariants.{LiLim}
 
--- what is found has the number
+-- the task that is found has this number
 found_cond : (n : ℕ) (t u : Task) (ts : List Task) (b : Bool) → eqb t.stop.number n ≡ b → (find_task n ts ≡ Some u → u.stop.number ≡ n) → cond b (Some t) (find_task n ts) ≡ Some u → u.stop.number ≡ n
 found_cond n t u ts true e h is = let same : t ≡ u = cc in ap (λ x. x.stop.number) (sym same) ∙ eqb-true t.stop.number n e
 found_cond n t u ts false e h is = h is
@@ -30,7 +31,7 @@ found_number : (n : ℕ) (ts : List Task) (u : Task) → find_task n ts ≡ Some
 found_number n [] u e = absurd (cc)
 found_number n (t ∷ ts) u e = found_cond n t u ts (eqb t.stop.number n) refl (found_number n ts u) e
 
--- and what holds of all
+-- the task that is found has what all tasks have
 found_holds_cond : (P : Task → Type 0) (n : ℕ) (t u : Task) (ts : List Task) (b : Bool) → P t → (find_task n ts ≡ Some u → P u) → cond b (Some t) (find_task n ts) ≡ Some u → P u
 found_holds_cond P n t u ts true here h is = let same : t ≡ u = cc in subst P same here
 found_holds_cond P n t u ts false here h is = h is
@@ -39,19 +40,19 @@ found_holds : (P : Task → Type 0) (n : ℕ) (ts : List Task) (u : Task) → Al
 found_holds P n [] u all e = absurd (cc)
 found_holds P n (t ∷ ts) u all e = found_holds_cond P n t u ts (eqb t.stop.number n) all.0 (found_holds P n ts u all.1) e
 
--- tasks that rise are found at their numbers
-above_at : (n : ℕ) (ts : List Task) (i : ℕ) (d : Task) → RisesFrom n ts → i < length ts → n < (get_or ts i d).stop.number
+-- tasks in ascending order are found at their numbers
+above_at : (n : ℕ) (ts : List Task) (i : ℕ) (d : Task) → AscendsFrom n ts → i < length ts → n < (get_or ts i d).stop.number
 above_at n [] i d h l = absurd (omega arith)
 above_at n (t ∷ ts) zero d h l = h.0
 above_at n (t ∷ ts) (suc i) d h l = omega (arith, h.0, above_at t.stop.number ts i d h.1 (omega arith))
 
-rising_at : (n : ℕ) (ts : List Task) (k i : ℕ) (d e : Task) → RisesFrom n ts → k < i → i < length ts → (get_or ts k e).stop.number < (get_or ts i d).stop.number
-rising_at n [] k i d e h l m = absurd (omega arith)
-rising_at n (t ∷ ts) k zero d e h l m = absurd (omega arith)
-rising_at n (t ∷ ts) zero (suc i) d e h l m = above_at t.stop.number ts i d h.1 (omega arith)
-rising_at n (t ∷ ts) (suc k) (suc i) d e h l m = rising_at t.stop.number ts k i d e h.1 (omega arith) (omega arith)
+ascending_at : (n : ℕ) (ts : List Task) (k i : ℕ) (d e : Task) → AscendsFrom n ts → k < i → i < length ts → (get_or ts k e).stop.number < (get_or ts i d).stop.number
+ascending_at n [] k i d e h l m = absurd (omega arith)
+ascending_at n (t ∷ ts) k zero d e h l m = absurd (omega arith)
+ascending_at n (t ∷ ts) zero (suc i) d e h l m = above_at t.stop.number ts i d h.1 (omega arith)
+ascending_at n (t ∷ ts) (suc k) (suc i) d e h l m = ascending_at t.stop.number ts k i d e h.1 (omega arith) (omega arith)
 
-found_at : (n : ℕ) (ts : List Task) (i : ℕ) (d : Task) → RisesFrom n ts → i < length ts → find_task (get_or ts i d).stop.number ts ≡ Some (get_or ts i d)
+found_at : (n : ℕ) (ts : List Task) (i : ℕ) (d : Task) → AscendsFrom n ts → i < length ts → find_task (get_or ts i d).stop.number ts ≡ Some (get_or ts i d)
 found_at n [] i d h l = absurd (omega arith)
 found_at n (t ∷ ts) zero d h l = cond-true (eqb t.stop.number t.stop.number) (Some t) (find_task t.stop.number ts) (eq-eqb t.stop.number t.stop.number refl)
 found_at n (t ∷ ts) (suc i) d h l =
@@ -59,20 +60,20 @@ found_at n (t ∷ ts) (suc i) d h l =
     cond-false (eqb t.stop.number (get_or ts i d).stop.number) (Some t) (find_task (get_or ts i d).stop.number ts) (ne_eqb t.stop.number (get_or ts i d).stop.number (λ e. omega (arith, e, later)))
     ∙ found_at t.stop.number ts i d h.1 (omega arith)
 
--- A task that is itself found at its number, is valid and paired.
+-- a task that is itself found at its number, and is valid and paired
 pub record IsGood (tasks : List Task) (t : Task) : Type 0 where
   pub found : find_task t.stop.number tasks ≡ Some t
   pub valid : IsCustomer t
   pub paired : is_mismatched tasks t ≡ false
 
-good_at : (tasks : List Task) (i : ℕ) (d : Task) → AllByRecursion IsCustomer tasks → RisesFrom 0 tasks → ArePaired tasks → i < length tasks → IsGood tasks (get_or tasks i d)
-good_at tasks i d valid rising paired l = record {
-  found = found_at 0 tasks i d rising l;
+good_at : (tasks : List Task) (i : ℕ) (d : Task) → AllByRecursion IsCustomer tasks → AscendsFrom 0 tasks → ArePaired tasks → i < length tasks → IsGood tasks (get_or tasks i d)
+good_at tasks i d valid ascending paired l = record {
+  found = found_at 0 tasks i d ascending l;
   valid = All-from_recursion IsCustomer tasks valid i d l;
   paired = All-from_recursion (λ t. is_mismatched tasks t ≡ false) tasks paired i d l;
 }
 
--- p is a pickup, and d its delivery
+-- p is a pickup, and d is its delivery
 pub record IsPair (tasks : List Task) (p d : Task) : Type 0 where
   pub pickup : IsGood tasks p
   pub delivery : IsGood tasks d
@@ -94,7 +95,7 @@ found_good tasks n d valid paired e = record {
   paired = found_holds (λ t. is_mismatched tasks t ≡ false) n tasks d paired e;
 }
 
--- numbers that are equal: neither is below the other
+-- equal numbers: neither is below the other
 equal_parts : (a b : Bool) → not (is_eq (cond a Less (cond b Greater Equal))) ≡ false → (a ≡ false) × (b ≡ false)
 equal_parts true b is = absurd (false≢true (sym is))
 equal_parts false true is = absurd (false≢true (sym is))
@@ -132,11 +133,11 @@ pub pair_parts : (tasks : List Task) (t : Task) (k : ℕ) (r : Request) → AllB
 pair_parts tasks t k r valid paired good is =
     pair_cases tasks t k r _ (eqb t.pickup 0) (eqb t.delivery 0) (find_task t.delivery tasks) valid paired good refl refl good.paired is
 
--- tasks that are found at one number are one
+-- tasks that are found at the same number are equal
 same_task : (tasks : List Task) (a b : Task) → IsGood tasks a → IsGood tasks b → a.stop.number ≡ b.stop.number → a ≡ b
 same_task tasks a b ga gb e = same_Some a b (sym ga.found ∙ ap (λ n. find_task n tasks) e ∙ gb.found)
 
--- Two pairs with different pickups have four different stops.
+-- two pairs with different pickups have four different stops
 module _ (tasks : List Task) (p d p' d' : Task) (pair : IsPair tasks p d) (pair' : IsPair tasks p' d') (lesser : p'.stop.number < p.stop.number) where
   apart_1 : p'.stop.number ≡ d.stop.number → ⊥
   apart_1 e =
@@ -163,11 +164,11 @@ module _ (tasks : List Task) (p d p' d' : Task) (pair : IsPair tasks p d) (pair'
       cond-false (eqb p'.stop.number n) (Some p'.stop) _ (ne_eqb p'.stop.number n apart.0)
       ∙ cond-false (eqb d'.stop.number n) (Some d'.stop) None (ne_eqb d'.stop.number n apart.1)
 
--- the tasks before a pickup
+-- the task is good, and its number is below n
 abbrev IsEarlier : List Task → ℕ → Task → Type 0
 IsEarlier tasks n t = IsGood tasks t × (t.stop.number < n)
 
--- Their requests have none of the numbers of a pair, and lesser names.
+-- the requests of earlier tasks have none of the numbers of a pair, and have smaller names
 module _ (tasks : List Task) (valid : AllByRecursion IsCustomer tasks) (paired : ArePaired tasks) (p d : Task) (pair : IsPair tasks p d) where
   free_step : (n : ℕ) (t : Task) (o : Option (ℕ × Request)) (es : List (ℕ × Request)) → (n ≡ p.stop.number) ⊎ (n ≡ d.stop.number) → IsEarlier tasks p.stop.number t
       → pair_of tasks t ≡ o → first_some (stop_in n) es ≡ None → first_some (stop_in n) (cons_option o es) ≡ None
@@ -192,7 +193,7 @@ module _ (tasks : List Task) (valid : AllByRecursion IsCustomer tasks) (paired :
   lesser [] before = tt
   lesser (t ∷ ts) before = lesser_step t (pair_of tasks t) (filter_map (pair_of tasks) ts) before.0 refl (lesser ts before.1)
 
--- names below n are lesser names, and none of them a greater one
+-- if all names are below n, all of them are smaller names and none is a greater one
 all_lesser : (n : ℕ) (es : List (ℕ × Request)) → AllByRecursion (λ (e : ℕ × Request). e.0 < n) es → lesser_names es n ≡ es
 all_lesser n [] h = refl
 all_lesser n (e ∷ es) h =
@@ -230,15 +231,15 @@ pair_free tasks ts p d problem valid paired pair before is (inl taken) =
 pair_free tasks ts p d problem valid paired pair before is (inr taken) =
     not_some (stop_at problem d.stop.number) (ap (first_some (stop_in d.stop.number)) is ∙ free tasks valid paired p d pair d.stop.number ts (inr refl) before) taken
 
--- those before the task at place i
-pub earlier_at : (tasks : List Task) (i : ℕ) (d : Task) → AllByRecursion IsCustomer tasks → RisesFrom 0 tasks → ArePaired tasks → i < length tasks
+-- the tasks before the one at place i are good and have smaller numbers
+pub earlier_at : (tasks : List Task) (i : ℕ) (d : Task) → AllByRecursion IsCustomer tasks → AscendsFrom 0 tasks → ArePaired tasks → i < length tasks
     → AllByRecursion (IsEarlier tasks (get_or tasks i d).stop.number) (take i tasks)
-earlier_at tasks i d valid rising paired l =
+earlier_at tasks i d valid ascending paired l =
     recursion_from_All (IsEarlier tasks (get_or tasks i d).stop.number) (take i tasks) (λ k e h.
     let small : k < i = omega (arith, length-take i tasks) in
-    rw get_or-take (good_at tasks k e valid rising paired (omega arith), rising_at 0 tasks k i d e rising small l))
+    rw get_or-take (good_at tasks k e valid ascending paired (omega arith), ascending_at 0 tasks k i d e ascending small l))
 
--- the pairs of one task more
+-- the pairs of the first i + 1 tasks are those of the first i tasks and that of the next task
 more_pairs : (tasks : List Task) (i : ℕ) (t : Task) → i < length tasks → t ≡ get_or tasks i t
     → filter_map (pair_of tasks) (take (i + 1) tasks) ≡ filter_map (pair_of tasks) (take i tasks) ++ cons_option (pair_of tasks t) []
 more_pairs tasks i t l at =
@@ -246,14 +247,14 @@ more_pairs tasks i t l at =
     ∙ filter_map-append (pair_of tasks) (take i tasks) (get_or tasks i t ∷ [])
     ∙ ap (λ u. filter_map (pair_of tasks) (take i tasks) ++ cons_option (pair_of tasks u) []) (sym at)
 
--- What a loop over the tasks knows of the request that it puts for the task t at place i.
-module _ (tasks : List Task) (i : ℕ) (t : Task) (valid : AllByRecursion IsCustomer tasks) (rising : RisesFrom 0 tasks) (paired : ArePaired tasks) (l : i < length tasks)
+-- one step of a loop over the tasks: the request that it adds for the task t at place i
+module _ (tasks : List Task) (i : ℕ) (t : Task) (valid : AllByRecursion IsCustomer tasks) (ascending : AscendsFrom 0 tasks) (paired : ArePaired tasks) (l : i < length tasks)
     (at : t ≡ get_or tasks i t) where
   good : IsGood tasks t
-  good = let P : Task → Type 0 = IsGood tasks in subst P (sym at) (good_at tasks i t valid rising paired l)
+  good = let P : Task → Type 0 = IsGood tasks in subst P (sym at) (good_at tasks i t valid ascending paired l)
 
   earlier : AllByRecursion (IsEarlier tasks t.stop.number) (take i tasks)
-  earlier = let P : Task → Type 0 = λ u. AllByRecursion (IsEarlier tasks u.stop.number) (take i tasks) in subst P (sym at) (earlier_at tasks i t valid rising paired l)
+  earlier = let P : Task → Type 0 = λ u. AllByRecursion (IsEarlier tasks u.stop.number) (take i tasks) in subst P (sym at) (earlier_at tasks i t valid ascending paired l)
 
   module _ (r : Request) (is : pair_of tasks t ≡ Some (t.stop.number, r)) where
     parts : Parts tasks t t.stop.number r
@@ -290,7 +291,7 @@ same_instance a base fs kind depot capacity fleet requests =
     ∙ ap (λ k. record a { kind = base.kind; depot = base.depot; capacity = base.capacity; fleet = k }) fleet
     ∙ ap (λ xs. record a { kind = base.kind; depot = base.depot; capacity = base.capacity; fleet = base.fleet; requests = xs }) requests
 
--- the problem with one request more
+-- adding a request to the problem makes the problem with one more request
 pub put_step : (base before after : Instance) (r : Request) (es fs : List (ℕ × Request)) → before ≡ record base { requests = es; next_number = before.next_number }
     → after ≡ with_request before r → with_entry es r ≡ fs → after ≡ record base { requests = fs; next_number = after.next_number }
 put_step base before after r es fs is put more =
@@ -302,29 +303,29 @@ put_step base before after r es fs is put more =
     let fleet = ap (λ (p : Instance). p.fleet) put ∙ ap (λ (p : Instance). p.fleet) is in
     same_instance after base fs kind depot capacity fleet put_requests
 
--- what a list gives past its end
+-- the default element of a list of tasks
 abbrev pub no_task : Task
 no_task = record { line = 0; stop = record { number = 0; x = pos 0; y = pos 0; demand = pos 0; earliest = 0; latest = 0; service = 0 }; pickup = 0; delivery = 0 }
 
--- no number is above the last one
-last_ge : (t : Task) (ts : List Task) → RisesFrom t.stop.number ts → t.stop.number ≤ last_number t ts
+-- no number is greater than the last one
+last_ge : (t : Task) (ts : List Task) → AscendsFrom t.stop.number ts → t.stop.number ≤ last_number t ts
 last_ge t [] h = omega arith
 last_ge t (u ∷ ts) h = omega (arith, h.0, last_ge u ts h.1)
 
-all_below_last : (t : Task) (ts : List Task) → RisesFrom t.stop.number ts → AllByRecursion (λ u. u.stop.number ≤ last_number t ts) ts
+all_below_last : (t : Task) (ts : List Task) → AscendsFrom t.stop.number ts → AllByRecursion (λ u. u.stop.number ≤ last_number t ts) ts
 all_below_last t [] h = tt
 all_below_last t (u ∷ ts) h = (last_ge u ts h.1, all_below_last u ts h.1)
 
 last_small : (t : Task) (ts : List Task) → t.stop.number ≤ 40000 → AllByRecursion IsCustomer ts → last_number t ts ≤ 40000
 last_small t [] small valid = small
-last_small t (u ∷ ts) small valid = last_small u ts valid.0.stop.to_most valid.1
+last_small t (u ∷ ts) small valid = last_small u ts valid.0.stop.to_max valid.1
 
--- numbers that rise to 40,000 are at most so many
-pub few_tasks : (n : ℕ) (ts : List Task) → n ≤ 40000 → AllByRecursion IsCustomer ts → RisesFrom n ts → n + length ts ≤ 40000
-few_tasks n [] small valid rising = omega arith
-few_tasks n (t ∷ ts) small valid rising = omega (arith, rising.0, few_tasks t.stop.number ts valid.0.stop.to_most valid.1 rising.1)
+-- there are at most 40,000 ascending numbers up to 40,000
+pub few_tasks : (n : ℕ) (ts : List Task) → n ≤ 40000 → AllByRecursion IsCustomer ts → AscendsFrom n ts → n + length ts ≤ 40000
+few_tasks n [] small valid ascending = omega arith
+few_tasks n (t ∷ ts) small valid ascending = omega (arith, ascending.0, few_tasks t.stop.number ts valid.0.stop.to_max valid.1 ascending.1)
 
--- the numbers of the requests of tasks that are below n are below n
+-- the numbers of requests are below n if those of their tasks are
 below_step : (n : ℕ) (t : Task) (o : Option Task) (b : Bool) (es : List (ℕ × Request)) → t.stop.number < n → ((d : Task) → o ≡ Some d → d.stop.number < n)
     → AllByRecursion (λ m. m < n) (numbers_among es)
     → AllByRecursion (λ m. m < n) (numbers_among (cons_option (cond b (option_map {U = ℕ × Request} (λ d. (t.stop.number, Pair t.stop d.stop)) o) None) es))
@@ -343,20 +344,20 @@ below_next : (n : ℕ) (ts : List Task) → AllByRecursion (λ t. t.stop.number 
 below_next n [] h = tt
 below_next n (t ∷ ts) h = (omega (arith, h.0), below_next n ts h.1)
 
--- What setting the next number asks for.
+-- the requirements for setting the next number
 module _ (depot : Task) (tasks : List Task) (known : AreTasks depot tasks) where
-  rising_from : RisesFrom depot.stop.number tasks
-  rising_from = let P : ℕ → Type 0 = λ n. RisesFrom n tasks in subst P (sym known.first) known.rising
+  ascending_from : AscendsFrom depot.stop.number tasks
+  ascending_from = let P : ℕ → Type 0 = λ n. AscendsFrom n tasks in subst P (sym known.first) known.ascending
 
   pub next_small : last_number depot tasks + 1 ≤ 40001
   next_small = omega (arith, last_small depot tasks (omega (arith, known.first)) known.valid)
 
   pub next_above : AllByRecursion (λ m. m < last_number depot tasks + 1) (numbers_among (pairs_of tasks))
   next_above =
-      let all = below_next (last_number depot tasks) tasks (all_below_last depot tasks rising_from) in
+      let all = below_next (last_number depot tasks) tasks (all_below_last depot tasks ascending_from) in
       numbers_below (last_number depot tasks + 1) tasks tasks all all
 
--- a search that finds none
+-- if a search finds nothing, no item passes its test
 none_found_cond : {X : Type 0} (p : X → Bool) (x : X) (xs : List X) (b : Bool) → p x ≡ b → (find p xs ≡ None → AllByRecursion (λ y. p y ≡ false) xs)
     → cond b (Some x) (find p xs) ≡ None → (p x ≡ false) × AllByRecursion (λ y. p y ≡ false) xs
 none_found_cond p x xs true e h is = absurd (none-some x (sym is))
@@ -366,7 +367,7 @@ pub none_found : {X : Type 0} (p : X → Bool) (xs : List X) → find p xs ≡ N
 none_found p [] is = tt
 none_found p (x ∷ xs) is = none_found_cond p x xs (p x) refl (none_found p xs) is
 
--- the problem after its requests are put and its next number is set
+-- the problem after its requests are added and its next number is set
 pub finished : (header : FleetLine) (depot : Task) (tasks : List Task) (fresh put done : Instance) (n : ℕ)
     → fresh ≡ new_instance LiLim (depot_from depot) header.capacity header.fleet → put ≡ record fresh { requests = pairs_of tasks; next_number = put.next_number }
     → done ≡ record put { next_number = n } → n ≡ last_number depot tasks + 1 → done ≡ problem_from header.fleet header.capacity depot tasks

@@ -1,4 +1,4 @@
--- What a Li-Lim text without a fault of a line spells, or which fault it has.
+-- The problem that a Li-Lim text without a fault in a line spells, or the fault that it has.
 use Rattle.std.proofs.Common.{◌≡◌, ℕ, ◌-◌, ◌<◌, ◌≤◌, inl, inr, ⊎_elim, List, [], ◌∷◌, length, get_or, map, take, drop, None, sym, ap, subst, ◌∙◌, arith}
 use Rattle.std.specs.Int.RustNames.{unsigned_abs}
 use Rattle.std.proofs.lemmas.List.{nil_from_length, length-map, take_all}
@@ -7,18 +7,18 @@ use Rattle.plan_types.specs.Instance.{Instance}
 use Rattle.instance_read.specs.declared.faults.ReadFault.{ReadFault}
 use Rattle.instance_read.specs.declared.tasks.FleetLine.{FleetLine}
 use Rattle.instance_read.specs.declared.tasks.Task.{Task}
-use Rattle.instance_read.specs.Faults.{TellsFirstFault, IsFirstFault}
+use Rattle.instance_read.specs.Faults.{ReportsFirstFault, IsFirstFault}
 use Rattle.instance_read.specs.Fields.{value_at}
 use Rattle.instance_read.specs.Lilim.{LilimFault, SpellsLilim, header_fault, problem_from, problem_of}
 use Rattle.instance_read.specs.Pairs.{task_of}
 use Rattle.instance_read.specs.Rows.{Row, rows_of}
-use Rattle.instance_read.specs.Tables.{ArePaired, AreTasks, IsHeader, TellsMismatch}
-use Rattle.instance_read.specs.Walk.{HasNoKind, HasNoTaskFault}
+use Rattle.instance_read.specs.Tables.{ArePaired, AreTasks, IsHeader, ReportsMismatch}
+use Rattle.instance_read.specs.TaskFaults.{HasNoKind, HasNoTaskFault}
 use Rattle.instance_read.proofs.LilimLemmas.{mismatch_first, has_none}
 use Rattle.instance_read.proofs.LimitLemmas.{are_tasks}
 use Rattle.instance_read.proofs.PairLemmas.{no_task}
 
--- the first of some tasks, and the others, as a slice pattern gives them
+-- the first task and the others, as a slice pattern returns them
 abbrev pub first_task : List Task → Task
 first_task items = get_or items 0 no_task
 
@@ -28,7 +28,7 @@ other_tasks items = take (length items - 1) (drop 1 items)
 others_is : (t : Task) (ts : List Task) → other_tasks (t ∷ ts) ≡ ts
 others_is t ts = take_all (length (t ∷ ts) - 1) ts (omega arith)
 
--- the problem of the header as it is read
+-- the problem is the same with the header as it was read
 same_problem : (words : List (List ℕ)) (read : FleetLine) (header depot : Row) (customers : List Row) → IsHeader (words_of header.text) read
     → problem_from read.fleet read.capacity (task_of depot) (map task_of customers) ≡ problem_of header depot customers
 same_problem words read header depot customers made =
@@ -60,11 +60,11 @@ module _ (text : List ℕ) (header : Row) (read : FleetLine) (items : List Task)
       )
 
   pub tells : (rest : List Row) → rows_of text ≡ header ∷ rest → HasNoTaskFault None rest → items ≡ map task_of rest → (f : ReadFault)
-      → TellsMismatch (other_tasks items) f → TellsFirstFault (LilimFault text) f
+      → ReportsMismatch (other_tasks items) f → ReportsFirstFault (LilimFault text) f
   tells [] is clean same f h = absurd (omega (arith, ap length same))
   tells (depot ∷ customers) is clean same f h =
-      let P : List Task → Type 0 = λ xs. TellsMismatch (other_tasks xs) f in
-      let Q : List Task → Type 0 = λ ts. TellsMismatch ts f in
+      let P : List Task → Type 0 = λ xs. ReportsMismatch (other_tasks xs) f in
+      let Q : List Task → Type 0 = λ ts. ReportsMismatch ts f in
       let R : ReadFault → Type 0 = IsFirstFault (LilimFault text) in
       ⊎_elim
       (λ memory. inl memory)

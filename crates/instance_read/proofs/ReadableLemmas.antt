@@ -1,4 +1,5 @@
--- Each text spells a problem or has a first fault: the faults are looked for in the order in which they are told. And no two of them.
+-- Each text spells a problem or has a first fault, and has no two readings. The faults are searched for in
+-- their order.
 use Rattle.std.proofs.Common.{◌≡◌, ℕ, ◌≤◌, Bool, true, false, ◌⊎◌, inl, inr, ⊎_elim, List, [], ◌∷◌, ◌++◌, length, map, Option, Some, None, refl, sym, ap, ap₂}
 use Rattle.std.proofs.Common.{subst, ◌∙◌, arith, append_assoc, append-nil, length-append}
 use Rattle.std.specs.Prelude.{find, slice_index_or}
@@ -10,22 +11,22 @@ use Rattle.instance_read.specs.declared.faults.ReadFaultKind.{ReadFaultKind}
 use Rattle.instance_read.specs.declared.faults.ReadFaultKind.TheVariants.{BadNumber, Range, FieldCount, TaskOrder, PairMismatch, EmptyWindow, TooManyStops}
 use Rattle.instance_read.specs.declared.faults.ReadFaultKind.TheVariants.{MissingKey, Unsupported, DepotNotFirst, NodeRepeated, Truncated, OutOfMemory}
 use Rattle.instance_read.specs.declared.tasks.Task.{Task}
-use Rattle.instance_read.specs.Faults.{Class, HasNone, IsFirstFault, IsNoLater, IsNoLaterPlace, OfLine, OfText, rank}
+use Rattle.instance_read.specs.Faults.{Class, HasNoFault, IsFirstFault, IsNoLater, IsNoLaterPlace, OfLine, OfText, rank}
 use Rattle.instance_read.specs.Lilim.{LilimFault, SpellsLilim, header_fault, problem_of, task_fault}
 use Rattle.instance_read.specs.Pairs.{is_mismatched, task_of}
-use Rattle.instance_read.specs.Readable.{SpellsOrFails, TextsAreRead, TextsAreReadOneWay}
+use Rattle.instance_read.specs.Readable.{SpellsOrFails, TextsHaveAReading, ReadingsAreUnique}
 use Rattle.instance_read.specs.Rows.{Row, rows_of}
 use Rattle.instance_read.specs.Vrp.{SpellsVrp, VrpFault, is_inside, lacks_key, place_fault, vrp_problem}
 use Rattle.instance_read.specs.VrpLines.{Placed, end_place, placed_of}
-use Rattle.instance_read.specs.VrpWalk.{HasNoLineFault, IsFirstFaultyLine}
-use Rattle.instance_read.specs.Walk.{HasNoKind, HasNoTaskFault, IsFirstKind, IsFirstTaskFault, LinesAbove}
+use Rattle.instance_read.specs.DraftLines.{HasNoLineFault, IsFirstFaultyLine}
+use Rattle.instance_read.specs.TaskFaults.{HasNoKind, HasNoTaskFault, IsFirstKind, IsFirstTaskFault, LinesAbove}
 use Rattle.instance_read.proofs.LilimLemmas.{cons_head, cons_tail, has_none, header_first, mismatch_first, no_rows_first, no_tasks_first, rest_above, task_first}
 use Rattle.instance_read.proofs.PairLemmas.{none_found}
 use Rattle.instance_read.proofs.ReadingLemmas.{clean_more}
 use Rattle.instance_read.proofs.VrpFaultLemmas.{first_line_fault, has_no_fault, missing_first, truncated_first}
-use Rattle.instance_read.proofs.WalkLemmas.{above_weaker, here_first, step_first, step_none}
+use Rattle.instance_read.proofs.TaskFaultLemmas.{above_weaker, here_first, step_first, step_none}
 
--- The first fault of a line, if it has one.
+-- the first fault of a line, if it has one
 abbrev all_kinds : List ReadFaultKind
 all_kinds = FieldCount ∷ BadNumber ∷ TooManyStops ∷ Range ∷ TaskOrder ∷ EmptyWindow ∷ Unsupported ∷ MissingKey ∷ NodeRepeated ∷ DepotNotFirst ∷ PairMismatch ∷ Truncated ∷ OutOfMemory ∷ []
 
@@ -49,7 +50,7 @@ all_weaker P Q [] h all = tt
 all_weaker P Q (x ∷ xs) h all = (h x all.0, all_weaker P Q xs h all.1)
 
 module _ (fault : ReadFaultKind → Bool) where
-  -- it is no later than the fault of this kind, if there is one
+  -- the first fault is no later than the fault of this kind, if the line has one
   abbrev IsNoLaterKind : ReadFaultKind → ReadFaultKind → Type 0
   IsNoLaterKind kind k = fault k ≡ true → rank kind ≤ rank k
 
@@ -78,7 +79,7 @@ module _ (fault : ReadFaultKind → Bool) where
       (λ some. inr (some.0, (some.1, each_kind (IsNoLaterKind some.0) some.2)))
       (found_in all_kinds)
 
--- The first fault of task lines, if they have one.
+-- the first fault of task lines, if they have one
 abbrev TaskFound : Option Task → List Row → Type 0
 TaskFound previous rows = HasNoTaskFault previous rows ⊎ ((f : ReadFault) × IsFirstTaskFault previous rows f)
 
@@ -98,7 +99,7 @@ first_task_fault previous (row ∷ rows) above =
     task_here previous row rows above (first_kind (task_fault previous (words_of row.text)))
     (first_task_fault (Some (task_of row)) rows (above_weaker 0 row.line rows (omega arith) above.1))
 
--- A Li-Lim text: its header, its tasks, and their pairs.
+-- a Li-Lim text: its header, its tasks, and their pairs
 abbrev LilimRead : List ℕ → Type 0
 LilimRead text = SpellsOrFails (SpellsLilim text) (LilimFault text)
 
@@ -131,7 +132,7 @@ rows_read text (header ∷ rest) is = header_read text header rest is (first_kin
 lilim_read : (text : List ℕ) → LilimRead text
 lilim_read text = rows_read text (rows_of text) refl
 
--- The first faulty line of a `.vrp` text, if it has one.
+-- the first faulty line of a `.vrp` text, if it has one
 abbrev LineFound : List Placed → Type 0
 LineFound ps = HasNoLineFault ps ⊎ ((f : ReadFault) × IsFirstFaultyLine ps f)
 
@@ -150,7 +151,7 @@ first_line before (p ∷ ps) clean =
 no_lines : HasNoLineFault []
 no_lines b p a e = absurd (omega (arith, ap length e, length-append b (p ∷ a)))
 
--- A `.vrp` text: its lines, where it ends, and whether it lacks a key.
+-- a `.vrp` text: its lines, its end, and whether it lacks a key
 module _ (text : List ℕ) where
   abbrev VrpRead : Type 0
   VrpRead = SpellsOrFails (SpellsVrp text) (VrpFault text)
@@ -171,10 +172,11 @@ module _ (text : List ℕ) where
 vrp_read : (text : List ℕ) → VrpRead text
 vrp_read text = lines_read text (first_line [] (placed_of text) no_lines)
 
-pub texts_are_read : TextsAreRead
+pub texts_are_read : TextsHaveAReading
 texts_are_read text = (lilim_read text, vrp_read text)
 
--- No two: a rank is that of one kind, and each of two first faults is no later than the other.
+-- there are no two readings: each rank belongs to one kind, and each of two first faults is no later than the
+-- other
 abbrev ranked : ℕ → ReadFaultKind
 ranked n = slice_index_or (FieldCount ∷ all_kinds) n FieldCount
 
@@ -203,10 +205,10 @@ module _ (Fault : Class → ℕ → ReadFaultKind → Type 0) (f g : ReadFault) 
   one_fault : IsFirstFault Fault f → IsFirstFault Fault g → f ≡ g
   one_fault p q = one_class p.0 q.0 (p.2 q.0 g.line g.kind q.1) (q.2 p.0 f.line f.kind p.1)
 
-none_first : (Fault : Class → ℕ → ReadFaultKind → Type 0) (f : ReadFault) → HasNone Fault → IsFirstFault Fault f → ⊥
+none_first : (Fault : Class → ℕ → ReadFaultKind → Type 0) (f : ReadFault) → HasNoFault Fault → IsFirstFault Fault f → ⊥
 none_first Fault f none first = none first.0 f.line f.kind first.1
 
--- the problem of lines, if they are enough
+-- the problem of the lines, if there are enough
 one_problem : (rows : List Row) (header depot : Row) (customers : List Row) (other its : Row) (others : List Row) → rows ≡ header ∷ depot ∷ customers
     → rows ≡ other ∷ its ∷ others → problem_of header depot customers ≡ problem_of other its others
 one_problem rows header depot customers other its others is same =
@@ -215,7 +217,7 @@ one_problem rows header depot customers other its others is same =
     ap (λ row. problem_of row depot customers) (cons_head header other (depot ∷ customers) (its ∷ others) whole)
     ∙ ap (λ row. problem_of other row customers) (cons_head depot its customers others rest) ∙ ap (problem_of other its) (cons_tail depot its customers others rest)
 
-pub texts_are_read_one_way : TextsAreReadOneWay
+pub texts_are_read_one_way : ReadingsAreUnique
 texts_are_read_one_way text = (
   record {
     problems = λ p q a b. a.5 ∙ one_problem (rows_of text) a.1 a.2 a.3 b.1 b.2 b.3 a.4 b.4 ∙ sym b.5;

@@ -1,4 +1,4 @@
--- The lines of a `.vrp` text that are read one after another.
+-- The lines of a `.vrp` text, read one after another.
 use Rattle.std.proofs.Common.{◌≡◌, ℕ, zero, suc, ◌+◌, ◌-◌, ◌≤◌, Bool, true, false, cond, eqb, ◌⊎◌, inl, inr, List, [], ◌∷◌, ◌++◌, length, Option, Some, None}
 use Rattle.std.proofs.Common.{refl, sym, ap, subst, ◌∙◌, arith, ℤ, pos, length-append, append_assoc, append-nil}
 use Rattle.std.specs.Prelude.{is_none, is_some, unwrap_or, nat_lt}
@@ -11,25 +11,25 @@ use Rattle.text_lines.specs.Words.{words_of}
 use Rattle.instance_read.specs.declared.faults.ReadFault.{ReadFault}
 use Rattle.instance_read.specs.declared.faults.ReadFaultKind.{ReadFaultKind}
 use Rattle.instance_read.specs.declared.faults.ReadFaultKind.TheVariants.{BadNumber, FieldCount, NodeRepeated, OutOfMemory}
-use Rattle.instance_read.specs.declared.vrp_draft.VrpFields.{VrpFields}
+use Rattle.instance_read.specs.declared.vrp_draft.VrpDraft.{VrpDraft}
 use Rattle.instance_read.specs.declared.vrp_lines.Key.{Key}
 use Rattle.instance_read.specs.declared.vrp_lines.Key.TheVariants.{Dimension, Coordinates, Demands, Depots}
 use Rattle.instance_read.specs.declared.vrp_lines.Section.{Section}
 use Rattle.instance_read.specs.declared.vrp_lines.Section.TheVariants.{Outside, CoordinateLine, DemandLine, DepotLine, AfterEnd}
-use Rattle.instance_read.specs.Drafts.{FitsSection, IsDraft, TakesLine, TakesValue, TellsKind, has_seen, line_fault, nodes_in, with_key}
+use Rattle.instance_read.specs.Drafts.{FitsSection, IsDraft, TakesLine, TakesValue, ReportsKind, has_seen, line_fault, nodes_in, with_key}
 use Rattle.instance_read.specs.Fields.{field, has_no_number, is_no_number, value_at}
 use Rattle.instance_read.specs.Rows.{Row}
 use Rattle.instance_read.specs.Vrp.{key_fault, place_fault}
 use Rattle.instance_read.specs.VrpLines.{Placed, coordinates_left, demands_left, depots_after, end_from, lines_left, key_of, nodes_after, nodes_in_key}
 use Rattle.instance_read.specs.VrpLines.{place_after, place_after_key, placed_from, value_of, value_words}
-use Rattle.instance_read.specs.VrpWalk.{HasNoLineFault, IsFirstFaultyLine, Knows, TellsLine, placed_rows}
-use Rattle.instance_read.specs.Walk.{HasNoKind, IsFirstKind}
-use Rattle.instance_read.proofs.KnowLemmas.{placed}
+use Rattle.instance_read.specs.DraftLines.{HasNoLineFault, IsFirstFaultyLine, IsDraftOfLines, ReportsLine, placed_rows}
+use Rattle.instance_read.specs.TaskFaults.{HasNoKind, IsFirstKind}
+use Rattle.instance_read.proofs.DraftLemmas.{placed}
 use Rattle.instance_read.proofs.LilimLemmas.{cons_head, cons_tail}
 use Rattle.instance_read.proofs.LineLemmas.{announced_is, knows_more, same_fault}
-use Rattle.instance_read.proofs.KnowLemmas.{some_false}
+use Rattle.instance_read.proofs.DraftLemmas.{some_false}
 
--- One list, split at two elements: they stand at one place, or one of them stands before the other.
+-- one list, split at two elements: the elements are at the same place, or one of them comes before the other
 pub compare_splits : {A : Type 0} (b : List A) (x : A) (a c : List A) (y : A) (d : List A) → b ++ x ∷ a ≡ c ++ y ∷ d
     → ((b ≡ c) × (x ≡ y)) ⊎ (((m : List A) × (c ≡ b ++ x ∷ m)) ⊎ ((m : List A) × (b ≡ c ++ y ∷ m)))
 compare_splits [] x a [] y d e = inl (refl, cons_head x y a d e)
@@ -45,7 +45,7 @@ compare_splits {A} (z ∷ b) x a (w ∷ c) y d e =
     step (inr (inl later)) h = inr (inl (later.0, ap (λ q. q ∷ c) (sym h) ∙ ap (λ l. z ∷ l) later.1))
     step (inr (inr earlier)) h = inr (inr (earlier.0, ap (λ q. q ∷ b) h ∙ ap (λ l. w ∷ l) earlier.1))
 
--- one line more without a fault
+-- one more line without a fault, after lines without a fault
 pub clean_more : (before : List Placed) (p : Placed) → HasNoLineFault before → HasNoKind (place_fault before p.row p.place) → HasNoLineFault (before ++ p ∷ [])
 clean_more before p clean none b q a e =
     by (compare_splits before p [] b q a e)
@@ -59,7 +59,7 @@ clean_more before p clean none b q a e =
         absurd (omega (arith, ap length e, ap length longer.1, length-append before (p ∷ []), length-append b (q ∷ a), length-append before (p ∷ longer.0)))
     by (inr (inr earlier)) = clean b q earlier.0 earlier.1
 
--- the first number of a line that has one, and numbers alone
+-- if a line has words, and all of them are numbers, it has a first number
 field_there : (words : List (List ℕ)) → 1 ≤ length words → has_no_number words ≡ false → field words 0 ≡ Some (value_at words 0)
 field_there [] some numbers = absurd (omega (arith, some))
 field_there (w ∷ words) some numbers = by (number_of w) (or_parts (is_no_number w) (has_no_number words) numbers).0
@@ -72,78 +72,78 @@ pub nodes_other : (row : Row) (key : Key) (o : Option ℕ) → key_of row ≡ ke
 nodes_other row key (Some n) key_is none = refl
 nodes_other row key None key_is none = ap (nodes_in_key row) key_is ∙ none
 
--- how many nodes are announced after a line with a key
-nodes_key : (before : List Placed) (row : Row) (old new : VrpFields) (key : Key) → key_of row ≡ key → Knows before old
+-- the number of nodes announced after a line with a key
+nodes_key : (before : List Placed) (row : Row) (old new : VrpDraft) (key : Key) → key_of row ≡ key → IsDraftOfLines before old
     → HasNoKind (key_fault (is_some old.nodes) (has_seen old key) (value_of row) key) → TakesValue (with_key old key) row.line (value_of row) key new → nodes_after old.nodes row Outside ≡ new.nodes
 nodes_key before row old new Dimension key_is known none takes =
     let words = value_words row in
     let count = eqb-true (length words) 1 (not-false (eqb (length words) 1) (none FieldCount)) in
     let fresh = some_false old.nodes (sym (announced_is before old known) ∙ sym (known.seen Dimension) ∙ none NodeRepeated) in
     ap (λ o. nodes_after o row Outside) fresh ∙ ap (nodes_in_key row) key_is
-    ∙ ap (option_map unsigned_abs) (field_there words (omega (arith, count)) (none BadNumber)) ∙ sym (ap (λ (d : VrpFields). d.nodes) takes)
-nodes_key before row old new Coordinates key_is known none takes = nodes_other row Coordinates old.nodes key_is refl ∙ sym (ap (λ (d : VrpFields). d.nodes) takes.0)
-nodes_key before row old new Demands key_is known none takes = nodes_other row Demands old.nodes key_is refl ∙ sym (ap (λ (d : VrpFields). d.nodes) takes.0)
-nodes_key before row old new key key_is known none takes = nodes_other row key old.nodes key_is refl ∙ sym (ap (λ (d : VrpFields). d.nodes) takes)
+    ∙ ap (option_map unsigned_abs) (field_there words (omega (arith, count)) (none BadNumber)) ∙ sym (ap (λ (d : VrpDraft). d.nodes) takes)
+nodes_key before row old new Coordinates key_is known none takes = nodes_other row Coordinates old.nodes key_is refl ∙ sym (ap (λ (d : VrpDraft). d.nodes) takes.0)
+nodes_key before row old new Demands key_is known none takes = nodes_other row Demands old.nodes key_is refl ∙ sym (ap (λ (d : VrpDraft). d.nodes) takes.0)
+nodes_key before row old new key key_is known none takes = nodes_other row key old.nodes key_is refl ∙ sym (ap (λ (d : VrpDraft). d.nodes) takes)
 
 nodes_section : (o : Option ℕ) (row : Row) (place : Section) → ((n : ℕ) → nodes_after None row place ≡ None) → nodes_after o row place ≡ o
 nodes_section None row place none = none 0
 nodes_section (Some n) row place none = refl
 
-nodes_step : (before : List Placed) (row : Row) (place : Section) (old new : VrpFields) → Knows before old → HasNoKind (line_fault old row place)
+nodes_step : (before : List Placed) (row : Row) (place : Section) (old new : VrpDraft) → IsDraftOfLines before old → HasNoKind (line_fault old row place)
     → TakesLine old row place new → nodes_after old.nodes row place ≡ new.nodes
 nodes_step before row Outside old new known none takes = nodes_key before row old new (key_of row) refl known none takes
-nodes_step before row (CoordinateLine n) old new known none takes = nodes_section old.nodes row (CoordinateLine n) (λ _. refl) ∙ sym (ap (λ (d : VrpFields). d.nodes) takes.0)
-nodes_step before row (DemandLine n) old new known none takes = nodes_section old.nodes row (DemandLine n) (λ _. refl) ∙ sym (ap (λ (d : VrpFields). d.nodes) takes.0)
-nodes_step before row (DepotLine n) old new known none takes = nodes_section old.nodes row (DepotLine n) (λ _. refl) ∙ sym (ap (λ (d : VrpFields). d.nodes) takes)
-nodes_step before row AfterEnd old new known none takes = nodes_section old.nodes row AfterEnd (λ _. refl) ∙ sym (ap (λ (d : VrpFields). d.nodes) takes)
+nodes_step before row (CoordinateLine n) old new known none takes = nodes_section old.nodes row (CoordinateLine n) (λ _. refl) ∙ sym (ap (λ (d : VrpDraft). d.nodes) takes.0)
+nodes_step before row (DemandLine n) old new known none takes = nodes_section old.nodes row (DemandLine n) (λ _. refl) ∙ sym (ap (λ (d : VrpDraft). d.nodes) takes.0)
+nodes_step before row (DepotLine n) old new known none takes = nodes_section old.nodes row (DepotLine n) (λ _. refl) ∙ sym (ap (λ (d : VrpDraft). d.nodes) takes)
+nodes_step before row AfterEnd old new known none takes = nodes_section old.nodes row AfterEnd (λ _. refl) ∙ sym (ap (λ (d : VrpDraft). d.nodes) takes)
 
--- the place after a line finds what it needs
-fits_left : (line : ℕ → Section) (n : ℕ) (d : VrpFields) → ((k : ℕ) → 1 ≤ k → FitsSection (line k) d) → FitsSection (lines_left line n) d
+-- the draft has the table that the section after a line needs
+fits_left : (line : ℕ → Section) (n : ℕ) (d : VrpDraft) → ((k : ℕ) → 1 ≤ k → FitsSection (line k) d) → FitsSection (lines_left line n) d
 fits_left line n d fits = by (eqb n 0) refl
   where
     by : (b : Bool) → eqb n 0 ≡ b → FitsSection (cond b Outside (line n)) d
     by true e = tt
     by false e = let ne = eqb-false n 0 e in fits n (omega (arith, ne))
 
-fits_coordinates : (n : ℕ) (d : VrpFields) → length d.coordinates.items ≡ nodes_in d → FitsSection (coordinates_left n) d
+fits_coordinates : (n : ℕ) (d : VrpDraft) → length d.coordinates.items ≡ nodes_in d → FitsSection (coordinates_left n) d
 fits_coordinates n d long = fits_left (λ k. CoordinateLine k) n d (λ k some. (some, long))
 
-fits_demands : (n : ℕ) (d : VrpFields) → length d.demands.items ≡ nodes_in d → FitsSection (demands_left n) d
+fits_demands : (n : ℕ) (d : VrpDraft) → length d.demands.items ≡ nodes_in d → FitsSection (demands_left n) d
 fits_demands n d long = fits_left (λ k. DemandLine k) n d (λ k some. (some, long))
 
-fits_depots : (n : ℕ) (d : VrpFields) → FitsSection (depots_after n) d
+fits_depots : (n : ℕ) (d : VrpDraft) → FitsSection (depots_after n) d
 fits_depots n d = by (nat_lt n 2) refl
   where
     by : (b : Bool) → nat_lt n 2 ≡ b → FitsSection (cond b (DepotLine n) Outside) d
     by true e = ltb-true n 2 e
     by false e = tt
 
-fits_key : (row : Row) (old new : VrpFields) (nodes : Option ℕ) (key : Key) → nodes ≡ old.nodes → TakesValue (with_key old key) row.line (value_of row) key new
+fits_key : (row : Row) (old new : VrpDraft) (nodes : Option ℕ) (key : Key) → nodes ≡ old.nodes → TakesValue (with_key old key) row.line (value_of row) key new
     → FitsSection (place_after_key nodes key) new
 fits_key row old new (Some n) Coordinates is takes =
-    fits_coordinates n new (ap length takes.1 ∙ length-replicate {A = Option (ℤ × ℤ)} (nodes_in old) None ∙ sym (ap (λ (d : VrpFields). nodes_in d) takes.0))
+    fits_coordinates n new (ap length takes.1 ∙ length-replicate {A = Option (ℤ × ℤ)} (nodes_in old) None ∙ sym (ap (λ (d : VrpDraft). nodes_in d) takes.0))
 fits_key row old new (Some n) Demands is takes =
-    fits_demands n new (ap length takes.1 ∙ length-replicate {A = Option ℤ} (nodes_in old) None ∙ sym (ap (λ (d : VrpFields). nodes_in d) takes.0))
+    fits_demands n new (ap length takes.1 ∙ length-replicate {A = Option ℤ} (nodes_in old) None ∙ sym (ap (λ (d : VrpDraft). nodes_in d) takes.0))
 fits_key row old new None Coordinates is takes = tt
 fits_key row old new None Demands is takes = tt
 fits_key row old new nodes Depots is takes = omega arith
 fits_key row old new nodes _ is takes = tt
 
-fits_next : (row : Row) (place : Section) (old new : VrpFields) → FitsSection place old → TakesLine old row place new → FitsSection (place_after old.nodes row place) new
+fits_next : (row : Row) (place : Section) (old new : VrpDraft) → FitsSection place old → TakesLine old row place new → FitsSection (place_after old.nodes row place) new
 fits_next row Outside old new fits takes = fits_key row old new old.nodes (key_of row) refl takes
 fits_next row (CoordinateLine n) old new fits takes =
-    fits_coordinates (n - 1) new (ap length takes.1 ∙ length-set old.coordinates.items _ _ ∙ fits.1 ∙ sym (ap (λ (d : VrpFields). nodes_in d) takes.0))
+    fits_coordinates (n - 1) new (ap length takes.1 ∙ length-set old.coordinates.items _ _ ∙ fits.1 ∙ sym (ap (λ (d : VrpDraft). nodes_in d) takes.0))
 fits_next row (DemandLine n) old new fits takes =
-    fits_demands (n - 1) new (ap length takes.1 ∙ length-set old.demands.items _ _ ∙ fits.1 ∙ sym (ap (λ (d : VrpFields). nodes_in d) takes.0))
+    fits_demands (n - 1) new (ap length takes.1 ∙ length-set old.demands.items _ _ ∙ fits.1 ∙ sym (ap (λ (d : VrpDraft). nodes_in d) takes.0))
 fits_next row (DepotLine n) old new fits takes = fits_depots (n + length (words_of row.text)) new
 fits_next row AfterEnd old new fits takes = tt
 
--- The lines before those that are left are read: the draft knows them, and none has a fault.
-pub record IsReading (all : List Row) (draft : VrpFields) (place : Section) (rest : List Row) : Type 0 where
+-- the lines before the rest are read: the draft has their data, and none of them has a fault
+pub record IsReading (all : List Row) (draft : VrpDraft) (place : Section) (rest : List Row) : Type 0 where
   pub before : List Placed
   pub splits : placed_rows all ≡ before ++ placed_from draft.nodes place rest
   pub ends : end_from None Outside all ≡ end_from draft.nodes place rest
-  pub known : Knows before draft
+  pub known : IsDraftOfLines before draft
   pub clean : HasNoLineFault before
   pub valid : IsDraft draft
   pub fits : FitsSection place draft
@@ -157,8 +157,8 @@ pub placed_none : (nodes : Option ℕ) (place : Section) → placed_from nodes p
 unfolding placed_from
 placed_none nodes place = refl
 
--- What one line more makes of it.
-module _ (all : List Row) (old new : VrpFields) (place next : Section) (rest more : List Row) (row : Row) (steps : rest ≡ row ∷ more) (reading : IsReading all old place rest) where
+-- facts about the state after one more line
+module _ (all : List Row) (old new : VrpDraft) (place next : Section) (rest more : List Row) (row : Row) (steps : rest ≡ row ∷ more) (reading : IsReading all old place rest) where
   split_here : placed_rows all ≡ reading.before ++ placed row place ∷ placed_from (nodes_after old.nodes row place) (place_after old.nodes row place) more
   split_here = reading.splits ∙ ap (λ rows. reading.before ++ placed_from old.nodes place rows) steps ∙ ap (λ ps. reading.before ++ ps) (placed_step old.nodes place row more)
 
@@ -184,13 +184,13 @@ module _ (all : List Row) (old new : VrpFields) (place next : Section) (rest mor
   first_here : (kind : ReadFaultKind) → IsFirstKind (line_fault old row place) kind → IsFirstKind (place_fault reading.before row place) kind
   first_here kind h = (same kind ∙ h.0, λ k e. h.1 k (sym (same k) ∙ e))
 
-  pub reading_stops : (kind : ReadFaultKind) (f : ReadFault) → TellsKind (line_fault old row place) kind
-      → (kind ≡ OutOfMemory → f ≡ record { line = 0; kind = OutOfMemory }) → ((kind ≡ OutOfMemory → ⊥) → f ≡ record { line = row.line; kind = kind }) → TellsLine (placed_rows all) f
-  reading_stops kind f (inl memory) told other = inl (told memory)
-  reading_stops kind f (inr first) told other =
+  pub reading_stops : (kind : ReadFaultKind) (f : ReadFault) → ReportsKind (line_fault old row place) kind
+      → (kind ≡ OutOfMemory → f ≡ record { line = 0; kind = OutOfMemory }) → ((kind ≡ OutOfMemory → ⊥) → f ≡ record { line = row.line; kind = kind }) → ReportsLine (placed_rows all) f
+  reading_stops kind f (inl memory) reported other = inl (reported memory)
+  reading_stops kind f (inr first) reported other =
       let P : ReadFault → Type 0 = IsFirstFaultyLine (placed_rows all) in
       let here = first_here kind first in
-      inr (subst P (sym (other (λ e. no_memory row place (subst (λ (k : ReadFaultKind). line_fault old row place k ≡ true) e first.0))))
+      inr (subst P (sym (other (λ e. out_of_memory row place (subst (λ (k : ReadFaultKind). line_fault old row place k ≡ true) e first.0))))
       (record {
         before = reading.before;
         here = placed row place;
@@ -206,17 +206,17 @@ module _ (all : List Row) (old new : VrpFields) (place next : Section) (rest mor
       no_memory_key announced stands value Dimension e = false≢true e
       no_memory_key announced stands value _ e = false≢true e
 
-      no_memory : (row : Row) (place : Section) → line_fault old row place OutOfMemory ≡ true → ⊥
-      no_memory row Outside e = no_memory_key (is_some old.nodes) (has_seen old (key_of row)) (value_of row) (key_of row) e
-      no_memory row (DepotLine zero) e = false≢true e
-      no_memory row (DepotLine (suc n)) e = false≢true e
-      no_memory row _ e = false≢true e
+      out_of_memory : (row : Row) (place : Section) → line_fault old row place OutOfMemory ≡ true → ⊥
+      out_of_memory row Outside e = no_memory_key (is_some old.nodes) (has_seen old (key_of row)) (value_of row) (key_of row) e
+      out_of_memory row (DepotLine zero) e = false≢true e
+      out_of_memory row (DepotLine (suc n)) e = false≢true e
+      out_of_memory row _ e = false≢true e
 
--- all lines are read
-pub reading_done : (all : List Row) (draft : VrpFields) (place : Section) (rest : List Row) → rest ≡ [] → IsReading all draft place rest
-    → Knows (placed_rows all) draft × IsDraft draft × HasNoLineFault (placed_rows all) × (place ≡ end_from None Outside all)
+-- the case in which all lines are read
+pub reading_done : (all : List Row) (draft : VrpDraft) (place : Section) (rest : List Row) → rest ≡ [] → IsReading all draft place rest
+    → IsDraftOfLines (placed_rows all) draft × IsDraft draft × HasNoLineFault (placed_rows all) × (place ≡ end_from None Outside all)
 reading_done all draft place rest none reading =
     let is = reading.splits ∙ ap (λ rows. reading.before ++ placed_from draft.nodes place rows) none ∙ ap (λ ps. reading.before ++ ps) (placed_none draft.nodes place) ∙ append-nil reading.before in
-    let P : List Placed → Type 0 = λ ps. Knows ps draft in
+    let P : List Placed → Type 0 = λ ps. IsDraftOfLines ps draft in
     let Q : List Placed → Type 0 = HasNoLineFault in
     (subst P (sym is) reading.known, reading.valid, subst Q (sym is) reading.clean, sym (reading.ends ∙ ap (end_from draft.nodes place) none))

@@ -7,7 +7,7 @@ pub rows_nil : (n : ℕ) → rows_from n [] ≡ []
 unfolding rows_from
 rows_nil n = refl
 
--- one line more at the front
+-- a blank line at the beginning is skipped, and any other one is read
 pub rows_blank : (n : ℕ) (l : List ℕ) (ls : List (List ℕ)) → is_blank_line l ≡ true → rows_from n (l ∷ ls) ≡ rows_from (n + 1) ls
 unfolding rows_from
 rows_blank n l ls e = ap (λ t. cond t (rows_from (n + 1) ls) (record { line = n; text = l } ∷ rows_from (n + 1) ls)) e

@@ -4,16 +4,16 @@ use Rattle.std.specs.Prelude.{int_lt, not, ◌==◌, unwrap_or}
 use Rattle.std.specs.Int.RustNames.{unsigned_abs}
 use Rattle.std.proofs.lemmas.Bool.{or_parts, lt-ltb, le-ltb, false≢true}
 use Rattle.instance_read.specs.declared.tasks.Task.{Task}
-use Rattle.instance_read.specs.Fields.{field, value_at, is_that, is_beyond, any_beyond, has_no_number, exceeds}
+use Rattle.instance_read.specs.Fields.{field, value_at, passes_test, is_beyond, any_beyond, has_no_number, exceeds}
 use Rattle.instance_read.specs.FieldValues.{HasNumbers}
 use Rattle.instance_read.specs.Lilim.{is_out_of_order, task_fault, task_limits}
 use Rattle.instance_read.specs.Pairs.{task_from}
-use Rattle.instance_read.specs.Walk.{HasNoKind, IsFirstKind}
+use Rattle.instance_read.specs.TaskFaults.{HasNoKind, IsFirstKind}
 use Rattle.instance_read.specs.declared.faults.ReadFaultKind.TheVariants.{BadNumber, Range, FieldCount, TaskOrder, EmptyWindow, TooManyStops}
 use Rattle.instance_read.proofs.KindLemmas.{none_below}
 use Rattle.instance_read.proofs.NumberLemmas.{any_beyond-false, numbers_of}
 
--- a number of 0 or more is that of its bits
+-- a number of 0 or more equals its absolute value
 pub from_zero : (most z : ℤ) → is_beyond (pos 0, most) z ≡ false → z ≡ pos (unsigned_abs z)
 from_zero most (pos n) e = refl
 from_zero most (negsuc n) e = absurd (false≢true (sym e))
@@ -44,7 +44,7 @@ same_task line words v h =
     let e6 = h 6 (omega arith) in let e7 = h 7 (omega arith) in let e8 = h 8 (omega arith) in
     cc
 
--- What is known of a line whose nine numbers keep their limits.
+-- facts about a line whose nine numbers keep their limits
 module _ (words : List (List ℕ)) (values : List ℤ) (h : HasNumbers 9 task_limits words values) where
   counted : not (length words == 9) ≡ false
   counted = ap (λ n. not (n == 9)) h.0
@@ -55,21 +55,21 @@ module _ (words : List (List ℕ)) (values : List ℤ) (h : HasNumbers 9 task_li
   in_limits : any_beyond task_limits words ≡ false
   in_limits = any_beyond-false task_limits words (λ k. get_or values k (pos 0)) h.1
 
-  few_stops : is_that (λ z. int_lt (pos 40000) z) (field words 0) ≡ false
+  few_stops : passes_test (λ z. int_lt (pos 40000) z) (field words 0) ≡ false
   few_stops =
       let first = h.1 0 (omega arith) in
-      ap (is_that (λ z. int_lt (pos 40000) z)) first.0 ∙ (or_parts (int_lt (get_or values 0 (pos 0)) (pos 0)) (int_lt (pos 40000) (get_or values 0 (pos 0))) first.1).1
+      ap (passes_test (λ z. int_lt (pos 40000) z)) first.0 ∙ (or_parts (int_lt (get_or values 0 (pos 0)) (pos 0)) (int_lt (pos 40000) (get_or values 0 (pos 0))) first.1).1
 
-  -- the task that they make, after another one
+  -- the task of this line, after the previous task
   module _ (previous : Option Task) (line : ℕ) (task : Task) (made : task ≡ task_from line (λ k. get_or values k (pos 0))) where
     pub task_is : task ≡ task_from line (value_at words)
     unfolding task_by
     task_is = made ∙ same_task line words (λ k. get_or values k (pos 0)) (λ k l. ap (λ o. unwrap_or o (pos 0)) (h.1 k l).0)
 
-    order_is : is_that (is_out_of_order previous) (field words 0) ≡ is_out_of_order previous (pos task.stop.number)
+    order_is : passes_test (is_out_of_order previous) (field words 0) ≡ is_out_of_order previous (pos task.stop.number)
     order_is =
         let first = h.1 0 (omega arith) in
-        ap (is_that (is_out_of_order previous)) first.0 ∙ ap (is_out_of_order previous) (from_zero (pos 40000) (get_or values 0 (pos 0)) first.1)
+        ap (passes_test (is_out_of_order previous)) first.0 ∙ ap (is_out_of_order previous) (from_zero (pos 40000) (get_or values 0 (pos 0)) first.1)
         ∙ sym (ap (λ t. is_out_of_order previous (pos t.stop.number)) made)
 
     window_is : exceeds (field words 4) (field words 5) ≡ int_lt (pos task.stop.latest) (pos task.stop.earliest)

@@ -1,4 +1,4 @@
--- Which fault of a `.vrp` text is told.
+-- The fault that is reported for a `.vrp` text.
 use Rattle.std.proofs.Common.{◌≡◌, ℕ, ◌+◌, ◌<◌, true, false, ◌⊎◌, ⊎_elim, inl, inr, List, [], ◌∷◌, ◌++◌, length, map, Option, None, refl, sym, ap, subst, ◌∙◌, arith, append_assoc}
 use Rattle.std.proofs.lemmas.Bool.{false≢true}
 use Rattle.text_lines.specs.Lines.{lines_of}
@@ -7,14 +7,14 @@ use Rattle.instance_read.specs.declared.faults.ReadFaultKind.{ReadFaultKind}
 use Rattle.instance_read.specs.declared.faults.ReadFaultKind.TheVariants.{MissingKey, Truncated}
 use Rattle.instance_read.specs.declared.vrp_lines.Section.{Section}
 use Rattle.instance_read.specs.declared.vrp_lines.Section.TheVariants.{Outside}
-use Rattle.instance_read.specs.Faults.{Class, OfLine, OfText, HasNone, IsFirstFault, IsNoLater, IsNoLaterPlace, TellsFirstFault, rank}
+use Rattle.instance_read.specs.Faults.{Class, OfLine, OfText, HasNoFault, IsFirstFault, IsNoLater, IsNoLaterPlace, ReportsFirstFault, rank}
 use Rattle.instance_read.specs.Rows.{Row, rows_of}
 use Rattle.instance_read.specs.Vrp.{VrpFault, end_line, is_inside, lacks_key, place_fault}
 use Rattle.instance_read.specs.VrpLines.{Placed, end_place, nodes_after, place_after, placed_from, placed_of}
-use Rattle.instance_read.specs.VrpWalk.{HasNoLineFault, IsFirstFaultyLine, TellsLine}
-use Rattle.instance_read.specs.Walk.{LinesAbove}
+use Rattle.instance_read.specs.DraftLines.{HasNoLineFault, IsFirstFaultyLine, ReportsLine}
+use Rattle.instance_read.specs.TaskFaults.{LinesAbove}
 use Rattle.instance_read.proofs.ReadingLemmas.{compare_splits, placed_none, placed_step}
-use Rattle.instance_read.proofs.WalkLemmas.{rows_above}
+use Rattle.instance_read.proofs.TaskFaultLemmas.{rows_above}
 
 abbrev rows_placed : List Placed → List Row
 rows_placed ps = map (λ p. p.row) ps
@@ -24,7 +24,7 @@ placed_rows-are nodes place [] = ap rows_placed (placed_none nodes place)
 placed_rows-are nodes place (row ∷ rows) =
     ap rows_placed (placed_step nodes place row rows) ∙ ap (λ l. row ∷ l) (placed_rows-are (nodes_after nodes row place) (place_after nodes row place) rows)
 
--- lines stand in the order of their numbers
+-- lines are in ascending order of their numbers
 above_later : (n : ℕ) (ps : List Placed) (q : Placed) (after : List Placed) → LinesAbove n (rows_placed (ps ++ q ∷ after)) → n < q.row.line
 above_later n [] q after h = h.0
 above_later n (p ∷ ps) q after h = omega (arith, h.0, above_later p.row.line ps q after h.1)
@@ -59,16 +59,16 @@ module _ (text : List ℕ) where
     pub first_line_fault : IsFirstFault (VrpFault text) f
     first_line_fault = (OfLine, (h.before, h.here, h.after, h.splits, sym h.line, h.kind.0), no_later)
 
-  pub tells_line : (f : ReadFault) → TellsLine (placed_of text) f → TellsFirstFault (VrpFault text) f
+  pub tells_line : (f : ReadFault) → ReportsLine (placed_of text) f → ReportsFirstFault (VrpFault text) f
   tells_line f (inl memory) = inl memory
   tells_line f (inr first) = inr (first_line_fault f first)
 
-  -- where no line has a fault
+  -- facts about a text in which no line has a fault
   module _ (clean : HasNoLineFault (placed_of text)) where
     no_line : (line : ℕ) (kind : ReadFaultKind) → VrpFault text OfLine line kind → ⊥
     no_line line kind g = false≢true (sym (clean g.0 g.1 g.2 g.3 kind) ∙ g.5)
 
-    -- the whole text has two faults: it ends inside a section, or it lacks a key
+    -- the whole text has two possible faults: it ends inside a section, or it lacks a key
     text_cases : (line : ℕ) (kind : ReadFaultKind) → VrpFault text OfText line kind
         → ((kind ≡ Truncated) × (is_inside (end_place text) ≡ true) × (line ≡ length (lines_of text) + 1))
         ⊎ ((kind ≡ MissingKey) × (is_inside (end_place text) ≡ false) × (lacks_key (placed_of text) ≡ true) × (line ≡ end_line text))
@@ -76,7 +76,7 @@ module _ (text : List ℕ) where
     text_cases line MissingKey g = inr (refl, g.0, g.1, g.2)
     text_cases line _ g = absurd g
 
-    -- a text that ends inside a section
+    -- the fault of a text that ends inside a section
     module _ (inside : is_inside (end_place text) ≡ true) where
       cut_fault : (line : ℕ) (kind : ReadFaultKind) → VrpFault text OfText line kind → IsNoLaterPlace (length (lines_of text) + 1) Truncated line kind
       cut_fault line kind g =
@@ -92,7 +92,7 @@ module _ (text : List ℕ) where
       pub truncated_first : IsFirstFault (VrpFault text) (record { line = length (lines_of text) + 1; kind = Truncated })
       truncated_first = (OfText, (inside, refl), cut_no_later)
 
-    -- a text that ends outside the sections
+    -- the fault of a text that ends outside the sections
     module _ (outside : is_inside (end_place text) ≡ false) where
       missing : (line : ℕ) (kind : ReadFaultKind) → VrpFault text OfText line kind → (kind ≡ MissingKey) × (lacks_key (placed_of text) ≡ true) × (line ≡ end_line text)
       missing line kind g =
@@ -112,5 +112,5 @@ module _ (text : List ℕ) where
       none_of_class has OfLine line kind g = no_line line kind g
       none_of_class has OfText line kind g = let t = missing line kind g in false≢true (sym has ∙ t.1)
 
-      pub has_no_fault : lacks_key (placed_of text) ≡ false → HasNone (VrpFault text)
+      pub has_no_fault : lacks_key (placed_of text) ≡ false → HasNoFault (VrpFault text)
       has_no_fault has = none_of_class has

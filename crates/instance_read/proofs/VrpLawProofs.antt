@@ -1,4 +1,4 @@
--- Where the lines of a `.vrp` text stand.
+-- The sections of the lines of a `.vrp` text.
 use Rattle.std.proofs.Common.{◌≡◌, ◌≤◌, ℕ, zero, suc, ◌+◌, ◌-◌, Bool, true, false, ◌⊎◌, inl, inr, ⊎_elim, cond, eqb, List, [], ◌∷◌, ◌++◌, length, length-append}
 use Rattle.std.proofs.Common.{map, drop, Option, Some, None, pos, refl, sym, ap, ◌∙◌, arith}
 use Rattle.std.specs.Prelude.{◌||◌, codes, find}
@@ -14,7 +14,7 @@ use Rattle.instance_read.specs.declared.vrp_lines.Section.TheVariants.{Outside, 
 use Rattle.instance_read.specs.Fields.{field}
 use Rattle.instance_read.specs.Rows.{Row, rows_of}
 use Rattle.instance_read.specs.Vrp.{first_key, has_key, key_number}
-use Rattle.instance_read.specs.VrpLaws.{DepotsAreTwoWords, DimensionAloneAnnounces, EndIsTheEnd, LeavesOutside, OtherLinesStayOutside}
+use Rattle.instance_read.specs.VrpLaws.{DepotsAreTwoWords, OnlyDimensionAnnounces, EndIsTheEnd, LeavesOutside, OtherLinesStayOutside}
 use Rattle.instance_read.specs.VrpLaws.{SectionsHaveALineForEachNode, after_end, coordinate_lines, demand_lines, depot_line, section_lines, is_keyed, outside}
 use Rattle.instance_read.specs.VrpLaws.{rows_in}
 use Rattle.instance_read.specs.VrpLines.{Placed, begins_as_number, coordinates_left, demands_left, depots_after, lines_left, ends_in, key_of, key_text}
@@ -22,7 +22,7 @@ use Rattle.instance_read.specs.VrpLines.{nodes_after, nodes_in_key, place_after,
 use Rattle.instance_read.proofs.LilimLemmas.{cons_head, cons_tail}
 use Rattle.instance_read.proofs.ReadingLemmas.{nodes_other, placed_none, placed_step}
 
--- A section of nodes whose lines have this place.
+-- a section of nodes: `line k` is the section with k lines left
 module _ (line : ℕ → Section) (goes : (n : ℕ) (row : Row) (k : ℕ) → place_after (Some n) row (line k) ≡ lines_left line (k - 1)) where
   left_is : (k : ℕ) → lines_left line (suc k) ≡ line (suc k)
   left_is k = ap (λ b. cond b Outside (line (suc k))) (ne_eqb (suc k) 0 (omega arith))
@@ -50,7 +50,7 @@ key_step nodes row rows key is none =
     ∙ ap (λ o. outside row ∷ placed_from o (place_after_key nodes (key_of row)) rows) (nodes_other row key nodes is none)
     ∙ ap (λ k. outside row ∷ placed_from nodes (place_after_key nodes k) rows) is
 
--- ---- what is announced before a line, and what stands behind it
+-- ---- the number of nodes announced before a line, and the lines after it
 abbrev announced : Option ℕ → List Placed → Option ℕ
 announced nodes [] = nodes
 announced nodes (p ∷ before) = announced (nodes_after nodes p.row p.place) before
@@ -59,7 +59,7 @@ announced_stays : (n : ℕ) (before : List Placed) → announced (Some n) before
 announced_stays n [] = refl
 announced_stays n (p ∷ before) = announced_stays n before
 
--- only a DIMENSION line announces
+-- only a DIMENSION line announces nodes
 key_cases : (key : Key) → (key ≡ Dimension) ⊎ ((eqb (key_number key) 0 ≡ false) × ((row : Row) → nodes_in_key row key ≡ None))
 key_cases Dimension = inl refl
 key_cases _ = inr (refl, λ row. refl)
@@ -85,7 +85,7 @@ now_some p n is value = by p.place is
     by Outside is = ap (nodes_in_key p.row) (dimension_key (key_of p.row) is) ∙ ap (option_map unsigned_abs) value
     by _ is = absurd (false≢true is)
 
--- what the first DIMENSION line says is announced from there on
+-- the number in the first DIMENSION line is announced for all lines after it
 announced_first : (before : List Placed) (dimension : Row) (n : ℕ) → first_key Dimension before ≡ Some dimension → field (value_words dimension) 0 ≡ Some (pos n) → announced None before ≡ Some n
 announced_first [] dimension n first value = absurd (none-some dimension first)
 announced_first (p ∷ before) dimension n first value = by (has_key Dimension p) refl (announced_first before dimension n)
@@ -104,11 +104,11 @@ rows_back nodes place [] = ap rows_in (placed_none nodes place)
 rows_back nodes place (row ∷ rows) =
     ap rows_in (placed_step nodes place row rows) ∙ ap (λ more. row ∷ more) (rows_back (nodes_after nodes row place) (place_after nodes row place) rows)
 
--- the lines behind one of them
-behind : (nodes : Option ℕ) (place : Section) (rows : List Row) (before after : List Placed) (p : Placed) → placed_from nodes place rows ≡ before ++ p ∷ after
+-- the sections of the lines after line p
+lines_after : (nodes : Option ℕ) (place : Section) (rows : List Row) (before after : List Placed) (p : Placed) → placed_from nodes place rows ≡ before ++ p ∷ after
     → after ≡ placed_from (nodes_after (announced nodes before) p.row p.place) (place_after (announced nodes before) p.row p.place) (rows_in after)
-behind nodes place [] before after p is = absurd (omega (arith, ap length (sym (placed_none nodes place) ∙ is), length-append before (p ∷ after)))
-behind nodes place (row ∷ rows) [] after p is =
+lines_after nodes place [] before after p is = absurd (omega (arith, ap length (sym (placed_none nodes place) ∙ is), length-append before (p ∷ after)))
+lines_after nodes place (row ∷ rows) [] after p is =
     let whole = sym (placed_step nodes place row rows) ∙ is in
     let more = placed_from (nodes_after nodes row place) (place_after nodes row place) rows in
     let here : record { row = row; place = place } ≡ p = cons_head (record { row = row; place = place }) p more after whole in
@@ -116,26 +116,26 @@ behind nodes place (row ∷ rows) [] after p is =
     sym rest
     ∙ ap (placed_from (nodes_after nodes row place) (place_after nodes row place)) (sym (rows_back (nodes_after nodes row place) (place_after nodes row place) rows) ∙ ap rows_in rest)
     ∙ ap (λ (q : Placed). placed_from (nodes_after nodes q.row q.place) (place_after nodes q.row q.place) (rows_in after)) here
-behind nodes place (row ∷ rows) (q ∷ before) after p is =
+lines_after nodes place (row ∷ rows) (q ∷ before) after p is =
     let whole = sym (placed_step nodes place row rows) ∙ is in
     let more = placed_from (nodes_after nodes row place) (place_after nodes row place) rows in
     let here : record { row = row; place = place } ≡ q = cons_head (record { row = row; place = place }) q more (before ++ p ∷ after) whole in
     let rest : more ≡ before ++ p ∷ after = cons_tail (record { row = row; place = place }) q more (before ++ p ∷ after) whole in
-    behind (nodes_after nodes row place) (place_after nodes row place) rows before after p rest
+    lines_after (nodes_after nodes row place) (place_after nodes row place) rows before after p rest
     ∙ ap (λ (r : Placed). placed_from (nodes_after (announced (nodes_after nodes r.row r.place) before) p.row p.place)
     (place_after (announced (nodes_after nodes r.row r.place) before) p.row p.place) (rows_in after)) here
 
 pub sections : SectionsHaveALineForEachNode
 sections text before after row dimension n is first value =
-    let follows = behind None Outside (rows_of text) before after (outside row) is in
+    let follows = lines_after None Outside (rows_of text) before after (outside row) is in
     let known : after ≡ placed_from (Some n) (place_after_key (Some n) (key_of row)) (rows_in after) =
     follows ∙ ap (λ o. placed_from (nodes_after o row Outside) (place_after o row Outside) (rows_in after)) (announced_first before dimension n first value) in (
       λ key. known ∙ ap (λ k. placed_from (Some n) (place_after_key (Some n) k) (rows_in after)) key ∙ coordinate_block n n (rows_in after),
       λ key. known ∙ ap (λ k. placed_from (Some n) (place_after_key (Some n) k) (rows_in after)) key ∙ demand_block n n (rows_in after),
     )
 
--- ---- lines of other keys
--- what holds of each key that these tests choose holds of the line's
+-- ---- lines with other keys
+-- what is true for each key that these tests choose is true for the line's key
 key_holds : (P : Key → Type 0) (row : Row) → P Capacity → P ProblemType → P WeightType → P Refused → P StrayNumber → P Ignored
     → (is_keyed (codes "DIMENSION") row ≡ true → P Dimension) → (is_keyed (codes "NODE_COORD_SECTION") row ≡ true → P Coordinates)
     → (is_keyed (codes "DEMAND_SECTION") row ≡ true → P Demands) → (is_keyed (codes "DEPOT_SECTION") row ≡ true → P Depots)
@@ -163,11 +163,11 @@ stays nodes row leaves = key_holds (λ key. place_after_key nodes key ≡ Outsid
 pub others : OtherLinesStayOutside
 others nodes row rows leaves = placed_step nodes Outside row rows ∙ ap (λ place. outside row ∷ placed_from (nodes_after nodes row Outside) place rows) (stays nodes row leaves)
 
-pub announces : DimensionAloneAnnounces
+pub announces : OnlyDimensionAnnounces
 announces (Some n) row other = refl
 announces None row other = key_holds (λ key. nodes_in_key row key ≡ None) row refl refl refl refl refl refl (clash other) (λ _. refl) (λ _. refl) (λ _. refl) (λ _. refl)
 
--- a place that is in no section of its own keeps what is announced
+-- a line in the list of depots or after the end does not change the number of nodes announced
 same_nodes : (nodes : Option ℕ) (row : Row) (seen : ℕ) → nodes_after nodes row (DepotLine seen) ≡ nodes
 same_nodes None row seen = refl
 same_nodes (Some n) row seen = refl

@@ -1,4 +1,4 @@
--- What a draft that knows all lines says of the text.
+-- The problem of a draft that has the data of all lines is that of the text.
 use Rattle.std.proofs.Common.{◌≡◌, ℕ, suc, ◌+◌, ◌-◌, Bool, true, false, List, map, Option, Some, None, refl, sym, ap, ◌∙◌, add-one, ℤ, pos}
 use Rattle.std.specs.Prelude.{find, is_some, unwrap_or, not, ◌&&◌}
 use Rattle.std.specs.List.{range_with_len}
@@ -7,17 +7,17 @@ use Rattle.std.proofs.lemmas.Bool.{false≢true}
 use Rattle.text_lines.specs.Words.{words_of}
 use Rattle.plan_types.specs.declared.requests.Kind.TheVariants.{Vrp}
 use Rattle.plan_types.specs.declared.requests.Request.TheVariants.{Single}
-use Rattle.instance_read.specs.declared.vrp_draft.VrpFields.{VrpFields}
+use Rattle.instance_read.specs.declared.vrp_draft.VrpDraft.{VrpDraft}
 use Rattle.instance_read.specs.declared.vrp_lines.Key.TheVariants.{Dimension, Capacity, WeightType, Coordinates, Demands, Depots, End}
 use Rattle.instance_read.specs.Drafts.{has_seen, nodes_in}
 use Rattle.instance_read.specs.Fields.{value_at}
 use Rattle.instance_read.specs.Rows.{Row}
 use Rattle.instance_read.specs.Vrp.{first_key, in_coordinates, in_demands, is_node_line, lacks_key, node_stop, node_value, nodes_of, vrp_problem}
 use Rattle.instance_read.specs.VrpLines.{Placed}
-use Rattle.instance_read.specs.VrpWalk.{Knows, customer_in, demand_at, demand_in, draft_lacks_key, drafted_problem, drafted_stop, number_in, point_at, point_in}
+use Rattle.instance_read.specs.DraftLines.{IsDraftOfLines, customer_in, demand_at, demand_in, draft_lacks_key, drafted_problem, drafted_stop, number_in, point_at, point_in}
 use Rattle.instance_read.proofs.LineLemmas.{announced_is, nodes_is, nodes_map}
 
--- the entry of a node and its line
+-- the point of a node, from its entry and from its line
 x_of : (o : Option Placed) → (unwrap_or (option_map point_in o) (pos 0, pos 0)).0 ≡ option_map_or (λ (p : Placed). value_at (words_of p.row.text) 1) o (pos 0)
 x_of None = refl
 x_of (Some p) = refl
@@ -38,7 +38,7 @@ first_of_six : (a b c d e f : Bool) → not (a && b && c && d && e && f) ≡ fal
 first_of_six true b c d e f h = refl
 first_of_six false b c d e f h = absurd (false≢true (sym h))
 
-module _ (ps : List Placed) (draft : VrpFields) (known : Knows ps draft) where
+module _ (ps : List Placed) (draft : VrpDraft) (known : IsDraftOfLines ps draft) where
   pub lacks_is : draft_lacks_key draft ≡ lacks_key ps
   lacks_is = λ i. not (known.seen Dimension i && known.seen Capacity i && known.seen WeightType i && known.seen Coordinates i && known.seen Demands i && known.seen Depots i)
 

@@ -1,4 +1,4 @@
--- What the line of a fault has of it, in either format.
+-- The details of a fault, in either format.
 use Rattle.std.specs.Prelude.{ℕ, List}
 use Rattle.plan_types.specs.declared.requests.Kind.{Kind}
 use Rattle.plan_types.specs.declared.requests.Kind.TheVariants.{LiLim, Vrp}

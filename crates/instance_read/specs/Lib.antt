@@ -1,4 +1,4 @@
--- what public contracts say
+-- definitions that public contracts use
 pub mod Faults
 pub mod Names
 pub mod Fields
@@ -16,10 +16,10 @@ pub mod LilimEvidence
 pub mod VrpEvidence
 pub mod Evidence
 pub mod EvidenceLaws
--- of private functions alone
+-- definitions that only private contracts use
 pub mod RowViews
 pub mod FieldValues
-pub mod Walk
+pub mod TaskFaults
 pub mod Tables
 pub mod Drafts
-pub mod VrpWalk
+pub mod DraftLines

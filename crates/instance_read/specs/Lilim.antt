@@ -11,16 +11,16 @@ use Rattle.plan_types.specs.declared.requests.Stop.{Stop}
 use Rattle.instance_read.specs.declared.faults.ReadFaultKind.{ReadFaultKind}
 use Rattle.instance_read.specs.declared.faults.ReadFaultKind.TheVariants.{BadNumber, Range, FieldCount, TaskOrder, PairMismatch, EmptyWindow, TooManyStops, Truncated}
 use Rattle.instance_read.specs.declared.tasks.Task.{Task}
-use Rattle.instance_read.specs.Faults.{Class, OfLine, OfText, HasNone}
-use Rattle.instance_read.specs.Fields.{field, value_at, is_that, has_no_number, is_beyond, any_beyond, exceeds}
+use Rattle.instance_read.specs.Faults.{Class, OfLine, OfText, HasNoFault}
+use Rattle.instance_read.specs.Fields.{field, value_at, passes_test, has_no_number, is_beyond, any_beyond, exceeds}
 use Rattle.instance_read.specs.Pairs.{task_of, is_mismatched, pairs_of, last_number}
 use Rattle.instance_read.specs.Rows.{Row, rows_of}
 
--- fleet and capacity; the speed that follows them may be any number
+-- the limits of fleet and capacity; the speed after them may be any number
 abbrev pub header_limits : List (ℤ × ℤ)
 header_limits = (pos 1, pos MAX_FLEET) ∷ (pos 0, pos MAX_CAPACITY) ∷ []
 
--- number, x, y, demand, earliest, latest, service, pickup, delivery
+-- the limits of number, x, y, demand, earliest, latest, service, pickup, delivery
 abbrev pub task_limits : List (ℤ × ℤ)
 task_limits =
     (pos 0, pos MAX_STOP_NUMBER)
@@ -31,51 +31,52 @@ task_limits =
     ∷ (pos 0, pos MAX_STOP_NUMBER) ∷ (pos 0, pos MAX_STOP_NUMBER)
     ∷ []
 
--- what may be wrong with the words of the first line
+-- the faults of the words of the first line
 abbrev pub header_fault : List (List ℕ) → ReadFaultKind → Bool
 header_fault words FieldCount = not (length words == 3)
 header_fault words BadNumber = has_no_number words
 header_fault words Range = any_beyond header_limits words
 header_fault words _ = false
 
--- the first task has number 0, and each other a greater number than the one before it
+-- the first task does not have number 0, or another task's number is not greater than that of the task before
+-- it
 abbrev pub is_out_of_order : Option Task → ℤ → Bool
 is_out_of_order None z = is_beyond (pos 0, pos 0) z
 is_out_of_order (Some previous) z = not (int_lt (pos previous.stop.number) z)
 
--- what may be wrong with the words of a task's line, after this task
+-- the faults of the words of a task's line; `previous` is the task before it
 abbrev pub task_fault : Option Task → List (List ℕ) → ReadFaultKind → Bool
 task_fault previous words FieldCount = not (length words == 9)
 task_fault previous words BadNumber = has_no_number words
-task_fault previous words TooManyStops = is_that (λ z. int_lt (pos MAX_STOP_NUMBER) z) (field words 0)
+task_fault previous words TooManyStops = passes_test (λ z. int_lt (pos MAX_STOP_NUMBER) z) (field words 0)
 task_fault previous words Range = any_beyond task_limits words
-task_fault previous words TaskOrder = is_that (is_out_of_order previous) (field words 0)
+task_fault previous words TaskOrder = passes_test (is_out_of_order previous) (field words 0)
 task_fault previous words EmptyWindow = exceeds (field words 4) (field words 5)
 task_fault previous words _ = false
 
--- what may be wrong with a line, after these lines: the first is the header, the others are tasks
+-- the faults of a line after these lines: the first line is the header, the others are tasks
 abbrev pub row_fault : List Row → Row → ReadFaultKind → Bool
 row_fault [] row kind = header_fault (words_of row.text) kind
 row_fault (header ∷ before) row kind = task_fault (last_or None (map task_of before)) (words_of row.text) kind
 
--- the tasks but the first, which is the depot
+-- all tasks except the first, which is the depot
 unfoldable pub customers_of : List ℕ → List Task
 customers_of text = map task_of (drop 2 (rows_of text))
 
--- All faults of a text.
+-- all faults of a text
 abbrev pub LilimFault : List ℕ → Class → ℕ → ReadFaultKind → Type 0
 -- a line that is read has a fault
 LilimFault text OfLine line kind =
     (before : List Row) × (row : Row) × (after : List Row)
     × (rows_of text ≡ before ++ row ∷ after) × (row.line ≡ line) × (row_fault before row kind ≡ true)
--- a customer's task is no half of a pair
+-- a customer's task is not half of a pair
 LilimFault text OfText line PairMismatch =
     (t : Task) × Contains (customers_of text) t × (t.line ≡ line) × (is_mismatched (customers_of text) t ≡ true)
 -- there is no header, or no depot
 LilimFault text OfText line Truncated = (length (rows_of text) < 2) × (line ≡ length (lines_of text) + 1)
 LilimFault text OfText line _ = ⊥
 
--- the depot asks for nothing and takes no time
+-- the depot: its demand and its service are 0
 abbrev pub depot_from : Task → Stop
 depot_from t = record {
   number = 0;
@@ -87,8 +88,8 @@ depot_from t = record {
   service = 0;
 }
 
--- the problem of a fleet, a capacity, the depot's task and the customers': a pair for each pickup, and one above the
--- last task's number as the next
+-- the problem of a fleet, a capacity, the depot's task and the customers' tasks: it has a pair for each pickup,
+-- and its next number is one above that of the last task
 abbrev pub problem_from : ℕ → ℕ → Task → List Task → Instance
 problem_from fleet capacity depot customers = record {
   kind = LiLim;
@@ -99,15 +100,15 @@ problem_from fleet capacity depot customers = record {
   next_number = last_number depot customers + 1;
 }
 
--- the problem of these lines: the header has the fleet and the capacity
+-- the problem of these lines; the header has the fleet and the capacity
 abbrev pub problem_of : Row → Row → List Row → Instance
 problem_of header depot customers =
     let words = words_of header.text in
     problem_from (unsigned_abs (value_at words 0)) (unsigned_abs (value_at words 1)) (task_of depot) (map task_of customers)
 
--- a text spells a problem: it has no fault, and the problem is that of its lines
+-- a text spells a problem: the text has no fault, and the problem is that of its lines
 abbrev pub SpellsLilim : List ℕ → Instance → Type 0
 SpellsLilim text problem =
-    HasNone (LilimFault text)
+    HasNoFault (LilimFault text)
     × (header : Row) × (depot : Row) × (customers : List Row)
     × (rows_of text ≡ header ∷ depot ∷ customers) × (problem ≡ problem_of header depot customers)

@@ -1,4 +1,4 @@
--- The printed names of the faults.
+-- The names of faults, as answers print them.
 use Rattle.std.specs.Prelude.{ℕ, List, codes}
 use Rattle.instance_read.specs.declared.faults.ReadFaultKind.{ReadFaultKind}
 use Rattle.instance_read.specs.declared.faults.ReadFaultKind.TheVariants.{BadNumber, Range, FieldCount, TaskOrder, PairMismatch, EmptyWindow, TooManyStops}

@@ -1,4 +1,4 @@
--- The tasks of a Li-Lim text, and how they make pairs.
+-- The tasks of a Li-Lim text, and the pairs that they form.
 use Rattle.std.specs.Prelude.{ℕ, Bool, true, not, ◌||◌, ◌==◌, if◌then◌else◌, List, [], ◌∷◌, Option, None, find, ℤ, pos, ◌+ℤ◌, int_lt}
 use Rattle.std.specs.Int.RustNames.{unsigned_abs}
 use Rattle.std.specs.List.{filter_map}
@@ -11,8 +11,8 @@ use Rattle.instance_read.specs.declared.tasks.Task.{Task}
 use Rattle.instance_read.specs.Fields.{value_at}
 use Rattle.instance_read.specs.Rows.{Row}
 
--- The task of a line, from the numbers at its places: its number, place, demand, window and service, and the tasks that
--- its last two fields name.
+-- the task of a line, from the numbers at its places: its number, coordinates, demand, time window and service,
+-- and the tasks that its last two fields name
 abbrev pub task_from : ℕ → (ℕ → ℤ) → Task
 task_from line value = record {
   line = line;
@@ -36,19 +36,22 @@ task_of row = task_from row.line (value_at (words_of row.text))
 abbrev pub find_task : ℕ → List Task → Option Task
 find_task n tasks = find (λ t. t.stop.number == n) tasks
 
--- what one picks up isn't what the other delivers
+-- the demands of the two tasks do not cancel out
 abbrev pub is_uneven : Task → Task → Bool
 is_uneven a b = not (int_eq (a.stop.demand +ℤ b.stop.demand) (pos 0))
 
--- d is no delivery for the pickup p: it doesn't name p as its pickup, their demands' sum isn't 0, or p's demand is negative
+-- d is not a delivery for the pickup p: it does not name p as its pickup, the sum of their demands is not 0, or
+-- the demand of p is negative
 abbrev pub is_wrong_delivery : Task → Task → Bool
 is_wrong_delivery p d = not (d.pickup == p.stop.number) || is_uneven p d || int_lt p.stop.demand (pos 0)
 
--- p is no pickup for the delivery d: it doesn't name d as its delivery, or their demands' sum isn't 0
+-- p is not a pickup for the delivery d: it does not name d as its delivery, or the sum of their demands is not
+-- 0
 abbrev pub is_wrong_pickup : Task → Task → Bool
 is_wrong_pickup d p = not (p.delivery == d.stop.number) || is_uneven d p
 
--- A task is no half of a pair: it names neither a pickup nor a delivery, or both, or one that is not there or is wrong.
+-- the task is not half of a pair: it names neither a pickup nor a delivery, or both, or one that does not exist
+-- or does not match
 abbrev pub is_mismatched : List Task → Task → Bool
 is_mismatched tasks t =
     if t.pickup == 0
@@ -63,7 +66,7 @@ pair_of tasks t = if t.pickup == 0 then option_map (λ d. (t.stop.number, Pair t
 abbrev pub pairs_of : List Task → List (ℕ × Request)
 pairs_of tasks = filter_map (pair_of tasks) tasks
 
--- the number of the last of the tasks
+-- the number of the last task
 abbrev pub last_number : Task → List Task → ℕ
 last_number t [] = t.stop.number
 last_number t (u ∷ more) = last_number u more

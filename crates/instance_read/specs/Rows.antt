@@ -8,7 +8,7 @@ pub record Row : Type 0 where
   pub line : ℕ
   pub text : List ℕ
 
--- those of the lines that have more than blanks and tabs, where the first has number n
+-- the lines that are not blank, if the first line has number n
 unfoldable pub rows_from : ℕ → List (List ℕ) → List Row
 rows_from n [] = []
 rows_from n (l ∷ ls) = if is_blank_line l then rows_from (n + 1) ls else record { line = n; text = l } ∷ rows_from (n + 1) ls

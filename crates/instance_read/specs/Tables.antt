@@ -1,4 +1,4 @@
--- What is known of the tasks of a text whose lines have no fault.
+-- The facts about the tasks of a text whose lines have no fault.
 use Rattle.std.specs.Prelude.{◌≡◌, ℕ, ◌<◌, ◌⊎◌, false, List, [], ◌∷◌, Option, Some, None, find, slice_index_or, ◌==◌, ◌≤ℤ◌}
 use Rattle.std.specs.Int.RustNames.{unsigned_abs}
 use Rattle.std.specs.List.{AllByRecursion, position_from}
@@ -8,7 +8,7 @@ use Rattle.instance_read.specs.declared.faults.ReadFault.{ReadFault}
 use Rattle.instance_read.specs.declared.faults.ReadFaultKind.TheVariants.{PairMismatch}
 use Rattle.instance_read.specs.declared.tasks.FleetLine.{FleetLine}
 use Rattle.instance_read.specs.declared.tasks.Task.{Task}
-use Rattle.instance_read.specs.Faults.{no_memory}
+use Rattle.instance_read.specs.Faults.{out_of_memory}
 use Rattle.instance_read.specs.Fields.{value_at}
 use Rattle.instance_read.specs.Pairs.{is_mismatched}
 
@@ -16,7 +16,7 @@ use Rattle.instance_read.specs.Pairs.{is_mismatched}
 abbrev pub place_of : ℕ → List Task → Option ℕ
 place_of n tasks = position_from (λ t. t.stop.number == n) 0 tasks
 
--- the table has the place of the task with each number
+-- the table has the place of each task at its number
 abbrev pub IsTable : List Task → List (Option ℕ) → Type 0
 IsTable tasks table = (n : ℕ) → slice_index_or table n None ≡ place_of n tasks
 
@@ -25,16 +25,16 @@ pub record IsCustomer (t : Task) : Type 0 where
   pub stop : IsStop t.stop
   pub demand : t.stop.demand ≤ℤ MAX_DEMAND
 
--- each has a greater number than the one before it
-abbrev pub RisesFrom : ℕ → List Task → Type 0
-RisesFrom n [] = Unit {0}
-RisesFrom n (t ∷ ts) = (n < t.stop.number) × RisesFrom t.stop.number ts
+-- each task has a greater number than the one before it
+abbrev pub AscendsFrom : ℕ → List Task → Type 0
+AscendsFrom n [] = Unit {0}
+AscendsFrom n (t ∷ ts) = (n < t.stop.number) × AscendsFrom t.stop.number ts
 
 pub record AreTasks (depot : Task) (customers : List Task) : Type 0 where
   pub first : depot.stop.number ≡ 0
   pub visit : IsVisit depot.stop
   pub valid : AllByRecursion IsCustomer customers
-  pub rising : RisesFrom 0 customers
+  pub ascending : AscendsFrom 0 customers
 
 -- the header has the first two of these numbers
 abbrev pub IsHeader : List (List ℕ) → FleetLine → Type 0
@@ -48,8 +48,8 @@ pub record HeaderKeepsLimits (header : FleetLine) : Type 0 where
 abbrev pub ArePaired : List Task → Type 0
 ArePaired customers = AllByRecursion (λ t. is_mismatched customers t ≡ false) customers
 
--- want of memory, or the first task that is no half of a pair
-abbrev pub TellsMismatch : List Task → ReadFault → Type 0
-TellsMismatch customers f =
-    (f ≡ no_memory)
+-- out of memory, or the first task that is not half of a pair
+abbrev pub ReportsMismatch : List Task → ReadFault → Type 0
+ReportsMismatch customers f =
+    (f ≡ out_of_memory)
     ⊎ ((t : Task) × (find (is_mismatched customers) customers ≡ Some t) × (f ≡ record { line = t.line; kind = PairMismatch }))

@@ -15,8 +15,8 @@ use Rattle.plan_types.specs.declared.requests.Request.TheVariants.{Single}
 use Rattle.plan_types.specs.declared.requests.Stop.{Stop}
 use Rattle.instance_read.specs.declared.faults.ReadFaultKind.{ReadFaultKind}
 use Rattle.instance_read.specs.declared.faults.ReadFaultKind.TheVariants.{BadNumber, Range, FieldCount, TooManyStops, MissingKey, Unsupported, DepotNotFirst, NodeRepeated, Truncated}
-use Rattle.instance_read.specs.Faults.{Class, OfLine, OfText, HasNone}
-use Rattle.instance_read.specs.Fields.{field, value_at, is_that, has_no_number, is_beyond, any_beyond}
+use Rattle.instance_read.specs.Faults.{Class, OfLine, OfText, HasNoFault}
+use Rattle.instance_read.specs.Fields.{field, value_at, passes_test, has_no_number, is_beyond, any_beyond}
 use Rattle.instance_read.specs.Rows.{Row}
 use Rattle.instance_read.specs.declared.vrp_lines.Key.{Key}
 use Rattle.instance_read.specs.declared.vrp_lines.Key.TheVariants.{Dimension, Capacity, ProblemType, WeightType, Refused, Coordinates, Demands, Depots, End, StrayNumber, Ignored}
@@ -24,7 +24,7 @@ use Rattle.instance_read.specs.declared.vrp_lines.Section.{Section}
 use Rattle.instance_read.specs.declared.vrp_lines.Section.TheVariants.{Outside, CoordinateLine, DemandLine, DepotLine, AfterEnd}
 use Rattle.instance_read.specs.VrpLines.{Placed, key_of, value_of, value_words, placed_of, end_place}
 
--- keys are compared by their number
+-- the number of a key, by which keys are compared
 abbrev pub key_number : Key → ℕ
 key_number Dimension = 0
 key_number Capacity = 1
@@ -38,75 +38,76 @@ key_number End = 8
 key_number StrayNumber = 9
 key_number Ignored = 10
 
--- a line outside the sections has this key
-abbrev pub stands_outside : Section → Bool
-stands_outside Outside = true
-stands_outside _ = false
+-- a line is outside the sections; only such a line has a key
+abbrev pub is_outside : Section → Bool
+is_outside Outside = true
+is_outside _ = false
 
 abbrev pub has_key : Key → Placed → Bool
-has_key key p = stands_outside p.place && key_number (key_of p.row) == key_number key
+has_key key p = is_outside p.place && key_number (key_of p.row) == key_number key
 
--- some line of these has it
+-- some of these lines has this key
 abbrev pub any_key : Key → List Placed → Bool
 any_key key ps = list_any (has_key key) ps
 
--- the first line that has it
+-- the first of these lines with this key
 abbrev pub first_key : Key → List Placed → Option Row
 first_key key ps = option_map (λ p. p.row) (find (has_key key) ps)
 
--- how many nodes the first DIMENSION line announces
+-- the number of nodes that the first DIMENSION line announces
 abbrev pub nodes_of : List Placed → ℕ
 nodes_of ps = option_map_or (λ row. unsigned_abs (value_at (value_words row) 0)) (first_key Dimension ps) 0
 
--- the depot is a node too
-abbrev pub most_nodes : ℕ
-most_nodes = MAX_STOP_NUMBER + 1
+-- the greatest number of nodes; the depot is a node too
+abbrev pub max_nodes : ℕ
+max_nodes = MAX_STOP_NUMBER + 1
 
--- what may be wrong with the words of a DIMENSION, where one may stand before it
+-- the faults of the words of a DIMENSION line; `stands` says whether an earlier line has the key
 abbrev pub dimension_fault : Bool → List (List ℕ) → ReadFaultKind → Bool
 dimension_fault stands words FieldCount = not (length words == 1)
 dimension_fault stands words BadNumber = has_no_number words
-dimension_fault stands words TooManyStops = is_that (λ z. int_lt (pos most_nodes) z) (field words 0)
-dimension_fault stands words Range = is_that (λ z. int_lt z (pos 2)) (field words 0)
+dimension_fault stands words TooManyStops = passes_test (λ z. int_lt (pos max_nodes) z) (field words 0)
+dimension_fault stands words Range = passes_test (λ z. int_lt z (pos 2)) (field words 0)
 dimension_fault stands words NodeRepeated = stands
 dimension_fault stands words _ = false
 
--- the same of a CAPACITY
+-- the faults of the words of a CAPACITY line
 abbrev pub capacity_fault : Bool → List (List ℕ) → ReadFaultKind → Bool
 capacity_fault stands words FieldCount = not (length words == 1)
 capacity_fault stands words BadNumber = has_no_number words
-capacity_fault stands words Range = is_that (is_beyond (pos 0, pos MAX_CAPACITY)) (field words 0)
+capacity_fault stands words Range = passes_test (is_beyond (pos 0, pos MAX_CAPACITY)) (field words 0)
 capacity_fault stands words NodeRepeated = stands
 capacity_fault stands words _ = false
 
--- the same of a value that has to be this word, in any ASCII letter case
+-- the faults of a value that must be this word, in any ASCII letter case
 abbrev pub spelling_fault : List ℕ → Bool → List ℕ → ReadFaultKind → Bool
 spelling_fault word stands value Unsupported = not (str_eq_ignore_ascii_case value word)
 spelling_fault word stands value NodeRepeated = stands
 spelling_fault word stands value _ = false
 
--- the same of the first line of a section that has a line for each node
+-- the faults of the first line of a section that has a line for each node
 abbrev pub opening_fault : Bool → Bool → ReadFaultKind → Bool
 opening_fault announced stands MissingKey = not announced
 opening_fault announced stands NodeRepeated = stands
 opening_fault announced stands _ = false
 
--- the same of the first line of the list of depots
+-- the faults of the first line of the list of depots
 abbrev pub repeated_fault : Bool → ReadFaultKind → Bool
 repeated_fault stands NodeRepeated = stands
 repeated_fault stands _ = false
 
--- a line with a refused key is not supported
+-- the faults of a line with a refused key: it is not supported
 abbrev pub refused_fault : ReadFaultKind → Bool
 refused_fault Unsupported = true
 refused_fault _ = false
 
--- a line of numbers that is in no section has words too many
+-- the faults of a line of numbers that is in no section: it has too many words
 abbrev pub stray_fault : ReadFaultKind → Bool
 stray_fault FieldCount = true
 stray_fault _ = false
 
--- what may be wrong with a line outside the sections that has this key and value, where a DIMENSION and a line of the same key may stand before it
+-- the faults of a line outside the sections with this key and value; `announced` says whether an earlier line
+-- is a DIMENSION line, `stands` whether an earlier line has the same key
 abbrev pub key_fault : Bool → Bool → List ℕ → Key → ReadFaultKind → Bool
 key_fault announced stands value Dimension kind = dimension_fault stands (words_of value) kind
 key_fault announced stands value Capacity kind = capacity_fault stands (words_of value) kind
@@ -128,20 +129,21 @@ abbrev pub in_demands : Section → Bool
 in_demands (DemandLine n) = true
 in_demands _ = false
 
--- the line of a section whose first number is this
+-- the line of a section whose first number is this node
 abbrev pub is_node_line : (Section → Bool) → ℤ → Placed → Bool
-is_node_line section node p = section p.place && is_that (int_eq node) (field (words_of p.row.text) 0)
+is_node_line section node p = section p.place && passes_test (int_eq node) (field (words_of p.row.text) 0)
 
 -- a line of this section has this node
 abbrev pub has_node : (Section → Bool) → List Placed → ℤ → Bool
 has_node section before node = list_any (is_node_line section node) before
 
--- what may be wrong with the words of a line of a section of nodes: so many words within these limits, whose first is a node not yet taken
+-- the faults of the words of a line of a section of nodes: the line needs `count` numbers within these limits,
+-- the first of which is a node that is not yet taken
 abbrev pub node_fault : ℕ → List (ℤ × ℤ) → (ℤ → Bool) → List (List ℕ) → ReadFaultKind → Bool
 node_fault count limits taken words FieldCount = not (length words == count)
 node_fault count limits taken words BadNumber = has_no_number words
 node_fault count limits taken words Range = any_beyond limits words
-node_fault count limits taken words NodeRepeated = is_that taken (field words 0)
+node_fault count limits taken words NodeRepeated = passes_test taken (field words 0)
 node_fault count limits taken words _ = false
 
 abbrev pub coordinate_limits : ℕ → List (ℤ × ℤ)
@@ -150,29 +152,29 @@ coordinate_limits nodes = (pos 1, pos nodes) ∷ (neg_ℤ MAX_COORDINATE, MAX_CO
 abbrev pub demand_limits : ℕ → List (ℤ × ℤ)
 demand_limits nodes = (pos 1, pos nodes) ∷ (pos 0, MAX_DEMAND) ∷ []
 
--- the number is there, and is not this one
+-- there is a number, and it is not this one
 abbrev pub is_other : ℤ → Option ℤ → Bool
-is_other n number = is_that (λ z. not (int_eq z n)) number
+is_other n number = passes_test (λ z. not (int_eq z n)) number
 
--- the word is a number of value -1
+-- the word is a number with the value -1
 abbrev pub is_end : List ℕ → Bool
-is_end word = is_that (int_eq (neg_ℤ (pos 1))) (number_of word)
+is_end word = passes_test (int_eq (neg_ℤ (pos 1))) (number_of word)
 
--- some word but the last is
-abbrev pub goes_on_after_end : List (List ℕ) → Bool
-goes_on_after_end [] = false
-goes_on_after_end (w ∷ []) = false
-goes_on_after_end (w ∷ v ∷ words) = is_end w || goes_on_after_end (v ∷ words)
+-- some word except the last is a -1
+abbrev pub continues_after_end : List (List ℕ) → Bool
+continues_after_end [] = false
+continues_after_end (w ∷ []) = false
+continues_after_end (w ∷ v ∷ words) = is_end w || continues_after_end (v ∷ words)
 
--- What may be wrong with a line of the list of depots, after so many words of it: the list is 1, and then -1.
+-- the faults of a line of the list of depots after `seen` words of the list; the list is 1, then -1
 abbrev pub depot_fault : ℕ → List (List ℕ) → ReadFaultKind → Bool
-depot_fault seen words FieldCount = goes_on_after_end words
+depot_fault seen words FieldCount = continues_after_end words
 depot_fault seen words BadNumber = has_no_number words
 depot_fault zero words DepotNotFirst = is_other (pos 1) (field words 0) || is_other (neg_ℤ (pos 1)) (field words 1)
 depot_fault (suc seen) words DepotNotFirst = is_other (neg_ℤ (pos 1)) (field words 0)
 depot_fault seen words _ = false
 
--- what may be wrong with a line, after these lines
+-- the faults of a line in this section, after these lines
 abbrev pub place_fault : List Placed → Row → Section → ReadFaultKind → Bool
 place_fault before row Outside kind = key_fault (any_key Dimension before) (any_key (key_of row) before) (value_of row) (key_of row) kind
 place_fault before row (CoordinateLine n) kind = node_fault 3 (coordinate_limits (nodes_of before)) (has_node in_coordinates before) (words_of row.text) kind
@@ -180,22 +182,22 @@ place_fault before row (DemandLine n) kind = node_fault 2 (demand_limits (nodes_
 place_fault before row (DepotLine seen) kind = depot_fault seen (words_of row.text) kind
 place_fault before row AfterEnd kind = false
 
--- the text may not end here
+-- a text must not end in this section
 abbrev pub is_inside : Section → Bool
 is_inside Outside = false
 is_inside AfterEnd = false
 is_inside _ = true
 
--- a key or a section that each text has is missing
+-- a key or a section that each text must have is missing
 abbrev pub lacks_key : List Placed → Bool
 lacks_key ps =
     not (any_key Dimension ps && any_key Capacity ps && any_key WeightType ps && any_key Coordinates ps && any_key Demands ps && any_key Depots ps)
 
--- the line at which a text ends: that of EOF, or one after the last
+-- the line where a text ends: that of EOF, or the one after the last
 abbrev pub end_line : List ℕ → ℕ
 end_line text = option_map_or (λ (row : Row). row.line) (first_key End (placed_of text)) (length (lines_of text) + 1)
 
--- All faults of a text.
+-- all faults of a text
 abbrev pub VrpFault : List ℕ → Class → ℕ → ReadFaultKind → Type 0
 -- a line that is read has a fault
 VrpFault text OfLine line kind =
@@ -203,16 +205,16 @@ VrpFault text OfLine line kind =
     × (placed_of text ≡ before ++ p ∷ after) × (p.row.line ≡ line) × (place_fault before p.row p.place kind ≡ true)
 -- the text ends inside a section
 VrpFault text OfText line Truncated = (is_inside (end_place text) ≡ true) × (line ≡ length (lines_of text) + 1)
--- it ends outside the sections, and lacks a key or a section
+-- the text ends outside the sections, and lacks a key or a section
 VrpFault text OfText line MissingKey =
     (is_inside (end_place text) ≡ false) × (lacks_key (placed_of text) ≡ true) × (line ≡ end_line text)
 VrpFault text OfText line _ = ⊥
 
--- the number at this place of the line of a node
+-- the number at place k of a node's line
 abbrev pub node_value : (Section → Bool) → List Placed → ℕ → ℕ → ℤ
 node_value section ps node k = option_map_or (λ (p : Placed). value_at (words_of p.row.text) k) (find (is_node_line section (pos node)) ps) (pos 0)
 
--- node n+1 as stop n, with this demand: windows and services are not of this format
+-- node n+1 as stop n, with this demand; the format has no time windows and no service times
 abbrev pub node_stop : List Placed → ℤ → ℕ → Stop
 node_stop ps demand n = record {
   number = n;
@@ -224,7 +226,7 @@ node_stop ps demand n = record {
   service = 0;
 }
 
--- the problem of these lines: node 1 is the depot, each other a customer that gives its demand
+-- the problem of these lines: node 1 is the depot, each other node is a customer with its demand
 abbrev pub vrp_problem : List Placed → Instance
 vrp_problem ps =
     let nodes = nodes_of ps in
@@ -237,6 +239,6 @@ vrp_problem ps =
       next_number = nodes;
     }
 
--- a text spells a problem: it has no fault, and the problem is that of its lines
+-- a text spells a problem: the text has no fault, and the problem is that of its lines
 abbrev pub SpellsVrp : List ℕ → Instance → Type 0
-SpellsVrp text problem = HasNone (VrpFault text) × (problem ≡ vrp_problem (placed_of text))
+SpellsVrp text problem = HasNoFault (VrpFault text) × (problem ≡ vrp_problem (placed_of text))

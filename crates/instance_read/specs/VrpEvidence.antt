@@ -1,4 +1,4 @@
--- What a line of a `.vrp` text has of its fault.
+-- The details of a fault that a line of a `.vrp` text shows.
 use Rattle.std.specs.Prelude.{ℕ, ◌==◌, if◌then◌else◌, List, [], ◌∷◌, length, Option, Some, None, ℤ, pos, neg_ℤ, unwrap_or}
 use Rattle.std.specs.Int.RustNames.{unsigned_abs}
 use Rattle.std.specs.Option.{option_map}
@@ -6,7 +6,7 @@ use Rattle.text_lines.specs.Numbers.{first_number, within}
 use Rattle.text_lines.specs.Words.{words_of}
 use Rattle.plan_types.specs.declared.limits.TheConstants.{MAX_CAPACITY, MAX_COORDINATE, MAX_DEMAND}
 use Rattle.instance_read.specs.Rows.{Row, rows_of}
-use Rattle.instance_read.specs.Vrp.{key_number, most_nodes}
+use Rattle.instance_read.specs.Vrp.{key_number, max_nodes}
 use Rattle.instance_read.specs.VrpLines.{key_from, key_of, key_text, place_after, trimmed, value_text, value_words}
 use Rattle.instance_read.specs.WordEvidence.{numbers_evidence}
 use Rattle.instance_read.specs.declared.evidence.Evidence.{Evidence}
@@ -21,67 +21,69 @@ use Rattle.instance_read.specs.declared.vrp_lines.Key.TheVariants.{Dimension, Ca
 use Rattle.instance_read.specs.declared.vrp_lines.Section.{Section}
 use Rattle.instance_read.specs.declared.vrp_lines.Section.TheVariants.{Outside, CoordinateLine, DemandLine, DepotLine, AfterEnd}
 
--- how many nodes a line with this key announces, within their limits
+-- the number of nodes that a line with this key announces, within its limits
 abbrev pub announced_by : List (List ℕ) → Key → Option ℤ
-announced_by words Dimension = within (pos 2) (pos most_nodes) (first_number words)
+announced_by words Dimension = within (pos 2) (pos max_nodes) (first_number words)
 announced_by words _ = None
 
 abbrev pub announced : Row → Option ℤ
 announced row = announced_by (value_words row) (key_of row)
 
--- how many are announced after a line: the first DIMENSION outside the sections counts
+-- the number of nodes announced after a line; the first DIMENSION outside the sections counts
 abbrev pub announced_after : Option ℤ → Row → Section → Option ℤ
 announced_after (Some n) row place = Some n
 announced_after None row Outside = announced row
 announced_after None row _ = None
 
--- how many nodes are announced before the line with this number, its place, and the line, where the first of these stands at this place
+-- the number of nodes announced before the line with number n, the section of that line, and the line; the
+-- first of these lines is in this section
 abbrev pub line_from : ℕ → Option ℤ → Section → List Row → Option ℤ × Section × List ℕ
 line_from n nodes place [] = (nodes, place, [])
 line_from n nodes place (row ∷ rows) =
     if row.line == n then (nodes, place, row.text)
     else line_from n (announced_after nodes row place) (place_after (option_map unsigned_abs nodes) row place) rows
 
--- of a line of a section of nodes with these fields, which lacks so many lines
+-- the details of a fault in a line of a section of nodes with these fields; `left` is the number of lines that
+-- the section lacks
 abbrev pub node_evidence : ReadFaultKind → List Field → List (ℤ × ℤ) → Key → ℕ → List (List ℕ) → Evidence
 node_evidence FieldCount fields limits section left words = evidence.NodeCount (length fields) (length words) section left
-node_evidence Truncated fields limits section left words = evidence.Unfinished section left
+node_evidence Truncated fields limits section left words = evidence.UnfinishedSection section left
 node_evidence kind fields limits section left words = numbers_evidence kind fields limits words
 
 abbrev pub depot_evidence : ReadFaultKind → List (List ℕ) → Evidence
-depot_evidence FieldCount words = evidence.BehindEnd
-depot_evidence Truncated words = evidence.OpenDepots
+depot_evidence FieldCount words = evidence.WordsAfterEnd
+depot_evidence Truncated words = evidence.UnfinishedDepots
 depot_evidence kind words = numbers_evidence kind (Depot ∷ Depot ∷ []) [] words
 
--- the value has to be another one, or the key is not supported
+-- the details of an unsupported line: the value must be another one, or the key is not supported
 abbrev pub unsupported : List ℕ → List ℕ → Key → Evidence
 unsupported line value ProblemType = evidence.Value ProblemType value
 unsupported line value WeightType = evidence.Value WeightType value
 unsupported line value _ = evidence.Key (key_text line)
 
--- this key, unless a line before that of EOF has it
-abbrev pub unless_there : Key → List Row → Option Key
-unless_there key [] = Some key
-unless_there key (row ∷ rows) =
+-- this key, unless a line before EOF has it
+abbrev pub missing_key : Key → List Row → Option Key
+missing_key key [] = Some key
+missing_key key (row ∷ rows) =
     if key_number (key_of row) == key_number key then None
-    else if key_number (key_of row) == key_number End then Some key else unless_there key rows
+    else if key_number (key_of row) == key_number End then Some key else missing_key key rows
 
 -- what is missing at a line with this key: DIMENSION before a section, or the keys that no line has
 abbrev pub missing_evidence : List Row → Key → Evidence
-missing_evidence rows Coordinates = evidence.Unannounced
-missing_evidence rows Demands = evidence.Unannounced
+missing_evidence rows Coordinates = evidence.NoDimension
+missing_evidence rows Demands = evidence.NoDimension
 missing_evidence rows _ =
-    evidence.Missing (unless_there Dimension rows ∷ unless_there Capacity rows ∷ unless_there WeightType rows
-    ∷ unless_there Coordinates rows ∷ unless_there Demands rows ∷ unless_there Depots rows ∷ [])
+    evidence.MissingKeys (missing_key Dimension rows ∷ missing_key Capacity rows ∷ missing_key WeightType rows
+    ∷ missing_key Coordinates rows ∷ missing_key Demands rows ∷ missing_key Depots rows ∷ [])
 
--- of the value of a key, or of numbers that are in no section
+-- the details of a fault in the value of a key, or in numbers that are in no section
 abbrev pub value_evidence : ReadFaultKind → Option ℤ → List (List ℕ) → Key → Evidence
-value_evidence kind nodes words Dimension = numbers_evidence kind (Value Dimension ∷ []) ((pos 2, pos most_nodes) ∷ []) words
+value_evidence kind nodes words Dimension = numbers_evidence kind (Value Dimension ∷ []) ((pos 2, pos max_nodes) ∷ []) words
 value_evidence kind nodes words Capacity = numbers_evidence kind (Value Capacity ∷ []) ((pos 0, pos MAX_CAPACITY) ∷ []) words
 value_evidence kind nodes words StrayNumber = evidence.Stray (option_map unsigned_abs nodes)
 value_evidence kind nodes words _ = evidence.Nothing
 
--- of a line outside the sections with this key
+-- the details of a fault in a line outside the sections with this key
 abbrev pub keyed_evidence : List Row → Option ℤ → List ℕ → Key → ReadFaultKind → Evidence
 keyed_evidence rows nodes line key Unsupported = unsupported line (value_text line) key
 keyed_evidence rows nodes line key MissingKey = missing_evidence rows key
@@ -97,7 +99,7 @@ point_limits nodes = (pos 1, nodes) ∷ (neg_ℤ MAX_COORDINATE, MAX_COORDINATE)
 abbrev pub amount_limits : ℤ → List (ℤ × ℤ)
 amount_limits nodes = (pos 1, nodes) ∷ (pos 0, MAX_DEMAND) ∷ []
 
--- what a line at this place has of a fault, where so many nodes are announced
+-- the details of a fault in a line in this section; `nodes` is the number of nodes announced so far
 abbrev pub place_evidence : List Row → Option ℤ → List ℕ → ReadFaultKind → Section → Evidence
 place_evidence rows nodes line kind Outside = key_evidence rows nodes line kind
 place_evidence rows nodes line kind (CoordinateLine left) =

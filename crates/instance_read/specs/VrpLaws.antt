@@ -1,4 +1,4 @@
--- Where the lines of a `.vrp` text stand: what follows the first line of a section, and EOF.
+-- The sections of the lines of a `.vrp` text: the lines after the first line of a section, and after EOF.
 use Rattle.std.specs.Prelude.{◌≡◌, ◌≤◌, ℕ, zero, suc, Bool, false, List, [], ◌∷◌, ◌++◌, length, map, drop, codes, Option, Some, pos}
 use Rattle.std.specs.Str.{str_eq_ignore_ascii_case}
 use Rattle.text_lines.specs.Words.{words_of}
@@ -13,7 +13,7 @@ use Rattle.instance_read.specs.VrpLines.{Placed, key_of, key_text, nodes_after, 
 abbrev pub outside : Row → Placed
 outside row = record { row = row; place = Outside }
 
--- the first so many of these lines, as lines of a section of nodes
+-- the first `left` lines of these, as lines of a section of nodes
 abbrev pub section_lines : (ℕ → Section) → ℕ → List Row → List Placed
 section_lines line zero rows = []
 section_lines line (suc left) [] = []
@@ -34,8 +34,8 @@ after_end row = record { row = row; place = AfterEnd }
 abbrev pub rows_in : List Placed → List Row
 rows_in ps = map (λ p. p.row) ps
 
--- The lines behind the first line of a section of nodes are so many lines of it as the first DIMENSION line of the text
--- says, or as there are; then lines stand outside the sections again.
+-- after the first line of a section of nodes come as many lines of the section as the first DIMENSION line of
+-- the text says, or all lines if there are fewer; the lines after them are outside the sections again
 abbrev pub SectionsHaveALineForEachNode : Type 0
 SectionsHaveALineForEachNode = (text : List ℕ) (before after : List Placed) (row dimension : Row) (nodes : ℕ)
     → placed_of text ≡ before ++ outside row ∷ after
@@ -49,28 +49,28 @@ SectionsHaveALineForEachNode = (text : List ℕ) (before after : List Placed) (r
 abbrev pub is_keyed : List ℕ → Row → Bool
 is_keyed word row = str_eq_ignore_ascii_case (key_text row.text) word
 
--- the line's key begins no section, and does not end the text
+-- the line's key neither begins a section nor ends the text
 abbrev pub LeavesOutside : Row → Type 0
 LeavesOutside row =
     (is_keyed (codes "NODE_COORD_SECTION") row ≡ false) × (is_keyed (codes "DEMAND_SECTION") row ≡ false)
     × (is_keyed (codes "DEPOT_SECTION") row ≡ false) × (is_keyed (codes "EOF") row ≡ false)
 
--- Behind a line outside the sections with another key lines stand outside still.
+-- after a line outside the sections with any other key, the next line is outside the sections too
 abbrev pub OtherLinesStayOutside : Type 0
 OtherLinesStayOutside = (nodes : Option ℕ) (row : Row) (rows : List Row) → LeavesOutside row
     → placed_from nodes Outside (row ∷ rows) ≡ outside row ∷ placed_from (nodes_after nodes row Outside) Outside rows
 
--- A line outside the sections announces no nodes unless its key is DIMENSION.
-abbrev pub DimensionAloneAnnounces : Type 0
-DimensionAloneAnnounces = (nodes : Option ℕ) (row : Row) → is_keyed (codes "DIMENSION") row ≡ false → nodes_after nodes row Outside ≡ nodes
+-- a line outside the sections announces nodes only if its key is DIMENSION
+abbrev pub OnlyDimensionAnnounces : Type 0
+OnlyDimensionAnnounces = (nodes : Option ℕ) (row : Row) → is_keyed (codes "DIMENSION") row ≡ false → nodes_after nodes row Outside ≡ nodes
 
--- The list of depots is one line where that has two words or more, and two where the first has one.
+-- the list of depots is one line if that line has two or more words, and two lines if the first has one
 abbrev pub DepotsAreTwoWords : Type 0
 DepotsAreTwoWords = (nodes : Option ℕ) (row first second : Row) (rows : List Row) → key_of row ≡ Depots
     → (2 ≤ length (words_of first.text) → placed_from nodes Outside (row ∷ first ∷ rows) ≡ outside row ∷ depot_line 0 first ∷ placed_from nodes Outside rows)
     × (length (words_of first.text) ≡ 1 → 1 ≤ length (words_of second.text)
     → placed_from nodes Outside (row ∷ first ∷ second ∷ rows) ≡ outside row ∷ depot_line 0 first ∷ depot_line 1 second ∷ placed_from nodes Outside rows)
 
--- Nothing counts behind EOF.
+-- lines after EOF do not count
 abbrev pub EndIsTheEnd : Type 0
 EndIsTheEnd = (nodes : Option ℕ) (row : Row) (rows : List Row) → key_of row ≡ End → placed_from nodes Outside (row ∷ rows) ≡ outside row ∷ map after_end rows

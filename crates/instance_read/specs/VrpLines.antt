@@ -1,4 +1,4 @@
--- The lines of a `.vrp` text: their keys and values, and the sections that they stand in.
+-- The lines of a `.vrp` text: their keys and values, and the sections that they are in.
 use Rattle.std.specs.Prelude.{ℕ, ◌+◌, ◌-◌, Bool, ◌&&◌, ◌||◌, ◌==◌, nat_lt, nat_le, if◌then◌else◌, List, [], ◌∷◌, length, take, drop, codes, Option, Some, None, slice_index}
 use Rattle.std.specs.Char.{is_ascii_digit}
 use Rattle.std.specs.Int.RustNames.{unsigned_abs}
@@ -13,7 +13,7 @@ use Rattle.instance_read.specs.declared.vrp_lines.Key.TheVariants.{Dimension, Ca
 use Rattle.instance_read.specs.declared.vrp_lines.Section.{Section}
 use Rattle.instance_read.specs.declared.vrp_lines.Section.TheVariants.{Outside, CoordinateLine, DemandLine, DepotLine, AfterEnd}
 
--- without the blanks and tabs at both ends
+-- the line without the spaces and tabs at both ends
 abbrev pub trimmed : List ℕ → List ℕ
 trimmed line =
     let front = drop (prefix_len is_blank line) line in
@@ -22,15 +22,15 @@ trimmed line =
 abbrev pub is_colon : ℕ → Bool
 is_colon b = b == 58
 
--- what stands before the first colon, or all where there is none
+-- the part before the first colon, or the whole line if there is no colon
 abbrev pub key_text : List ℕ → List ℕ
 key_text line = trimmed (before_first is_colon line)
 
--- what stands after the first colon
+-- the part after the first colon
 abbrev pub value_text : List ℕ → List ℕ
 value_text line = trimmed (after_first is_colon line)
 
--- the last bytes are these, in any ASCII letter case
+-- the word ends with these bytes, in any ASCII letter case
 abbrev pub ends_in : List ℕ → List ℕ → Bool
 ends_in end word = nat_le (length end) (length word) && str_eq_ignore_ascii_case (drop (length word - length end) word) end
 
@@ -38,7 +38,7 @@ ends_in end word = nat_le (length end) (length word) && str_eq_ignore_ascii_case
 abbrev pub begins_as_number : List ℕ → Bool
 begins_as_number line = let b = slice_index line 0 in is_ascii_digit b || b == 43 || b == 45
 
--- key is what stands before the colon, and line the whole line
+-- the key of a line; `key` is the part before the colon, `line` the whole line
 abbrev pub key_from : List ℕ → List ℕ → Key
 key_from key line =
     if str_eq_ignore_ascii_case key (codes "DIMENSION") then Dimension else
@@ -63,12 +63,12 @@ value_of row = value_text row.text
 abbrev pub value_words : Row → List (List ℕ)
 value_words row = words_of (value_of row)
 
--- a line and its place
+-- a line and its section
 pub record Placed : Type 0 where
   pub row : Row
   pub place : Section
 
--- the place with so many lines of a section of nodes left: it is over with its last line
+-- the section if it has n lines of nodes left; after its last line, lines are outside the sections
 abbrev pub lines_left : (ℕ → Section) → ℕ → Section
 lines_left line n = if n == 0 then Outside else line n
 
@@ -78,16 +78,16 @@ coordinates_left n = lines_left (λ k. CoordinateLine k) n
 abbrev pub demands_left : ℕ → Section
 demands_left n = lines_left (λ k. DemandLine k) n
 
--- the list of depots is over with its second word
+-- the list of depots ends with its second word
 abbrev pub depots_after : ℕ → Section
 depots_after seen = if nat_lt seen 2 then DepotLine seen else Outside
 
--- a section of nodes begins where their number is announced
+-- a section of nodes begins if the number of nodes is announced
 abbrev pub if_announced : Option ℕ → (ℕ → Section) → Section
 if_announced None section = Outside
 if_announced (Some nodes) section = section nodes
 
--- the place after a line with this key, where so many nodes are announced, or none yet
+-- the section after a line with this key; `nodes` is the number of nodes announced, if any
 abbrev pub place_after_key : Option ℕ → Key → Section
 place_after_key nodes Coordinates = if_announced nodes coordinates_left
 place_after_key nodes Demands = if_announced nodes demands_left
@@ -95,7 +95,7 @@ place_after_key nodes Depots = DepotLine 0
 place_after_key nodes End = AfterEnd
 place_after_key nodes _ = Outside
 
--- the place after a line at this place
+-- the section after a line in this section
 abbrev pub place_after : Option ℕ → Row → Section → Section
 place_after nodes row Outside = place_after_key nodes (key_of row)
 place_after nodes row (CoordinateLine n) = coordinates_left (n - 1)
@@ -103,28 +103,28 @@ place_after nodes row (DemandLine n) = demands_left (n - 1)
 place_after nodes row (DepotLine seen) = depots_after (seen + length (words_of row.text))
 place_after nodes row AfterEnd = AfterEnd
 
--- how many nodes a line announces
+-- the number of nodes that a line announces
 abbrev pub nodes_in_key : Row → Key → Option ℕ
 nodes_in_key row Dimension = option_map unsigned_abs (field (value_words row) 0)
 nodes_in_key row _ = None
 
--- how many are announced after a line at this place: the first DIMENSION counts
+-- the number of nodes announced after a line in this section; the first DIMENSION counts
 abbrev pub nodes_after : Option ℕ → Row → Section → Option ℕ
 nodes_after (Some n) row place = Some n
 nodes_after None row Outside = nodes_in_key row (key_of row)
 nodes_after None row _ = None
 
--- the lines with their places, from this place on
+-- the lines with their sections; the first line is in this section
 unfoldable pub placed_from : Option ℕ → Section → List Row → List Placed
 placed_from nodes place [] = []
 placed_from nodes place (row ∷ rows) =
     record { row = row; place = place } ∷ placed_from (nodes_after nodes row place) (place_after nodes row place) rows
 
--- the lines of a text that are read, with their places
+-- the lines of a text that are read, with their sections
 abbrev pub placed_of : List ℕ → List Placed
 placed_of text = placed_from None Outside (rows_of text)
 
--- the place behind these lines
+-- the section after these lines
 abbrev pub end_from : Option ℕ → Section → List Row → Section
 end_from nodes place [] = place
 end_from nodes place (row ∷ rows) = end_from (nodes_after nodes row place) (place_after nodes row place) rows

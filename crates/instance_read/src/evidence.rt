@@ -1,4 +1,5 @@
-//! What the line of a fault has of it: field, word and limits, what is due, the key, the section, the other task.
+//! The details of a fault that its line shows: field, word and limits, the number of words, the key, the
+//! section, or the other task.
 ghost use Rattle.std.specs.Prelude.{◌≡◌};
 ghost use Rattle.instance_read.specs.Evidence.{evidence_of};
 
@@ -10,7 +11,7 @@ use crate::vrp_lines::Key;
 use plan_types::Kind;
 use std::marker::Model;
 
-/// Bytes of a text: a word of a line, its key, or the value behind that.
+/// Bytes of a text: a word of a line, its key, or the value after the key.
 #[derive(Drop)]
 pub struct Excerpt<'a> {
     bytes: &'a [u8],
@@ -25,14 +26,14 @@ impl<'a> Model for Excerpt<'a> {
 }
 
 impl<'a> Excerpt<'a> {
-    /// These bytes.
+    /// Wraps these bytes.
     pub(crate) fn new(bytes: &'a [u8]) -> Excerpt<'a>
         ensures { result ≡ bytes.now }
     {
         Excerpt { bytes }
     }
 
-    /// The bytes.
+    /// Returns the bytes.
     pub fn bytes(&self) -> &'a [u8]
         ensures { result.now ≡ self.now }
     {
@@ -40,7 +41,7 @@ impl<'a> Excerpt<'a> {
     }
 }
 
-/// What a number of a line is.
+/// The meaning of a number in a line.
 #[derive(Clone, Copy)]
 pub enum Field {
     Fleet,
@@ -59,41 +60,42 @@ pub enum Field {
     Depot,
     /// The value of a key.
     Value(Key),
-    /// A word beyond those that are due.
-    Surplus,
+    /// A word after those that the line should have.
+    ExtraWord,
 }
 
-/// What the line of a fault has of it. Words are as they stand in the text.
+/// The details of a fault that its line shows. Words are exactly as in the text.
 #[derive(Drop)]
 pub enum Evidence<'a> {
-    /// Nothing beside the line itself.
+    /// No details besides the line itself.
     Nothing,
-    /// How many words are due, and how many found.
+    /// The number of words that the line should have, and the number that it has.
     Count {
         due: usize,
         found: usize,
     },
-    /// The same of a line of a section of nodes, which lacks so many lines, with this one.
+    /// Like `Count`, for a line of a section of nodes. `lacks` is the number of lines that the section still
+    /// lacks, including this one.
     NodeCount {
         due: usize,
         found: usize,
         section: Key,
         lacks: u32,
     },
-    /// The first word of the line that is at fault: its field, the word, the limits of the field.
+    /// The first word of the line that is at fault: its field, the word, and the limits of the field.
     Word {
         field: Field,
         word: Excerpt<'a>,
         limits: Option<Limits>,
     },
-    /// The number of the first task.
+    /// The number of the first task, which is not 0.
     FirstTask(Excerpt<'a>),
-    /// The number of a task, and that of the task before.
-    TaskBehind {
+    /// The number of a task, and that of the task before it.
+    TaskOutOfOrder {
         task: Excerpt<'a>,
         before: Excerpt<'a>,
     },
-    /// When a window begins, and when it ends.
+    /// The beginning and the end of an empty time window.
     Window {
         earliest: Excerpt<'a>,
         latest: Excerpt<'a>,
@@ -101,9 +103,10 @@ pub enum Evidence<'a> {
     /// A task names neither a pickup nor a delivery, or both.
     NamesNone,
     NamesBoth,
-    /// No task has the number that a task has as its pickup or its delivery.
-    Absent(Field, u16),
-    /// The task that this field names stands on this line, and has another task in the field that names back.
+    /// A task names a pickup or a delivery, but no task has that number.
+    NoSuchTask(Field, u16),
+    /// A task names another task in `field`, but that task, on line `line`, names the task `named` in its field
+    /// `back`.
     NamesOther {
         field: Field,
         task: u16,
@@ -111,7 +114,8 @@ pub enum Evidence<'a> {
         named: u16,
         back: Field,
     },
-    /// Both name each other: the demand of the one that is named, its own, and whether the pickup's is below 0.
+    /// Both tasks name each other, but their demands do not match: the demand of the named task, the task's own
+    /// demand, and whether the pickup's demand is negative.
     Demands {
         field: Field,
         task: u16,
@@ -123,24 +127,27 @@ pub enum Evidence<'a> {
     /// The first line, or task 0, is missing.
     NoHeader,
     NoDepot,
-    /// Words stand behind -1, which ends the list of depots.
-    BehindEnd,
-    /// The numbers stand in no section; each has so many lines, where they are announced.
+    /// There are words after -1, which ends the list of depots.
+    WordsAfterEnd,
+    /// A line of numbers is not in a section. The value is the number of lines of a section of nodes, if it is
+    /// announced.
     Stray(Option<u32>),
     /// A section of nodes begins before DIMENSION.
-    Unannounced,
-    /// The keys that no line has, of DIMENSION, CAPACITY, EDGE_WEIGHT_TYPE and those of coordinates, demands and depots.
-    Missing([Option<Key>; 6]),
-    /// A key that is not supported, or stands twice.
+    NoDimension,
+    /// The keys that no line has, out of DIMENSION, CAPACITY, EDGE_WEIGHT_TYPE and the sections of coordinates,
+    /// demands and depots.
+    MissingKeys([Option<Key>; 6]),
+    /// A key that is not supported, or that occurs twice.
     Key(Excerpt<'a>),
-    /// A key that has to have another value than this one.
+    /// A key that must have another value than this one.
     Value(Key, Excerpt<'a>),
-    /// The text ends within a section, which lacks so many lines, or the end of the list of depots.
-    Unfinished(Key, u32),
-    OpenDepots,
+    /// The text ends within a section, which lacks this number of lines, or before the end of the list of
+    /// depots.
+    UnfinishedSection(Key, u32),
+    UnfinishedDepots,
 }
 
-/// What the line of the first fault of an instance's text has of it.
+/// Returns the details of the first fault of an instance text.
 pub fn evidence_of<'a>(kind: Kind, text: &'a [u8], fault: ReadFault) -> Evidence<'a>
     ensures is { result ≡ evidence_of kind text.now fault }
 {

@@ -1,10 +1,10 @@
-//! Why a text is refused: the kind of a fault, and its line.
+//! The reasons why a text is refused: the kind of a fault, and its line.
 ghost use Rattle.std.specs.Prelude.{◌≡◌, codes};
 
 use std::alloc::{AllocError, AllocFailed};
 use thiserror::Error;
 
-/// What is wrong with a text.
+/// The kind of a fault of a text.
 #[derive(Clone, Copy, Debug, PartialEq, Eq, Error)]
 pub enum ReadFaultKind {
     #[error("a word is not a number")]
@@ -35,21 +35,22 @@ pub enum ReadFaultKind {
     OutOfMemory,
 }
 
-/// Why a text is refused.
+/// The reason why a text is refused.
 #[derive(Clone, Copy, Debug, PartialEq, Eq, Error)]
 #[error("line {line}: {kind}")]
 pub struct ReadFault {
-    /// The line, from 1; one above the number of lines for what is missing at the end, and 0 for `OutOfMemory`.
+    /// The line, from 1. It is one above the number of lines if something is missing at the end, and 0 for
+    /// `OutOfMemory`.
     pub line: u64,
     pub kind: ReadFaultKind,
 }
 
 impl ReadFault {
-    ghost use Rattle.instance_read.specs.Faults.{no_memory};
+    ghost use Rattle.instance_read.specs.Faults.{out_of_memory};
     ghost use Rattle.instance_read.specs.Names.{kind_name};
     ghost use Rattle.instance_read.specs.declared.faults.ReadFaultKind.TheVariants.{OutOfMemory};
 
-    /// The name of its kind, as answers print it.
+    /// Returns the name of the fault's kind, as answers print it.
     pub fn name(&self) -> &'static str
         ensures { result.now ≡ kind_name self.now.kind }
     {
@@ -70,9 +71,9 @@ impl ReadFault {
         }
     }
 
-    /// A fault that was met in a line. Want of memory has no line.
+    /// Returns a fault in this line. `OutOfMemory` has no line.
     pub(crate) fn of_line(line: u64, kind: ReadFaultKind) -> ReadFault
-        ensures memory { kind ≡ OutOfMemory → result ≡ no_memory }
+        ensures memory { kind ≡ OutOfMemory → result ≡ out_of_memory }
         ensures other { ¬ (kind ≡ OutOfMemory) → result ≡ record { line = line; kind = kind } }
     {
         match kind {
@@ -84,9 +85,9 @@ impl ReadFault {
 
 impl From<AllocError> for ReadFault {
     ghost use Rattle.std.specs.Prelude.{◌≡◌};
-    ghost use Rattle.instance_read.specs.Faults.{no_memory};
+    ghost use Rattle.instance_read.specs.Faults.{out_of_memory};
 
-    ghost from_gives = { λ _ fault. fault ≡ no_memory };
+    ghost from_gives = { λ _ fault. fault ≡ out_of_memory };
 
     fn from(_: AllocError) -> ReadFault {
         ReadFault {
@@ -98,9 +99,9 @@ impl From<AllocError> for ReadFault {
 
 impl<T: Drop> From<AllocFailed<T>> for ReadFault {
     ghost use Rattle.std.specs.Prelude.{◌≡◌};
-    ghost use Rattle.instance_read.specs.Faults.{no_memory};
+    ghost use Rattle.instance_read.specs.Faults.{out_of_memory};
 
-    ghost from_gives = { λ _ fault. fault ≡ no_memory };
+    ghost from_gives = { λ _ fault. fault ≡ out_of_memory };
 
     fn from(_: AllocFailed<T>) -> ReadFault {
         ReadFault {

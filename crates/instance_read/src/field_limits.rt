@@ -1,12 +1,12 @@
-//! The limits of the numbers that a line has, field by field, both inclusive.
+//! The limits of the numbers in a line, field by field, both inclusive.
 //!
-//! Sources: which fields there are is said by Li and Lim's benchmark instances and by TSPLIB95; what they may hold,
-//! by `plan_types::limits`.
+//! Sources: Li and Lim's benchmark instances and TSPLIB95 define the fields; `plan_types::limits` defines their
+//! limits.
 use plan_types::limits::{
     MAX_CAPACITY, MAX_COORDINATE, MAX_DEMAND, MAX_FLEET, MAX_SERVICE, MAX_STOP_NUMBER, MAX_TIME,
 };
 
-/// The least and the greatest value of a field.
+/// The smallest and the greatest value of a field.
 pub type Limits = (i32, i32);
 
 const STOP_NUMBER: Limits = (0, MAX_STOP_NUMBER as i32);
@@ -16,10 +16,10 @@ const TIME: Limits = (0, MAX_TIME as i32);
 /// A coordinate, in either format.
 pub const COORDINATE: Limits = (-MAX_COORDINATE, MAX_COORDINATE);
 
-/// Fleet and capacity of a Li-Lim text's first line; the speed that follows them may be any number.
+/// The fleet and the capacity in the first line of a Li-Lim text. The speed after them may be any number.
 pub const HEADER: [Limits; 2] = [(1, MAX_FLEET as i32), CAPACITY];
 
-/// A Li-Lim task: number, x, y, demand, earliest, latest, service, pickup, delivery.
+/// The fields of a Li-Lim task: number, x, y, demand, earliest, latest, service, pickup, delivery.
 pub const TASK: [Limits; 9] = [
     STOP_NUMBER,
     COORDINATE,
@@ -32,14 +32,14 @@ pub const TASK: [Limits; 9] = [
     STOP_NUMBER,
 ];
 
-/// How many nodes a `.vrp` text may have: the depot is one too.
+/// The greatest number of nodes of a `.vrp` text. The depot is a node too.
 pub const MAX_NODES: u32 = MAX_STOP_NUMBER + 1;
 
-/// The value of a `.vrp` text's DIMENSION.
+/// The value of DIMENSION in a `.vrp` text.
 pub const DIMENSION: Limits = (2, MAX_NODES as i32);
 
 /// The capacity of a vehicle, in either format.
 pub const CAPACITY: Limits = (0, MAX_CAPACITY as i32);
 
-/// The demand of a `.vrp` text's node.
+/// The demand of a node in a `.vrp` text.
 pub const NODE_DEMAND: Limits = (0, MAX_DEMAND);

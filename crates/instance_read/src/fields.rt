@@ -1,25 +1,25 @@
 //! The numbers of a line, within their limits.
 //!
-//! A number of a text is an integer of any size until a field's limit is asked, so one of a hundred digits is told as
-//! out of range, not as no number.
+//! A number may have any size until the limits of its field are checked. So a number of a hundred digits is
+//! reported as out of range, not as a word that is not a number.
 ghost use Rattle.std.specs.Prelude.{◌≡◌, ◌<◌, ℕ, drop, MatchOption, MatchResult, OnSome};
 ghost use Rattle.text_lines.specs.Words.{words_of};
 ghost use Rattle.instance_read.specs.Fields.{field, has_no_number};
-ghost use Rattle.instance_read.specs.FieldValues.{HasNumbers, HasNoNumbers, HasValue, HasNoValue, IsValue, IsNoValue, kind_beyond, numbers_fault, numbers_kind};
-ghost use Rattle.instance_read.specs.Walk.{IsFirstKind};
+ghost use Rattle.instance_read.specs.FieldValues.{HasNumbers, HasNoNumbers, HasValue, HasNoValue, IsValue, IsNoValue, range_kind, numbers_fault, numbers_kind};
+ghost use Rattle.instance_read.specs.TaskFaults.{IsFirstKind};
 
 use crate::ReadFaultKind;
 use crate::field_limits::Limits;
 use text_lines::{Number, Words, word_count};
 
-/// Whether some word of a line is no number.
+/// Returns whether some word of a line is not a number.
 pub fn has_no_number(line: &[u8]) -> bool
     ensures { result ≡ has_no_number (words_of line.now) }
 {
     Words::new(line).any(|word| Number::parse(word).is_none())
 }
 
-/// The numbers of a line of N words, each within its limits.
+/// Reads the numbers of a line of N words, each within its limits.
 pub fn read_numbers<const N: usize>(
     line: &[u8],
     limits: &[Limits; N],
@@ -34,7 +34,7 @@ pub fn read_numbers<const N: usize>(
     }
 }
 
-// What is wrong with a line that has not so many numbers within their limits.
+// Returns the fault of a line that does not have `count` numbers within their limits.
 fn numbers_kind(line: &[u8], count: usize) -> ReadFaultKind
     ensures { result ≡ numbers_kind count (words_of line.now) }
 {
@@ -47,7 +47,8 @@ fn numbers_kind(line: &[u8], count: usize) -> ReadFaultKind
     ReadFaultKind::Range
 }
 
-// The numbers of a line of N words, if each is within its limits: a good line is cut into words once.
+// Returns the numbers of a line of N words if each is within its limits. A line without a fault is split into
+// words only once.
 fn values<const N: usize>(line: &[u8], limits: &[Limits; N]) -> Option<[i32; N]>
     ensures { let words = words_of line.now in
         MatchOption result (HasNoNumbers N limits.now words) (HasNumbers N limits.now words) }
@@ -60,7 +61,7 @@ fn values<const N: usize>(line: &[u8], limits: &[Limits; N]) -> Option<[i32; N]>
     }
 }
 
-/// The numbers that the next N words are, if each is there and within its limits.
+/// Returns the next N words as numbers, if there are N words and each is a number within its limits.
 pub fn next_values<const N: usize>(words: &mut Words<'_>, limits: &[Limits; N]) -> Option<[i32; N]>
     ensures rest { OnSome result (words.new ≡ drop N words.old) }
     ensures values { MatchOption result ((k : ℕ) × (k < N) × HasNoValue limits.now words.old k)
@@ -73,7 +74,7 @@ pub fn next_values<const N: usize>(words: &mut Words<'_>, limits: &[Limits; N]) 
     Some(values)
 }
 
-// The number that the next word is, if it is within these limits.
+// Returns the next word as a number, if it is one and within these limits.
 #[inline(always)]
 fn next_value(words: &mut Words<'_>, limits: Limits) -> Option<i32>
     ensures rest { words.new ≡ drop 1 words.old }
@@ -83,9 +84,10 @@ fn next_value(words: &mut Words<'_>, limits: Limits) -> Option<i32>
     words.next_number(limits.0, limits.1)
 }
 
-/// What is wrong with a first number beyond its limits: above the most stops it is one too many, else it is out of range.
-pub fn beyond_limits(line: &[u8], most: u32) -> ReadFaultKind
-    ensures { result ≡ kind_beyond most (words_of line.now) }
+/// Returns the fault of a line whose first number is beyond its limits: `TooManyStops` if the number is greater
+/// than `most`, otherwise `Range`.
+pub fn range_kind(line: &[u8], most: u32) -> ReadFaultKind
+    ensures { result ≡ range_kind most (words_of line.now) }
 {
     let Some(first) = Words::new(line).next() else {
         return ReadFaultKind::Range;

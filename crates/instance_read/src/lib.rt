@@ -1,48 +1,45 @@
-//! Instance texts: Li and Lim's pickup and delivery instances, and the `.vrp` files of CVRPLIB.
+//! Reads instance files: Li and Lim's pickup and delivery instances, and the `.vrp` files of CVRPLIB.
 //!
-//! Entry functions: `read_lilim`, `read_vrp`, and `read_instance` for either. Each gives the `Problem` that a text spells, or the first
-//! of its faults. Called by `command_text` (the line `load`), `plan_solve` and `auditor_cli`.
-//! `evidence_of` gives what the line of a fault has of it, as the field and its limits, for `plan_explain`, which tells it in words;
-//! `split_key` gives key and value of a line.
+//! The entry points are `read_lilim`, `read_vrp`, and `read_instance` for either format. Each returns the
+//! `Problem` that a text spells, or the first fault of the text. A text spells a problem if it has no fault and
+//! its lines describe that problem. `evidence_of` returns the details of a fault that its line shows, such as
+//! the field and its limits; `plan_explain` puts them into words. `split_key` splits a line of a `.vrp` file
+//! into key and value.
 //!
-//! Sources: Li and Lim's benchmark instances of PDPTW; TSPLIB95's keys and sections, as CVRPLIB's instances use them
-//! (TYPE CVRP, EDGE_WEIGHT_TYPE EUC_2D). Faults, their order and the limits (`plan_types::limits`) are this project's.
+//! Sources: Li and Lim's benchmark instances for PDPTW; the keys and sections of TSPLIB95, as CVRPLIB's
+//! instances use them (TYPE CVRP, EDGE_WEIGHT_TYPE EUC_2D). The faults, their order and the limits
+//! (`plan_types::limits`) are this project's own.
 //!
-//! How it works: lines are read once, from the first, and reading ends at the first line with a fault. What is asked of
-//! the whole text (that tasks pair up, that no key is missing) is asked once every line is read.
+//! Each line is read once, in order, and reading ends at the first line with a fault. Checks of the whole text
+//! (that tasks form pairs, that no key is missing) follow after the last line.
 //!
-//! Faults are told by (class, line, kind): those of one line come before those of the whole text, so that a number that
-//! can't be read in the last line comes before a pair that doesn't match in the first.
+//! Faults are ordered by class, line and kind, and the first one is reported. Faults of single lines come
+//! before faults of the whole text, so a number that can't be read in the last line comes before a pair that
+//! does not match in the first line.
 //!
 //! Modules, in reading order:
-//! - `faults`: why a text is refused
+//! - `faults`: the reasons why a text is refused
 //! - `rows`: the lines that are read, with their numbers
-//! - `field_limits`: the limits of the numbers of a line
+//! - `field_limits`: the limits of the numbers in a line
 //! - `fields`: the numbers of a line, within limits
-//! - `tasks`: header and tasks of a Li-Lim text
-//! - `entries`, `pairs`: tables by number, and the pairs that tasks make
-//! - `put`: a request put into a problem
+//! - `tasks`: the header and the tasks of a Li-Lim text
+//! - `entries`, `pairs`: tables by number, and the pairs that tasks form
+//! - `put`: adding a request to a problem
 //! - `lilim`: the reader of Li-Lim texts
-//! - `vrp_lines`: keys and sections of a `.vrp` text
+//! - `vrp_lines`: the keys and sections of a `.vrp` text
 //! - `vrp_fields`: the values of keys, and the lines of sections
-//! - `vrp_draft`: what the lines so far have said
-//! - `vrp_problem`: the problem that they spell
+//! - `vrp_draft`: the data from the lines read so far
+//! - `vrp_problem`: the problem that the lines spell
 //! - `vrp`: the reader of `.vrp` texts
-//! - `instance`: that of a text of either format
-//! - `number_evidence`, `lilim_evidence`, `vrp_evidence`, `evidence`: what the line of a fault has of it
-//! - `laws`: what lines of a `.vrp` text are, in other words, that each text is read, and what evidence shows
+//! - `instance`: the reader of either format
+//! - `number_evidence`, `lilim_evidence`, `vrp_evidence`, `evidence`: the details of a fault that its line
+//!   shows
+//! - `laws`: what the lines of a `.vrp` text are, that every text is read, and what evidence shows
 //!
-//! Said by `specs/Lilim.antt`, `Pairs.antt`, `Vrp.antt`, `VrpLines.antt` and `Faults.antt`, for both formats by `Readings.antt`. Proved:
-//! - `read_lilim`, `read_vrp`, `read_instance`: `value`, the problem is the one that the text spells (`SpellsLilim`, `SpellsVrp`);
-//!   `fault`, else the least fault by class, line and kind, or want of memory (`TellsFirstFault`)
-//! - `evidence_of`: the evidence of a fault is that of `Evidence.antt`
-//! - `evidence_shows_the_word`: of a word that is no number, or a number beyond its limits, it is the first of the fault's line
-//! - `sections_have_a_line_for_each_node`: a section of nodes has as many lines as the first DIMENSION line says
-//! - `depots_are_two_words`: the list of depots is over with its second word
-//! - `eof_is_the_end`: nothing counts behind EOF
-//! - `other_lines_stay_outside`: a line of any other key leaves its place outside the sections
-//! - `key_lines_are_made`: key and value are the parts around the first colon
-//! - `each_text_is_read`: each text spells one problem or has one first fault, in either format
+//! Proved: each reader returns exactly the problem that the text spells, or else the first fault by class, line
+//! and kind, unless memory runs out. Every text spells one problem or has one first fault, in either format.
+//! The laws state the format of `.vrp` lines and sections in other words, and that the evidence for a bad
+//! number is the first such word of the line.
 #![tactic(auto)]
 
 mod entries;
@@ -72,8 +69,8 @@ pub use field_limits::Limits;
 pub use fields::has_no_number;
 pub use instance::read_instance;
 pub use laws::{
-    depots_are_two_words, each_text_is_read, eof_is_the_end, evidence_shows_the_word,
-    key_lines_are_made, other_lines_stay_outside, sections_have_a_line_for_each_node,
+    depots_are_two_words, eof_is_the_end, every_text_has_one_reading, evidence_shows_the_word,
+    key_lines_follow_grammar, other_lines_stay_outside, sections_have_a_line_for_each_node,
 };
 pub use lilim::read_lilim;
 pub use vrp::read_vrp;

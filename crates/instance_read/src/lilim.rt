@@ -1,10 +1,10 @@
 //! The reader of Li and Lim's pickup and delivery instances.
 ghost use Rattle.std.specs.Prelude.{◌≡◌, ◌+◌, IfOk, IfErr, MatchResult, None, length, map};
 ghost use Rattle.text_lines.specs.Lines.{lines_of};
-ghost use Rattle.instance_read.specs.Faults.{TellsFirstFault};
+ghost use Rattle.instance_read.specs.Faults.{ReportsFirstFault};
 ghost use Rattle.instance_read.specs.Lilim.{LilimFault, SpellsLilim};
 ghost use Rattle.instance_read.specs.Pairs.{task_of};
-ghost use Rattle.instance_read.specs.Walk.{HasNoTaskFault, LinesAbove, TellsTaskFault};
+ghost use Rattle.instance_read.specs.TaskFaults.{HasNoTaskFault, LinesAbove, ReportsTaskFault};
 
 use crate::pairs::pair_up;
 use crate::rows::NumberedLines;
@@ -16,17 +16,18 @@ use text_lines::Lines;
 
 /// Reads a pickup and delivery instance with time windows in Li and Lim's format.
 ///
-/// The first line has the number of vehicles, their capacity and a speed that is not used. Each further
-/// line is a task: `number x y demand earliest latest service pickup delivery`. Task 0, the depot, comes
-/// first. Blank lines are skipped.
+/// The first line has the number of vehicles, their capacity and a speed that is not used. Each other line is a
+/// task: `number x y demand earliest latest service pickup delivery`. Task 0, the depot, comes first. Blank
+/// lines are skipped.
 ///
 /// # Errors
 ///
-/// The first fault of the text: those of single lines before those of the text as a whole, and on one
-/// line `FieldCount`, `BadNumber`, `TooManyStops`, `Range`, `TaskOrder`, `EmptyWindow`.
+/// Returns the first fault of the text, or `OutOfMemory`. Faults of single lines come before those of the whole
+/// text. For one line, the order is `FieldCount`, `BadNumber`, `TooManyStops`, `Range`, `TaskOrder`,
+/// `EmptyWindow`.
 pub fn read_lilim(alloc: Global, text: &[u8]) -> Result<Problem, ReadFault>
     ensures value { IfOk result (SpellsLilim text.now) }
-    ensures fault { IfErr result (TellsFirstFault (LilimFault text.now)) }
+    ensures fault { IfErr result (ReportsFirstFault (LilimFault text.now)) }
 {
     let mut lines = NumberedLines::new(text);
     let Some(first) = lines.next() else {
@@ -48,12 +49,12 @@ pub fn read_lilim(alloc: Global, text: &[u8]) -> Result<Problem, ReadFault>
     }
 }
 
-// The tasks of the lines after the first.
+// Reads the tasks from the lines after the first.
 fn read_tasks(alloc: Global, lines: NumberedLines<'_>) -> Result<Vec<Task>, ReadFault>
     requires { LinesAbove 0 lines }
     ensures ok { IfOk result (λ tasks. HasNoTaskFault None lines.entry
         × (tasks.items ≡ map task_of lines.entry)) }
-    ensures err { IfErr result (TellsTaskFault None lines.entry) }
+    ensures err { IfErr result (ReportsTaskFault None lines.entry) }
 {
     let mut tasks: Vec<Task> = Vec::new(alloc);
     for line in lines {
@@ -71,7 +72,7 @@ fn read_tasks(alloc: Global, lines: NumberedLines<'_>) -> Result<Vec<Task>, Read
     Ok(tasks)
 }
 
-// What is missing is told one line after the last.
+// Returns the fault of a text that is cut off. Its line is the one after the last.
 fn truncated(text: &[u8]) -> ReadFault
     ensures { result ≡ record {
       line = length (lines_of text.now) + 1;

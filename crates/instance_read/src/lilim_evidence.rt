@@ -1,8 +1,8 @@
-//! What a line of a Li-Lim text has of its fault.
+//! The details of a fault that a line of a Li-Lim text shows.
 ghost use Rattle.std.specs.Prelude.{◌≡◌, [], find};
 ghost use Rattle.std.specs.Option.{option_map};
 ghost use Rattle.text_lines.specs.Words.{words_of};
-ghost use Rattle.instance_read.specs.LilimEvidence.{is_negative, is_task_line, lilim_evidence, missing_line, named_back, order_evidence, pair_evidence, partner_evidence, row_evidence, spot_from};
+ghost use Rattle.instance_read.specs.LilimEvidence.{is_negative, is_task_line, lilim_evidence, missing_line, back_reference, order_evidence, pair_evidence, partner_evidence, row_evidence, line_and_previous};
 ghost use Rattle.instance_read.specs.RowViews.{row_view};
 ghost use Rattle.instance_read.specs.Rows.{rows_of};
 
@@ -28,11 +28,11 @@ const TASK_FIELDS: [Field; 9] = [
     Field::Delivery,
 ];
 
-/// What the line of a fault has of it.
+/// Returns the details of a fault that its line shows.
 pub fn lilim_evidence<'a>(text: &'a [u8], fault: ReadFault) -> Evidence<'a>
     ensures { result ≡ lilim_evidence text.now fault }
 {
-    let (before, line) = spot_of(text, fault.line);
+    let (before, line) = line_and_previous(text, fault.line);
     let line = line.bytes();
     match fault.kind {
         ReadFaultKind::TaskOrder => order_evidence(before.bytes(), line),
@@ -46,9 +46,10 @@ pub fn lilim_evidence<'a>(text: &'a [u8], fault: ReadFault) -> Evidence<'a>
     }
 }
 
-// The line with this number, and before it the one that is read before; empty where there is none.
-fn spot_of<'a>(text: &'a [u8], number: u64) -> (Excerpt<'a>, Excerpt<'a>)
-    ensures { result ≡ spot_from number [] (rows_of text.now) }
+// Returns the line that is read just before the line with this number, and the line with this number. A line
+// that does not exist is empty here.
+fn line_and_previous<'a>(text: &'a [u8], number: u64) -> (Excerpt<'a>, Excerpt<'a>)
+    ensures { result ≡ line_and_previous number [] (rows_of text.now) }
 {
     let mut before: &[u8] = &[];
     for line in NumberedLines::new(text) {
@@ -60,7 +61,7 @@ fn spot_of<'a>(text: &'a [u8], number: u64) -> (Excerpt<'a>, Excerpt<'a>)
     (Excerpt::new(before), Excerpt::new(&[]))
 }
 
-// The numbers of the first line, or of a task.
+// Returns the details of a bad number in the first line, or in a task.
 fn row_evidence<'a>(kind: ReadFaultKind, before: &[u8], line: &'a [u8]) -> Evidence<'a>
     ensures { result ≡ row_evidence kind (words_of line.now) before.now }
 {
@@ -70,12 +71,12 @@ fn row_evidence<'a>(kind: ReadFaultKind, before: &[u8], line: &'a [u8]) -> Evide
     }
 }
 
-// The number of a task, and that of the task before, if there is one.
+// Returns the number of a task, and that of the task before it, if there is one.
 fn order_evidence<'a>(before: &'a [u8], line: &'a [u8]) -> Evidence<'a>
     ensures { result ≡ order_evidence (words_of before.now) (words_of line.now) }
 {
     if word_count(before) == TASK_FIELDS.len() {
-        Evidence::TaskBehind {
+        Evidence::TaskOutOfOrder {
             task: word_at(line, 0),
             before: word_at(before, 0),
         }
@@ -93,7 +94,7 @@ fn missing_line<'a>(before: &[u8]) -> Evidence<'a>
     }
 }
 
-// Why the task of a line is no half of a pair.
+// Returns why the task of a line is not half of a pair.
 fn pair_evidence<'a>(text: &'a [u8], line: &'a [u8]) -> Evidence<'a>
     ensures { result ≡ pair_evidence (rows_of text.now) (words_of line.now) }
 {
@@ -107,15 +108,15 @@ fn pair_evidence<'a>(text: &'a [u8], line: &'a [u8]) -> Evidence<'a>
     }
 }
 
-// What is wrong with the task that this field names.
+// Returns what is wrong with the task that this field names.
 fn partner_evidence<'a>(text: &'a [u8], line: &'a [u8], field: Field, number: u16) -> Evidence<'a>
     ensures { result ≡ partner_evidence (words_of line.now) field number
         (find (is_task_line number) (rows_of text.now)) }
 {
     let Some(other) = task_line(text, number) else {
-        return Evidence::Absent(field, number);
+        return Evidence::NoSuchTask(field, number);
     };
-    let (back, named) = named_back(field, other.text);
+    let (back, named) = back_reference(field, other.text);
     if named != stop_at(line, 0) {
         return Evidence::NamesOther {
             field,
@@ -138,7 +139,7 @@ fn partner_evidence<'a>(text: &'a [u8], line: &'a [u8], field: Field, number: u1
     }
 }
 
-// The line of the task with this number.
+// Returns the line of the task with this number.
 fn task_line<'a>(text: &'a [u8], number: u16) -> Option<NumberedLine<'a>>
     ensures { option_map row_view result ≡ find (is_task_line number) (rows_of text.now) }
 {
@@ -156,9 +157,9 @@ fn is_task_line(number: u16, line: &NumberedLine<'_>) -> bool
     word_count(line.text) == TASK_FIELDS.len() && stop_at(line.text, 0) == number
 }
 
-// The other field, and the task that a line has in it.
-fn named_back(field: Field, line: &[u8]) -> (Field, u16)
-    ensures { result ≡ named_back (words_of line.now) field }
+// Returns the opposite field, and the task that a line names in it.
+fn back_reference(field: Field, line: &[u8]) -> (Field, u16)
+    ensures { result ≡ back_reference (words_of line.now) field }
 {
     match field {
         Field::Pickup => (Field::Delivery, stop_at(line, 8)),
@@ -166,7 +167,7 @@ fn named_back(field: Field, line: &[u8]) -> (Field, u16)
     }
 }
 
-// Whether a task that names this field is a pickup whose demand is below 0.
+// Returns whether the task that names its partner in this field is a pickup with a negative demand.
 fn is_negative(field: Field, demand: &[u8]) -> bool
     ensures { result ≡ is_negative demand.now field }
 {

@@ -3,7 +3,7 @@ ghost use Rattle.std.specs.Prelude.{◌≡◌, slice_get, slice_index_or};
 ghost use Rattle.std.specs.Option.{option_copied};
 ghost use Rattle.text_lines.specs.Numbers.{number_of};
 ghost use Rattle.text_lines.specs.Words.{words_of};
-ghost use Rattle.instance_read.specs.Fields.{is_beyond, is_no_number, is_that};
+ghost use Rattle.instance_read.specs.Fields.{is_beyond, is_no_number, passes_test};
 ghost use Rattle.instance_read.specs.WordEvidence.{faulty_word, is_beyond_some, is_faulty, numbers_evidence, stop_at, stop_in, word_at};
 
 use crate::ReadFaultKind;
@@ -11,9 +11,9 @@ use crate::evidence::{Evidence, Excerpt, Field};
 use crate::field_limits::Limits;
 use text_lines::{Number, Words, number_to_u64, word_count};
 
-/// Whether a word is a number outside these limits.
+/// Returns whether a word is a number outside these limits.
 pub fn is_beyond(word: &[u8], limits: Limits) -> bool
-    ensures { result ≡ is_that (is_beyond limits) (number_of word.now) }
+    ensures { result ≡ passes_test (is_beyond limits) (number_of word.now) }
 {
     match Number::parse(word) {
         Some(number) => number.within(limits.0, limits.1).is_none(),
@@ -21,7 +21,8 @@ pub fn is_beyond(word: &[u8], limits: Limits) -> bool
     }
 }
 
-/// What a line that should have these fields, with limits for the first of them, has of a fault.
+/// Returns the details of a fault in a line that should have these `fields`. `limits` may be shorter than
+/// `fields`, since the last fields may have any value.
 pub fn numbers_evidence<'a>(
     kind: ReadFaultKind,
     line: &'a [u8],
@@ -39,7 +40,7 @@ pub fn numbers_evidence<'a>(
     }
 }
 
-// The first word of which the fault may be told.
+// Returns the first word that can have this fault.
 fn faulty_word<'a>(
     kind: ReadFaultKind,
     line: &'a [u8],
@@ -91,12 +92,12 @@ fn is_no_number(word: &[u8]) -> bool
 }
 
 fn field_at(fields: &[Field], place: usize) -> Field
-    ensures { result ≡ slice_index_or fields.now place Field.Surplus }
+    ensures { result ≡ slice_index_or fields.now place Field.ExtraWord }
 {
-    fields.get(place).copied().unwrap_or(Field::Surplus)
+    fields.get(place).copied().unwrap_or(Field::ExtraWord)
 }
 
-/// The word at this place, from 0; empty where there is none.
+/// Returns the word at this place, from 0, or an empty word if there is none.
 pub fn word_at<'a>(line: &'a [u8], place: usize) -> Excerpt<'a>
     ensures { result ≡ word_at (words_of line.now) place }
 {
@@ -109,7 +110,7 @@ fn nth_word(line: &[u8], place: usize) -> Option<&[u8]>
     Words::new(line).nth(place)
 }
 
-/// The number at this place, if it is one of a stop; else 0.
+/// Returns the number at this place if it is below 2^16, as stop numbers are, otherwise 0.
 pub fn stop_at(line: &[u8], place: usize) -> u16
     ensures { result ≡ stop_at (words_of line.now) place }
 {

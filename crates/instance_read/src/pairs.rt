@@ -1,6 +1,6 @@
-//! The pairs that tasks make: a pickup and a delivery that name each other, with demands that cancel.
+//! The pairs that tasks form: a pickup and a delivery that name each other, with demands that cancel out.
 //!
-//! A task is looked up by its number in a table of places, so no task is searched for.
+//! A table has the place of each task by its number, so finding a task needs no search.
 ghost use Rattle.std.specs.Prelude.{◌≡◌, ◌+◌, ◌<◌, ◌≤◌, ℕ, [], All, IfErr, IfOk, IfSome, OnOk, None, Some, find, length};
 ghost use Rattle.std.specs.List.{AllByRecursion};
 ghost use Rattle.std.specs.Option.{option_copied, option_map};
@@ -11,7 +11,7 @@ ghost use Rattle.plan_types.specs.declared.requests.Kind.TheVariants.{LiLim};
 ghost use Rattle.plan_types.specs.Request.{IsRequest, request_name};
 ghost use Rattle.instance_read.specs.Lilim.{depot_from, problem_from};
 ghost use Rattle.instance_read.specs.Pairs.{find_task, is_mismatched, is_uneven, is_wrong_delivery, is_wrong_pickup, last_number, pair_of, pairs_of};
-ghost use Rattle.instance_read.specs.Tables.{ArePaired, AreTasks, HeaderKeepsLimits, IsCustomer, IsTable, RisesFrom, TellsMismatch};
+ghost use Rattle.instance_read.specs.Tables.{ArePaired, AreTasks, HeaderKeepsLimits, IsCustomer, IsTable, AscendsFrom, ReportsMismatch};
 
 use crate::entries::entry_of;
 use crate::put::put_request;
@@ -20,7 +20,7 @@ use crate::{ReadFault, ReadFaultKind};
 use plan_types::{Kind, Problem, PutFault, Request, Stop};
 use std::alloc::{AllocError, Global};
 
-/// The problem of a header, a depot and customers, if each customer is half of a pair.
+/// Returns the problem of a header, a depot and customers, if each customer is half of a pair.
 pub fn pair_up(
     alloc: Global,
     header: FleetLine,
@@ -31,7 +31,7 @@ pub fn pair_up(
     requires tasks { AreTasks depot.now customers.now }
     ensures ok { IfOk result (λ problem. ArePaired customers.now
         × (problem ≡ problem_from header.fleet header.capacity depot.now customers.now)) }
-    ensures err { IfErr result (TellsMismatch customers.now) }
+    ensures err { IfErr result (ReportsMismatch customers.now) }
 {
     let table = task_table(alloc, customers)?;
     if let Some(task) = first_mismatched(customers, &table) {
@@ -46,7 +46,7 @@ pub fn pair_up(
     Ok(problem)
 }
 
-// One more than the greatest number of the tasks.
+// Returns a length greater than the numbers of all tasks.
 fn table_len(tasks: &[Task]) -> usize
     ensures { All (λ task. task.stop.number < result) tasks.now }
 {
@@ -57,7 +57,7 @@ fn table_len(tasks: &[Task]) -> usize
     len
 }
 
-// The places of the tasks by their numbers, so that looking one up needs no search.
+// Returns the places of the tasks by number, so that finding a task needs no search.
 fn task_table(alloc: Global, tasks: &[Task]) -> Result<Vec<Option<u32>>, AllocError>
     requires { length tasks.now ≤ MAX_STOP_NUMBER }
     ensures { IfOk result (λ table. IsTable tasks.now table.items) }
@@ -77,7 +77,7 @@ fn task_at<'a>(tasks: &'a [Task], table: &[Option<u32>], number: u32) -> Option<
     tasks.get(place as usize)
 }
 
-// The first task that is no half of a pair.
+// Returns the first task that is not half of a pair.
 fn first_mismatched(tasks: &[Task], table: &[Option<u32>]) -> Option<Task>
     requires { IsTable tasks.now table.now }
     ensures { result ≡ find (is_mismatched tasks.now) tasks.now }
@@ -145,20 +145,20 @@ fn problem_without_requests(alloc: Global, header: FleetLine, depot: &Task) -> P
 }
 
 // Adds a request for each pickup. The tasks are those of a text without faults.
-// Apart from the loop over the lines, which then keeps its numbers in registers.
+// This is a function of its own so that the loop over the lines keeps its numbers in registers.
 #[inline(never)]
 fn put_pairs(problem: &mut Problem, tasks: &[Task], table: &[Option<u32>]) -> Result<(), AllocError>
     requires empty { problem.old.requests ≡ [] }
     requires table { IsTable tasks.now table.now }
     requires valid { AllByRecursion IsCustomer tasks.now }
-    requires rising { RisesFrom 0 tasks.now }
+    requires ascending { AscendsFrom 0 tasks.now }
     requires paired { ArePaired tasks.now }
     ensures { OnOk result (problem.new ≡ record problem.old {
       requests = pairs_of tasks.now;
       next_number = problem.new.next_number;
     }) }
 {
-    // With room for all, none that is there has to be moved.
+    // With room for all requests, none has to be moved.
     problem.requests.reserve(tasks.len() / 2)?;
     for task in tasks {
         if let Some(request) = pair_of(tasks, table, task) {
@@ -168,7 +168,7 @@ fn put_pairs(problem: &mut Problem, tasks: &[Task], table: &[Option<u32>]) -> Re
     Ok(())
 }
 
-// The request of a pickup and the delivery that it names.
+// Returns the request of a pickup and the delivery that it names.
 fn pair_of(tasks: &[Task], table: &[Option<u32>], task: &Task) -> Option<Request>
     requires { IsTable tasks.now table.now }
     ensures { option_map (λ r. (task.now.stop.number, r)) result ≡ pair_of tasks.now task.now }

@@ -1,4 +1,4 @@
-//! Requests that are put into a problem.
+//! Adding requests to a problem.
 ghost use Rattle.std.specs.Prelude.{◌≡◌, OnOk};
 ghost use Rattle.plan_types.specs.Instance.{IsTaken, with_request};
 ghost use Rattle.plan_types.specs.Request.{IsRequest};

@@ -1,4 +1,4 @@
-//! The lines of a text that have more than blanks and tabs, with their numbers.
+//! The lines of a text that are not blank, with their numbers.
 ghost use Rattle.std.specs.Prelude.{◌≡◌, ◌+◌, ◌<◌, ◌^◌, length};
 ghost use Rattle.std.specs.Iterator.{YieldsFirstBy, item_count};
 ghost use Rattle.text_lines.specs.Lines.{lines_of};
@@ -15,11 +15,11 @@ pub struct NumberedLine<'a> {
     pub text: &'a [u8],
 }
 
-/// The lines that have more than blanks and tabs, in order.
+/// An iterator over the lines of a text that are not blank, in order.
 #[derive(Drop)]
 pub struct NumberedLines<'a> {
     lines: Lines<'a>,
-    // How many lines came so far.
+    // The number of lines so far, blank ones included.
     count: u64,
 }
 
@@ -35,7 +35,7 @@ impl<'a> Model for NumberedLines<'a> {
 }
 
 impl<'a> NumberedLines<'a> {
-    /// Before the first line of a text.
+    /// Returns an iterator that begins at the first line of a text.
     pub fn new(text: &'a [u8]) -> NumberedLines<'a>
         ensures { result ≡ rows_of text.now }
     {

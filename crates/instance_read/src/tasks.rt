@@ -1,20 +1,20 @@
 //! The header and the tasks of a Li-Lim text, line by line.
 ghost use Rattle.std.specs.Prelude.{◌≡◌, pos, int_lt, if◌then◌else◌, slice_index_or};
 ghost use Rattle.text_lines.specs.Words.{words_of};
-ghost use Rattle.instance_read.specs.Fields.{field, is_that, value_at};
+ghost use Rattle.instance_read.specs.Fields.{field, passes_test, value_at};
 ghost use Rattle.instance_read.specs.Lilim.{header_fault, is_out_of_order, task_fault};
 ghost use Rattle.instance_read.specs.Pairs.{task_from};
 ghost use Rattle.instance_read.specs.Tables.{IsHeader};
-ghost use Rattle.instance_read.specs.Walk.{ReadsValue};
+ghost use Rattle.instance_read.specs.TaskFaults.{ReadsValue};
 
 use crate::ReadFaultKind;
 use crate::field_limits::{HEADER, TASK};
-use crate::fields::{beyond_limits, has_no_number, next_values, read_numbers};
+use crate::fields::{has_no_number, next_values, range_kind, read_numbers};
 use plan_types::Stop;
 use plan_types::limits::MAX_STOP_NUMBER;
 use text_lines::{Words, word_count};
 
-/// The first line.
+/// The first line: fleet and capacity.
 #[derive(Clone, Copy)]
 pub struct FleetLine {
     pub fleet: u32,
@@ -24,12 +24,12 @@ pub struct FleetLine {
 /// A task: a stop, and the two fields that name its pickup or its delivery.
 #[derive(Clone, Copy)]
 pub struct Task {
-    /// Its line in the text.
+    /// The line number of the task in the text.
     pub line: u64,
     pub stop: Stop,
-    /// The number of its pickup, or 0.
+    /// The number of the task's pickup, or 0.
     pub pickup: u32,
-    /// The number of its delivery, or 0.
+    /// The number of the task's delivery, or 0.
     pub delivery: u32,
 }
 
@@ -56,7 +56,7 @@ impl FleetLine {
 }
 
 impl Task {
-    /// Reads the words of a task's line, after the line of the previous task.
+    /// Reads the words of a task's line. `previous` is the task before it.
     pub fn read(previous: Option<Task>, number: u64, line: &[u8]) -> Result<Task, ReadFaultKind>
         ensures { let words = words_of line.now in
             ReadsValue (task_fault previous words)
@@ -64,7 +64,7 @@ impl Task {
     {
         let values = match read_numbers(line, &TASK) {
             Ok(values) => values,
-            Err(ReadFaultKind::Range) => return Err(beyond_limits(line, MAX_STOP_NUMBER)),
+            Err(ReadFaultKind::Range) => return Err(range_kind(line, MAX_STOP_NUMBER)),
             Err(kind) => return Err(kind),
         };
         let task = Task::from_values(number, values);

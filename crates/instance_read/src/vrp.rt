@@ -1,19 +1,19 @@
-//! The reader of CVRPLIB's capacitated routing instances, in TSPLIB95's layout.
+//! The reader of CVRPLIB's capacitated routing instances, in the layout of TSPLIB95.
 //!
-//! The lines behind EOF are passed over and not left unread: where a text is cut, the line after the last is told, so
-//! their number is asked anyway.
+//! The reader also counts the lines after EOF. If a text is cut off, the fault is in the line after the last,
+//! so the number of lines is needed anyway.
 ghost use Rattle.std.specs.Prelude.{◌≡◌, ◌+◌, IfOk, IfErr, None, length};
 ghost use Rattle.std.specs.Option.{option_map_or};
 ghost use Rattle.text_lines.specs.Lines.{lines_of};
 ghost use Rattle.instance_read.specs.Drafts.{IsDraft};
-ghost use Rattle.instance_read.specs.Faults.{TellsFirstFault};
+ghost use Rattle.instance_read.specs.Faults.{ReportsFirstFault};
 ghost use Rattle.instance_read.specs.Vrp.{SpellsVrp, VrpFault, is_inside};
 ghost use Rattle.instance_read.specs.VrpLines.{end_from};
-ghost use Rattle.instance_read.specs.VrpWalk.{HasNoLineFault, Knows, TellsLine, draft_lacks_key, placed_rows};
+ghost use Rattle.instance_read.specs.DraftLines.{HasNoLineFault, IsDraftOfLines, ReportsLine, draft_lacks_key, placed_rows};
 ghost use Rattle.instance_read.specs.declared.vrp_lines.Section.TheVariants.{Outside};
 
 use crate::rows::NumberedLines;
-use crate::vrp_draft::VrpFields;
+use crate::vrp_draft::VrpDraft;
 use crate::vrp_lines::{Key, Section};
 use crate::vrp_problem::problem_of;
 use crate::{ReadFault, ReadFaultKind};
@@ -21,20 +21,20 @@ use plan_types::Problem;
 use std::alloc::Global;
 use text_lines::Lines;
 
-/// Reads a capacitated routing instance in CVRPLIB's format: TSPLIB95's keys and sections, of TYPE CVRP
+/// Reads a capacitated routing instance in CVRPLIB's format: the keys and sections of TSPLIB95, with TYPE CVRP
 /// and EDGE_WEIGHT_TYPE EUC_2D.
 ///
-/// Node 1 is the depot, node i+1 is customer i. Keys may be in any letter case, sections in any order.
-/// Further keys are ignored, and so is all that stands after EOF.
+/// Node 1 is the depot, node i+1 is customer i. Keys may be in any letter case, and sections in any order.
+/// Other keys are ignored, and so is everything after EOF.
 ///
 /// # Errors
 ///
-/// The first fault of the text: those of single lines before those of the text as a whole, and on one
-/// line `FieldCount`, `BadNumber`, `TooManyStops`, `Range`, `Unsupported`, `MissingKey`, `NodeRepeated`,
-/// `DepotNotFirst`.
+/// Returns the first fault of the text, or `OutOfMemory`. Faults of single lines come before those of the whole
+/// text. For one line, the order is `FieldCount`, `BadNumber`, `TooManyStops`, `Range`, `Unsupported`,
+/// `MissingKey`, `NodeRepeated`, `DepotNotFirst`.
 pub fn read_vrp(alloc: Global, text: &[u8]) -> Result<Problem, ReadFault>
     ensures value { IfOk result (SpellsVrp text.now) }
-    ensures fault { IfErr result (TellsFirstFault (VrpFault text.now)) }
+    ensures fault { IfErr result (ReportsFirstFault (VrpFault text.now)) }
 {
     let (draft, place) = read_lines(alloc, NumberedLines::new(text))?;
     if is_inside(place) {
@@ -52,15 +52,15 @@ pub fn read_vrp(alloc: Global, text: &[u8]) -> Result<Problem, ReadFault>
     problem_of(alloc, &draft)
 }
 
-// What the lines say, and the place behind them.
-fn read_lines(alloc: Global, lines: NumberedLines<'_>) -> Result<(VrpFields, Section), ReadFault>
-    ensures ok { let placed = placed_rows lines.entry in IfOk result (λ r. Knows placed r.0
+// Returns the data of the lines, and the section after the last one.
+fn read_lines(alloc: Global, lines: NumberedLines<'_>) -> Result<(VrpDraft, Section), ReadFault>
+    ensures ok { let placed = placed_rows lines.entry in IfOk result (λ r. IsDraftOfLines placed r.0
         × IsDraft r.0
         × HasNoLineFault placed
         × (r.1 ≡ end_from None Outside lines.entry)) }
-    ensures err { IfErr result (TellsLine (placed_rows lines.entry)) }
+    ensures err { IfErr result (ReportsLine (placed_rows lines.entry)) }
 {
-    let mut draft = VrpFields::new(alloc);
+    let mut draft = VrpDraft::new(alloc);
     let mut place = Section::Outside;
     for line in lines {
         match draft.take(alloc, place, &line) {
@@ -77,8 +77,8 @@ fn is_inside(place: Section) -> bool
     !matches!(place, Section::Outside | Section::AfterEnd)
 }
 
-// Whether one is missing that each text has.
-fn lacks_key(draft: &VrpFields) -> bool
+// Returns whether a required key or section is missing.
+fn lacks_key(draft: &VrpDraft) -> bool
     requires { IsDraft draft.now }
     ensures { result ≡ draft_lacks_key draft.now }
 {
@@ -90,8 +90,8 @@ fn lacks_key(draft: &VrpFields) -> bool
         && draft.has_seen(Key::Depots))
 }
 
-// The line of EOF, or one after the last.
-fn end_line(draft: &VrpFields, text: &[u8]) -> u64
+// Returns the line of EOF, or the one after the last.
+fn end_line(draft: &VrpDraft, text: &[u8]) -> u64
     ensures { result ≡ option_map_or (λ line. line) draft.now.end (length (lines_of text.now) + 1) }
 {
     match draft.end {

@@ -1,9 +1,9 @@
-//! What the lines of a `.vrp` text say, one after another.
+//! The data of the lines of a `.vrp` text, collected line by line.
 ghost use Rattle.std.specs.Prelude.{◌≡◌, ◌≤◌, ◌<◌, ◌+◌, ◌-◌, IfOk, IfErr, MatchResult, Some, None, is_some, false, true, length, set, slice_index_or};
 ghost use Rattle.text_lines.specs.Words.{words_of};
 ghost use Rattle.instance_read.specs.Vrp.{key_fault};
 ghost use Rattle.instance_read.specs.declared.faults.ReadFaultKind.TheVariants.{NodeRepeated};
-ghost use Rattle.instance_read.specs.Walk.{HasNoKind, IsFirstKind};
+ghost use Rattle.instance_read.specs.TaskFaults.{HasNoKind, IsFirstKind};
 
 use crate::ReadFaultKind;
 use crate::entries::entry_of;
@@ -16,36 +16,37 @@ use crate::vrp_lines::{KEYS, Key, Section, read_key};
 use std::alloc::Global;
 use text_lines::word_count;
 
-/// What the lines so far have said.
+/// The data from the lines read so far.
 #[derive(Drop)]
-pub struct VrpFields {
-    /// Which keys stood, each at its index.
+pub struct VrpDraft {
+    /// Whether each key has occurred, by the key's index.
     pub seen: [bool; KEYS],
-    /// How many nodes DIMENSION announces.
+    /// The number of nodes that DIMENSION announces.
     pub nodes: Option<u32>,
     pub capacity: Option<u32>,
-    /// By node, from node 1: `None` until its line has come. Empty before the section.
+    /// Indexed by node, from node 1. An entry is `None` until its line is read. The table is empty before its
+    /// section.
     pub coordinates: Vec<Option<(i32, i32)>>,
     pub demands: Vec<Option<i32>>,
     /// The line of EOF.
     pub end: Option<u64>,
 }
 
-impl VrpFields {
+impl VrpDraft {
     ghost use Rattle.std.specs.Prelude.{◌≡◌};
-    ghost use Rattle.instance_read.specs.Drafts.{IsDraft, FitsSection, TakesKey, TakesNode, TakesTo, TellsKind, line_fault, has_seen, with_key, nodes_in, is_taken, node_index};
+    ghost use Rattle.instance_read.specs.Drafts.{IsDraft, FitsSection, TakesKey, TakesNode, TakesTo, ReportsKind, line_fault, has_seen, with_key, nodes_in, is_taken, node_index};
     ghost use Rattle.std.specs.Prelude.{[]};
     ghost use Rattle.instance_read.specs.RowViews.{row_view};
-    ghost use Rattle.instance_read.specs.VrpWalk.{Knows};
+    ghost use Rattle.instance_read.specs.DraftLines.{IsDraftOfLines};
     ghost use Rattle.instance_read.specs.VrpLines.{place_after, place_after_key, key_of, value_of};
 
-    /// Before the first line.
-    pub fn new(alloc: Global) -> VrpFields
-        ensures known { Knows [] result }
+    /// Returns the draft before the first line.
+    pub fn new(alloc: Global) -> VrpDraft
+        ensures known { IsDraftOfLines [] result }
         ensures valid { IsDraft result }
         ensures nodes { result.nodes ≡ None }
     {
-        VrpFields {
+        VrpDraft {
             seen: [false; KEYS],
             nodes: None,
             capacity: None,
@@ -55,7 +56,7 @@ impl VrpFields {
         }
     }
 
-    /// Takes one more line, which stands at this place, and gives the place of the next.
+    /// Takes one more line, which is in this section, and returns the section of the next line.
     pub fn take(
         &mut self,
         alloc: Global,
@@ -65,7 +66,7 @@ impl VrpFields {
         requires draft { IsDraft self.old }
         requires place { FitsSection place self.old }
         ensures ok { IfOk result (TakesTo self.old (row_view line.now) place self.new) }
-        ensures err { IfErr result (TellsKind (line_fault self.old (row_view line.now) place)) }
+        ensures err { IfErr result (ReportsKind (line_fault self.old (row_view line.now) place)) }
     {
         match place {
             Section::Outside => self.take_key(alloc, line),
@@ -89,7 +90,7 @@ impl VrpFields {
         requires { IsDraft self.old }
         ensures ok { IfOk result (TakesTo self.old (row_view line.now) Section.Outside self.new) }
         ensures err { IfErr result
-            (TellsKind (line_fault self.old (row_view line.now) Section.Outside)) }
+            (ReportsKind (line_fault self.old (row_view line.now) Section.Outside)) }
     {
         let (key, value) = read_key(line.text);
         let next = Section::after_key(self.nodes, key);
@@ -109,7 +110,7 @@ impl VrpFields {
         requires { IsDraft self.old }
         ensures ok { IfOk result (λ _. TakesKey self.old line value.now key stands self.new) }
         ensures err { IfErr result
-            (TellsKind (key_fault (is_some self.old.nodes) stands value.now key)) }
+            (ReportsKind (key_fault (is_some self.old.nodes) stands value.now key)) }
     {
         match key {
             Key::Dimension => self.nodes = Some(read_dimension(stands, value)?),
@@ -133,7 +134,7 @@ impl VrpFields {
         Ok(())
     }
 
-    // Keeps that a key stood, and tells whether it did before.
+    // Records that a key has occurred, and returns whether it had occurred before.
     fn mark(&mut self, key: Key) -> bool
         requires { IsDraft self.old }
         ensures before { result ≡ has_seen self.old key }
@@ -145,7 +146,7 @@ impl VrpFields {
         stands
     }
 
-    /// Whether a key stood.
+    /// Returns whether a key has occurred.
     pub fn has_seen(&self, key: Key) -> bool
         requires { IsDraft self.now }
         ensures { result ≡ has_seen self.now key }
@@ -153,7 +154,7 @@ impl VrpFields {
         self.seen[key.index()]
     }
 
-    /// How many nodes there are, or 0 before DIMENSION.
+    /// Returns the number of nodes, or 0 before DIMENSION.
     pub fn node_count(&self) -> u32
         ensures { result ≡ nodes_in self.now }
     {
@@ -179,7 +180,7 @@ impl VrpFields {
     }
 }
 
-// Keeps what a line says of a node, if no line before it named the node.
+// Stores the value of a node, if no earlier line named the node.
 fn put_once<T: Copy>(table: &mut [Option<T>], node: u32, value: T) -> Result<(), ReadFaultKind>
     requires { (1 ≤ node) × (node ≤ length table.old) }
     ensures { let entry = slice_index_or table.old (node - 1) None in MatchResult result

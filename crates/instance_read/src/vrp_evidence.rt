@@ -1,11 +1,11 @@
-//! What a line of a `.vrp` text has of its fault.
+//! The details of a fault that a line of a `.vrp` text shows.
 ghost use Rattle.std.specs.Prelude.{◌≡◌, None};
 ghost use Rattle.std.specs.Int.RustNames.{unsigned_abs};
 ghost use Rattle.std.specs.Option.{option_map};
 ghost use Rattle.text_lines.specs.Words.{words_of};
 ghost use Rattle.instance_read.specs.RowViews.{row_view};
 ghost use Rattle.instance_read.specs.Rows.{rows_of};
-ghost use Rattle.instance_read.specs.VrpEvidence.{announced, announced_after, depot_evidence, key_evidence, line_from, missing_evidence, node_evidence, unless_there, unsupported, value_evidence, vrp_evidence};
+ghost use Rattle.instance_read.specs.VrpEvidence.{announced, announced_after, depot_evidence, key_evidence, line_from, missing_evidence, node_evidence, missing_key, unsupported, value_evidence, vrp_evidence};
 ghost use Rattle.instance_read.specs.VrpLines.{key_of, place_after};
 ghost use Rattle.instance_read.specs.declared.vrp_lines.Section.TheVariants.{Outside};
 
@@ -17,7 +17,7 @@ use crate::vrp_lines::{Key, Section, read_key, split_key};
 use crate::{ReadFault, ReadFaultKind};
 use text_lines::{Words, word_count};
 
-/// What the line of a fault has of it.
+/// Returns the details of a fault that its line shows.
 pub fn vrp_evidence<'a>(text: &'a [u8], fault: ReadFault) -> Evidence<'a>
     ensures { result ≡ vrp_evidence text.now fault }
 {
@@ -41,7 +41,8 @@ pub fn vrp_evidence<'a>(text: &'a [u8], fault: ReadFault) -> Evidence<'a>
     }
 }
 
-// How many nodes are announced before the line with this number, its place, and the line.
+// Returns the number of nodes announced before the line with this number, the section of the line, and the
+// line.
 fn placed_line<'a>(text: &'a [u8], number: u64) -> (Option<i32>, Section, Excerpt<'a>)
     ensures { result ≡ line_from number None Outside (rows_of text.now) }
 {
@@ -77,7 +78,7 @@ fn key_of(line: &NumberedLine<'_>) -> Key
     read_key(line.text).0
 }
 
-// How many nodes are announced after a line: the first DIMENSION counts.
+// Returns the number of nodes announced after a line. The first DIMENSION counts.
 fn announced_after(nodes: Option<i32>, place: Section, line: &NumberedLine<'_>) -> Option<i32>
     ensures { result ≡ announced_after nodes (row_view line.now) place }
 {
@@ -98,7 +99,7 @@ fn announced(line: &NumberedLine<'_>) -> Option<i32>
     }
 }
 
-// Of a line of a section of nodes with these fields.
+// Returns the details of a fault in a line of a section of nodes with these fields.
 fn node_evidence<'a>(
     kind: ReadFaultKind,
     line: &'a [u8],
@@ -118,7 +119,7 @@ fn node_evidence<'a>(
                 lacks: left,
             }
         }
-        ReadFaultKind::Truncated => Evidence::Unfinished(section, left),
+        ReadFaultKind::Truncated => Evidence::UnfinishedSection(section, left),
         _ => numbers_evidence(kind, line, fields, limits),
     }
 }
@@ -127,13 +128,14 @@ fn depot_evidence<'a>(kind: ReadFaultKind, line: &'a [u8]) -> Evidence<'a>
     ensures { result ≡ depot_evidence kind (words_of line.now) }
 {
     match kind {
-        ReadFaultKind::FieldCount => Evidence::BehindEnd,
-        ReadFaultKind::Truncated => Evidence::OpenDepots,
+        ReadFaultKind::FieldCount => Evidence::WordsAfterEnd,
+        ReadFaultKind::Truncated => Evidence::UnfinishedDepots,
         _ => numbers_evidence(kind, line, &[Field::Depot, Field::Depot], &[]),
     }
 }
 
-// Of a line outside the sections, where so many nodes are announced.
+// Returns the details of a fault in a line outside the sections. `nodes` is the number of nodes announced so
+// far.
 fn key_evidence<'a>(
     text: &'a [u8],
     nodes: Option<i32>,
@@ -167,7 +169,7 @@ fn value_evidence<'a>(
     }
 }
 
-// A value that is not supported, or a key.
+// Returns the value that is not supported, or the key.
 fn unsupported<'a>(line: &'a [u8], key: Key, value: &'a [u8]) -> Evidence<'a>
     ensures { result ≡ unsupported line.now value.now key }
 {
@@ -177,26 +179,26 @@ fn unsupported<'a>(line: &'a [u8], key: Key, value: &'a [u8]) -> Evidence<'a>
     }
 }
 
-// What is missing at a line with this key: DIMENSION before a section, or the keys that no line has.
+// Returns what is missing at a line with this key: DIMENSION before a section, or the keys that no line has.
 fn missing_evidence<'a>(text: &'a [u8], key: Key) -> Evidence<'a>
     ensures { result ≡ missing_evidence (rows_of text.now) key }
 {
     match key {
-        Key::Coordinates | Key::Demands => Evidence::Unannounced,
-        _ => Evidence::Missing([
-            unless_there(text, Key::Dimension),
-            unless_there(text, Key::Capacity),
-            unless_there(text, Key::WeightType),
-            unless_there(text, Key::Coordinates),
-            unless_there(text, Key::Demands),
-            unless_there(text, Key::Depots),
+        Key::Coordinates | Key::Demands => Evidence::NoDimension,
+        _ => Evidence::MissingKeys([
+            missing_key(text, Key::Dimension),
+            missing_key(text, Key::Capacity),
+            missing_key(text, Key::WeightType),
+            missing_key(text, Key::Coordinates),
+            missing_key(text, Key::Demands),
+            missing_key(text, Key::Depots),
         ]),
     }
 }
 
-// This key, unless a line before the one of EOF has it.
-fn unless_there(text: &[u8], key: Key) -> Option<Key>
-    ensures { result ≡ unless_there key (rows_of text.now) }
+// Returns this key, unless a line before EOF has it.
+fn missing_key(text: &[u8], key: Key) -> Option<Key>
+    ensures { result ≡ missing_key key (rows_of text.now) }
 {
     for line in NumberedLines::new(text) {
         let here = key_of(&line);

@@ -6,25 +6,25 @@ ghost use Rattle.text_lines.specs.Numbers.{number_of};
 ghost use Rattle.text_lines.specs.Words.{words_of};
 ghost use Rattle.plan_types.specs.Limits.{IsCapacity, IsCoordinate, IsDemand};
 ghost use Rattle.instance_read.specs.Fields.{field, has_no_number, value_at};
-ghost use Rattle.instance_read.specs.Vrp.{capacity_fault, coordinate_limits, demand_limits, depot_fault, dimension_fault, goes_on_after_end, is_end, is_other, most_nodes, node_fault, opening_fault, spelling_fault};
-ghost use Rattle.instance_read.specs.Walk.{HasNoKind, IsFirstKind, Passes, ReadsValue};
+ghost use Rattle.instance_read.specs.Vrp.{capacity_fault, coordinate_limits, demand_limits, depot_fault, dimension_fault, continues_after_end, is_end, is_other, max_nodes, node_fault, opening_fault, spelling_fault};
+ghost use Rattle.instance_read.specs.TaskFaults.{HasNoKind, IsFirstKind, Passes, ReadsValue};
 
 use crate::ReadFaultKind;
 use crate::field_limits::{CAPACITY, COORDINATE, DIMENSION, Limits, MAX_NODES, NODE_DEMAND};
-use crate::fields::{beyond_limits, has_no_number, read_numbers};
+use crate::fields::{has_no_number, range_kind, read_numbers};
 use crate::vrp_lines::is_word;
 use text_lines::{Number, Words};
 
-/// The number of nodes that the value of a DIMENSION announces, where one may stand before it.
+/// Reads the value of a DIMENSION line, the number of nodes. `stands` says whether an earlier line has the key.
 pub fn read_dimension(stands: bool, value: &[u8]) -> Result<u32, ReadFaultKind>
     ensures read { let words = words_of value.now in
         ReadsValue (dimension_fault stands words)
         (λ n. n ≡ unsigned_abs (value_at words 0)) result }
-    ensures within { IfOk result (λ n. (2 ≤ n) × (n ≤ most_nodes)) }
+    ensures within { IfOk result (λ n. (2 ≤ n) × (n ≤ max_nodes)) }
 {
     let [nodes] = match read_numbers(value, &[DIMENSION]) {
         Ok(values) => values,
-        Err(ReadFaultKind::Range) => return Err(beyond_limits(value, MAX_NODES)),
+        Err(ReadFaultKind::Range) => return Err(range_kind(value, MAX_NODES)),
         Err(kind) => return Err(kind),
     };
     if stands {
@@ -33,7 +33,7 @@ pub fn read_dimension(stands: bool, value: &[u8]) -> Result<u32, ReadFaultKind>
     Ok(nodes.unsigned_abs())
 }
 
-/// The capacity that the value of a CAPACITY gives, where one may stand before it.
+/// Reads the value of a CAPACITY line. `stands` says whether an earlier line has the key.
 pub fn read_capacity(stands: bool, value: &[u8]) -> Result<u32, ReadFaultKind>
     ensures read { let words = words_of value.now in
         ReadsValue (capacity_fault stands words) (λ n. n ≡ unsigned_abs (value_at words 0)) result }
@@ -46,7 +46,7 @@ pub fn read_capacity(stands: bool, value: &[u8]) -> Result<u32, ReadFaultKind>
     Ok(capacity.unsigned_abs())
 }
 
-/// Whether a value is the word that is supported, in any letter case.
+/// Checks that a value is the supported word, in any letter case, and that no earlier line has the key.
 pub fn expect_word(word: &[u8], stands: bool, value: &[u8]) -> Result<(), ReadFaultKind>
     ensures read { Passes (spelling_fault word.now stands value.now) result }
 {
@@ -59,7 +59,8 @@ pub fn expect_word(word: &[u8], stands: bool, value: &[u8]) -> Result<(), ReadFa
     Ok(())
 }
 
-/// Whether a section of nodes may begin: their number is announced, and no such section stands before it.
+/// Checks that a section of nodes may begin: the number of nodes is announced, and the section has not occurred
+/// before.
 pub fn open_section(announced: bool, stands: bool) -> Result<(), ReadFaultKind>
     ensures read { Passes (opening_fault announced stands) result }
 {
@@ -72,9 +73,9 @@ pub fn open_section(announced: bool, stands: bool) -> Result<(), ReadFaultKind>
     Ok(())
 }
 
-/// A node and where it lies.
+/// Reads a node and its coordinates.
 pub fn read_coordinates(nodes: u32, line: &[u8]) -> Result<(u32, (i32, i32)), ReadFaultKind>
-    requires { nodes ≤ most_nodes }
+    requires { nodes ≤ max_nodes }
     ensures read { let words = words_of line.now in
         let fault = node_fault 3 (coordinate_limits nodes) (λ _. false) words in
         MatchResult result
@@ -89,9 +90,9 @@ pub fn read_coordinates(nodes: u32, line: &[u8]) -> Result<(u32, (i32, i32)), Re
     Ok((node.unsigned_abs(), (x, y)))
 }
 
-/// A node and its demand.
+/// Reads a node and its demand.
 pub fn read_demand(nodes: u32, line: &[u8]) -> Result<(u32, i32), ReadFaultKind>
-    requires { nodes ≤ most_nodes }
+    requires { nodes ≤ max_nodes }
     ensures read { let words = words_of line.now in
         let fault = node_fault 2 (demand_limits nodes) (λ _. false) words in
         MatchResult result
@@ -106,17 +107,18 @@ pub fn read_demand(nodes: u32, line: &[u8]) -> Result<(u32, i32), ReadFaultKind>
 }
 
 fn node_limits(nodes: u32) -> Limits
-    requires { nodes ≤ most_nodes }
+    requires { nodes ≤ max_nodes }
     ensures { result ≡ (pos 1, pos nodes) }
 {
     (1, nodes as i32)
 }
 
-/// Whether a line of the list of depots goes on as the list 1 and then -1, of which so many words stand before.
+/// Checks that a line of the list of depots continues the list 1 and then -1. `seen` is the number of words of
+/// the list on earlier lines.
 pub fn read_depots(seen: usize, line: &[u8]) -> Result<(), ReadFaultKind>
     ensures read { Passes (depot_fault seen (words_of line.now)) result }
 {
-    if goes_on_after_end(line) {
+    if continues_after_end(line) {
         return Err(ReadFaultKind::FieldCount);
     }
     if has_no_number(line) {
@@ -128,9 +130,9 @@ pub fn read_depots(seen: usize, line: &[u8]) -> Result<(), ReadFaultKind>
     Ok(())
 }
 
-// Whether a word stands after a -1.
-fn goes_on_after_end(line: &[u8]) -> bool
-    ensures { result ≡ goes_on_after_end (words_of line.now) }
+// Returns whether a word follows a -1.
+fn continues_after_end(line: &[u8]) -> bool
+    ensures { result ≡ continues_after_end (words_of line.now) }
 {
     let mut ended = false;
     for word in Words::new(line) {
@@ -151,7 +153,7 @@ fn is_end(word: &[u8]) -> bool
     }
 }
 
-// Whether the first words of a line are others than are due.
+// Returns whether the first words of a line differ from those of the list.
 fn is_other_list(seen: usize, line: &[u8]) -> bool
     ensures { result ≡ depot_fault seen (words_of line.now) ReadFaultKind.DepotNotFirst }
 {
@@ -162,7 +164,7 @@ fn is_other_list(seen: usize, line: &[u8]) -> bool
     is_other(words.next(), -1)
 }
 
-// Whether the word is there and another number than this one.
+// Returns whether the word exists and is another number than this one.
 fn is_other(word: Option<&[u8]>, number: i32) -> bool
     ensures { result ≡ is_other number (option_and_then number_of (option_copied word.entry)) }
 {

@@ -1,8 +1,8 @@
 //! The lines of a `.vrp` text: keys with their values, and the sections that follow some keys.
 //!
-//! A section of nodes is over with its last line, whatever that line says, so a line beyond it is outside the sections.
-//! Beside std's functions stand `trim_blanks_end` (`trim_ascii_end` trims more bytes) and `ends_in` (a suffix in any
-//! letter case).
+//! A section of nodes ends with its last line, whatever that line says, so the line after it is outside the
+//! sections. `trim_blanks_end` exists because `trim_ascii_end` trims more bytes; `ends_in` checks a suffix in
+//! any letter case.
 ghost use Rattle.std.specs.Prelude.{◌≡◌, ◌-◌, ◌<◌, ◌≤◌, codes, length, take, IfSome, MatchOption};
 ghost use Rattle.std.specs.List.{position_or_len, suffix_len};
 ghost use Rattle.std.specs.Str.{str_eq_ignore_ascii_case};
@@ -11,31 +11,31 @@ ghost use Rattle.instance_read.specs.VrpLines.{begins_as_number, ends_in, is_col
 
 use text_lines::trim_blanks_start;
 
-/// What a line outside a section is.
+/// The key of a line outside the sections.
 #[derive(Clone, Copy, PartialEq, Eq)]
 pub enum Key {
     Dimension,
     Capacity,
     ProblemType,
     WeightType,
-    /// A limit of duration, or a section that is not known.
+    /// A limit on the duration of routes, or an unknown section.
     Refused,
     Coordinates,
     Demands,
     Depots,
     End,
-    /// It begins as a line of a section does.
+    /// A line that begins with a digit or a sign, as a line of a section does.
     StrayNumber,
     Ignored,
 }
 
-/// How many keys there are.
+/// The number of keys.
 pub const KEYS: usize = 11;
 
 impl Key {
     ghost use Rattle.instance_read.specs.Vrp.{key_number};
 
-    /// Its place among the keys.
+    /// Returns the index of the key, for tables by key.
     pub fn index(self) -> usize
         ensures is { result ≡ key_number self }
         ensures below { result < 11 }
@@ -44,14 +44,14 @@ impl Key {
     }
 }
 
-/// Where a line stands.
+/// The section that a line is in.
 #[derive(Clone, Copy, PartialEq, Eq)]
 pub enum Section {
     Outside,
-    /// In the section of coordinates or of demands, of which so many lines are left, with this one.
+    /// In the section of coordinates or of demands, with this number of lines left, including this one.
     CoordinateLine(u32),
     DemandLine(u32),
-    /// In the list of depots, of which so many words stand on lines before.
+    /// In the list of depots, with this number of words on earlier lines.
     DepotLine(usize),
     AfterEnd,
 }
@@ -60,7 +60,7 @@ impl Section {
     ghost use Rattle.std.specs.Prelude.{◌+◌};
     ghost use Rattle.instance_read.specs.VrpLines.{coordinates_left, demands_left, depots_after, place_after_key};
 
-    /// The place of the next line, where so many lines of the section of coordinates are left.
+    /// Returns the section of the next line if this number of lines of coordinates is left.
     pub fn with_coordinates(left: u32) -> Section
         ensures { result ≡ coordinates_left left }
     {
@@ -71,7 +71,7 @@ impl Section {
         }
     }
 
-    /// The same of the section of demands.
+    /// Returns the section of the next line if this number of lines of demands is left.
     pub fn with_demands(left: u32) -> Section
         ensures { result ≡ demands_left left }
     {
@@ -82,7 +82,8 @@ impl Section {
         }
     }
 
-    /// The place after a line of the list of depots, with so many words after those seen.
+    /// Returns the section after a line of the list of depots that has `words` words, after `seen` earlier
+    /// ones.
     pub fn after_depots(seen: usize, words: usize) -> Section
         ensures { result ≡ depots_after (seen + words) }
     {
@@ -93,7 +94,7 @@ impl Section {
         }
     }
 
-    /// The place after a line outside the sections, where so many nodes are announced.
+    /// Returns the section after a line outside the sections. `nodes` is the number of nodes announced so far.
     pub fn after_key(nodes: Option<u32>, key: Key) -> Section
         ensures { result ≡ place_after_key nodes key }
     {
@@ -107,7 +108,7 @@ impl Section {
     }
 }
 
-/// The key of a line outside the sections, and the value after its first colon.
+/// Returns the key of a line outside the sections, and the value after its first colon.
 pub fn read_key(text: &[u8]) -> (Key, &[u8])
     ensures key { result.0 ≡ key_from (key_text text.now) (trimmed text.now) }
     ensures value { result.1.now ≡ value_text text.now }
@@ -116,8 +117,9 @@ pub fn read_key(text: &[u8]) -> (Key, &[u8])
     (key_from(key, trim_blanks(text)), value)
 }
 
-/// The key and the value of a line of a `.vrp` text, by TSPLIB95's specification part: what stands before the first
-/// colon, or the whole line where there is none, and what stands after it. Neither has blanks or tabs at its ends.
+/// Returns the key and the value of a line of a `.vrp` text, as in the specification part of TSPLIB95: the
+/// parts before and after the first colon. A line without a colon is all key. Neither part has spaces or tabs
+/// at its ends.
 pub fn split_key(line: &[u8]) -> (&[u8], &[u8])
     ensures key { result.0.now ≡ key_text line.now }
     ensures value { result.1.now ≡ value_text line.now }
@@ -128,7 +130,7 @@ pub fn split_key(line: &[u8]) -> (&[u8], &[u8])
     }
 }
 
-// Where the first colon stands.
+// Returns the place of the first colon.
 fn colon_place(line: &[u8]) -> Option<usize>
     ensures bound { IfSome result (λ colon. colon < length line.now) }
     ensures place { let place = position_or_len is_colon line.now in
@@ -137,7 +139,7 @@ fn colon_place(line: &[u8]) -> Option<usize>
     line.iter().position(|byte| *byte == b':')
 }
 
-// The line without the blanks and tabs at both ends.
+// Returns the line without the spaces and tabs at both ends.
 fn trim_blanks(line: &[u8]) -> &[u8]
     ensures { result.now ≡ trimmed line.now }
 {
@@ -154,7 +156,7 @@ fn trim_blanks_end(text: &[u8]) -> &[u8]
     rest
 }
 
-// The key that stands before the colon of this line.
+// Returns the key named before the colon of this line.
 fn key_from(key: &[u8], line: &[u8]) -> Key
     ensures { result ≡ key_from key.now line.now }
 {
@@ -185,7 +187,7 @@ fn key_from(key: &[u8], line: &[u8]) -> Key
     }
 }
 
-/// Whether a text is this word, in any ASCII letter case.
+/// Returns whether a text is this word, in any ASCII letter case.
 pub fn is_word(text: &[u8], word: &[u8]) -> bool
     ensures { result ≡ str_eq_ignore_ascii_case text.now word.now }
 {

@@ -1,36 +1,38 @@
-//! The problem that a `.vrp` text spells, from what its lines say.
+//! The problem that a `.vrp` text spells, from the data of its lines.
 //!
-//! A text without a fault has one line for each node; definitions look for the first line of a section with that node.
+//! A text without a fault has one line for each node. The definitions look for the first line of a section with
+//! that node.
 ghost use Rattle.std.specs.Prelude.{◌≡◌, ◌<◌, ◌≤◌, ◌+◌, ◌-◌, IfOk, IfErr, OnOk, [], true, is_some, pos};
 ghost use Rattle.plan_types.specs.Instance.{IsInstance, new_instance};
 ghost use Rattle.plan_types.specs.Limits.{IsDemand};
 ghost use Rattle.plan_types.specs.declared.requests.Kind.TheVariants.{Vrp};
 ghost use Rattle.plan_types.specs.declared.requests.Request.TheVariants.{Single};
 ghost use Rattle.instance_read.specs.Drafts.{IsDraft, nodes_in};
-ghost use Rattle.instance_read.specs.Faults.{no_memory};
-ghost use Rattle.instance_read.specs.VrpWalk.{customers_in, demand_at, drafted_problem, drafted_stop};
+ghost use Rattle.instance_read.specs.Faults.{out_of_memory};
+ghost use Rattle.instance_read.specs.DraftLines.{customers_in, demand_at, drafted_problem, drafted_stop};
 
 use crate::ReadFault;
 use crate::entries::entry_of;
 use crate::put::put_request;
-use crate::vrp_draft::VrpFields;
+use crate::vrp_draft::VrpDraft;
 use plan_types::limits::MAX_TIME;
 use plan_types::{Kind, Problem, Request, Stop};
 use std::alloc::{AllocError, Global};
 
-/// The problem of a text without faults: node 1 is the depot, each other a customer that gives its demand.
-pub fn problem_of(alloc: Global, draft: &VrpFields) -> Result<Problem, ReadFault>
+/// Returns the problem of a text without faults. Node 1 is the depot, and each other node is a customer with
+/// its demand.
+pub fn problem_of(alloc: Global, draft: &VrpDraft) -> Result<Problem, ReadFault>
     requires draft { IsDraft draft.now }
     requires announced { is_some draft.now.nodes ≡ true }
     ensures ok { IfOk result (λ p. p ≡ drafted_problem draft.now) }
-    ensures err { IfErr result (λ fault. fault ≡ no_memory) }
+    ensures err { IfErr result (λ fault. fault ≡ out_of_memory) }
 {
     let mut problem = problem_without_customers(alloc, draft);
     put_customers(&mut problem, draft)?;
     Ok(problem)
 }
 
-fn problem_without_customers(alloc: Global, draft: &VrpFields) -> Problem
+fn problem_without_customers(alloc: Global, draft: &VrpDraft) -> Problem
     requires draft { IsDraft draft.now }
     requires announced { is_some draft.now.nodes ≡ true }
     ensures { let problem = drafted_problem draft.now in
@@ -44,9 +46,9 @@ fn problem_without_customers(alloc: Global, draft: &VrpFields) -> Problem
     }
 }
 
-// Apart from the loop over the lines, which then keeps its numbers in registers.
+// A function of its own, so that the loop over the lines keeps its numbers in registers.
 #[inline(never)]
-fn put_customers(problem: &mut Problem, draft: &VrpFields) -> Result<(), AllocError>
+fn put_customers(problem: &mut Problem, draft: &VrpDraft) -> Result<(), AllocError>
     requires draft { IsDraft draft.now }
     requires announced { is_some draft.now.nodes ≡ true }
     requires empty { problem.old.requests ≡ [] }
@@ -56,7 +58,7 @@ fn put_customers(problem: &mut Problem, draft: &VrpFields) -> Result<(), AllocEr
       next_number = nodes_in draft.now;
     }) }
 {
-    // With room for all, none that is there has to be moved.
+    // With room for all requests, none has to be moved.
     problem.requests.reserve(draft.node_count() as usize - 1)?;
     for number in 1..draft.node_count() {
         put_request(problem, customer(draft, number))?;
@@ -64,15 +66,15 @@ fn put_customers(problem: &mut Problem, draft: &VrpFields) -> Result<(), AllocEr
     Ok(())
 }
 
-fn customer(draft: &VrpFields, number: u32) -> Request
+fn customer(draft: &VrpDraft, number: u32) -> Request
     ensures { result ≡ Single (drafted_stop draft.now (demand_at draft.now number) number) }
 {
     let demand = entry_of(&draft.demands, number).unwrap_or(0);
     Request::Single(node_stop(draft, number, demand))
 }
 
-// Node n+1 as stop n.
-fn node_stop(draft: &VrpFields, number: u32, demand: i32) -> Stop
+// Returns node n+1 as stop n.
+fn node_stop(draft: &VrpDraft, number: u32, demand: i32) -> Stop
     ensures { result ≡ drafted_stop draft.now demand number }
 {
     let (x, y) = entry_of(&draft.coordinates, number).unwrap_or((0, 0));
@@ -82,7 +84,7 @@ fn node_stop(draft: &VrpFields, number: u32, demand: i32) -> Stop
         y,
         demand,
         earliest: 0,
-        // CVRP has no windows.
+        // CVRP has no time windows.
         latest: MAX_TIME,
         service: 0,
     }

@@ -1,4 +1,4 @@
--- The requests of a problem that a `.vrp` text can say: stops with the numbers from 1 on.
+-- The requests of a problem that a `.vrp` text can express: stops numbered from 1.
 use Rattle.std.proofs.Common.{◌≡◌, ℕ, zero, suc, ◌+◌, ◌<◌, ◌≤◌, true, eqb, List, [], ◌∷◌, length, map, refl, sym, ap, ap₂, ◌∙◌, arith}
 use Rattle.std.specs.List.{AllByRecursion, cons_option, filter_map, range_with_len}
 use Rattle.std.proofs.lemmas.Bool.{and_parts, eq-eqb, eqb-true, false≢true, ne_eqb}
@@ -15,7 +15,7 @@ abbrev pub AreNumbered : ℕ → List Stop → Type 0
 AreNumbered n [] = Unit {0}
 AreNumbered n (s ∷ ss) = (s.number ≡ n) × AreNumbered (n + 1) ss
 
--- what the first customer keeps, and whether the others are customers
+-- the first request is customer n, and the other requests are the customers from n + 1 on
 pub record IsFirst (n m : ℕ) (s : Stop) (es : List (ℕ × Request)) : Type 0 where
   pub number : s.number ≡ n
   pub is_open : is_open s ≡ true
@@ -47,7 +47,7 @@ customers_valid n [] is all = tt
 customers_valid n ((m, Single s) ∷ es) is all = (all.0, customers_valid (n + 1) es (first_is n m s es is).others all.1)
 customers_valid n ((m, Pair a b) ∷ es) is all = absurd (false≢true is)
 
--- there are no more of them than numbers
+-- there are no more customers than stop numbers
 pub customers_few : (n next : ℕ) (es : List (ℕ × Request)) → are_customers n es ≡ true → AllByRecursion (λ m. m < next) (numbers_among es) → n ≤ next → n + length es ≤ next
 customers_few n next [] is below le = omega (arith, le)
 customers_few n next ((m, Single s) ∷ es) is below le =
@@ -55,7 +55,7 @@ customers_few n next ((m, Single s) ∷ es) is below le =
     omega (arith, customers_few (n + 1) next es first.others below.1 (omega (arith, first.number, below.0)))
 customers_few n next ((m, Pair a b) ∷ es) is below le = absurd (false≢true is)
 
--- their look-ups by rising number give them in order
+-- lookups by ascending number return the customers in order
 none_listed : (n count : ℕ) → filter_map (λ m. first_some (stop_in m) []) (range_with_len n count) ≡ []
 none_listed n zero = refl
 none_listed n (suc count) = none_listed (n + 1) count
@@ -76,7 +76,7 @@ customers_listed n (suc count) ((m, Single s) ∷ es) is few =
     (ap (λ ss. s ∷ ss) (later_listed m s es (n + 1) count (omega (arith, first.number)) ∙ customers_listed (n + 1) count es first.others (omega (arith, few))))
 customers_listed n (suc count) ((m, Pair a b) ∷ es) is few = absurd (false≢true is)
 
--- they are the stops that a function of their numbers gives
+-- the customers are the values of a function of their numbers
 pub customers_made : (f : ℕ → Stop) (n : ℕ) (es : List (ℕ × Request)) → are_customers n es ≡ true → AllByRecursion (λ e. e.0 ≡ request_name e.1) es
     → AllByRecursion (λ s. f s.number ≡ s) (stops_among es) → map (λ k. (k, Single (f k))) (range_with_len n (length es)) ≡ es
 customers_made f n [] is named made = refl

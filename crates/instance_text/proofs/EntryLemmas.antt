@@ -1,4 +1,4 @@
--- Rising entries are those that their names find, asked from the first number on.
+-- Entries in ascending order are those that lookups of the names find, from the first number on.
 use Rattle.std.proofs.Common.{◌≡◌, ◌≢◌, ℕ, zero, suc, ◌+◌, ◌<◌, ◌≤◌, true, false, cond, eqb, List, [], ◌∷◌, nat_eq, Option, Some, None, inl, inr, refl, ap, ◌∙◌, arith, ◌⊎◌}
 use Rattle.std.specs.List.{AllByRecursion, cons_option, filter_map, range_with_len}
 use Rattle.std.specs.List.Sorted.{IsStrictlySortedBy}
@@ -44,7 +44,7 @@ none_above : (n : ℕ) (es : List (ℕ × Request)) → IsAbove n es → lookup 
 none_above n [] all = refl
 none_above n (e ∷ es) all = rw (ne_eqb n e.0 (λ h. absurd (omega (arith, all.0, h)))) (none_above n es all.1)
 
--- the first entry is not asked any more
+-- lookups of greater names do not find the first entry
 later_same : (e : ℕ × Request) (es : List (ℕ × Request)) (n count : ℕ) → e.0 < n → filter_map (entry_named (e ∷ es)) (range_with_len n count) ≡ filter_map (entry_named es) (range_with_len n count)
 later_same e es n zero above = refl
 later_same e es n (suc count) above =
@@ -55,7 +55,7 @@ none_left : (n count : ℕ) → filter_map (entry_named []) (range_with_len n co
 none_left n zero = refl
 none_left n (suc count) = none_left (n + 1) count
 
--- the names lie among so many numbers
+-- the names are among the `count` numbers from n on
 abbrev pub AreNamedWithin : ℕ → ℕ → List (ℕ × Request) → Type 0
 AreNamedWithin n count es = AllByRecursion (λ e. (n ≤ e.0) × (e.0 < n + count)) es
 
@@ -65,13 +65,13 @@ within_later n count (e ∷ es) above all = ((omega (arith, above.0), omega (ari
 
 pub entries_named : (es : List (ℕ × Request)) (n count : ℕ) → IsStrictlySortedBy nat_cmp (keys_of es) → AreNamedWithin n count es → filter_map (entry_named es) (range_with_len n count) ≡ es
 unfolding IsStrictlySortedBy
-entries_named [] n count rising all = none_left n count
-entries_named (e ∷ es) n zero rising all = absurd (omega (arith, all.0.0, all.0.1))
-entries_named (e ∷ es) n (suc count) rising all =
-    by (eqb_tells n e.0) (λ within. entries_named es (n + 1) count rising.1 within) (λ within. entries_named (e ∷ es) (n + 1) count rising within)
+entries_named [] n count ascending all = none_left n count
+entries_named (e ∷ es) n zero ascending all = absurd (omega (arith, all.0.0, all.0.1))
+entries_named (e ∷ es) n (suc count) ascending all =
+    by (eqb_tells n e.0) (λ within. entries_named es (n + 1) count ascending.1 within) (λ within. entries_named (e ∷ es) (n + 1) count ascending within)
   where
     above : IsAbove e.0 es
-    above = above_head e.0 es rising.0
+    above = above_head e.0 es ascending.0
 
     by : ((eqb n e.0 ≡ true) × (n ≡ e.0)) ⊎ ((eqb n e.0 ≡ false) × (n ≢ e.0))
         → (AreNamedWithin (n + 1) count es → filter_map (entry_named es) (range_with_len (n + 1) count) ≡ es)

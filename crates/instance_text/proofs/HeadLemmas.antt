@@ -14,7 +14,7 @@ use Rattle.instance_read.specs.VrpLines.{Placed, coordinates_left, key_of, value
 use Rattle.instance_text.proofs.KeyLemmas.{capacity_none, dimension_none, key_none, nodes_read, number_read, opening_none, spelling_none}
 use Rattle.instance_text.proofs.PlacedLemmas.{CleanFrom, Leads, leads_join, leads_key}
 
--- six lines with these keys, that say so many nodes and this capacity
+-- six lines with these keys, with this number of nodes and this capacity
 pub record Head (nodes most : ℕ) : Type 0 where
   pub name : Row
   pub type : Row
@@ -42,7 +42,7 @@ module _ (nodes most : ℕ) (h : Head nodes most) where
   abbrev pub head : List Placed
   head = outside h.name ∷ outside h.type ∷ outside h.dimension ∷ outside h.weights ∷ outside h.capacity ∷ outside h.coordinates ∷ []
 
-  -- ---- what they say, whatever follows
+  -- ---- the values of the keys in the head, whatever lines follow
   pub head_nodes : (rest : List Placed) → nodes_of (head ++ rest) ≡ nodes
   head_nodes rest = rw (h.is_name, h.is_type, h.is_dimension) (number_read h.dimension nodes h.nodes_small h.counted)
 
@@ -67,7 +67,7 @@ module _ (nodes most : ℕ) (h : Head nodes most) where
   pub no_depots : (rest : List Placed) → any_key Depots (head ++ rest) ≡ any_key Depots rest
   no_depots rest = rw (h.is_name, h.is_type, h.is_dimension, h.is_weights, h.is_capacity, h.is_coordinates) refl
 
-  -- ---- no fault
+  -- ---- the lines of the head have no fault
   module _ (low : 2 ≤ nodes) (high : nodes ≤ 40001) (within : most ≤ 1000000) where
     pub head_clean : CleanFrom [] head
     head_clean = (
@@ -94,7 +94,7 @@ module _ (nodes most : ℕ) (h : Head nodes most) where
       ),
     )
 
-  -- ---- places
+  -- ---- sections
   pub head_leads : Leads None Outside head_rows head (Some nodes) (coordinates_left nodes)
   head_leads =
       let announced : Leads None Outside (h.dimension ∷ []) (outside h.dimension ∷ []) (Some nodes) Outside =

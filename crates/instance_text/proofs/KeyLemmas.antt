@@ -1,4 +1,4 @@
--- The keys of a `.vrp` text that is written, their values, and that none has a fault.
+-- The keys of a `.vrp` text that is written, and their values. None of them has a fault.
 use Rattle.std.proofs.Common.{◌≡◌, ℕ, zero, suc, ◌<◌, ◌≤◌, ◌^◌, Bool, true, false, inl, List, [], ◌∷◌, ◌++◌, map, Option, Some, None, pos, negsuc, refl, sym, ap, subst, ◌∙◌, arith, append-nil}
 use Rattle.std.specs.Prelude.{IfSome, codes, not, unsigned_abs}
 use Rattle.std.specs.Fmt.{decimal, signed_decimal}
@@ -13,14 +13,14 @@ use Rattle.instance_read.specs.declared.faults.ReadFaultKind.TheVariants.{BadNum
 use Rattle.instance_read.specs.declared.vrp_lines.Key as its
 use Rattle.instance_read.specs.declared.vrp_lines.Key.TheVariants as key
 use Rattle.instance_read.specs.declared.vrp_lines.Section.TheVariants.{Outside}
-use Rattle.instance_read.specs.Fields.{field, is_that, value_at}
+use Rattle.instance_read.specs.Fields.{field, passes_test, value_at}
 use Rattle.instance_read.specs.Rows.{Row}
 use Rattle.instance_read.specs.Vrp.{any_key, capacity_fault, depot_fault, dimension_fault, key_fault, opening_fault, place_fault, repeated_fault, spelling_fault}
-use Rattle.instance_read.specs.VrpKeys.{BeginsSolid, HasNoColon, IsTrimmed}
+use Rattle.instance_read.specs.VrpKeys.{BeginsWithNonBlank, HasNoColon, IsTrimmed}
 use Rattle.instance_read.specs.VrpLines.{Placed, is_colon, key_from, key_of, key_text, nodes_in_key, trimmed, value_of, value_text, value_words}
-use Rattle.instance_read.specs.Walk.{HasNoKind}
+use Rattle.instance_read.specs.TaskFaults.{HasNoKind}
 use Rattle.instance_read.proofs.KeyLineProofs.{key_lines}
-use Rattle.instance_text.specs.Texts.{heading_text, keyed_line, numbers_text}
+use Rattle.instance_text.specs.Texts.{heading_text, key_line, numbers_text}
 use Rattle.instance_text.specs.declared.lines.Heading.TheVariants as heading
 use Rattle.instance_text.proofs.LineLemmas.{AreSmall, all_numbers, decimal_word, field_read, value_read, words_read}
 
@@ -30,7 +30,7 @@ no_colon [] none (k, l, at) = omega (arith, l)
 no_colon (x ∷ xs) none (zero, l, at) = false≢true (sym (or_parts (is_colon x) (list_any is_colon xs) none).0 ∙ eq-eqb x 58 at)
 no_colon (x ∷ xs) none (suc k, l, at) = no_colon xs (or_parts (is_colon x) (list_any is_colon xs) none).1 (k, omega arith, at)
 
-word_begins : (ds : List ℕ) → IsWord ds → BeginsSolid ds
+word_begins : (ds : List ℕ) → IsWord ds → BeginsWithNonBlank ds
 word_begins [] is = tt
 word_begins (d ∷ ds) is = is.1.0
 
@@ -50,10 +50,10 @@ module _ (front word : List ℕ) (n : ℕ) (small : n < 2 ^ 64) (none : list_any
         key_is = trim;
         value_is = record {
           before = 32 ∷ [];
-          behind = [];
+          following = [];
           whole = ap (λ t. 32 ∷ t) (sym (append-nil (decimal n)));
           blank_before = refl;
-          blank_behind = refl;
+          blank_after = refl;
           begins = word_begins (decimal n) (decimal_word n small);
           ends = last_solid None (decimal n) tt (decimal_word n small).1;
         };
@@ -63,30 +63,30 @@ decimal_words : (n : ℕ) → n < 2 ^ 64 → words_of (decimal n) ≡ map signed
 decimal_words n small =
     ap words_of (sym (append-nil (decimal n))) ∙ words_of-front (decimal n) [] (decimal_word n small) tt ∙ ap (λ ws. decimal n ∷ ws) words_nil
 
-dimension_parts : (n : ℕ) → n < 2 ^ 64 → (key_text (keyed_line heading.Dimension n) ≡ codes "DIMENSION") × (value_text (keyed_line heading.Dimension n) ≡ decimal n)
+dimension_parts : (n : ℕ) → n < 2 ^ 64 → (key_text (key_line heading.Dimension n) ≡ codes "DIMENSION") × (value_text (key_line heading.Dimension n) ≡ decimal n)
 unfolding heading_text
 dimension_parts n small =
-    keyed_parts (codes "DIMENSION ") (codes "DIMENSION") n small refl (record { before = []; behind = 32 ∷ []; whole = refl; blank_before = refl; blank_behind = refl; begins = refl; ends = refl })
+    keyed_parts (codes "DIMENSION ") (codes "DIMENSION") n small refl (record { before = []; following = 32 ∷ []; whole = refl; blank_before = refl; blank_after = refl; begins = refl; ends = refl })
 
-capacity_parts : (n : ℕ) → n < 2 ^ 64 → (key_text (keyed_line heading.Capacity n) ≡ codes "CAPACITY") × (value_text (keyed_line heading.Capacity n) ≡ decimal n)
+capacity_parts : (n : ℕ) → n < 2 ^ 64 → (key_text (key_line heading.Capacity n) ≡ codes "CAPACITY") × (value_text (key_line heading.Capacity n) ≡ decimal n)
 unfolding heading_text
 capacity_parts n small =
-    keyed_parts (codes "CAPACITY ") (codes "CAPACITY") n small refl (record { before = []; behind = 32 ∷ []; whole = refl; blank_before = refl; blank_behind = refl; begins = refl; ends = refl })
+    keyed_parts (codes "CAPACITY ") (codes "CAPACITY") n small refl (record { before = []; following = 32 ∷ []; whole = refl; blank_before = refl; blank_after = refl; begins = refl; ends = refl })
 
 module _ (at n : ℕ) (small : n < 2 ^ 64) where
   abbrev pub dimension_row : Row
-  dimension_row = record { line = at; text = keyed_line heading.Dimension n }
+  dimension_row = record { line = at; text = key_line heading.Dimension n }
 
   abbrev pub capacity_row : Row
-  capacity_row = record { line = at; text = keyed_line heading.Capacity n }
+  capacity_row = record { line = at; text = key_line heading.Capacity n }
 
   pub dimension_key : key_of dimension_row ≡ key.Dimension
   unfolding key_of
-  dimension_key = ap (λ k. key_from k (trimmed (keyed_line heading.Dimension n))) (dimension_parts n small).0
+  dimension_key = ap (λ k. key_from k (trimmed (key_line heading.Dimension n))) (dimension_parts n small).0
 
   pub capacity_key : key_of capacity_row ≡ key.Capacity
   unfolding key_of
-  capacity_key = ap (λ k. key_from k (trimmed (keyed_line heading.Capacity n))) (capacity_parts n small).0
+  capacity_key = ap (λ k. key_from k (trimmed (key_line heading.Capacity n))) (capacity_parts n small).0
 
   pub dimension_words : value_words dimension_row ≡ map signed_decimal (pos n ∷ [])
   unfolding value_of
@@ -96,7 +96,7 @@ module _ (at n : ℕ) (small : n < 2 ^ 64) where
   unfolding value_of
   capacity_words = ap words_of (capacity_parts n small).1 ∙ decimal_words n small
 
--- the number of such a line
+-- the number in the line of a key
 pub number_read : (row : Row) (n : ℕ) → n < 2 ^ 64 → value_words row ≡ map signed_decimal (pos n ∷ []) → unsigned_abs (value_at (value_words row) 0) ≡ n
 number_read row n small is = ap (λ ws. unsigned_abs (value_at ws 0)) is ∙ ap unsigned_abs (value_read (pos n ∷ []) 0 (small, tt))
 
@@ -174,8 +174,8 @@ dimension_none stands words n small is alone low high kind = ap (λ ws. dimensio
     by : (k : ReadFaultKind) → dimension_fault stands (map signed_decimal (pos n ∷ [])) k ≡ false
     by FieldCount = refl
     by BadNumber = all_numbers (pos n ∷ []) (small, tt)
-    by TooManyStops = ap (is_that _) (field_read (pos n ∷ []) 0 (small, tt)) ∙ le-ltb 40001 n high
-    by Range = ap (is_that _) (field_read (pos n ∷ []) 0 (small, tt)) ∙ le-ltb n 2 low
+    by TooManyStops = ap (passes_test _) (field_read (pos n ∷ []) 0 (small, tt)) ∙ le-ltb 40001 n high
+    by Range = ap (passes_test _) (field_read (pos n ∷ []) 0 (small, tt)) ∙ le-ltb n 2 low
     by NodeRepeated = alone
     by _ = refl
 
@@ -185,7 +185,7 @@ capacity_none stands words n small is alone high kind = ap (λ ws. capacity_faul
     by : (k : ReadFaultKind) → capacity_fault stands (map signed_decimal (pos n ∷ [])) k ≡ false
     by FieldCount = refl
     by BadNumber = all_numbers (pos n ∷ []) (small, tt)
-    by Range = ap (is_that _) (field_read (pos n ∷ []) 0 (small, tt)) ∙ or_from _ _ (le-ltb n 0 (omega arith)) (le-ltb 1000000 n high)
+    by Range = ap (passes_test _) (field_read (pos n ∷ []) 0 (small, tt)) ∙ or_from _ _ (le-ltb n 0 (omega arith)) (le-ltb 1000000 n high)
     by NodeRepeated = alone
     by _ = refl
 

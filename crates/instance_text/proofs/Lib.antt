@@ -1,4 +1,4 @@
--- The lemma files, which upper crates may cite.
+-- The lemma files, which other crates may cite.
 pub mod CustomerLemmas
 pub mod EntryLemmas
 pub mod HeadLemmas

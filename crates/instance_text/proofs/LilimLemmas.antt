@@ -1,4 +1,4 @@
--- The text of a problem of pairs spells it.
+-- The text of a problem whose requests are pairs spells the problem.
 use Rattle.std.proofs.Common.{◌≡◌, ℕ, zero, suc, ◌+◌, ◌-◌, ◌<◌, ◌≤◌, ◌^◌, Bool, true, false, cond, List, [], ◌∷◌, map, slice_get, Option, Some, None, inl, inr, refl, sym, ap, ap₂, subst}
 use Rattle.std.proofs.Common.{◌∙◌, arith, ℤ, pos, negsuc}
 use Rattle.std.specs.Prelude.{int_lt, is_some, neg_ℤ, not, unsigned_abs, unwrap_or, ◌≤ℤ◌}
@@ -17,17 +17,17 @@ use Rattle.plan_types.proofs.LookupLemmas.{none_some, partner-below, pickup-belo
 use Rattle.instance_read.specs.declared.faults.ReadFaultKind.TheVariants.{BadNumber, Range, FieldCount, TaskOrder, PairMismatch, EmptyWindow, TooManyStops, MissingKey, Unsupported}
 use Rattle.instance_read.specs.declared.faults.ReadFaultKind.TheVariants.{DepotNotFirst, NodeRepeated, Truncated, OutOfMemory}
 use Rattle.instance_read.specs.declared.tasks.Task.{Task}
-use Rattle.instance_read.specs.Fields.{exceeds, is_beyond, is_that, value_at}
+use Rattle.instance_read.specs.Fields.{exceeds, is_beyond, passes_test, value_at}
 use Rattle.instance_read.specs.Lilim.{SpellsLilim, depot_from, header_fault, header_limits, is_out_of_order, problem_from, problem_of, task_fault, task_limits}
 use Rattle.instance_read.specs.Pairs.{last_number, pairs_of, task_from, task_of}
 use Rattle.instance_read.specs.Rows.{Row, rows_from, rows_of}
 use Rattle.instance_read.specs.Tables.{ArePaired}
-use Rattle.instance_read.specs.Walk.{HasNoKind, HasNoTaskFault}
+use Rattle.instance_read.specs.TaskFaults.{HasNoKind, HasNoTaskFault}
 use Rattle.instance_read.proofs.LilimLemmas.{has_none}
-use Rattle.instance_read.proofs.WalkLemmas.{step_none}
-use Rattle.instance_text.specs.Formats.{is_pair, is_said}
+use Rattle.instance_read.proofs.TaskFaultLemmas.{step_none}
+use Rattle.instance_text.specs.Formats.{is_pair, is_expressible}
 use Rattle.instance_text.specs.ReadBack.{last_number as last_stop, last_of, read_by}
-use Rattle.instance_text.specs.Texts.{header_line, lilim_lines, lines_text, named_delivery, named_pickup, row_line, row_of, stops_behind}
+use Rattle.instance_text.specs.Texts.{header_line, lilim_lines, lines_text, named_delivery, named_pickup, row_line, row_of, stops_from}
 use Rattle.instance_text.specs.declared.stops.StopLine.TheVariants as row
 use Rattle.instance_text.proofs.LineLemmas.{AreSmall, AreWithin, IsShown, Printable, all_numbers, field_read, lines_read, none_beyond, numbered, numbers_printable, numbers_shown}
 use Rattle.instance_text.proofs.LineLemmas.{rows_numbered, value_read, words_read}
@@ -54,7 +54,7 @@ pub small_coordinate : (z : ℤ) → IsCoordinate z → unsigned_abs z < 2 ^ 64
 small_coordinate (pos n) is = let h : n ≤ 1000000 = grind (arith, ints, is.1) in omega (arith, h)
 small_coordinate (negsuc n) is = let h : n ≤ 999999 = grind (arith, ints, is.0) in omega (arith, h)
 
--- ---- what a stop's line says
+-- ---- the values in a stop's line
 pub record IsSaid (s : Stop) : Type 0 where
   pub number : s.number ≤ 40000
   pub demand : IsCoordinate s.demand
@@ -66,14 +66,14 @@ some_within most (Some m) h = h m refl
 
 module _ (p : Instance) (valid : IsInstance p) where
   pickup_small : (n : ℕ) → named_pickup p n ≤ 40000
-  pickup_small n = some_within 40000 (pickup_at p n) (λ m is. omega (arith, pickup-below p n m valid is, valid.next_to_most))
+  pickup_small n = some_within 40000 (pickup_at p n) (λ m is. omega (arith, pickup-below p n m valid is, valid.next_number_max))
 
   delivery_small : (n : ℕ) → named_delivery p n ≤ 40000
   delivery_small n = by (is_some (pickup_at p n))
     where
       by : (b : Bool) → cond b 0 (unwrap_or (partner_at p n) 0) ≤ 40000
       by true = omega arith
-      by false = some_within 40000 (partner_at p n) (λ m is. omega (arith, partner-below p n m valid is, valid.next_to_most))
+      by false = some_within 40000 (partner_at p n) (λ m is. omega (arith, partner-below p n m valid is, valid.next_number_max))
 
   module _ (s : Stop) (said : IsSaid s) where
     abbrev fields : List ℤ
@@ -146,9 +146,9 @@ module _ (p : Instance) (valid : IsInstance p) where
       no_fault_among : HasNoKind (task_fault previous (map signed_decimal fields))
       no_fault_among FieldCount = refl
       no_fault_among BadNumber = all_numbers fields fields_small
-      no_fault_among TooManyStops = ap (is_that (λ z. int_lt (pos 40000) z)) (field_read fields 0 fields_small) ∙ not_above 40000 s.number said.number
+      no_fault_among TooManyStops = ap (passes_test (λ z. int_lt (pos 40000) z)) (field_read fields 0 fields_small) ∙ not_above 40000 s.number said.number
       no_fault_among Range = none_beyond task_limits fields fields_small fields_within
-      no_fault_among TaskOrder = ap (is_that (is_out_of_order previous)) (field_read fields 0 fields_small) ∙ order
+      no_fault_among TaskOrder = ap (passes_test (is_out_of_order previous)) (field_read fields 0 fields_small) ∙ order
       no_fault_among EmptyWindow = ap₂ exceeds (field_read fields 4 fields_small) (field_read fields 5 fields_small) ∙ not_above s.latest s.earliest said.visit.window
       no_fault_among PairMismatch = refl
       no_fault_among MissingKey = refl
@@ -170,7 +170,7 @@ module _ (p : Instance) (valid : IsInstance p) where
         ap (λ ws. task_from line (value_at ws)) stop_words
         ∙ task_same line (value_at (map signed_decimal fields)) (λ i. unwrap_or (slice_get fields i) (pos 0)) (λ i. value_read fields i fields_small)
 
-  -- ---- the lines of the stops behind the depot
+  -- ---- the lines of the stops after the depot
   depot_said : IsSaid p.depot
   depot_said = record {
     number = omega (arith, valid.depot.number);
@@ -187,20 +187,20 @@ module _ (p : Instance) (valid : IsInstance p) where
     said_at n s is (inr (inl at)) =
         let same : at.a ≡ s = (let h : Some at.a ≡ Some s = sym at.pair.pickup ∙ ap (stop_at p) at.here ∙ is in cc) in
         let valid = at.pair.valid in
-        subst IsSaid same (record { number = valid.0.to_most; demand = (demand_said at.a.demand valid.3).0; visit = valid.0.visit })
+        subst IsSaid same (record { number = valid.0.to_max; demand = (demand_said at.a.demand valid.3).0; visit = valid.0.visit })
     said_at n s is (inr (inr at)) =
         let same : at.b ≡ s = (let h : Some at.b ≡ Some s = sym at.pair.delivery ∙ ap (stop_at p) at.here ∙ is in cc) in
         let valid = at.pair.valid in
-        subst IsSaid same (record { number = valid.1.to_most; demand = subst IsCoordinate (sym valid.4) (demand_said at.a.demand valid.3).1; visit = valid.1.visit })
+        subst IsSaid same (record { number = valid.1.to_max; demand = subst IsCoordinate (sym valid.4) (demand_said at.a.demand valid.3).1; visit = valid.1.visit })
 
     said : (n : ℕ) (s : Stop) → stop_at p n ≡ Some s → IsSaid s
     said n s is = said_at n s is (place_at p valid pairs n)
 
-    all_said : (m count : ℕ) → AllByRecursion IsSaid (stops_behind p m count)
+    all_said : (m count : ℕ) → AllByRecursion IsSaid (stops_from p m count)
     all_said m zero = tt
     all_said m (suc count) = by (stop_at p m) refl (all_said (m + 1) count)
       where
-        by : (o : Option Stop) → stop_at p m ≡ o → AllByRecursion IsSaid (stops_behind p (m + 1) count) → AllByRecursion IsSaid (cons_option o (stops_behind p (m + 1) count))
+        by : (o : Option Stop) → stop_at p m ≡ o → AllByRecursion IsSaid (stops_from p (m + 1) count) → AllByRecursion IsSaid (cons_option o (stops_from p (m + 1) count))
         by None e others = others
         by (Some s) e others = (said m s e, others)
 
@@ -219,13 +219,13 @@ module _ (p : Instance) (valid : IsInstance p) where
         shown : (s : Stop) → IsSaid s → IsShown (row_line p row.Task s)
         shown s is = numbers_shown (pos s.number) _ (fields_small s is)
 
-    tasks_clean : (previous : Task) (line m count : ℕ) → previous.stop.number < m → HasNoTaskFault (Some previous) (numbered line (map (row_line p row.Task) (stops_behind p m count)))
+    tasks_clean : (previous : Task) (line m count : ℕ) → previous.stop.number < m → HasNoTaskFault (Some previous) (numbered line (map (row_line p row.Task) (stops_from p m count)))
     tasks_clean previous line m zero less = λ line kind f. f
     tasks_clean previous line m (suc count) less = by (stop_at p m) refl (λ before at. tasks_clean before at (m + 1) count)
       where
         by : (o : Option Stop) → stop_at p m ≡ o
-            → ((before : Task) (at : ℕ) → before.stop.number < m + 1 → HasNoTaskFault (Some before) (numbered at (map (row_line p row.Task) (stops_behind p (m + 1) count))))
-            → HasNoTaskFault (Some previous) (numbered line (map (row_line p row.Task) (cons_option o (stops_behind p (m + 1) count))))
+            → ((before : Task) (at : ℕ) → before.stop.number < m + 1 → HasNoTaskFault (Some before) (numbered at (map (row_line p row.Task) (stops_from p (m + 1) count))))
+            → HasNoTaskFault (Some previous) (numbered line (map (row_line p row.Task) (cons_option o (stops_from p (m + 1) count))))
         by None e others = others previous line (omega (arith, less))
         by (Some s) e others =
             let here = number_at p valid m s e in
@@ -263,8 +263,8 @@ module _ (p : Instance) (valid : IsInstance p) where
     head_fault_among Truncated = refl
     head_fault_among OutOfMemory = refl
 
-    abbrev behind : List Stop
-    behind = stops_behind p 1 (p.next_number - 1)
+    abbrev stops_after_depot : List Stop
+    stops_after_depot = stops_from p 1 (p.next_number - 1)
 
     abbrev text : List ℕ
     text = lines_text (lilim_lines p)
@@ -276,14 +276,14 @@ module _ (p : Instance) (valid : IsInstance p) where
     depot_row = record { line = 2; text = row_line p row.Task p.depot }
 
     abbrev stop_rows : List Row
-    stop_rows = numbered 3 (map (row_line p row.Task) behind)
+    stop_rows = numbered 3 (map (row_line p row.Task) stops_after_depot)
 
     rows_are : rows_of text ≡ header_row ∷ depot_row ∷ stop_rows
     rows_are =
         let all = all_said 1 (p.next_number - 1) in
         ap (λ ls. rows_from 1 ls)
-        (lines_read (lilim_lines p) (numbers_printable head head_small, (numbers_printable (fields p.depot depot_said) (fields_small p.depot depot_said), lines_printable behind all)))
-        ∙ rows_numbered 1 (lilim_lines p) (numbers_shown (pos p.fleet) _ head_small, (numbers_shown (pos p.depot.number) _ (fields_small p.depot depot_said), lines_shown behind all))
+        (lines_read (lilim_lines p) (numbers_printable head head_small, (numbers_printable (fields p.depot depot_said) (fields_small p.depot depot_said), lines_printable stops_after_depot all)))
+        ∙ rows_numbered 1 (lilim_lines p) (numbers_shown (pos p.fleet) _ head_small, (numbers_shown (pos p.depot.number) _ (fields_small p.depot depot_said), lines_shown stops_after_depot all))
 
     sound : HasNoKind (header_fault (words_of header_row.text))
     sound = subst (λ ws. HasNoKind (header_fault ws)) (sym head_words) head_fault_among
@@ -297,7 +297,7 @@ module _ (p : Instance) (valid : IsInstance p) where
         step_none None depot_row stop_rows (no_fault p.depot depot_said None depot_first) (tasks_clean (task_of depot_row) 3 1 (p.next_number - 1) after)
 
     tasks_are : map task_of stop_rows ≡ all_tasks p valid 3
-    tasks_are = tasks_read 3 behind (all_said 1 (p.next_number - 1))
+    tasks_are = tasks_read 3 stops_after_depot (all_said 1 (p.next_number - 1))
 
     -- ---- the problem
     last_is : (line m : ℕ) (s : Stop) (ss : List Stop) → last_number (task p line s) (tasks_from p m ss) ≡ last_of s ss
@@ -313,19 +313,19 @@ module _ (p : Instance) (valid : IsInstance p) where
     abbrev with_parts : Stop → List (ℕ × Request) → ℕ → Instance
     with_parts depot requests next = record { kind = LiLim; depot = depot; capacity = p.capacity; fleet = p.fleet; requests = requests; next_number = next }
 
-    from_parts : problem_from p.fleet p.capacity (task p 2 p.depot) (all_tasks p valid 3) ≡ with_parts p.depot p.requests (last_of p.depot behind + 1)
+    from_parts : problem_from p.fleet p.capacity (task p 2 p.depot) (all_tasks p valid 3) ≡ with_parts p.depot p.requests (last_of p.depot stops_after_depot + 1)
     from_parts =
         ap (λ d. with_parts d (pairs_of (all_tasks p valid 3)) (last_number (task p 2 p.depot) (all_tasks p valid 3) + 1)) (depot_same p.depot valid.depot)
-        ∙ ap₂ (λ rs n. with_parts p.depot rs (n + 1)) (pairs_are p valid 3 pairs) (last_is 2 3 p.depot behind)
+        ∙ ap₂ (λ rs n. with_parts p.depot rs (n + 1)) (pairs_are p valid 3 pairs) (last_is 2 3 p.depot stops_after_depot)
 
-    problem_is : problem_of header_row depot_row stop_rows ≡ with_parts p.depot p.requests (last_of p.depot behind + 1)
+    problem_is : problem_of header_row depot_row stop_rows ≡ with_parts p.depot p.requests (last_of p.depot stops_after_depot + 1)
     problem_is =
         ap (λ ws. problem_from (unsigned_abs (value_at ws 0)) (unsigned_abs (value_at ws 1)) (task_of depot_row) (map task_of stop_rows)) head_words
         ∙ ap₂ (λ f c. problem_from (unsigned_abs f) (unsigned_abs c) (task_of depot_row) (map task_of stop_rows)) (value_read head 0 head_small) (value_read head 1 head_small)
         ∙ ap₂ (λ d ts. problem_from p.fleet p.capacity d ts) (task_read p.depot depot_said 2) tasks_are
         ∙ from_parts
 
-    spelled : SpellsLilim text (with_parts p.depot p.requests (last_of p.depot behind + 1))
+    spelled : SpellsLilim text (with_parts p.depot p.requests (last_of p.depot stops_after_depot + 1))
     spelled = (
       has_none text header_row depot_row stop_rows rows_are sound clean (subst ArePaired (sym tasks_are) (paired p valid 3 pairs)),
       header_row,
@@ -335,7 +335,7 @@ module _ (p : Instance) (valid : IsInstance p) where
       sym problem_is,
     )
 
-pub lilim_read_back : (p : Instance) → IsInstance p → p.kind ≡ LiLim → is_said LiLim p ≡ true → SpellsLilim (lines_text (lilim_lines p)) (read_by LiLim p)
+pub lilim_read_back : (p : Instance) → IsInstance p → p.kind ≡ LiLim → is_expressible LiLim p ≡ true → SpellsLilim (lines_text (lilim_lines p)) (read_by LiLim p)
 lilim_read_back p valid kind said =
     let whole : Kind → Instance = λ k. record { kind = k; depot = p.depot; capacity = p.capacity; fleet = p.fleet; requests = p.requests; next_number = last_stop p + 1 } in
     subst (λ k. SpellsLilim (lines_text (lilim_lines p)) (whole k)) (sym kind) (spelled p valid said)

@@ -10,19 +10,19 @@ use Rattle.std.specs.Str.Parse.{digits_value}
 use Rattle.std.proofs.lemmas.Bool.{and_from, and_parts, false≢true, le-leb, leb-true, ne_eqb, or_from}
 use Rattle.std.proofs.lemmas.List.{get_or_default}
 use Rattle.std.proofs.lemmas.List.Sums.{AllPass-from_list_all}
-use Rattle.text_lines.specs.Lines.{HasNoFeed, lines_of}
+use Rattle.text_lines.specs.Lines.{HasNoLineFeed, lines_of}
 use Rattle.text_lines.specs.Numbers.{is_digits, number_of, signed}
 use Rattle.text_lines.specs.Words.{EndsWord, IsWord, is_blank, is_blank_line, words_of}
 use Rattle.text_lines.proofs.LawProofs.{are_read, end_at_feeds}
 use Rattle.text_lines.proofs.NumberLemmas.{digit_bounds, digits_of-yes, number_of-signed}
 use Rattle.text_lines.proofs.PieceLemmas.{lines_nil}
 use Rattle.text_lines.proofs.WordLemmas.{words_blank, words_nil, words_of-front}
-use Rattle.instance_read.specs.Fields.{any_beyond, field, has_no_number, is_beyond, is_no_number, is_that, value_at}
+use Rattle.instance_read.specs.Fields.{any_beyond, field, has_no_number, is_beyond, is_no_number, passes_test, value_at}
 use Rattle.instance_read.specs.Rows.{Row, rows_from}
 use Rattle.instance_read.proofs.RowLemmas.{rows_nil, rows_read}
 use Rattle.instance_text.specs.Texts.{lines_text, numbers_text}
 
--- ---- bytes that end no line
+-- ---- bytes that do not end a line
 unfoldable pub printable : ℕ → Bool
 printable b = nat_le 32 b
 
@@ -47,7 +47,7 @@ printable_at : (xs : List ℕ) (j b : ℕ) → Printable xs → j < length xs �
 unfolding printable
 printable_at xs j b p h is = omega (arith, leb-true 32 (get_or xs j 0) (AllPass-from_list_all printable xs p j 0 h), is)
 
-no_feed : (line : List ℕ) → Printable line → HasNoFeed line
+no_feed : (line : List ℕ) → Printable line → HasNoLineFeed line
 no_feed line p (j, h, here) = absurd (omega (arith, printable_at line j 10 p h (get_or_default line j 0 10 h ∙ here)))
 
 whole_line : (line : List ℕ) → Printable line → strip_carriage_return line ≡ line
@@ -66,7 +66,7 @@ lines_read (l ∷ ls) all =
     ∙ ap (λ x. x ∷ lines_of (lines_text ls)) (whole_line l all.0)
     ∙ ap (λ xs. l ∷ xs) (lines_read ls all.1)
 
--- those that are read, with their numbers
+-- the lines that are read, with their numbers
 abbrev pub numbered : ℕ → List (List ℕ) → List Row
 numbered n [] = []
 numbered n (l ∷ ls) = record { line = n; text = l } ∷ numbered (n + 1) ls
@@ -165,7 +165,7 @@ pub numbers_shown : (z : ℤ) (zs : List ℤ) → AreSmall (z ∷ zs) → IsShow
 unfolding numbers_text
 numbers_shown z zs small = word_shown (signed_decimal z) (more_text zs) (signed_word z small.0)
 
--- ---- its fields
+-- ---- the fields of a line
 pub field_read : (zs : List ℤ) (k : ℕ) → AreSmall zs → field (map signed_decimal zs) k ≡ slice_get zs k
 field_read [] k small = refl
 field_read (z ∷ zs) zero small = signed_read z small.0
@@ -179,7 +179,7 @@ all_numbers [] small = refl
 all_numbers (z ∷ zs) small =
     or_from (is_no_number (signed_decimal z)) (has_no_number (map signed_decimal zs)) (ap (λ (o : Option ℤ). is_none o) (signed_read z small.0)) (all_numbers zs small.1)
 
--- each number lies within the limits at its place
+-- each number is within the limits for its place
 abbrev pub AreWithin : List (ℤ × ℤ) → List ℤ → Type 0
 AreWithin (l ∷ ls) (z ∷ zs) = (is_beyond l z ≡ false) × AreWithin ls zs
 AreWithin (l ∷ ls) [] = Unit {0}
@@ -189,5 +189,5 @@ pub none_beyond : (ls : List (ℤ × ℤ)) (zs : List ℤ) → AreSmall zs → A
 none_beyond [] zs small within = refl
 none_beyond (l ∷ ls) [] small within = refl
 none_beyond (l ∷ ls) (z ∷ zs) small within =
-    or_from (is_that (is_beyond l) (number_of (signed_decimal z))) (any_beyond ls (map signed_decimal zs))
-    (ap (is_that (is_beyond l)) (signed_read z small.0) ∙ within.0) (none_beyond ls zs small.1 within.1)
+    or_from (passes_test (is_beyond l) (number_of (signed_decimal z))) (any_beyond ls (map signed_decimal zs))
+    (ap (passes_test (is_beyond l)) (signed_read z small.0) ∙ within.0) (none_beyond ls zs small.1 within.1)

@@ -1,4 +1,4 @@
--- What look-ups find of a problem whose requests are pairs.
+-- Lookups in a problem whose requests are pairs.
 use Rattle.std.proofs.Common.{◌≡◌, ◌≢◌, ℕ, Bool, true, false, cond, eqb, List, [], ◌∷◌, nat_eq, Option, Some, None, IsSome, inl, inr, refl, sym, subst, ◌∙◌, ◌⊎◌}
 use Rattle.std.specs.List.{AllByRecursion, list_all}
 use Rattle.std.specs.Map.{lookup}
@@ -18,7 +18,7 @@ use Rattle.instance_text.specs.Formats.{is_pair}
 some_same : {X : Type 0} {x y : X} → Some x ≡ Some y → x ≡ y
 some_same h = cc
 
--- what holds of each entry holds of what a name finds
+-- what is true for each entry is true for the one that a lookup of a name finds
 lookup_holds : (P : ℕ × Request → Type 0) (name : ℕ) (es : List (ℕ × Request)) (r : Request) → AllByRecursion P es → lookup (nat_eq name) es ≡ Some r → P (name, r)
 lookup_holds P name [] r all is = absurd (none_some r is)
 lookup_holds P name (e ∷ es) r all is = by (eqb_tells name e.0) (λ h. lookup_holds P name es r all.1 h)
@@ -33,7 +33,7 @@ all_true : (test : ℕ × Request → Bool) (es : List (ℕ × Request)) → lis
 all_true test [] is = tt
 all_true test (e ∷ es) is = let parts = and_parts (test e) (list_all test es) is in (parts.0, all_true test es parts.1)
 
--- no request, no stop
+-- if no request has a stop with this number, no lookup finds one
 none_itself : (n : ℕ) (es : List (ℕ × Request)) → first_some (itself n) es ≡ None → first_some (stop_in n) es ≡ None
 none_itself n [] is = refl
 none_itself n (e ∷ es) is = by (stop_in n e.1) refl (λ h. none_itself n es h)
@@ -42,7 +42,7 @@ none_itself n (e ∷ es) is = by (stop_in n e.1) refl (λ h. none_itself n es h)
     by None o rest = rw o (rest (let g : option_or (option_map (λ _. e.1) (stop_in n e.1)) (first_some (itself n) es) ≡ None = is in rw o at g))
     by (Some s) o rest = absurd (none_some e.1 (sym (let g : option_or (option_map (λ _. e.1) (stop_in n e.1)) (first_some (itself n) es) ≡ None = is in rw o at g)))
 
--- what is found at both numbers of a pair
+-- the results of lookups for both numbers of a pair
 pub record IsPairIn (p : Instance) (a b : Stop) : Type 0 where
   pub valid : IsRequest (Pair a b)
   pub named : lookup (nat_eq a.number) p.requests ≡ Some (Pair a b)
@@ -52,7 +52,7 @@ pub record IsPairIn (p : Instance) (a b : Stop) : Type 0 where
   pub pickup_of_delivery : pickup_at p b.number ≡ Some a.number
   pub partner_of_pickup : partner_at p a.number ≡ Some b.number
 
--- no stop has the number, or one of a pair
+-- no lookup finds a stop or a request with this number
 pub record IsFree (p : Instance) (n : ℕ) : Type 0 where
   pub stop : stop_at p n ≡ None
   pub named : lookup (nat_eq n) p.requests ≡ None
@@ -97,7 +97,7 @@ module _ (p : Instance) (valid : IsInstance p) (pairs : list_all (λ e. is_pair 
         partner_of_pickup = first.partner ∙ rw (eq-eqb a.number a.number refl) refl;
       }
 
-  -- a delivery is no name
+  -- a delivery's number is not the name of a request
   no_name : (a b : Stop) → IsPairIn p a b → lookup (nat_eq b.number) p.requests ≡ None
   no_name a b pair = by (lookup (nat_eq b.number) p.requests) refl
     where

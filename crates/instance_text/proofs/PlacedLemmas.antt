@@ -1,4 +1,4 @@
--- Lines of a `.vrp` text one behind the other: where they stand, and that none has a fault.
+-- Consecutive lines of a `.vrp` text: the sections that they are in, and that none has a fault.
 use Rattle.std.proofs.Common.{◌≡◌, ℕ, suc, ◌-◌, cond, List, [], ◌∷◌, ◌++◌, length, Option, Some, None, refl, sym, ap, subst, ◌∙◌, arith, append_assoc, append-nil}
 use Rattle.std.proofs.lemmas.Bool.{ne_eqb}
 use Rattle.instance_read.specs.declared.vrp_lines.Key.{Key}
@@ -8,12 +8,12 @@ use Rattle.instance_read.specs.Rows.{Row}
 use Rattle.instance_read.specs.Vrp.{place_fault}
 use Rattle.instance_read.specs.VrpLaws.{outside, section_lines}
 use Rattle.instance_read.specs.VrpLines.{Placed, end_from, key_of, lines_left, nodes_after, nodes_in_key, place_after, place_after_key, placed_from}
-use Rattle.instance_read.specs.VrpWalk.{HasNoLineFault}
-use Rattle.instance_read.specs.Walk.{HasNoKind}
+use Rattle.instance_read.specs.DraftLines.{HasNoLineFault}
+use Rattle.instance_read.specs.TaskFaults.{HasNoKind}
 use Rattle.instance_read.proofs.ReadingLemmas.{clean_more, placed_step}
 
 -- ---- faults
--- none of these lines has one, behind the lines before
+-- none of these lines has a fault, after the lines before
 abbrev pub CleanFrom : List Placed → List Placed → Type 0
 CleanFrom before [] = Unit {0}
 CleanFrom before (p ∷ ps) = HasNoKind (place_fault before p.row p.place) × CleanFrom (before ++ p ∷ []) ps
@@ -27,8 +27,9 @@ pub clean_join : (before xs ys : List Placed) → CleanFrom before xs → CleanF
 clean_join before [] ys a b = subst (λ l. CleanFrom l ys) (append-nil before) b
 clean_join before (x ∷ xs) ys a b = (a.0, clean_join (before ++ x ∷ []) xs ys a.1 (subst (λ l. CleanFrom l ys) (sym (append_assoc before (x ∷ []) xs)) b))
 
--- ---- places
--- behind these lines, which stand so, lines go on with so many nodes and at that place
+-- ---- sections
+-- the rows are the lines of `ps` with their sections; after them, `later` nodes are announced and the next line
+-- is in the section `next`
 pub record Leads (nodes : Option ℕ) (place : Section) (rows : List Row) (ps : List Placed) (later : Option ℕ) (next : Section) : Type 0 where
   pub placed : (more : List Row) → placed_from nodes place (rows ++ more) ≡ ps ++ placed_from later next more
   pub ends : (more : List Row) → end_from nodes place (rows ++ more) ≡ end_from later next more
@@ -43,11 +44,11 @@ leads_join {a} {b} {c} {x} {y} {z} {rows} {more} {ps} {qs} first second = record
   ends = λ rest. ap (end_from a x) (append_assoc rows more rest) ∙ first.ends (more ++ rest) ∙ second.ends rest;
 }
 
--- one line
+-- a single row leads from its section to the section of the next line
 pub leads_one : (nodes : Option ℕ) (place : Section) (row : Row) → Leads nodes place (row ∷ []) (record { row = row; place = place } ∷ []) (nodes_after nodes row place) (place_after nodes row place)
 leads_one nodes place row = record { placed = λ rest. placed_step nodes place row rest; ends = λ rest. refl }
 
--- a line outside the sections, by its key
+-- the number of nodes announced after a line outside the sections, by the key of the line
 abbrev pub nodes_with : Option ℕ → Row → Key → Option ℕ
 nodes_with (Some n) row key = Some n
 nodes_with None row key = nodes_in_key row key
@@ -61,7 +62,7 @@ leads_key nodes row key is =
     subst (λ k. Leads nodes Outside (row ∷ []) (outside row ∷ []) (nodes_with nodes row key) (place_after_key nodes k)) is
     (subst (λ o. Leads nodes Outside (row ∷ []) (outside row ∷ []) o (place_after nodes row Outside)) (nodes_same nodes row key is) (leads_one nodes Outside row))
 
--- a section of nodes
+-- facts about a section of nodes
 module _ (line : ℕ → Section) (goes : (n : ℕ) (row : Row) (k : ℕ) → place_after (Some n) row (line k) ≡ lines_left line (k - 1))
     (stays : (n : ℕ) (row : Row) (k : ℕ) → nodes_after (Some n) row (line k) ≡ Some n) where
   left_is : (k : ℕ) → lines_left line (suc k) ≡ line (suc k)

@@ -15,12 +15,12 @@ use Rattle.instance_read.specs.declared.faults.ReadFaultKind.{ReadFaultKind}
 use Rattle.instance_read.specs.declared.faults.ReadFaultKind.TheVariants.{BadNumber, Range, FieldCount, NodeRepeated}
 use Rattle.instance_read.specs.declared.vrp_lines.Key.{Key}
 use Rattle.instance_read.specs.declared.vrp_lines.Section.{Section}
-use Rattle.instance_read.specs.Fields.{field, is_that, value_at}
+use Rattle.instance_read.specs.Fields.{field, passes_test, value_at}
 use Rattle.instance_read.specs.Rows.{Row}
-use Rattle.instance_read.specs.Vrp.{any_key, has_node, is_node_line, node_fault, nodes_of, place_fault, stands_outside}
+use Rattle.instance_read.specs.Vrp.{any_key, has_node, is_node_line, node_fault, nodes_of, place_fault, is_outside}
 use Rattle.instance_read.specs.VrpLaws.{section_lines}
 use Rattle.instance_read.specs.VrpLines.{Placed}
-use Rattle.instance_read.specs.Walk.{HasNoKind}
+use Rattle.instance_read.specs.TaskFaults.{HasNoKind}
 use Rattle.instance_text.specs.Texts.{numbers_text}
 use Rattle.instance_text.proofs.CustomerLemmas.{AreNumbered}
 use Rattle.instance_text.proofs.LineLemmas.{AreSmall, AreWithin, all_numbers, field_read, none_beyond, numbered, value_read, words_read}
@@ -36,7 +36,7 @@ pub find_skip : {X : Type 0} (test : X → Bool) (xs ys : List X) → list_any t
 find_skip test [] ys none = refl
 find_skip test (x ∷ xs) ys none = let parts = or_parts (test x) (list_any test xs) none in rw parts.0 (find_skip test xs ys parts.1)
 
--- two numbers of nodes
+-- different node numbers fail the test of equality
 pub other_node : (a b : ℕ) → (a ≡ b → ⊥) → int_eq (pos a) (pos b) ≡ false
 other_node a b apart = false_from_ne_true (int_eq (pos a) (pos b)) (λ h. absurd (apart (pos_same a b ((Decides-int_eq (pos a) (pos b)).0 h))))
 
@@ -44,7 +44,7 @@ other_node a b apart = false_from_ne_true (int_eq (pos a) (pos b)) (λ h. absurd
 abbrev pub find_stop : ℕ → List Stop → Option Stop
 find_stop n ss = find (λ s. eqb s.number n) ss
 
--- each stop is found at its number
+-- each stop is found by its number
 numbers_apart : (n m : ℕ) (s : Stop) (ss all : List Stop) → s.number < n → AreNumbered n ss → AllByRecursion (λ t. find_stop t.number all ≡ Some t) ss
     → AllByRecursion (λ t. find_stop t.number (s ∷ all) ≡ Some t) ss
 numbers_apart n m s [] all less are found = tt
@@ -56,9 +56,10 @@ stops_found n [] are = tt
 stops_found n (s ∷ ss) are =
     (rw (eq-eqb s.number s.number refl) refl, numbers_apart (n + 1) n s ss ss (omega (arith, are.0)) are.1 (stops_found (n + 1) ss are.1))
 
--- The lines of a section stand at these places, and have these numbers of a stop, the node first.
+-- a section: `line` returns the place of a line, and `values` the numbers that the line of a stop has, the node
+-- first
 module _ (line : ℕ → Section) (section : Section → Bool) (values : Stop → List ℤ)
-    (within : (k : ℕ) → section (line k) ≡ true) (inside : (k : ℕ) → stands_outside (line k) ≡ false) where
+    (within : (k : ℕ) → section (line k) ≡ true) (inside : (k : ℕ) → is_outside (line k) ≡ false) where
   abbrev pub line_text : Stop → List ℕ
   line_text s = numbers_text (values s)
 
@@ -78,7 +79,7 @@ module _ (line : ℕ → Section) (section : Section → Bool) (values : Stop �
   is_node : (z : ℤ) (s : Stop) (at k : ℕ) → IsLine s → is_node_line section z (record { row = record { line = at; text = line_text s }; place = line k }) ≡ int_eq z (pos (s.number + 1))
   is_node z s at k is = rw (within k, node_read s is) refl
 
-  -- no key stands there, and no line of another section
+  -- the section has no line with a key, and no line of another section
   pub no_key : (key : Key) (k : ℕ) (rows : List Row) → any_key key (section_lines line k rows) ≡ false
   no_key key zero rows = refl
   no_key key (suc k) [] = refl
@@ -144,7 +145,7 @@ module _ (line : ℕ → Section) (section : Section → Bool) (values : Stop �
     fault_among taken s is free FieldCount = ap not is.counted
     fault_among taken s is free BadNumber = all_numbers (values s) is.is_line.small
     fault_among taken s is free Range = none_beyond (limits nodes) (values s) is.is_line.small is.bounded
-    fault_among taken s is free NodeRepeated = ap (is_that taken) (field_read (values s) 0 is.is_line.small ∙ is.is_line.first) ∙ free
+    fault_among taken s is free NodeRepeated = ap (passes_test taken) (field_read (values s) 0 is.is_line.small ∙ is.is_line.first) ∙ free
     fault_among taken s is free _ = refl
 
     no_fault : (before : List Placed) (s : Stop) (at k : ℕ) → IsSound s → nodes_of before ≡ nodes

@@ -1,4 +1,4 @@
--- The tasks of a text whose problem has pairs alone, and that they make these pairs.
+-- The tasks of a text whose problem has only pairs, and the pairs that the tasks make.
 use Rattle.std.proofs.Common.{◌≡◌, ◌≢◌, ℕ, zero, suc, ◌+◌, ◌-◌, ◌<◌, ◌≤◌, Bool, true, false, eqb, List, [], ◌∷◌, Option, Some, None, inl, inr, refl, sym, ap, subst, ◌∙◌, arith, ◌⊎◌, ℤ, pos, negsuc}
 use Rattle.std.specs.Prelude.{find, int_lt, neg_ℤ, ◌+ℤ◌}
 use Rattle.std.specs.List.{AllByRecursion, cons_option, filter_map, list_all, range_with_len}
@@ -18,14 +18,14 @@ use Rattle.instance_read.specs.Pairs.{find_task, is_mismatched, pair_of, pairs_o
 use Rattle.instance_read.specs.Tables.{ArePaired}
 use Rattle.instance_read.specs.declared.tasks.Task.{Task}
 use Rattle.instance_text.specs.Formats.{is_pair}
-use Rattle.instance_text.specs.Texts.{named_delivery, named_pickup, stops_behind}
+use Rattle.instance_text.specs.Texts.{named_delivery, named_pickup, stops_from}
 use Rattle.instance_text.proofs.EntryLemmas.{AreNamedWithin, entries_named, entry_named}
 use Rattle.instance_text.proofs.LookupLemmas.{IsPairIn, Place, place_at}
 
 some_same : {X : Type 0} {x y : X} → Some x ≡ Some y → x ≡ y
 some_same h = cc
 
--- the tasks of stops, on the lines from this one on
+-- the tasks of the stops, on the lines from this one on
 module _ (p : Instance) where
   abbrev pub task : ℕ → Stop → Task
   task line s = record { line = line; stop = s; pickup = named_pickup p s.number; delivery = named_delivery p s.number }
@@ -34,7 +34,7 @@ module _ (p : Instance) where
   tasks_from line [] = []
   tasks_from line (s ∷ ss) = task line s ∷ tasks_from (line + 1) ss
 
--- the sum of goods and of what takes them away
+-- the demands of a pickup and its delivery cancel out
 even : (a b : ℤ) → b ≡ neg_ℤ a → (int_eq (a +ℤ b) (pos 0) ≡ true) × (int_eq (b +ℤ a) (pos 0) ≡ true)
 even a b is = ((Decides-int_eq (a +ℤ b) (pos 0)).1 (grind (arith, ints, is)), (Decides-int_eq (b +ℤ a) (pos 0)).1 (grind (arith, ints, is)))
 
@@ -42,7 +42,7 @@ not_negative : (z : ℤ) → IsDemand z → int_lt z (pos 0) ≡ false
 not_negative (pos n) is = le-ltb n 0 (omega arith)
 not_negative (negsuc n) is = absurd (grind (arith, ints, is.0))
 
--- among the stops from a number on
+-- the stop with this number, in a list of stops
 abbrev find_stop : ℕ → List Stop → Option Stop
 find_stop n ss = find (λ s. eqb s.number n) ss
 
@@ -59,37 +59,37 @@ module _ (p : Instance) (valid : IsInstance p) where
   pub number_at : (n : ℕ) (s : Stop) → stop_at p n ≡ Some s → s.number ≡ n
   number_at n s is = (stop_from_first p n s valid is).0
 
-  not_behind : (n m count : ℕ) → n < m → find_stop n (stops_behind p m count) ≡ None
-  not_behind n m zero less = refl
-  not_behind n m (suc count) less = by (stop_at p m) refl (not_behind n (m + 1) count (omega (arith, less)))
+  not_after : (n m count : ℕ) → n < m → find_stop n (stops_from p m count) ≡ None
+  not_after n m zero less = refl
+  not_after n m (suc count) less = by (stop_at p m) refl (not_after n (m + 1) count (omega (arith, less)))
     where
-      by : (o : Option Stop) → stop_at p m ≡ o → find_stop n (stops_behind p (m + 1) count) ≡ None → find_stop n (stops_behind p m (suc count)) ≡ None
+      by : (o : Option Stop) → stop_at p m ≡ o → find_stop n (stops_from p (m + 1) count) ≡ None → find_stop n (stops_from p m (suc count)) ≡ None
       by None e rest = rw e rest
       by (Some s) e rest = rw (e, ne_eqb s.number n (λ h. absurd (omega (arith, less, h, number_at m s e)))) rest
 
-  found_behind : (n m count : ℕ) → m ≤ n → n < m + count → find_stop n (stops_behind p m count) ≡ stop_at p n
-  found_behind n m zero low high = absurd (omega (arith, low, high))
-  found_behind n m (suc count) low high =
-      by (stop_at p m) refl (eqb_tells m n) (λ apart. found_behind n (m + 1) count (omega (arith, low, apart)) (omega (arith, high)))
+  found_after : (n m count : ℕ) → m ≤ n → n < m + count → find_stop n (stops_from p m count) ≡ stop_at p n
+  found_after n m zero low high = absurd (omega (arith, low, high))
+  found_after n m (suc count) low high =
+      by (stop_at p m) refl (eqb_tells m n) (λ apart. found_after n (m + 1) count (omega (arith, low, apart)) (omega (arith, high)))
     where
-      by : (o : Option Stop) → stop_at p m ≡ o → ((eqb m n ≡ true) × (m ≡ n)) ⊎ ((eqb m n ≡ false) × (m ≢ n)) → (m ≢ n → find_stop n (stops_behind p (m + 1) count) ≡ stop_at p n)
-          → find_stop n (stops_behind p m (suc count)) ≡ stop_at p n
-      by None e (inl t) later = rw e (not_behind n (m + 1) count (omega (arith, t.1)) ∙ sym (ap (stop_at p) (sym t.1) ∙ e))
+      by : (o : Option Stop) → stop_at p m ≡ o → ((eqb m n ≡ true) × (m ≡ n)) ⊎ ((eqb m n ≡ false) × (m ≢ n)) → (m ≢ n → find_stop n (stops_from p (m + 1) count) ≡ stop_at p n)
+          → find_stop n (stops_from p m (suc count)) ≡ stop_at p n
+      by None e (inl t) later = rw e (not_after n (m + 1) count (omega (arith, t.1)) ∙ sym (ap (stop_at p) (sym t.1) ∙ e))
       by None e (inr t) later = rw e (later t.1)
       by (Some s) e (inl t) later = rw (e, eq-eqb s.number n (number_at m s e ∙ t.1)) (sym (ap (stop_at p) (sym t.1) ∙ e))
       by (Some s) e (inr t) later = rw (e, ne_eqb s.number n (λ h. absurd (t.1 (sym (number_at m s e) ∙ h)))) (later t.1)
 
-  -- all of them, with the tasks' first line
+  -- all tasks, with the line of the first one
   module _ (first : ℕ) where
     abbrev pub all_tasks : List Task
-    all_tasks = tasks_from p first (stops_behind p 1 (p.next_number - 1))
+    all_tasks = tasks_from p first (stops_from p 1 (p.next_number - 1))
 
     task_found : (n : ℕ) (s : Stop) → stop_at p n ≡ Some s → (k : ℕ) × (find_task n all_tasks ≡ Some (task p k s))
     task_found n s is =
-        let found = find_tasks n first (stops_behind p 1 (p.next_number - 1)) in
+        let found = find_tasks n first (stops_from p 1 (p.next_number - 1)) in
         let its = stop_from_first p n s valid is in
         let below = stop_at-below p n s valid is in
-        let here : find_stop n (stops_behind p 1 (p.next_number - 1)) ≡ stop_at p n = found_behind n 1 (p.next_number - 1) (omega (arith, its.0, its.1.from_one)) (omega (arith, below)) in
+        let here : find_stop n (stops_from p 1 (p.next_number - 1)) ≡ stop_at p n = found_after n 1 (p.next_number - 1) (omega (arith, its.0, its.1.from_one)) (omega (arith, below)) in
         (found.0, found.1 ∙ ap (option_map (task p found.0)) (here ∙ is))
 
     module _ (a b : Stop) (pair : IsPairIn p a b) where
@@ -137,12 +137,12 @@ module _ (p : Instance) (valid : IsInstance p) where
           let same : at.b ≡ s = some_same (sym at.pair.delivery ∙ ap (stop_at p) at.here ∙ is) in
           subst (λ x. is_mismatched all_tasks (task p line x) ≡ false) same (delivery_matched at.a at.b at.pair line)
 
-      all_matched : (line m count : ℕ) → AllByRecursion (λ t. is_mismatched all_tasks t ≡ false) (tasks_from p line (stops_behind p m count))
+      all_matched : (line m count : ℕ) → AllByRecursion (λ t. is_mismatched all_tasks t ≡ false) (tasks_from p line (stops_from p m count))
       all_matched line m zero = tt
       all_matched line m (suc count) = by (stop_at p m) refl (λ at. all_matched at (m + 1) count)
         where
-          by : (o : Option Stop) → stop_at p m ≡ o → ((at : ℕ) → AllByRecursion (λ t. is_mismatched all_tasks t ≡ false) (tasks_from p at (stops_behind p (m + 1) count)))
-              → AllByRecursion (λ t. is_mismatched all_tasks t ≡ false) (tasks_from p line (cons_option o (stops_behind p (m + 1) count)))
+          by : (o : Option Stop) → stop_at p m ≡ o → ((at : ℕ) → AllByRecursion (λ t. is_mismatched all_tasks t ≡ false) (tasks_from p at (stops_from p (m + 1) count)))
+              → AllByRecursion (λ t. is_mismatched all_tasks t ≡ false) (tasks_from p line (cons_option o (stops_from p (m + 1) count)))
           by None e others = others line
           by (Some s) e others = (matched_at m line s e (place_at p valid pairs m), others (line + 1))
 
@@ -166,17 +166,17 @@ module _ (p : Instance) (valid : IsInstance p) where
       no_entry n is (inr (inl at)) = absurd (none_some at.a (sym is ∙ ap (stop_at p) (sym at.here) ∙ at.pair.pickup))
       no_entry n is (inr (inr at)) = absurd (none_some at.b (sym is ∙ ap (stop_at p) (sym at.here) ∙ at.pair.delivery))
 
-      pairs_named : (line m count : ℕ) → filter_map (pair_of all_tasks) (tasks_from p line (stops_behind p m count)) ≡ filter_map (entry_named p.requests) (range_with_len m count)
+      pairs_named : (line m count : ℕ) → filter_map (pair_of all_tasks) (tasks_from p line (stops_from p m count)) ≡ filter_map (entry_named p.requests) (range_with_len m count)
       pairs_named line m zero = refl
       pairs_named line m (suc count) = by (stop_at p m) refl (λ at. pairs_named at (m + 1) count)
         where
           by : (o : Option Stop) → stop_at p m ≡ o
-              → ((at : ℕ) → filter_map (pair_of all_tasks) (tasks_from p at (stops_behind p (m + 1) count)) ≡ filter_map (entry_named p.requests) (range_with_len (m + 1) count))
-              → filter_map (pair_of all_tasks) (tasks_from p line (cons_option o (stops_behind p (m + 1) count)))
+              → ((at : ℕ) → filter_map (pair_of all_tasks) (tasks_from p at (stops_from p (m + 1) count)) ≡ filter_map (entry_named p.requests) (range_with_len (m + 1) count))
+              → filter_map (pair_of all_tasks) (tasks_from p line (cons_option o (stops_from p (m + 1) count)))
               ≡ cons_option (entry_named p.requests m) (filter_map (entry_named p.requests) (range_with_len (m + 1) count))
           by None e others = others line ∙ sym (ap (λ o. cons_option o (filter_map (entry_named p.requests) (range_with_len (m + 1) count))) (no_entry m e (place_at p valid pairs m)))
           by (Some s) e others =
-              ap (λ o. cons_option o (filter_map (pair_of all_tasks) (tasks_from p (line + 1) (stops_behind p (m + 1) count)))) (entry_at m line s e (place_at p valid pairs m))
+              ap (λ o. cons_option o (filter_map (pair_of all_tasks) (tasks_from p (line + 1) (stops_from p (m + 1) count)))) (entry_at m line s e (place_at p valid pairs m))
               ∙ ap (cons_option (entry_named p.requests m)) (others (line + 1))
 
       named_within : (es : List (ℕ × Request)) → AllByRecursion (λ e. e.0 ≡ request_name e.1) es → AllByRecursion (λ e. IsRequest e.1) es
@@ -192,5 +192,5 @@ module _ (p : Instance) (valid : IsInstance p) where
       pub pairs_are : pairs_of all_tasks ≡ p.requests
       pairs_are =
           pairs_named first 1 (p.next_number - 1)
-          ∙ entries_named p.requests 1 (p.next_number - 1) valid.rising
+          ∙ entries_named p.requests 1 (p.next_number - 1) valid.ascending
           (named_within p.requests valid.named valid.valid (below-each p.next_number p.requests valid.above))

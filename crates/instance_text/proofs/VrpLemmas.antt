@@ -1,4 +1,4 @@
--- The text of a problem of customers spells it.
+-- The text of a problem whose requests are customers spells the problem.
 use Rattle.std.proofs.Common.{◌≡◌, ℕ, suc, ◌+◌, ◌-◌, ◌<◌, ◌≤◌, ◌^◌, Bool, true, false, ◌&&◌, eqb, List, [], ◌∷◌, ◌++◌, length, map, Some, None, ℤ, pos, negsuc, refl, sym, ap, ap₂, subst}
 use Rattle.std.proofs.Common.{◌∙◌, arith, append_assoc, append-nil}
 use Rattle.std.specs.Prelude.{nat_lt, unsigned_abs, ◌≤ℤ◌}
@@ -27,10 +27,10 @@ use Rattle.instance_read.specs.Vrp.{SpellsVrp, any_key, coordinate_limits, deman
 use Rattle.instance_read.specs.Vrp.{node_stop, node_value, nodes_of, vrp_problem}
 use Rattle.instance_read.specs.VrpLaws.{depot_line, outside, section_lines}
 use Rattle.instance_read.specs.VrpLines.{Placed, coordinates_left, demands_left, depots_after, end_from, end_place, placed_from, placed_of, value_words}
-use Rattle.instance_read.specs.VrpWalk.{HasNoLineFault}
+use Rattle.instance_read.specs.DraftLines.{HasNoLineFault}
 use Rattle.instance_read.proofs.ReadingLemmas.{placed_none}
 use Rattle.instance_read.proofs.VrpFaultLemmas.{has_no_fault}
-use Rattle.instance_text.specs.Formats.{are_customers, is_open, is_said}
+use Rattle.instance_text.specs.Formats.{are_customers, is_open, is_expressible}
 use Rattle.instance_text.specs.ReadBack.{read_by}
 use Rattle.instance_text.specs.Texts.{end_lines, head_lines, heading_text, lines_text, numbers_text, row_line, row_of, visits, vrp_lines}
 use Rattle.instance_text.specs.declared.lines.Heading.TheVariants as heading
@@ -74,12 +74,12 @@ three true true false is = absurd (false≢true is)
 three true false c is = absurd (false≢true is)
 three false b c is = absurd (false≢true is)
 
--- a stop by its parts
+-- two stops with equal fields are equal
 stop_same : (s : Stop) (n : ℕ) (x y d : ℤ) (e l t : ℕ) → n ≡ s.number → x ≡ s.x → y ≡ s.y → d ≡ s.demand → e ≡ s.earliest → l ≡ s.latest → t ≡ s.service
     → record { number = n; x = x; y = y; demand = d; earliest = e; latest = l; service = t } ≡ s
 stop_same s n x y d e l t p0 p1 p2 p3 p4 p5 p6 = rw (p0, p1, p2, p3, p4, p5, p6) refl
 
--- what a line of a section needs of a stop
+-- the limits that a line of a section requires of a stop
 record IsFit (nodes : ℕ) (s : Stop) : Type 0 where
   number : s.number + 1 ≤ nodes
   visit : IsVisit s
@@ -106,7 +106,7 @@ module _ (p : Instance) (valid : IsInstance p) (some : 0 < length p.requests) (d
   ss = p.depot ∷ stops_among p.requests
 
   nodes_high : nodes ≤ 40001
-  nodes_high = omega (arith, customers_few 1 p.next_number p.requests customers valid.above valid.next_from_one, valid.next_to_most)
+  nodes_high = omega (arith, customers_few 1 p.next_number p.requests customers valid.above valid.next_number_min, valid.next_number_max)
 
   nodes_low : 2 ≤ nodes
   nodes_low = omega (arith, some)
@@ -121,7 +121,7 @@ module _ (p : Instance) (valid : IsInstance p) (some : 0 < length p.requests) (d
   visits_are =
       ap (λ l. p.depot ∷ l)
       (customers_listed 1 (p.next_number - 1) p.requests customers
-      (omega (arith, customers_few 1 p.next_number p.requests customers valid.above valid.next_from_one)))
+      (omega (arith, customers_few 1 p.next_number p.requests customers valid.above valid.next_number_min)))
 
   counted : length ss ≡ nodes
   counted = omega (arith, customers_counted 1 p.requests customers)
@@ -255,7 +255,7 @@ module _ (p : Instance) (valid : IsInstance p) (some : 0 < length p.requests) (d
   lines_are : vrp_lines p ≡ lines_for ss
   lines_are = ap lines_for visits_are
 
-  -- each of them is printable and shown
+  -- each line is printable and not blank
   abbrev IsPlain : List ℕ → Type 0
   IsPlain line = Printable line × IsShown line
 
@@ -298,14 +298,14 @@ module _ (p : Instance) (valid : IsInstance p) (some : 0 < length p.requests) (d
   unfolding heading_text printable
   end_plain = ((refl, refl), (plain_numbers (pos 1) [] (omega arith, tt), (plain_numbers (negsuc 0) [] (omega arith, tt), ((refl, refl), tt))))
 
-  abbrev behind_points : List (List ℕ)
-  behind_points = (heading_text heading.Demands ∷ map (row_line p row.Demand) ss) ++ end_lines
+  abbrev lines_after_points : List (List ℕ)
+  lines_after_points = (heading_text heading.Demands ∷ map (row_line p row.Demand) ss) ++ end_lines
 
   all_plain : AllByRecursion IsPlain (lines_for ss)
   all_plain =
-      let later : AllByRecursion IsPlain behind_points = (demands_plain, all-append IsPlain (map (row_line p row.Demand) ss) end_lines (goods_plain ss fit) end_plain) in
-      let middle = all-append IsPlain (map (row_line p row.Node) ss) behind_points (points_plain ss fit) later in
-      all-append IsPlain (head_lines p) ((heading_text heading.Coordinates ∷ map (row_line p row.Node) ss) ++ behind_points) head_plain (coordinates_plain, middle)
+      let later : AllByRecursion IsPlain lines_after_points = (demands_plain, all-append IsPlain (map (row_line p row.Demand) ss) end_lines (goods_plain ss fit) end_plain) in
+      let middle = all-append IsPlain (map (row_line p row.Node) ss) lines_after_points (points_plain ss fit) later in
+      all-append IsPlain (head_lines p) ((heading_text heading.Coordinates ∷ map (row_line p row.Node) ss) ++ lines_after_points) head_plain (coordinates_plain, middle)
 
   plain_parts : (ls : List (List ℕ)) → AllByRecursion IsPlain ls → AllByRecursion Printable ls × AllByRecursion IsShown ls
   plain_parts [] all = (tt, tt)
@@ -319,7 +319,7 @@ module _ (p : Instance) (valid : IsInstance p) (some : 0 < length p.requests) (d
       ∙ ap (λ rs. first_rows ++ rs) (numbered-append 7 (map (row_line p row.Node) ss) ((heading_text heading.Demands ∷ map (row_line p row.Demand) ss) ++ end_lines))
       ∙ ap (λ rs. first_rows ++ (crows ++ (demands_row at_demands ∷ rs))) (numbered-append (at_demands + 1) (map (row_line p row.Demand) ss) end_lines)
 
-  -- ---- their places
+  -- ---- the sections of the lines
   abbrev coordinate_part : List Placed
   coordinate_part = placed_at coordinate in_coordinates points (λ k. refl) (λ k. refl) 7 ss
 
@@ -379,15 +379,15 @@ module _ (p : Instance) (valid : IsInstance p) (some : 0 < length p.requests) (d
   end_is : is_inside (end_place text) ≡ false
   end_is = ap is_inside (ap (end_from None Outside) (rows_are ∙ sym (append-nil all_rows)) ∙ all_lead.ends [])
 
-  -- ---- what the first lines say, whatever follows them
+  -- ---- the values in the first lines, whatever lines follow
   nodes_said : (rest : List Placed) → nodes_of (head_part ++ rest) ≡ nodes
   nodes_said = head_nodes nodes p.capacity front
 
-  demands_behind : (rest : List Placed) → any_key key.Demands (head_part ++ rest) ≡ any_key key.Demands rest
-  demands_behind = no_demands nodes p.capacity front
+  later_demands : (rest : List Placed) → any_key key.Demands (head_part ++ rest) ≡ any_key key.Demands rest
+  later_demands = no_demands nodes p.capacity front
 
-  depots_behind : (rest : List Placed) → any_key key.Depots (head_part ++ rest) ≡ any_key key.Depots rest
-  depots_behind = no_depots nodes p.capacity front
+  later_depots : (rest : List Placed) → any_key key.Depots (head_part ++ rest) ≡ any_key key.Depots rest
+  later_depots = no_depots nodes p.capacity front
 
   -- ---- no line has a fault
   abbrev demands_placed : Placed
@@ -416,7 +416,7 @@ module _ (p : Instance) (valid : IsInstance p) (some : 0 < length p.requests) (d
   depots_alone : any_key key.Depots (before_demands ++ demand_part) ≡ false
   depots_alone =
       ap (any_key key.Depots) (joined demand_part)
-      ∙ depots_behind (coordinate_part ++ demands_placed ∷ demand_part)
+      ∙ later_depots (coordinate_part ++ demands_placed ∷ demand_part)
       ∙ list_any-append (has_key key.Depots) coordinate_part (demands_placed ∷ demand_part)
       ∙ or_from (any_key key.Depots coordinate_part) (any_key key.Depots (demands_placed ∷ demand_part)) (no_coordinate_key key.Depots)
       (rw (demands_key at_demands) (no_demand_key key.Depots))
@@ -432,7 +432,7 @@ module _ (p : Instance) (valid : IsInstance p) (some : 0 < length p.requests) (d
   demands_clean : CleanFrom (head_part ++ coordinate_part) (demands_placed ∷ (demand_part ++ end_part))
   demands_clean = (
     key_none (head_part ++ coordinate_part) (demands_row at_demands) key.Demands (demands_key at_demands)
-        (opening_none _ _ (has_dimension nodes p.capacity front coordinate_part) (demands_behind coordinate_part ∙ no_coordinate_key key.Demands)),
+        (opening_none _ _ (has_dimension nodes p.capacity front coordinate_part) (later_demands coordinate_part ∙ no_coordinate_key key.Demands)),
     clean_join before_demands demand_part end_part
         (section_clean demanded in_demands goods (λ k. refl) (λ k. refl) 2 demand_limits nodes (λ before row k kind. refl) 0 (at_demands + 1) before_demands ss are (all_so _ goods_sound ss fit)
         (λ rest. ap nodes_of (joined rest) ∙ nodes_said (coordinate_part ++ demands_placed ∷ rest)) demand_free)
@@ -449,18 +449,18 @@ module _ (p : Instance) (valid : IsInstance p) (some : 0 < length p.requests) (d
       demands_clean))
 
   -- ---- no key is missing
-  abbrev behind_head : List Placed
-  behind_head = coordinate_part ++ (demands_placed ∷ (demand_part ++ end_part))
+  abbrev lines_after_head : List Placed
+  lines_after_head = coordinate_part ++ (demands_placed ∷ (demand_part ++ end_part))
 
   has_demands : any_key key.Demands ps ≡ true
   has_demands =
-      demands_behind behind_head
+      later_demands lines_after_head
       ∙ list_any-append (has_key key.Demands) coordinate_part (demands_placed ∷ (demand_part ++ end_part))
       ∙ rw (no_coordinate_key key.Demands, demands_key at_demands) refl
 
   has_depots : any_key key.Depots ps ≡ true
   has_depots =
-      depots_behind behind_head
+      later_depots lines_after_head
       ∙ list_any-append (has_key key.Depots) coordinate_part (demands_placed ∷ (demand_part ++ end_part))
       ∙ rw (no_coordinate_key key.Depots, demands_key at_demands)
       (list_any-append (has_key key.Depots) demand_part end_part ∙ rw (no_demand_key key.Depots, depots_key at_depots) refl)
@@ -468,10 +468,10 @@ module _ (p : Instance) (valid : IsInstance p) (some : 0 < length p.requests) (d
   complete : lacks_key ps ≡ false
   complete =
       rw (
-        has_dimension nodes p.capacity front behind_head,
-        has_capacity nodes p.capacity front behind_head,
-        has_weights nodes p.capacity front behind_head,
-        has_coordinates nodes p.capacity front behind_head,
+        has_dimension nodes p.capacity front lines_after_head,
+        has_capacity nodes p.capacity front lines_after_head,
+        has_weights nodes p.capacity front lines_after_head,
+        has_coordinates nodes p.capacity front lines_after_head,
         has_demands,
         has_depots,
       )
@@ -520,10 +520,10 @@ module _ (p : Instance) (valid : IsInstance p) (some : 0 < length p.requests) (d
   problem_is : vrp_problem ps ≡ problem_with p.depot p.capacity (length p.requests) p.requests nodes
   problem_is =
       let fewer : nodes - 1 ≡ length p.requests = omega arith in
-      ap (λ n. problem_with (node_stop ps (pos 0) 0) (capacity_in ps) (n - 1) (map (λ n. (n, Single (made n))) (range_with_len 1 (n - 1))) n) (nodes_said behind_head)
+      ap (λ n. problem_with (node_stop ps (pos 0) 0) (capacity_in ps) (n - 1) (map (λ n. (n, Single (made n))) (range_with_len 1 (n - 1))) n) (nodes_said lines_after_head)
       ∙ ap (λ n. problem_with (node_stop ps (pos 0) 0) (capacity_in ps) n (map (λ n. (n, Single (made n))) (range_with_len 1 n)) nodes) fewer
       ∙ ap (λ rs. problem_with (node_stop ps (pos 0) 0) (capacity_in ps) (length p.requests) rs nodes) requests_are
-      ∙ ap₂ (λ d c. problem_with d c (length p.requests) p.requests nodes) depot_is (head_capacity nodes p.capacity front behind_head)
+      ∙ ap₂ (λ d c. problem_with d c (length p.requests) p.requests nodes) depot_is (head_capacity nodes p.capacity front lines_after_head)
 
   pub spelled : SpellsVrp (lines_text (vrp_lines p)) (problem_with p.depot p.capacity (length p.requests) p.requests nodes)
   spelled = (
@@ -531,7 +531,7 @@ module _ (p : Instance) (valid : IsInstance p) (some : 0 < length p.requests) (d
     sym (ap vrp_problem placed_are ∙ problem_is),
   )
 
-pub vrp_read_back : (p : Instance) → IsInstance p → p.kind ≡ Vrp → is_said Vrp p ≡ true → SpellsVrp (lines_text (vrp_lines p)) (read_by Vrp p)
+pub vrp_read_back : (p : Instance) → IsInstance p → p.kind ≡ Vrp → is_expressible Vrp p ≡ true → SpellsVrp (lines_text (vrp_lines p)) (read_by Vrp p)
 vrp_read_back p valid kind said =
     let parts = three (nat_lt 0 (length p.requests)) (is_open p.depot) (are_customers 1 p.requests) said in
     let whole : Kind → Instance = λ k. record { kind = k; depot = p.depot; capacity = p.capacity; fleet = length p.requests; requests = p.requests; next_number = length p.requests + 1 } in

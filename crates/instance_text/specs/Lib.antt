@@ -1,4 +1,4 @@
--- what public contracts say
+-- definitions that public contracts use
 pub mod Formats
 pub mod Names
 pub mod ReadBack

@@ -2,7 +2,7 @@
 use Rattle.std.specs.Prelude.{ℕ, ◌+◌, ◌-◌, List, [], ◌∷◌, ◌++◌, length, map, codes, unwrap_or, is_some, if◌then◌else◌, ℤ, pos, neg_ℤ}
 use Rattle.std.specs.Fmt.{decimal, signed_decimal}
 use Rattle.std.specs.List.{filter_map, flat_map, range_with_len}
-use Rattle.text_lines.specs.Lines.{ended}
+use Rattle.text_lines.specs.Lines.{with_line_feed}
 use Rattle.plan_types.specs.Instance.{Instance, partner_at, pickup_at, stop_at}
 use Rattle.plan_types.specs.declared.requests.Kind.{Kind}
 use Rattle.plan_types.specs.declared.requests.Kind.TheVariants.{LiLim, Vrp}
@@ -12,22 +12,22 @@ use Rattle.instance_text.specs.declared.lines.Heading.TheVariants.{Name, Problem
 use Rattle.instance_text.specs.declared.stops.StopLine.{StopLine}
 use Rattle.instance_text.specs.declared.stops.StopLine.TheVariants.{Task, Node, Demand}
 
--- numbers, each but the first behind a blank
+-- the numbers in decimal, separated by single spaces
 unfoldable pub numbers_text : List ℤ → List ℕ
 numbers_text [] = []
 numbers_text (z ∷ zs) = signed_decimal z ++ flat_map (λ n. 32 ∷ signed_decimal n) zs
 
 -- lines, each with its line feed
 abbrev pub lines_text : List (List ℕ) → List ℕ
-lines_text lines = flat_map ended lines
+lines_text lines = flat_map with_line_feed lines
 
 -- ---- stops
--- the depot, and the stops of the requests by rising number
-abbrev pub stops_behind : Instance → ℕ → ℕ → List Stop
-stops_behind p n count = filter_map (stop_at p) (range_with_len n count)
+-- the stops of the requests among `count` numbers from n on, in ascending order
+abbrev pub stops_from : Instance → ℕ → ℕ → List Stop
+stops_from p n count = filter_map (stop_at p) (range_with_len n count)
 
 abbrev pub visits : Instance → List Stop
-visits p = p.depot ∷ stops_behind p 1 (p.next_number - 1)
+visits p = p.depot ∷ stops_from p 1 (p.next_number - 1)
 
 -- the pickup of a delivery, or 0
 abbrev pub named_pickup : Instance → ℕ → ℕ
@@ -37,8 +37,8 @@ named_pickup p n = unwrap_or (pickup_at p n) 0
 abbrev pub named_delivery : Instance → ℕ → ℕ
 named_delivery p n = if is_some (pickup_at p n) then 0 else unwrap_or (partner_at p n) 0
 
--- What a line has of a stop. A task: its number, place, demand, window and service, and the pickup and the delivery that go
--- with it. A node counts from 1.
+-- the numbers in a line for a stop; a task has its number, coordinates, demand, time window and service, and
+-- the pickup or the delivery of its pair; nodes count from 1
 abbrev pub row_of : Instance → StopLine → Stop → List ℤ
 row_of p Task s =
     pos s.number ∷ s.x ∷ s.y ∷ s.demand ∷ pos s.earliest ∷ pos s.latest ∷ pos s.service
@@ -58,7 +58,7 @@ abbrev pub lilim_lines : Instance → List (List ℕ)
 lilim_lines p = header_line p ∷ map (row_line p Task) (visits p)
 
 -- ---- CVRPLIB's format
--- lines that are the same in each text, and two keys
+-- the lines that are the same in each text, and two keys
 unfoldable pub heading_text : Heading → List ℕ
 heading_text Name = codes "NAME : planner"
 heading_text ProblemType = codes "TYPE : CVRP"
@@ -70,27 +70,27 @@ heading_text Demands = codes "DEMAND_SECTION"
 heading_text Depots = codes "DEPOT_SECTION"
 heading_text End = codes "EOF"
 
-abbrev pub keyed_line : Heading → ℕ → List ℕ
-keyed_line key n = heading_text key ++ decimal n
+abbrev pub key_line : Heading → ℕ → List ℕ
+key_line key n = heading_text key ++ decimal n
 
 -- the keys; the depot is a node too
 abbrev pub head_lines : Instance → List (List ℕ)
 head_lines p =
-    heading_text Name ∷ heading_text ProblemType ∷ keyed_line Dimension (length p.requests + 1)
-    ∷ heading_text Weights ∷ keyed_line Capacity p.capacity ∷ []
+    heading_text Name ∷ heading_text ProblemType ∷ key_line Dimension (length p.requests + 1)
+    ∷ heading_text Weights ∷ key_line Capacity p.capacity ∷ []
 
 -- a section with a line for each stop
 abbrev pub section_lines : Instance → Heading → StopLine → List (List ℕ)
 section_lines p heading row = heading_text heading ∷ map (row_line p row) (visits p)
 
--- the list of depots is node 1, and ends with -1
+-- the list of depots is node 1 and ends with -1
 abbrev pub end_lines : List (List ℕ)
 end_lines = heading_text Depots ∷ numbers_text (pos 1 ∷ []) ∷ numbers_text (neg_ℤ (pos 1) ∷ []) ∷ heading_text End ∷ []
 
 abbrev pub vrp_lines : Instance → List (List ℕ)
 vrp_lines p = head_lines p ++ (section_lines p Coordinates Node ++ (section_lines p Demands Demand ++ end_lines))
 
--- ---- either
+-- ---- either format
 abbrev pub lines_by : Kind → Instance → List (List ℕ)
 lines_by LiLim p = lilim_lines p
 lines_by Vrp p = vrp_lines p

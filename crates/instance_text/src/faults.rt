@@ -1,13 +1,13 @@
-//! Why a problem is not written.
+//! The reasons why a problem is not written.
 ghost use Rattle.std.specs.Prelude.{◌≡◌};
 
 use std::alloc::AllocError;
 use thiserror::Error;
 
-/// Why a problem is not written.
+/// The reason why a problem is not written.
 #[derive(Clone, Copy, Debug, PartialEq, Eq, Error)]
 pub enum WriteFault {
-    /// The format of its kind can't say one of its requests, or its depot.
+    /// The format for this kind can't express one of the requests, or the depot.
     #[error("the format of its kind can't say the problem")]
     NoFormat,
     #[error("out of memory")]
@@ -17,7 +17,7 @@ pub enum WriteFault {
 impl WriteFault {
     ghost use Rattle.instance_text.specs.Names.{fault_name};
 
-    /// Its name, as answers print it.
+    /// Returns the name of the fault, as answers print it.
     pub fn name(&self) -> &'static str
         ensures { result.now ≡ fault_name self.now }
     {

@@ -1,4 +1,4 @@
-//! Which problems the format of their kind can say.
+//! The problems that each format can express.
 ghost use Rattle.std.specs.Prelude.{◌≡◌, slice_get, true};
 ghost use Rattle.std.specs.List.{list_all};
 ghost use Rattle.std.specs.Option.{option_map_or};
@@ -8,8 +8,10 @@ ghost use Rattle.instance_text.specs.Formats.{are_customers, has_format, is_cust
 use plan_types::limits::MAX_TIME;
 use plan_types::{Kind, Problem, Request, Stop};
 
-/// Whether the format of its kind can say the problem. Li and Lim's has pairs alone; CVRPLIB's has one customer or more,
-/// numbered from 1 without a gap, without windows and services. Takes no memory.
+/// Returns whether the format for the problem's kind can express it. Does not allocate.
+///
+/// Li and Lim's format has only pairs. CVRPLIB's format has one or more customers, numbered from 1 without a
+/// gap, and no time windows or services.
 pub fn has_format(problem: &Problem) -> bool
     ensures format { result ≡ has_format problem.now }
     ensures valid { IsInstance problem.now }
@@ -43,7 +45,7 @@ fn is_pair_at(problem: &Problem, index: usize) -> bool
     }
 }
 
-// Whether the request at each index is the customer with the number behind it.
+// Returns whether the request at each index is the customer whose number is one greater.
 fn are_customers(problem: &Problem) -> bool
     ensures { result ≡ are_customers 1 problem.now.requests }
 {

@@ -1,8 +1,8 @@
-//! What is written is read back, for every problem.
+//! The law that a text that is written reads back.
 ghost use Rattle.instance_text.specs.ReadBack.{TextsAreReadBack};
 
-/// The text of a problem spells it, in the format of its kind: with the number behind the last stop as its next number, and in
-/// CVRPLIB's with a vehicle for each customer.
+/// States that the text of a problem spells the problem in the format for its kind. The next number of the
+/// problem read is the one after the last stop, and a problem in CVRPLIB's format has one vehicle per customer.
 pub fn texts_are_read_back()
     ensures { TextsAreReadBack }
 {}

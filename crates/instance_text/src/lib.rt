@@ -1,25 +1,25 @@
-//! The text of a problem, as an instance that other programs read: Li and Lim's format, and the `.vrp` files of CVRPLIB.
+//! Writes a problem as an instance file that other programs read: Li and Lim's format, or a `.vrp` file of
+//! CVRPLIB.
 //!
-//! Entry function: `write_instance`, called by whoever prints what is planned now, behind requests that were added and
-//! withdrawn. `instance_read` takes the text back.
+//! The entry point is `write_instance`. It writes the problem as it is now, after requests were added and
+//! withdrawn. `instance_read` reads the text back.
 //!
-//! Sources: as `instance_read`'s. A Li-Lim text has the stops by their own numbers, so that gaps between them stay. A `.vrp`
-//! text can't say windows, services and gaps, so a problem that has them is refused; the fleet is left out of it.
+//! Sources: as for `instance_read`. A Li-Lim text has the stops under their own numbers, so gaps between the
+//! numbers stay. A `.vrp` text cannot express time windows, services and gaps, so a problem that has them is
+//! refused. The fleet is not part of a `.vrp` text.
 //!
 //! Modules, in reading order:
-//! - `faults`: why a problem is not written
-//! - `formats`: which problems the format of their kind can say
+//! - `faults`: the reasons why a problem is not written
+//! - `formats`: the problems that each format can express
 //! - `lines`: one line
-//! - `stops`: the lines of all stops, by rising number
+//! - `stops`: the lines of all stops, in ascending order of number
 //! - `write`: the writer
-//! - `laws`: what is written is read back
+//! - `laws`: a text that is written reads back
 //!
-//! Said by `specs/Formats.antt`, `Texts.antt` and `ReadBack.antt`. Proved:
-//! - `write_instance`: `text`, each byte; `spells`, it is read as the problem, with the number behind the last stop as its
-//!   next number, and of kind `Vrp` with a vehicle for each customer; `no_format` and `format`, it is refused exactly where
-//!   its format can't say the problem, and else fails for want of memory alone
-//! - `has_format`: whether its format can say a problem
-//! - `texts_are_read_back`: `spells`, as a law over every problem
+//! Proved: `write_instance` writes exactly the bytes of its definition. It refuses a problem exactly if the
+//! format can't express it, and otherwise fails only if memory runs out. The text reads back as the problem,
+//! except that its next number follows the last stop, and that a problem of kind `Vrp` gets one vehicle per
+//! customer.
 #![tactic(auto)]
 
 mod faults;

@@ -1,14 +1,14 @@
-//! One line of an instance's text.
+//! One line of an instance text.
 ghost use Rattle.std.specs.Prelude.{◌≡◌, ◌++◌, ◌∷◌, [], OnOk};
 ghost use Rattle.std.specs.Fmt.{decimal, signed_decimal};
 ghost use Rattle.std.specs.List.{flat_map};
-ghost use Rattle.text_lines.specs.Lines.{ended};
-ghost use Rattle.instance_text.specs.Texts.{heading_text, keyed_line, numbers_text};
+ghost use Rattle.text_lines.specs.Lines.{with_line_feed};
+ghost use Rattle.instance_text.specs.Texts.{heading_text, key_line, numbers_text};
 
 use itoa::{Buffer, Integer};
 use std::alloc::AllocError;
 
-/// What stands in each `.vrp` text: whole lines, and the keys of two numbers.
+/// The fixed parts of a `.vrp` text: whole lines, and the keys of two numbers.
 #[derive(Clone, Copy)]
 pub(crate) enum Heading {
     Name,
@@ -41,18 +41,18 @@ impl Heading {
     }
 }
 
-/// A line that is the same in each text.
+/// Appends a line that is the same in each text.
 pub(crate) fn put_heading(text: &mut Vec<u8>, heading: Heading) -> Result<(), AllocError>
-    ensures { OnOk result (text.new.items ≡ text.old.items ++ ended (heading_text heading)) }
+    ensures { OnOk result (text.new.items ≡ text.old.items ++ with_line_feed (heading_text heading)) }
 {
     text.extend_from_slice(heading.text())?;
     text.push(b'\n')?;
     Ok(())
 }
 
-/// A key with its number.
-pub(crate) fn put_keyed(text: &mut Vec<u8>, key: Heading, number: u64) -> Result<(), AllocError>
-    ensures { OnOk result (text.new.items ≡ text.old.items ++ ended (keyed_line key number)) }
+/// Appends a line with a key and its number.
+pub(crate) fn put_key_line(text: &mut Vec<u8>, key: Heading, number: u64) -> Result<(), AllocError>
+    ensures { OnOk result (text.new.items ≡ text.old.items ++ with_line_feed (key_line key number)) }
 {
     text.extend_from_slice(key.text())?;
     put_number(text, number)?;
@@ -60,10 +60,10 @@ pub(crate) fn put_keyed(text: &mut Vec<u8>, key: Heading, number: u64) -> Result
     Ok(())
 }
 
-/// A line of numbers with a blank between two.
+/// Appends a line of numbers, separated by single spaces.
 #[tactic(auto, unfolding(crate::specs::Texts::numbers_text))]
 pub(crate) fn put_line(text: &mut Vec<u8>, numbers: &[i64]) -> Result<(), AllocError>
-    ensures { OnOk result (text.new.items ≡ text.old.items ++ ended (numbers_text numbers.now)) }
+    ensures { OnOk result (text.new.items ≡ text.old.items ++ with_line_feed (numbers_text numbers.now)) }
 {
     if let [first, more @ ..] = numbers {
         put_number(text, *first)?;

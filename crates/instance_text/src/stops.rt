@@ -1,25 +1,25 @@
-//! The lines of all stops, by rising number.
+//! The lines of all stops, in ascending order of number.
 ghost use Rattle.std.specs.Prelude.{◌≡◌, ◌++◌, ◌≤◌, ◌-◌, ℕ, map, OnOk};
 ghost use Rattle.std.specs.Option.{option_map_or};
-ghost use Rattle.text_lines.specs.Lines.{ended};
+ghost use Rattle.text_lines.specs.Lines.{with_line_feed};
 ghost use Rattle.plan_types.specs.Instance.{stop_at};
-ghost use Rattle.instance_text.specs.Texts.{lines_text, named_delivery, named_pickup, row_line, stops_behind, visits};
+ghost use Rattle.instance_text.specs.Texts.{lines_text, named_delivery, named_pickup, row_line, stops_from, visits};
 
 use crate::lines::put_line;
 use plan_types::{Problem, Stop};
 use std::alloc::AllocError;
 
-/// What a line has of a stop.
+/// The kind of a line for a stop.
 #[derive(Clone, Copy)]
 pub(crate) enum StopLine {
-    /// All of it, in Li and Lim's format.
+    /// A task with all fields of the stop, in Li and Lim's format.
     Task,
-    /// Its place, in CVRPLIB's.
+    /// The coordinates of a node, in CVRPLIB's format.
     Node,
     Demand,
 }
 
-/// A line for the depot, and then one for each stop of a request.
+/// Appends a line for the depot, and then one for each stop of a request.
 pub(crate) fn put_visits(
     text: &mut Vec<u8>,
     problem: &Problem,
@@ -35,7 +35,7 @@ pub(crate) fn put_visits(
 fn put_stops(text: &mut Vec<u8>, problem: &Problem, row: StopLine) -> Result<(), AllocError>
     ensures { OnOk result (text.new.items ≡ text.old.items
         ++ lines_text (map (row_line problem.now row)
-        (stops_behind problem.now 1 (problem.now.next_number - 1)))) }
+        (stops_from problem.now 1 (problem.now.next_number - 1)))) }
 {
     for number in 1..problem.next_number {
         put_numbered(text, problem, row, number)?;
@@ -43,7 +43,7 @@ fn put_stops(text: &mut Vec<u8>, problem: &Problem, row: StopLine) -> Result<(),
     Ok(())
 }
 
-// The line of the stop with this number, if there is one.
+// Appends the line of the stop with this number, if there is one.
 fn put_numbered(
     text: &mut Vec<u8>,
     problem: &Problem,
@@ -51,7 +51,7 @@ fn put_numbered(
     number: u32,
 ) -> Result<(), AllocError>
     ensures { OnOk result (text.new.items ≡ text.old.items
-        ++ lines_text (map (row_line problem.now row) (stops_behind problem.now number 1))) }
+        ++ lines_text (map (row_line problem.now row) (stops_from problem.now number 1))) }
 {
     match problem.stop(number) {
         Some(stop) => put_stop(text, problem, row, stop),
@@ -67,7 +67,7 @@ fn put_stop(
 ) -> Result<(), AllocError>
     requires { stop.now.number ≤ 40000 }
     ensures { OnOk result (text.new.items
-        ≡ text.old.items ++ ended (row_line problem.now row stop.now)) }
+        ≡ text.old.items ++ with_line_feed (row_line problem.now row stop.now)) }
 {
     match row {
         StopLine::Task => put_task(text, problem, stop),
@@ -85,7 +85,7 @@ fn put_stop(
 
 fn put_task(text: &mut Vec<u8>, problem: &Problem, stop: &Stop) -> Result<(), AllocError>
     ensures { OnOk result (text.new.items
-        ≡ text.old.items ++ ended (row_line problem.now StopLine.Task stop.now)) }
+        ≡ text.old.items ++ with_line_feed (row_line problem.now StopLine.Task stop.now)) }
 {
     put_line(
         text,
@@ -103,14 +103,14 @@ fn put_task(text: &mut Vec<u8>, problem: &Problem, stop: &Stop) -> Result<(), Al
     )
 }
 
-// The pickup of a delivery, or 0.
+// Returns the pickup of a delivery, or 0.
 fn named_pickup(problem: &Problem, number: u32) -> u32
     ensures { result ≡ named_pickup problem.now number }
 {
     problem.pickup_of(number).unwrap_or(0)
 }
 
-// The delivery of a pickup, or 0.
+// Returns the delivery of a pickup, or 0.
 fn named_delivery(problem: &Problem, number: u32) -> u32
     ensures { result ≡ named_delivery problem.now number }
 {

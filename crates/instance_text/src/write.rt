@@ -1,4 +1,4 @@
-//! Writing the text of a problem.
+//! The writer of a problem's text.
 ghost use Rattle.std.specs.Prelude.{◌≡◌, ◌++◌, true, false, IfOk, OnOk, IsErrOf, IsOkUnless};
 ghost use Rattle.instance_read.specs.Readings.{SpellsInstance};
 ghost use Rattle.instance_text.specs.Formats.{has_format};
@@ -9,17 +9,18 @@ ghost use Rattle.instance_text.specs.declared.faults.WriteFault.TheVariants.{NoF
 use crate::faults::WriteFault;
 use crate::formats::has_format;
 use crate::laws::texts_are_read_back;
-use crate::lines::{Heading, put_heading, put_keyed, put_line};
+use crate::lines::{Heading, put_heading, put_key_line, put_line};
 use crate::stops::{StopLine, put_visits};
 use plan_types::{Kind, Problem};
 use std::alloc::{AllocError, Global};
 
-/// The text of a problem: an instance in Li and Lim's format where its kind is `LiLim`, a `.vrp` file of CVRPLIB where it
-/// is `Vrp`. The stops stand by rising number, each with its own. A `.vrp` file doesn't say the fleet.
+/// Writes a problem as text: in Li and Lim's format if its kind is `LiLim`, as a `.vrp` file of CVRPLIB if it
+/// is `Vrp`. The stops are in ascending order of number. A task has the number of its stop, while stop n is
+/// node n + 1 of a `.vrp` file. A `.vrp` file does not contain the fleet.
 ///
 /// # Errors
 ///
-/// `NoFormat` where the format can't say the problem, as `has_format` tells, then `OutOfMemory`.
+/// Returns `NoFormat` if the format can't express the problem (see `has_format`), then `OutOfMemory`.
 pub fn write_instance(alloc: Global, problem: &Problem) -> Result<Vec<u8>, WriteFault>
     ensures text { IfOk result (λ text. text.items ≡ instance_text problem.now) }
     ensures spells { IfOk result (λ text. SpellsInstance problem.now.kind text.items
@@ -31,7 +32,7 @@ pub fn write_instance(alloc: Global, problem: &Problem) -> Result<Vec<u8>, Write
         return Err(WriteFault::NoFormat);
     }
     let text = write_lines(alloc, problem)?;
-    // By this law the text is read as what was written.
+    // By this law, the text reads back as the problem.
     texts_are_read_back();
     Ok(text)
 }
@@ -74,9 +75,9 @@ fn put_head(text: &mut Vec<u8>, problem: &Problem) -> Result<(), AllocError>
 {
     put_heading(text, Heading::Name)?;
     put_heading(text, Heading::ProblemType)?;
-    put_keyed(text, Heading::Dimension, problem.requests.len() as u64 + 1)?;
+    put_key_line(text, Heading::Dimension, problem.requests.len() as u64 + 1)?;
     put_heading(text, Heading::Weights)?;
-    put_keyed(text, Heading::Capacity, u64::from(problem.capacity))
+    put_key_line(text, Heading::Capacity, u64::from(problem.capacity))
 }
 
 fn put_section(

@@ -1,4 +1,4 @@
--- The least of a list by an order, and the order of insertions.
+-- The first item of a list by an order, and the order of insertions.
 use Rattle.std.proofs.Common.{◌≡◌, ℕ, zero, suc, ◌<◌, ◌≤◌, ◌⊎◌, ◌&&◌, ◌||◌, Bool, true, false, not, eqb, ltb}
 use Rattle.std.proofs.Common.{leb, List, [], ◌∷◌, length, Option, Some, None, refl, sym, ap, subst, ◌∙◌, inl, inr, arith}
 use Rattle.std.specs.List.{Contains}
@@ -15,7 +15,7 @@ module _ {X : Type 0} (at_most : X → X → Bool) (total : (x y : X) → (at_mo
   itself : (x : X) → at_most x x ≡ true
   itself x = elim (total x x) [ inl h ↦ h | inr h ↦ h ]
 
-  -- an item of a longer list is its head, or one of its tail
+  -- an item of a list is its head or an item of its tail
   one_of : (x y : X) (xs : List X) → Contains (x ∷ xs) y → (x ≡ y) ⊎ Contains xs y
   one_of x y xs (zero, within, at) = inl at
   one_of x y xs (suc k, within, at) = inr (k, omega arith, at)
@@ -60,21 +60,21 @@ not_cases : (b : Bool) → (b ≡ true) ⊎ (not b ≡ true)
 not_cases true = inl refl
 not_cases false = inr refl
 
--- the order of places, as a sentence
-abbrev pub Behind : ℕ → ℕ → ℕ → ℕ → Type 0
-Behind b c e f = (b < e) ⊎ ((b ≡ e) × (c ≤ f))
+-- the order of places: b before e, or equal and c no later than f
+abbrev pub IsAfter : ℕ → ℕ → ℕ → ℕ → Type 0
+IsAfter b c e f = (b < e) ⊎ ((b ≡ e) × (c ≤ f))
 
 abbrev pub Later : Insertion → Insertion → Type 0
-Later x y = (x.0 < y.0) ⊎ ((x.0 ≡ y.0) × Behind x.1 x.2 y.1 y.2)
+Later x y = (x.0 < y.0) ⊎ ((x.0 ≡ y.0) × IsAfter x.1 x.2 y.1 y.2)
 
-behind_said : (b c e f : ℕ) → (ltb b e || (eqb b e && leb c f)) ≡ true → Behind b c e f
-behind_said b c e f h = elim (or_cases (ltb b e) (eqb b e && leb c f) h) [
+after_from_test : (b c e f : ℕ) → (ltb b e || (eqb b e && leb c f)) ≡ true → IsAfter b c e f
+after_from_test b c e f h = elim (or_cases (ltb b e) (eqb b e && leb c f) h) [
   | inl l ↦ inl (ltb-true b e l)
   | inr r ↦ (let both = and_parts (eqb b e) (leb c f) r in inr (eqb-true b e both.0, leb-true c f both.1))
 ]
 
-said_behind : (b c e f : ℕ) → Behind b c e f → (ltb b e || (eqb b e && leb c f)) ≡ true
-said_behind b c e f h = elim h [
+test_from_after : (b c e f : ℕ) → IsAfter b c e f → (ltb b e || (eqb b e && leb c f)) ≡ true
+test_from_after b c e f h = elim h [
   | inl l ↦ or_left (ltb b e) (eqb b e && leb c f) (lt-ltb b e l)
   | inr r ↦ or_right (ltb b e) (eqb b e && leb c f) (and_from (eqb b e) (leb c f) (eq-eqb b e r.0) (le-leb c f r.1))
 ]
@@ -84,18 +84,18 @@ later_said x y h = elim (or_cases (ltb x.0 y.0) (eqb x.0 y.0 && (ltb x.1 y.1 || 
   | inl l ↦ inl (ltb-true x.0 y.0 l)
   | inr r ↦ (
       let both = and_parts (eqb x.0 y.0) (ltb x.1 y.1 || (eqb x.1 y.1 && leb x.2 y.2)) r in
-      inr (eqb-true x.0 y.0 both.0, behind_said x.1 x.2 y.1 y.2 both.1))
+      inr (eqb-true x.0 y.0 both.0, after_from_test x.1 x.2 y.1 y.2 both.1))
 ]
 
 pub said_later : (x y : Insertion) → Later x y → is_no_later x y ≡ true
 said_later x y h = elim h [
   | inl l ↦ or_left (ltb x.0 y.0) (eqb x.0 y.0 && (ltb x.1 y.1 || (eqb x.1 y.1 && leb x.2 y.2))) (lt-ltb x.0 y.0 l)
   | inr r ↦ or_right (ltb x.0 y.0) (eqb x.0 y.0 && (ltb x.1 y.1 || (eqb x.1 y.1 && leb x.2 y.2)))
-      (and_from (eqb x.0 y.0) (ltb x.1 y.1 || (eqb x.1 y.1 && leb x.2 y.2)) (eq-eqb x.0 y.0 r.0) (said_behind x.1 x.2 y.1 y.2 r.1))
+      (and_from (eqb x.0 y.0) (ltb x.1 y.1 || (eqb x.1 y.1 && leb x.2 y.2)) (eq-eqb x.0 y.0 r.0) (test_from_after x.1 x.2 y.1 y.2 r.1))
 ]
 
-behind_total : (b c e f : ℕ) → Behind b c e f ⊎ Behind e f b c
-behind_total b c e f = elim (cases_order b e) [
+after_total : (b c e f : ℕ) → IsAfter b c e f ⊎ IsAfter e f b c
+after_total b c e f = elim (cases_order b e) [
   | inl same ↦ elim (cases_lt c f) [
     | inl l ↦ inl (inr (same, omega arith))
     | inr l ↦ inr (inr (sym same, l))
@@ -103,8 +103,8 @@ behind_total b c e f = elim (cases_order b e) [
   | inr apart ↦ elim apart [ inl l ↦ inl (inl l) | inr l ↦ inr (inl l) ]
 ]
 
-behind_transitive : (b c e f g h : ℕ) → Behind b c e f → Behind e f g h → Behind b c g h
-behind_transitive b c e f g h s t = elim s [
+after_transitive : (b c e f g h : ℕ) → IsAfter b c e f → IsAfter e f g h → IsAfter b c g h
+after_transitive b c e f g h s t = elim s [
   | inl l ↦ elim t [
     | inl m ↦ inl (omega arith)
     | inr m ↦ inl (let same = m.0 in omega arith)
@@ -117,7 +117,7 @@ behind_transitive b c e f g h s t = elim s [
 
 later_total : (x y : Insertion) → (is_no_later x y ≡ true) ⊎ (is_no_later y x ≡ true)
 later_total x y = elim (cases_order x.0 y.0) [
-  | inl same ↦ elim (behind_total x.1 x.2 y.1 y.2) [
+  | inl same ↦ elim (after_total x.1 x.2 y.1 y.2) [
     | inl l ↦ inl (said_later x y (inr (same, l)))
     | inr l ↦ inr (said_later y x (inr (sym same, l)))
   ]
@@ -132,15 +132,15 @@ later_sentence x y z s t = elim s [
   ]
   | inr l ↦ elim t [
     | inl m ↦ inl (let same = l.0 in omega arith)
-    | inr m ↦ inr (l.0 ∙ m.0, behind_transitive x.1 x.2 y.1 y.2 z.1 z.2 l.1 m.1)
+    | inr m ↦ inr (l.0 ∙ m.0, after_transitive x.1 x.2 y.1 y.2 z.1 z.2 l.1 m.1)
   ]
 ]
 
 later_transitive : (x y z : Insertion) → is_no_later x y ≡ true → is_no_later y z ≡ true → is_no_later x z ≡ true
 later_transitive x y z h k = said_later x z (later_sentence x y z (later_said x y h) (later_said y z k))
 
-behind_both : (b c e f : ℕ) → Behind b c e f → Behind e f b c → (b ≡ e) × (c ≡ f)
-behind_both b c e f s t = elim s [
+after_both : (b c e f : ℕ) → IsAfter b c e f → IsAfter e f b c → (b ≡ e) × (c ≡ f)
+after_both b c e f s t = elim s [
   | inl l ↦ elim t [
     | inl m ↦ absurd (omega arith)
     | inr m ↦ absurd (let same = m.0 in omega arith)
@@ -169,11 +169,11 @@ same_place x y s t = elim s [
   ]
   | inr l ↦ elim t [
     | inl m ↦ absurd (let same = l.0 in omega arith)
-    | inr m ↦ (let both = behind_both x.1 x.2 y.1 y.2 l.1 m.1 in same_parts x y l.0 both.0 both.1)
+    | inr m ↦ (let both = after_both x.1 x.2 y.1 y.2 l.1 m.1 in same_parts x y l.0 both.0 both.1)
   ]
 ]
 
--- by cost, and then by place
+-- the order by cost, and then by place
 module _ (costs_total : CostsAreTotal) (costs_transitive : CostsAreTransitive) (below_at_most : BelowThenAtMost)
     (at_most_below : AtMostThenBelow) (weaken : BelowIsAtMost) where
   abbrev by_both : Cost → Cost → Insertion → Insertion → Bool
@@ -208,7 +208,7 @@ module _ (costs_total : CostsAreTotal) (costs_transitive : CostsAreTransitive) (
         ])
   ]
 
-  -- two that are no worse than one another are one
+  -- two insertions that are no worse than one another are equal
   both_antisymmetric : (a b : Cost) (x y : Insertion) → by_both a b x y ≡ true → by_both b a y x ≡ true → x ≡ y
   both_antisymmetric a b x y h k = elim (or_cases (cost_below a b) (cost_at_most a b && is_no_later x y) h) [
     | inl less ↦ elim (or_cases (cost_below b a) (cost_at_most b a && is_no_later y x) k) [

@@ -1,4 +1,4 @@
--- The best insertion where it costs less than a limit.
+-- The best insertion if it costs less than a limit.
 use Rattle.std.proofs.Common.{◌≡◌, ℕ, ◌+◌, ℤ, pos, ◌<ℤ◌, Bool, true, false, List, Option, Some, None, refl, sym, ap, subst, ◌∙◌, inl, inr, arith, nat_eq}
 use Rattle.std.specs.Prelude.{[], MatchOption}
 use Rattle.std.specs.List.{Contains}
@@ -8,60 +8,60 @@ use Rattle.plan_types.specs.Instance.{Instance}
 use Rattle.plan_types.specs.Request.{request_name}
 use Rattle.plan_types.specs.declared.requests.Request.{Request}
 use Rattle.route_sched.specs.Cost.{is_planned, unplanned_count}
-use Rattle.move_ops.specs.Bounded.{IsFar, IsPlacedBelow}
-use Rattle.move_ops.specs.Changes.{IsPut}
-use Rattle.move_ops.specs.Choosing.{opens, gain, IsAllowed, IsBestWithin, InsertionLaws, IsAsked}
-use Rattle.move_ops.specs.Drafts.{Drafted, draft_of, IsDraftOf, placed}
-use Rattle.move_ops.specs.Insertion.{Insertion, request_named, of_vehicle, insertions, insertions_of, with_request_at, best_insertion}
+use Rattle.move_ops.specs.BoundedPlacing.{IsFar, IsPlacedBelow}
+use Rattle.move_ops.specs.Changes.{IsInsertable}
+use Rattle.move_ops.specs.Choosing.{opens, added_distance, IsAllowed, IsBestWithin, InsertionLaws, IsQuery}
+use Rattle.move_ops.specs.Drafts.{DraftState, draft_of, IsDraftOf, placed}
+use Rattle.move_ops.specs.Insertion.{Insertion, request_named, route_of, insertions, insertions_of, with_request_at, best_insertion}
 use Rattle.move_ops.specs.Laws.{IsBest}
 use Rattle.move_ops.specs.declared.tables.Limit.{Limit}
 use Rattle.move_ops.proofs.Times.{none_some}
 use Rattle.move_ops.proofs.Costs.{IsPriced, used_with, distance_with}
 use Rattle.move_ops.proofs.Choosing.{unlimited, priced_at}
 use Rattle.move_ops.proofs.Places.{within, listed}
-use Rattle.move_ops.proofs.Putting.{named_so, placed_none}
+use Rattle.move_ops.proofs.PlacementLemmas.{named_so, placed_none}
 
--- a plan is far from itself, since no request was put in
+-- a plan is far from itself, since no request was inserted
 far_itself : (p : Instance) (routes other : List (List ℕ)) (below : ℤ) → routes ≡ other → IsFar p routes other below
 far_itself p routes other below same = subst (λ (l : List (List ℕ)). IsFar p routes l below) same (inl (omega arith))
 
--- where a vehicle is opened or the bound is reached the result is far
+-- if a vehicle is opened or the bound is reached, the result is far
 module _ (p : Instance) (routes : List (List ℕ)) (r : Request) (l : Limit) (none : l.opens ≡ false) (x : Insertion)
-    (is : IsPriced p routes r x (opens p.kind (of_vehicle routes x.0)) (gain p routes r x)) where
+    (is : IsPriced p routes r x (opens p.kind (route_of routes x.0)) (added_distance p routes r x)) where
   far_at : (IsAllowed p routes r l x → ⊥) → IsFar p routes (with_request_at routes r x) l.below
-  far_at out = by (opens p.kind (of_vehicle routes x.0)) refl is
+  far_at out = by (opens p.kind (route_of routes x.0)) refl is
     where
-      by : (o : Bool) → opens p.kind (of_vehicle routes x.0) ≡ o → IsPriced p routes r x o (gain p routes r x)
+      by : (o : Bool) → opens p.kind (route_of routes x.0) ≡ o → IsPriced p routes r x o (added_distance p routes r x)
           → IsFar p routes (with_request_at routes r x) l.below
-      by true opened priced = inr (inl (let e = used_with p routes r x true (gain p routes r x) priced in omega arith))
-      by false opened priced = by_lt_z {P = IsFar p routes (with_request_at routes r x) l.below} (gain p routes r x) l.below
+      by true opened priced = inr (inl (let e = used_with p routes r x true (added_distance p routes r x) priced in omega arith))
+      by false opened priced = by_lt_z {P = IsFar p routes (with_request_at routes r x) l.below} (added_distance p routes r x) l.below
           (λ less. absurd (out (inr (opened ∙ sym none, less))))
-          (λ more. inr (inr (let e = distance_with p routes r x false (gain p routes r x) priced in omega (arith, ints))))
+          (λ more. inr (inr (let e = distance_with p routes r x false (added_distance p routes r x) priced in omega (arith, ints))))
 
   near_at : IsAllowed p routes r l x → unplanned_count p routes ≡ unplanned_count p (with_request_at routes r x) + 1
       → IsFar p routes (with_request_at routes r x) l.below → ⊥
   near_at allowed fewer far = elim allowed [
     | inl opened ↦ absurd (let h : true ≡ false = sym opened.1 ∙ none in cc)
-    | inr alike ↦ by (opens p.kind (of_vehicle routes x.0)) (alike.0 ∙ none) alike.1 is
+    | inr alike ↦ by (opens p.kind (route_of routes x.0)) (alike.0 ∙ none) alike.1 is
   ]
     where
-      by : (o : Bool) → o ≡ false → gain p routes r x <ℤ l.below → IsPriced p routes r x o (gain p routes r x) → ⊥
+      by : (o : Bool) → o ≡ false → added_distance p routes r x <ℤ l.below → IsPriced p routes r x o (added_distance p routes r x) → ⊥
       by true opened less priced = absurd (let h : true ≡ false = opened in cc)
       by false opened less priced =
-          let e = used_with p routes r x false (gain p routes r x) priced in
-          let f = distance_with p routes r x false (gain p routes r x) priced in
+          let e = used_with p routes r x false (added_distance p routes r x) priced in
+          let f = distance_with p routes r x false (added_distance p routes r x) priced in
           elim far [
             | inl as_many ↦ omega arith
             | inr more ↦ elim more [ inl vehicles ↦ omega arith | inr dear ↦ omega (arith, ints) ]
           ]
 
--- of a draft
-module _ (laws : InsertionLaws) (p : Instance) (pins : List (List ℕ)) (d : Drafted) (is : IsDraftOf p pins d) (r : Request)
+-- the result of a bounded insertion into a draft
+module _ (laws : InsertionLaws) (p : Instance) (pins : List (List ℕ)) (d : DraftState) (is : IsDraftOf p pins d) (r : Request)
     (named : request_named p (request_name r) ≡ Some r) where
   abbrev routes : List (List ℕ)
   routes = draft_of d
 
-  asked : is_planned routes r ≡ false → IsAsked p pins d.tours r
+  asked : is_planned routes r ≡ false → IsQuery p pins d.tours r
   asked free = record { valid = is.valid; tables = is.tables; good = is.draft; named = named; free = free }
 
   planned_none : is_planned routes r ≡ true → best_insertion p pins routes (request_name r) ≡ None
@@ -76,18 +76,18 @@ module _ (laws : InsertionLaws) (p : Instance) (pins : List (List ℕ)) (d : Dra
 
   placed_at : (x : Insertion) → best_insertion p pins routes (request_name r) ≡ Some x → placed p pins routes (request_name r) ≡ with_request_at routes r x
   placed_at x best =
-      let told = listed p pins routes r x (within (insertions_of p pins routes r) x (among x best)) in
-      rw (best, named, told.0, told.1, told.2) refl
+      let reported = listed p pins routes r x (within (insertions_of p pins routes r) x (among x best)) in
+      rw (best, named, reported.0, reported.1, reported.2) refl
 
   priced : (x : Insertion) → best_insertion p pins routes (request_name r) ≡ Some x
-      → IsPriced p routes r x (opens p.kind (of_vehicle routes x.0)) (gain p routes r x)
+      → IsPriced p routes r x (opens p.kind (route_of routes x.0)) (added_distance p routes r x)
   priced x best = by (is_planned routes r) refl
     where
-      by : (b : Bool) → is_planned routes r ≡ b → IsPriced p routes r x (opens p.kind (of_vehicle routes x.0)) (gain p routes r x)
+      by : (b : Bool) → is_planned routes r ≡ b → IsPriced p routes r x (opens p.kind (route_of routes x.0)) (added_distance p routes r x)
       by true planned = absurd (none_some x (sym (planned_none planned) ∙ best))
       by false free = priced_at laws (asked free) x (among x best)
 
-  -- where nothing limits it, it is the best insertion
+  -- without a limit, the best insertion within it is the best of all
   pub unbounded : (l : Limit) → l.opens ≡ true → l.below ≡ pos 9223372036854775807 → (answer : Option Insertion) → IsBestWithin p pins routes r l answer
       → answer ≡ best_insertion p pins routes (request_name r)
   unbounded l opens_all most answer within_it = by (is_planned routes r) refl answer within_it
@@ -101,8 +101,8 @@ module _ (laws : InsertionLaws) (p : Instance) (pins : List (List ℕ)) (d : Dra
     so_named : request_name r ≡ name
     so_named = named_so p is.valid name r found
 
-    -- it is put in
-    pub put_below : (x : Insertion) → IsBestWithin p pins routes r l (Some x) → IsPut p pins routes r x → (new : List (List ℕ))
+    -- the case in which the request is inserted
+    pub put_below : (x : Insertion) → IsBestWithin p pins routes r l (Some x) → IsInsertable p pins routes r x → (new : List (List ℕ))
         → new ≡ with_request_at routes r x → IsPlacedBelow p pins name l.below true routes new
     put_below x best put new is_new =
         let there : placed p pins routes name ≡ with_request_at routes r x = ap (placed p pins routes) (sym so_named) ∙ placed_at x best.0 in
@@ -115,7 +115,7 @@ module _ (laws : InsertionLaws) (p : Instance) (pins : List (List ℕ)) (d : Dra
           far = λ kept. absurd (let h : true ≡ false = kept in cc);
         }
 
-    -- it stays
+    -- the case in which the plan is unchanged
     pub kept_below : IsBestWithin p pins routes r l None → IsPlacedBelow p pins name l.below false routes routes
     kept_below out = record {
       put = λ made. absurd (let h : false ≡ true = made in cc);
@@ -130,7 +130,7 @@ module _ (laws : InsertionLaws) (p : Instance) (pins : List (List ℕ)) (d : Dra
             subst (λ (other : List (List ℕ)). IsFar p routes other l.below) (sym (placed_at x best))
             (far_at p routes r l none x (priced x best) (out x (among x best)))
 
--- so is a name of no request
+-- the plan is also unchanged if no current request has the name
 pub unnamed_below : (p : Instance) (pins routes : List (List ℕ)) (name : ℕ) (below : ℤ) → request_named p name ≡ None
     → IsPlacedBelow p pins name below false routes routes
 unnamed_below p pins routes name below none = record {

@@ -1,4 +1,5 @@
--- No route is so long that distances would not fit: by far, since a distance is taken to be no more than the square.
+-- No route is so long that its distances do not fit. The bound is generous: a distance is taken to be at most
+-- its own square.
 use Rattle.std.proofs.Common.{◌≡◌, ℕ, zero, suc, ◌+◌, ◌*◌, ◌/◌, ◌≤◌, ℤ, ◌-ℤ◌, eqb, leb, ltb, cond, Bool, true, false}
 use Rattle.std.proofs.Common.{List, [], ◌∷◌, length, map, sum, fold, mul-le-mul, Option, Some, None, get_or, refl, subst, ◌∙◌, inl, inr, arith}
 use Rattle.std.specs.Prelude.{unsigned_abs, unwrap_or}
@@ -12,7 +13,7 @@ use Rattle.plan_types.specs.Request.{IsRequest, stop_in}
 use Rattle.plan_types.specs.declared.requests.Stop.{Stop}
 use Rattle.plan_types.specs.declared.requests.Request.{Request}
 use Rattle.plan_types.specs.declared.requests.Request.TheVariants.{Single, Pair}
-use Rattle.nint_dist.specs.Distance.{IsPlaced, squared_distance, distance}
+use Rattle.nint_dist.specs.Distance.{HasValidCoordinates, squared_distance, distance}
 use Rattle.nint_dist.specs.NearestRoot.{doubled_root, whole_root, nearest_root}
 use Rattle.route_sched.specs.Route.{stop_numbered, place}
 use Rattle.route_sched.specs.Schedule.{leg, route_length}
@@ -47,7 +48,7 @@ gap x y a b = let xl = a.0 in let xh = a.1 in let yl = b.0 in let yh = b.1 in om
 square : (n : ℕ) → n ≤ 2000000 → n * n ≤ 4000000000000
 square n le = mul-le-mul le le
 
-far : (a b : Stop) → IsPlaced a → IsPlaced b → distance a b ≤ 8000000000001
+far : (a b : Stop) → HasValidCoordinates a → HasValidCoordinates b → distance a b ≤ 8000000000001
 unfolding distance
 far a b one two =
     let x = square (unsigned_abs (a.x -ℤ b.x)) (gap a.x b.x one.0 two.0) in
@@ -56,39 +57,39 @@ far a b one two =
     omega arith
 
 -- ---- stops
-placed_in : (n : ℕ) (r : Request) (s : Stop) → IsRequest r → stop_in n r ≡ Some s → IsPlaced s
+placed_in : (n : ℕ) (r : Request) (s : Stop) → IsRequest r → stop_in n r ≡ Some s → HasValidCoordinates s
 placed_in n (Single a) s valid is = elim (eqb_tells a.number n) [
-  | inl t ↦ (let e : Some a ≡ Some s = rw t.0 at is in subst IsPlaced (some_same a s e) (valid.0.visit.x, valid.0.visit.y))
+  | inl t ↦ (let e : Some a ≡ Some s = rw t.0 at is in subst HasValidCoordinates (some_same a s e) (valid.0.visit.x, valid.0.visit.y))
   | inr t ↦ absurd (let e : None ≡ Some s = rw t.0 at is in none_some s e)
 ]
 placed_in n (Pair a b) s valid is = elim (eqb_tells a.number n) [
-  | inl t ↦ (let e : Some a ≡ Some s = rw t.0 at is in subst IsPlaced (some_same a s e) (valid.0.visit.x, valid.0.visit.y))
+  | inl t ↦ (let e : Some a ≡ Some s = rw t.0 at is in subst HasValidCoordinates (some_same a s e) (valid.0.visit.x, valid.0.visit.y))
   | inr t ↦ elim (eqb_tells b.number n) [
-    | inl u ↦ (let e : Some b ≡ Some s = rw (t.0, u.0) at is in subst IsPlaced (some_same b s e) (valid.1.visit.x, valid.1.visit.y))
+    | inl u ↦ (let e : Some b ≡ Some s = rw (t.0, u.0) at is in subst HasValidCoordinates (some_same b s e) (valid.1.visit.x, valid.1.visit.y))
     | inr u ↦ absurd (let e : None ≡ Some s = rw (t.0, u.0) at is in none_some s e)
   ]
 ]
 
-placed_among : (n : ℕ) (es : List (ℕ × Request)) (s : Stop) → AllByRecursion (λ e. IsRequest e.1) es → first_some (stop_in n) es ≡ Some s → IsPlaced s
+placed_among : (n : ℕ) (es : List (ℕ × Request)) (s : Stop) → AllByRecursion (λ e. IsRequest e.1) es → first_some (stop_in n) es ≡ Some s → HasValidCoordinates s
 placed_among n [] s valid is = absurd (none_some s is)
 placed_among n (e ∷ es) s valid is = by (stop_in n e.1) refl (λ there. placed_among n es s valid.1 there)
   where
-    by : (o : Option Stop) → stop_in n e.1 ≡ o → (first_some (stop_in n) es ≡ Some s → IsPlaced s) → IsPlaced s
+    by : (o : Option Stop) → stop_in n e.1 ≡ o → (first_some (stop_in n) es ≡ Some s → HasValidCoordinates s) → HasValidCoordinates s
     by (Some t) at later = placed_in n e.1 s valid.0 (at ∙ (let h : Some t ≡ Some s = rw at at is in h))
     by None at later = later (rw at at is)
 
 module _ (p : Instance) (valid : IsInstance p) where
-  placed_numbered : (n : ℕ) → IsPlaced (stop_numbered p n)
+  placed_numbered : (n : ℕ) → HasValidCoordinates (stop_numbered p n)
   placed_numbered n = by (eqb n 0) (stop_at p n) refl
     where
-      depot : IsPlaced p.depot
+      depot : HasValidCoordinates p.depot
       depot = (valid.depot.visit.x, valid.depot.visit.y)
 
-      at : (o : Option Stop) → stop_at p n ≡ o → IsPlaced (unwrap_or o p.depot)
+      at : (o : Option Stop) → stop_at p n ≡ o → HasValidCoordinates (unwrap_or o p.depot)
       at None e = depot
       at (Some s) e = placed_among n p.requests s (valid.valid) e
 
-      by : (b : Bool) (o : Option Stop) → stop_at p n ≡ o → IsPlaced (cond b p.depot (unwrap_or o p.depot))
+      by : (b : Bool) (o : Option Stop) → stop_at p n ≡ o → HasValidCoordinates (cond b p.depot (unwrap_or o p.depot))
       by true o e = depot
       by false o e = at o e
 

@@ -1,20 +1,20 @@
--- A plan made of the routes of one that passes.
+-- A plan made from the routes of one that passes.
 use Rattle.std.proofs.Common.{◌≡◌, ℕ, zero, suc, ◌≤◌, Bool, true, false, List, [], ◌∷◌, All}
 use Rattle.std.proofs.Common.{length, map, Some, slice_get, refl, sym, ap, subst, ◌∙◌, inl, inr, arith}
 use Rattle.std.specs.List.{AllByRecursion, list_all, concat}
 use Rattle.std.proofs.lemmas.Bool.{cases_Bool, and_parts, and_from}
 use Rattle.std.proofs.lemmas.List.Elements.{All-from_recursion, recursion_from_All}
 use Rattle.plan_types.specs.Instance.{Instance}
-use Rattle.route_sched.specs.Route.{AreLiveOnce, IsPlan}
+use Rattle.route_sched.specs.Route.{AreDistinctStops, IsPlan}
 use Rattle.plan_audit.specs.Alone.{IsFeasibleAlone}
 use Rattle.plan_audit.specs.Laws.{KeepsPins}
-use Rattle.plan_audit.specs.Locality.{PassesAreLocal, PlansAreLocal, TestsSayFeasible}
+use Rattle.plan_audit.specs.Locality.{PassingIsLocal, PlansAreDisjointRoutes, FeasibleAloneDecidesFeasibility}
 use Rattle.plan_audit.specs.Passes.{feasible_alone, passes}
-use Rattle.plan_audit.specs.Rules.{item_at, Stands}
+use Rattle.plan_audit.specs.Rules.{item_at, HasStopAt}
 use Rattle.move_ops.proofs.Times.{none_some, some_same, times, times-append, stands_once_more}
 use Rattle.move_ops.proofs.Replacing.{passes_too}
 
--- a test of all items, and what it says of each
+-- a test of all items, and what it says about each
 module _ {X : Type 0} (test : X → Bool) (P : X → Type 0) where
   all_said : ((x : X) → test x ≡ true → P x) → (xs : List X) → list_all test xs ≡ true → AllByRecursion P xs
   all_said says [] t = tt
@@ -24,7 +24,7 @@ module _ {X : Type 0} (test : X → Bool) (P : X → Type 0) where
   said_all tells [] all = refl
   said_all tells (x ∷ xs) all = and_from (test x) (list_all test xs) (tells x all.0) (said_all tells xs all.1)
 
--- what stands in a route stands somewhere in the plan
+-- an item of a route is an item of the plan
 stands_at : (lists : List (List ℕ)) (k i n : ℕ) (list : List ℕ) → slice_get lists k ≡ Some list → slice_get list i ≡ Some n → 1 ≤ times n (concat lists)
 stands_at [] k i n list at there = absurd (none_some list at)
 stands_at (first ∷ rest) zero i n list at there =
@@ -34,19 +34,19 @@ stands_at (first ∷ rest) zero i n list at there =
 stands_at (first ∷ rest) (suc k) i n list at there =
     let e = times-append n first (concat rest) in let h = stands_at rest k i n list at there in omega arith
 
-pub stands_some : (lists : List (List ℕ)) (r i n : ℕ) → Stands lists r i n → 1 ≤ times n (concat lists)
+pub stands_some : (lists : List (List ℕ)) (r i n : ℕ) → HasStopAt lists r i n → 1 ≤ times n (concat lists)
 stands_some lists zero i n s = absurd (none_some s.0 s.1)
 stands_some lists (suc k) zero n s = absurd (none_some n s.2)
 stands_some lists (suc k) (suc i) n s = stands_at lists k i n s.0 s.1 s.2
 
-module _ (local : PassesAreLocal) (says : TestsSayFeasible) (p : Instance) (pins routes : List (List ℕ)) (good : passes p pins routes ≡ true) where
+module _ (local : PassingIsLocal) (says : FeasibleAloneDecidesFeasibility) (p : Instance) (pins routes : List (List ℕ)) (good : passes p pins routes ≡ true) where
   feasible_said : (others : List (List ℕ)) → list_all (feasible_alone p) others ≡ true → All (IsFeasibleAlone p) others
   feasible_said others t = All-from_recursion (IsFeasibleAlone p) others (all_said (feasible_alone p) (IsFeasibleAlone p) (λ x h. (says p x).0 h) others t)
 
   pub said_feasible : (others : List (List ℕ)) → All (IsFeasibleAlone p) others → list_all (feasible_alone p) others ≡ true
   said_feasible others all = said_all (feasible_alone p) (IsFeasibleAlone p) (λ x h. (says p x).1 h) others (recursion_from_All (IsFeasibleAlone p) others all)
 
-  -- a plan of as many routes that keeps the pins passes exactly where all its routes are feasible
+  -- a plan with equally many routes that keeps the pins passes exactly when all its routes are feasible
   pub passes_where_feasible : (others : List (List ℕ)) → IsPlan p others → length others ≡ length routes → KeepsPins others pins
       → (b : Bool) → b ≡ list_all (feasible_alone p) others → passes p pins others ≡ b
   passes_where_feasible others plan same kept true e = passes_too local p pins routes good others plan same (feasible_said others (sym e)) kept
@@ -55,11 +55,11 @@ module _ (local : PassesAreLocal) (says : TestsSayFeasible) (p : Instance) (pins
     | inl passed ↦ absurd (let h = said_feasible others (((local p pins others).0 passed).feasible) in let k : false ≡ true = e ∙ h in cc)
   ]
 
--- the stops of each route of a plan are live and stand once
-pub each_once : PlansAreLocal → (p : Instance) (others : List (List ℕ)) → IsPlan p others → All (AreLiveOnce p) others
+-- the stops of each route of a plan are current and distinct
+pub each_once : PlansAreDisjointRoutes → (p : Instance) (others : List (List ℕ)) → IsPlan p others → All (AreDistinctStops p) others
 each_once plans p others plan = ((plans p others).0 plan).0
 
--- routes that are changed one by one
+-- the item at a place of routes that are changed one by one
 pub item_map : (f : List ℕ → List ℕ) (routes : List (List ℕ)) (r : ℕ) (route : List ℕ) → item_at routes r ≡ Some route
     → item_at (map f routes) r ≡ Some (f route)
 item_map f routes zero route at = absurd (none_some route at)
@@ -67,7 +67,7 @@ item_map f [] (suc k) route at = absurd (none_some route at)
 item_map f (first ∷ rest) (suc zero) route at = ap (λ l. Some (f l)) (some_same first route at)
 item_map f (first ∷ rest) (suc (suc k)) route at = item_map f rest (suc k) route at
 
--- keep the pins where each does
+-- routes that are changed one by one keep the pins if each of them keeps its pin
 pub pins_map : (f : List ℕ → List ℕ) (routes pins : List (List ℕ)) → KeepsPins routes pins
     → ((pin route : List ℕ) → ((k n : ℕ) → slice_get pin k ≡ Some n → slice_get route k ≡ Some n)
     → ((k n : ℕ) → slice_get pin k ≡ Some n → 1 ≤ times n (concat pins))

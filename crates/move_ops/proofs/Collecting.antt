@@ -1,4 +1,4 @@
--- The changes that make a plan of another one, route by route.
+-- The changes that turn one plan into another, route by route.
 use Rattle.std.proofs.Common.{◌≡◌, ℕ, zero, suc, ◌-◌, ◌≤◌, Bool, true, false, List, [], ◌∷◌, All}
 use Rattle.std.proofs.Common.{length, map, set, Some, slice_get, refl, sym, ap, subst, ◌∙◌, inl, inr, arith}
 use Rattle.std.specs.List.{AllByRecursion, list_all}
@@ -7,7 +7,7 @@ use Rattle.std.proofs.lemmas.Option.{slice_get-map}
 use Rattle.std.proofs.lemmas.Bool.{cases_Bool, and_parts, and_from}
 use Rattle.std.proofs.lemmas.List.{length-map}
 use Rattle.std.proofs.lemmas.List.Elements.{All-from_recursion}
-use Rattle.move_ops.specs.Insertion.{of_vehicle, with_route}
+use Rattle.move_ops.specs.Insertion.{route_of, with_route}
 use Rattle.move_ops.specs.Changes.{with_routes, AreChanges}
 use Rattle.move_ops.specs.declared.changes.Change.{Change}
 use Rattle.move_ops.proofs.Times.{none_some, some_same}
@@ -15,21 +15,21 @@ use Rattle.move_ops.proofs.Replacing.{at_vehicle, all_at}
 
 -- ---- routes that are changed one by one
 module _ (f : List ℕ → List ℕ) (old : List (List ℕ)) where
-  pub of_map : (v : ℕ) → 1 ≤ v → v ≤ length old → of_vehicle (map f old) v ≡ f (of_vehicle old v)
+  pub of_map : (v : ℕ) → 1 ≤ v → v ≤ length old → route_of (map f old) v ≡ f (route_of old v)
   of_map zero from within = absurd (omega arith)
   of_map (suc k) from within =
       let e : suc k - 1 ≡ k = omega arith in
-      some_same (of_vehicle (map f old) (suc k)) (f (of_vehicle old (suc k)))
-      (sym (subst (λ j. slice_get (map f old) j ≡ Some (of_vehicle (map f old) (suc k))) e
+      some_same (route_of (map f old) (suc k)) (f (route_of old (suc k)))
+      (sym (subst (λ j. slice_get (map f old) j ≡ Some (route_of (map f old) (suc k))) e
       (at_vehicle (map f old) (suc k) (omega arith) (let m = length-map old f in omega arith)))
       ∙ (slice_get-map f old k
       ∙ ap (option_map f)
-      (subst (λ j. slice_get old j ≡ Some (of_vehicle old (suc k))) e (at_vehicle old (suc k) (omega arith) within))))
+      (subst (λ j. slice_get old j ≡ Some (route_of old (suc k))) e (at_vehicle old (suc k) (omega arith) within))))
 
--- ---- what the changes say of the plan
+-- ---- what the changes say about the plan
 module _ (old new : List (List ℕ)) (cs : List Change) (is : AreChanges old new cs) (long : length new ≡ length old) where
   each_at : (P : List ℕ → Type 0) → All P new → (ds : List Change) → AllByRecursion (λ c. (1 ≤ c.vehicle) × (c.vehicle ≤ length old)) ds
-      → AllByRecursion (λ c. c.route ≡ of_vehicle new c.vehicle) ds → AllByRecursion (λ c. P c.route) ds
+      → AllByRecursion (λ c. c.route ≡ route_of new c.vehicle) ds → AllByRecursion (λ c. P c.route) ds
   each_at P all [] within there = tt
   each_at P all (c ∷ ds) within there = (
     (let low = within.0.0 in
@@ -44,7 +44,7 @@ module _ (old new : List (List ℕ)) (cs : List Change) (is : AreChanges old new
   pub all_within : All (λ c. (1 ≤ c.vehicle) × (c.vehicle ≤ length old)) cs
   all_within = All-from_recursion (λ (c : Change). (1 ≤ c.vehicle) × (c.vehicle ≤ length old)) cs (is.within)
 
--- ---- judged by the changed routes alone
+-- ---- checks of only the changed routes
 module _ (test : List ℕ → Bool) where
   set_passes : (routes : List (List ℕ)) (k : ℕ) (r : List ℕ) → list_all test routes ≡ true → test r ≡ true → list_all test (set routes k r) ≡ true
   set_passes [] k r all one = refl
@@ -66,12 +66,12 @@ module _ (test : List ℕ → Bool) where
 
   each_passes : (old new : List (List ℕ)) (ds : List Change) → length new ≡ length old → list_all test new ≡ true
       → AllByRecursion (λ c. (1 ≤ c.vehicle) × (c.vehicle ≤ length old)) ds
-      → AllByRecursion (λ c. c.route ≡ of_vehicle new c.vehicle) ds → list_all (λ c. test c.route) ds ≡ true
+      → AllByRecursion (λ c. c.route ≡ route_of new c.vehicle) ds → list_all (λ c. test c.route) ds ≡ true
   each_passes old new [] long all within there = refl
   each_passes old new (c ∷ ds) long all within there =
       let low = within.0.0 in
       and_from (test c.route) (list_all (λ d. test d.route) ds)
-      (ap test there.0 ∙ test_at new (c.vehicle - 1) (of_vehicle new c.vehicle) all (at_vehicle new c.vehicle low (omega arith)))
+      (ap test there.0 ∙ test_at new (c.vehicle - 1) (route_of new c.vehicle) all (at_vehicle new c.vehicle low (omega arith)))
       (each_passes old new ds long all within.1 there.1)
 
   pub judged : (old new : List (List ℕ)) (cs : List Change) → AreChanges old new cs → length new ≡ length old → list_all test old ≡ true

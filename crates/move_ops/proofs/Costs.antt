@@ -1,4 +1,4 @@
--- What a request put into a plan does to its cost, and which of two insertions is no worse.
+-- The cost of a plan with a request inserted, and which of two insertions is no worse.
 use Rattle.std.proofs.Common.{◌≡◌, ℕ, ◌+◌, ◌-◌, ◌<◌, ◌≤◌, ◌⊎◌, ℤ, pos, ◌+ℤ◌, ◌<ℤ◌, eqb, cond, ◌&&◌, ◌||◌}
 use Rattle.std.proofs.Common.{Bool, true, false, not, List, [], length, refl, sym, ap, ◌∙◌, inl, inr, arith, nat_eq}
 use Rattle.std.specs.List.{concat, list_any, count_by, sum_by}
@@ -7,7 +7,7 @@ use Rattle.std.proofs.lemmas.Bool.Decides.{eqb_tells}
 use Rattle.std.proofs.lemmas.Int.{ints}
 use Rattle.std.proofs.lemmas.List.Sums.{sum_by-set}
 use Rattle.std.proofs.lemmas.Option.{get_or_from_slice_get}
-use Rattle.plan_types.specs.Cost.{cost_below, cost_at_most, BelowTells, AtMostTells}
+use Rattle.plan_types.specs.Cost.{cost_below, cost_at_most, CostBelowIsCorrect, CostAtMostIsCorrect}
 use Rattle.plan_types.specs.Instance.{Instance}
 use Rattle.plan_types.specs.declared.plans.Cost.{Cost}
 use Rattle.plan_types.specs.declared.requests.Request.{Request}
@@ -17,7 +17,7 @@ use Rattle.plan_types.specs.declared.requests.Kind.TheVariants.{LiLim, Vrp}
 use Rattle.route_sched.specs.Cost.{has_stop, is_planned, unplanned_count, vehicle_count, total_length}
 use Rattle.route_sched.specs.Schedule.{route_length}
 use Rattle.slack_tables.specs.Insertion.{inserted}
-use Rattle.move_ops.specs.Insertion.{Insertion, of_vehicle, with_route, with_request_at, cost_with, is_no_later, is_no_worse}
+use Rattle.move_ops.specs.Insertion.{Insertion, route_of, with_route, with_request_at, cost_with, is_no_later, is_no_worse}
 use Rattle.move_ops.specs.Changes.{used}
 use Rattle.move_ops.specs.Choosing.{opens}
 use Rattle.move_ops.proofs.Times.{times}
@@ -25,7 +25,7 @@ use Rattle.move_ops.proofs.Fitting.{had_often, often_had}
 use Rattle.move_ops.proofs.Inserting.{numbers_of, times_inserted}
 use Rattle.move_ops.proofs.Replacing.{at_vehicle, times_with}
 
--- ---- requests left out: as many, wherever the request is put
+-- ---- unplanned requests: the same number, wherever the request is inserted
 pub any_same : (n : ℕ) (xs ys : List ℕ) → times n xs ≡ times n ys → list_any (nat_eq n) xs ≡ list_any (nat_eq n) ys
 any_same n xs ys same = by (list_any (nat_eq n) xs) (list_any (nat_eq n) ys) refl refl
   where
@@ -48,12 +48,12 @@ module _ (xs ys : List (List ℕ)) (same : (n : ℕ) → times n (concat xs) ≡
       ap (λ (f : Request → Bool). count_by (λ e. not (f e.1)) p.requests) each
 
 module _ (p : Instance) (routes : List (List ℕ)) (r : Request) where
-  -- the plan with the request has each number as often, wherever it is put
+  -- the plan with the request has each number as often, wherever it is inserted
   pub often_with : (x : Insertion) → 1 ≤ x.0 → x.0 ≤ length routes → (n : ℕ)
       → times n (concat (with_request_at routes r x)) ≡ times n (concat routes) + times n (numbers_of r)
   often_with x from within n =
-      let e = times_with n routes x.0 (inserted r x.1 x.2 (of_vehicle routes x.0)) from within in
-      let f = times_inserted n r x.1 x.2 (of_vehicle routes x.0) in
+      let e = times_with n routes x.0 (inserted r x.1 x.2 (route_of routes x.0)) from within in
+      let f = times_inserted n r x.1 x.2 (route_of routes x.0) in
       omega arith
 
   unplanned_with : (x y : Insertion) → 1 ≤ x.0 → x.0 ≤ length routes → 1 ≤ y.0 → y.0 ≤ length routes
@@ -63,9 +63,9 @@ module _ (p : Instance) (routes : List (List ℕ)) (r : Request) where
 
 -- ---- vehicles and distance
 pub replaced : (f : List ℕ → ℕ) (routes : List (List ℕ)) (v : ℕ) (new : List ℕ) → 1 ≤ v → v ≤ length routes
-    → sum_by f (with_route routes v new) + f (of_vehicle routes v) ≡ sum_by f routes + f new
+    → sum_by f (with_route routes v new) + f (route_of routes v) ≡ sum_by f routes + f new
 replaced f routes v new from within =
-    let here = ap f (get_or_from_slice_get routes (v - 1) (of_vehicle routes v) [] (at_vehicle routes v from within)) in
+    let here = ap f (get_or_from_slice_get routes (v - 1) (route_of routes v) [] (at_vehicle routes v from within)) in
     let e = sum_by-set f routes (v - 1) new [] (omega arith) in
     omega arith
 
@@ -79,12 +79,12 @@ used_some new some = elim (eqb_tells (length new) 0) [
   | inr t ↦ rw t.0 refl
 ]
 
-vehicles_with : (kind : Kind) (routes : List (List ℕ)) (v : ℕ) (new : List ℕ) → 1 ≤ v → v ≤ length routes → (length new ≡ 0 → ⊥)
-    → vehicle_count kind (with_route routes v new) ≡ vehicle_count kind routes + cond (opens kind (of_vehicle routes v)) 1 0
-vehicles_with Vrp routes v new from within some = refl
-vehicles_with LiLim routes v new from within some =
+vehicle_count_with : (kind : Kind) (routes : List (List ℕ)) (v : ℕ) (new : List ℕ) → 1 ≤ v → v ≤ length routes → (length new ≡ 0 → ⊥)
+    → vehicle_count kind (with_route routes v new) ≡ vehicle_count kind routes + cond (opens kind (route_of routes v)) 1 0
+vehicle_count_with Vrp routes v new from within some = refl
+vehicle_count_with LiLim routes v new from within some =
     let e = replaced used routes v new from within in
-    let f = used_or (eqb (length (of_vehicle routes v)) 0) in
+    let f = used_or (eqb (length (route_of routes v)) 0) in
     let g = used_some new some in
     omega arith
 
@@ -94,17 +94,19 @@ same_cost a b e f g = λ i. record { unplanned = e i; vehicles = f i; distance =
 
 module _ (p : Instance) (routes : List (List ℕ)) (r : Request) where
   abbrev pub new_route : Insertion → List ℕ
-  new_route x = inserted r x.1 x.2 (of_vehicle routes x.0)
+  new_route x = inserted r x.1 x.2 (route_of routes x.0)
 
-  -- what counts of the plan with the request put in there: whether it opens a vehicle, and what is added
+  -- the parts of the cost with the request inserted at place x that differ between insertions: whether it opens
+  -- a vehicle, and the added distance
   pub record IsPriced (x : Insertion) (o : Bool) (d : ℤ) : Type 0 where
     pub from : 1 ≤ x.0
     pub within : x.0 ≤ length routes
     pub some : length (new_route x) ≡ 0 → ⊥
-    pub opens : opens p.kind (of_vehicle routes x.0) ≡ o
-    pub added : pos (route_length p (new_route x)) ≡ pos (route_length p (of_vehicle routes x.0)) +ℤ d
+    pub opens : opens p.kind (route_of routes x.0) ≡ o
+    pub added : pos (route_length p (new_route x)) ≡ pos (route_length p (route_of routes x.0)) +ℤ d
 
-  -- a comes no later than b: fewer vehicles, or as many and less is added, or as much and the place is no later
+  -- a is no worse than b: it opens fewer vehicles; or as many and it adds less; or as much and its place is no
+  -- later
   abbrev pub Ahead : Insertion → Bool → ℤ → Insertion → Bool → ℤ → Type 0
   Ahead x a d y b e = ((a ≡ false) × (b ≡ true)) ⊎ ((a ≡ b) × ((d <ℤ e) ⊎ ((d ≡ e) × (is_no_later x y ≡ true))))
 
@@ -115,10 +117,10 @@ module _ (p : Instance) (routes : List (List ℕ)) (r : Request) where
 
   pub used_with : (x : Insertion) (o : Bool) (d : ℤ) → IsPriced x o d → (cost_with p routes r x).vehicles ≡ vehicle_count p.kind routes + cond o 1 0
   used_with x o d is =
-      vehicles_with p.kind routes x.0 (new_route x) (is.from) (is.within) (is.some)
+      vehicle_count_with p.kind routes x.0 (new_route x) (is.from) (is.within) (is.some)
       ∙ ap (λ (b : Bool). vehicle_count p.kind routes + cond b 1 0) (is.opens)
 
-  module _ (below : BelowTells) (at_most : AtMostTells) where
+  module _ (below : CostBelowIsCorrect) (at_most : CostAtMostIsCorrect) where
     pub no_worse : (x y : Insertion) (a b : Bool) (d e : ℤ) → IsPriced x a d → IsPriced y b e → Ahead x a d y b e → is_no_worse p routes r x y ≡ true
     no_worse x y a b d e one two ahead = elim ahead [
       | inl opened ↦ or_left (cost_below (cost_with p routes r x) (cost_with p routes r y))

@@ -1,4 +1,4 @@
--- How many requests a plan leaves out when one is put in, and that no plan is too long to be summed.
+-- The number of requests that a plan leaves out after one is inserted; and no plan is too long to be summed.
 use Rattle.std.proofs.Common.{◌≡◌, ℕ, ◌+◌, ◌*◌, ◌^◌, ◌≤◌, ◌||◌, not, true, false, cond, List}
 use Rattle.std.proofs.Common.{[], ◌∷◌, length, length-append, Some, refl, sym, ap, ◌∙◌, inl, inr, arith, nat_eq}
 use Rattle.std.specs.List.{concat, count_by}
@@ -14,7 +14,7 @@ use Rattle.route_sched.specs.Cost.{has_stop, is_planned, unplanned_count, total_
 use Rattle.route_sched.specs.Route.{IsPlan}
 use Rattle.route_sched.specs.Schedule.{route_length}
 use Rattle.plan_audit.specs.Passes.{passes}
-use Rattle.plan_audit.specs.Locality.{PassesAreLocal}
+use Rattle.plan_audit.specs.Locality.{PassingIsLocal}
 use Rattle.move_ops.proofs.Times.{none_some, some_same, times, one_here, at_most_once, once_live}
 use Rattle.move_ops.proofs.Fitting.{had_often, often_had}
 use Rattle.move_ops.proofs.Inserting.{numbers_of}
@@ -27,7 +27,7 @@ among_more : (n : ℕ) (e : ℕ × Request) (es : List (ℕ × Request)) → tim
 among_more n (m, Single s) es = omega arith
 among_more n (m, Pair a b) es = omega arith
 
--- a request that is found has its numbers among them
+-- the numbers of a request that is found are among those of all requests
 found_among : (es : List (ℕ × Request)) (name : ℕ) (r : Request) → lookup (nat_eq name) es ≡ Some r → (n : ℕ)
     → times n (numbers_of r) ≤ times n (numbers_among es)
 found_among [] name r at n = absurd (none_some r at)
@@ -36,7 +36,7 @@ found_among (e ∷ es) name r at n = elim (eqb_tells name e.0) [
   | inr t ↦ (let m = among_more n e es in let h = found_among es name r (rw t.0 at at) n in omega arith)
 ]
 
--- ---- one request more
+-- ---- one more request
 has_same : (n : ℕ) (routes others : List (List ℕ)) → times n (concat routes) ≡ times n (concat others) → has_stop routes n ≡ has_stop others n
 has_same n routes others same = any_same n (concat routes) (concat others) same
 
@@ -98,7 +98,7 @@ module _ (routes others : List (List ℕ)) (r : Request)
         → unplanned_count p routes ≡ unplanned_count p others + 1
     one_more_planned p valid name at = one_as p.requests name (λ n. at_most_once (numbers_among p.requests) (valid.distinct) n) at
 
--- a request is planned where its numbers stand
+-- a request is planned if its numbers are in the lists
 pub planned_where : (lists : List (List ℕ)) (r : Request) → ((n : ℕ) → times n (numbers_of r) ≤ times n (concat lists)) → is_planned lists r ≡ true
 planned_where lists (Single s) stand =
     let e = one_here s.number s.number refl in let f = stand s.number in rw (often_had (concat lists) s.number (omega arith)) refl
@@ -106,11 +106,11 @@ planned_where lists (Pair a b) stand =
     let e = one_here a.number a.number refl in let f = stand a.number in rw (often_had (concat lists) a.number (omega arith)) refl
 
 -- ---- a plan is not too long
-module _ (below : StopsAreBelowNext) (local : PassesAreLocal) (p : Instance) (valid : IsInstance p) where
+module _ (below : StopsAreBelowNext) (local : PassingIsLocal) (p : Instance) (valid : IsInstance p) where
   few_stops : (routes : List (List ℕ)) → IsPlan p routes → length (concat routes) ≤ 40001
   few_stops routes once =
       length-le_from_distinct_below (concat routes) 40001 (once.distinct)
-      (λ q there. let most = valid.next_to_most in
+      (λ q there. let most = valid.next_number_max in
       let less = below p q valid (once_live p (concat routes) once q (had_often (concat routes) q there)) in
       omega arith)
 

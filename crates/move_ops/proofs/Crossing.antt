@@ -6,19 +6,19 @@ use Rattle.std.proofs.lemmas.Bool.{cases_Bool, and_parts, and_from, eq-eqb, leb-
 use Rattle.std.proofs.lemmas.List.{length-set}
 use Rattle.std.proofs.lemmas.List.Elements.{All-set}
 use Rattle.plan_types.specs.Instance.{Instance}
-use Rattle.route_sched.specs.Route.{AreLiveOnce, IsPlan}
+use Rattle.route_sched.specs.Route.{AreDistinctStops, IsPlan}
 use Rattle.plan_audit.specs.Alone.{IsFeasibleAlone}
 use Rattle.plan_audit.specs.Laws.{KeepsPins}
-use Rattle.plan_audit.specs.Locality.{PassesAreLocal, TestsSayFeasible}
+use Rattle.plan_audit.specs.Locality.{PassingIsLocal, FeasibleAloneDecidesFeasibility}
 use Rattle.plan_audit.specs.Passes.{feasible_alone, passes}
 use Rattle.plan_audit.specs.Rules.{item_at}
-use Rattle.move_ops.specs.Insertion.{of_vehicle, with_route}
+use Rattle.move_ops.specs.Insertion.{route_of, with_route}
 use Rattle.move_ops.specs.Moves.{is_cut, joined, with_ends_exchanged, crossed}
 use Rattle.move_ops.proofs.Times.{times, times-append, times_split, once_from, once_few, once_live}
 use Rattle.move_ops.proofs.Replacing.{within_list, times_with, times_in_vehicle, other_vehicle, same_vehicle, pins_with, all_at, parts, passes_too}
 use Rattle.move_ops.proofs.Inserting.{get_front}
 
--- the first stops of a joined route are those of its front
+-- the first stops of a joined route are those of its first part
 front_joined : (front back : List ℕ) (c d k n : ℕ) → k ≤ c → item_at front k ≡ Some n → item_at (joined front c back d) k ≡ Some n
 front_joined front back c d zero n below at = at
 front_joined front back c d (suc j) n below at = get_front c front (drop d back) j n (omega arith) at
@@ -31,16 +31,16 @@ times_joined n front back c d =
     let h = times_split n d back in
     omega arith
 
-module _ (local : PassesAreLocal) (p : Instance) (pins routes : List (List ℕ)) (good : passes p pins routes ≡ true) (a ca b cb : ℕ) (apart : b ≡ a → ⊥)
+module _ (local : PassingIsLocal) (p : Instance) (pins routes : List (List ℕ)) (good : passes p pins routes ≡ true) (a ca b cb : ℕ) (apart : b ≡ a → ⊥)
     (a_from : 1 ≤ a) (a_within : a ≤ length routes) (b_from : 1 ≤ b) (b_within : b ≤ length routes) where
   abbrev pub x : List ℕ
-  x = joined (of_vehicle routes a) ca (of_vehicle routes b) cb
+  x = joined (route_of routes a) ca (route_of routes b) cb
 
   abbrev pub y : List ℕ
-  y = joined (of_vehicle routes b) cb (of_vehicle routes a) ca
+  y = joined (route_of routes b) cb (route_of routes a) ca
 
   abbrev pub half : List (List ℕ)
-  half = with_route routes a (joined (of_vehicle routes a) ca (of_vehicle routes b) cb)
+  half = with_route routes a (joined (route_of routes a) ca (route_of routes b) cb)
 
   abbrev pub others : List (List ℕ)
   others = with_ends_exchanged routes a ca b cb
@@ -54,13 +54,13 @@ module _ (local : PassesAreLocal) (p : Instance) (pins routes : List (List ℕ))
   b_in_half : b ≤ length half
   b_in_half = let e = as_many in omega arith
 
-  -- each stop stands as often as before
+  -- each stop is in the plan as often as before
   pub same_times : (n : ℕ) → times n (concat others) ≡ times n (concat routes)
   same_times n =
       let e = times_with n routes a x a_from a_within in
       let f = times_with n half b y b_from b_in_half in
       let g = ap (times n) (other_vehicle routes a b x a_from apart) in
-      let h = times_joined n (of_vehicle routes a) (of_vehicle routes b) ca cb in
+      let h = times_joined n (route_of routes a) (route_of routes b) ca cb in
       omega arith
 
   pub crossed_plan : IsPlan p others
@@ -71,31 +71,31 @@ module _ (local : PassesAreLocal) (p : Instance) (pins routes : List (List ℕ))
   all_many : length others ≡ length routes
   all_many = length-set half (b - 1) y ∙ as_many
 
-  in_plan : (z : List ℕ) (v : ℕ) → 1 ≤ v → v ≤ length routes → of_vehicle others v ≡ z → AreLiveOnce p z
+  in_plan : (z : List ℕ) (v : ℕ) → 1 ≤ v → v ≤ length routes → route_of others v ≡ z → AreDistinctStops p z
   in_plan z v from within at =
       let few = λ (n : ℕ). (let e = times_in_vehicle n others v from (let m = all_many in omega arith) in e) in
       once_from p z
       (λ n. let e = few n in let f = ap (times n) at in let g = once_few p (concat others) crossed_plan n in omega arith)
       (λ n some. let e = few n in let f = ap (times n) at in once_live p (concat others) crossed_plan n (omega arith))
 
-  at_a : of_vehicle others a ≡ x
+  at_a : route_of others a ≡ x
   at_a = other_vehicle half b a y b_from (λ same. apart (sym same)) ∙ same_vehicle routes a x a_from a_within
 
-  at_b : of_vehicle others b ≡ y
+  at_b : route_of others b ≡ y
   at_b = same_vehicle half b y b_from b_in_half
 
-  pub first_once : AreLiveOnce p x
+  pub first_once : AreDistinctStops p x
   first_once = in_plan x a a_from a_within at_a
 
-  pub second_once : AreLiveOnce p y
+  pub second_once : AreDistinctStops p y
   second_once = in_plan y b b_from b_within at_b
 
-  -- the plan passes where both routes are feasible alone, and only there
-  module _ (a_kept : length (of_vehicle pins a) ≤ ca) (b_kept : length (of_vehicle pins b) ≤ cb) where
+  -- the plan passes exactly when both routes are feasible alone
+  module _ (a_kept : length (route_of pins a) ≤ ca) (b_kept : length (route_of pins b) ≤ cb) where
     half_pinned : KeepsPins half pins
     half_pinned = pins_with routes pins a x a_from a_within ((parts local p pins routes good).pinned)
-        (λ k n pinned at. front_joined (of_vehicle routes a) (of_vehicle routes b) ca cb k n
-        (let h = within_list (of_vehicle pins a) k n pinned in omega arith) at)
+        (λ k n pinned at. front_joined (route_of routes a) (route_of routes b) ca cb k n
+        (let h = within_list (route_of pins a) k n pinned in omega arith) at)
 
     pub crossed_passes : IsFeasibleAlone p x → IsFeasibleAlone p y → passes p pins others ≡ true
     crossed_passes first second =
@@ -103,10 +103,10 @@ module _ (local : PassesAreLocal) (p : Instance) (pins routes : List (List ℕ))
         (All-set (IsFeasibleAlone p) half (b - 1) y second (All-set (IsFeasibleAlone p) routes (a - 1) x first ((parts local p pins routes good).feasible)))
         (pins_with half pins b y b_from b_in_half half_pinned
         (λ k n pinned at.
-        front_joined (of_vehicle routes b) (of_vehicle routes a) cb ca k n (let h = within_list (of_vehicle pins b) k n pinned in omega arith)
+        front_joined (route_of routes b) (route_of routes a) cb ca k n (let h = within_list (route_of pins b) k n pinned in omega arith)
         (subst (λ l. item_at l k ≡ Some n) (other_vehicle routes a b x a_from apart) at)))
 
-  feasible_at : (z : List ℕ) (v : ℕ) → 1 ≤ v → v ≤ length routes → of_vehicle others v ≡ z → passes p pins others ≡ true → IsFeasibleAlone p z
+  feasible_at : (z : List ℕ) (v : ℕ) → 1 ≤ v → v ≤ length routes → route_of others v ≡ z → passes p pins others ≡ true → IsFeasibleAlone p z
   feasible_at z v from within at passed =
       subst (IsFeasibleAlone p) at (all_at (IsFeasibleAlone p) others v from (let m = all_many in omega arith) (((local p pins others).0 passed).feasible))
 
@@ -116,15 +116,15 @@ module _ (local : PassesAreLocal) (p : Instance) (pins routes : List (List ℕ))
   pub second_feasible : passes p pins others ≡ true → IsFeasibleAlone p y
   second_feasible passed = feasible_at y b b_from b_within at_b passed
 
-module _ (local : PassesAreLocal) (says : TestsSayFeasible) (p : Instance) (pins routes : List (List ℕ)) (good : passes p pins routes ≡ true) (a ca b cb : ℕ)
+module _ (local : PassingIsLocal) (says : FeasibleAloneDecidesFeasibility) (p : Instance) (pins routes : List (List ℕ)) (good : passes p pins routes ≡ true) (a ca b cb : ℕ)
     (can : true ≡ (not (eqb a b) && (is_cut pins routes a ca && is_cut pins routes b cb))) where
-  -- what the test of a cut says
-  cut_parts : (v c : ℕ) → is_cut pins routes v c ≡ true → (1 ≤ v) × (v ≤ length routes) × (length (of_vehicle pins v) ≤ c)
+  -- the conditions that the test of a cut checks
+  cut_parts : (v c : ℕ) → is_cut pins routes v c ≡ true → (1 ≤ v) × (v ≤ length routes) × (length (route_of pins v) ≤ c)
   cut_parts v c t =
-      let one = and_parts (leb 1 v) (leb v (length routes) && (leb (length (of_vehicle pins v)) c && leb c (length (of_vehicle routes v)))) t in
-      let two = and_parts (leb v (length routes)) (leb (length (of_vehicle pins v)) c && leb c (length (of_vehicle routes v))) one.1 in
-      let three = and_parts (leb (length (of_vehicle pins v)) c) (leb c (length (of_vehicle routes v))) two.1 in
-      (leb-true 1 v one.0, leb-true v (length routes) two.0, leb-true (length (of_vehicle pins v)) c three.0)
+      let one = and_parts (leb 1 v) (leb v (length routes) && (leb (length (route_of pins v)) c && leb c (length (route_of routes v)))) t in
+      let two = and_parts (leb v (length routes)) (leb (length (route_of pins v)) c && leb c (length (route_of routes v))) one.1 in
+      let three = and_parts (leb (length (route_of pins v)) c) (leb c (length (route_of routes v))) two.1 in
+      (leb-true 1 v one.0, leb-true v (length routes) two.0, leb-true (length (route_of pins v)) c three.0)
 
   both_cut : (is_cut pins routes a ca ≡ true) × (is_cut pins routes b cb ≡ true)
   both_cut =
@@ -137,42 +137,42 @@ module _ (local : PassesAreLocal) (says : TestsSayFeasible) (p : Instance) (pins
       let e : false ≡ true = rw (eq-eqb a b (sym same)) at h in
       cc
 
-  pub of_a : (1 ≤ a) × (a ≤ length routes) × (length (of_vehicle pins a) ≤ ca)
+  pub of_a : (1 ≤ a) × (a ≤ length routes) × (length (route_of pins a) ≤ ca)
   of_a = cut_parts a ca both_cut.0
 
-  pub of_b : (1 ≤ b) × (b ≤ length routes) × (length (of_vehicle pins b) ≤ cb)
+  pub of_b : (1 ≤ b) × (b ≤ length routes) × (length (route_of pins b) ≤ cb)
   of_b = cut_parts b cb both_cut.1
 
-  pub first_route_once : AreLiveOnce p (joined (of_vehicle routes a) ca (of_vehicle routes b) cb)
+  pub first_route_once : AreDistinctStops p (joined (route_of routes a) ca (route_of routes b) cb)
   first_route_once = first_once local p pins routes good a ca b cb differ of_a.0 of_a.1 of_b.0 of_b.1
 
-  pub second_route_once : AreLiveOnce p (joined (of_vehicle routes b) cb (of_vehicle routes a) ca)
+  pub second_route_once : AreDistinctStops p (joined (route_of routes b) cb (route_of routes a) ca)
   second_route_once = second_once local p pins routes good a ca b cb differ of_a.0 of_a.1 of_b.0 of_b.1
 
   not_both : (f s : Bool) → (f && s) ≡ false → f ≡ true → s ≡ true → ⊥
   not_both f s none first second = let h : true ≡ false = sym (and_from f s first second) ∙ none in cc
 
-  passes_where_both : (f s : Bool) → f ≡ feasible_alone p (joined (of_vehicle routes a) ca (of_vehicle routes b) cb)
-      → s ≡ feasible_alone p (joined (of_vehicle routes b) cb (of_vehicle routes a) ca)
+  passes_where_both : (f s : Bool) → f ≡ feasible_alone p (joined (route_of routes a) ca (route_of routes b) cb)
+      → s ≡ feasible_alone p (joined (route_of routes b) cb (route_of routes a) ca)
       → passes p pins (with_ends_exchanged routes a ca b cb) ≡ (f && s)
   passes_where_both f s e g = elim (cases_Bool (f && s)) [
     | inl both ↦ (
         let t = and_parts f s both in
         crossed_passes local p pins routes good a ca b cb differ of_a.0 of_a.1 of_b.0 of_b.1 of_a.2 of_b.2
-        ((says p (joined (of_vehicle routes a) ca (of_vehicle routes b) cb)).0 (sym e ∙ t.0))
-        ((says p (joined (of_vehicle routes b) cb (of_vehicle routes a) ca)).0 (sym g ∙ t.1)) ∙ sym both)
+        ((says p (joined (route_of routes a) ca (route_of routes b) cb)).0 (sym e ∙ t.0))
+        ((says p (joined (route_of routes b) cb (route_of routes a) ca)).0 (sym g ∙ t.1)) ∙ sym both)
     | inr none ↦ elim (cases_Bool (passes p pins (with_ends_exchanged routes a ca b cb))) [
       | inr fails ↦ fails ∙ sym none
       | inl passed ↦ absurd (not_both f s none
-          (e ∙ (says p (joined (of_vehicle routes a) ca (of_vehicle routes b) cb)).1
+          (e ∙ (says p (joined (route_of routes a) ca (route_of routes b) cb)).1
           (first_feasible local p pins routes good a ca b cb differ of_a.0 of_a.1 of_b.0 of_b.1 passed))
-          (g ∙ (says p (joined (of_vehicle routes b) cb (of_vehicle routes a) ca)).1
+          (g ∙ (says p (joined (route_of routes b) cb (route_of routes a) ca)).1
           (second_feasible local p pins routes good a ca b cb differ of_a.0 of_a.1 of_b.0 of_b.1 passed)))
     ]
   ]
 
-  pub crossed_is : (f s : Bool) → f ≡ feasible_alone p (joined (of_vehicle routes a) ca (of_vehicle routes b) cb)
-      → s ≡ feasible_alone p (joined (of_vehicle routes b) cb (of_vehicle routes a) ca)
+  pub crossed_is : (f s : Bool) → f ≡ feasible_alone p (joined (route_of routes a) ca (route_of routes b) cb)
+      → s ≡ feasible_alone p (joined (route_of routes b) cb (route_of routes a) ca)
       → crossed p pins routes a ca b cb ≡ cond (f && s) (Some (with_ends_exchanged routes a ca b cb)) None
   crossed_is f s e g = rw (sym can, passes_where_both f s e g) refl
 

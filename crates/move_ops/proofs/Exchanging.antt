@@ -1,4 +1,4 @@
--- Two requests of a plan that passes take one another's places.
+-- The exchange of two requests of a plan that passes.
 use Rattle.std.proofs.Common.{◌≡◌, ℕ, ◌+◌, ◌≤◌, ◌&&◌, ◌||◌, Bool, true, false, cond, eqb, nat_eq, List, []}
 use Rattle.std.proofs.Common.{◌∷◌, All, map, Some, None, slice_get, refl, sym, ap, subst, ◌∙◌, inl, inr, arith}
 use Rattle.std.specs.List.{list_all, list_any, concat}
@@ -9,14 +9,14 @@ use Rattle.std.proofs.lemmas.Bool.Decides.{eqb_tells}
 use Rattle.std.proofs.lemmas.List.{length-map}
 use Rattle.std.proofs.lemmas.Option.{slice_get-map}
 use Rattle.plan_types.specs.Instance.{Instance, IsInstance}
-use Rattle.plan_types.specs.Laws.{NamedAreFound}
+use Rattle.plan_types.specs.Laws.{NamedRequestsAreFound}
 use Rattle.plan_types.specs.Request.{request_name, IsRequest}
 use Rattle.plan_types.specs.declared.requests.Request.{Request}
 use Rattle.plan_types.specs.declared.requests.Request.TheVariants.{Single, Pair}
 use Rattle.route_sched.specs.Cost.{has_stop, is_planned}
-use Rattle.route_sched.specs.Route.{IsLive, AreLiveOnce, IsPlan}
+use Rattle.route_sched.specs.Route.{IsKnownStop, AreDistinctStops, IsPlan}
 use Rattle.plan_audit.specs.Laws.{KeepsPins}
-use Rattle.plan_audit.specs.Locality.{PassesAreLocal, PlansAreLocal, TestsSayFeasible}
+use Rattle.plan_audit.specs.Locality.{PassingIsLocal, PlansAreDisjointRoutes, FeasibleAloneDecidesFeasibility}
 use Rattle.plan_audit.specs.Passes.{feasible_alone, passes}
 use Rattle.slack_tables.proofs.InsertLemmas.{request-valid}
 use Rattle.move_ops.specs.Moves.{is_movable, have_same_form, are_exchangeable, swapped, counterpart, exchanged}
@@ -28,7 +28,7 @@ use Rattle.move_ops.proofs.Inserting.{numbers_of, in_numbers, found_live}
 use Rattle.move_ops.proofs.Changing.{passes_where_feasible, each_once, pins_map}
 use Rattle.move_ops.proofs.Removing.{unpinned}
 
--- one of two numbers for the other
+-- one of two numbers replaced by the other
 pub swap_left : (a b : ℕ) → swapped a b a ≡ b
 swap_left a b = rw (eq-eqb a a refl) refl
 
@@ -59,7 +59,7 @@ swap_back a b n = elim (eqb_tells n a) [
   ]
 ]
 
--- two such exchanges of four numbers
+-- two swaps, of a with c and of b with d, of four numbers
 module _ (a b c d : ℕ) (a_b : a ≡ b → ⊥) (a_d : a ≡ d → ⊥) (c_b : c ≡ b → ⊥) (c_d : c ≡ d → ⊥) where
   abbrev both : ℕ → ℕ
   both n = swapped a c (swapped b d n)
@@ -94,7 +94,7 @@ module _ (a b c d : ℕ) (a_b : a ≡ b → ⊥) (a_d : a ≡ d → ⊥) (c_b : 
     ]
   ]
 
--- numbers that are mapped by a function that is its own inverse
+-- numbers mapped by a function that is its own inverse
 module _ (f : ℕ → ℕ) (back : (n : ℕ) → f (f n) ≡ n) where
   times_mapped : (n : ℕ) (xs : List ℕ) → times n (map f xs) ≡ times (f n) xs
   times_mapped n [] = refl
@@ -120,13 +120,13 @@ module _ (f : ℕ → ℕ) (back : (n : ℕ) → f (f n) ≡ n) where
       let i = times_all_mapped n routes in
       omega arith
 
-  pub mapped_plan : (p : Instance) (routes : List (List ℕ)) → IsPlan p routes → ((n : ℕ) → IsLive p (f n) → IsLive p n) → IsPlan p (map (map f) routes)
+  pub mapped_plan : (p : Instance) (routes : List (List ℕ)) → IsPlan p routes → ((n : ℕ) → IsKnownStop p (f n) → IsKnownStop p n) → IsPlan p (map (map f) routes)
   mapped_plan p routes plan live =
       once_from p (concat (map (map f) routes))
       (λ n. let e = times_all_mapped n routes in let g = once_few p (concat routes) plan (f n) in omega arith)
       (λ n some. let e = times_all_mapped n routes in live n (once_live p (concat routes) plan (f n) (omega arith)))
 
--- a front of numbers that stay is the front
+-- a number that f leaves unchanged stays at its index
 front_mapped : (f : ℕ → ℕ) (route : List ℕ) (k n : ℕ) → slice_get route k ≡ Some n → f n ≡ n → slice_get (map f route) k ≡ Some n
 front_mapped f route k n at stays = slice_get-map f route k ∙ (ap (option_map f) at ∙ ap Some stays)
 
@@ -135,7 +135,7 @@ mapped_pinned : (f : ℕ → ℕ) (routes pins : List (List ℕ)) → KeepsPins 
 mapped_pinned f routes pins kept stays =
     pins_map (map f) routes pins kept (λ pin route same stand k n at. front_mapped f route k n (same k n at) (stays n (stand k n at)))
 
--- a number of neither request stays
+-- a number of neither request is unchanged
 not_among : (n m : ℕ) (xs : List ℕ) → cond (eqb n m) 1 0 + times n xs ≡ 0 → n ≡ m → ⊥
 not_among n m xs none same = let e = one_here n m same in omega arith
 
@@ -149,7 +149,7 @@ counterpart_other (Pair a b) (Pair c d) n one two =
     ap (swapped a.number c.number) (swap_other b.number d.number n (not_among n b.number [] in_b) (not_among n d.number [] in_d))
     ∙ swap_other a.number c.number n (not_among n a.number (b.number ∷ []) one) (not_among n c.number (d.number ∷ []) two)
 
--- of two requests that share no number the counterpart of the counterpart is the stop itself
+-- if two requests share no number, the counterpart of the counterpart is the stop itself
 first_among : (n m : ℕ) (xs : List ℕ) → n ≡ m → 1 ≤ times n (m ∷ xs)
 first_among n m xs same = let e = one_here n m same in omega arith
 
@@ -167,7 +167,7 @@ counterpart_back (Pair a b) (Pair c d) valid too apart n =
     (λ same. apart c.number (second_among c.number b.number a.number same) (first_among c.number c.number (d.number ∷ []) refl))
     (too.2) n
 
--- it doesn't matter which of the two is named first
+-- the order of the two requests doesn't matter
 counterpart_turned : (r s : Request) (n : ℕ) → counterpart r s n ≡ counterpart s r n
 counterpart_turned (Single s) (Single t) n = swap_turned s.number t.number n
 counterpart_turned (Single s) (Pair c d) n = refl
@@ -181,7 +181,7 @@ same_form_turned (Single s) (Pair c d) = refl
 same_form_turned (Pair a b) (Single t) = refl
 same_form_turned (Pair a b) (Pair c d) = refl
 
--- each request is planned where the other was
+-- each request is planned if the other was
 any_two : (n m : ℕ) (xs ys : List ℕ) → times n xs ≡ times m ys → list_any (nat_eq n) xs ≡ list_any (nat_eq m) ys
 any_two n m xs ys same = by (list_any (nat_eq n) xs) (list_any (nat_eq m) ys) refl refl
   where
@@ -208,8 +208,8 @@ module _ (routes others : List (List ℕ)) where
       ∙ ap (λ h. has_stop routes c.number || (h || false))
       (had b.number ∙ ap (has_stop routes) (both_b a.number b.number c.number d.number (valid.2) a_d c_b (too.2)))
 
--- requests of two names share no number
-module _ (found : NamedAreFound) (p : Instance) (valid : IsInstance p) (a b : ℕ) (apart : a ≡ b → ⊥) (r s : Request)
+-- requests with different names share no number
+module _ (found : NamedRequestsAreFound) (p : Instance) (valid : IsInstance p) (a b : ℕ) (apart : a ≡ b → ⊥) (r s : Request)
     (is_r : lookup (nat_eq a) p.requests ≡ Some r) (is_s : lookup (nat_eq b) p.requests ≡ Some s) where
   share_none : (n : ℕ) → 1 ≤ times n (numbers_of r) → 1 ≤ times n (numbers_of s) → ⊥
   share_none n one two =
@@ -221,7 +221,7 @@ module _ (found : NamedAreFound) (p : Instance) (valid : IsInstance p) (a b : �
   back : (n : ℕ) → counterpart r s (counterpart r s n) ≡ n
   back = counterpart_back r s (request-valid p a r valid is_r) (request-valid p b s valid is_s) share_none
 
-  -- a stop stands in a route where its counterpart stood
+  -- a stop is in a route as often as its counterpart was
   pub times_exchanged : (n : ℕ) (routes : List (List ℕ)) → times n (concat (map (map (counterpart r s)) routes)) ≡ times (counterpart r s n) (concat routes)
   times_exchanged n routes = times_all_mapped (counterpart r s) back n routes
 
@@ -239,16 +239,16 @@ module _ (found : NamedAreFound) (p : Instance) (valid : IsInstance p) (a b : �
       (λ n two one. share_none n one two)
       (same_form_turned s r ∙ form) (λ n. had_exchanged routes n ∙ ap (has_stop routes) (counterpart_turned r s n))
 
-  stays_live : (n : ℕ) → IsLive p (counterpart r s n) → IsLive p n
+  stays_live : (n : ℕ) → IsKnownStop p (counterpart r s n) → IsKnownStop p n
   stays_live n live = elim (cases_lt 0 (times n (numbers_of r))) [
     | inl one ↦ found_live found p a n r valid is_r (in_numbers n r (omega arith))
     | inr not_r ↦ elim (cases_lt 0 (times n (numbers_of s))) [
       | inl two ↦ found_live found p b n s valid is_s (in_numbers n s (omega arith))
-      | inr not_s ↦ subst (IsLive p) (counterpart_other r s n (omega arith) (omega arith)) live
+      | inr not_s ↦ subst (IsKnownStop p) (counterpart_other r s n (omega arith) (omega arith)) live
     ]
   ]
 
-  module _ (local : PassesAreLocal) (plans : PlansAreLocal) (says : TestsSayFeasible) (pins routes : List (List ℕ))
+  module _ (local : PassingIsLocal) (plans : PlansAreDisjointRoutes) (says : FeasibleAloneDecidesFeasibility) (pins routes : List (List ℕ))
       (good : passes p pins routes ≡ true) (can : are_exchangeable pins routes r s ≡ true) where
     both_movable : (is_movable pins routes r ≡ true) × (is_movable pins routes s ≡ true)
     both_movable =
@@ -266,7 +266,7 @@ module _ (found : NamedAreFound) (p : Instance) (valid : IsInstance p) (a b : �
         mapped_pinned (counterpart r s) routes pins ((parts local p pins routes good).pinned)
         (λ n pinned. counterpart_other r s n (unpinned pins routes r both_movable.0 n pinned) (unpinned pins routes s both_movable.1 n pinned))
 
-    pub others_once : All (AreLiveOnce p) (map (map (counterpart r s)) routes)
+    pub others_once : All (AreDistinctStops p) (map (map (counterpart r s)) routes)
     others_once = each_once plans p others others_plan
 
     pub exchanged_is : (t : Bool) → t ≡ list_all (feasible_alone p) (map (map (counterpart r s)) routes)

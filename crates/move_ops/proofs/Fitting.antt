@@ -1,4 +1,5 @@
--- A request put into a route that is feasible alone: the new route is feasible alone too exactly where it keeps the limits of load and time.
+-- A request inserted into a route that is feasible alone. The new route is feasible alone exactly when it keeps
+-- the limits of load and time.
 use Rattle.std.proofs.Common.{◌≡◌, ℕ, zero, suc, ◌+◌, ◌-◌, ◌<◌, ◌≤◌, ◌≤ℤ◌, ◌<ℤ◌, ℤ, pos, nat_le, nat_eq, eqb, ◌&&◌, Bool, true, false, not, int_lt}
 use Rattle.std.proofs.Common.{List, [], ◌∷◌, ◌++◌, length, length-append, take, drop, Option, Some, None}
 use Rattle.std.proofs.Common.{IsSome, refl, sym, ap, subst, ◌∙◌, inl, inr, arith, rules, T}
@@ -10,7 +11,7 @@ use Rattle.std.proofs.lemmas.Bool.{cases_lt, and_from, and_parts, or_cases, not-
 use Rattle.std.proofs.lemmas.Bool.Decides.{eqb_tells}
 use Rattle.std.proofs.lemmas.Int.{ints, by_lt_z}
 use Rattle.plan_types.specs.Instance.{Instance, IsInstance, request_with, partner_at, pickup_at}
-use Rattle.plan_types.specs.Laws.{NamedAreFound, RequestsStandByName}
+use Rattle.plan_types.specs.Laws.{NamedRequestsAreFound, RequestsAreStoredByName}
 use Rattle.plan_types.specs.Request.{request_name, stop_in, partner_in, pickup_in}
 use Rattle.plan_types.specs.declared.requests.Request.{Request}
 use Rattle.plan_types.specs.declared.requests.Request.TheVariants.{Single, Pair}
@@ -55,7 +56,7 @@ times_by_all test (m ∷ ns) n all some =
       | inr t ↦ (let e = none_here n m t.0 in times_by_all test ns n both.1 (omega arith))
     ]
 
--- ---- what is told of a number that may be there
+-- ---- statements about an optional number
 pub there_whole : (ns : List ℕ) (o : Option ℕ) → ((m : ℕ) → o ≡ Some m → has ns m ≡ true) → option_map_or (has ns) o true ≡ true
 there_whole ns None each = refl
 there_whole ns (Some m) each = each m refl
@@ -99,7 +100,7 @@ module _ (p : Instance) (route : List ℕ) where
       by : (l : ℤ) → not (int_lt (pos p.capacity) l) ≡ true → l ≤ℤ pos p.capacity
       by l t = by_lt_z {P = l ≤ℤ pos p.capacity} (pos p.capacity) l (λ above. absurd (above_not (int_lt (pos p.capacity) l) t (above.lt))) (λ le. le)
 
-  -- what the tests say, where an empty route is back in time
+  -- the conditions of the limits, if an empty route is back in time
   pub limits_kept : (p.kind ≡ LiLim → length route ≡ 0 → start p route (length route + 1) ≤ p.depot.latest) → keeps ≡ true → KeepsLimits p route
   limits_kept idle kept =
       let both = and_parts (keeps_capacity p route) (keeps_times p.kind p route) kept in
@@ -152,7 +153,7 @@ partner_numbers (Pair a b) n m is = elim (eqb_tells a.number n) [
   ]
 ]
 
--- the pickup of a request's stop is its first one
+-- the pickup of a request's stop is the request's first stop
 abbrev IsPickupOf : Request → ℕ → ℕ → Type 0
 IsPickupOf (Single s) n m = ⊥
 IsPickupOf (Pair a b) n m = (b.number ≡ n) × (a.number ≡ m) × (eqb a.number n ≡ false)
@@ -168,18 +169,19 @@ pickup_first (Pair a b) n m is = elim (eqb_tells a.number n) [
 ]
 
 module _ (p : Instance) where
-  -- a stop put where no delivery of its stands before it and no pickup of its behind
+  -- inserting a stop at an index keeps each pickup first, if no delivery of it comes before and no pickup of it
+  -- comes after
   first_put : (m k : ℕ) (ns : List ℕ) → picks_up_first p ns ≡ true → ((n : ℕ) → 1 ≤ times n (take k ns) → pickup_at p n ≡ Some m → ⊥)
       → ((q : ℕ) → pickup_at p m ≡ Some q → times q (drop k ns) ≡ 0) → picks_up_first p (take k ns ++ m ∷ drop k ns) ≡ true
-  first_put m zero ns first front behind =
-      and_from (not (option_map_or (has ns) (pickup_at p m) false)) (picks_up_first p ns) (none_ahead ns (pickup_at p m) behind) first
-  first_put m (suc k) [] first front behind =
+  first_put m zero ns first front following =
+      and_from (not (option_map_or (has ns) (pickup_at p m) false)) (picks_up_first p ns) (none_ahead ns (pickup_at p m) following) first
+  first_put m (suc k) [] first front following =
       and_from (not (option_map_or (has []) (pickup_at p m) false)) true (none_ahead [] (pickup_at p m) (λ q is. refl)) refl
-  first_put m (suc k) (n ∷ ns) first front behind =
+  first_put m (suc k) (n ∷ ns) first front following =
       let both = and_parts (not (option_map_or (has ns) (pickup_at p n) false)) (picks_up_first p ns) first in
       and_from (not (option_map_or (has (take k ns ++ m ∷ drop k ns)) (pickup_at p n) false)) (picks_up_first p (take k ns ++ m ∷ drop k ns))
       (none_ahead (take k ns ++ m ∷ drop k ns) (pickup_at p n) (λ q is. none_there q is (ahead_none ns (pickup_at p n) q is both.0)))
-      (first_put m k ns both.1 (λ u some. front u (omega arith)) behind)
+      (first_put m k ns both.1 (λ u some. front u (omega arith)) following)
     where
       none_there : (q : ℕ) → pickup_at p n ≡ Some q → times q ns ≡ 0 → times q (take k ns ++ m ∷ drop k ns) ≡ 0
       none_there q is none =
@@ -190,24 +192,25 @@ module _ (p : Instance) where
             | inr t ↦ (let g = none_here q m t.0 in omega arith)
           ]
 
--- behind the place of a stop it stands no more
+-- if a stop that is not in a list is inserted at an index, the rest of the new list after this index does not
+-- have the stop
 drop_past : (m k c : ℕ) (ns : List ℕ) → k ≤ length ns → k < c → times m ns ≡ 0 → times m (drop c (take k ns ++ m ∷ drop k ns)) ≡ 0
 drop_past m k zero ns within past none = absurd (omega arith)
 drop_past m zero (suc c) ns within past none = let f = times_split m c ns in omega arith
 drop_past m (suc k) (suc c) [] within past none = absurd (omega arith)
 drop_past m (suc k) (suc c) (n ∷ ns) within past none = drop_past m k c ns (omega arith) (omega arith) (omega arith)
 
-module _ (found : NamedAreFound) (stand : RequestsStandByName) (p : Instance) (valid : IsInstance p) where
-  -- whoever is the pickup of n has n as its partner
+module _ (found : NamedRequestsAreFound) (stand : RequestsAreStoredByName) (p : Instance) (valid : IsInstance p) where
+  -- if m is the pickup of n, then n is the partner of m
   pickup_partner : (n m : ℕ) → pickup_at p n ≡ Some m → partner_at p m ≡ Some n
   pickup_partner n m is = by (request_with p n) refl
     where
       in_request : (q : Request) → request_with p n ≡ Some q → IsPickupOf q n m → partner_at p m ≡ Some n
-      in_request (Single s) at told = absurd told
-      in_request (Pair a b) at told =
-          let some : IsSome (stop_in m (Pair a b)) = rw (eq-eqb a.number m told.1) (search rules) in
-          let partner : partner_in m (Pair a b) ≡ Some b.number = rw (eq-eqb a.number m told.1) refl in
-          (found p m (request_name (Pair a b)) (Pair a b) valid (stand p n (Pair a b) valid at) some).partner ∙ (partner ∙ ap Some told.0)
+      in_request (Single s) at reported = absurd reported
+      in_request (Pair a b) at reported =
+          let some : IsSome (stop_in m (Pair a b)) = rw (eq-eqb a.number m reported.1) (search rules) in
+          let partner : partner_in m (Pair a b) ≡ Some b.number = rw (eq-eqb a.number m reported.1) refl in
+          (found p m (request_name (Pair a b)) (Pair a b) valid (stand p n (Pair a b) valid at) some).partner ∙ (partner ∙ ap Some reported.0)
 
       by : (o : Option Request) → request_with p n ≡ o → partner_at p m ≡ Some n
       by None e = absurd (let h : None ≡ Some m = rw e at is in none_some m h)
@@ -250,8 +253,8 @@ insert_some ns k m none =
     let f : length (m ∷ drop k ns) ≡ length (drop k ns) + 1 = omega arith in
     omega arith
 
--- ---- one request put in
-module _ (found : NamedAreFound) (stand : RequestsStandByName) (p : Instance) (valid : IsInstance p) where
+-- ---- one request inserted
+module _ (found : NamedRequestsAreFound) (stand : RequestsAreStoredByName) (p : Instance) (valid : IsInstance p) where
   first_new : (name : ℕ) (r : Request) → lookup (nat_eq name) p.requests ≡ Some r → (old : List ℕ)
       → ((n : ℕ) → 1 ≤ times n (numbers_of r) → times n old ≡ 0) → (i j : ℕ)
       → ArePlaces r (length old) i j → picks_up_first p old ≡ true → picks_up_first p (inserted r i j old) ≡ true
@@ -279,8 +282,8 @@ module _ (found : NamedAreFound) (stand : RequestsStandByName) (p : Instance) (v
             apart found stand p valid name (Pair a b) named old free n b.number (omega arith) finish is)
       ])
       (λ q is. (
-      let told = pickup_first (Pair a b) b.number q (sym (pickup_own found stand p valid name (Pair a b) named old free b.number finish) ∙ is) in
-      subst (λ (m : ℕ). times m (drop (j - 1) (insert old (i - 1) a.number)) ≡ 0) told.1
+      let reported = pickup_first (Pair a b) b.number q (sym (pickup_own found stand p valid name (Pair a b) named old free b.number finish) ∙ is) in
+      subst (λ (m : ℕ). times m (drop (j - 1) (insert old (i - 1) a.number)) ≡ 0) reported.1
       (drop_past a.number (i - 1) (j - 1) old (omega arith) (omega arith) (free a.number start))))
 
   module _ (name : ℕ) (r : Request) (named : lookup (nat_eq name) p.requests ≡ Some r) (old : List ℕ)
@@ -305,14 +308,14 @@ module _ (found : NamedAreFound) (stand : RequestsStandByName) (p : Instance) (v
         by (Single s) = insert_some old (i - 1) s.number
         by (Pair a b) = insert_some (insert old (i - 1) a.number) (j - 1) b.number
 
-    -- the new route is feasible alone where it keeps the limits, and only there
+    -- the new route is feasible alone exactly when it keeps the limits
     pub fits : KeepsLimits p (inserted r i j old) → feasible_alone p (inserted r i j old) ≡ true
     unfolding feasible_alone
     fits limits =
         and_from (has_whole_pairs p (inserted r i j old)) (picks_up_first p (inserted r i j old) && keeps p (inserted r i j old)) whole
         (and_from (picks_up_first p (inserted r i j old)) (keeps p (inserted r i j old)) first (kept_limits p (inserted r i j old) limits))
 
--- the limits of a route that is feasible alone
+-- a route that is feasible alone passes the tests of the limits
 kept_alone : (p : Instance) (route : List ℕ) → feasible_alone p route ≡ true → keeps p route ≡ true
 unfolding feasible_alone
 kept_alone p route feasible =
@@ -349,7 +352,7 @@ whole_alone p route whole first limits =
     and_from (has_whole_pairs p route) (picks_up_first p route && keeps p route) whole
     (and_from (picks_up_first p route) (keeps p route) first (kept_limits p route limits))
 
--- where the limits are kept, the pairs decide
+-- if the limits are kept, the pairs decide
 pub within_limits : (p : Instance) → (route : List ℕ) (a b : Bool) → a ≡ are_paired p route → b ≡ true
     → (b ≡ true) ↔ KeepsLimits p route → a ≡ feasible_alone p route
 within_limits p route true b is kept limits =
@@ -357,7 +360,7 @@ within_limits p route true b is kept limits =
     sym (whole_alone p route both.0 both.1 (limits.0 kept))
 within_limits p route false b is kept limits = unpaired p route false is refl
 
--- and where they are not, nothing does
+-- if the limits are not kept, the route is not feasible
 pub outside_limits : (p : Instance) → IsInstance p → (route : List ℕ) (b : Bool) → b ≡ false → (b ≡ true) ↔ KeepsLimits p route → false ≡ feasible_alone p route
 outside_limits p valid route b broken limits = by (feasible_alone p route) refl
   where
@@ -365,7 +368,7 @@ outside_limits p valid route b broken limits = by (feasible_alone p route) refl
     by false f = sym f
     by true f = absurd (let h : b ≡ true = limits.1 (route_limits p valid route f) in both_ways b broken h)
 
--- where the pairs are whole and picked up first, the limits decide
+-- if the pairs are whole and picked up first, the limits decide
 pub paired : (p : Instance) → IsInstance p → (route : List ℕ) (b : Bool) → are_paired p route ≡ true → (b ≡ true) ↔ KeepsLimits p route
     → b ≡ feasible_alone p route
 paired p valid route true pairs limits = within_limits p route true true (sym pairs) refl limits

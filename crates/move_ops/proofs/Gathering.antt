@@ -10,16 +10,16 @@ use Rattle.std.proofs.lemmas.List.{length-map, length-set}
 use Rattle.std.proofs.lemmas.List.Elements.{All-append, All-from_recursion, recursion_from_All}
 use Rattle.std.proofs.lemmas.List.Folds.{list_any-append}
 use Rattle.plan_types.specs.Instance.{Instance, IsInstance, name_at, request_with}
-use Rattle.plan_types.specs.Laws.{RequestsStandByName}
+use Rattle.plan_types.specs.Laws.{RequestsAreStoredByName}
 use Rattle.plan_types.specs.Request.{request_name, stop_in}
 use Rattle.plan_types.specs.declared.requests.Request.{Request}
 use Rattle.plan_types.specs.declared.requests.Request.TheVariants.{Single, Pair}
 use Rattle.plan_types.specs.declared.requests.Stop.{Stop}
 use Rattle.route_sched.specs.Cost.{has_stop}
 use Rattle.plan_audit.specs.Passes.{has}
-use Rattle.move_ops.specs.Insertion.{of_vehicle, with_route}
+use Rattle.move_ops.specs.Insertion.{route_of, with_route}
 use Rattle.move_ops.specs.Moves.{counterpart, is_of_named, without_named}
-use Rattle.move_ops.specs.Changes.{with_routes, AreChanges, AreIn, AreVehiclesOf, IsVehicleWith, Notes}
+use Rattle.move_ops.specs.Changes.{with_routes, AreChanges, AreIn, AreVehiclesOf, IsVehicleWith, Collects}
 use Rattle.move_ops.specs.declared.changes.Change.{Change}
 use Rattle.move_ops.proofs.Times.{some_same, times, times-append, at_most_once}
 use Rattle.move_ops.proofs.Inserting.{in_numbers}
@@ -29,9 +29,9 @@ use Rattle.move_ops.proofs.Collecting.{of_map}
 use Rattle.move_ops.proofs.Drafting.{has_in_vehicle}
 use Rattle.move_ops.proofs.Removing.{found_has}
 
--- ---- a stop that stands once is in one route alone
-one_vehicle : (n : ℕ) (routes : List (List ℕ)) (u v : ℕ) → times n (concat routes) ≤ 1 → has (of_vehicle routes u) n ≡ true
-    → has (of_vehicle routes v) n ≡ true → u ≡ v
+-- ---- a stop that occurs once is in one route only
+one_vehicle : (n : ℕ) (routes : List (List ℕ)) (u v : ℕ) → times n (concat routes) ≤ 1 → has (route_of routes u) n ≡ true
+    → has (route_of routes v) n ≡ true → u ≡ v
 one_vehicle n routes zero v few one two = absurd (false≢true one)
 one_vehicle n routes (suc i) zero few one two = absurd (false≢true two)
 one_vehicle n [] (suc i) (suc j) few one two = absurd (false≢true one)
@@ -50,7 +50,7 @@ one_vehicle n (r ∷ routes) (suc (suc i)) (suc (suc j)) few one two =
     let e = times-append n r (concat routes) in
     ap suc (one_vehicle n routes (suc i) (suc j) (omega arith) one two)
 
-in_fleet : (n : ℕ) (routes : List (List ℕ)) (v : ℕ) → has (of_vehicle routes v) n ≡ true → v ≤ length routes
+in_fleet : (n : ℕ) (routes : List (List ℕ)) (v : ℕ) → has (route_of routes v) n ≡ true → v ≤ length routes
 in_fleet n routes zero had = omega arith
 in_fleet n [] (suc i) had = absurd (false≢true had)
 in_fleet n (r ∷ routes) (suc zero) had = omega arith
@@ -58,28 +58,28 @@ in_fleet n (r ∷ routes) (suc (suc i)) had = let h = in_fleet n routes (suc i) 
 
 -- ---- one stop's vehicle
 module _ (routes : List (List ℕ)) (stop : ℕ) (before : List ℕ) where
-  pub noted_none : has_stop routes stop ≡ false → Notes routes (λ n. n ≡ stop) before before
+  pub noted_none : has_stop routes stop ≡ false → Collects routes (λ n. n ≡ stop) before before
   noted_none none = record {
     within = λ all. all;
     stays = λ v h. h;
-    found = λ v n is had. absurd (false≢true (sym none ∙ has_in_vehicle routes v stop (subst (λ (m : ℕ). has (of_vehicle routes v) m ≡ true) is had)));
+    found = λ v n is had. absurd (false≢true (sym none ∙ has_in_vehicle routes v stop (subst (λ (m : ℕ). has (route_of routes v) m ≡ true) is had)));
   }
 
-  module _ (once : IsDistinct nat_eq (concat routes)) (vehicle : ℕ) (there : has (of_vehicle routes vehicle) stop ≡ true) where
-    is_it : (v n : ℕ) → n ≡ stop → has (of_vehicle routes v) n ≡ true → v ≡ vehicle
+  module _ (once : IsDistinct nat_eq (concat routes)) (vehicle : ℕ) (there : has (route_of routes vehicle) stop ≡ true) where
+    is_it : (v n : ℕ) → n ≡ stop → has (route_of routes v) n ≡ true → v ≡ vehicle
     is_it v n is had =
         one_vehicle stop routes v vehicle (at_most_once (concat routes) once stop)
-        (subst (λ (m : ℕ). has (of_vehicle routes v) m ≡ true) is had) there
+        (subst (λ (m : ℕ). has (route_of routes v) m ≡ true) is had) there
 
-    pub noted_old : has before vehicle ≡ true → Notes routes (λ n. n ≡ stop) before before
+    pub noted_old : has before vehicle ≡ true → Collects routes (λ n. n ≡ stop) before before
     noted_old among = record {
       within = λ all. all;
       stays = λ v h. h;
       found = λ v n is had. ap (has before) (is_it v n is had) ∙ among;
     }
 
-    pub noted_new : 1 ≤ vehicle → (after : List ℕ) → after ≡ before ++ vehicle ∷ [] → Notes routes (λ n. n ≡ stop) before after
-    noted_new from after are = subst (Notes routes (λ n. n ≡ stop) before) (sym are) (record {
+    pub noted_new : 1 ≤ vehicle → (after : List ℕ) → after ≡ before ++ vehicle ∷ [] → Collects routes (λ n. n ≡ stop) before after
+    noted_new from after are = subst (Collects routes (λ n. n ≡ stop) before) (sym are) (record {
       within = λ all. All-append (λ (v : ℕ). (1 ≤ v) × (v ≤ length routes)) before (vehicle ∷ []) all
           (All-from_recursion (λ (v : ℕ). (1 ≤ v) × (v ≤ length routes)) (vehicle ∷ []) ((from, in_fleet stop routes vehicle there), tt));
       stays = λ v h. list_any-append (nat_eq v) before (vehicle ∷ []) ∙ or_left (has before v) (has (vehicle ∷ []) v) h;
@@ -92,10 +92,10 @@ module _ (routes : List (List ℕ)) (stop : ℕ) (before : List ℕ) where
           | inr t ↦ absurd (t.1 same)
         ]
 
--- ---- those of a request's stops
+-- ---- the vehicles of a request's stops
 module _ (routes : List (List ℕ)) where
-  pub noted_pair : (a b : Stop) (before mid after : List ℕ) → Notes routes (λ n. n ≡ a.number) before mid
-      → Notes routes (λ n. n ≡ b.number) mid after → Notes routes (λ n. IsSome (stop_in n (Pair a b))) before after
+  pub noted_pair : (a b : Stop) (before mid after : List ℕ) → Collects routes (λ n. n ≡ a.number) before mid
+      → Collects routes (λ n. n ≡ b.number) mid after → Collects routes (λ n. IsSome (stop_in n (Pair a b))) before after
   noted_pair a b before mid after one two = record {
     within = λ all. two.within (one.within all);
     stays = λ v h. two.stays v (one.stays v h);
@@ -108,8 +108,8 @@ module _ (routes : List (List ℕ)) where
     ];
   }
 
-  -- ---- those of a name
-  module _ (by_name : RequestsStandByName) (p : Instance) (valid : IsInstance p) (name : ℕ) where
+  -- ---- the vehicles of a name
+  module _ (by_name : RequestsAreStoredByName) (p : Instance) (valid : IsInstance p) (name : ℕ) where
     asked_of : (n : ℕ) → is_of_named p (name ∷ []) n ≡ true → (q : Request) × (lookup (nat_eq name) p.requests ≡ Some q) × (IsSome (stop_in n q))
     asked_of n = by (request_with p n) refl
       where
@@ -126,7 +126,7 @@ module _ (routes : List (List ℕ)) where
         ]
 
     pub noted_named : (r : Request) → lookup (nat_eq name) p.requests ≡ Some r → (before after : List ℕ)
-        → Notes routes (λ n. IsSome (stop_in n r)) before after → Notes routes (λ n. is_of_named p (name ∷ []) n ≡ true) before after
+        → Collects routes (λ n. IsSome (stop_in n r)) before after → Collects routes (λ n. is_of_named p (name ∷ []) n ≡ true) before after
     noted_named r at before after is = record {
       within = is.within;
       stays = is.stays;
@@ -135,7 +135,7 @@ module _ (routes : List (List ℕ)) where
           is.found v n (subst (λ (x : Request). IsSome (stop_in n x)) (some_same q.0 r (sym q.1 ∙ at)) q.2) had);
     }
 
-  -- ---- those of the names so far
+  -- ---- the vehicles of the names so far
   module _ (p : Instance) where
     first_or_later : (name : ℕ) (rest : List ℕ) (n : ℕ) → is_of_named p (name ∷ rest) n ≡ true
         → (is_of_named p (name ∷ []) n ≡ true) ⊎ (is_of_named p rest n ≡ true)
@@ -150,10 +150,10 @@ module _ (routes : List (List ℕ)) where
         ]
 
     abbrev pub FoundSoFar : List ℕ → List ℕ → List ℕ → Type 0
-    FoundSoFar names left vs = (v n : ℕ) → is_of_named p names n ≡ true → has (of_vehicle routes v) n ≡ true → (has vs v ≡ true) ⊎ (is_of_named p left n ≡ true)
+    FoundSoFar names left vs = (v n : ℕ) → is_of_named p names n ≡ true → has (route_of routes v) n ≡ true → (has vs v ≡ true) ⊎ (is_of_named p left n ≡ true)
 
     pub found_more : (names left rest : List ℕ) (name : ℕ) (before after : List ℕ) → left ≡ name ∷ rest → FoundSoFar names left before
-        → Notes routes (λ n. is_of_named p (name ∷ []) n ≡ true) before after → FoundSoFar names rest after
+        → Collects routes (λ n. is_of_named p (name ∷ []) n ≡ true) before after → FoundSoFar names rest after
     found_more names left rest name before after are so_far is v n named had = elim (so_far v n named had) [
       | inl there ↦ inl (is.stays v there)
       | inr later ↦ elim (first_or_later name rest n (subst (λ (l : List ℕ). is_of_named p l n ≡ true) are later)) [
@@ -184,31 +184,31 @@ long_with (c ∷ cs) routes = long_with cs (with_route routes c.vehicle c.route)
 
 module _ (f : List ℕ → List ℕ) (old : List (List ℕ)) where
   abbrev pub change_at : ℕ → Change
-  change_at v = record { vehicle = v; route = f (of_vehicle old v) }
+  change_at v = record { vehicle = v; route = f (route_of old v) }
 
   reached : (vs : List ℕ) (cur : List (List ℕ)) (k : ℕ) → k < length cur → AllByRecursion (λ v. (1 ≤ v) × (v ≤ length old)) vs
-      → (has vs (k + 1) ≡ true) ⊎ (slice_get cur k ≡ Some (f (of_vehicle old (k + 1))))
-      → slice_get (with_routes cur (map change_at vs)) k ≡ Some (f (of_vehicle old (k + 1)))
-  reached [] cur k below all told = elim told [
+      → (has vs (k + 1) ≡ true) ⊎ (slice_get cur k ≡ Some (f (route_of old (k + 1))))
+      → slice_get (with_routes cur (map change_at vs)) k ≡ Some (f (route_of old (k + 1)))
+  reached [] cur k below all reported = elim reported [
     | inl had ↦ absurd (false≢true had)
     | inr at ↦ at
   ]
-  reached (v ∷ vs) cur k below all told =
-      let long = length-set cur (v - 1) (f (of_vehicle old v)) in
-      reached vs (with_route cur v (f (of_vehicle old v))) k (omega arith) all.1 (elim (eqb_tells (k + 1) v) [
+  reached (v ∷ vs) cur k below all reported =
+      let long = length-set cur (v - 1) (f (route_of old v)) in
+      reached vs (with_route cur v (f (route_of old v))) k (omega arith) all.1 (elim (eqb_tells (k + 1) v) [
         | inl t ↦ (
             let e : v - 1 ≡ k = omega arith in
-            inr (subst (λ (j : ℕ). slice_get (set cur j (f (of_vehicle old v))) k ≡ Some (f (of_vehicle old v))) (sym e)
-            (get_set cur k (f (of_vehicle old v)) below)
-            ∙ ap (λ (u : ℕ). Some (f (of_vehicle old u))) (sym t.1)))
-        | inr t ↦ elim told [
+            inr (subst (λ (j : ℕ). slice_get (set cur j (f (route_of old v))) k ≡ Some (f (route_of old v))) (sym e)
+            (get_set cur k (f (route_of old v)) below)
+            ∙ ap (λ (u : ℕ). Some (f (route_of old u))) (sym t.1)))
+        | inr t ↦ elim reported [
           | inl had ↦ inl (rw t.0 at had)
-          | inr at ↦ (let apart = t.1 in inr (get_set_other cur (v - 1) k (f (of_vehicle old v)) (λ same. apart (omega arith)) ∙ at))
+          | inr at ↦ (let apart = t.1 in inr (get_set_other cur (v - 1) k (f (route_of old v)) (λ same. apart (omega arith)) ∙ at))
         ]
       ])
 
   routes_there : (vs : List ℕ) → AllByRecursion (λ v. (1 ≤ v) × (v ≤ length old)) vs
-      → AllByRecursion (λ c. c.route ≡ of_vehicle (map f old) c.vehicle) (map change_at vs)
+      → AllByRecursion (λ c. c.route ≡ route_of (map f old) c.vehicle) (map change_at vs)
   routes_there [] all = tt
   routes_there (v ∷ vs) all = (sym (of_map f old v all.0.0 all.0.1), routes_there vs all.1)
 
@@ -217,20 +217,20 @@ module _ (f : List ℕ → List ℕ) (old : List (List ℕ)) where
   all_in [] all = tt
   all_in (v ∷ vs) all = (all.0, all_in vs all.1)
 
-  get_mapped : (k : ℕ) → k < length old → slice_get (map f old) k ≡ Some (f (of_vehicle old (k + 1)))
+  get_mapped : (k : ℕ) → k < length old → slice_get (map f old) k ≡ Some (f (route_of old (k + 1)))
   get_mapped k below =
       let m = length-map old f in
       let e : k + 1 - 1 ≡ k = omega arith in
-      subst (λ (j : ℕ). slice_get (map f old) j ≡ Some (of_vehicle (map f old) (k + 1))) e
+      subst (λ (j : ℕ). slice_get (map f old) j ≡ Some (route_of (map f old) (k + 1))) e
       (at_vehicle (map f old) (k + 1) (omega arith) (omega arith))
       ∙ ap (λ (l : List ℕ). Some l) (of_map f old (k + 1) (omega arith) (omega arith))
 
-  get_old : (k : ℕ) → k < length old → slice_get old k ≡ Some (of_vehicle old (k + 1))
+  get_old : (k : ℕ) → k < length old → slice_get old k ≡ Some (route_of old (k + 1))
   get_old k below =
       let e : k + 1 - 1 ≡ k = omega arith in
-      subst (λ (j : ℕ). slice_get old j ≡ Some (of_vehicle old (k + 1))) e (at_vehicle old (k + 1) (omega arith) (omega arith))
+      subst (λ (j : ℕ). slice_get old j ≡ Some (route_of old (k + 1))) e (at_vehicle old (k + 1) (omega arith) (omega arith))
 
-  gathered : (vs : List ℕ) → AreIn old vs → ((v : ℕ) → has vs v ≡ false → f (of_vehicle old v) ≡ of_vehicle old v)
+  gathered : (vs : List ℕ) → AreIn old vs → ((v : ℕ) → has vs v ≡ false → f (route_of old v) ≡ route_of old v)
       → AreChanges old (map f old) (map change_at vs)
   gathered vs within others =
       let all = recursion_from_All (λ (v : ℕ). (1 ≤ v) × (v ≤ length old)) vs within in
@@ -239,11 +239,11 @@ module _ (f : List ℕ → List ℕ) (old : List (List ℕ)) where
         there = routes_there vs all;
         plan = same_lists (with_routes old (map change_at vs)) (map f old) (long_with (map change_at vs) old ∙ sym (length-map old f))
             (λ k below. let m = length-map old f in
-            reached vs old k (omega arith) all (told k (omega arith)) ∙ sym (get_mapped k (omega arith)));
+            reached vs old k (omega arith) all (reported k (omega arith)) ∙ sym (get_mapped k (omega arith)));
       }
     where
-      told : (k : ℕ) → k < length old → (has vs (k + 1) ≡ true) ⊎ (slice_get old k ≡ Some (f (of_vehicle old (k + 1))))
-      told k below = elim (cases_Bool (has vs (k + 1))) [
+      reported : (k : ℕ) → k < length old → (has vs (k + 1) ≡ true) ⊎ (slice_get old k ≡ Some (f (route_of old (k + 1))))
+      reported k below = elim (cases_Bool (has vs (k + 1))) [
         | inl t ↦ inl t
         | inr g ↦ inr (get_old k below ∙ ap (λ (l : List ℕ). Some l) (sym (others (k + 1) g)))
       ]
@@ -253,12 +253,12 @@ pub named_changes : (p : Instance) (names : List ℕ) (old : List (List ℕ)) (v
     → AreChanges old (without_named p names old) (map (change_at (filter (λ n. not (is_of_named p names n))) old) vs)
 named_changes p names old vs within found =
     gathered (filter (λ n. not (is_of_named p names n))) old vs within
-    (λ v out. kept_whole (λ n. not (is_of_named p names n)) (of_vehicle old v) (λ n had. elim (cases_Bool (is_of_named p names n)) [
+    (λ v out. kept_whole (λ n. not (is_of_named p names n)) (route_of old v) (λ n had. elim (cases_Bool (is_of_named p names n)) [
       | inl named ↦ absurd (false≢true (sym out ∙ found v n named had))
       | inr free ↦ rw free refl
     ]))
 
--- ---- those of two requests' stops
+-- ---- the vehicles of two requests' stops
 in_single : (s : Stop) (n : ℕ) → n ≡ s.number → IsSome (stop_in n (Single s))
 in_single s n is = rw (eq-eqb s.number n (sym is)) (search rules)
 
@@ -271,7 +271,7 @@ in_pair a b n one = elim (eqb_tells a.number n) [
   ]
 ]
 
--- any other number stays
+-- a number of neither request is its own counterpart
 counterpart_stays : (r s : Request) (n : ℕ) → (IsSome (stop_in n r) ⊎ IsSome (stop_in n s)) ⊎ (counterpart r s n ≡ n)
 counterpart_stays (Single s) (Single t) n = elim (eqb_tells n s.number) [
   | inl here ↦ inl (inl (in_single s n here.1))
@@ -307,7 +307,7 @@ pub exchanged_changes : (r s : Request) (old : List (List ℕ)) (vs : List ℕ) 
     → AreChanges old (map (map (counterpart r s)) old) (map (change_at (map (counterpart r s)) old) vs)
 exchanged_changes r s old vs within found =
     gathered (map (counterpart r s)) old vs within
-    (λ v out. mapped_whole (counterpart r s) (of_vehicle old v) (λ n had. elim (counterpart_stays r s n) [
+    (λ v out. mapped_whole (counterpart r s) (route_of old v) (λ n had. elim (counterpart_stays r s n) [
       | inl asked ↦ absurd (false≢true (sym out ∙ found v n asked had))
       | inr same ↦ same
     ]))

@@ -1,4 +1,4 @@
--- A request put into a route of a plan that passes.
+-- A request inserted into a route of a plan that passes.
 use Rattle.std.proofs.Common.{◌≡◌, ℕ, zero, suc, ◌+◌, ◌-◌, ◌<◌, ◌≤◌, ◌||◌, Bool, true, false, cond, eqb, ltb, leb, ◌&&◌, List}
 use Rattle.std.proofs.Common.{[], ◌∷◌, ◌++◌, length, take, drop, Some, None, IsSome, slice_get, refl, sym, subst, ◌∙◌, inl, inr, arith, rules, nat_eq}
 use Rattle.std.specs.List.{AllByRecursion, concat}
@@ -8,18 +8,18 @@ use Rattle.std.proofs.lemmas.Bool.Decides.{eqb_tells}
 use Rattle.std.proofs.lemmas.List.{length-set}
 use Rattle.std.proofs.lemmas.List.Elements.{All-set}
 use Rattle.plan_types.specs.Instance.{Instance, IsInstance}
-use Rattle.plan_types.specs.Laws.{NamedAreFound}
+use Rattle.plan_types.specs.Laws.{NamedRequestsAreFound}
 use Rattle.plan_types.specs.Request.{IsRequest, stop_in}
 use Rattle.plan_types.specs.declared.requests.Request.{Request}
 use Rattle.plan_types.specs.declared.requests.Request.TheVariants.{Single, Pair}
-use Rattle.route_sched.specs.Route.{IsLive, AreLiveOnce, IsPlan}
+use Rattle.route_sched.specs.Route.{IsKnownStop, AreDistinctStops, IsPlan}
 use Rattle.route_sched.specs.Cost.{has_stop, is_planned}
 use Rattle.plan_audit.specs.Alone.{IsFeasibleAlone}
-use Rattle.plan_audit.specs.Locality.{PassesAreLocal, TestsSayFeasible}
+use Rattle.plan_audit.specs.Locality.{PassingIsLocal, FeasibleAloneDecidesFeasibility}
 use Rattle.plan_audit.specs.Passes.{feasible_alone, passes}
 use Rattle.plan_audit.specs.Rules.{item_at}
 use Rattle.slack_tables.proofs.InsertLemmas.{request-valid, valid-among}
-use Rattle.move_ops.specs.Insertion.{Insertion, put_at, inserted, of_vehicle, with_route, with_request_at, are_places, is_place_of, put_in}
+use Rattle.move_ops.specs.Insertion.{Insertion, with_stop_at, inserted, route_of, with_route, with_request_at, are_places, is_place_of, inserted_at}
 use Rattle.move_ops.proofs.Times.{none_some, times, one_here, none_here, times-append, times_split, once_from, once_few, once_live, none_anywhere}
 use Rattle.move_ops.proofs.Replacing.{within_list, times_with, times_in_vehicle, pins_with, same_vehicle, all_at, parts, passes_too}
 
@@ -27,33 +27,33 @@ abbrev pub numbers_of : Request → List ℕ
 numbers_of (Single s) = s.number ∷ []
 numbers_of (Pair a b) = a.number ∷ b.number ∷ []
 
-pub times_put : (n : ℕ) (route : List ℕ) (i m : ℕ) → times n (put_at route i m) ≡ times n route + cond (eqb n m) 1 0
+pub times_put : (n : ℕ) (route : List ℕ) (i m : ℕ) → times n (with_stop_at route i m) ≡ times n route + cond (eqb n m) 1 0
 times_put n route i m = let e = times-append n (take (i - 1) route) (m ∷ drop (i - 1) route) in let f = times_split n (i - 1) route in omega arith
 
 pub times_inserted : (n : ℕ) (r : Request) (i j : ℕ) (route : List ℕ) → times n (inserted r i j route) ≡ times n route + times n (numbers_of r)
 times_inserted n (Single s) i j route = let e = times_put n route i s.number in omega arith
 times_inserted n (Pair a b) i j route =
-    let e = times_put n route i a.number in let f = times_put n (put_at route i a.number) j b.number in omega arith
+    let e = times_put n route i a.number in let f = times_put n (with_stop_at route i a.number) j b.number in omega arith
 
--- what stands before the place stays where it is
+-- the items before the index are unchanged
 pub get_front : (c : ℕ) (xs ys : List ℕ) (j n : ℕ) → j < c → slice_get xs j ≡ Some n → slice_get (take c xs ++ ys) j ≡ Some n
 get_front c [] ys j n below at = absurd (none_some n at)
 get_front zero (x ∷ xs) ys j n below at = absurd (omega arith)
 get_front (suc c) (x ∷ xs) ys zero n below at = at
 get_front (suc c) (x ∷ xs) ys (suc j) n below at = get_front c xs ys j n (omega arith) at
 
-front_put : (route : List ℕ) (i m k n : ℕ) → k < i → item_at route k ≡ Some n → item_at (put_at route i m) k ≡ Some n
+front_put : (route : List ℕ) (i m k n : ℕ) → k < i → item_at route k ≡ Some n → item_at (with_stop_at route i m) k ≡ Some n
 front_put route i m zero n below at = at
 front_put route i m (suc j) n below at = get_front (i - 1) route (m ∷ drop (i - 1) route) j n (omega arith) at
 
 pub front_inserted : (r : Request) (route : List ℕ) (i j k n : ℕ) → k < i → i ≤ j → item_at route k ≡ Some n → item_at (inserted r i j route) k ≡ Some n
 front_inserted (Single s) route i j k n below order at = front_put route i s.number k n below at
 front_inserted (Pair a b) route i j k n below order at =
-    front_put (put_at route i a.number) j b.number k n (omega arith) (front_put route i a.number k n below at)
+    front_put (with_stop_at route i a.number) j b.number k n (omega arith) (front_put route i a.number k n below at)
 
--- the request's stops are live, and stand in no route
-pub found_live : NamedAreFound → (p : Instance) (name n : ℕ) (r : Request) → IsInstance p → lookup (nat_eq name) p.requests ≡ Some r
-    → IsSome (stop_in n r) → IsLive p n
+-- the request's stops are current and in no route
+pub found_live : NamedRequestsAreFound → (p : Instance) (name n : ℕ) (r : Request) → IsInstance p → lookup (nat_eq name) p.requests ≡ Some r
+    → IsSome (stop_in n r) → IsKnownStop p n
 found_live found p name n r valid at some = subst (λ o. IsSome o) (sym (found p n name r valid at some).stop) some
 
 pub valid_request : (es : List (ℕ × Request)) (name : ℕ) (r : Request) → AllByRecursion (λ e. IsRequest e.1) es → lookup (nat_eq name) es ≡ Some r → IsRequest r
@@ -106,17 +106,17 @@ nowhere routes (Pair a b) free n some =
       ]
     ]
 
-module _ (found : NamedAreFound) (local : PassesAreLocal) (p : Instance) (pins routes : List (List ℕ)) (valid : IsInstance p)
+module _ (found : NamedRequestsAreFound) (local : PassingIsLocal) (p : Instance) (pins routes : List (List ℕ)) (valid : IsInstance p)
     (good : passes p pins routes ≡ true)
     (name : ℕ) (r : Request) (named : lookup (nat_eq name) p.requests ≡ Some r) (free : is_planned routes r ≡ false) (v i j : ℕ)
     (from : 1 ≤ v) (within : v ≤ length routes) where
   plan : IsPlan p routes
   plan = (parts local p pins routes good).plan
 
-  few_new : (n : ℕ) → times n (concat (with_route routes v (inserted r i j (of_vehicle routes v)))) ≤ 1
+  few_new : (n : ℕ) → times n (concat (with_route routes v (inserted r i j (route_of routes v)))) ≤ 1
   few_new n =
-      let e = times_with n routes v (inserted r i j (of_vehicle routes v)) from within in
-      let f = times_inserted n r i j (of_vehicle routes v) in
+      let e = times_with n routes v (inserted r i j (route_of routes v)) from within in
+      let f = times_inserted n r i j (route_of routes v) in
       let few = once_few p (concat routes) plan n in
       let two = few_numbers n r (request-valid p name r valid named) in
       elim (cases_lt 0 (times n (numbers_of r))) [
@@ -124,68 +124,68 @@ module _ (found : NamedAreFound) (local : PassesAreLocal) (p : Instance) (pins r
         | inr none ↦ omega arith
       ]
 
-  live_new : (n : ℕ) → 1 ≤ times n (concat (with_route routes v (inserted r i j (of_vehicle routes v)))) → IsLive p n
+  live_new : (n : ℕ) → 1 ≤ times n (concat (with_route routes v (inserted r i j (route_of routes v)))) → IsKnownStop p n
   live_new n some =
-      let e = times_with n routes v (inserted r i j (of_vehicle routes v)) from within in
-      let f = times_inserted n r i j (of_vehicle routes v) in
+      let e = times_with n routes v (inserted r i j (route_of routes v)) from within in
+      let f = times_inserted n r i j (route_of routes v) in
       elim (cases_lt 0 (times n (numbers_of r))) [
         | inl here ↦ found_live found p name n r valid named (in_numbers n r (omega arith))
         | inr none ↦ once_live p (concat routes) plan n (omega arith)
       ]
 
-  -- the stops of the new plan are live and stand once
-  pub inserted_plan : IsPlan p (with_route routes v (inserted r i j (of_vehicle routes v)))
-  inserted_plan = once_from p (concat (with_route routes v (inserted r i j (of_vehicle routes v)))) few_new live_new
+  -- the stops of the new plan are current and distinct
+  pub inserted_plan : IsPlan p (with_route routes v (inserted r i j (route_of routes v)))
+  inserted_plan = once_from p (concat (with_route routes v (inserted r i j (route_of routes v)))) few_new live_new
 
-  within_new : (n : ℕ) → times n (inserted r i j (of_vehicle routes v)) ≤ times n (concat (with_route routes v (inserted r i j (of_vehicle routes v))))
+  within_new : (n : ℕ) → times n (inserted r i j (route_of routes v)) ≤ times n (concat (with_route routes v (inserted r i j (route_of routes v))))
   within_new n =
-      let e = times_with n routes v (inserted r i j (of_vehicle routes v)) from within in
+      let e = times_with n routes v (inserted r i j (route_of routes v)) from within in
       let f = times_in_vehicle n routes v from within in
       omega arith
 
-  -- and so are those of the new route
-  pub inserted_once : AreLiveOnce p (inserted r i j (of_vehicle routes v))
+  -- the stops of the new route are current and distinct
+  pub inserted_once : AreDistinctStops p (inserted r i j (route_of routes v))
   inserted_once =
-      once_from p (inserted r i j (of_vehicle routes v)) (λ n. let e = within_new n in let f = few_new n in omega arith)
+      once_from p (inserted r i j (route_of routes v)) (λ n. let e = within_new n in let f = few_new n in omega arith)
       (λ n some. let e = within_new n in live_new n (omega arith))
 
-  module _ (behind : length (of_vehicle pins v) < i) (order : i ≤ j) where
-    -- the plan passes where the new route is feasible alone, and only there
-    pub inserted_passes : IsFeasibleAlone p (inserted r i j (of_vehicle routes v))
-        → passes p pins (with_route routes v (inserted r i j (of_vehicle routes v))) ≡ true
+  module _ (following : length (route_of pins v) < i) (order : i ≤ j) where
+    -- the plan passes exactly when the new route is feasible alone
+    pub inserted_passes : IsFeasibleAlone p (inserted r i j (route_of routes v))
+        → passes p pins (with_route routes v (inserted r i j (route_of routes v))) ≡ true
     inserted_passes feasible =
-        passes_too local p pins routes good (with_route routes v (inserted r i j (of_vehicle routes v))) inserted_plan
-        (length-set routes (v - 1) (inserted r i j (of_vehicle routes v)))
-        (All-set (IsFeasibleAlone p) routes (v - 1) (inserted r i j (of_vehicle routes v)) feasible ((parts local p pins routes good).feasible))
-        (pins_with routes pins v (inserted r i j (of_vehicle routes v)) from within ((parts local p pins routes good).pinned)
-        (λ k n pinned at. front_inserted r (of_vehicle routes v) i j k n (let h = within_list (of_vehicle pins v) k n pinned in omega arith) order at))
+        passes_too local p pins routes good (with_route routes v (inserted r i j (route_of routes v))) inserted_plan
+        (length-set routes (v - 1) (inserted r i j (route_of routes v)))
+        (All-set (IsFeasibleAlone p) routes (v - 1) (inserted r i j (route_of routes v)) feasible ((parts local p pins routes good).feasible))
+        (pins_with routes pins v (inserted r i j (route_of routes v)) from within ((parts local p pins routes good).pinned)
+        (λ k n pinned at. front_inserted r (route_of routes v) i j k n (let h = within_list (route_of pins v) k n pinned in omega arith) order at))
 
-  pub inserted_feasible : passes p pins (with_route routes v (inserted r i j (of_vehicle routes v))) ≡ true
-      → IsFeasibleAlone p (inserted r i j (of_vehicle routes v))
+  pub inserted_feasible : passes p pins (with_route routes v (inserted r i j (route_of routes v))) ≡ true
+      → IsFeasibleAlone p (inserted r i j (route_of routes v))
   inserted_feasible passed =
-      subst (IsFeasibleAlone p) (same_vehicle routes v (inserted r i j (of_vehicle routes v)) from within)
-      (all_at (IsFeasibleAlone p) (with_route routes v (inserted r i j (of_vehicle routes v))) v from
-      (let e = length-set routes (v - 1) (inserted r i j (of_vehicle routes v)) in omega arith)
-      (((local p pins (with_route routes v (inserted r i j (of_vehicle routes v)))).0 passed).feasible))
+      subst (IsFeasibleAlone p) (same_vehicle routes v (inserted r i j (route_of routes v)) from within)
+      (all_at (IsFeasibleAlone p) (with_route routes v (inserted r i j (route_of routes v))) v from
+      (let e = length-set routes (v - 1) (inserted r i j (route_of routes v)) in omega arith)
+      (((local p pins (with_route routes v (inserted r i j (route_of routes v)))).0 passed).feasible))
 
-module _ (found : NamedAreFound) (local : PassesAreLocal) (says : TestsSayFeasible) (p : Instance) (pins routes : List (List ℕ))
+module _ (found : NamedRequestsAreFound) (local : PassingIsLocal) (says : FeasibleAloneDecidesFeasibility) (p : Instance) (pins routes : List (List ℕ))
     (valid : IsInstance p) (good : passes p pins routes ≡ true)
     (name : ℕ) (r : Request) (named : lookup (nat_eq name) p.requests ≡ Some r) (free : is_planned routes r ≡ false) (x : Insertion)
     (place : is_place_of pins routes r x ≡ true) where
-  -- what the test of the place says
+  -- the conditions that the test of the place checks
   low : 1 ≤ x.0
   low =
       leb-true 1 x.0
       (and_parts (leb 1 x.0)
-      (leb x.0 (length routes) && are_places r (length (of_vehicle pins x.0)) (length (of_vehicle routes x.0)) x.1 x.2) place).0
+      (leb x.0 (length routes) && are_places r (length (route_of pins x.0)) (length (route_of routes x.0)) x.1 x.2) place).0
 
-  rest : (leb x.0 (length routes) && are_places r (length (of_vehicle pins x.0)) (length (of_vehicle routes x.0)) x.1 x.2) ≡ true
-  rest = (and_parts (leb 1 x.0) (leb x.0 (length routes) && are_places r (length (of_vehicle pins x.0)) (length (of_vehicle routes x.0)) x.1 x.2) place).1
+  rest : (leb x.0 (length routes) && are_places r (length (route_of pins x.0)) (length (route_of routes x.0)) x.1 x.2) ≡ true
+  rest = (and_parts (leb 1 x.0) (leb x.0 (length routes) && are_places r (length (route_of pins x.0)) (length (route_of routes x.0)) x.1 x.2) place).1
 
   high : x.0 ≤ length routes
   high =
       leb-true x.0 (length routes)
-      (and_parts (leb x.0 (length routes)) (are_places r (length (of_vehicle pins x.0)) (length (of_vehicle routes x.0)) x.1 x.2) rest).0
+      (and_parts (leb x.0 (length routes)) (are_places r (length (route_of pins x.0)) (length (route_of routes x.0)) x.1 x.2) rest).0
 
   ordered : (q : Request) (kept stops i j : ℕ) → are_places q kept stops i j ≡ true → (kept < i) × (i ≤ j)
   ordered (Single s) kept stops i j t =
@@ -199,28 +199,28 @@ module _ (found : NamedAreFound) (local : PassesAreLocal) (says : TestsSayFeasib
       let less = ltb-true i j b.0 in
       (ltb-true kept i a.0, omega arith)
 
-  order : (length (of_vehicle pins x.0) < x.1) × (x.1 ≤ x.2)
+  order : (length (route_of pins x.0) < x.1) × (x.1 ≤ x.2)
   order =
-      ordered r (length (of_vehicle pins x.0)) (length (of_vehicle routes x.0)) x.1 x.2
-      (and_parts (leb x.0 (length routes)) (are_places r (length (of_vehicle pins x.0)) (length (of_vehicle routes x.0)) x.1 x.2) rest).1
+      ordered r (length (route_of pins x.0)) (length (route_of routes x.0)) x.1 x.2
+      (and_parts (leb x.0 (length routes)) (are_places r (length (route_of pins x.0)) (length (route_of routes x.0)) x.1 x.2) rest).1
 
-  -- the new route may be asked
-  pub route_once : AreLiveOnce p (inserted r x.1 x.2 (of_vehicle routes x.0))
+  -- the new route meets the requirements for a check
+  pub route_once : AreDistinctStops p (inserted r x.1 x.2 (route_of routes x.0))
   route_once = inserted_once found local p pins routes valid good name r named free x.0 x.1 x.2 low high
 
-  -- the plan passes exactly where the new route is feasible alone
-  pub passes_where_feasible : (b : Bool) → b ≡ feasible_alone p (inserted r x.1 x.2 (of_vehicle routes x.0)) → passes p pins (with_request_at routes r x) ≡ b
+  -- the plan passes exactly when the new route is feasible alone
+  pub passes_where_feasible : (b : Bool) → b ≡ feasible_alone p (inserted r x.1 x.2 (route_of routes x.0)) → passes p pins (with_request_at routes r x) ≡ b
   passes_where_feasible true e =
       inserted_passes found local p pins routes valid good name r named free x.0 x.1 x.2 low high order.0 order.1
-      ((says p (inserted r x.1 x.2 (of_vehicle routes x.0))).0 (sym e))
+      ((says p (inserted r x.1 x.2 (route_of routes x.0))).0 (sym e))
   passes_where_feasible false e = elim (cases_Bool (passes p pins (with_request_at routes r x))) [
     | inr fails ↦ fails
     | inl passed ↦ (
-        let h = (says p (inserted r x.1 x.2 (of_vehicle routes x.0))).1
+        let h = (says p (inserted r x.1 x.2 (route_of routes x.0))).1
         (inserted_feasible found local p pins routes valid good name r named free x.0 x.1 x.2 low high passed) in
         absurd (let k : false ≡ true = e ∙ h in cc))
   ]
 
-  pub put_in_is : (b : Bool) → b ≡ feasible_alone p (inserted r x.1 x.2 (of_vehicle routes x.0))
-      → put_in p pins routes name x ≡ cond b (Some (with_request_at routes r x)) None
+  pub put_in_is : (b : Bool) → b ≡ feasible_alone p (inserted r x.1 x.2 (route_of routes x.0))
+      → inserted_at p pins routes name x ≡ cond b (Some (with_request_at routes r x)) None
   put_in_is b e = rw (named, free, place, passes_where_feasible b e) refl

@@ -4,21 +4,21 @@ use Rattle.std.specs.List.{concat}
 use Rattle.std.proofs.lemmas.List.Elements.{All-from_recursion}
 use Rattle.std.proofs.lemmas.Option.{cond_some}
 use Rattle.plan_types.specs.Instance.{Instance}
-use Rattle.route_sched.specs.Route.{AreLiveOnce}
+use Rattle.route_sched.specs.Route.{AreDistinctStops}
 use Rattle.slack_tables.specs.Insertion.{KeepsLimits}
-use Rattle.plan_audit.specs.Locality.{PassesAreLocal, TestsSayFeasible}
+use Rattle.plan_audit.specs.Locality.{PassingIsLocal, FeasibleAloneDecidesFeasibility}
 use Rattle.plan_audit.specs.Passes.{feasible_alone, passes}
-use Rattle.move_ops.specs.Insertion.{of_vehicle, with_route, passing}
+use Rattle.move_ops.specs.Insertion.{route_of, with_route, passing}
 use Rattle.move_ops.specs.Moves.{is_cut, joined, with_ends_exchanged, crossed}
 use Rattle.move_ops.specs.Changes.{IsChange}
-use Rattle.move_ops.specs.Drafts.{Drafted, draft_of, IsDraftOf}
+use Rattle.move_ops.specs.Drafts.{DraftState, draft_of, IsDraftOf}
 use Rattle.move_ops.specs.declared.changes.Change.{Change}
 use Rattle.move_ops.proofs.Times.{none_some, times}
 use Rattle.move_ops.proofs.Fitting.{route_limits}
 use Rattle.move_ops.proofs.Costs.{unplanned_same}
 use Rattle.move_ops.proofs.Crossing.{of_a, of_b, first_route_once, second_route_once, crossed_is, as_often}
 
--- what is answered passes
+-- a plan that `passing` returns passes
 pub passing_some : (p : Instance) (pins routes given : List (List ℕ)) → passing p pins routes ≡ Some given → (passes p pins routes ≡ true) × (routes ≡ given)
 passing_some p pins routes given = cond_some (passes p pins routes) routes given
 
@@ -26,15 +26,15 @@ pub if_some : (p : Instance) (pins routes given : List (List ℕ)) (b : Bool) �
 if_some p pins routes given true at = let one = passing_some p pins routes given at in subst (λ l. passes p pins l ≡ true) one.1 one.0
 if_some p pins routes given false at = absurd (none_some given at)
 
-module _ (local : PassesAreLocal) (says : TestsSayFeasible) (p : Instance) (pins : List (List ℕ)) (d : Drafted) (is : IsDraftOf p pins d) (a ca b cb : ℕ)
+module _ (local : PassingIsLocal) (says : FeasibleAloneDecidesFeasibility) (p : Instance) (pins : List (List ℕ)) (d : DraftState) (is : IsDraftOf p pins d) (a ca b cb : ℕ)
     (can : true ≡ (not (eqb a b) && (is_cut pins (draft_of d) a ca && is_cut pins (draft_of d) b cb)))
-    (first second : List ℕ) (is_first : first ≡ joined (of_vehicle (draft_of d) a) ca (of_vehicle (draft_of d) b) cb)
-    (is_second : second ≡ joined (of_vehicle (draft_of d) b) cb (of_vehicle (draft_of d) a) ca) where
-  pub once_first : AreLiveOnce p first
-  once_first = subst (AreLiveOnce p) (sym is_first) (first_route_once local says p pins (draft_of d) (is.draft) a ca b cb can)
+    (first second : List ℕ) (is_first : first ≡ joined (route_of (draft_of d) a) ca (route_of (draft_of d) b) cb)
+    (is_second : second ≡ joined (route_of (draft_of d) b) cb (route_of (draft_of d) a) ca) where
+  pub once_first : AreDistinctStops p first
+  once_first = subst (AreDistinctStops p) (sym is_first) (first_route_once local says p pins (draft_of d) (is.draft) a ca b cb can)
 
-  pub once_second : AreLiveOnce p second
-  once_second = subst (AreLiveOnce p) (sym is_second) (second_route_once local says p pins (draft_of d) (is.draft) a ca b cb can)
+  pub once_second : AreDistinctStops p second
+  once_second = subst (AreDistinctStops p) (sym is_second) (second_route_once local says p pins (draft_of d) (is.draft) a ca b cb can)
 
   made : with_route (with_route (draft_of d) a first) b second ≡ with_ends_exchanged (draft_of d) a ca b cb
   made = rw (is_first, is_second) refl
@@ -56,7 +56,7 @@ module _ (local : PassesAreLocal) (says : TestsSayFeasible) (p : Instance) (pins
       let y = of_b local says p pins (draft_of d) (is.draft) a ca b cb can in
       record {
         within = All-from_recursion (λ (c : Change). (1 ≤ c.vehicle) × (c.vehicle ≤ length (draft_of d))) both ((x.0, x.1), ((y.0, y.1), tt));
-        once = All-from_recursion (λ (c : Change). AreLiveOnce p c.route) both (once_first, (once_second, tt));
+        once = All-from_recursion (λ (c : Change). AreDistinctStops p c.route) both (once_first, (once_second, tt));
         keeps =
             All-from_recursion (λ (c : Change). KeepsLimits p c.route) both
             (route_limits p (is.valid) first (sym f), (route_limits p (is.valid) second (sym s), tt));

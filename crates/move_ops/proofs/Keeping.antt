@@ -1,4 +1,5 @@
--- A route without the stops of some requests: the pairs that are left stay whole, and each pickup stays before its delivery.
+-- A route without the stops of some requests: the remaining pairs stay whole, with each pickup before its
+-- delivery.
 use Rattle.std.proofs.Common.{◌≡◌, ℕ, ◌≤◌, Bool, true, false, not, List, [], ◌∷◌, All, filter, Option, Some, None, refl, sym, ap, ◌∙◌, inl, inr, arith}
 use Rattle.std.specs.List.{AllByRecursion, list_all}
 use Rattle.std.specs.Option.{option_map, option_map_or}
@@ -6,7 +7,7 @@ use Rattle.std.proofs.lemmas.Bool.{cases_Bool, and_from, and_parts}
 use Rattle.std.proofs.lemmas.Bool.Decides.{eqb_tells}
 use Rattle.std.proofs.lemmas.List.Elements.{All-from_recursion}
 use Rattle.plan_types.specs.Instance.{Instance, IsInstance, request_with, name_at, partner_at, pickup_at}
-use Rattle.plan_types.specs.Laws.{NamedAreFound, RequestsStandByName}
+use Rattle.plan_types.specs.Laws.{NamedRequestsAreFound, RequestsAreStoredByName}
 use Rattle.plan_types.specs.Request.{request_name, partner_in}
 use Rattle.plan_types.specs.declared.requests.Request.{Request}
 use Rattle.plan_audit.specs.Passes.{has, has_whole_pairs, picks_up_first, feasible_alone}
@@ -17,7 +18,7 @@ use Rattle.move_ops.proofs.Inserting.{in_numbers}
 use Rattle.move_ops.proofs.Fitting.{all_by_times, times_by_all, there_whole, whole_there, none_ahead, ahead_none, partner_numbers, had_often, often_had}
 use Rattle.move_ops.proofs.Removing.{times_kept}
 
--- what is kept stands as often, and what stands is kept
+-- a number that is kept occurs as often as before, and a number that occurs is kept
 kept_often : (n : ℕ) (keep : ℕ → Bool) (xs : List ℕ) → keep n ≡ true → times n (filter keep xs) ≡ times n xs
 kept_often n keep [] kept = refl
 kept_often n keep (x ∷ xs) kept = elim (cases_Bool (keep x)) [
@@ -48,8 +49,8 @@ stays_kept n keep (x ∷ xs) some = by (keep x) refl (λ more. stays_kept n keep
           omega arith)
     ]
 
-module _ (found : NamedAreFound) (stand : RequestsStandByName) (p : Instance) (valid : IsInstance p) where
-  -- both stops of a pair are of one request
+module _ (found : NamedRequestsAreFound) (stand : RequestsAreStoredByName) (p : Instance) (valid : IsInstance p) where
+  -- both stops of a pair belong to one request
   partner_name : (n m : ℕ) → partner_at p n ≡ Some m → name_at p m ≡ name_at p n
   partner_name n m is = by (request_with p n) refl
     where
@@ -72,8 +73,8 @@ module _ (found : NamedAreFound) (stand : RequestsStandByName) (p : Instance) (v
         there : (n m : ℕ) → 1 ≤ times n (filter keep route) → partner_at p n ≡ Some m → 1 ≤ times m (filter keep route)
         there n m some is =
             let few = times_kept n keep route in
-            let told = times_by_all (λ n. option_map_or (has route) (partner_at p n) true) route n whole (omega arith) in
-            let in_it = had_often route m (whole_there route (partner_at p n) m is told) in
+            let reported = times_by_all (λ n. option_map_or (has route) (partner_at p n) true) route n whole (omega arith) in
+            let in_it = had_often route m (whole_there route (partner_at p n) m is reported) in
             let kept : keep m ≡ true = ap (λ (o : Option ℕ). not (option_map_or (has names) o false)) (partner_name n m is) ∙ stays_kept n keep route some in
             let same = kept_often m keep route kept in
             omega arith

@@ -1,4 +1,4 @@
--- How many requests a plan leaves out when some are taken out, or two of them exchanged.
+-- The number of requests that a plan leaves out after some are removed, or two are exchanged.
 use Rattle.std.proofs.Common.{◌≡◌, ℕ, zero, suc, ◌+◌, ◌<◌, ◌≤◌, ◌&&◌, ◌||◌, not, Bool, true, false, cond, eqb, List, []}
 use Rattle.std.proofs.Common.{◌∷◌, map, filter, length, get_or, Option, Some, None, IsSome, refl, sym, ap, subst, ◌∙◌, inl, inr, arith, nat_eq}
 use Rattle.std.specs.List.{AllByRecursion, list_all, concat}
@@ -9,7 +9,7 @@ use Rattle.std.proofs.lemmas.Bool.Decides.{eqb_tells}
 use Rattle.std.proofs.lemmas.List.Sums.{count_by-le-length}
 use Rattle.std.proofs.lemmas.Map.Steps.{length-le_from_distinct_below}
 use Rattle.plan_types.specs.Instance.{Instance, IsInstance, name_at, request_with, numbers_among}
-use Rattle.plan_types.specs.Laws.{NamedAreFound, RequestsStandByName}
+use Rattle.plan_types.specs.Laws.{NamedRequestsAreFound, RequestsAreStoredByName}
 use Rattle.plan_types.specs.Request.{request_name, stop_in}
 use Rattle.plan_types.specs.declared.requests.Request.{Request}
 use Rattle.plan_types.specs.declared.requests.Request.TheVariants.{Single, Pair}
@@ -33,7 +33,7 @@ has_item [] k below = absurd (omega arith)
 has_item (n ∷ ns) zero below = rw (eq-eqb n n refl) refl
 has_item (n ∷ ns) (suc k) below = or_right (eqb (get_or ns k 0) n) (has ns (get_or ns k 0)) (has_item ns k (omega arith))
 
-pub named_stop : NamedAreFound → (p : Instance) → IsInstance p → (names : List ℕ) (name : ℕ) (r : Request) → has names name ≡ true
+pub named_stop : NamedRequestsAreFound → (p : Instance) → IsInstance p → (names : List ℕ) (name : ℕ) (r : Request) → has names name ≡ true
     → lookup (nat_eq name) p.requests ≡ Some r → (n : ℕ) → IsSome (stop_in n r) → is_of_named p names n ≡ true
 named_stop found p valid names name r there at n some =
     ap (λ (o : Option ℕ). option_map_or (has names) o false) ((found p n name r valid at some).name)
@@ -88,7 +88,7 @@ alike keep other n same routes = elim (cases_Bool (keep n)) [
 ]
 
 -- ---- the numbers of a named request
-module _ (found : NamedAreFound) (by_name : RequestsStandByName) (p : Instance) (valid : IsInstance p) where
+module _ (found : NamedRequestsAreFound) (by_name : RequestsAreStoredByName) (p : Instance) (valid : IsInstance p) where
   pub is_named : (name m : ℕ) (r : Request) → lookup (nat_eq name) p.requests ≡ Some r → 1 ≤ times m (numbers_of r) → name_at p m ≡ Some name
   is_named name m r at some = (found p m name r valid at (in_numbers m r some)).name ∙ ap (λ (k : ℕ). Some k) (name_of p.requests name r (valid.named) at)
 
@@ -105,7 +105,7 @@ module _ (found : NamedAreFound) (by_name : RequestsStandByName) (p : Instance) 
           let two = ap (λ (x : Request). times m (numbers_of x)) equal in
           omega arith
 
-  -- the stops of one name more
+  -- the stops of some names and one more
   module _ (name : ℕ) (names : List ℕ) (r : Request) (at : lookup (nat_eq name) p.requests ≡ Some r) where
     pub others_as : (m : ℕ) → times m (numbers_of r) ≡ 0 → is_of_named p (name ∷ names) m ≡ is_of_named p names m
     others_as m none = by (name_at p m) refl
@@ -154,7 +154,7 @@ module _ (found : NamedAreFound) (by_name : RequestsStandByName) (p : Instance) 
         (λ m none. alike (λ n. not (is_of_named p (name ∷ names) n)) (λ n. not (is_of_named p names n)) m (ap not (others_as m none)) routes)
         (gone_now routes) (still_there fresh routes ∙ planned) p valid name at
 
-  -- a name that stands twice counts once
+  -- a repeated name counts once
   again_as : (name : ℕ) (names : List ℕ) → has names name ≡ true → (m : ℕ) → is_of_named p (name ∷ names) m ≡ is_of_named p names m
   again_as name names twice m = by (name_at p m)
     where
@@ -210,7 +210,7 @@ module _ (found : NamedAreFound) (by_name : RequestsStandByName) (p : Instance) 
     taken_out pins names movable = left_out names (there pins names movable)
 
 -- ---- two requests exchanged
-module _ (found : NamedAreFound) (by_name : RequestsStandByName) (p : Instance) (valid : IsInstance p) (a b : ℕ) (apart : a ≡ b → ⊥) (r s : Request)
+module _ (found : NamedRequestsAreFound) (by_name : RequestsAreStoredByName) (p : Instance) (valid : IsInstance p) (a b : ℕ) (apart : a ≡ b → ⊥) (r s : Request)
     (is_r : lookup (nat_eq a) p.requests ≡ Some r) (is_s : lookup (nat_eq b) p.requests ≡ Some s) (pins routes : List (List ℕ))
     (can : are_exchangeable pins routes r s ≡ true) where
   none_of : (names : List ℕ) (name m : ℕ) (q : Request) → lookup (nat_eq name) p.requests ≡ Some q → has names name ≡ true
@@ -275,7 +275,7 @@ below_each m q (x ∷ xs) all there = elim (eqb_tells q x) [
 few_numbers : (p : Instance) → IsInstance p → length (numbers_among p.requests) ≤ 40001
 few_numbers p valid =
     length-le_from_distinct_below (numbers_among p.requests) 40001 (valid.distinct)
-    (λ q there. let most = valid.next_to_most in let less = below_each p.next_number q (numbers_among p.requests) (valid.above) there in omega arith)
+    (λ q there. let most = valid.next_number_max in let less = below_each p.next_number q (numbers_among p.requests) (valid.above) there in omega arith)
 
 pub few_left_out : (p : Instance) → IsInstance p → (routes : List (List ℕ)) → unplanned_count p routes ≤ 40001
 few_left_out p valid routes =

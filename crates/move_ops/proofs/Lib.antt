@@ -1,6 +1,6 @@
--- The lemma files, which upper crates may cite.
+-- The lemma files, which crates that use this one may cite.
 pub mod Applying
-pub mod Asked
+pub mod QueryLemmas
 pub mod BestLemmas
 pub mod Bounding
 pub mod Bounds
@@ -11,10 +11,10 @@ pub mod Costs
 pub mod Counting
 pub mod Crossing
 pub mod Drafting
-pub mod Exchanged
+pub mod ExchangeLemmas
 pub mod Exchanging
 pub mod Fitting
-pub mod Foreseeing
+pub mod Costing
 pub mod Gathering
 pub mod Inserting
 pub mod Installing
@@ -27,16 +27,16 @@ pub mod Marking
 pub mod Places
 pub mod Placing
 pub mod Pricing
-pub mod Putting
-pub mod PuttingBack
+pub mod PlacementLemmas
+pub mod Reinserting
 pub mod Refreshing
 pub mod Removing
 pub mod Rerouting
 pub mod Replacing
 pub mod Restoring
-pub mod Rooming
+pub mod MaxDemandLemmas
 pub mod Saving
-pub mod Seating
-pub mod TakenOut
+pub mod HintLemmas
+pub mod RemovalLemmas
 pub mod Times
 pub mod Touring

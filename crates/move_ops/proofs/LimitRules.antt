@@ -1,4 +1,5 @@
--- What keeps the limits breaks none of the auditor's rules on load and time as the only route, and the other way round.
+-- A route that keeps the limits breaks, as the only route, none of the auditor's rules on load and time, and
+-- conversely.
 use Rattle.std.proofs.Common.{◌≡◌, ℕ, ◌+◌, ◌<◌, ◌≤ℤ◌, ◌<ℤ◌, pos, List, [], ◌∷◌, length, Some, refl, sym, subst, inl, inr, arith}
 use Rattle.std.proofs.lemmas.Bool.{cases_lt}
 use Rattle.std.proofs.lemmas.Int.{ints, by_lt_z}
@@ -34,9 +35,9 @@ module _ (p : Instance) (route : List ℕ) where
   not_back_late limits r i n broken =
       let late = broken.1 in
       let same = sym (only_route route late.0 r late.1).1 in
-      let behind : i ≡ length route + 1 = subst (λ (l : List ℕ). i ≡ length l + 1) same late.3 in
+      let following : i ≡ length route + 1 = subst (λ (l : List ℕ). i ≡ length l + 1) same late.3 in
       let above : p.depot.latest < start p route i = subst (λ (l : List ℕ). p.depot.latest < start p l i) same late.5 in
-      let behind_last : p.depot.latest < start p route (length route + 1) = subst (λ (j : ℕ). p.depot.latest < start p route j) behind above in
+      let after_last : p.depot.latest < start p route (length route + 1) = subst (λ (j : ℕ). p.depot.latest < start p route j) following above in
       omega arith
 
   keeps_limits : IsInstance p

@@ -1,4 +1,4 @@
--- The log of a draft, in which no vehicle stands twice.
+-- The log of a draft, in which no vehicle occurs twice.
 use Rattle.std.proofs.Common.{◌≡◌, ℕ, ℤ, zero, suc, ◌+◌, ◌-◌, ◌<◌, ◌≤◌, ◌||◌, true, false, eqb, List, [], ◌∷◌}
 use Rattle.std.proofs.Common.{◌++◌, length, map, set, Option, None, Some, slice_get, refl, sym, ap, subst, ◌∙◌, inl, inr, arith}
 use Rattle.std.specs.Prelude.{MatchOption, vec_capacity}
@@ -9,19 +9,19 @@ use Rattle.std.proofs.lemmas.Bool.Decides.{eqb_tells}
 use Rattle.std.proofs.lemmas.List.{length-map, length-set, set-set, set_comm}
 use Rattle.std.proofs.lemmas.Map.Steps.{length-le_from_distinct_below}
 use Rattle.plan_audit.specs.Passes.{has}
-use Rattle.slack_tables.specs.Course.{Course, route_of}
+use Rattle.slack_tables.specs.Course.{Course, course_route}
 use Rattle.move_ops.specs.declared.draft.Draft.TheInside.{Inside}
 use Rattle.move_ops.specs.Drafts.{undone}
-use Rattle.move_ops.specs.Kept.{AreSeats, IsKept}
-use Rattle.move_ops.specs.Logged.{is_logged, AreOnce, IsEntry}
+use Rattle.move_ops.specs.DraftInvariant.{AreVehicleHints, IsDraftInvariant}
+use Rattle.move_ops.specs.UndoLog.{is_logged, AreOnce, IsEntry}
 use Rattle.move_ops.specs.Tables.{plan_of}
 use Rattle.move_ops.specs.Refreshing.{AreWithin}
-use Rattle.move_ops.specs.Rooms.{AreRooms, IsRoomSet}
-use Rattle.move_ops.proofs.Drafting.{base_first, base_later, front_with, seats_with}
-use Rattle.move_ops.proofs.Rooming.{set_rooms}
+use Rattle.move_ops.specs.MaxDemands.{AreMaxDemands, IsMaxDemandSet}
+use Rattle.move_ops.proofs.Drafting.{base_first, base_later, used_len_with, seats_with}
+use Rattle.move_ops.proofs.MaxDemandLemmas.{set_rooms}
 use Rattle.move_ops.proofs.Times.{none_some, some_same}
 
--- ---- a vehicle that the log has
+-- ---- a vehicle in the log
 set_over : (tours : List Course) (log : List (ℕ × Course)) (k : ℕ) (c x : Course) → set (undone (set tours k c) log) k x ≡ set (undone tours log) k x
 set_over tours [] k c x = set-set tours k c x
 set_over tours (e ∷ log) k c x = elim (eqb_tells (e.0 - 1) k) [
@@ -36,7 +36,7 @@ set_over tours (e ∷ log) k c x = elim (eqb_tells (e.0 - 1) k) [
       ∙ (ap (λ l. set l (e.0 - 1) e.1) (set_over tours log k c x) ∙ sym (set_comm (undone tours log) (e.0 - 1) k e.1 x (t.1)))
 ]
 
--- another tour of it changes nothing in the base
+-- another tour for a vehicle in the log changes nothing in the base
 pub undone_same : (tours : List Course) (log : List (ℕ × Course)) (v : ℕ) (c : Course) → is_logged log v ≡ true
     → undone (set tours (v - 1) c) log ≡ undone tours log
 undone_same tours [] v c had = absurd (let h : false ≡ true = had in cc)
@@ -47,7 +47,7 @@ undone_same tours (e ∷ log) v c had = elim (or_cases (eqb e.0 v) (is_logged lo
   | inr later ↦ ap (λ l. set l (e.0 - 1) e.1) (undone_same tours log v c later)
 ]
 
--- a vehicle that it does not have is set below
+-- a vehicle that is not in the log changes in the base too
 set_below : (tours : List Course) (log : List (ℕ × Course)) (n v : ℕ) (c : Course) → 1 ≤ v → AreWithin n log → is_logged log v ≡ false
     → undone (set tours (v - 1) c) log ≡ set (undone tours log) (v - 1) c
 set_below tours [] n v c from all none = refl
@@ -101,7 +101,7 @@ once_more (x ∷ log) v c none once =
     let apart : v ≡ x.0 → ⊥ = λ same. (let k : true ≡ false = sym (eq-eqb x.0 v (sym same)) ∙ parts.0 in cc) in
     (logged_more log v c x.0 once.0 apart, once_more log v c parts.1 once.1)
 
--- ---- what a vehicle had in the base
+-- ---- a vehicle's tour in the base
 has_at : (log : List (ℕ × Course)) (k : ℕ) (e : ℕ × Course) → slice_get log k ≡ Some e → is_logged log e.0 ≡ true
 has_at [] k e at = absurd (none_some e at)
 has_at (x ∷ log) zero e at =
@@ -126,15 +126,16 @@ base_at tours (x ∷ log) n (suc k) e at all once within =
 -- ---- whether an entry was found
 pub not_logged : (o : Option ℕ) (log : List (ℕ × Course)) (v : ℕ) → MatchOption o (is_logged log v ≡ false) (λ k. IsEntry log v k)
     → is_none o ≡ true → is_logged log v ≡ false
-not_logged None log v told none = told
-not_logged (Some k) log v told none = absurd (let h : false ≡ true = none in cc)
+not_logged None log v reported none = reported
+not_logged (Some k) log v reported none = absurd (let h : false ≡ true = none in cc)
 
 pub logged : (o : Option ℕ) (log : List (ℕ × Course)) (v : ℕ) → MatchOption o (is_logged log v ≡ false) (λ k. IsEntry log v k)
     → is_some o ≡ true → is_logged log v ≡ true
-logged None log v told some = absurd (let h : false ≡ true = some in cc)
-logged (Some k) log v told some = has_at log k (v, told.0) told.1
+logged None log v reported some = absurd (let h : false ≡ true = some in cc)
+logged (Some k) log v reported some = has_at log k (v, reported.0) reported.1
 
--- ---- room for a vehicle that it does not have: with 0 and this vehicle its vehicles are distinct numbers, none above the fleet's
+-- ---- room for a vehicle that is not in the log: together with 0 and this vehicle, its vehicles are distinct
+-- numbers that are at most the fleet
 apart_from : (log : List (ℕ × Course)) (v : ℕ) → is_logged log v ≡ false → AllByRecursion (λ u. eqb v u ≡ false) (map (λ e. e.0) log)
 apart_from [] v none = tt
 apart_from (e ∷ log) v none =
@@ -174,25 +175,25 @@ room_left n log v low high all once none =
     let long = length-map log (λ (e : ℕ × Course). e.0) in
     omega arith
 
--- ---- what a draft keeps where a vehicle gets another tour
-pub kept_with : (old new : Inside) (v : ℕ) (tour : Course) (seats : List ℕ) → IsKept old
-    → new.tours.items ≡ set old.tours.items (v - 1) tour → new.seats.items ≡ seats
-    → ((n : ℕ) → slice_get seats n ≡ Some 0 → has (route_of tour) n ≡ false) → ((n : ℕ) → slice_get seats n ≡ Some 0 → slice_get old.seats.items n ≡ Some 0)
-    → 1 ≤ v → v ≤ length old.tours.items → old.front ≤ new.front → v ≤ new.front → ((k : ℕ) → old.front ≤ k → v ≤ k → new.front ≤ k)
+-- ---- the invariant of a draft after a vehicle gets another tour
+pub kept_with : (old new : Inside) (v : ℕ) (tour : Course) (vehicle_hints : List ℕ) → IsDraftInvariant old
+    → new.tours.items ≡ set old.tours.items (v - 1) tour → new.vehicle_hints.items ≡ vehicle_hints
+    → ((n : ℕ) → slice_get vehicle_hints n ≡ Some 0 → has (course_route tour) n ≡ false) → ((n : ℕ) → slice_get vehicle_hints n ≡ Some 0 → slice_get old.vehicle_hints.items n ≡ Some 0)
+    → 1 ≤ v → v ≤ length old.tours.items → old.used_len ≤ new.used_len → v ≤ new.used_len → ((k : ℕ) → old.used_len ≤ k → v ≤ k → new.used_len ≤ k)
     → AreWithin (length old.tours.items) new.log.items → AreOnce new.log.items → vec_capacity new.log ≡ vec_capacity old.log
-    → IsRoomSet v tour old.rooms.items new.rooms.items → IsKept new
-kept_with old new v tour seats kept is_tours is_seats out others from within low high least logs once room set_room =
+    → IsMaxDemandSet v tour old.max_demands.items new.max_demands.items → IsDraftInvariant new
+kept_with old new v tour vehicle_hints kept is_tours is_seats out others from within low high least logs once room set_max_demand =
     let long = ap length is_tours ∙ length-set old.tours.items (v - 1) tour in
     record {
-      seats = subst (λ (l : List ℕ). AreSeats l (plan_of new.tours.items)) (sym is_seats)
-          (subst (λ (l : List Course). AreSeats seats (plan_of l)) (sym is_tours)
-          (seats_with old.seats.items seats old.tours.items (v - 1) tour kept.seats out others));
+      vehicle_hints = subst (λ (l : List ℕ). AreVehicleHints l (plan_of new.tours.items)) (sym is_seats)
+          (subst (λ (l : List Course). AreVehicleHints vehicle_hints (plan_of l)) (sym is_tours)
+          (seats_with old.vehicle_hints.items vehicle_hints old.tours.items (v - 1) tour kept.vehicle_hints out others));
       within = subst (λ (k : ℕ). AreWithin k new.log.items) (sym long) logs;
       once = once;
       room = (let had = kept.room in omega arith);
-      front = (let most = least (length old.tours.items) kept.front within in omega arith);
-      idle = front_with old.tours.items new.tours.items v tour old.front new.front is_tours from kept.idle low high;
-      rooms = subst (λ (l : List ℤ). AreRooms new.tours.items l) (sym set_room.2)
-          (subst (λ (l : List Course). AreRooms l (set old.rooms.items (v - 1) set_room.0)) (sym is_tours)
-          (set_rooms old.tours.items old.rooms.items (v - 1) tour set_room.0 kept.rooms set_room.1));
+      used_len = (let most = least (length old.tours.items) kept.used_len within in omega arith);
+      idle = used_len_with old.tours.items new.tours.items v tour old.used_len new.used_len is_tours from kept.idle low high;
+      max_demands = subst (λ (l : List ℤ). AreMaxDemands new.tours.items l) (sym set_max_demand.2)
+          (subst (λ (l : List Course). AreMaxDemands l (set old.max_demands.items (v - 1) set_max_demand.0)) (sym is_tours)
+          (set_rooms old.tours.items old.max_demands.items (v - 1) tour set_max_demand.0 kept.max_demands set_max_demand.1));
     }

@@ -1,7 +1,7 @@
--- Marks by the rest that a number leaves: one without a mark is not among the numbers.
+-- Marks by the remainder of a number. A number without a mark is not among the names.
 use Rattle.std.proofs.Common.{◌≡◌, ℕ, ◌%◌, Bool, false, List, drop, get_or}
 use Rattle.plan_audit.specs.Passes.{has}
 
--- a number without a mark is among the names where it is among those from place k on
+-- a number without a mark is among the names only if it is among those from index k on
 abbrev pub AreMarked : List Bool → List ℕ → ℕ → Type 0
 AreMarked marks names k = (n : ℕ) → get_or marks (n % 64) false ≡ false → has (drop k names) n ≡ has names n

@@ -1,10 +1,10 @@
--- The request of a name, by the table of stops.
+-- The request of a name, found in the table of stops.
 use Rattle.std.proofs.Common.{◌≡◌, ℕ, Option, Some, None, IsSome, refl, sym, ap, subst, ◌∙◌, nat_eq}
 use Rattle.std.specs.Map.{lookup}
 use Rattle.std.specs.Option.{option_map}
 use Rattle.std.proofs.lemmas.Bool.{eq-eqb}
 use Rattle.plan_types.specs.Instance.{Instance, IsInstance, stop_at, name_at, partner_at, request_with}
-use Rattle.plan_types.specs.Laws.{NamedAreFound, RequestsStandByName, IsFoundAt}
+use Rattle.plan_types.specs.Laws.{NamedRequestsAreFound, RequestsAreStoredByName, IsFoundAt}
 use Rattle.plan_types.specs.Request.{request_name, stop_in, partner_in}
 use Rattle.plan_types.specs.declared.requests.Request.{Request}
 use Rattle.plan_types.specs.declared.requests.Request.TheVariants.{Single, Pair}
@@ -17,8 +17,8 @@ first_in : (r : Request) (n : ℕ) → request_name r ≡ n → IsSome (stop_in 
 first_in (Single s) n same = rw (eq-eqb s.number n same) refl
 first_in (Pair a b) n same = rw (eq-eqb a.number n same) refl
 
-module _ (law : NamedAreFound) (stand : RequestsStandByName) (p : Instance) (valid : IsInstance p) (n : ℕ) where
-  -- it is found at its number
+module _ (law : NamedRequestsAreFound) (stand : RequestsAreStoredByName) (p : Instance) (valid : IsInstance p) (n : ℕ) where
+  -- the request is found at the number of its first stop
   named_at : (r : Request) → lookup (nat_eq n) p.requests ≡ Some r → IsFoundAt p n r × (request_name r ≡ n)
   named_at r at = let same = name_of p.requests n r valid.named at in (law p n n r valid at (first_in r n same), same)
 
@@ -42,7 +42,7 @@ module _ (law : NamedAreFound) (stand : RequestsStandByName) (p : Instance) (val
       missing None some e = (let h : IsSome {T = Stop} None = some in cc)
       missing (Some s) some e = none_some s e
 
-  -- the name of a request that has this number, where it is the number itself
+  -- a number that is the name of the request with this stop is found as a name
   own : name_at p n ≡ Some n → (r : Request) × (lookup (nat_eq n) p.requests ≡ Some r)
   own is = by (request_with p n) refl is
     where
@@ -63,7 +63,7 @@ module _ (law : NamedAreFound) (stand : RequestsStandByName) (p : Instance) (val
           let other : partner_in n (Pair a b) ≡ Some b.number = rw (eq-eqb a.number n x.1) refl in
           absurd (none_some b.number (sym alone ∙ (x.0.partner ∙ other)))
 
-  -- the other stop of a pair stands under its number
+  -- the other stop of a pair is found under its number
   second_at : (a b : Stop) (m : ℕ) → lookup (nat_eq n) p.requests ≡ Some (Pair a b) → partner_at p n ≡ Some m → stop_at p m ≡ Some b
   second_at a b m at is =
       let x = named_at (Pair a b) at in

@@ -11,9 +11,9 @@ use Rattle.plan_types.specs.declared.requests.Request.{Request}
 use Rattle.plan_types.specs.declared.requests.Request.TheVariants.{Single, Pair}
 use Rattle.route_sched.specs.Cost.{is_planned}
 use Rattle.plan_audit.specs.Passes.{passes}
-use Rattle.move_ops.specs.Insertion.{Insertion, request_named, of_vehicle, passing, places_in}
+use Rattle.move_ops.specs.Insertion.{Insertion, request_named, route_of, passing, places_in}
 use Rattle.move_ops.specs.Insertion.{are_places, with_request_at, places_of, is_place_of, insertions_of}
-use Rattle.move_ops.specs.Laws.{InsertionsCanBePutIn}
+use Rattle.move_ops.specs.Laws.{InsertionsAreFeasible}
 
 -- x is in the list, by cases on the list
 abbrev pub In : {X : Type 0} → List X → X → Type 0
@@ -100,7 +100,7 @@ placed v x = (v, x.0, x.1)
 abbrev seconds : ℕ → ℕ → List (ℕ × ℕ)
 seconds stops m = map (paired m) (range_with_len (m + 1) (stops + 2 - m))
 
--- the places in one route
+-- a place that passes the test is in the list for its route, and conversely
 in_places : (r : Request) (kept stops i j : ℕ) → are_places r kept stops i j ≡ true → In (places_in r kept stops) (paired i j)
 in_places (Single s) kept stops i j good =
     let a = and_parts (ltb kept i) (leb i (stops + 1) && eqb i j) good in
@@ -139,37 +139,37 @@ of_places (Pair c d) kept stops x there =
 
 module _ (pins routes : List (List ℕ)) (r : Request) where
   abbrev at_vehicle : ℕ → List Insertion
-  at_vehicle v = map (placed v) (places_in r (length (of_vehicle pins v)) (length (of_vehicle routes v)))
+  at_vehicle v = map (placed v) (places_in r (length (route_of pins v)) (length (route_of routes v)))
 
   in_places_of : (x : Insertion) → is_place_of pins routes r x ≡ true → In (places_of pins routes r) x
   in_places_of x good =
-      let a = and_parts (leb 1 x.0) (leb x.0 (length routes) && are_places r (length (of_vehicle pins x.0)) (length (of_vehicle routes x.0)) x.1 x.2) good in
-      let b = and_parts (leb x.0 (length routes)) (are_places r (length (of_vehicle pins x.0)) (length (of_vehicle routes x.0)) x.1 x.2) a.1 in
+      let a = and_parts (leb 1 x.0) (leb x.0 (length routes) && are_places r (length (route_of pins x.0)) (length (route_of routes x.0)) x.1 x.2) good in
+      let b = and_parts (leb x.0 (length routes)) (are_places r (length (route_of pins x.0)) (length (route_of routes x.0)) x.1 x.2) a.1 in
       let low = leb-true 1 x.0 a.0 in
       let high = leb-true x.0 (length routes) b.0 in
       in_flat_map at_vehicle (range_with_len 1 (length routes)) x.0 x (in_range 1 (length routes) x.0 low (omega arith))
-      (in_map (placed x.0) (places_in r (length (of_vehicle pins x.0)) (length (of_vehicle routes x.0))) (paired x.1 x.2)
-      (in_places r (length (of_vehicle pins x.0)) (length (of_vehicle routes x.0)) x.1 x.2 b.1))
+      (in_map (placed x.0) (places_in r (length (route_of pins x.0)) (length (route_of routes x.0))) (paired x.1 x.2)
+      (in_places r (length (route_of pins x.0)) (length (route_of routes x.0)) x.1 x.2 b.1))
 
   of_places_of : (x : Insertion) → In (places_of pins routes r) x → is_place_of pins routes r x ≡ true
   of_places_of x there =
       let t = of_flat_map at_vehicle (range_with_len 1 (length routes)) x there in
       let range = of_range 1 (length routes) t.0 t.1 in
       let low = range.0 in
-      let u = of_map (placed t.0) (places_in r (length (of_vehicle pins t.0)) (length (of_vehicle routes t.0))) x t.2 in
+      let u = of_map (placed t.0) (places_in r (length (route_of pins t.0)) (length (route_of routes t.0))) x t.2 in
       subst (λ (z : Insertion). is_place_of pins routes r z ≡ true) u.2
       (and_from (leb 1 t.0)
-      (leb t.0 (length routes) && are_places r (length (of_vehicle pins t.0)) (length (of_vehicle routes t.0)) u.0.0 u.0.1)
+      (leb t.0 (length routes) && are_places r (length (route_of pins t.0)) (length (route_of routes t.0)) u.0.0 u.0.1)
       (le-leb 1 t.0 low)
-      (and_from (leb t.0 (length routes)) (are_places r (length (of_vehicle pins t.0)) (length (of_vehicle routes t.0)) u.0.0 u.0.1)
+      (and_from (leb t.0 (length routes)) (are_places r (length (route_of pins t.0)) (length (route_of routes t.0)) u.0.0 u.0.1)
       (le-leb t.0 (length routes) (omega arith))
-      (of_places r (length (of_vehicle pins t.0)) (length (of_vehicle routes t.0)) u.0 u.1)))
+      (of_places r (length (route_of pins t.0)) (length (route_of routes t.0)) u.0 u.1)))
 
 module _ (p : Instance) (pins routes : List (List ℕ)) where
   abbrev passing_at : Request → Insertion → Bool
   passing_at r x = passes p pins (with_request_at routes r x)
 
-  -- for a request that is there
+  -- the list of insertions, for a current request
   pub listed : (r : Request) (x : Insertion) → In (insertions_of p pins routes r) x
       → (is_planned routes r ≡ false) × (is_place_of pins routes r x ≡ true) × (passing_at r x ≡ true)
   listed r x there = elim (cases_Bool (is_planned routes r)) [
@@ -216,5 +216,5 @@ module _ (p : Instance) (pins routes : List (List ℕ)) where
     λ some. (let t = put_parts r x some in contained (insertions_of p pins routes r) x (to_list r x t.0 t.1 t.2)),
   )
 
-pub insertions_can_be_put_in : InsertionsCanBePutIn
-insertions_can_be_put_in p pins routes name x = same_named p pins routes name x (request_named p name) refl
+pub insertions_are_feasible : InsertionsAreFeasible
+insertions_are_feasible p pins routes name x = same_named p pins routes name x (request_named p name) refl

@@ -1,4 +1,4 @@
--- Requests taken out of a plan that passes.
+-- Requests removed from a plan that passes.
 use Rattle.std.proofs.Common.{◌≡◌, ℕ, zero, suc, ◌≤◌, not, Bool, true, false, cond, eqb, List, [], ◌∷◌}
 use Rattle.std.proofs.Common.{All, map, filter, Option, Some, None, slice_get, refl, sym, ap, subst, ◌∙◌, inl, inr, arith}
 use Rattle.std.specs.List.{list_all, concat}
@@ -7,14 +7,14 @@ use Rattle.std.proofs.lemmas.Bool.{cases_Bool, and_parts, or_cases, eqb-true, no
 use Rattle.std.proofs.lemmas.Bool.Decides.{eqb_tells}
 use Rattle.std.proofs.lemmas.List.{length-map}
 use Rattle.plan_types.specs.Instance.{Instance, IsInstance, first_some, request_with}
-use Rattle.plan_types.specs.Laws.{RequestsStandByName}
+use Rattle.plan_types.specs.Laws.{RequestsAreStoredByName}
 use Rattle.plan_types.specs.Request.{request_name, stop_in}
 use Rattle.plan_types.specs.declared.requests.Request.{Request}
 use Rattle.plan_types.specs.declared.requests.Request.TheVariants.{Single, Pair}
 use Rattle.route_sched.specs.Cost.{is_planned}
-use Rattle.route_sched.specs.Route.{AreLiveOnce, IsPlan}
+use Rattle.route_sched.specs.Route.{AreDistinctStops, IsPlan}
 use Rattle.plan_audit.specs.Laws.{KeepsPins}
-use Rattle.plan_audit.specs.Locality.{PassesAreLocal, PlansAreLocal, TestsSayFeasible}
+use Rattle.plan_audit.specs.Locality.{PassingIsLocal, PlansAreDisjointRoutes, FeasibleAloneDecidesFeasibility}
 use Rattle.plan_audit.specs.Passes.{has, feasible_alone, passes}
 use Rattle.move_ops.specs.Moves.{is_movable, is_movable_name, is_of_named, without_named, removed}
 use Rattle.move_ops.proofs.Times.{none_some, some_same, times, one_here, times-append, once_from, once_few, once_live}
@@ -22,7 +22,7 @@ use Rattle.move_ops.proofs.Replacing.{parts}
 use Rattle.move_ops.proofs.Inserting.{numbers_of, nowhere}
 use Rattle.move_ops.proofs.Changing.{passes_where_feasible, each_once, pins_map}
 
--- a number stands no more often among those that are kept
+-- a number occurs no more often among those that are kept
 pub times_kept : (n : ℕ) (keep : ℕ → Bool) (xs : List ℕ) → times n (filter keep xs) ≤ times n xs
 times_kept n keep [] = omega arith
 times_kept n keep (x ∷ xs) = elim (cases_Bool (keep x)) [
@@ -39,7 +39,7 @@ times_left n keep (route ∷ routes) =
     let h = times_left n keep routes in
     omega arith
 
--- a front that is kept stays the front
+-- a prefix that is kept stays a prefix
 front_kept : (keep : ℕ → Bool) (pin route : List ℕ) → ((k n : ℕ) → slice_get pin k ≡ Some n → slice_get route k ≡ Some n)
     → ((k n : ℕ) → slice_get pin k ≡ Some n → keep n ≡ true)
     → (k n : ℕ) → slice_get pin k ≡ Some n → slice_get (filter keep route) k ≡ Some n
@@ -54,7 +54,7 @@ front_kept keep (x ∷ pin) (y ∷ route) same all (suc k) n at =
     let t : keep y ≡ true = ap keep e ∙ all zero x refl in
     rw t (front_kept keep pin route (λ j m. same (suc j) m) (λ j m. all (suc j) m) k n at)
 
--- what is tested of all names is tested of each
+-- a test of all names holds for each name
 test_of : (test : ℕ → Bool) (names : List ℕ) (m : ℕ) → list_all test names ≡ true → has names m ≡ true → test m ≡ true
 test_of test [] m all in_it = absurd (let h : false ≡ true = in_it in cc)
 test_of test (x ∷ xs) m all in_it =
@@ -64,7 +64,7 @@ test_of test (x ∷ xs) m all in_it =
       | inr there ↦ test_of test xs m both.1 there
     ]
 
--- the request that is found at a number has a stop with it
+-- the request found at a number has a stop with it
 module _ (n : ℕ) (r : Request) where
   found_in : (q : Request) (rest : Option Request) → (rest ≡ Some r → 1 ≤ times n (numbers_of r))
       → option_or (option_map (λ _. q) (stop_in n q)) rest ≡ Some r → 1 ≤ times n (numbers_of r)
@@ -100,9 +100,9 @@ unpinned pins routes r movable n pinned = elim (eqb_tells (times n (numbers_of r
       absurd (omega arith))
 ]
 
-module _ (by_name : RequestsStandByName) (p : Instance) (pins routes : List (List ℕ)) (valid : IsInstance p) (names : List ℕ)
+module _ (by_name : RequestsAreStoredByName) (p : Instance) (pins routes : List (List ℕ)) (valid : IsInstance p) (names : List ℕ)
     (movable : list_all (is_movable_name p pins routes) names ≡ true) where
-  -- so a pinned stop is kept
+  -- a pinned stop is kept
   pinned_kept : (n : ℕ) → 1 ≤ times n (concat pins) → not (is_of_named p names n) ≡ true
   pinned_kept n pinned = by (request_with p n) refl
     where
@@ -118,7 +118,7 @@ module _ (by_name : RequestsStandByName) (p : Instance) (pins routes : List (Lis
             omega arith)
       ]
 
-module _ (by_name : RequestsStandByName) (local : PassesAreLocal) (plans : PlansAreLocal) (says : TestsSayFeasible) (p : Instance)
+module _ (by_name : RequestsAreStoredByName) (local : PassingIsLocal) (plans : PlansAreDisjointRoutes) (says : FeasibleAloneDecidesFeasibility) (p : Instance)
     (pins routes : List (List ℕ)) (valid : IsInstance p)
     (good : passes p pins routes ≡ true) (names : List ℕ) (movable : list_all (is_movable_name p pins routes) names ≡ true) where
   pub left_plan : IsPlan p (without_named p names routes)
@@ -136,7 +136,7 @@ module _ (by_name : RequestsStandByName) (local : PassesAreLocal) (plans : Plans
       (λ pin route same stand. front_kept (λ m. not (is_of_named p names m)) pin route same
       (λ k n at. pinned_kept by_name p pins routes valid names movable n (stand k n at)))
 
-  pub left_once : All (AreLiveOnce p) (without_named p names routes)
+  pub left_once : All (AreDistinctStops p) (without_named p names routes)
   left_once = each_once plans p (without_named p names routes) left_plan
 
   pub removed_is : (b : Bool) → b ≡ list_all (feasible_alone p) (without_named p names routes)

@@ -1,4 +1,4 @@
--- How far routes drive in which a stop takes the place of another, or that exchange their ends.
+-- The distance of routes in which one stop replaces another, or which exchange their ends.
 use Rattle.std.proofs.Common.{◌≡◌, ℕ, zero, suc, ◌+◌, ◌-◌, ◌<◌, ◌≤◌, ◌++◌, List, [], ◌∷◌, length}
 use Rattle.std.proofs.Common.{take, drop, map, get_or, Some, slice_get, refl, sym, ap, subst, ◌∙◌, arith, add-one}
 use Rattle.std.proofs.lemmas.List.{length-set, length-map, length-append, length-take-le, length-drop, get_or-drop}
@@ -11,27 +11,27 @@ use Rattle.route_sched.specs.Schedule.{route_length}
 use Rattle.slack_tables.specs.Along.{length_along}
 use Rattle.slack_tables.proofs.AlongLemmas.{length-next, same-length, spliced-length}
 use Rattle.slack_tables.proofs.CourseLemmas.{length-is}
-use Rattle.move_ops.specs.Ways.{ways_over, way_across}
-use Rattle.move_ops.specs.Insertion.{of_vehicle, with_route}
+use Rattle.move_ops.specs.Legs.{distance_via, distance_across}
+use Rattle.move_ops.specs.Insertion.{route_of, with_route}
 use Rattle.move_ops.specs.Moves.{joined}
 use Rattle.move_ops.proofs.Costs.{replaced}
 use Rattle.move_ops.proofs.Replacing.{other_vehicle}
 use Rattle.move_ops.proofs.Times.{none_some, some_same, times, one_here, stands_once_more}
 
--- ---- stops that are given by place
--- all the same but one
-module _ (a b : ℕ → Stop) (i : ℕ) (front : (k : ℕ) → k ≤ i → b k ≡ a k) (behind : (k : ℕ) → b (i + 1 + 1 + k) ≡ a (i + 1 + 1 + k)) where
+-- ---- stops as functions of the place
+-- equal except at one place
+module _ (a b : ℕ → Stop) (i : ℕ) (front : (k : ℕ) → k ≤ i → b k ≡ a k) (following : (k : ℕ) → b (i + 1 + 1 + k) ≡ a (i + 1 + 1 + k)) where
   one_other : (l : ℕ) → length_along b (i + 1 + 1 + l) + (distance (a i) (a (i + 1)) + distance (a (i + 1)) (a (i + 1 + 1)))
       ≡ length_along a (i + 1 + 1 + l) + (distance (a i) (b (i + 1)) + distance (b (i + 1)) (a (i + 1 + 1)))
   one_other l =
       let here : b i ≡ a i = front i (omega arith) in
       let none : i + 1 + 1 + 0 ≡ i + 1 + 1 = omega arith in
-      let there : b (i + 1 + 1) ≡ a (i + 1 + 1) = subst (λ k. b k ≡ a k) none (behind 0) in
+      let there : b (i + 1 + 1) ≡ a (i + 1 + 1) = subst (λ k. b k ≡ a k) none (following 0) in
       let first : distance (b i) (b (i + 1)) ≡ distance (a i) (b (i + 1)) = rw here refl in
       let second : distance (b (i + 1)) (b (i + 1 + 1)) ≡ distance (b (i + 1)) (a (i + 1 + 1)) = rw there refl in
       omega (
         arith,
-        spliced-length a b (i + 1 + 1) (i + 1 + 1) behind l,
+        spliced-length a b (i + 1 + 1) (i + 1 + 1) following l,
         length-next a i,
         length-next a (i + 1),
         length-next b i,
@@ -41,8 +41,8 @@ module _ (a b : ℕ → Stop) (i : ℕ) (front : (k : ℕ) → k ≤ i → b k �
         second,
       )
 
--- the front of one, and from place c + 1 on what another has behind place d
-module _ (x a b : ℕ → Stop) (c d : ℕ) (front : (k : ℕ) → k ≤ c → x k ≡ a k) (behind : (k : ℕ) → x (c + 1 + k) ≡ b (d + 1 + k)) where
+-- the places up to c of one route, followed by the places of another after place d
+module _ (x a b : ℕ → Stop) (c d : ℕ) (front : (k : ℕ) → k ≤ c → x k ≡ a k) (following : (k : ℕ) → x (c + 1 + k) ≡ b (d + 1 + k)) where
   two_parts : (l : ℕ)
       → length_along x (c + 1 + l) + (length_along b d + distance (b d) (b (d + 1)))
       ≡ length_along b (d + 1 + l) + (length_along a c + distance (a c) (b (d + 1)))
@@ -50,11 +50,11 @@ module _ (x a b : ℕ → Stop) (c d : ℕ) (front : (k : ℕ) → k ≤ c → x
       let here : x c ≡ a c = front c (omega arith) in
       let none_x : c + 1 + 0 ≡ c + 1 = omega arith in
       let none_b : d + 1 + 0 ≡ d + 1 = omega arith in
-      let there : x (c + 1) ≡ b (d + 1) = subst (λ k. x k ≡ b (d + 1)) none_x (subst (λ k. x (c + 1 + 0) ≡ b k) none_b (behind 0)) in
+      let there : x (c + 1) ≡ b (d + 1) = subst (λ k. x k ≡ b (d + 1)) none_x (subst (λ k. x (c + 1 + 0) ≡ b k) none_b (following 0)) in
       let across : distance (x c) (x (c + 1)) ≡ distance (a c) (b (d + 1)) = rw (here, there) refl in
-      omega (arith, spliced-length b x (d + 1) (c + 1) behind l, length-next x c, length-next b d, same-length a x c front c (omega arith), across)
+      omega (arith, spliced-length b x (d + 1) (c + 1) following l, length-next x c, length-next b d, same-length a x c front c (omega arith), across)
 
--- ---- a route in which a stop takes the place of another
+-- ---- a route in which one stop replaces another
 mapped_at : (f : ℕ → ℕ) (route : List ℕ) (k : ℕ) → ((m : ℕ) → slice_get route k ≡ Some m → f m ≡ m) → get_or (map f route) k 0 ≡ get_or route k 0
 mapped_at f [] k same = refl
 mapped_at f (x ∷ xs) zero same = same x refl
@@ -103,7 +103,7 @@ module _ (p : Instance) (f : ℕ → ℕ) (route : List ℕ) (i n : ℕ) (at : s
   unfolding place
   place_old = rw (add-one i) (ap (stop_numbered p) (stop_here route i n at)) ∙ is_old
 
-  pub length_exchanged : route_length p (map f route) + ways_over p route i old ≡ route_length p route + ways_over p route i new
+  pub length_exchanged : route_length p (map f route) + distance_via p route i old ≡ route_length p route + distance_via p route i new
   length_exchanged =
       let below = within_route route i n at in
       let l = length route - (i + 1) in
@@ -128,10 +128,10 @@ joined_front (suc c) [] ys k below within = absurd (omega arith)
 joined_front (suc c) (x ∷ xs) ys zero below within = refl
 joined_front (suc c) (x ∷ xs) ys (suc k) below within = joined_front c xs ys k (omega arith) (omega arith)
 
-joined_behind : (c : ℕ) (xs ys : List ℕ) (k : ℕ) → c ≤ length xs → get_or (take c xs ++ ys) (c + k) 0 ≡ get_or ys k 0
-joined_behind zero xs ys k within = let e : 0 + k ≡ k = omega arith in rw e refl
-joined_behind (suc c) [] ys k within = absurd (omega arith)
-joined_behind (suc c) (x ∷ xs) ys k within = let e : suc c + k ≡ suc (c + k) = omega arith in rw e (joined_behind c xs ys k (omega arith))
+joined_after : (c : ℕ) (xs ys : List ℕ) (k : ℕ) → c ≤ length xs → get_or (take c xs ++ ys) (c + k) 0 ≡ get_or ys k 0
+joined_after zero xs ys k within = let e : 0 + k ≡ k = omega arith in rw e refl
+joined_after (suc c) [] ys k within = absurd (omega arith)
+joined_after (suc c) (x ∷ xs) ys k within = let e : suc c + k ≡ suc (c + k) = omega arith in rw e (joined_after c xs ys k (omega arith))
 
 module _ (p : Instance) (from to : List ℕ) (c d : ℕ) (c_within : c ≤ length from) (d_within : d ≤ length to) where
   place_front : (k : ℕ) → k ≤ c → place p (joined from c to d) k ≡ place p from k
@@ -139,15 +139,15 @@ module _ (p : Instance) (from to : List ℕ) (c d : ℕ) (c_within : c ≤ lengt
   place_front zero h = refl
   place_front (suc k) h = ap (stop_numbered p) (joined_front c from (drop d to) k (omega arith) c_within)
 
-  place_behind : (k : ℕ) → place p (joined from c to d) (c + 1 + k) ≡ place p to (d + 1 + k)
+  place_following : (k : ℕ) → place p (joined from c to d) (c + 1 + k) ≡ place p to (d + 1 + k)
   unfolding place
-  place_behind k =
+  place_following k =
       let e : c + 1 + k ≡ suc (c + k) = omega arith in
       let f : d + 1 + k ≡ suc (d + k) = omega arith in
-      rw (e, f) (ap (stop_numbered p) (joined_behind c from (drop d to) k c_within ∙ get_or-drop d to k 0))
+      rw (e, f) (ap (stop_numbered p) (joined_after c from (drop d to) k c_within ∙ get_or-drop d to k 0))
 
-  pub length_joined : route_length p (joined from c to d) + (length_along (place p to) d + way_across p to d to (d + 1))
-      ≡ route_length p to + (length_along (place p from) c + way_across p from c to (d + 1))
+  pub length_joined : route_length p (joined from c to d) + (length_along (place p to) d + distance_across p to d to (d + 1))
+      ≡ route_length p to + (length_along (place p from) c + distance_across p from c to (d + 1))
   length_joined =
       let end : d + 1 + (length to - d) ≡ length to + 1 = omega arith in
       let end_new : c + 1 + (length to - d) ≡ length (joined from c to d) + 1 =
@@ -155,23 +155,23 @@ module _ (p : Instance) (from to : List ℕ) (c d : ℕ) (c_within : c ≤ lengt
       let far : length_along (place p to) (d + 1 + (length to - d)) ≡ route_length p to = ap (length_along (place p to)) end ∙ sym (length-is p to) in
       let far_new : length_along (place p (joined from c to d)) (c + 1 + (length to - d)) ≡ route_length p (joined from c to d) =
       ap (length_along (place p (joined from c to d))) end_new ∙ sym (length-is p (joined from c to d)) in
-      let two = two_parts (place p (joined from c to d)) (place p from) (place p to) c d place_front place_behind (length to - d) in
+      let two = two_parts (place p (joined from c to d)) (place p from) (place p to) c d place_front place_following (length to - d) in
       omega arith
 
--- both, and what both drive
+-- the total distance of both routes after they exchange their ends
 pub lengths_crossed : (p : Instance) (xs ys : List ℕ) (c d : ℕ) → c ≤ length xs → d ≤ length ys
-    → route_length p (joined xs c ys d) + route_length p (joined ys d xs c) + (way_across p xs c xs (c + 1) + way_across p ys d ys (d + 1))
-    ≡ route_length p xs + route_length p ys + (way_across p xs c ys (d + 1) + way_across p ys d xs (c + 1))
+    → route_length p (joined xs c ys d) + route_length p (joined ys d xs c) + (distance_across p xs c xs (c + 1) + distance_across p ys d ys (d + 1))
+    ≡ route_length p xs + route_length p ys + (distance_across p xs c ys (d + 1) + distance_across p ys d xs (c + 1))
 lengths_crossed p xs ys c d c_within d_within =
     let e = length_joined p xs ys c d c_within d_within in
     let f = length_joined p ys xs d c d_within c_within in
     omega arith
 
--- ---- all routes, where two are others
+-- ---- all routes, of which two are replaced
 pub lengths_of_two : (p : Instance) (routes : List (List ℕ)) (v w : ℕ) (new other : List ℕ) → 1 ≤ v → v ≤ length routes → 1 ≤ w
     → w ≤ length routes → (w ≡ v → ⊥)
     → total_length p (with_route (with_route routes v new) w other)
-    + (route_length p (of_vehicle routes v) + route_length p (of_vehicle routes w))
+    + (route_length p (route_of routes v) + route_length p (route_of routes w))
     ≡ total_length p routes + (route_length p new + route_length p other)
 lengths_of_two p routes v w new other v_from v_within w_from w_within apart =
     let long = length-set routes (v - 1) new in

@@ -1,19 +1,19 @@
--- A vehicle that gets the route back that it has in the base, with its table.
+-- A vehicle that has its route of the base again, with its table.
 use Rattle.std.proofs.Common.{◌≡◌, ◌∙◌, ◌-◌, ◌<◌, ◌≤◌, ℕ, List, Some, length, get_or, slice_get, refl, sym, ap, subst}
 use Rattle.std.proofs.lemmas.Option.{slice_get_read, slice_get_within}
 use Rattle.plan_types.specs.Instance.{Instance}
-use Rattle.slack_tables.specs.Course.{Course, course_of, route_of}
+use Rattle.slack_tables.specs.Course.{Course, course_of, course_route}
 use Rattle.move_ops.specs.declared.draft.Draft.TheInside.{Inside}
-use Rattle.move_ops.specs.Drafts.{Drafted, undone}
-use Rattle.move_ops.specs.Kept.{IsKept}
-use Rattle.move_ops.specs.Logged.{AreOnce}
+use Rattle.move_ops.specs.Drafts.{DraftState, undone}
+use Rattle.move_ops.specs.DraftInvariant.{IsDraftInvariant}
+use Rattle.move_ops.specs.UndoLog.{AreOnce}
 use Rattle.move_ops.specs.Refreshing.{AreWithin}
 use Rattle.move_ops.specs.Tables.{AreTablesIn}
 use Rattle.move_ops.proofs.Drafting.{base_course}
 use Rattle.move_ops.proofs.Logging.{base_at}
 use Rattle.move_ops.proofs.Times.{some_same}
 
-module _ (p : Instance) (d : Drafted) (old : Inside) (kept : IsKept old) (view : old.log.items ≡ d.log)
+module _ (p : Instance) (d : DraftState) (old : Inside) (kept : IsDraftInvariant old) (view : old.log.items ≡ d.log)
     (base : AreTablesIn p (undone d.tours d.log)) (v k : ℕ) (high : v ≤ length d.tours)
     (x : Course) (there : slice_get d.log k ≡ Some (v, x)) where
   below : k < length d.log
@@ -22,7 +22,7 @@ module _ (p : Instance) (d : Drafted) (old : Inside) (kept : IsKept old) (view :
   pub in_log : k < length old.log.items
   in_log = subst (λ (l : List (ℕ × Course)). k < length l) (sym view) below
 
-  is_course : course_of p (route_of x) ≡ x
+  is_course : course_of p (course_route x) ≡ x
   is_course =
       let within : AreWithin (length old.tours.items) d.log = subst (AreWithin (length old.tours.items)) view kept.within in
       let once : AreOnce d.log = subst AreOnce view kept.once in
@@ -33,14 +33,14 @@ module _ (p : Instance) (d : Drafted) (old : Inside) (kept : IsKept old) (view :
       some_same e (v, x)
       (sym (slice_get_read d.log (length d.log) k e refl below (subst (λ (l : List (ℕ × Course)). e ≡ get_or l k e) view at)) ∙ there)
 
-  -- what is read there is its table of the base
-  pub read_course : (e : ℕ × Course) → e ≡ get_or old.log.items k e → course_of p (route_of e.1) ≡ e.1
-  read_course e at = subst (λ (y : ℕ × Course). course_of p (route_of y.1) ≡ y.1) (sym (read e at)) is_course
+  -- the log entry that was read has the vehicle's table in the base
+  pub read_course : (e : ℕ × Course) → e ≡ get_or old.log.items k e → course_of p (course_route e.1) ≡ e.1
+  read_course e at = subst (λ (y : ℕ × Course). course_of p (course_route y.1) ≡ y.1) (sym (read e at)) is_course
 
-  -- and where its stops are those of a route, so is the table
-  module _ (e : ℕ × Course) (at : e ≡ get_or old.log.items k e) (route : List ℕ) (same : route_of e.1 ≡ route) where
+  -- if the stops of the entry are those of a route, the entry's table is that of the route
+  module _ (e : ℕ × Course) (at : e ≡ get_or old.log.items k e) (route : List ℕ) (same : course_route e.1 ≡ route) where
     pub base_is : x ≡ course_of p route
-    base_is = sym is_course ∙ ap (course_of p) (ap (λ (y : ℕ × Course). route_of y.1) (sym (read e at)) ∙ same)
+    base_is = sym is_course ∙ ap (course_of p) (ap (λ (y : ℕ × Course). course_route y.1) (sym (read e at)) ∙ same)
 
-    pub base_stops : route_of (course_of p route) ≡ route
-    base_stops = ap route_of (sym base_is) ∙ (ap (λ (y : ℕ × Course). route_of y.1) (sym (read e at)) ∙ same)
+    pub base_stops : course_route (course_of p route) ≡ route
+    base_stops = ap course_route (sym base_is) ∙ (ap (λ (y : ℕ × Course). course_route y.1) (sym (read e at)) ∙ same)

@@ -1,4 +1,5 @@
--- A request that is put in saves little: one request less is left out, no vehicle, and 1 of the distance at most for each of its stops.
+-- An inserted request saves little: at most one unplanned request, no vehicle, and a distance of 1 for each of
+-- its stops.
 use Rattle.std.proofs.Common.{◌≡◌, ℕ, zero, suc, ◌+◌, ◌-◌, ◌≤◌, ◌&&◌, not, cond, eqb, Bool, true, false}
 use Rattle.std.proofs.Common.{List, [], ◌∷◌, length, Option, Some, None, unwrap_or, refl, sym, ap, subst, arith, add-one, nat_eq}
 use Rattle.std.specs.List.{insert}
@@ -8,7 +9,7 @@ use Rattle.std.proofs.lemmas.Bool.{not-true}
 use Rattle.std.proofs.lemmas.List.Edits.{length-insert}
 use Rattle.nint_dist.specs.Distance.{distance, DetoursSaveAtMostOne}
 use Rattle.plan_types.specs.Instance.{Instance, IsInstance}
-use Rattle.plan_types.specs.Laws.{NamedAreFound, RequestsStandByName, StopsAreBelowNext}
+use Rattle.plan_types.specs.Laws.{NamedRequestsAreFound, RequestsAreStoredByName, StopsAreBelowNext}
 use Rattle.plan_types.specs.declared.requests.Request.{Request}
 use Rattle.plan_types.specs.declared.requests.Request.TheVariants.{Single, Pair}
 use Rattle.plan_types.specs.declared.requests.Kind.{Kind}
@@ -16,22 +17,22 @@ use Rattle.plan_types.specs.declared.requests.Kind.TheVariants.{LiLim, Vrp}
 use Rattle.route_sched.specs.Cost.{is_planned, cost_of, vehicle_count}
 use Rattle.route_sched.specs.Route.{place}
 use Rattle.route_sched.specs.Schedule.{route_length}
-use Rattle.plan_audit.specs.Locality.{PassesAreLocal, TestsSayFeasible}
+use Rattle.plan_audit.specs.Locality.{PassingIsLocal, FeasibleAloneDecidesFeasibility}
 use Rattle.plan_audit.specs.Passes.{passes}
 use Rattle.slack_tables.specs.Along.{length_along}
 use Rattle.slack_tables.specs.Insertion.{ArePlaces}
 use Rattle.slack_tables.proofs.AlongLemmas.{length-next}
-use Rattle.move_ops.specs.Changes.{used, IsPut}
-use Rattle.move_ops.specs.Insertion.{Insertion, request_named, inserted, of_vehicle, with_route, with_request_at, is_place_of, put_in, best_insertion, passing}
+use Rattle.move_ops.specs.Changes.{used, IsInsertable}
+use Rattle.move_ops.specs.Insertion.{Insertion, request_named, inserted, route_of, with_route, with_request_at, is_place_of, inserted_at, best_insertion, passing}
 use Rattle.move_ops.specs.Moves.{joined}
-use Rattle.move_ops.specs.Savings.{most_saved_by, most_saved, SavesAtMost, PlacementsSaveLittle}
+use Rattle.move_ops.specs.Savings.{max_saving_by, max_saving, SavesAtMost, PlacementsSaveLittle}
 use Rattle.move_ops.proofs.Choosing.{to_places, name_of}
 use Rattle.move_ops.proofs.Costs.{replaced, used_some}
 use Rattle.move_ops.proofs.Placing.{is_put}
 use Rattle.move_ops.proofs.Rerouting.{length_joined}
 use Rattle.move_ops.proofs.Times.{none_some, some_same}
 
--- ---- one stop more
+-- ---- one more stop
 -- without it the route is the old one
 left_out : (route : List ℕ) (m n : ℕ) → m ≤ length route → joined (insert route m n) m (insert route m n) (suc m) ≡ route
 left_out route zero n within = refl
@@ -52,9 +53,9 @@ module _ (triangle : DetoursSaveAtMostOne) (p : Instance) where
       let far : length_along (place p new) (m + 1) ≡ length_along (place p new) (suc m) = ap (length_along (place p new)) (add-one m) in
       omega arith
 
-  -- and each of a request's
+  -- inserting the stops of a request saves at most 1 for each of them
   by_stops : (r : Request) (route : List ℕ) (i j : ℕ) → ArePlaces r (length route) i j
-      → route_length p route ≤ route_length p (inserted r i j route) + most_saved_by r
+      → route_length p route ≤ route_length p (inserted r i j route) + max_saving_by r
   by_stops (Single s) route i j places = let high = places.1 in one_stop route (i - 1) s.number (omega arith)
   by_stops (Pair a b) route i j places =
       let low = places.0 in
@@ -84,45 +85,45 @@ no_fewer : (kind : Kind) (routes : List (List ℕ)) (v : ℕ) (new : List ℕ) �
 no_fewer Vrp routes v new from within some = omega arith
 no_fewer LiLim routes v new from within some =
     let e = replaced used routes v new from within in
-    let f = one_or_none (not (eqb (length (of_vehicle routes v)) 0)) in
+    let f = one_or_none (not (eqb (length (route_of routes v)) 0)) in
     let g = used_some new some in
     omega arith
 
--- ---- a request more
+-- ---- one more request
 module _ (triangle : DetoursSaveAtMostOne) (p : Instance) (pins routes : List (List ℕ)) (r : Request) where
-  put_saves : (x : Insertion) → IsPut p pins routes r x → SavesAtMost 1 (most_saved_by r) (cost_of p routes) (cost_of p (with_request_at routes r x))
+  put_saves : (x : Insertion) → IsInsertable p pins routes r x → SavesAtMost 1 (max_saving_by r) (cost_of p routes) (cost_of p (with_request_at routes r x))
   put_saves x put =
-      let places = (to_places r 0 (length (of_vehicle routes x.0)) x.1 x.2 put.places).0 in
-      let e = replaced (route_length p) routes x.0 (inserted r x.1 x.2 (of_vehicle routes x.0)) (put.from) (put.within) in
-      let f = by_stops triangle p r (of_vehicle routes x.0) x.1 x.2 places in
+      let places = (to_places r 0 (length (route_of routes x.0)) x.1 x.2 put.places).0 in
+      let e = replaced (route_length p) routes x.0 (inserted r x.1 x.2 (route_of routes x.0)) (put.from) (put.within) in
+      let f = by_stops triangle p r (route_of routes x.0) x.1 x.2 places in
       record {
         unplanned = omega (arith, put.unplanned);
         vehicles =
-            no_fewer p.kind routes x.0 (inserted r x.1 x.2 (of_vehicle routes x.0)) (put.from) (put.within)
-            (some_stop r (of_vehicle routes x.0) x.1 x.2 places);
+            no_fewer p.kind routes x.0 (inserted r x.1 x.2 (route_of routes x.0)) (put.from) (put.within)
+            (some_stop r (route_of routes x.0) x.1 x.2 places);
         distance = omega arith;
       }
 
 same_plan : (c : ℕ) (d : ℕ) (p : Instance) (routes : List (List ℕ)) → SavesAtMost c d (cost_of p routes) (cost_of p routes)
 same_plan c d p routes = record { unplanned = omega arith; vehicles = omega arith; distance = omega arith }
 
-module _ (law : NamedAreFound) (stand : RequestsStandByName) (local : PassesAreLocal) (says : TestsSayFeasible)
+module _ (law : NamedRequestsAreFound) (stand : RequestsAreStoredByName) (local : PassingIsLocal) (says : FeasibleAloneDecidesFeasibility)
     (below : StopsAreBelowNext) (triangle : DetoursSaveAtMostOne) where
-  -- the plan that has been made has the request at a place where it can be put
+  -- the new plan has the request at a place where it can be inserted
   made_saves : (p : Instance) (pins routes : List (List ℕ)) (name : ℕ) (x : Insertion) (new : List (List ℕ)) → IsInstance p
-      → passes p pins routes ≡ true → put_in p pins routes name x ≡ Some new
-      → SavesAtMost 1 (most_saved p name) (cost_of p routes) (cost_of p new)
+      → passes p pins routes ≡ true → inserted_at p pins routes name x ≡ Some new
+      → SavesAtMost 1 (max_saving p name) (cost_of p routes) (cost_of p new)
   made_saves p pins routes name x new valid good is = by (request_named p name) refl is
     where
       passed : (r : Request) → lookup (nat_eq name) p.requests ≡ Some r → (free here good_then : Bool)
           → not (is_planned routes r) ≡ free → is_place_of pins routes r x ≡ here → passes p pins (with_request_at routes r x) ≡ good_then
           → cond (free && here) (cond good_then (Some (with_request_at routes r x)) None) None ≡ Some new
-          → SavesAtMost 1 (most_saved_by r) (cost_of p routes) (cost_of p new)
+          → SavesAtMost 1 (max_saving_by r) (cost_of p routes) (cost_of p new)
       passed r named true true true f g h e =
           let under = name_of p.requests name r (valid.named) named in
           let put = is_put law stand local says below p pins routes valid good r
           (subst (λ k. lookup (nat_eq k) p.requests ≡ Some r) (sym under) named) x (not-true (is_planned routes r) f) g h in
-          subst (λ plan. SavesAtMost 1 (most_saved_by r) (cost_of p routes) (cost_of p plan))
+          subst (λ plan. SavesAtMost 1 (max_saving_by r) (cost_of p routes) (cost_of p plan))
           (some_same (with_request_at routes r x) new e) (put_saves triangle p pins routes r x put)
       passed r named false here good_then f g h e = absurd (none_some new e)
       passed r named true false good_then f g h e = absurd (none_some new e)
@@ -132,7 +133,7 @@ module _ (law : NamedAreFound) (stand : RequestsStandByName) (local : PassesAreL
           → option_and_then
           (λ r. cond (not (is_planned routes r) && is_place_of pins routes r x) (passing p pins (with_request_at routes r x)) None) o
           ≡ Some new
-          → SavesAtMost 1 (most_saved p name) (cost_of p routes) (cost_of p new)
+          → SavesAtMost 1 (max_saving p name) (cost_of p routes) (cost_of p new)
       by None named e = absurd (none_some new e)
       by (Some r) named e =
           rw named (passed r named (not (is_planned routes r)) (is_place_of pins routes r x)
@@ -141,13 +142,13 @@ module _ (law : NamedAreFound) (stand : RequestsStandByName) (local : PassesAreL
   pub placements_save_little : PlacementsSaveLittle
   placements_save_little p pins routes name valid good = by (best_insertion p pins routes name) refl
     where
-      made : (x : Insertion) (o : Option (List (List ℕ))) → put_in p pins routes name x ≡ o
-          → SavesAtMost 1 (most_saved p name) (cost_of p routes) (cost_of p (unwrap_or o routes))
-      made x None e = same_plan 1 (most_saved p name) p routes
+      made : (x : Insertion) (o : Option (List (List ℕ))) → inserted_at p pins routes name x ≡ o
+          → SavesAtMost 1 (max_saving p name) (cost_of p routes) (cost_of p (unwrap_or o routes))
+      made x None e = same_plan 1 (max_saving p name) p routes
       made x (Some new) e = made_saves p pins routes name x new valid good e
 
       by : (o : Option Insertion) → best_insertion p pins routes name ≡ o
-          → SavesAtMost 1 (most_saved p name) (cost_of p routes)
-          (cost_of p (unwrap_or (option_and_then (put_in p pins routes name) o) routes))
-      by None e = same_plan 1 (most_saved p name) p routes
-      by (Some x) e = made x (put_in p pins routes name x) refl
+          → SavesAtMost 1 (max_saving p name) (cost_of p routes)
+          (cost_of p (unwrap_or (option_and_then (inserted_at p pins routes name) o) routes))
+      by None e = same_plan 1 (max_saving p name) p routes
+      by (Some x) e = made x (inserted_at p pins routes name x) refl

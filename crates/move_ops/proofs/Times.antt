@@ -1,4 +1,4 @@
--- How often a number stands in a list, and what that says of live stops that stand once.
+-- The number of times that a number occurs in a list, and what follows for stops that are current and distinct.
 use Rattle.std.proofs.Common.{◌≡◌, ℕ, zero, suc, ◌+◌, ◌<◌, ◌≤◌, ◌||◌, true, false, cond, List, [], ◌∷◌, ◌++◌, length}
 use Rattle.std.proofs.Common.{take, drop, set, get_or, Some, slice_get, refl, sym, ap, subst, ◌∙◌, inl, inr, arith, eqb, nat_eq}
 use Rattle.std.specs.List.{AllByRecursion, IsDistinct, list_any, concat}
@@ -9,7 +9,7 @@ use Rattle.std.proofs.lemmas.List.{take-append-drop, drop_more}
 use Rattle.std.proofs.lemmas.List.Elements.{All-from_recursion, recursion_from_All}
 use Rattle.plan_types.specs.Instance.{Instance}
 use Rattle.route_sched.specs.Cost.{has_stop}
-use Rattle.route_sched.specs.Route.{IsLive, AreLiveOnce}
+use Rattle.route_sched.specs.Route.{IsKnownStop, AreDistinctStops}
 use Rattle.plan_audit.specs.Passes.{has}
 pub use Rattle.std.proofs.lemmas.Option.{none-some as none_some, same_Some as some_same}
 
@@ -27,17 +27,17 @@ pub times-append : (n : ℕ) (xs ys : List ℕ) → times n (xs ++ ys) ≡ times
 times-append n [] ys = omega arith
 times-append n (x ∷ xs) ys = omega (arith, times-append n xs ys)
 
--- a front and the rest
+-- a number occurs in a list as often as in a prefix and in the rest together
 pub times_split : (n k : ℕ) (xs : List ℕ) → times n (take k xs) + times n (drop k xs) ≡ times n xs
 times_split n k xs = sym (times-append n (take k xs) (drop k xs)) ∙ ap (times n) (take-append-drop k xs)
 
--- what stands at a place stands at least once, and the other way round
+-- a number at an index occurs at least once, and conversely
 pub stands_once_more : (n i : ℕ) (xs : List ℕ) → slice_get xs i ≡ Some n → 1 ≤ times n xs
 stands_once_more n i [] at = absurd (none_some n at)
 stands_once_more n zero (x ∷ xs) at = let e = one_here n x (sym (some_same x n at)) in omega arith
 stands_once_more n (suc i) (x ∷ xs) at = let h = stands_once_more n i xs at in omega arith
 
--- distinct numbers are those that stand once
+-- distinct numbers are those that occur once
 none_of : (x : ℕ) (xs : List ℕ) → AllByRecursion (λ y. nat_eq x y ≡ false) xs → times x xs ≡ 0
 none_of x [] apart = refl
 none_of x (y ∷ ys) apart = let e = none_here x y apart.0 in let h = none_of x ys apart.1 in omega arith
@@ -64,28 +64,28 @@ distinct_from (x ∷ xs) few =
     (apart_from x xs (let e = one_here x x refl in let h = few x in omega arith), distinct_from xs (λ n. let h = few n in omega arith))
 
 module _ (p : Instance) where
-  live_from : (xs : List ℕ) → ((n : ℕ) → 1 ≤ times n xs → IsLive p n) → AllByRecursion (IsLive p) xs
+  live_from : (xs : List ℕ) → ((n : ℕ) → 1 ≤ times n xs → IsKnownStop p n) → AllByRecursion (IsKnownStop p) xs
   live_from [] each = tt
   live_from (x ∷ xs) each = (each x (let e = one_here x x refl in omega arith), live_from xs (λ n h. each n (omega arith)))
 
-  live_of : (xs : List ℕ) → AllByRecursion (IsLive p) xs → (n : ℕ) → 1 ≤ times n xs → IsLive p n
+  live_of : (xs : List ℕ) → AllByRecursion (IsKnownStop p) xs → (n : ℕ) → 1 ≤ times n xs → IsKnownStop p n
   live_of [] live n some = absurd (omega arith)
   live_of (x ∷ xs) live n some = elim (eqb_tells n x) [
-    | inl t ↦ subst (IsLive p) (sym t.1) live.0
+    | inl t ↦ subst (IsKnownStop p) (sym t.1) live.0
     | inr t ↦ (let e = none_here n x t.0 in live_of xs live.1 n (omega arith))
   ]
 
-  -- live stops that stand once, by how often numbers stand
-  pub once_from : (xs : List ℕ) → ((n : ℕ) → times n xs ≤ 1) → ((n : ℕ) → 1 ≤ times n xs → IsLive p n) → AreLiveOnce p xs
-  once_from xs few live = record { live = All-from_recursion (IsLive p) xs (live_from xs live); distinct = distinct_from xs few }
+  -- stops are current and distinct if each occurs at most once and is current
+  pub once_from : (xs : List ℕ) → ((n : ℕ) → times n xs ≤ 1) → ((n : ℕ) → 1 ≤ times n xs → IsKnownStop p n) → AreDistinctStops p xs
+  once_from xs few live = record { live = All-from_recursion (IsKnownStop p) xs (live_from xs live); distinct = distinct_from xs few }
 
-  pub once_few : (xs : List ℕ) → AreLiveOnce p xs → (n : ℕ) → times n xs ≤ 1
+  pub once_few : (xs : List ℕ) → AreDistinctStops p xs → (n : ℕ) → times n xs ≤ 1
   once_few xs once n = at_most_once xs (once.distinct) n
 
-  pub once_live : (xs : List ℕ) → AreLiveOnce p xs → (n : ℕ) → 1 ≤ times n xs → IsLive p n
-  once_live xs once n some = live_of xs (recursion_from_All (IsLive p) xs (once.live)) n some
+  pub once_live : (xs : List ℕ) → AreDistinctStops p xs → (n : ℕ) → 1 ≤ times n xs → IsKnownStop p n
+  once_live xs once n some = live_of xs (recursion_from_All (IsKnownStop p) xs (once.live)) n some
 
--- a stop that no route has
+-- a number that is not in a list occurs 0 times
 pub none_anywhere : (n : ℕ) (xs : List ℕ) → list_any (nat_eq n) xs ≡ false → times n xs ≡ 0
 none_anywhere n [] none = refl
 none_anywhere n (x ∷ xs) none = elim (eqb_tells n x) [
@@ -93,7 +93,7 @@ none_anywhere n (x ∷ xs) none = elim (eqb_tells n x) [
   | inr t ↦ (let e = none_here n x t.0 in let rest : list_any (nat_eq n) xs ≡ false = rw t.0 at none in let h = none_anywhere n xs rest in omega arith)
 ]
 
--- all routes, where one is replaced
+-- how often number n occurs in all routes, of which one is replaced
 pub times_replaced : (n : ℕ) (routes : List (List ℕ)) (k : ℕ) (old new : List ℕ) → slice_get routes k ≡ Some old
     → times n (concat (set routes k new)) + times n old ≡ times n (concat routes) + times n new
 times_replaced n [] k old new at = absurd (none_some old at)
@@ -108,7 +108,7 @@ times_replaced n (route ∷ routes) (suc k) old new at =
     let h = times_replaced n routes k old new at in
     omega arith
 
--- the stop is in the next list, or in those behind it
+-- the stop is in the next list or in a later one
 pub has_stop_more : (lists : List (List ℕ)) (k n : ℕ) → k < length lists
     → has_stop (drop k lists) n ≡ has (get_or lists k []) n || has_stop (drop (k + 1) lists) n
 has_stop_more lists k n within =

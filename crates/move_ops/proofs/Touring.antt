@@ -6,7 +6,7 @@ use Rattle.std.specs.List.{AllByRecursion, list_all}
 use Rattle.std.specs.Option.{option_map}
 use Rattle.std.proofs.lemmas.List.{append_assoc, drop_more}
 use Rattle.plan_types.specs.Instance.{Instance, IsInstance}
-use Rattle.slack_tables.specs.Course.{Course, course_of, route_of, IsCourseIn}
+use Rattle.slack_tables.specs.Course.{Course, course_of, course_route, IsCourseIn}
 use Rattle.slack_tables.specs.Insertion.{KeepsLimits}
 use Rattle.move_ops.specs.Changes.{changes_of, distinct_count, with_routes, AreCourses, AreToursOf, IsChange, IsRemoval, IsTourIfFeasible}
 use Rattle.move_ops.specs.Moves.{without_named}
@@ -18,9 +18,9 @@ use Rattle.move_ops.proofs.Drafting.{plan_with}
 use Rattle.move_ops.proofs.Fitting.{paired}
 
 changes_more : (tours : List (ℕ × Course)) (v : ℕ) (t : Course)
-    → changes_of (tours ++ (v, t) ∷ []) ≡ changes_of tours ++ record { vehicle = v; route = route_of t } ∷ []
+    → changes_of (tours ++ (v, t) ∷ []) ≡ changes_of tours ++ record { vehicle = v; route = course_route t } ∷ []
 changes_more [] v t = refl
-changes_more (e ∷ tours) v t = ap (λ (l : List Change). record { vehicle = e.0; route = route_of e.1 } ∷ l) (changes_more tours v t)
+changes_more (e ∷ tours) v t = ap (λ (l : List Change). record { vehicle = e.0; route = course_route e.1 } ∷ l) (changes_more tours v t)
 
 courses_more : (p : Instance) (tours : List (ℕ × Course)) (v : ℕ) (t : Course) → IsCourseIn p t → AreCourses p tours → AreCourses p (tours ++ (v, t) ∷ [])
 courses_more p [] v t is all = (is, tt)
@@ -32,18 +32,18 @@ pub record AreToursTo (p : Instance) (cs : List Change) (k : ℕ) (tours : List 
   pub courses : AreCourses p tours
 
 pub tours_more : (p : Instance) (cs : List Change) (k : ℕ) (x : Change) (tours more : List (ℕ × Course)) (t : Course)
-    → x ≡ get_or cs k x → k < length cs → t ≡ course_of p x.route → route_of t ≡ x.route
+    → x ≡ get_or cs k x → k < length cs → t ≡ course_of p x.route → course_route t ≡ x.route
     → more ≡ tours ++ (x.vehicle, t) ∷ [] → AreToursTo p cs k tours → AreToursTo p cs (k + 1) more
 tours_more p cs k x tours more t at below course route is before = subst (AreToursTo p cs (k + 1)) (sym is) (record {
   changes =
       ap (λ l. l ++ drop (k + 1) cs) (changes_more tours x.vehicle t)
-      ∙ (append_assoc (changes_of tours) (record { vehicle = x.vehicle; route = route_of t } ∷ []) (drop (k + 1) cs)
+      ∙ (append_assoc (changes_of tours) (record { vehicle = x.vehicle; route = course_route t } ∷ []) (drop (k + 1) cs)
       ∙ (ap (λ (r : List ℕ). changes_of tours ++ record { vehicle = x.vehicle; route = r } ∷ drop (k + 1) cs) route
       ∙ (ap (λ l. changes_of tours ++ l) (ap (λ (y : Change). y ∷ drop (k + 1) cs) at ∙ sym (drop_more cs k x below)) ∙ before.changes)));
   courses = courses_more p tours x.vehicle t (ap (course_of p) route ∙ sym course) before.courses;
 })
 
--- a test of those left
+-- a test of the changes from change k on, if change k passes
 pub all_more : (test : Change → Bool) (cs : List Change) (k : ℕ) (x : Change) → x ≡ get_or cs k x → k < length cs → test x ≡ true
     → list_all test (drop (k + 1) cs) ≡ list_all test (drop k cs)
 all_more test cs k x at below t =
@@ -54,7 +54,7 @@ pub all_broken : (test : Change → Bool) (cs : List Change) (k : ℕ) (x : Chan
 all_broken test cs k x at below f =
     ap (list_all test) (drop_more cs k x below ∙ ap (λ (y : Change). y ∷ drop (k + 1) cs) (sym at)) ∙ ap (λ b. b && list_all test (drop (k + 1) cs)) f
 
--- one tour more in its place
+-- setting one more tour makes one more change of the plan
 pub routes_with : (tours new : List Course) (v : ℕ) (t : Course) (rest : List (ℕ × Course)) → new ≡ set tours (v - 1) t
     → with_routes (plan_of new) (changes_of rest) ≡ with_routes (plan_of tours) (changes_of ((v, t) ∷ rest))
 routes_with tours new v t rest is = ap (λ (l : List (List ℕ)). with_routes l (changes_of rest)) (ap plan_of is ∙ plan_with tours (v - 1) t)
@@ -63,32 +63,32 @@ pub within_from : (n : ℕ) (tours : List (ℕ × Course)) → AllByRecursion (�
 within_from n [] all = tt
 within_from n (t ∷ tours) all = (all.0, within_from n tours all.1)
 
--- a tour is made just where its route is feasible
+-- a tour is built exactly when its route is feasible
 pub tour_if_feasible : (p : Instance) → IsInstance p → (route : List ℕ) → are_paired p route ≡ true → (o : Option Course)
-    → (IsSome o) ↔ KeepsLimits p route → IfSome o (λ t. t ≡ course_of p route) → IfSome o (λ t. route_of t ≡ route)
+    → (IsSome o) ↔ KeepsLimits p route → IfSome o (λ t. t ≡ course_of p route) → IfSome o (λ t. course_route t ≡ route)
     → IsTourIfFeasible p route o
 tour_if_feasible p valid route pairs None kept course same =
     sym (paired p valid route false pairs
     (λ h. absurd (let k : false ≡ true = h in cc), λ keep. absurd (let k : false ≡ true = kept.1 keep in cc)))
 tour_if_feasible p valid route pairs (Some t) kept course same = (sym (paired p valid route true pairs (λ h. kept.0 refl, λ keep. refl)), course, same)
 
--- what a removal answers, where all that it changes is feasible alone or something isn't
+-- the result of a removal if all changed routes are feasible alone, or if one is not
 module _ {V : Type 0} (items : V → List (ℕ × Course)) (p : Instance) (routes others : List (List ℕ)) (cs : List Change) (all : Bool)
     (plan : with_routes routes cs ≡ others) where
-  abbrev pub Told : Option V → Type 0
-  Told o = MatchOption o (all ≡ false) (λ ts. (all ≡ true) × AreToursOf p cs (items ts))
+  abbrev pub RemovalResult : Option V → Type 0
+  RemovalResult o = MatchOption o (all ≡ false) (λ ts. (all ≡ true) × AreToursOf p cs (items ts))
 
   pub removed_routes : (answer : Option (List (List ℕ))) → ((b : Bool) → b ≡ all → cond b (Some others) None ≡ answer) → (o : Option V)
-      → Told o → option_map (λ ts. with_routes routes (changes_of (items ts))) o ≡ answer
-  removed_routes answer by None told = by false (sym told)
-  removed_routes answer by (Some ts) told = ap (λ l. Some (with_routes routes l)) (told.1.changes) ∙ (ap Some plan ∙ by true (sym told.0))
+      → RemovalResult o → option_map (λ ts. with_routes routes (changes_of (items ts))) o ≡ answer
+  removed_routes answer by None reported = by false (sym reported)
+  removed_routes answer by (Some ts) reported = ap (λ l. Some (with_routes routes l)) (reported.1.changes) ∙ (ap Some plan ∙ by true (sym reported.0))
 
   pub removal : (pins : List (List ℕ)) (names : List ℕ) (left : ℕ) → others ≡ without_named p names routes
-      → (true ≡ all → IsChange p pins routes cs (left + distinct_count names)) → (o : Option V) → Told o
+      → (true ≡ all → IsChange p pins routes cs (left + distinct_count names)) → (o : Option V) → RemovalResult o
       → IfSome o (λ ts. IsRemoval p pins routes names left (items ts))
-  removal pins names left are made None told = tt
-  removal pins names left are made (Some ts) told = record {
-    plan = ap (with_routes routes) (told.1.changes) ∙ (plan ∙ are);
-    change = subst (λ (l : List Change). IsChange p pins routes l (left + distinct_count names)) (sym (told.1.changes)) (made (sym told.0));
-    courses = told.1.courses;
+  removal pins names left are made None reported = tt
+  removal pins names left are made (Some ts) reported = record {
+    plan = ap (with_routes routes) (reported.1.changes) ∙ (plan ∙ are);
+    change = subst (λ (l : List Change). IsChange p pins routes l (left + distinct_count names)) (sym (reported.1.changes)) (made (sym reported.0));
+    courses = reported.1.courses;
   }

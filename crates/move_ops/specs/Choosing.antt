@@ -1,69 +1,69 @@
--- The best insertion so far, on the way over the vehicles.
+-- The best insertion so far, during the search over the vehicles.
 use Rattle.std.specs.Prelude.{◌≡◌, ◌⊎◌, ℕ, ◌≤◌, ◌<◌, ℤ, pos, ◌+ℤ◌, ◌-ℤ◌, ◌≤ℤ◌, ◌<ℤ◌, nat_lt, ◌==◌, Bool}
 use Rattle.std.specs.Prelude.{true, false, not, ◌&&◌, List, length, slice_get, Option, Some, None, nat_eq, IfSome, MatchOption, if◌then◌else◌}
 use Rattle.std.specs.List.{Contains}
 use Rattle.std.specs.Map.{lookup}
 use Rattle.std.specs.Option.{option_map, option_or}
 use Rattle.plan_types.specs.Instance.{Instance, IsInstance}
-use Rattle.plan_types.specs.Cost.{BelowTells, AtMostTells, CostsAreTotal, CostsAreTransitive, BelowThenAtMost, AtMostThenBelow, BelowIsAtMost}
-use Rattle.plan_types.specs.Laws.{NamedAreFound, RequestsStandByName}
+use Rattle.plan_types.specs.Cost.{CostBelowIsCorrect, CostAtMostIsCorrect, CostsAreTotal, CostsAreTransitive, BelowThenAtMost, AtMostThenBelow, BelowIsAtMost}
+use Rattle.plan_types.specs.Laws.{NamedRequestsAreFound, RequestsAreStoredByName}
 use Rattle.plan_types.specs.Request.{request_name, IsRequest}
 use Rattle.plan_types.specs.declared.requests.Request.{Request}
 use Rattle.plan_types.specs.declared.requests.Kind.{Kind}
 use Rattle.plan_types.specs.declared.requests.Kind.TheVariants.{LiLim, Vrp}
 use Rattle.route_sched.specs.Cost.{is_planned}
 use Rattle.route_sched.specs.Schedule.{route_length}
-use Rattle.plan_audit.specs.Locality.{PassesAreLocal, TestsSayFeasible}
+use Rattle.plan_audit.specs.Locality.{PassingIsLocal, FeasibleAloneDecidesFeasibility}
 use Rattle.plan_audit.specs.Passes.{passes}
 use Rattle.slack_tables.specs.Best.{IsBestAddition}
 use Rattle.slack_tables.specs.Course.{Course, IsCourseIn}
 use Rattle.slack_tables.specs.Insertion.{inserted, IsAdded}
-use Rattle.slack_tables.specs.RequestFloors.{AreWays}
-use Rattle.slack_tables.specs.declared.request.RequestWays.{RequestWays}
-use Rattle.slack_tables.specs.declared.scan.Addition.{Addition}
-use Rattle.move_ops.specs.Insertion.{Insertion, request_named, of_vehicle, insertions_of, is_no_worse, best_insertion}
+use Rattle.slack_tables.specs.RequestFloors.{AreDistances}
+use Rattle.slack_tables.specs.declared.request.RequestDistances.{RequestDistances}
+use Rattle.slack_tables.specs.declared.scan.PricedInsertion.{PricedInsertion}
+use Rattle.move_ops.specs.Insertion.{Insertion, request_named, route_of, insertions_of, is_no_worse, best_insertion}
 use Rattle.move_ops.specs.Laws.{BestInsertionsAreLeast, BestInsertionsAreUnique}
 use Rattle.move_ops.specs.Refreshing.{AreWithin}
-use Rattle.move_ops.specs.Rooms.{AreRooms}
+use Rattle.move_ops.specs.MaxDemands.{AreMaxDemands}
 use Rattle.move_ops.specs.Tables.{plan_of, AreTablesIn}
-use Rattle.move_ops.specs.declared.tables.Found.{Found}
+use Rattle.move_ops.specs.declared.tables.Candidate.{Candidate}
 use Rattle.move_ops.specs.declared.tables.Limit.{Limit}
 
--- a request put into this route uses one vehicle more, where vehicles count
+-- a request inserted into this route opens a vehicle, in problems where vehicles count
 abbrev pub opens : Kind → List ℕ → Bool
 opens LiLim route = length route == 0
 opens Vrp route = false
 
-abbrev pub place_found : Found → Insertion
-place_found f = (f.vehicle, f.addition.pickup, f.addition.delivery)
+abbrev pub candidate_place : Candidate → Insertion
+candidate_place f = (f.vehicle, f.addition.pickup, f.addition.delivery)
 
-abbrev pub found_at : ℕ → Bool → Addition → Found
+abbrev pub found_at : ℕ → Bool → PricedInsertion → Candidate
 found_at v o a = record { vehicle = v; opens = o; addition = a }
 
--- how much farther the vehicles drive with the request put in there
-abbrev pub gain : Instance → List (List ℕ) → Request → Insertion → ℤ
-gain p routes r x = pos (route_length p (inserted r x.1 x.2 (of_vehicle routes x.0))) -ℤ pos (route_length p (of_vehicle routes x.0))
+-- the distance that inserting the request at this place adds
+abbrev pub added_distance : Instance → List (List ℕ) → Request → Insertion → ℤ
+added_distance p routes r x = pos (route_length p (inserted r x.1 x.2 (route_of routes x.0))) -ℤ pos (route_length p (route_of routes x.0))
 
--- an insertion that opens a vehicle or not, and adds so much, costs less than the limit
+-- an insertion with this added distance, which opens a vehicle or not, costs less than the limit
 abbrev pub IsWithin : Limit → Bool → ℤ → Type 0
 IsWithin l o d = ((o ≡ false) × (l.opens ≡ true)) ⊎ ((o ≡ l.opens) × (d <ℤ l.below))
 
 abbrev pub IsAllowed : Instance → List (List ℕ) → Request → Limit → Insertion → Type 0
-IsAllowed p routes r l x = IsWithin l (opens p.kind (of_vehicle routes x.0)) (gain p routes r x)
+IsAllowed p routes r l x = IsWithin l (opens p.kind (route_of routes x.0)) (added_distance p routes r x)
 
--- the best insertion, where that is allowed; or nothing, where none is
+-- the best insertion if it is allowed, or `None` if no insertion is
 abbrev pub IsBestWithin : Instance → List (List ℕ) → List (List ℕ) → Request → Limit → Option Insertion → Type 0
 IsBestWithin p pins routes r l answer = MatchOption answer ((y : Insertion) → Contains (insertions_of p pins routes r) y → IsAllowed p routes r l y → ⊥)
     (λ x. (best_insertion p pins routes (request_name r) ≡ Some x) × IsAllowed p routes r l x)
 
--- the laws by which insertions are told apart
+-- the laws that compare insertions
 pub record InsertionLaws : Type 0 where
-  pub found : NamedAreFound
-  pub stand : RequestsStandByName
-  pub local : PassesAreLocal
-  pub says : TestsSayFeasible
-  pub below_tells : BelowTells
-  pub at_most_tells : AtMostTells
+  pub found : NamedRequestsAreFound
+  pub stand : RequestsAreStoredByName
+  pub local : PassingIsLocal
+  pub says : FeasibleAloneDecidesFeasibility
+  pub below_is_correct : CostBelowIsCorrect
+  pub at_most_is_correct : CostAtMostIsCorrect
   pub total : CostsAreTotal
   pub transitive : CostsAreTransitive
   pub below_then_at_most : BelowThenAtMost
@@ -72,8 +72,8 @@ pub record InsertionLaws : Type 0 where
   pub least : BestInsertionsAreLeast
   pub unique : BestInsertionsAreUnique
 
--- the tables are of a plan that passes, and the request is live and unplanned
-pub record IsAsked (p : Instance) (pins : List (List ℕ)) (courses : List Course) (r : Request) : Type 0 where
+-- the tables are those of a plan that passes, and the request is current and unplanned
+pub record IsQuery (p : Instance) (pins : List (List ℕ)) (courses : List Course) (r : Request) : Type 0 where
   pub valid : IsInstance p
   pub tables : AreTablesIn p courses
   pub good : passes p pins (plan_of courses) ≡ true
@@ -82,97 +82,102 @@ pub record IsAsked (p : Instance) (pins : List (List ℕ)) (courses : List Cours
 
 -- one of the first k vehicles has no stops
 abbrev pub HasIdle : List (List ℕ) → ℕ → Type 0
-HasIdle routes k = (u : ℕ) × (1 ≤ u) × (u ≤ k) × (u ≤ length routes) × (length (of_vehicle routes u) ≡ 0)
+HasIdle routes k = (u : ℕ) × (1 ≤ u) × (u ≤ k) × (u ≤ length routes) × (length (route_of routes u) ≡ 0)
 
--- each vehicle behind the first so many has no stops, and one of those has none either
-abbrev pub IsReach : List (List ℕ) → ℕ → Type 0
-IsReach routes end = (v : ℕ) → end < v → v ≤ length routes → HasIdle routes end × (length (of_vehicle routes v) ≡ 0)
+-- no vehicle after the first `end` has stops; and if there are such vehicles, one of the first `end` has none
+-- either
+abbrev pub IsScanLen : List (List ℕ) → ℕ → Type 0
+IsScanLen routes end = (v : ℕ) → end < v → v ≤ length routes → HasIdle routes end × (length (route_of routes v) ≡ 0)
 
--- and so are the vehicles that are asked, up to the last one and before the others those of these entries, with these rooms
-pub record IsAskedOver (p : Instance) (pins : List (List ℕ)) (courses : List Course) (most : List ℤ) (last : ℕ)
+-- the requirements of `IsQuery`, and those on the last vehicle to look at, the entries to look at first, and
+-- the greatest demands
+pub record IsQueryOver (p : Instance) (pins : List (List ℕ)) (courses : List Course) (most : List ℤ) (last : ℕ)
     (entries : List (ℕ × Course)) (r : Request) : Type 0 where
-  pub asked : IsAsked p pins courses r
+  pub asked : IsQuery p pins courses r
   pub within : last ≤ length courses
-  pub rooms : AreRooms courses most
-  pub reach : IsReach (plan_of courses) last
+  pub max_demands : AreMaxDemands courses most
+  pub reach : IsScanLen (plan_of courses) last
   pub first : AreWithin (length courses) entries
 
--- the table is one of the problem, the request is live and has these ways, and the vehicle's pin is no longer than the route
-pub record IsLookable (p : Instance) (pins : List (List ℕ)) (r : Request) (w : RequestWays) (v : ℕ) (c : Course) : Type 0 where
+-- the table is one of the problem, the request is current and has these distances, and the vehicle's pin is no
+-- longer than the route
+pub record IsScannable (p : Instance) (pins : List (List ℕ)) (r : Request) (w : RequestDistances) (v : ℕ) (c : Course) : Type 0 where
   pub problem : IsInstance p
   pub course : IsCourseIn p c
   pub request : request_named p (request_name r) ≡ Some r
   pub valid : IsRequest r
-  pub ways : AreWays p.depot r w
-  pub pin : length (of_vehicle pins v) ≤ length c.stops
+  pub ways : AreDistances p.depot r w
+  pub pin : length (route_of pins v) ≤ length c.stops
 
--- what was found is an allowed insertion at one of these vehicles, and no worse than any other there
-pub record IsBestAmong (p : Instance) (pins routes : List (List ℕ)) (r : Request) (l : Limit) (These : ℕ → Type 0) (f : Found) : Type 0 where
-  pub among : Contains (insertions_of p pins routes r) (place_found f)
+-- the insertion found is an allowed one at one of these vehicles, and no worse than any other allowed insertion
+-- at them
+pub record IsBestAmong (p : Instance) (pins routes : List (List ℕ)) (r : Request) (l : Limit) (These : ℕ → Type 0) (f : Candidate) : Type 0 where
+  pub among : Contains (insertions_of p pins routes r) (candidate_place f)
   pub seen : These f.vehicle
   pub allowed : IsWithin l f.opens f.addition.distance
-  pub opens : opens p.kind (of_vehicle routes f.vehicle) ≡ f.opens
-  pub added : IsAdded p (of_vehicle routes f.vehicle) (inserted r f.addition.pickup f.addition.delivery (of_vehicle routes f.vehicle))
+  pub opens : opens p.kind (route_of routes f.vehicle) ≡ f.opens
+  pub added : IsAdded p (route_of routes f.vehicle) (inserted r f.addition.pickup f.addition.delivery (route_of routes f.vehicle))
       (Some f.addition.distance)
   pub least : (y : Insertion) → Contains (insertions_of p pins routes r) y → These y.0 → IsAllowed p routes r l y
-      → is_no_worse p routes r (place_found f) y ≡ true
+      → is_no_worse p routes r (candidate_place f) y ≡ true
 
--- or nothing is found, where these vehicles have no allowed insertion
-abbrev pub IsBestAmongThese : Instance → List (List ℕ) → List (List ℕ) → Request → Limit → (ℕ → Type 0) → Option Found → Type 0
+-- the best insertion found among these vehicles, or `None` if they have no allowed one
+abbrev pub IsBestAmongThese : Instance → List (List ℕ) → List (List ℕ) → Request → Limit → (ℕ → Type 0) → Option Candidate → Type 0
 IsBestAmongThese p pins routes r l These answer =
     MatchOption answer ((y : Insertion) → Contains (insertions_of p pins routes r) y → These y.0 → IsAllowed p routes r l y → ⊥)
     (IsBestAmong p pins routes r l These)
 
--- an entry of a list is the vehicle's
+-- an entry of the list has this vehicle
 abbrev pub IsEntryOf : List (ℕ × Course) → ℕ → Type 0
 IsEntryOf entries v = (k : ℕ) × (e : ℕ × Course) × (slice_get entries k ≡ Some e) × (e.0 ≡ v)
 
--- a vehicle with stops that one of the first n entries is of
-pub record IsNamed (routes : List (List ℕ)) (entries : List (ℕ × Course)) (n v : ℕ) : Type 0 where
+-- a vehicle with stops that is in one of the first n entries
+pub record IsEntryWithStops (routes : List (List ℕ)) (entries : List (ℕ × Course)) (n v : ℕ) : Type 0 where
   pub place : ℕ
   pub entry : ℕ × Course
   pub below : place < n
   pub at : slice_get entries place ≡ Some entry
   pub same : entry.0 ≡ v
-  pub some : 1 ≤ length (of_vehicle routes v)
+  pub some : 1 ≤ length (route_of routes v)
 
--- one of those, or of the first k vehicles
-abbrev pub IsNamedOrUpTo : List (List ℕ) → List (ℕ × Course) → ℕ → ℕ → Type 0
-IsNamedOrUpTo routes entries k v = ((1 ≤ v) × (v ≤ k)) ⊎ IsNamed routes entries (length entries) v
+-- one of the first k vehicles, or a vehicle with stops that is in an entry
+abbrev pub IsEntryOrUpTo : List (List ℕ) → List (ℕ × Course) → ℕ → ℕ → Type 0
+IsEntryOrUpTo routes entries k v = ((1 ≤ v) × (v ≤ k)) ⊎ IsEntryWithStops routes entries (length entries) v
 
--- the distance that an insertion at vehicle v must add less than, to be better than one that opens as many vehicles: of equals the first
--- vehicle's is
-abbrev pub bound_beside : ℕ → Found → ℤ
-bound_beside v f = if nat_lt v f.vehicle then f.addition.distance +ℤ pos 1 else f.addition.distance
+-- the bound that the added distance of an insertion at vehicle v must be below, to be better than an insertion
+-- that opens as many vehicles: of equal ones, the one at the lower vehicle is better
+abbrev pub bound_against : ℕ → Candidate → ℤ
+bound_against v f = if nat_lt v f.vehicle then f.addition.distance +ℤ pos 1 else f.addition.distance
 
--- what an insertion that opens a vehicle or not must add less than, to be better than what opens one or not and adds so much; nothing
--- where it can't be
+-- the bound that the added distance of an insertion must be below, to be better than a rival that adds d (each
+-- may open a vehicle), or `None` if it can't be better
 abbrev pub bound_over : Bool → ℤ → Bool → Option ℤ
 bound_over rival d o = if rival && not o then Some (pos 9223372036854775807) else if o && not rival then None else Some d
 
--- the same of an insertion at vehicle v, to be better than the best so far, or than the limit
-abbrev pub bound_of : ℕ → Bool → Limit → Option Found → Option ℤ
+-- the bound that the added distance of an insertion at vehicle v must be below, to be better than the best so
+-- far, or than the limit
+abbrev pub bound_of : ℕ → Bool → Limit → Option Candidate → Option ℤ
 bound_of v o l None = bound_over l.opens l.below o
-bound_of v o l (Some f) = bound_over f.opens (bound_beside v f) o
+bound_of v o l (Some f) = bound_over f.opens (bound_against v f) o
 
--- from vehicle v on, no used vehicle needs a greater bound
-abbrev pub IsLoose : ℕ → Limit → Option Found → ℤ → Type 0
-IsLoose v l best below = (u : ℕ) → v ≤ u → (b : ℤ) → bound_of u false l best ≡ Some b → b ≤ℤ below
+-- no used vehicle from v on has a greater bound
+abbrev pub IsLooseBound : ℕ → Limit → Option Candidate → ℤ → Type 0
+IsLooseBound v l best below = (u : ℕ) → v ≤ u → (b : ℤ) → bound_of u false l best ≡ Some b → b ≤ℤ below
 
--- what was found adds less than the greatest number
-abbrev pub IsShort : Option Found → Type 0
-IsShort best = IfSome best (λ f. f.addition.distance <ℤ pos 9223372036854775807)
+-- the insertion found adds less than the greatest number
+abbrev pub IsBelowMaximum : Option Candidate → Type 0
+IsBelowMaximum best = IfSome best (λ f. f.addition.distance <ℤ pos 9223372036854775807)
 
--- the best places below this bound, or what was found before
-abbrev pub IsBetterBelow : Instance → List ℕ → Request → ℕ → ℕ → Bool → Option Found → Option Found → Option ℤ → Type 0
+-- the best places below this bound, or the insertion found before
+abbrev pub IsBetterBelow : Instance → List ℕ → Request → ℕ → ℕ → Bool → Option Candidate → Option Candidate → Option ℤ → Type 0
 IsBetterBelow p route r kept v o best result None = result ≡ best
 IsBetterBelow p route r kept v o best result (Some below) =
-    (answer : Option Addition) × IsBestAddition p route r kept below answer × (result ≡ option_or (option_map (found_at v o) answer) best)
+    (answer : Option PricedInsertion) × IsBestAddition p route r kept below answer × (result ≡ option_or (option_map (found_at v o) answer) best)
 
--- a vehicle more is looked at
-abbrev pub IsBetter : Instance → List ℕ → Request → ℕ → ℕ → Limit → Option Found → Option Found → Type 0
+-- `result` is the best so far after vehicle v was searched, too
+abbrev pub IsBetter : Instance → List ℕ → Request → ℕ → ℕ → Limit → Option Candidate → Option Candidate → Type 0
 IsBetter p route r kept v l best result = IsBetterBelow p route r kept v (opens p.kind route) best result (bound_of v (opens p.kind route) l best)
 
--- or it has stops, and was looked at before
-abbrev pub IsLookedAt : Instance → List ℕ → Request → ℕ → List (ℕ × Course) → ℕ → Limit → Option Found → Option Found → Type 0
-IsLookedAt p route r kept entries v l best result = IsBetter p route r kept v l best result ⊎ ((1 ≤ length route) × IsEntryOf entries v × (result ≡ best))
+-- the vehicle was searched, or it has stops and is in an entry, so it was searched before
+abbrev pub IsScanned : Instance → List ℕ → Request → ℕ → List (ℕ × Course) → ℕ → Limit → Option Candidate → Option Candidate → Type 0
+IsScanned p route r kept entries v l best result = IsBetter p route r kept v l best result ⊎ ((1 ≤ length route) × IsEntryOf entries v × (result ≡ best))

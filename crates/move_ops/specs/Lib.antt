@@ -1,18 +1,18 @@
--- what public contracts say
-pub mod Bounded
+-- definitions that public contracts use
+pub mod BoundedPlacing
 pub mod Drafts
-pub mod Foreseen
+pub mod Costing
 pub mod Insertion
 pub mod Laws
 pub mod Moves
 pub mod Savings
 pub mod Tables
--- what those of private functions say
+-- definitions that only private contracts use
 pub mod Changes
 pub mod Choosing
-pub mod Kept
-pub mod Logged
+pub mod DraftInvariant
+pub mod UndoLog
 pub mod Pairing
 pub mod Refreshing
-pub mod Rooms
-pub mod Ways
+pub mod MaxDemands
+pub mod Legs

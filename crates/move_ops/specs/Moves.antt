@@ -1,4 +1,5 @@
--- The moves from plan to plan: each gives the plan that it names where that passes. Vehicles and places count from 1.
+-- The moves from plan to plan. Each returns the plan that it defines if that plan passes. Vehicles and places
+-- count from 1.
 use Rattle.std.specs.Prelude.{ℕ, nat_le, ◌==◌, ◌&&◌, not, Bool, true, false, List, ◌++◌, length, take, drop, map, filter, Option, None, if◌then◌else◌}
 use Rattle.std.specs.List.{list_all}
 use Rattle.std.specs.Option.{option_map_or, option_and_then}
@@ -7,9 +8,9 @@ use Rattle.plan_types.specs.declared.requests.Request.{Request}
 use Rattle.plan_types.specs.declared.requests.Request.TheVariants.{Single, Pair}
 use Rattle.route_sched.specs.Cost.{is_planned}
 use Rattle.plan_audit.specs.Passes.{has}
-use Rattle.move_ops.specs.Insertion.{request_named, of_vehicle, passing, with_route}
+use Rattle.move_ops.specs.Insertion.{request_named, route_of, passing, with_route}
 
--- a live request that is planned, and of which no stop is pinned
+-- a planned request without a pinned stop
 abbrev pub is_movable : List (List ℕ) → List (List ℕ) → Request → Bool
 is_movable pins routes r = is_planned routes r && not (is_planned pins r)
 
@@ -24,29 +25,29 @@ is_of_named p names n = option_map_or (has names) (name_at p n) false
 abbrev pub without_named : Instance → List ℕ → List (List ℕ) → List (List ℕ)
 without_named p names routes = map (filter (λ n. not (is_of_named p names n))) routes
 
--- `remove`: the plan without these requests, all at once, where each can be moved
+-- `remove`: the plan without these requests, all removed at once, if each can be moved
 abbrev pub removed : Instance → List (List ℕ) → List (List ℕ) → List ℕ → Option (List (List ℕ))
 removed p pins routes names = if list_all (is_movable_name p pins routes) names then passing p pins (without_named p names routes) else None
 
--- the one of two numbers for the other; any other number stays
+-- a for b and b for a; any other number stays
 abbrev pub swapped : ℕ → ℕ → ℕ → ℕ
 swapped a b n = if n == a then b else if n == b then a else n
 
--- both are singles, or both are pairs
+-- both requests are singles, or both are pairs
 abbrev pub have_same_form : Request → Request → Bool
 have_same_form (Single s) (Single t) = true
 have_same_form (Single s) (Pair c d) = false
 have_same_form (Pair a b) (Single t) = false
 have_same_form (Pair a b) (Pair c d) = true
 
--- a stop of the one request for that of the other: pickup for pickup, delivery for delivery
+-- each stop of one request replaced by that of the other: pickup by pickup, delivery by delivery
 abbrev pub counterpart : Request → Request → ℕ → ℕ
 counterpart (Single s) (Single t) n = swapped s.number t.number n
 counterpart (Single s) (Pair c d) n = n
 counterpart (Pair a b) (Single t) n = n
 counterpart (Pair a b) (Pair c d) n = swapped a.number c.number (swapped b.number d.number n)
 
--- both can be moved, and each to the places of the other
+-- both requests can be moved, and each fits the places of the other
 abbrev pub are_exchangeable : List (List ℕ) → List (List ℕ) → Request → Request → Bool
 are_exchangeable pins routes r s = is_movable pins routes r && (is_movable pins routes s && have_same_form r s)
 
@@ -54,25 +55,25 @@ abbrev pub exchange_of : Instance → List (List ℕ) → List (List ℕ) → Re
 exchange_of p pins routes r s =
     if are_exchangeable pins routes r s then passing p pins (map (map (counterpart r s)) routes) else None
 
--- `exchange`: the stops of two requests that can be moved take one another's places
+-- `exchange`: two requests that can be moved take one another's places
 abbrev pub exchanged : Instance → List (List ℕ) → List (List ℕ) → ℕ → ℕ → Option (List (List ℕ))
 exchanged p pins routes a b =
     if a == b then None else option_and_then (λ r. option_and_then (λ s. exchange_of p pins routes r s) (request_named p b)) (request_named p a)
 
--- the vehicle is one, and behind so many stops its route can be cut: it has them, and its pin has no more
+-- the vehicle exists, and its route can be cut after c stops: the route has at least c, and its pin at most c
 abbrev pub is_cut : List (List ℕ) → List (List ℕ) → ℕ → ℕ → Bool
-is_cut pins routes v c = nat_le 1 v && (nat_le v (length routes) && (nat_le (length (of_vehicle pins v)) c && nat_le c (length (of_vehicle routes v))))
+is_cut pins routes v c = nat_le 1 v && (nat_le v (length routes) && (nat_le (length (route_of pins v)) c && nat_le c (length (route_of routes v))))
 
--- the first so many stops of one route, and then another route from behind its own cut on
+-- the first c stops of one route, followed by another route after its first d stops
 abbrev pub joined : List ℕ → ℕ → List ℕ → ℕ → List ℕ
 joined front c back d = take c front ++ drop d back
 
--- the plan whose vehicles a and b exchange what stands behind their cuts
+-- the plan in which vehicles a and b exchange the stops after their cuts
 abbrev pub with_ends_exchanged : List (List ℕ) → ℕ → ℕ → ℕ → ℕ → List (List ℕ)
 with_ends_exchanged routes a ca b cb =
-    with_route (with_route routes a (joined (of_vehicle routes a) ca (of_vehicle routes b) cb)) b (joined (of_vehicle routes b) cb (of_vehicle routes a) ca)
+    with_route (with_route routes a (joined (route_of routes a) ca (route_of routes b) cb)) b (joined (route_of routes b) cb (route_of routes a) ca)
 
--- `two_opt_star`: that plan, where the vehicles are two and each cut is one
+-- `two_opt_star`: the plan with the ends exchanged, if the vehicles differ and both cuts are valid
 abbrev pub crossed : Instance → List (List ℕ) → List (List ℕ) → ℕ → ℕ → ℕ → ℕ → Option (List (List ℕ))
 crossed p pins routes a ca b cb =
     if not (a == b) && (is_cut pins routes a ca && is_cut pins routes b cb) then passing p pins (with_ends_exchanged routes a ca b cb)

@@ -1,39 +1,40 @@
-//! A plan that is changed in its place: the base, and a draft made of it.
+//! A plan that is changed in place: the base plan, and a draft made from it.
 //!
-//! The draft is changed where it stands. What a vehicle had in the base is kept in a log, of each vehicle
-//! once: dropping the draft puts these routes and tables back, taking it forgets them. Its moves stand in the
-//! files of `draft/`. A removal takes two short lists of memory, of vehicles and of their tours, an exchange
-//! and a crossing a few. All that a move takes it takes before its first change, and the log has room for each
-//! vehicle from the start, so where memory is refused the draft is as it was.
+//! The log keeps the route and table that each changed vehicle had in the base, once per vehicle. Discarding
+//! the draft puts them back; accepting it clears the log. The moves are in the files of `draft/`. A removal
+//! allocates two short lists, of vehicles and of their tours; an exchange and a crossing allocate a few. A move
+//! allocates everything before its first change, and the log has room for every vehicle from the start. So if
+//! an allocation fails, the draft is unchanged.
 //!
-//! What is kept beside the routes, so that a step does not grow with the fleet:
-//! - the front: no vehicle behind the first so many has a stop. Best insertions look at these vehicles and at
-//!   one behind them, which stands for all idle ones. A request that opens a vehicle takes the first idle
-//!   one, so few vehicles before the front are empty;
-//! - the seat of each stop: 0 says that no route has it, which is an invariant; any other number is where to
-//!   look first, and what is found there is tested, so it may be stale;
-//! - the room of each vehicle: a single that asks for more fits nowhere into its route, so best insertions pass over full
-//!   vehicles without a look at their tables;
-//! - the cost: distances and used vehicles are carried from change to change by the routes that change, the
-//!   requests left out are counted on. A removal adds as many as there are names, where one that stands twice
-//!   counts once; one that is placed is one less.
+//! Besides the routes, the draft keeps the following data, so that the time of a step does not grow with the
+//! fleet:
+//! - `used_len`: the length of the used part of the plan. No vehicle after it has a stop. Best insertions look at
+//!   these vehicles and at the next one, which stands for all idle vehicles. A request that opens a vehicle
+//!   takes the first idle one, so few vehicles of the used part are empty;
+//! - `vehicle_hints`: by stop the vehicle to look at first. 0 says that no route has the stop, which is an invariant.
+//!   Any other number is a hint that may be stale, so it is checked;
+//! - `max_demands`: by vehicle the greatest demand that a single may have. A single with a greater demand fits
+//!   nowhere into the route, so best insertions skip full vehicles without reading their tables;
+//! - `cost`: a change updates the distance and the number of used vehicles from the routes that it replaces. A
+//!   removal adds the number of its names to the unplanned requests (a repeated name counts once); placing a
+//!   request subtracts one.
 //!
-//! Problem and pins are given in each call and tied to the draft by `IsDraftOf`, so the type borrows nothing.
+//! Each call takes the problem and the pins. `IsDraftOf` ties them to the draft, so the type borrows nothing.
 ghost use Rattle.std.specs.Prelude.{◌≡◌, ◌≤◌, ◌<◌, ◌-◌, ◌==◌, not, true, false, ℕ, List, [], Some, IfOk, MatchOption, IsTrue, length, slice_get, slice_set, slice_index_or, vec_capacity};
 ghost use Rattle.std.specs.List.{remove};
-ghost use Rattle.slack_tables.specs.Course.{Course, route_of, IsCourseIn};
+ghost use Rattle.slack_tables.specs.Course.{Course, course_route, IsCourseIn};
 ghost use Rattle.plan_types.specs.Instance.{Instance};
 ghost use Rattle.plan_audit.specs.Passes.{passes};
 ghost use Rattle.route_sched.specs.Cost.{cost_of, has_stop, is_planned};
-ghost use Rattle.move_ops.specs.Insertion.{of_vehicle};
+ghost use Rattle.move_ops.specs.Insertion.{route_of};
 ghost use Rattle.move_ops.specs.Moves.{is_movable};
 ghost use Rattle.move_ops.specs.Changes.{IsVehicleWith};
-ghost use Rattle.move_ops.specs.Choosing.{IsReach};
-ghost use Rattle.move_ops.specs.Drafts.{AreIdleBehind, Drafted, undone, draft_of, base_of, IsDraftOf};
-ghost use Rattle.move_ops.specs.Logged.{is_logged, IsEntry};
+ghost use Rattle.move_ops.specs.Choosing.{IsScanLen};
+ghost use Rattle.move_ops.specs.Drafts.{AreIdleAfter, DraftState, undone, draft_of, base_of, IsDraftOf};
+ghost use Rattle.move_ops.specs.UndoLog.{is_logged, IsEntry};
 ghost use Rattle.move_ops.specs.Refreshing.{AreWithin};
 
-mod foreseeing;
+mod costing;
 mod installing;
 mod placing;
 mod rearranging;
@@ -41,53 +42,54 @@ mod removing;
 
 use crate::laws::plans_pass_without_pins;
 use crate::lists::is_in;
-use crate::rooms::{rooms_of, set_room};
-use crate::seats::{marks, seat};
+use crate::max_demands::{max_demands_of, set_max_demand};
 use crate::tour::{Tour, swap};
-use crate::tours::{front_of, routes_of, seats_of, tours_of, vehicle_with};
-use plan_audit::passes_are_local;
+use crate::tours::{routes_of, tours_of, used_len_of, vehicle_hints_of, vehicle_with};
+use crate::vehicle_hints::{marks, set_hints};
+use plan_audit::passing_is_local;
 use plan_types::{Cost, OutOfMemory, Pins, Plan, Problem, Request};
 use route_sched::{has_stop, plan_cost};
 use slack_tables::RouteTable;
 use std::alloc::Global;
 use std::marker::Model;
 
-/// A plan that stands, the base, and one made of it by changes in its place, the draft. The draft is dropped or takes the base's place;
-/// neither takes memory. The moves change the draft.
+/// A base plan, and a draft made from it by changes in place. The moves change the draft, which is then
+/// discarded or becomes the base. Neither allocates.
 #[derive(Debug, Drop)]
 pub struct Draft {
     tours: Vec<Tour>,
-    // No vehicle behind the first so many has a stop.
-    front: usize,
-    // What vehicles had in the base that were changed since, none twice. There is room for all of them.
+    // No vehicle after the first `used_len` has a stop.
+    used_len: usize,
+    // The tours of the base for the vehicles that changed, each vehicle once. Its capacity suffices for all
+    // vehicles.
     log: Vec<(u32, Tour)>,
-    // Memory for tours and for a route.
+    // Spare memory for tours and for a route.
     spare: Vec<Tour>,
     room: Vec<u32>,
-    // By stop number: 0 where no route of the draft has it, else the vehicle where to look first.
-    seats: Vec<u32>,
-    // By stop number whether it is pinned.
+    // By stop number: 0 if no route of the draft has the stop, else the vehicle to look at first.
+    vehicle_hints: Vec<u32>,
+    // By stop number: whether the stop is pinned.
     pinned: Vec<bool>,
-    // By vehicle what a single may ask of it at most.
-    rooms: Vec<i64>,
+    // By vehicle: the greatest demand that a single may have.
+    max_demands: Vec<i64>,
     cost: Cost,
     base_cost: Cost,
 }
 
 impl Model for Draft {
     ghost use Rattle.move_ops.specs.Changes.{IsVehicleWith};
-    ghost use Rattle.move_ops.specs.Drafts.{Drafted};
-    ghost use Rattle.move_ops.specs.Kept.{drafted, IsKept};
+    ghost use Rattle.move_ops.specs.Drafts.{DraftState};
+    ghost use Rattle.move_ops.specs.DraftInvariant.{draft_state, IsDraftInvariant};
 
-    ghost Value = { Drafted };
+    ghost Value = { DraftState };
 
-    ghost view = { drafted };
+    ghost view = { draft_state };
 
-    ghost invariant = { IsKept };
+    ghost invariant = { IsDraftInvariant };
 }
 
 impl Draft {
-    /// The plan, which is the base and the draft.
+    /// Builds the tables of a plan. The plan is both the base and the draft.
     pub fn build(
         alloc: Global,
         problem: &Problem,
@@ -99,32 +101,32 @@ impl Draft {
         ensures base { IfOk result (λ d. base_of d ≡ plan.now.routes) }
         ensures draft { IfOk result (λ d. draft_of d ≡ plan.now.routes) }
     {
-        passes_are_local();
+        passing_is_local();
         plans_pass_without_pins();
         let len = problem.next_number as usize;
         let tours = tours_of(alloc, problem, plan.routes.as_slice())?;
         let log = Vec::with_capacity(alloc, tours.len())?;
-        let front = front_of(&tours, tours.len());
-        let seats = seats_of(alloc, &tours, len)?;
+        let used_len = used_len_of(&tours, tours.len());
+        let vehicle_hints = vehicle_hints_of(alloc, &tours, len)?;
         let pinned = marks(alloc, pins.routes.as_slice(), len)?;
-        let rooms = rooms_of(alloc, &tours)?;
+        let max_demands = max_demands_of(alloc, &tours)?;
         let cost = plan_cost(problem, plan);
         Ok(Draft {
             tours,
-            front,
+            used_len,
             log,
             spare: Vec::new(alloc),
             room: Vec::new(alloc),
-            seats,
+            vehicle_hints,
             pinned,
-            rooms,
+            max_demands,
             cost,
             base_cost: cost,
         })
     }
 
-    /// The draft takes the base's place. Takes no memory.
-    pub fn take(&mut self)
+    /// Makes the draft the new base. Does not allocate.
+    pub fn accept(&mut self)
         ensures base { base_of self.new ≡ draft_of self.old }
         ensures draft { draft_of self.new ≡ draft_of self.old }
         ensures is { (p : Instance) (pins : List (List ℕ)) → IsDraftOf p pins self.old
@@ -132,11 +134,11 @@ impl Draft {
     {
         clear_log(&mut self.log, &mut self.spare);
         self.base_cost = self.cost;
-        self.front = front_of(&self.tours, self.front);
+        self.used_len = used_len_of(&self.tours, self.used_len);
     }
 
-    /// The draft is the base again. Takes no memory.
-    pub fn drop_draft(&mut self)
+    /// Makes the draft the base again. Does not allocate.
+    pub fn discard(&mut self)
         ensures base { base_of self.new ≡ base_of self.old }
         ensures draft { draft_of self.new ≡ base_of self.old }
         ensures is { (p : Instance) (pins : List (List ℕ)) → IsDraftOf p pins self.old
@@ -149,7 +151,7 @@ impl Draft {
         self.cost = self.base_cost;
     }
 
-    /// A plan of the draft's routes.
+    /// Returns a plan with a copy of the draft's routes.
     pub fn plan(&self, alloc: Global) -> Result<Plan, OutOfMemory>
         ensures { IfOk result (λ plan. plan.routes ≡ draft_of self.now) }
     {
@@ -158,9 +160,10 @@ impl Draft {
         })
     }
 
-    /// The route of a vehicle in the draft; none where there is no such vehicle. Vehicles count from 1.
+    /// Returns the route of a vehicle in the draft, or an empty one if there is no such vehicle. Vehicles count
+    /// from 1.
     pub fn route(&self, vehicle: u64) -> &[u32]
-        ensures { result.now ≡ of_vehicle (draft_of self.now) vehicle }
+        ensures { result.now ≡ route_of (draft_of self.now) vehicle }
     {
         if vehicle == 0 {
             return &[];
@@ -172,39 +175,41 @@ impl Draft {
         self.tours[index].stops()
     }
 
-    /// The table of a vehicle's route in the draft. There has to be such a vehicle: they count from 1 to as many as the draft has.
+    /// Returns the table of a vehicle's route in the draft. Vehicles count from 1. The caller guarantees that
+    /// the vehicle exists.
     #[inline(always)]
     pub fn table(&self, vehicle: u64) -> &RouteTable
         requires from_one { 1 ≤ vehicle }
         requires within { vehicle ≤ length (draft_of self.now) }
-        ensures route { route_of result.now ≡ of_vehicle (draft_of self.now) vehicle }
+        ensures route { course_route result.now ≡ route_of (draft_of self.now) vehicle }
         ensures course { (p : Instance) (pins : List (List ℕ)) → IsDraftOf p pins self.now
             → IsCourseIn p result.now }
     {
         self.tours[(vehicle - 1) as usize].table()
     }
 
-    /// How many vehicles are to be asked for the stops of the draft: none behind them has any.
-    pub fn front(&self) -> u64
+    /// Returns the length of the used part of the draft: no vehicle after it has a stop.
+    pub fn used_len(&self) -> u64
         ensures within { result ≤ length (draft_of self.now) }
-        ensures idle { AreIdleBehind result (draft_of self.now) }
+        ensures idle { AreIdleAfter result (draft_of self.now) }
     {
-        self.front as u64
+        self.used_len as u64
     }
 
-    /// How many vehicles are to be asked for a best insertion: where one behind the front has no stops, it stands for all others there.
-    pub(crate) fn reach(&self) -> usize
+    /// Returns how many vehicles a best insertion looks at: the used part and, if there is one, the next
+    /// vehicle. That one has no stops and stands for all after it.
+    pub(crate) fn scan_len(&self) -> usize
         ensures within { result ≤ length self.now.tours }
-        ensures reach { IsReach (draft_of self.now) result }
+        ensures scan_len { IsScanLen (draft_of self.now) result }
     {
         let vehicles = self.tours.len();
-        if self.front < vehicles {
-            return self.front + 1;
+        if self.used_len < vehicles {
+            return self.used_len + 1;
         }
         vehicles
     }
 
-    /// Whether a stop of the request is in the draft, and none is pinned.
+    /// Returns whether a stop of the request is in the draft and none is pinned.
     pub fn is_movable(&self, problem: &Problem, pins: &Pins, request: &Request) -> bool
         requires { IsDraftOf problem.now pins.now.routes self.now }
         ensures { result ≡ is_movable pins.now.routes (draft_of self.now) request.now }
@@ -212,7 +217,7 @@ impl Draft {
         self.is_planned(request) && !self.is_pinned(problem, pins, request)
     }
 
-    /// Whether a stop of the request is pinned.
+    /// Returns whether a stop of the request is pinned.
     pub fn is_pinned(&self, problem: &Problem, pins: &Pins, request: &Request) -> bool
         requires { IsDraftOf problem.now pins.now.routes self.now }
         ensures { result ≡ is_planned pins.now.routes request.now }
@@ -237,7 +242,7 @@ impl Draft {
         has_stop(pins.routes.as_slice(), stop)
     }
 
-    /// Whether a stop of the request is in the draft.
+    /// Returns whether a stop of the request is in the draft.
     pub fn is_planned(&self, request: &Request) -> bool
         ensures { result ≡ is_planned (draft_of self.now) request.now }
     {
@@ -249,7 +254,7 @@ impl Draft {
         }
     }
 
-    /// Whether a route of the draft has the stop.
+    /// Returns whether a route of the draft has the stop.
     #[tactic(auto, using(crate::proofs::Gathering::has_by_vehicle))]
     pub fn has_stop(&self, stop: u32) -> bool
         ensures { result ≡ has_stop (draft_of self.now) stop }
@@ -257,12 +262,12 @@ impl Draft {
         self.vehicle_of(stop) != 0
     }
 
-    /// The vehicle whose route has the stop, or 0 where none has it.
+    /// Returns the vehicle whose route has the stop, or 0 if none has it.
     pub(crate) fn vehicle_of(&self, stop: u32) -> u64
         ensures { IsVehicleWith (draft_of self.now) stop result }
     {
-        if (stop as usize) < self.seats.len() {
-            let vehicle = u64::from(self.seats[stop as usize]);
+        if (stop as usize) < self.vehicle_hints.len() {
+            let vehicle = u64::from(self.vehicle_hints[stop as usize]);
             if vehicle == 0 {
                 return 0;
             }
@@ -273,7 +278,7 @@ impl Draft {
         vehicle_with(&self.tours, stop)
     }
 
-    /// What the draft costs.
+    /// Returns the cost of the draft.
     pub fn cost(&self, problem: &Problem, pins: &Pins) -> Cost
         requires { IsDraftOf problem.now pins.now.routes self.now }
         ensures { result ≡ cost_of problem.now (draft_of self.now) }
@@ -281,22 +286,22 @@ impl Draft {
         self.cost
     }
 
-    /// Whether the draft is known to be the base, without a look at either: so it is where nothing was changed since. One that was
-    /// changed and changed back isn't known to be.
+    /// Returns whether the draft is known to be the base, without comparing the two. Returns `true` if nothing
+    /// was changed since; after a change and its reversal it may return `false`.
     pub fn is_base(&self) -> bool
         ensures { IsTrue result → draft_of self.now ≡ base_of self.now }
     {
         !self.is_changed()
     }
 
-    // Whether the draft was changed since it was the base.
+    // Returns whether the draft was changed since it was the base.
     fn is_changed(&self) -> bool
         ensures { result ≡ not (length self.now.log == 0) }
     {
         !self.log.is_empty()
     }
 
-    // Gives the vehicle another route. Takes no memory, as the log has room for each vehicle.
+    // Replaces the tour of a vehicle. Does not allocate, since the log has room for each vehicle.
     fn set_tour(&mut self, vehicle: u32, tour: Tour)
         requires from_one { 1 ≤ vehicle }
         requires within { vehicle ≤ length self.old.tours }
@@ -307,10 +312,10 @@ impl Draft {
         ensures base_cost { self.new.base_cost ≡ self.old.base_cost }
     {
         let is_first = self.entry_of(vehicle).is_none();
-        seat(&mut self.seats, tour.stops(), vehicle);
-        set_room(&mut self.rooms, vehicle, &tour);
+        set_hints(&mut self.vehicle_hints, tour.stops(), vehicle);
+        set_max_demand(&mut self.max_demands, vehicle, &tour);
         let old = swap(&mut self.tours, (vehicle - 1) as usize, tour);
-        self.front = front_with(self.front, vehicle);
+        self.used_len = used_len_with(self.used_len, vehicle);
         if is_first {
             self.log.push_reserved((vehicle, old));
         } else {
@@ -318,7 +323,7 @@ impl Draft {
         }
     }
 
-    // The place in the log of what a vehicle had in the base, where it was changed since.
+    // Returns the index of the vehicle's entry in the log, if it was changed since the base.
     fn entry_of(&self, vehicle: u32) -> Option<usize>
         ensures { MatchOption result (is_logged self.now.log vehicle ≡ false)
             (λ entry. IsEntry self.now.log vehicle entry) }
@@ -331,7 +336,7 @@ impl Draft {
         None
     }
 
-    // Gives the vehicle of an entry of the log what it had in the base.
+    // Restores the tour of the base for the vehicle of a log entry.
     fn undo(&mut self, entry: usize)
         requires { entry < length self.old.log }
         ensures tours { (e : ℕ × Course) → slice_get self.old.log entry ≡ Some e
@@ -342,17 +347,17 @@ impl Draft {
         ensures cost { self.new.cost ≡ self.old.cost }
         ensures base_cost { self.new.base_cost ≡ self.old.base_cost }
     {
-        let (vehicle, tour) = take_entry(&mut self.log, entry);
-        seat(&mut self.seats, tour.stops(), vehicle);
-        set_room(&mut self.rooms, vehicle, &tour);
+        let (vehicle, tour) = remove_entry(&mut self.log, entry);
+        set_hints(&mut self.vehicle_hints, tour.stops(), vehicle);
+        set_max_demand(&mut self.max_demands, vehicle, &tour);
         let tried = swap(&mut self.tours, (vehicle - 1) as usize, tour);
-        self.front = front_with(self.front, vehicle);
+        self.used_len = used_len_with(self.used_len, vehicle);
         keep(&mut self.spare, tried);
     }
 }
 
-// Takes an entry out of a log.
-fn take_entry(log: &mut Vec<(u32, Tour)>, entry: usize) -> (u32, Tour)
+// Removes an entry from a log.
+fn remove_entry(log: &mut Vec<(u32, Tour)>, entry: usize) -> (u32, Tour)
     requires { entry < length log.old.items }
     ensures at { slice_get log.old.items entry ≡ Some result }
     ensures rest { log.new.items ≡ remove log.old.items entry }
@@ -364,7 +369,7 @@ fn take_entry(log: &mut Vec<(u32, Tour)>, entry: usize) -> (u32, Tour)
     log.remove(entry)
 }
 
-// Forgets all entries of a log, and keeps the memory of their tours, where there is room for it.
+// Clears a log and keeps the memory of its tours as far as there is room.
 fn clear_log(log: &mut Vec<(u32, Tour)>, spare: &mut Vec<Tour>)
     ensures none { log.new.items ≡ [] }
     ensures room { vec_capacity log.new ≡ vec_capacity log.old }
@@ -374,20 +379,20 @@ fn clear_log(log: &mut Vec<(u32, Tour)>, spare: &mut Vec<Tour>)
     }
 }
 
-// The front, where this vehicle has another route.
-fn front_with(front: usize, vehicle: u32) -> usize
-    ensures front { front ≤ result }
+// Returns the length of the used part when this vehicle has another route.
+fn used_len_with(used_len: usize, vehicle: u32) -> usize
+    ensures used_len { used_len ≤ result }
     ensures vehicle { vehicle ≤ result }
-    ensures least { (n : ℕ) → front ≤ n → vehicle ≤ n → result ≤ n }
+    ensures least { (n : ℕ) → used_len ≤ n → vehicle ≤ n → result ≤ n }
 {
     let vehicle = vehicle as usize;
-    if front < vehicle {
+    if used_len < vehicle {
         return vehicle;
     }
-    front
+    used_len
 }
 
-// Keeps the memory of a tour, where there is room for it.
+// Keeps the memory of a tour if there is room for it.
 fn keep(spare: &mut Vec<Tour>, tour: Tour) {
     spare.push(tour).ok();
 }

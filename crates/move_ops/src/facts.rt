@@ -1,9 +1,10 @@
-//! A fact of a value that is known where a field of it is read, for callers that only hand the value on.
+//! An invariant of a value, for callers that only pass the value on. A function that reads a field of the value
+//! knows the invariant anyway.
 ghost use Rattle.plan_types.specs.Instance.{IsInstance};
 
 use plan_types::Problem;
 
-/// The problem keeps its limits.
+/// States that the problem keeps its limits.
 pub(crate) fn problem_keeps_limits(problem: &Problem)
     ensures { IsInstance problem.now }
 {

@@ -1,11 +1,11 @@
-//! The stops of a route with a request put in. A single has one place (j = i), a pair two (i < j); a place of
-//! the other form is no insertion.
+//! The stops of a route with a request inserted. A single has one place (j = i), a pair two (i < j). Places in
+//! any other order are not an insertion.
 ghost use Rattle.std.specs.Prelude.{◌≡◌, ◌≤◌, ◌^◌, true, length, OnOk};
 ghost use Rattle.move_ops.specs.Insertion.{inserted, are_places};
 
 use plan_types::{OutOfMemory, Request};
 
-/// Whether these are places of the request behind the first `kept` stops of a route of so many stops.
+/// Returns whether the request can have these places in a route of `stops` stops, after the first `kept`.
 pub(crate) fn are_places(
     request: &Request,
     kept: u64,
@@ -22,8 +22,8 @@ pub(crate) fn are_places(
     }
 }
 
-/// Makes a list the route with the request put in.
-pub(crate) fn put_into(
+/// Fills a list with the stops of the route and the inserted request.
+pub(crate) fn insert_into(
     new: &mut Vec<u32>,
     request: &Request,
     pickup: u64,

@@ -1,96 +1,105 @@
-//! What the best insertion is: the least by a test that compares costs and then places. The list of insertions rises, but
-//! nothing rests on that. A request that is taken out has one, since it fits where it was.
+//! Laws of the best insertion. It is the first one by a test that compares costs and then places. A removed
+//! request always has one, since it fits where it was.
 ghost use Rattle.move_ops.specs.Choosing.{InsertionLaws};
 ghost use Rattle.move_ops.specs.Savings.{PlacementsSaveLittle};
-ghost use Rattle.move_ops.specs.Laws.{BestInsertionsAreLeast, BestInsertionsAreUnique, InsertionsCanBePutIn, LimitsAreRules, PlansPassWithoutPins, RelocationsNeverCostMore, RequestsKeepTheirPlaces};
+ghost use Rattle.move_ops.specs.Laws.{BestInsertionsAreLeast, BestInsertionsAreUnique, InsertionsAreFeasible, LimitsAreRules, PlansPassWithoutPins, RelocationsNeverCostMore, RequestsKeepTheirPlaces};
 
 use nint_dist::detours_save_at_most_one;
-use plan_audit::{a_passing_plan_is_sound, passes_are_local, tests_say_feasible, tests_say_pass};
+use plan_audit::{
+    a_passing_plan_is_sound, feasible_alone_decides_feasibility, passes_decides_the_verdict,
+    passing_is_local,
+};
 use plan_types::{
-    costs_are_in_order, costs_compare_part_by_part, numbers_are_below_the_next,
-    requests_are_found_by_stop, requests_stand_by_name,
+    costs_are_totally_ordered, costs_compare_lexicographically, numbers_are_below_next_number,
+    requests_are_found_by_stop, requests_are_stored_by_name,
 };
 
-/// The best insertion of a request is one of its insertions, and no other costs less, or as much at an earlier vehicle, pickup place or
-/// delivery place. There is none exactly where the request has no insertion.
+/// States that the best insertion of a request is one of its insertions. No other costs less, and none of equal
+/// cost has an earlier vehicle, pickup place or delivery place, compared in this order. There is none exactly
+/// when the request has no insertion.
 pub fn best_insertions_are_least()
     ensures { BestInsertionsAreLeast }
 {
-    costs_are_in_order();
+    costs_are_totally_ordered();
 }
 
-/// Only one insertion is the best.
+/// States that a request has only one best insertion.
 pub fn best_insertions_are_unique()
     ensures { BestInsertionsAreUnique }
 {
-    costs_are_in_order();
+    costs_are_totally_ordered();
 }
 
-/// The insertions of a request are the places at which it can be put in, so that the result passes, and no others.
-pub fn insertions_can_be_put_in()
-    ensures { InsertionsCanBePutIn }
+/// States that the insertions of a request are exactly the places at which it can be inserted so that the
+/// result passes.
+pub fn insertions_are_feasible()
+    ensures { InsertionsAreFeasible }
 {}
 
-/// A request that is taken out of a plan that passes can be put in where it was, which gives the old plan.
+/// States that a request removed from a plan that passes can be inserted at its old place again, which restores
+/// the old plan.
 pub fn requests_keep_their_places()
     ensures { RequestsKeepTheirPlaces }
 {
     requests_are_found_by_stop();
-    requests_stand_by_name();
-    passes_are_local();
+    requests_are_stored_by_name();
+    passing_is_local();
     a_passing_plan_is_sound();
-    tests_say_pass();
+    passes_decides_the_verdict();
 }
 
-/// So it has a best insertion, at which `Draft::place` puts it, and the plan then costs no more than before.
+/// States that a request removed from a plan that passes has a best insertion. If `Draft::place` inserts the
+/// request, the plan costs no more than before.
 pub fn relocations_never_cost_more()
     ensures { RelocationsNeverCostMore }
 {
     requests_are_found_by_stop();
-    requests_stand_by_name();
-    passes_are_local();
+    requests_are_stored_by_name();
+    passing_is_local();
     a_passing_plan_is_sound();
-    tests_say_pass();
+    passes_decides_the_verdict();
     best_insertions_are_least();
-    costs_are_in_order();
+    costs_are_totally_ordered();
 }
 
-/// A request that is put in where it is best leaves one request fewer out at most, uses no vehicle fewer, and saves 1 of the distance at
-/// most for each of its stops. So of a plan that wants more requests it is known what it costs at least once they are in.
+/// States that inserting a request at its best place leaves at most one request fewer unplanned, uses no fewer
+/// vehicles, and saves at most a distance of 1 for each of its stops. This gives a lower bound of a plan's cost
+/// after more requests are inserted.
 pub fn placements_save_little()
     ensures { PlacementsSaveLittle }
 {
     requests_are_found_by_stop();
-    requests_stand_by_name();
-    passes_are_local();
-    tests_say_feasible();
-    numbers_are_below_the_next();
+    requests_are_stored_by_name();
+    passing_is_local();
+    feasible_alone_decides_feasibility();
+    numbers_are_below_next_number();
     detours_save_at_most_one();
 }
 
-/// A plan that passes with its pins passes with none.
+/// States that a plan that passes with its pins passes without pins.
 pub fn plans_pass_without_pins()
     ensures { PlansPassWithoutPins }
 {
-    passes_are_local();
+    passing_is_local();
 }
 
-/// A route keeps the limits of load and time, of which tables are built, exactly where it breaks none of the auditor's rules on them as
-/// the only route: no load above the capacity, no service after its latest time, and the vehicle back by the depot's.
+/// States that the limits that tables check are the auditor's rules on load and time. A route keeps them
+/// exactly when it breaks none of these rules as the only route: no load above the capacity, no service after
+/// its latest time, and the vehicle back by the depot's.
 pub fn limits_are_rules()
     ensures { LimitsAreRules }
 {}
 
-/// The laws by which insertions are told apart, as one.
+/// States the laws that compare insertions, in one record.
 pub(crate) fn insertion_laws()
     ensures { InsertionLaws }
 {
     requests_are_found_by_stop();
-    requests_stand_by_name();
-    passes_are_local();
-    tests_say_feasible();
-    costs_compare_part_by_part();
-    costs_are_in_order();
+    requests_are_stored_by_name();
+    passing_is_local();
+    feasible_alone_decides_feasibility();
+    costs_compare_lexicographically();
+    costs_are_totally_ordered();
     best_insertions_are_least();
     best_insertions_are_unique();
 }

@@ -1,13 +1,13 @@
 //! Routes and pins of vehicles.
 ghost use Rattle.std.specs.Prelude.{◌≡◌};
 ghost use Rattle.plan_audit.specs.Passes.{has};
-ghost use Rattle.move_ops.specs.Insertion.{of_vehicle};
+ghost use Rattle.move_ops.specs.Insertion.{route_of};
 
 use plan_types::Route;
 
-/// What this vehicle has, its route or its pin; nothing where there is no such vehicle.
-pub fn of_vehicle(lists: &[Route], vehicle: u64) -> &[u32]
-    ensures { result.now ≡ of_vehicle lists.now vehicle }
+/// Returns the route or the pin of this vehicle, or an empty list if there is no such vehicle.
+pub fn route_of(lists: &[Route], vehicle: u64) -> &[u32]
+    ensures { result.now ≡ route_of lists.now vehicle }
 {
     if vehicle == 0 {
         return &[];
@@ -18,7 +18,7 @@ pub fn of_vehicle(lists: &[Route], vehicle: u64) -> &[u32]
     }
 }
 
-/// Whether the list has the number.
+/// Returns whether the list has the number.
 pub(crate) fn is_in(list: &[u32], number: u32) -> bool
     ensures { result ≡ has list.now number }
 {

@@ -1,16 +1,16 @@
-//! The request of a name, by the table of stops: a name is the number of its request's first stop, and a look-up there is one read of memory
-//! where the map of names takes a hash.
+//! The request of a name, found in the table of stops. A name is the number of its request's first stop. This
+//! look-up is one memory access; the map of names needs a hash.
 ghost use Rattle.std.specs.Prelude.{◌≡◌};
 ghost use Rattle.move_ops.specs.Insertion.{request_named};
 
-use plan_types::{Problem, Request, requests_are_found_by_stop, requests_stand_by_name};
+use plan_types::{Problem, Request, requests_are_found_by_stop, requests_are_stored_by_name};
 
-/// The live request of this name.
+/// Returns the current request with this name.
 pub fn request_named(problem: &Problem, name: u32) -> Option<Request>
     ensures { result ≡ request_named problem.now name }
 {
     requests_are_found_by_stop();
-    requests_stand_by_name();
+    requests_are_stored_by_name();
     let Some(own) = problem.name_of(name) else {
         return None;
     };

@@ -1,4 +1,4 @@
-//! Whether a route has the pairs of its stops whole, each pickup before its delivery.
+//! A check that a route has whole pairs, each pickup before its delivery.
 ghost use Rattle.std.specs.Prelude.{◌≡◌, not, true, false};
 ghost use Rattle.std.specs.Option.{option_map_or};
 ghost use Rattle.plan_types.specs.Instance.{partner_at, pickup_at};
@@ -8,7 +8,7 @@ ghost use Rattle.move_ops.specs.Pairing.{are_paired};
 use crate::lists::is_in;
 use plan_types::Problem;
 
-/// Whether each pair of the route is whole, its pickup before its delivery.
+/// Returns whether each pair of the route is whole, with its pickup before its delivery.
 pub(crate) fn are_paired(problem: &Problem, route: &[u32]) -> bool
     ensures { result ≡ are_paired problem.now route.now }
 {
@@ -26,7 +26,7 @@ fn has_whole_pairs(problem: &Problem, route: &[u32]) -> bool
     true
 }
 
-// Whether the other stop of the stop's pair, if it has one, is in the route.
+// Returns whether the route has the other stop of the stop's pair, if there is a pair.
 fn has_partner(problem: &Problem, route: &[u32], stop: u32) -> bool
     ensures { result ≡ option_map_or (has route.now) (partner_at problem.now stop) true }
 {
@@ -40,16 +40,16 @@ fn picks_up_first(problem: &Problem, route: &[u32]) -> bool
     ensures { result ≡ picks_up_first problem.now route.now }
 {
     let mut left = route;
-    while let [stop, behind @ ..] = left {
-        if has_pickup(problem, behind, *stop) {
+    while let [stop, following @ ..] = left {
+        if has_pickup(problem, following, *stop) {
             return false;
         }
-        left = behind;
+        left = following;
     }
     true
 }
 
-// Whether these stops have the pickup of a delivery.
+// Returns whether these stops have the pickup of a delivery.
 fn has_pickup(problem: &Problem, stops: &[u32], delivery: u32) -> bool
     ensures { result ≡ option_map_or (has stops.now) (pickup_at problem.now delivery) false }
 {

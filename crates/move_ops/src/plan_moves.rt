@@ -1,19 +1,21 @@
-//! The moves from plan to plan. Each makes a draft of the plan, which takes memory for a table of each route;
-//! who makes several moves keeps a `Draft`.
+//! The moves from plan to plan. Each builds a draft of the plan, which allocates a table for each route. For
+//! several moves keep a `Draft`.
 ghost use Rattle.std.specs.Prelude.{◌≡◌, true, Some, None, IfOk, if◌then◌else◌};
 ghost use Rattle.std.specs.Option.{option_map};
 ghost use Rattle.plan_audit.specs.Passes.{passes};
 ghost use Rattle.move_ops.specs.Drafts.{draft_of};
-ghost use Rattle.move_ops.specs.Insertion.{best_insertion, put_in};
+ghost use Rattle.move_ops.specs.Insertion.{best_insertion, inserted_at};
 ghost use Rattle.move_ops.specs.Moves.{removed, exchanged, crossed};
 
 use crate::draft::Draft;
 use plan_types::{OutOfMemory, Pins, Plan, Problem};
 use std::alloc::Global;
 
-/// Puts a request into the route of vehicle `v`: the pickup then stands at place `i`, the delivery at place `j`, `i < j`; a single stop
-/// has `j = i`. Vehicles and places count from 1. None where the name is of no live and unplanned request, these are no such places
-/// behind the pin of `v`, or the result does not pass.
+/// Inserts a request into the route of vehicle `v`. In the new route the pickup is at place `i` and the delivery
+/// at place `j`, with `i < j`; a single has `j = i`. Vehicles and places count from 1.
+///
+/// Returns `None` if the name is not of a current, unplanned request, if these are no places after the pin of
+/// `v`, or if the result does not pass.
 pub fn insert_at(
     alloc: Global,
     problem: &Problem,
@@ -24,16 +26,18 @@ pub fn insert_at(
 ) -> Result<Option<Plan>, OutOfMemory>
     requires { passes problem.now pins.now.routes plan.now.routes ≡ true }
     ensures { IfOk result (λ o. option_map (λ new. new.routes) o
-        ≡ put_in problem.now pins.now.routes plan.now.routes name insertion) }
+        ≡ inserted_at problem.now pins.now.routes plan.now.routes name insertion) }
 {
     let mut draft = Draft::build(alloc, problem, pins, plan)?;
     let made = draft.insert(problem, pins, name, insertion)?;
-    plan_where(alloc, &draft, made)
+    plan_if(alloc, &draft, made)
 }
 
-/// The vehicle, the pickup's place and the delivery's place at which a request can be put into the plan, so that the result passes and
-/// costs the least; of those that cost the same the earliest by vehicle, then by the pickup's place, then by the delivery's. All count
-/// from 1, and a single has its place twice. None where there is no such place, or the name is of no live and unplanned request.
+/// Returns the best insertion of a request into the plan: the vehicle, the pickup's place and the delivery's
+/// place for which the result passes and costs the least. Of equal costs it is the first by vehicle, then by
+/// pickup place, then by delivery place. All count from 1, and a single has its place twice.
+///
+/// Returns `None` if the request has no insertion, or if the name is not of a current, unplanned request.
 pub fn best_insertion(
     alloc: Global,
     problem: &Problem,
@@ -52,8 +56,11 @@ pub fn best_insertion(
     Ok(draft.best(problem, pins, request))
 }
 
-/// Takes these requests out of the plan, all at once. A name that stands twice counts once, and without names the plan stays as it is.
-/// None where one of the names is of no live and planned request, or of one with a pinned stop, or the result does not pass.
+/// Removes these requests from the plan, all at once. A repeated name counts once; without names the plan stays
+/// as it is.
+///
+/// Returns `None` if one of the names is not of a current, planned request, if one of the requests has a pinned
+/// stop, or if the result does not pass.
 pub fn remove(
     alloc: Global,
     problem: &Problem,
@@ -67,12 +74,14 @@ pub fn remove(
 {
     let mut draft = Draft::build(alloc, problem, pins, plan)?;
     let made = draft.remove(problem, pins, names)?;
-    plan_where(alloc, &draft, made)
+    plan_if(alloc, &draft, made)
 }
 
-/// Lets two requests take one another's places: a pickup stands where the other's pickup stood, and a delivery where the other's
-/// delivery stood. None where the names are one, one of them is of no live and planned request or of one with a pinned stop, one request
-/// is a single stop and the other a pair, or the result does not pass.
+/// Exchanges two requests: each pickup takes the place of the other's pickup, each delivery that of the other's
+/// delivery.
+///
+/// Returns `None` if the names are equal, if one of them is not of a current, planned request, if one of the
+/// requests has a pinned stop, if one is a single and the other a pair, or if the result does not pass.
 pub fn exchange(
     alloc: Global,
     problem: &Problem,
@@ -87,12 +96,14 @@ pub fn exchange(
 {
     let mut draft = Draft::build(alloc, problem, pins, plan)?;
     let made = draft.exchange(problem, pins, a, b)?;
-    plan_where(alloc, &draft, made)
+    plan_if(alloc, &draft, made)
 }
 
-/// Lets two vehicles exchange the ends of their routes: the route of `a` becomes its first `a_cut` stops and then the route of `b` from
-/// behind its first `b_cut` stops on, and the other way round. Vehicles count from 1. None where the vehicles are not two, a cut is less
-/// than its pin's length or more than its route's, or the result does not pass.
+/// Exchanges the ends of two routes. The route of `a` becomes its first `a_cut` stops followed by the route of
+/// `b` after its first `b_cut` stops, and the other way round. Vehicles count from 1.
+///
+/// Returns `None` if the vehicles are not two different ones, if a cut is less than the length of the pin or
+/// more than that of the route, or if the result does not pass.
 pub fn two_opt_star(
     alloc: Global,
     problem: &Problem,
@@ -109,11 +120,11 @@ pub fn two_opt_star(
 {
     let mut draft = Draft::build(alloc, problem, pins, plan)?;
     let made = draft.cross(problem, pins, a, a_cut, b, b_cut)?;
-    plan_where(alloc, &draft, made)
+    plan_if(alloc, &draft, made)
 }
 
-// The plan of a draft where a move was made.
-fn plan_where(alloc: Global, draft: &Draft, made: bool) -> Result<Option<Plan>, OutOfMemory>
+// Returns the plan of a draft if a move was made.
+fn plan_if(alloc: Global, draft: &Draft, made: bool) -> Result<Option<Plan>, OutOfMemory>
     ensures { IfOk result (λ o. option_map (λ new. new.routes) o
         ≡ (if made then Some (draft_of draft.now) else None)) }
 {

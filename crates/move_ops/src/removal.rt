@@ -1,11 +1,11 @@
-//! The stops of a route without some requests.
+//! The stops of a route after some requests are removed.
 ghost use Rattle.std.specs.Prelude.{◌≡◌, ◌%◌, ℕ, true, false, not, filter, length, slice_index_or, OnOk};
 ghost use Rattle.plan_audit.specs.Passes.{has};
 ghost use Rattle.move_ops.specs.Moves.{is_of_named};
 
 use plan_types::{OutOfMemory, Problem};
 
-/// Makes a list the stops of other requests.
+/// Fills a list with the stops of a route, except those of the named requests.
 pub(crate) fn keep_others(
     kept: &mut Vec<u32>,
     problem: &Problem,
@@ -26,10 +26,10 @@ pub(crate) fn keep_others(
     Ok(())
 }
 
-// So many marks stand for all names, each for those that leave the same rest.
+// The number of marks. Names with the same remainder modulo this number share one.
 const MARKS: usize = 64;
 
-// Which rests the names leave.
+// Returns the marks of the names: for each remainder, whether a name has it.
 fn marks_of(names: &[u32]) -> [bool; MARKS]
     ensures len { length result ≡ MARKS }
     ensures marks { (n : ℕ) → has names.now n ≡ true
@@ -42,7 +42,8 @@ fn marks_of(names: &[u32]) -> [bool; MARKS]
     marks
 }
 
-// Whether the stop is of one of the named requests. Most are of none, which a mark tells without a look at the names.
+// Returns whether the stop is of one of the named requests. Most stops are not, and then the mark says so
+// without a search in `names`.
 fn is_of_named(problem: &Problem, names: &[u32], marks: &[bool; MARKS], stop: u32) -> bool
     requires len { length marks.now ≡ MARKS }
     requires marks { (n : ℕ) → has names.now n ≡ true

@@ -1,14 +1,14 @@
-//! What a request that is put in can save: a plan without it is known to cost little less in the end.
+//! The greatest saving by an inserted request. It gives a lower bound of the cost of a plan with the request.
 ghost use Rattle.std.specs.Prelude.{◌≡◌};
-ghost use Rattle.move_ops.specs.Savings.{most_saved};
+ghost use Rattle.move_ops.specs.Savings.{max_saving};
 
 use crate::naming::request_named;
 use plan_types::{Problem, Request};
 
-/// How much of the distance the request of this name can save at most where it is put in, by distances that are rounded; 0 where no live
-/// request has the name.
-pub fn most_saved(problem: &Problem, name: u32) -> u64
-    ensures { result ≡ most_saved problem.now name }
+/// Returns how much of the distance the request with this name can save at most when it is inserted: distances
+/// are rounded, so a detour may be shorter than the straight leg. Returns 0 if no current request has the name.
+pub fn max_saving(problem: &Problem, name: u32) -> u64
+    ensures { result ≡ max_saving problem.now name }
 {
     match request_named(problem, name) {
         Some(Request::Single(_)) => 1,

@@ -1,11 +1,11 @@
-//! The stops of a route where two requests take one another's places.
+//! The stops of a route after two requests are exchanged.
 ghost use Rattle.std.specs.Prelude.{◌≡◌, map, IfOk};
 ghost use Rattle.move_ops.specs.Moves.{have_same_form, swapped, counterpart};
 
 use plan_types::{OutOfMemory, Request, Route};
 use std::alloc::Global;
 
-/// Whether both are single stops, or both pairs.
+/// Returns whether both are singles or both are pairs.
 pub(crate) fn have_same_form(first: &Request, second: &Request) -> bool
     ensures { result ≡ have_same_form first.now second.now }
 {
@@ -17,7 +17,7 @@ pub(crate) fn have_same_form(first: &Request, second: &Request) -> bool
     }
 }
 
-/// The route with each stop of either request where that of the other was.
+/// Returns the route with each stop of one request replaced by that of the other.
 pub(crate) fn counterparts(
     alloc: Global,
     route: &[u32],
@@ -33,7 +33,7 @@ pub(crate) fn counterparts(
     Ok(new)
 }
 
-// The stop that stands in this one's place.
+// Returns the stop that takes this one's place.
 fn counterpart(first: &Request, second: &Request, stop: u32) -> u32
     ensures { result ≡ counterpart first.now second.now stop }
 {

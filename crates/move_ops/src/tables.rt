@@ -1,36 +1,37 @@
-//! Where a request is put into a plan best, by a table for each vehicle.
+//! The best insertion of a request into a plan, by a table for each vehicle.
 //!
-//! Vehicle after vehicle is asked for a place that is better than the best so far. Costs are compared by
-//! whether a vehicle more is used, then by the distance added, then by vehicle and places. Vehicles that a draft
-//! has changed are asked first, since what was taken out of them mostly fits there best: behind them most others
-//! are ruled out. So at a vehicle before that of the best so far an equal distance is better, too.
+//! The search goes from vehicle to vehicle and keeps the best insertion so far. It compares costs by whether a
+//! vehicle is opened, then by the added distance, then by vehicle and places. The vehicles that a draft has
+//! changed are looked at first: a removed request mostly fits best where it was, and then most other vehicles
+//! are ruled out. Since they come out of order, an equal distance at a vehicle with a lower number is better,
+//! too.
 //!
-//! A limit stands where the best so far will, before there is one: what doesn't cost less is none. As it is compared
-//! in the same way, what is left is a front of all insertions by their order, so what is found is the best of all.
+//! Before the first insertion is found, a limit takes its place: an insertion that does not cost less is
+//! ignored. The limit is compared in the same way, so what is found is the best of all insertions.
 //!
-//! Tables need a plan that passes with no pins, so `build` and `refresh` are given none; the law
-//! `plans_pass_without_pins` leads there from a plan that passes with its own.
+//! Tables need a plan that passes with no pins, so `build` and `refresh` take none. The law
+//! `plans_pass_without_pins` shows that a plan which passes with its own pins is such a plan.
 ghost use Rattle.std.specs.Prelude.{◌≡◌, ◌+◌, ◌<ℤ◌, pos, true, false, [], map, Some, IfOk, IsSome, length};
 ghost use Rattle.std.specs.Option.{option_map};
 ghost use Rattle.plan_types.specs.Instance.{IsInstance};
 ghost use Rattle.plan_types.specs.Request.{request_name};
-ghost use Rattle.slack_tables.specs.Course.{route_of};
-ghost use Rattle.slack_tables.specs.RequestFloors.{AreWays};
-ghost use Rattle.move_ops.specs.Insertion.{request_named, of_vehicle, best_insertion};
+ghost use Rattle.slack_tables.specs.Course.{course_route};
+ghost use Rattle.slack_tables.specs.RequestFloors.{AreDistances};
+ghost use Rattle.move_ops.specs.Insertion.{request_named, route_of, best_insertion};
 ghost use Rattle.plan_audit.specs.Passes.{passes};
 ghost use Rattle.move_ops.specs.Refreshing.{fresh_of, AreWithin};
 ghost use Rattle.move_ops.specs.Tables.{plan_of, AreVehicles};
-ghost use Rattle.move_ops.specs.Choosing.{opens, bound_of, bound_over, place_found, IsAsked, IsAskedOver, IsBestAmongThese, IsBestWithin, IsLookable, IsLookedAt, IsLoose, bound_beside, IsBetter, IsEntryOf, IsNamed, IsShort};
+ghost use Rattle.move_ops.specs.Choosing.{opens, bound_of, bound_over, candidate_place, IsQuery, IsQueryOver, IsBestAmongThese, IsBestWithin, IsScannable, IsScanned, IsLooseBound, bound_against, IsBetter, IsEntryOf, IsEntryWithStops, IsBelowMaximum};
 
 use crate::facts::problem_keeps_limits;
 use crate::laws::insertion_laws;
-use crate::lists::of_vehicle;
-use crate::rooms::is_full;
+use crate::lists::route_of;
+use crate::max_demands::is_full;
 use crate::tour::Tour;
 use crate::tours::tours_of;
-use plan_audit::{passes_are_local, plans_are_local, tests_say_feasible};
+use plan_audit::{feasible_alone_decides_feasibility, passing_is_local, plans_are_disjoint_routes};
 use plan_types::{Kind, OutOfMemory, Pins, Plan, Problem, Request, Route};
-use slack_tables::{Addition, RequestWays};
+use slack_tables::{PricedInsertion, RequestDistances};
 use std::alloc::Global;
 use std::marker::Model;
 
@@ -49,57 +50,58 @@ impl Model for Tables {
     ghost view = { λ t. t.tables.items };
 }
 
-// The best insertion so far, and whether it uses one vehicle more.
+// The best insertion so far, and whether it opens a vehicle.
 #[derive(Clone, Copy)]
-struct Found {
+struct Candidate {
     vehicle: u64,
     opens: bool,
-    addition: Addition,
+    addition: PricedInsertion,
 }
 
-impl Found {
-    // The vehicle, the place of the pickup and that of the delivery.
+impl Candidate {
+    // Returns the vehicle, the pickup's place and the delivery's place.
     fn place(&self) -> (u64, u64, u64)
-        ensures { result ≡ place_found self.now }
+        ensures { result ≡ candidate_place self.now }
     {
         (self.vehicle, self.addition.pickup, self.addition.delivery)
     }
 }
 
-/// What an insertion has to cost less than: one that uses one vehicle more or not, and adds so much to the distance.
+/// The cost that an insertion must be below: opening a vehicle or not (`opens`), and adding `below` to the
+/// distance.
 #[derive(Clone, Copy)]
 pub(crate) struct Limit {
     pub opens: bool,
     pub below: i64,
 }
 
-/// Each insertion costs less.
+/// No limit: every insertion costs less.
 pub(crate) const NO_LIMIT: Limit = Limit {
     opens: true,
     below: i64::MAX,
 };
 
-/// On what terms a request is put in: behind the pins of a problem, and for less than a limit.
+/// The problem, pins and limit with which a best insertion is searched. Places are after the pins.
 #[derive(Clone, Copy)]
-pub(crate) struct Terms<'a> {
+pub(crate) struct InsertionContext<'a> {
     pub problem: &'a Problem,
     pub pins: &'a [Route],
     pub limit: &'a Limit,
 }
 
-/// The vehicles that are asked for a place.
+/// The vehicles to search for a place.
 #[derive(Clone, Copy)]
 pub(crate) struct Vehicles<'a> {
     pub tables: &'a [Tour],
-    /// What a single may ask of each at most, as far as that is known.
-    pub rooms: &'a [i64],
-    /// So many are asked: where there are more, an idle one stands for all of those.
+    /// The greatest demand that a single may have in each vehicle, as far as it is known.
+    pub max_demands: &'a [i64],
+    /// The number of vehicles to look at. If there are more, an idle one stands for all of those.
     pub end: usize,
-    /// These are asked before the others.
+    /// The vehicles to look at first.
     pub first: &'a [(u32, Tour)],
 }
 
-// A vehicle, and its route with its table.
+// A vehicle with its tour.
 #[derive(Clone, Copy)]
 struct Vehicle<'a> {
     number: u64,
@@ -113,7 +115,7 @@ impl Tables {
     ghost use Rattle.move_ops.specs.Refreshing.{replaced, AreWithin};
     ghost use Rattle.move_ops.specs.Tables.{tables_of, AreTablesIn, DifferOnlyAt};
 
-    /// The tables of a plan that passes.
+    /// Builds the tables of a plan that passes.
     pub fn build(alloc: Global, problem: &Problem, plan: &Plan) -> Result<Tables, OutOfMemory>
         requires { passes problem.now [] plan.now.routes ≡ true }
         ensures tables { IfOk result (λ tables. tables ≡ tables_of problem.now plan.now.routes) }
@@ -124,8 +126,8 @@ impl Tables {
         })
     }
 
-    /// The best insertion of a request into the plan of the tables, as `best_insertion` has it; the name has to be of a live
-    /// and unplanned request. Takes no memory.
+    /// Returns the best insertion of a request into the plan of the tables, as `best_insertion` defines it. The
+    /// name must be of a current, unplanned request. Does not allocate.
     pub fn best(&self, problem: &Problem, pins: &Pins, name: u32) -> Option<(u64, u64, u64)>
         requires tables { AreTablesIn problem.now self.now }
         requires pass { passes problem.now pins.now.routes (plan_of self.now) ≡ true }
@@ -134,26 +136,26 @@ impl Tables {
         ensures { result ≡ best_insertion problem.now pins.now.routes (plan_of self.now) name }
     {
         insertion_laws();
-        let request = live_request(problem, name);
+        let request = current_request(problem, name);
         let tables = self.tables.as_slice();
         let pins = pins.routes.as_slice();
-        let terms = Terms {
+        let terms = InsertionContext {
             problem,
             pins,
             limit: &NO_LIMIT,
         };
         let vehicles = Vehicles {
             tables,
-            rooms: &[],
+            max_demands: &[],
             end: tables.len(),
             first: &[],
         };
         best_within(&terms, &vehicles, request)
     }
 
-    /// Builds the tables of these vehicles anew, for a plan whose other routes are those of the tables. Vehicles count from 1; the list
-    /// may be empty, or name one twice. All new tables are built before one takes the place of an old one, so that after a refusal the
-    /// old ones stand.
+    /// Rebuilds the tables of these vehicles for a plan whose other routes are those of the tables. Vehicles
+    /// count from 1; the list may be empty or name one twice. All new tables are built before one replaces an
+    /// old one, so if an allocation fails the old ones stay.
     pub fn refresh(
         &mut self,
         problem: &Problem,
@@ -168,8 +170,8 @@ impl Tables {
         ensures plan { OnOk result (plan_of self.new ≡ plan.now.routes) }
         ensures err { OnErr result (self.new ≡ self.old) }
     {
-        passes_are_local();
-        plans_are_local();
+        passing_is_local();
+        plans_are_disjoint_routes();
         problem_keeps_limits(problem);
         let alloc = *self.tables.allocator();
         let fresh = fresh_tables(alloc, problem, plan.routes.as_slice(), vehicles)?;
@@ -177,7 +179,7 @@ impl Tables {
         Ok(())
     }
 
-    // Lets each table take the place of its vehicle's.
+    // Replaces the tables of these vehicles.
     fn replace(&mut self, fresh: Vec<(u32, Tour)>)
         requires { AreWithin (length self.old) fresh.items }
         ensures { self.new ≡ replaced self.old fresh.items }
@@ -188,7 +190,7 @@ impl Tables {
     }
 }
 
-// The vehicles, each with the table of its route.
+// Builds the tables of these vehicles' routes.
 fn fresh_tables(
     alloc: Global,
     problem: &Problem,
@@ -200,20 +202,20 @@ fn fresh_tables(
     ensures { IfOk result (λ fresh. fresh.items
         ≡ map (fresh_of problem.now routes.now) vehicles.now) }
 {
-    passes_are_local();
-    plans_are_local();
-    tests_say_feasible();
+    passing_is_local();
+    plans_are_disjoint_routes();
+    feasible_alone_decides_feasibility();
     problem_keeps_limits(problem);
     let mut fresh = Vec::with_capacity(alloc, vehicles.len())?;
     for vehicle in vehicles {
-        let route = of_vehicle(routes, u64::from(*vehicle));
+        let route = route_of(routes, u64::from(*vehicle));
         fresh.push((*vehicle, Tour::build(alloc, problem, route)?))?;
     }
     Ok(fresh)
 }
 
-// The request of a live name.
-fn live_request(problem: &Problem, name: u32) -> &Request
+// Returns the current request with this name.
+fn current_request(problem: &Problem, name: u32) -> &Request
     requires { IsSome (request_named problem.now name) }
     ensures found { request_named problem.now name ≡ Some result.now }
     ensures name { request_name result.now ≡ name }
@@ -222,20 +224,20 @@ fn live_request(problem: &Problem, name: u32) -> &Request
     problem.requests.get(&name).unwrap()
 }
 
-/// The best insertion over all vehicles, where that costs less than the limit.
+/// Returns the best insertion over all vehicles if it costs less than the limit.
 pub(crate) fn best_within(
-    terms: &Terms,
+    terms: &InsertionContext,
     vehicles: &Vehicles,
     request: &Request,
 ) -> Option<(u64, u64, u64)>
-    requires { let t = terms.now in let v = vehicles.now in IsAskedOver t.problem.now t.pins.now
-        v.tables.now v.rooms.now v.end v.first.now request.now }
+    requires { let t = terms.now in let v = vehicles.now in IsQueryOver t.problem.now t.pins.now
+        v.tables.now v.max_demands.now v.end v.first.now request.now }
     ensures { let t = terms.now in IsBestWithin t.problem.now t.pins.now
         (plan_of vehicles.now.tables.now) request.now t.limit.now result }
 {
     let found = match request {
-        Request::Single(_) => best_by_rooms(terms, vehicles, vehicles.rooms, request),
-        Request::Pair(_, _) => best_by_rooms(terms, vehicles, &[], request),
+        Request::Single(_) => best_by_max_demands(terms, vehicles, vehicles.max_demands, request),
+        Request::Pair(_, _) => best_by_max_demands(terms, vehicles, &[], request),
     };
     match found {
         Some(found) => Some(found.place()),
@@ -243,31 +245,31 @@ pub(crate) fn best_within(
     }
 }
 
-// What is found there, with or without a list of rooms. It is written in its place twice, so that no loop over the vehicles asks again
-// whether the request is a single. Empty vehicles are alike, so the first of them stands for all, and where no others stand behind `end`,
-// the loop ends there.
+// Searches with or without a list of greatest demands. It is inlined twice, so that the loop over the vehicles
+// does not check again whether the request is a single. Empty vehicles are alike, so the first of them stands
+// for all. If there are no vehicles after `end`, the loop ends there.
 #[inline(always)]
-fn best_by_rooms(
-    terms: &Terms,
+fn best_by_max_demands(
+    terms: &InsertionContext,
     vehicles: &Vehicles,
-    rooms: &[i64],
+    max_demands: &[i64],
     request: &Request,
-) -> Option<Found>
-    requires { let t = terms.now in let v = vehicles.now in IsAskedOver t.problem.now t.pins.now
-        v.tables.now rooms.now v.end v.first.now request.now }
+) -> Option<Candidate>
+    requires { let t = terms.now in let v = vehicles.now in IsQueryOver t.problem.now t.pins.now
+        v.tables.now max_demands.now v.end v.first.now request.now }
     ensures { let t = terms.now in IsBestWithin t.problem.now t.pins.now
-        (plan_of vehicles.now.tables.now) request.now t.limit.now (option_map place_found result) }
+        (plan_of vehicles.now.tables.now) request.now t.limit.now (option_map candidate_place result) }
 {
     insertion_laws();
     let problem = terms.problem;
     let tables = vehicles.tables;
-    let ways = RequestWays::of(&problem.depot, request);
+    let ways = RequestDistances::of(&problem.depot, request);
     let mut best = best_of_first(terms, vehicles, request, &ways);
     let mut below = bound_from(terms.limit, &best, 1);
     let mut has_idle = false;
     for k in 0..vehicles.end {
         let tour = &tables[k];
-        if is_full(rooms, k, request) {
+        if is_full(max_demands, k, request) {
             tour.stops_are_few();
             continue;
         }
@@ -281,7 +283,7 @@ fn best_by_rooms(
             number: k as u64 + 1,
             tour,
         };
-        below = look_at(
+        below = scan_vehicle(
             terms,
             request,
             &ways,
@@ -294,23 +296,23 @@ fn best_by_rooms(
     best
 }
 
-// The best insertion over those of the vehicles that are asked first that have stops.
+// Returns the best insertion over the used vehicles of `first`.
 #[inline(never)]
 fn best_of_first(
-    terms: &Terms,
+    terms: &InsertionContext,
     vehicles: &Vehicles,
     request: &Request,
-    ways: &RequestWays,
-) -> Option<Found>
-    requires asked { IsAsked terms.now.problem.now terms.now.pins.now vehicles.now.tables.now
+    ways: &RequestDistances,
+) -> Option<Candidate>
+    requires asked { IsQuery terms.now.problem.now terms.now.pins.now vehicles.now.tables.now
         request.now }
-    requires ways { AreWays terms.now.problem.now.depot request.now ways.now }
+    requires distances { AreDistances terms.now.problem.now.depot request.now ways.now }
     requires first { AreWithin (length vehicles.now.tables.now) vehicles.now.first.now }
     ensures best { let t = terms.now in let routes = plan_of vehicles.now.tables.now in
         let first = vehicles.now.first.now in
         IsBestAmongThese t.problem.now t.pins.now routes request.now t.limit.now
-        (IsNamed routes first (length first)) result }
-    ensures short { IsShort result }
+        (IsEntryWithStops routes first (length first)) result }
+    ensures short { IsBelowMaximum result }
 {
     insertion_laws();
     let tables = vehicles.tables;
@@ -323,64 +325,65 @@ fn best_of_first(
         if tour.stop_count() != 0 {
             let below = bound_from(terms.limit, &best, number);
             let vehicle = Vehicle { number, tour };
-            look_at(terms, request, ways, &[], vehicle, below, &mut best);
+            scan_vehicle(terms, request, ways, &[], vehicle, below, &mut best);
         }
     }
     best
 }
 
-// Lets the best insertion so far become a better one at this vehicle, if there is one, where it isn't one of the first, which are known. What
-// an insertion at a used vehicle must add less than is handed on as one number, since most vehicles are only asked whether that rules them
-// out.
+// Looks for a better insertion at this vehicle, unless it is one of `first`, which are done. Returns the bound
+// that the added distance must be below at a later used vehicle. This bound is one number, since for most
+// vehicles the only question is whether it rules them out.
 #[inline(always)]
-fn look_at(
-    terms: &Terms,
+fn scan_vehicle(
+    terms: &InsertionContext,
     request: &Request,
-    ways: &RequestWays,
+    ways: &RequestDistances,
     first: &[(u32, Tour)],
     vehicle: Vehicle,
     below: i64,
-    best: &mut Option<Found>,
+    best: &mut Option<Candidate>,
 ) -> i64
-    requires vehicle { IsLookable terms.now.problem.now terms.now.pins.now request.now ways.now
+    requires vehicle { IsScannable terms.now.problem.now terms.now.pins.now request.now ways.now
         vehicle.number vehicle.tour.now }
-    requires below { IsLoose vehicle.number terms.now.limit.now best.old below }
-    requires short { IsShort best.old }
-    ensures looked { let t = terms.now in let v = vehicle.entry in
-        IsLookedAt t.problem.now (route_of v.tour.now) request.now
-        (length (of_vehicle t.pins.now v.number)) first.now v.number t.limit.now best.old best.new }
-    ensures below { IsLoose vehicle.entry.number terms.now.limit.now best.new result }
-    ensures short { IsShort best.new }
+    requires below { IsLooseBound vehicle.number terms.now.limit.now best.old below }
+    requires short { IsBelowMaximum best.old }
+    ensures scanned { let t = terms.now in let v = vehicle.entry in
+        IsScanned t.problem.now (course_route v.tour.now) request.now
+        (length (route_of t.pins.now v.number)) first.now v.number t.limit.now best.old best.new }
+    ensures below { IsLooseBound vehicle.entry.number terms.now.limit.now best.new result }
+    ensures short { IsBelowMaximum best.new }
 {
     let Vehicle { number, tour } = vehicle;
     if tour.stop_count() != 0 {
-        if tour.table().rules_out_by(request, ways, below) {
+        if tour.table().rules_out_with(request, ways, below) {
             return below;
         }
         if is_among(first, number) {
             return bound_from(terms.limit, best, number);
         }
     }
-    look_closer(terms, request, ways, vehicle, best);
+    scan_places(terms, request, ways, vehicle, best);
     bound_from(terms.limit, best, number)
 }
 
-// The same, at each place of a vehicle that isn't ruled out. It is written in its place, and the pin is looked up of such vehicles alone.
+// Looks for a better insertion at each place of a vehicle that isn't ruled out. The pin is looked up only for
+// such vehicles.
 #[inline(never)]
-fn look_closer(
-    terms: &Terms,
+fn scan_places(
+    terms: &InsertionContext,
     request: &Request,
-    ways: &RequestWays,
+    ways: &RequestDistances,
     vehicle: Vehicle,
-    best: &mut Option<Found>,
+    best: &mut Option<Candidate>,
 )
-    requires vehicle { IsLookable terms.now.problem.now terms.now.pins.now request.now ways.now
+    requires vehicle { IsScannable terms.now.problem.now terms.now.pins.now request.now ways.now
         vehicle.number vehicle.tour.now }
-    requires short { IsShort best.old }
+    requires short { IsBelowMaximum best.old }
     ensures better { let t = terms.now in let v = vehicle.entry in
-        IsBetter t.problem.now (route_of v.tour.now) request.now
-        (length (of_vehicle t.pins.now v.number)) v.number t.limit.now best.old best.new }
-    ensures short { IsShort best.new }
+        IsBetter t.problem.now (course_route v.tour.now) request.now
+        (length (route_of t.pins.now v.number)) v.number t.limit.now best.old best.new }
+    ensures short { IsBelowMaximum best.new }
 {
     let Vehicle { number, tour } = vehicle;
     let problem = terms.problem;
@@ -388,9 +391,9 @@ fn look_closer(
     let Some(below) = bound(number, opens, terms.limit, best) else {
         return;
     };
-    let kept = of_vehicle(terms.pins, number).len() as u64;
-    if let Some(addition) = tour.table().best_places_by(request, ways, kept, below) {
-        *best = Some(Found {
+    let kept = route_of(terms.pins, number).len() as u64;
+    if let Some(addition) = tour.table().best_places_with(request, ways, kept, below) {
+        *best = Some(Candidate {
             vehicle: number,
             opens,
             addition,
@@ -398,7 +401,7 @@ fn look_closer(
     }
 }
 
-// Whether the vehicle is one of these.
+// Returns whether the vehicle is in the list.
 fn is_among(first: &[(u32, Tour)], vehicle: u64) -> bool
     ensures { result ≡ true → IsEntryOf first.now vehicle }
 {
@@ -410,10 +413,10 @@ fn is_among(first: &[(u32, Tour)], vehicle: u64) -> bool
     false
 }
 
-// Whether a request put into this route uses one vehicle more.
+// Returns whether inserting a request into this route opens a vehicle.
 #[inline(always)]
 fn opens(kind: Kind, table: &Tour) -> bool
-    ensures { result ≡ opens kind (route_of table.now) }
+    ensures { result ≡ opens kind (course_route table.now) }
 {
     match kind {
         Kind::LiLim => table.stop_count() == 0,
@@ -421,10 +424,11 @@ fn opens(kind: Kind, table: &Tour) -> bool
     }
 }
 
-// What an insertion at a vehicle must add less than to be better than the best so far, or than the limit.
+// Returns the bound that the added distance of an insertion at this vehicle must be below. The insertion then
+// beats the best so far, or keeps the limit.
 #[inline(always)]
-fn bound(vehicle: u64, opens: bool, limit: &Limit, best: &Option<Found>) -> Option<i64>
-    requires { IsShort best.now }
+fn bound(vehicle: u64, opens: bool, limit: &Limit, best: &Option<Candidate>) -> Option<i64>
+    requires { IsBelowMaximum best.now }
     ensures { result ≡ bound_of vehicle opens limit.now best.now }
 {
     match best {
@@ -433,7 +437,8 @@ fn bound(vehicle: u64, opens: bool, limit: &Limit, best: &Option<Found>) -> Opti
     }
 }
 
-// What an insertion must add less than to be better than what opens a vehicle or not and adds so much.
+// Returns the bound that the added distance of an insertion must be below to beat a rival that adds `distance`.
+// Each of the two may open a vehicle.
 #[inline(always)]
 fn bound_over(rival_opens: bool, distance: i64, opens: bool) -> Option<i64>
     ensures { result ≡ bound_over rival_opens distance opens }
@@ -447,11 +452,12 @@ fn bound_over(rival_opens: bool, distance: i64, opens: bool) -> Option<i64>
     Some(distance)
 }
 
-// The same beside an insertion that opens as many vehicles.
+// Returns the bound that the added distance of an insertion at this vehicle must be below to beat one that
+// opens as many vehicles.
 #[inline(always)]
-fn bound_at(vehicle: u64, best: &Found) -> i64
+fn bound_at(vehicle: u64, best: &Candidate) -> i64
     requires { best.now.addition.distance <ℤ pos 9223372036854775807 }
-    ensures { result ≡ bound_beside vehicle best.now }
+    ensures { result ≡ bound_against vehicle best.now }
 {
     if vehicle < best.vehicle {
         best.addition.distance + 1
@@ -460,11 +466,12 @@ fn bound_at(vehicle: u64, best: &Found) -> i64
     }
 }
 
-// What no insertion at a used vehicle from this one on needs to add less than to be better than the best so far, or than the limit.
+// Returns a bound for the used vehicles from this one on. An insertion that adds as much or more is not better
+// than the best so far, or than the limit.
 #[inline(always)]
-fn bound_from(limit: &Limit, best: &Option<Found>, vehicle: u64) -> i64
-    requires { IsShort best.now }
-    ensures { IsLoose vehicle limit.now best.now result }
+fn bound_from(limit: &Limit, best: &Option<Candidate>, vehicle: u64) -> i64
+    requires { IsBelowMaximum best.now }
+    ensures { IsLooseBound vehicle limit.now best.now result }
 {
     match best {
         None => {

@@ -1,11 +1,11 @@
-//! A route and its table.
+//! A route with its table.
 ghost use Rattle.std.specs.Prelude.{◌≡◌, ◌≤◌, ◌<◌, IfOk, Some, slice_get, slice_set, length};
-ghost use Rattle.route_sched.specs.Route.{AreLiveOnce};
+ghost use Rattle.route_sched.specs.Route.{AreDistinctStops};
 ghost use Rattle.slack_tables.specs.Insertion.{KeepsLimits};
-ghost use Rattle.slack_tables.specs.Course.{course_of, route_of, IsCourseIn};
+ghost use Rattle.slack_tables.specs.Course.{course_of, course_route, IsCourseIn};
 ghost use Rattle.plan_audit.specs.Passes.{feasible_alone};
 ghost use Rattle.move_ops.specs.Tables.{AreTablesIn};
-ghost use Rattle.move_ops.specs.Changes.{IsTourIfFeasible, IsTried};
+ghost use Rattle.move_ops.specs.Changes.{IsTourIfFeasible, IsRouteToCheck};
 ghost use Rattle.plan_types.specs.Instance.{Instance};
 
 use crate::facts::problem_keeps_limits;
@@ -25,45 +25,45 @@ pub(crate) struct Tour {
 
 impl Model for Tour {
     ghost use Rattle.std.specs.Prelude.{◌≡◌};
-    ghost use Rattle.slack_tables.specs.Course.{Course, route_of};
+    ghost use Rattle.slack_tables.specs.Course.{Course, course_route};
 
     ghost Value = { Course };
 
     ghost view = { λ t. t.table };
 
-    ghost invariant = { λ t. t.stops.items ≡ route_of t.table };
+    ghost invariant = { λ t. t.stops.items ≡ course_route t.table };
 }
 
 impl Tour {
-    /// The tour of a route that keeps the capacity and the windows.
+    /// Builds the tour of a route that keeps the capacity and the windows.
     pub(crate) fn build(
         alloc: Global,
         problem: &Problem,
         route: &[u32],
     ) -> Result<Tour, OutOfMemory>
-        requires route { AreLiveOnce problem.now route.now }
+        requires route { AreDistinctStops problem.now route.now }
         requires limits { KeepsLimits problem.now route.now }
         ensures course { IfOk result (λ tour. tour ≡ course_of problem.now route.now) }
-        ensures route { IfOk result (λ tour. route_of tour ≡ route.now) }
+        ensures route { IfOk result (λ tour. course_route tour ≡ route.now) }
     {
         let table = RouteTable::build(alloc, problem, route)?;
         let stops = Vec::from_slice(alloc, route)?;
         Ok(Tour { stops, table })
     }
 
-    /// The tour of another route, in the memory of this one as far as that goes. It takes least time where `near` has most of its stops
-    /// in the same order.
-    pub(crate) fn remade(
+    /// Builds the tour of another route in the memory of this one, as far as that suffices. It is fastest if
+    /// `near` has most of the stops in the same order.
+    pub(crate) fn into_rebuilt(
         self,
         problem: &Problem,
         near: &Tour,
         route: &[u32],
     ) -> Result<Tour, OutOfMemory>
         requires near { IsCourseIn problem.now near.now }
-        requires route { AreLiveOnce problem.now route.now }
+        requires route { AreDistinctStops problem.now route.now }
         requires limits { KeepsLimits problem.now route.now }
         ensures course { IfOk result (λ tour. tour ≡ course_of problem.now route.now) }
-        ensures route { IfOk result (λ tour. route_of tour ≡ route.now) }
+        ensures route { IfOk result (λ tour. course_route tour ≡ route.now) }
     {
         let Tour {
             mut stops,
@@ -75,30 +75,32 @@ impl Tour {
         Ok(Tour { stops, table })
     }
 
-    /// Whether a route is feasible alone. It takes least time where this tour has most of its stops in the same order.
+    /// Returns whether a route is feasible by itself. It is fastest if this tour has most of the stops in the
+    /// same order.
     pub(crate) fn is_feasible(&self, problem: &Problem, route: &[u32]) -> bool
         requires course { IsCourseIn problem.now self.now }
-        requires once { AreLiveOnce problem.now route.now }
+        requires once { AreDistinctStops problem.now route.now }
         ensures { result ≡ feasible_alone problem.now route.now }
     {
         problem_keeps_limits(problem);
         self.table.keeps_limits(problem, route) && are_paired(problem, route)
     }
 
-    /// The tour of another route whose pairs are known to be whole, each pickup before its delivery, in the memory of this one as far as that
-    /// goes; `None` where the route is not feasible alone. It takes least time where `near` has most of its stops in the same order.
-    pub(crate) fn remade_if_feasible(
+    /// Builds the tour of another route in the memory of this one, as far as that suffices. Returns `None` if
+    /// the route is not feasible by itself. The caller guarantees that its pairs are whole, each pickup before
+    /// its delivery. It is fastest if `near` has most of the stops in the same order.
+    pub(crate) fn into_rebuilt_if_feasible(
         self,
         problem: &Problem,
         near: &Tour,
         route: &[u32],
     ) -> Result<Option<Tour>, OutOfMemory>
-        requires { IsTried problem.now near.now route.now }
+        requires { IsRouteToCheck problem.now near.now route.now }
         ensures { IfOk result (λ o. IsTourIfFeasible problem.now route.now o) }
     {
         problem_keeps_limits(problem);
         let Tour { mut stops, table } = self;
-        let Some(table) = table.remade(problem, &near.table, route)? else {
+        let Some(table) = table.into_rebuilt(problem, &near.table, route)? else {
             return Ok(None);
         };
         stops.clear();
@@ -106,14 +108,14 @@ impl Tour {
         Ok(Some(Tour { stops, table }))
     }
 
-    /// The same in memory of its own.
+    /// Like `into_rebuilt_if_feasible`, but in new memory.
     pub(crate) fn build_if_feasible(
         alloc: Global,
         problem: &Problem,
         near: &Tour,
         route: &[u32],
     ) -> Result<Option<Tour>, OutOfMemory>
-        requires { IsTried problem.now near.now route.now }
+        requires { IsRouteToCheck problem.now near.now route.now }
         ensures { IfOk result (λ o. IsTourIfFeasible problem.now route.now o) }
     {
         problem_keeps_limits(problem);
@@ -123,7 +125,7 @@ impl Tour {
         Ok(Some(Tour::build(alloc, problem, route)?))
     }
 
-    /// How many stops the route has.
+    /// Returns how many stops the route has.
     pub(crate) fn stop_count(&self) -> usize
         ensures count { result ≡ length self.now.stops }
         ensures few { result ≤ 40001 }
@@ -131,21 +133,21 @@ impl Tour {
         self.table.stop_count()
     }
 
-    /// The law that a route has at most as many stops as there are numbers.
+    /// States that a route has at most as many stops as there are stop numbers.
     pub(crate) fn stops_are_few(&self)
         ensures { length self.now.stops ≤ 40001 }
     {
         let _count = self.stop_count();
     }
 
-    /// The stops in order.
+    /// Returns the stops in order.
     pub(crate) fn stops(&self) -> &[u32]
-        ensures { result.now ≡ route_of self.now }
+        ensures { result.now ≡ course_route self.now }
     {
         self.stops.as_slice()
     }
 
-    /// The table of the route.
+    /// Returns the table of the route.
     pub(crate) fn table(&self) -> &RouteTable
         ensures { result.now ≡ self.now }
     {
@@ -153,7 +155,7 @@ impl Tour {
     }
 }
 
-/// The tour of a vehicle. Vehicles count from 1.
+/// Returns the tour of a vehicle. Vehicles count from 1.
 pub(crate) fn tour_of(tours: &[Tour], vehicle: u64) -> &Tour
     requires from_one { 1 ≤ vehicle }
     requires within { vehicle ≤ length tours.now }
@@ -162,7 +164,7 @@ pub(crate) fn tour_of(tours: &[Tour], vehicle: u64) -> &Tour
     &tours[(vehicle - 1) as usize]
 }
 
-/// Lets a tour take the place of another, which is given back.
+/// Replaces a tour by another and returns the old one.
 pub(crate) fn swap(tours: &mut Vec<Tour>, index: usize, tour: Tour) -> Tour
     requires { index < length tours.old.items }
     ensures old { slice_get tours.old.items index ≡ Some result }

@@ -1,21 +1,21 @@
-//! The tours of a plan: built of its routes, asked for stops, and what they cost.
+//! The tours of a plan: how they are built, searched for stops, and copied.
 ghost use Rattle.std.specs.Prelude.{◌≡◌, ◌≤◌, [], true, ℕ, IfOk, length};
 ghost use Rattle.plan_audit.specs.Passes.{passes};
 ghost use Rattle.route_sched.specs.Cost.{has_stop};
 ghost use Rattle.move_ops.specs.Changes.{IsVehicleWith};
-ghost use Rattle.move_ops.specs.Drafts.{AreIdleBehind};
-ghost use Rattle.move_ops.specs.Kept.{AreSeats};
+ghost use Rattle.move_ops.specs.Drafts.{AreIdleAfter};
+ghost use Rattle.move_ops.specs.DraftInvariant.{AreVehicleHints};
 ghost use Rattle.move_ops.specs.Tables.{plan_of, tables_of};
 
 use crate::facts::problem_keeps_limits;
 use crate::lists::is_in;
-use crate::seats::seat;
 use crate::tour::Tour;
-use plan_audit::{passes_are_local, plans_are_local, tests_say_feasible};
+use crate::vehicle_hints::set_hints;
+use plan_audit::{feasible_alone_decides_feasibility, passing_is_local, plans_are_disjoint_routes};
 use plan_types::{OutOfMemory, Problem, Route, Routes};
 use std::alloc::Global;
 
-/// The tours of routes of a plan that passes.
+/// Builds the tours of the routes of a plan that passes.
 pub(crate) fn tours_of(
     alloc: Global,
     problem: &Problem,
@@ -25,9 +25,9 @@ pub(crate) fn tours_of(
     ensures tours { IfOk result (λ tours. tours.items ≡ tables_of problem.now routes.now) }
     ensures plan { IfOk result (λ tours. plan_of tours.items ≡ routes.now) }
 {
-    passes_are_local();
-    plans_are_local();
-    tests_say_feasible();
+    passing_is_local();
+    plans_are_disjoint_routes();
+    feasible_alone_decides_feasibility();
     problem_keeps_limits(problem);
     let mut tours = Vec::with_capacity(alloc, routes.len())?;
     for route in routes {
@@ -36,22 +36,26 @@ pub(crate) fn tours_of(
     Ok(tours)
 }
 
-/// Where to look for the stops of these tours, by number.
-pub(crate) fn seats_of(alloc: Global, tours: &[Tour], len: usize) -> Result<Vec<u32>, OutOfMemory>
-    ensures { IfOk result (λ seats. AreSeats seats.items (plan_of tours.now)) }
+/// Returns by stop number the vehicle to look at first for the stops of these tours.
+pub(crate) fn vehicle_hints_of(
+    alloc: Global,
+    tours: &[Tour],
+    len: usize,
+) -> Result<Vec<u32>, OutOfMemory>
+    ensures { IfOk result (λ vehicle_hints. AreVehicleHints vehicle_hints.items (plan_of tours.now)) }
 {
-    let mut seats = vec![in alloc; 0; len]?;
-    seat_tours(&mut seats, tours);
-    Ok(seats)
+    let mut vehicle_hints = vec![in alloc; 0; len]?;
+    set_hints_of_tours(&mut vehicle_hints, tours);
+    Ok(vehicle_hints)
 }
 
-fn seat_tours(seats: &mut [u32], tours: &[Tour])
-    ensures seats { AreSeats seats.new (plan_of tours.now) }
-    ensures len { length seats.new ≡ length seats.old }
+fn set_hints_of_tours(vehicle_hints: &mut [u32], tours: &[Tour])
+    ensures vehicle_hints { AreVehicleHints vehicle_hints.new (plan_of tours.now) }
+    ensures len { length vehicle_hints.new ≡ length vehicle_hints.old }
 {
     let mut vehicle = 1;
     for tour in tours {
-        seat(seats, tour.stops(), vehicle);
+        set_hints(vehicle_hints, tour.stops(), vehicle);
         vehicle = next(vehicle);
     }
 }
@@ -62,7 +66,7 @@ fn next(vehicle: u32) -> u32
     vehicle.saturating_add(1)
 }
 
-/// A copy of the routes, without their tables.
+/// Returns a copy of the routes, without their tables.
 pub(crate) fn routes_of(alloc: Global, tours: &[Tour]) -> Result<Routes, OutOfMemory>
     ensures { IfOk result (λ routes. routes ≡ plan_of tours.now) }
 {
@@ -73,7 +77,7 @@ pub(crate) fn routes_of(alloc: Global, tours: &[Tour]) -> Result<Routes, OutOfMe
     Ok(routes)
 }
 
-/// The first vehicle whose tour has the stop, or 0 where none has it.
+/// Returns the first vehicle whose tour has the stop, or 0 if none has it.
 pub(crate) fn vehicle_with(tours: &[Tour], stop: u32) -> u64
     ensures { IsVehicleWith (plan_of tours.now) stop result }
 {
@@ -85,19 +89,20 @@ pub(crate) fn vehicle_with(tours: &[Tour], stop: u32) -> u64
     0
 }
 
-/// The least front: no vehicle behind the first so many has a stop. It is at most `end`, which is such a number.
-pub(crate) fn front_of(tours: &[Tour], end: usize) -> usize
+/// Returns the smallest length of the used part: no vehicle after it has a stop. The result is at most `end`,
+/// and the caller guarantees that no vehicle after `end` has a stop.
+pub(crate) fn used_len_of(tours: &[Tour], end: usize) -> usize
     requires within { end ≤ length tours.now }
-    requires idle { AreIdleBehind end (plan_of tours.now) }
+    requires idle { AreIdleAfter end (plan_of tours.now) }
     ensures within { result ≤ end }
-    ensures idle { AreIdleBehind result (plan_of tours.now) }
+    ensures idle { AreIdleAfter result (plan_of tours.now) }
 {
-    let mut front = end;
-    while 0 < front {
-        if tours[front - 1].stop_count() != 0 {
-            return front;
+    let mut used_len = end;
+    while 0 < used_len {
+        if tours[used_len - 1].stop_count() != 0 {
+            return used_len;
         }
-        front -= 1;
+        used_len -= 1;
     }
-    front
+    used_len
 }

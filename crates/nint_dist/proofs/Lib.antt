@@ -1,4 +1,4 @@
--- The lemma files, of which upper crates may cite those that are pub.
+-- The lemma files; other crates may cite those that are pub.
 mod Distances
 mod Roots
 pub mod Triangle

@@ -1,4 +1,4 @@
--- The nearest root as it is computed is the least number that the definition asks for.
+-- The nearest root as it is computed is the smallest number that meets the definition.
 use Rattle.std.proofs.Common.{◌≡◌, ℕ, zero, suc, ◌+◌, ◌-◌, ◌*◌, ◌/◌, ◌%◌, ◌<◌, ◌≤◌, Bool, true, false, ⊎_elim, cond, refl, sym, arith}
 use Rattle.std.specs.Prelude.{nat_le, nat_lt}
 use Rattle.std.proofs.Math.Nat.{suc-mul}
@@ -12,7 +12,7 @@ record IsWholeRoot (s r : ℕ) : Type 0 where
   below : r * r ≤ s
   above : s < (r + 1) * (r + 1)
 
--- a quarter's whole root, doubled
+-- the whole root of s from that of a quarter of s
 doubled : (s q t r : ℕ) → s ≡ q * 4 + t → t < 4 → IsWholeRoot q r → IsWholeRoot s (doubled_root s r)
 doubled s q t r e h w =
     cond_both (nat_le ((2 * r + 1) * (2 * r + 1)) s) (2 * r + 1) (2 * r) (IsWholeRoot s)
@@ -28,7 +28,7 @@ whole (suc depth) (suc s) h =
     doubled (suc s) (suc s / 4) (suc s % 4) (whole_root depth (suc s / 4)) (sym (div-add-mod' (suc s) 4))
     (mod_below (suc s) 4 (omega arith)) (whole depth (suc s / 4) (omega arith))
 
--- where the number before d is too small, no smaller one is large enough
+-- if the number before d is too small, no smaller number is large enough
 pub least_from : (s d : ℕ) → (0 < d → (d - 1) * d < s) → (e : ℕ) → s ≤ e * (e + 1) → d ≤ e
 least_from s d before e h =
     ⊎_elim (λ (small : e < d). absurd (omega (arith, before (omega arith), mul-le e (e + 1) (d - 1) d (omega arith) (omega arith)))) (λ (k : d ≤ e). k)
@@ -38,13 +38,13 @@ least_from s d before e h =
 pub same_root : (s d e : ℕ) → IsNearestRoot s d → IsNearestRoot s e → d ≡ e
 same_root s d e p q = omega (arith, p.least e q.reaches, q.least d p.reaches)
 
--- a number times the one before it, with the number added, is its square
+-- a number times the one before it, plus the number, is its square
 before_square : (r : ℕ) → 0 < r → (r - 1) * r + r ≡ r * r
 before_square zero h = absurd (omega arith)
 before_square (suc q) h =
     let one_less : suc q - 1 ≡ q = omega arith in rw one_less (sym (suc-mul q (suc q)))
 
--- between the products beside that of g, the nearest root is g or the number above it
+-- if s is between the products for the numbers next to g, its nearest root is g or the next number
 pub beside : (s g : ℕ) → (0 < g → g * (g + 1) < s + 2 * g) → s ≤ g * (g + 1) + 2 * g + 2 → IsNearestRoot s (cond (nat_lt (g * (g + 1)) s) (g + 1) g)
 beside s g from to =
     cond_both (nat_lt (g * (g + 1)) s) (g + 1) g (IsNearestRoot s)
@@ -57,7 +57,7 @@ beside s g from to =
       least = least_from s g (λ positive. omega (arith, from positive, before_square g positive));
     })
 
--- the number above g or g itself, as a sum
+-- the next number or g itself, as a sum
 pub as_sum : (g : ℕ) (above : Bool) → cond above (g + 1) g ≡ g + bool_byte above
 as_sum g true = refl
 as_sum g false = let same : g ≡ g + 0 = omega arith in same

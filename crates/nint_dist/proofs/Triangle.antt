@@ -1,4 +1,4 @@
--- A way over a third stop is shorter by one at most.
+-- A detour through a third stop is shorter than the direct leg by at most 1.
 use Rattle.std.proofs.Common.{◌≡◌, ℕ, ◌+◌, ◌-◌, ◌*◌, ◌<◌, ◌≤◌, ◌⊎◌, ◌-ℤ◌, arith, subst, inl, inr}
 use Rattle.std.specs.Prelude.{unsigned_abs}
 use Rattle.std.proofs.lemmas.Nat.{mul-le}
@@ -23,11 +23,11 @@ product-le u v = by (cases_lt u v)
         let there : v * u + v * u ≤ v * v + u * u = subst (λ w. v * w + v * w ≤ v * v + w * w) far le in
         omega arith
 
--- the product of two vectors is at most that of their lengths
+-- the product of two vectors is at most the product of their lengths (Cauchy-Schwarz)
 vectors-le : (x y u v : ℕ) → (x * u + y * v) * (x * u + y * v) ≤ (x * x + y * y) * (u * u + v * v)
 vectors-le x y u v = let le = product-le (x * v) (y * u) in omega arith
 
--- so with lengths that are rounded
+-- the bound on the product of two vectors, for rounded lengths
 lengths-le : (s r c d e : ℕ) → s ≤ d * (d + 1) → r ≤ e * (e + 1) → c * c ≤ s * r → 2 * c ≤ 2 * (d * e) + d + e + 1
 lengths-le s r c d e long wide product = by (cases_lt (2 * (d * e) + d + e + 1) (2 * c))
   where
@@ -38,7 +38,7 @@ lengths-le s r c d e long wide product = by (cases_lt (2 * (d * e) + d + e + 1) 
         let square = mul-le (2 * (d * e) + d + e + 2) (2 * (d * e) + d + e + 2) (2 * c) (2 * c) (omega arith) (omega arith) in
         absurd (omega arith)
 
--- the square of a sum of two vectors
+-- the squared length of the sum of two vectors, bounded by their rounded lengths
 sums-le : (x y u v d e : ℕ) → x * x + y * y ≤ d * (d + 1) → u * u + v * v ≤ e * (e + 1) → (x + u) * (x + u) + (y + v) * (y + v) ≤ (d + e + 1) * (d + e + 1 + 1)
 sums-le x y u v d e long wide =
     let product = lengths-le (x * x + y * y) (u * u + v * v) (x * u + y * v) d e long wide (vectors-le x y u v) in

@@ -1,3 +1,3 @@
--- what public contracts say
+-- definitions that public contracts use
 pub mod Distance
 pub mod NearestRoot

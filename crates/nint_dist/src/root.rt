@@ -1,9 +1,9 @@
-//! The whole number nearest to a root.
+//! The whole number nearest to a square root.
 
 ghost use Rattle.std.specs.Prelude.{◌≡◌, ◌+◌, ◌*◌, ◌^◌, ◌≤◌, ◌<◌};
 ghost use Rattle.nint_dist.specs.NearestRoot.{nearest_root, IsNearestRoot};
 
-// The reciprocal root of each 256th from 64/256 to 255/256, in 256ths and less 256.
+// The reciprocal square roots of 64/256 to 255/256, in 256ths, with 256 subtracted.
 static RECIPROCAL_ROOTS: [u8; 192] = [
     254, 250, 246, 243, 239, 235, 232, 228, 225, 222, 219, 215, 212, 209, 206, 203, 201, 198, 195,
     192, 190, 187, 184, 182, 179, 177, 175, 172, 170, 168, 165, 163, 161, 159, 157, 155, 153, 151,
@@ -16,7 +16,8 @@ static RECIPROCAL_ROOTS: [u8; 192] = [
     9, 9, 8, 8, 7, 6, 6, 5, 5, 4, 4, 3, 3, 2, 2, 1, 1, 0,
 ];
 
-// The root of the middle of each 1024th, in 65536ths. Below 256 only the first is asked, for 0.
+// Entry i is the square root of the middle of the interval from i/1024 to (i+1)/1024, in 65536ths. Of the
+// entries below 256, only entry 0 is used, for the number 0.
 static ROOTS: [u16; 1024] = [
     0, 0, 0, 0, 0, 0, 0, 0, 0, 0, 0, 0, 0, 0, 0, 0, 0, 0, 0, 0, 0, 0, 0, 0, 0, 0, 0, 0, 0, 0, 0, 0,
     0, 0, 0, 0, 0, 0, 0, 0, 0, 0, 0, 0, 0, 0, 0, 0, 0, 0, 0, 0, 0, 0, 0, 0, 0, 0, 0, 0, 0, 0, 0, 0,
@@ -88,62 +89,63 @@ static ROOTS: [u16; 1024] = [
     65520,
 ];
 
-// Squares below are those of distances up to 2,047, as most are.
-const SHORT: u64 = 1 << 22;
+// Numbers below this limit are the squares of distances up to 2,047. Most distances are that short.
+const SMALL_LIMIT: u64 = 1 << 22;
 
-/// The whole number nearest to the root of `s`: the least `d` with `s <= d * (d + 1)`.
+/// Returns the whole number nearest to the square root of `s`: the smallest `d` with `s <= d * (d + 1)`.
 ///
-/// A root never lies halfway between two whole numbers, since `4 * s` is even and the square of
-/// `2 * d + 1` is odd. This is `nint(sqrt(s))` of TSPLIB95 without floating point.
+/// A root is never halfway between two whole numbers, since `4 * s` is even and the square of `2 * d + 1` is
+/// odd. This is `nint(sqrt(s))` of TSPLIB95 without floating point.
 pub fn nint_root(s: u64) -> u64
     ensures value { result ≡ nearest_root s }
     ensures nearest { IsNearestRoot s result }
 {
-    if s < SHORT {
-        short_root(s)
+    if s < SMALL_LIMIT {
+        small_root(s)
     } else {
-        long_root(s)
+        large_root(s)
     }
 }
 
-// The nearest root of a short number: mostly the guess or the number above it. A sum tells which of
-// the two, since no branch on it could be foreseen.
-fn short_root(s: u64) -> u64
+// Returns the nearest root of a small number, which is usually the guess or the next number. An addition
+// selects one of the two, because a branch would be unpredictable.
+fn small_root(s: u64) -> u64
     requires { s < 2 ^ 22 }
     ensures { IsNearestRoot s result }
 {
-    let guess = u64::from(short_guess(s as u32));
+    let guess = u64::from(small_guess(s as u32));
     let product = guess * (guess + 1);
-    // (guess - 1) * guess < s <= (guess + 1) * (guess + 2), by the one product.
+    // The one product shows that (guess - 1) * guess < s <= (guess + 1) * (guess + 2).
     if product < s + 2 * guess && s <= product + 2 * guess + 2 {
         guess + u64::from(product < s)
     } else {
-        mended(s, guess)
+        correct_root(s, guess)
     }
 }
 
-// The nearest root of a number that is not short, out of the way of short ones.
+// Returns the nearest root of a number that is not small. A function of its own, to keep the code for small
+// numbers short.
 #[cold]
 #[inline(never)]
-fn long_root(s: u64) -> u64
+fn large_root(s: u64) -> u64
     ensures { IsNearestRoot s result }
 {
-    mended(s, root_guess(s))
+    correct_root(s, root_guess(s))
 }
 
-// The nearest root, by a number that is near it.
+// Returns the nearest root, starting from a number close to it.
 #[cold]
 #[inline(never)]
-fn mended(s: u64, guess: u64) -> u64
+fn correct_root(s: u64, guess: u64) -> u64
     requires { guess < 2 ^ 32 }
     ensures { IsNearestRoot s result }
 {
-    lowered(s, raised(s, guess))
+    lower_root(s, raise_root(s, guess))
 }
 
-// The nearest root of a short number or the number below it, seldom another, by the table alone. No
-// proof rests on it.
-fn short_guess(s: u32) -> u32
+// Returns a guess for a small number from the table: usually the nearest root or the number below it. No proof
+// rests on it.
+fn small_guess(s: u32) -> u32
     ensures { result < 2 ^ 16 }
 {
     let shift = (s | 1).leading_zeros() & 30;
@@ -151,8 +153,8 @@ fn short_guess(s: u32) -> u32
     u32::from(ROOTS[cell as usize]) >> (shift / 2)
 }
 
-// The nearest root or the number before it, by the table and two steps of Newton's method. This
-// makes the mending loops short, and no proof rests on it.
+// Returns a guess from the table and two steps of Newton's method: the nearest root or the number before it. A
+// good guess makes the correcting loops short, and no proof rests on it.
 fn root_guess(s: u64) -> u64
     ensures { result < 2 ^ 32 }
 {
@@ -162,11 +164,11 @@ fn root_guess(s: u64) -> u64
     let cell = (scaled >> 56).saturating_sub(64);
     let reciprocal = 256 + u64::from(RECIPROCAL_ROOTS[cell as usize]);
 
-    // Newton's step for the reciprocal root, which then has 16 bits behind the point.
+    // Newton's step for the reciprocal root, which then has 16 bits after the point.
     let correction = (3u64 << 48).wrapping_sub(high.wrapping_mul(reciprocal * reciprocal));
     let reciprocal = reciprocal.wrapping_mul(correction) >> 41;
 
-    // Newton's step for the root, which then has 32 bits behind the point.
+    // Newton's step for the root, which then has 32 bits after the point.
     let root = high.wrapping_mul(reciprocal) >> 16;
     let rest = scaled.wrapping_sub(root.wrapping_mul(root));
     let root = root.wrapping_add((rest >> 16).wrapping_mul(reciprocal) >> 33);
@@ -175,8 +177,8 @@ fn root_guess(s: u64) -> u64
     (root.wrapping_add(half) >> (shift / 2)).min(u64::from(u32::MAX))
 }
 
-// The first number from `guess` on that is not below the nearest root.
-fn raised(s: u64, guess: u64) -> u64
+// Returns the first number from `guess` on that is not below the nearest root.
+fn raise_root(s: u64, guess: u64) -> u64
     requires { guess < 2 ^ 32 }
     ensures { (result ≤ 2 ^ 32) × (s ≤ result * (result + 1)) }
 {
@@ -187,8 +189,8 @@ fn raised(s: u64, guess: u64) -> u64
     root
 }
 
-// The nearest root, at or below `root`.
-fn lowered(s: u64, bound: u64) -> u64
+// Returns the nearest root, which is at most `bound`.
+fn lower_root(s: u64, bound: u64) -> u64
     requires { (bound ≤ 2 ^ 32) × (s ≤ bound * (bound + 1)) }
     ensures { IsNearestRoot s result }
 {

@@ -1,4 +1,4 @@
--- Whether a route is feasible alone depends on its own requests alone.
+-- Feasibility of a route alone depends only on the route's own requests.
 use Rattle.std.proofs.Common.{◌≡◌, ℕ, ◌+◌, Bool, true, false, not, ◌&&◌, ◌||◌, nat_le, int_lt, pos, List, [], ◌∷◌, length, Option, Some, None, refl, sym, ap, ◌∙◌, eqb}
 use Rattle.std.specs.List.{AllByRecursion, list_all}
 use Rattle.std.specs.Option.{option_map, option_and_then, option_or, option_map_or}
@@ -9,13 +9,13 @@ use Rattle.plan_types.specs.declared.requests.Stop.{Stop}
 use Rattle.plan_types.specs.declared.requests.Request.{Request}
 use Rattle.plan_types.specs.declared.requests.Kind.{Kind}
 use Rattle.plan_types.specs.declared.requests.Kind.TheVariants.{LiLim, Vrp}
-use Rattle.route_sched.specs.Agree.{HasSameSchedule, SchedulesAgree}
+use Rattle.route_sched.specs.Agreement.{HasSameSchedule, SchedulesAgree}
 use Rattle.route_sched.specs.Route.{place}
 use Rattle.route_sched.specs.Schedule.{start, load}
 use Rattle.plan_audit.specs.Passes.{has, has_whole_pairs, picks_up_first, places_of, keeps_capacity, keeps_windows, is_back_in_time, keeps_times, feasible_alone}
 use Rattle.plan_audit.specs.Locality.{AgreeOnRequests, FeasibilityIsLocal}
 
--- the stop with a number is that of the request which has it
+-- the stop with a number is a stop of the request that owns the number
 stop_of_request : (n : ℕ) (es : List (ℕ × Request))
     → first_some (stop_in n) es ≡ option_and_then (stop_in n) (first_some (λ r. option_map (λ _. r) (stop_in n r)) es)
 stop_of_request n [] = refl

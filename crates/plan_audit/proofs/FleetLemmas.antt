@@ -39,10 +39,10 @@ use Rattle.std.proofs.lemmas.List.Sums.{sum_by-cons}
 use Rattle.std.proofs.lemmas.Option.{same_Some}
 use Rattle.plan_types.specs.Instance.{Instance}
 use Rattle.route_sched.specs.Cost.{used_count}
-use Rattle.plan_audit.specs.Finding.{first_beyond}
+use Rattle.plan_audit.specs.FirstFault.{first_route_beyond}
 use Rattle.plan_audit.specs.Verdict.{IsBeyondFleet}
 use Rattle.plan_audit.proofs.FirstLemmas.{none_some}
-use Rattle.plan_audit.proofs.SpotLemmas.{IsLeastOf}
+use Rattle.plan_audit.proofs.FailingPlaces.{IsLeastOf}
 use Rattle.plan_audit.proofs.TimeLemmas.{positive, nonzero, route_in}
 
 is_used : List ℕ → ℕ
@@ -52,7 +52,7 @@ used-cons : (r : List ℕ) (rs : List (List ℕ)) → used_count (r ∷ rs) ≡ 
 unfolding is_used
 used-cons r rs = sum_by-cons is_used r rs
 
--- one more route, used or not
+-- the number of used routes with another route, used or not
 used-empty : (r : List ℕ) (rs : List (List ℕ)) → eqb (length r) 0 ≡ true → used_count (r ∷ rs) ≡ used_count rs
 unfolding is_used
 used-empty r rs e = let none : is_used r ≡ 0 = rw e refl in let step = used-cons r rs in omega arith
@@ -61,7 +61,7 @@ used-more : (r : List ℕ) (rs : List (List ℕ)) → eqb (length r) 0 ≡ false
 unfolding is_used
 used-more r rs e = let one : is_used r ≡ 1 = rw e refl in let step = used-cons r rs in omega arith
 
--- no more are used than there are
+-- there are no more used routes than routes
 pub used-most : (rs : List (List ℕ)) → used_count rs ≤ length rs
 used-most [] = omega arith
 used-most (r ∷ rs) = by (eqb (length r) 0) refl (used-most rs)
@@ -84,7 +84,7 @@ length-take-most zero rs = omega arith
 length-take-most (suc n) [] = omega arith
 length-take-most (suc n) (r ∷ rs) = let rest = length-take-most n rs in omega arith
 
--- up to a used route at least one is used
+-- up to a used route at least one route is used
 used-some : (rs : List (List ℕ)) (y : ℕ) (r : List ℕ) → slice_get rs y ≡ Some r → 0 < length r → 1 ≤ used_count (take (suc y) rs)
 used-some [] y r at some = absurd (none_some r at)
 used-some (x ∷ xs) zero r at some =
@@ -96,14 +96,14 @@ used-some (x ∷ xs) (suc y) r at some =
     let step = used-cons x (take (suc y) xs) in
     omega arith
 
--- what the first of the routes answers
+-- the answer at the first of the routes
 abbrev beyond_step : ℕ → ℕ → List ℕ → List (List ℕ) → Option ℕ
 beyond_step left k r rs =
-    cond (eqb (length r) 0) (first_beyond left (k + 1) rs) (cond (eqb left 0) (Some k) (first_beyond (left - 1) (k + 1) rs))
+    cond (eqb (length r) 0) (first_route_beyond left (k + 1) rs) (cond (eqb left 0) (Some k) (first_route_beyond (left - 1) (k + 1) rs))
 
--- the used route with which one more than the vehicles is used is found
+-- the used route for which one vehicle is missing is found
 beyond_at : (left k y : ℕ) (rs : List (List ℕ)) (r : List ℕ) → slice_get rs y ≡ Some r → 0 < length r → used_count (take (suc y) rs) ≡ left + 1
-    → first_beyond left k rs ≡ Some (k + y)
+    → first_route_beyond left k rs ≡ Some (k + y)
 beyond_at left k y [] r at some is = absurd (none_some r at)
 beyond_at left k zero (x ∷ xs) r at some is =
     let same : x ≡ r = same_Some x r at in
@@ -117,8 +117,8 @@ beyond_at left k (suc y) (x ∷ xs) r at some is = by (eqb (length x) 0) refl (�
     place : Some (k + 1 + y) ≡ Some (k + suc y)
     place = let e : k + 1 + y ≡ k + suc y = omega arith in ap Some e
 
-    by : (b : Bool) → eqb (length x) 0 ≡ b → ((l : ℕ) → used_count (take (suc y) xs) ≡ l + 1 → first_beyond l (k + 1) xs ≡ Some (k + 1 + y))
-        → cond b (first_beyond left (k + 1) xs) (cond (eqb left 0) (Some k) (first_beyond (left - 1) (k + 1) xs)) ≡ Some (k + suc y)
+    by : (b : Bool) → eqb (length x) 0 ≡ b → ((l : ℕ) → used_count (take (suc y) xs) ≡ l + 1 → first_route_beyond l (k + 1) xs ≡ Some (k + 1 + y))
+        → cond b (first_route_beyond left (k + 1) xs) (cond (eqb left 0) (Some k) (first_route_beyond (left - 1) (k + 1) xs)) ≡ Some (k + suc y)
     by true e further = let step = used-empty x (take (suc y) xs) e in further left (omega arith) ∙ place
     by false e further =
         let step = used-more x (take (suc y) xs) e in
@@ -126,7 +126,7 @@ beyond_at left k (suc y) (x ∷ xs) r at some is = by (eqb (length x) 0) refl (�
         let more : 0 < left = omega arith in
         rw (nonzero left more) (further (left - 1) (omega arith) ∙ place)
 
--- what is found is such a route
+-- the route that is found is used, and with it one more route is used than there are vehicles left
 record IsBeyond (left k : ℕ) (rs : List (List ℕ)) (m : ℕ) : Type 0 where
   index : ℕ
   route : List ℕ
@@ -135,14 +135,14 @@ record IsBeyond (left k : ℕ) (rs : List (List ℕ)) (m : ℕ) : Type 0 where
   used : 0 < length route
   count : used_count (take (suc index) rs) ≡ left + 1
 
-beyond_found : (left k : ℕ) (rs : List (List ℕ)) (m : ℕ) → first_beyond left k rs ≡ Some m → IsBeyond left k rs m
+beyond_found : (left k : ℕ) (rs : List (List ℕ)) (m : ℕ) → first_route_beyond left k rs ≡ Some m → IsBeyond left k rs m
 beyond_found left k [] m is = absurd (none_some m is)
 beyond_found left k (x ∷ xs) m is =
     by (eqb (length x) 0) refl (eqb_tells left 0) (λ h. beyond_found left (k + 1) xs m h) (λ h. beyond_found (left - 1) (k + 1) xs m h)
   where
     by : (b : Bool) → eqb (length x) 0 ≡ b → ((eqb left 0 ≡ true) × (left ≡ 0)) ⊎ ((eqb left 0 ≡ false) × (left ≢ 0))
-        → (first_beyond left (k + 1) xs ≡ Some m → IsBeyond left (k + 1) xs m)
-        → (first_beyond (left - 1) (k + 1) xs ≡ Some m → IsBeyond (left - 1) (k + 1) xs m) → IsBeyond left k (x ∷ xs) m
+        → (first_route_beyond left (k + 1) xs ≡ Some m → IsBeyond left (k + 1) xs m)
+        → (first_route_beyond (left - 1) (k + 1) xs ≡ Some m → IsBeyond (left - 1) (k + 1) xs m) → IsBeyond left k (x ∷ xs) m
     by true e t empty used =
         let later = empty (let h : beyond_step left k x xs ≡ Some m = is in rw e at h) in
         record {
@@ -179,13 +179,13 @@ beyond_found left k (x ∷ xs) m is =
           count = omega arith;
         }
 
--- where no route is beyond so many, no more are used
-pub used-within : (left k : ℕ) (rs : List (List ℕ)) → first_beyond left k rs ≡ None → used_count rs ≤ left
+-- if no route is beyond the number of vehicles, no more routes are used
+pub used-within : (left k : ℕ) (rs : List (List ℕ)) → first_route_beyond left k rs ≡ None → used_count rs ≤ left
 used-within left k [] is = omega arith
 used-within left k (r ∷ rs) is = by (eqb (length r) 0) refl (eqb_tells left 0) (λ h. used-within left (k + 1) rs h) (λ h. used-within (left - 1) (k + 1) rs h)
   where
     by : (b : Bool) → eqb (length r) 0 ≡ b → ((eqb left 0 ≡ true) × (left ≡ 0)) ⊎ ((eqb left 0 ≡ false) × (left ≢ 0))
-        → (first_beyond left (k + 1) rs ≡ None → used_count rs ≤ left) → (first_beyond (left - 1) (k + 1) rs ≡ None → used_count rs ≤ left - 1)
+        → (first_route_beyond left (k + 1) rs ≡ None → used_count rs ≤ left) → (first_route_beyond (left - 1) (k + 1) rs ≡ None → used_count rs ≤ left - 1)
         → used_count (r ∷ rs) ≤ left
     by true e t empty used =
         let rest = empty (let h : beyond_step left k r rs ≡ None = is in rw e at h) in
@@ -200,12 +200,12 @@ used-within left k (r ∷ rs) is = by (eqb (length r) 0) refl (eqb_tells left 0)
         omega arith
 
 module _ (p : Instance) (routes : List (List ℕ)) where
-  pub fleet_nothing : first_beyond p.fleet 0 routes ≡ None → (r i n : ℕ) → IsBeyondFleet p routes r i n → ⊥
+  pub fleet_nothing : first_route_beyond p.fleet 0 routes ≡ None → (r i n : ℕ) → IsBeyondFleet p routes r i n → ⊥
   fleet_nothing is r i n b =
       let at = route_in routes b.3.0 r b.3.1 in
       none_some _ (sym is ∙ beyond_at p.fleet 0 at.0 routes b.3.0 at.2 b.3.2 (subst (λ r. used_count (take r routes) ≡ p.fleet + 1) at.1 b.2))
 
-  pub fleet_found : (m : ℕ) → first_beyond p.fleet 0 routes ≡ Some m → IsLeastOf (IsBeyondFleet p routes) (suc m) 0 0
+  pub fleet_found : (m : ℕ) → first_route_beyond p.fleet 0 routes ≡ Some m → IsLeastOf (IsBeyondFleet p routes) (suc m) 0 0
   fleet_found m is =
       let found = beyond_found p.fleet 0 routes m is in
       let place = found.place in
@@ -225,9 +225,9 @@ module _ (p : Instance) (routes : List (List ℕ)) where
             inr (omega arith, inr (sym a, omega arith)));
       }
 
-  pub none_beyond : used_count routes ≤ p.fleet → first_beyond p.fleet 0 routes ≡ None
-  none_beyond few = by (first_beyond p.fleet 0 routes) refl
+  pub none_beyond : used_count routes ≤ p.fleet → first_route_beyond p.fleet 0 routes ≡ None
+  none_beyond few = by (first_route_beyond p.fleet 0 routes) refl
     where
-      by : (o : Option ℕ) → first_beyond p.fleet 0 routes ≡ o → o ≡ None
+      by : (o : Option ℕ) → first_route_beyond p.fleet 0 routes ≡ o → o ≡ None
       by None e = refl
       by (Some m) e = let b = (fleet_found m e).broken in let count = b.2 in let le = used-take (suc m) routes in absurd (omega arith)

@@ -1,4 +1,4 @@
--- The lemma files, which upper crates may cite.
+-- Lemma files that other crates may cite.
 pub mod AgreeLemmas
 pub mod AloneLemmas
 pub mod DriveLemmas
@@ -12,11 +12,11 @@ pub mod PlanLemmas
 pub mod PrintLemmas
 pub mod RoutesLemmas
 pub mod RuleLemmas
-pub mod SeatLemmas
+pub mod PositionLemmas
 pub mod ServedLemmas
 pub mod ServiceLemmas
 pub mod SoundLemmas
-pub mod SpotLemmas
+pub mod FailingPlaces
 pub mod StepLemmas
 pub mod TestLemmas
 pub mod TimeLemmas

@@ -1,4 +1,4 @@
--- What passes is judged route by route.
+-- The verdict on a plan, route by route.
 use Rattle.std.proofs.Common.{
   ◌≡◌,
   ℕ,
@@ -38,14 +38,14 @@ use Rattle.std.proofs.lemmas.List.Elements.{All-from_recursion, recursion_from_A
 use Rattle.std.proofs.lemmas.List.Sums.{AllPass-from_list_all, list_all-from_AllPass}
 use Rattle.std.proofs.lemmas.Option.{same_Some}
 use Rattle.plan_types.specs.Instance.{Instance, stop_at}
-use Rattle.route_sched.specs.Route.{IsLive, AreLiveOnce, IsPlan}
-use Rattle.plan_audit.specs.Rules.{item_at, Stands, IsUnknown, IsRepeated}
+use Rattle.route_sched.specs.Route.{IsKnownStop, AreDistinctStops, IsPlan}
+use Rattle.plan_audit.specs.Rules.{item_at, HasStopAt, IsUnknown, IsRepeated}
 use Rattle.plan_audit.specs.Verdict.{planned, KeepsRules}
 use Rattle.plan_audit.specs.Alone.{IsFeasibleAlone}
 use Rattle.plan_audit.specs.Laws.{KeepsPins}
-use Rattle.plan_audit.specs.Passes.{has, are_distinct, are_live_once, begin_with_pins, feasible_alone, passes}
-use Rattle.plan_audit.specs.Locality.{VerdictsAreUnique, TestsSayPass, IsPassing, PassesAreLocal, StandInOneRoute, PlansAreLocal, PinsAreLiveOnce, RoutesMayBeReplaced}
-use Rattle.plan_audit.specs.declared.rules.Rule.TheVariants.{UnknownStop, Twice, Missing, SplitPair, DeliveryFirst, Load, Late, LateReturn, Fleet, Pin}
+use Rattle.plan_audit.specs.Passes.{has, are_distinct, are_distinct_stops, begin_with_pins, feasible_alone, passes}
+use Rattle.plan_audit.specs.Locality.{VerdictsAreUnique, PassesDecidesTheVerdict, IsPassing, PassingIsLocal, ShareNoStop, PlansAreDisjointRoutes, PinsAreDistinctStops, RoutesMayBeReplaced}
+use Rattle.plan_audit.specs.declared.rules.Rule.TheVariants.{UnknownStop, VisitedTwice, MissingStop, SplitPair, EarlyDelivery, Load, Late, LateReturn, Fleet, Pin}
 use Rattle.plan_audit.specs.declared.rules.Verdict.TheVariants.{Pass, Broken}
 use Rattle.plan_audit.proofs.AloneLemmas.{item_holds, distinct_places}
 use Rattle.plan_audit.proofs.FirstLemmas.{none_some}
@@ -53,12 +53,12 @@ use Rattle.plan_audit.proofs.LawProofs.{no_pin_off, routes_are_feasible}
 use Rattle.plan_audit.proofs.PinLemmas.{pins_kept}
 use Rattle.plan_audit.proofs.PlanLemmas.{all_by_get, StandOnce, distinct_route, is_plan, live_routes}
 use Rattle.plan_audit.proofs.RuleLemmas.{standing}
-use Rattle.plan_audit.proofs.SeatLemmas.{Sits}
+use Rattle.plan_audit.proofs.PositionLemmas.{Sits}
 use Rattle.plan_audit.proofs.SoundLemmas.{somewhere_or_not}
 use Rattle.plan_audit.proofs.StepLemmas.{plan_from, planned_step}
-use Rattle.plan_audit.proofs.TestLemmas.{has_at, place_of_had, tests_say_feasible}
+use Rattle.plan_audit.proofs.TestLemmas.{has_at, place_of_had, feasible_alone_decides_feasibility}
 
--- each number of a list that holds others twice joined
+-- a property of all items of a joined list holds for both parts
 all_parts : {X : Type 0} (P : X → Type 0) (xs ys : List X) → AllByRecursion P (xs ++ ys) → AllByRecursion P xs × AllByRecursion P ys
 all_parts P [] ys all = (tt, all)
 all_parts P (x ∷ xs) ys all = let rest = all_parts P xs ys all.1 in ((all.0, rest.0), rest.1)
@@ -69,7 +69,7 @@ all_seats P (route ∷ rest) all zero i n sits =
     item_holds P route i n (all_parts P route (concat rest) all).0 (subst (λ (l : List ℕ). slice_get l i ≡ Some n) (sym (same_Some route sits.0 sits.1)) sits.2)
 all_seats P (route ∷ rest) all (suc r) i n sits = all_seats P rest (all_parts P route (concat rest) all).1 r i n sits
 
--- the numbers of a front and those behind it
+-- a list of distinct numbers has two parts that share none
 distinct_parts : (xs ys : List ℕ) → IsDistinct nat_eq (xs ++ ys)
     → IsDistinct nat_eq xs × IsDistinct nat_eq ys × AllByRecursion (λ x. AllByRecursion (λ y. nat_eq x y ≡ false) ys) xs
 unfolding IsDistinct
@@ -89,7 +89,7 @@ not_in_both route rest apart j r i n at sits =
 in_first : (route : List ℕ) (rest : List (List ℕ)) (i n : ℕ) → Sits (route ∷ rest) zero i n → slice_get route i ≡ Some n
 in_first route rest i n sits = subst (λ (l : List ℕ). slice_get l i ≡ Some n) (sym (same_Some route sits.0 sits.1)) sits.2
 
--- distinct stops have one seat each
+-- distinct stops have one position each
 pub stand_once_from : (routes : List (List ℕ)) → IsDistinct nat_eq (concat routes) → StandOnce routes
 unfolding StandOnce
 stand_once_from [] once q j r i n a b = absurd (none_some a.0 a.1)
@@ -102,7 +102,7 @@ stand_once_from (route ∷ rest) once (suc q) j zero i n a b =
 stand_once_from (route ∷ rest) once (suc q) j (suc r) i n a b =
     let e = stand_once_from rest (distinct_parts route (concat rest) once).1 q j r i n a b in (ap suc e.0, e.1)
 
--- the tests of distinct and of live stops
+-- the tests of distinct stops and of current stops
 none_had : (n : ℕ) (ns : List ℕ) → has ns n ≡ false → AllByRecursion (λ m. nat_eq n m ≡ false) ns
 none_had n ns none = all_by_get (λ m. nat_eq n m ≡ false) ns (λ k m at. by k m at (nat_eq n m) refl)
   where
@@ -129,17 +129,17 @@ tested_distinct [] once = refl
 tested_distinct (n ∷ ns) once = and_from (not (has ns n)) (are_distinct ns) (not_from_false (has ns n) (had_none n ns once.0)) (tested_distinct ns once.1)
 
 module _ (p : Instance) where
-  live_tested : (ns : List ℕ) → are_live_once p ns ≡ true → AreLiveOnce p ns
+  live_tested : (ns : List ℕ) → are_distinct_stops p ns ≡ true → AreDistinctStops p ns
   live_tested ns test =
       let both = and_parts (list_all (λ n. is_some (stop_at p n)) ns) (are_distinct ns) test in
       record { live = AllPass-from_list_all (λ n. is_some (stop_at p n)) ns both.0; distinct = distinct_tested ns both.1 }
 
-  tested_live : (ns : List ℕ) → AreLiveOnce p ns → are_live_once p ns ≡ true
+  tested_live : (ns : List ℕ) → AreDistinctStops p ns → are_distinct_stops p ns ≡ true
   tested_live ns once =
       and_from (list_all (λ n. is_some (stop_at p n)) ns) (are_distinct ns) (list_all-from_AllPass (λ n. is_some (stop_at p n)) ns (once.live))
       (tested_distinct ns (once.distinct))
 
--- the test of a pin, by places
+-- the test of a pin, place by place
 starts_at : (ns pin : List ℕ) → starts_with nat_eq ns pin ≡ true → (i n : ℕ) → slice_get pin i ≡ Some n → slice_get ns i ≡ Some n
 starts_at ns [] test i n at = absurd (none_some n at)
 starts_at [] (m ∷ pin) test i n at = absurd (let h : false ≡ true = test in cc)
@@ -152,7 +152,7 @@ starts_from [] (m ∷ pin) each = absurd (none_some m (each zero m refl))
 starts_from (x ∷ ns) (m ∷ pin) each =
     and_from (nat_eq m x) (starts_with nat_eq ns pin) (eq-eqb m x (same_Some m x (sym (each zero m refl)))) (starts_from ns pin (λ i n at. each (suc i) n at))
 
--- pins, by places that count from 0
+-- the test of the pins, by places counted from 0
 pins_tested : (routes pins : List (List ℕ)) → begin_with_pins routes pins ≡ true → (r i n : ℕ) → Sits pins r i n → Sits routes r i n
 pins_tested routes [] test r i n sits = absurd (none_some sits.0 sits.1)
 pins_tested [] (pin ∷ pins) test zero i n sits =
@@ -182,7 +182,7 @@ tested_pins (route ∷ routes) (pin ∷ pins) kept =
     (starts_from route pin (λ i n at. in_first route routes i n (kept zero i n (pin, refl, at))))
     (tested_pins routes pins (λ r i n sits. kept (suc r) i n sits))
 
--- places that count from 1 are those that count from 0
+-- the test of the pins, by places counted from 1
 keeps_seats : (routes pins : List (List ℕ)) → KeepsPins routes pins → (r i n : ℕ) → Sits pins r i n → Sits routes r i n
 keeps_seats routes pins kept r i n sits = kept (suc r) (suc i) n sits
 
@@ -192,14 +192,14 @@ seats_keep routes pins kept (suc r) zero n t = absurd (none_some n t.2)
 seats_keep routes pins kept (suc r) (suc i) n t = kept r i n t
 
 module _ (p : Instance) (routes : List (List ℕ)) where
-  pub live_seat : IsPlan p routes → (r i n : ℕ) → Sits routes r i n → IsLive p n
-  live_seat plan r i n sits = all_seats (IsLive p) routes (recursion_from_All (IsLive p) (concat routes) (plan.live)) r i n sits
+  pub live_seat : IsPlan p routes → (r i n : ℕ) → Sits routes r i n → IsKnownStop p n
+  live_seat plan r i n sits = all_seats (IsKnownStop p) routes (recursion_from_All (IsKnownStop p) (concat routes) (plan.live)) r i n sits
 
   pub once_seat : IsPlan p routes → StandOnce routes
   once_seat plan = stand_once_from routes (plan.distinct)
 
-  -- the first two rules
-  none_unknown : ((r i n : ℕ) → Sits routes r i n → IsLive p n) → (r i n : ℕ) → IsUnknown p routes r i n → ⊥
+  -- rules 1 and 2 hold
+  none_unknown : ((r i n : ℕ) → Sits routes r i n → IsKnownStop p n) → (r i n : ℕ) → IsUnknown p routes r i n → ⊥
   none_unknown live r i n b =
       let s = standing routes r i n b.0 in
       let l = live s.0 s.1 n s.4 in
@@ -222,7 +222,7 @@ module _ (p : Instance) (routes : List (List ℕ)) where
         | inr both ↦ (let lt = both.1 in omega arith)
       ]
 
-  stands_once : StandOnce routes → (q j r i n : ℕ) → Stands routes q j n → Stands routes r i n → (q ≡ r) × (j ≡ i)
+  stands_once : StandOnce routes → (q j r i n : ℕ) → HasStopAt routes q j n → HasStopAt routes r i n → (q ≡ r) × (j ≡ i)
   unfolding StandOnce
   stands_once once q j r i n a b =
       let s = standing routes q j n a in
@@ -230,10 +230,10 @@ module _ (p : Instance) (routes : List (List ℕ)) where
       let e = once s.0 s.1 t.0 t.1 n s.4 t.4 in
       (s.2 ∙ ap suc e.0 ∙ sym t.2, s.3 ∙ ap suc e.1 ∙ sym t.3)
 
-  -- what is said of a route of the plan is said of it alone
-  module _ (pins : List (List ℕ)) (once : StandOnce routes) (live : (r i n : ℕ) → Sits routes r i n → IsLive p n)
+  -- a property of a route in the plan holds for it as the only route
+  module _ (pins : List (List ℕ)) (once : StandOnce routes) (live : (r i n : ℕ) → Sits routes r i n → IsKnownStop p n)
       (feasible : (r : ℕ) (route : List ℕ) → item_at routes r ≡ Some route → IsFeasibleAlone p route) where
-    anywhere : (route : List ℕ) (r : ℕ) → item_at routes r ≡ Some route → (q j n : ℕ) → Stands (route ∷ []) q j n → Stands routes r j n
+    anywhere : (route : List ℕ) (r : ℕ) → item_at routes r ≡ Some route → (q j n : ℕ) → HasStopAt (route ∷ []) q j n → HasStopAt routes r j n
     anywhere route r at zero j n t = absurd (none_some t.0 t.1)
     anywhere route r at (suc zero) j n t = (route, at, subst (λ (l : List ℕ). item_at l j ≡ Some n) (sym (same_Some route t.0 t.1)) t.2)
     anywhere route r at (suc (suc q)) j n t = absurd (none_some t.0 t.1)
@@ -243,9 +243,9 @@ module _ (p : Instance) (routes : List (List ℕ)) where
 
     pub kept_rules : KeepsRules 1 8 p (planned routes pins)
     kept_rules UnknownStop r i n from to b = none_unknown live r i n b
-    kept_rules Twice r i n from to b = none_repeated once r i n b
-    kept_rules Missing r i n from to b =
-        feasible r b.1.0 b.1.1 Missing 1 i n (omega arith) (omega arith)
+    kept_rules VisitedTwice r i n from to b = none_repeated once r i n b
+    kept_rules MissingStop r i n from to b =
+        feasible r b.1.0 b.1.1 MissingStop 1 i n (omega arith) (omega arith)
         (b.0, (b.1.0, refl, b.1.2), b.2, λ t. b.3 (r, t.1, anywhere b.1.0 r b.1.1 t.0 t.1 n t.2))
     kept_rules SplitPair r i n from to b =
         let route = b.0.0 in
@@ -253,11 +253,11 @@ module _ (p : Instance) (routes : List (List ℕ)) where
         let other = b.1.2 in
         elim (somewhere_or_not (b.0.0 ∷ []) b.1.0) [
           | inl t ↦ other.2 (stands_once once other.0 other.1 r t.1 b.1.0 other.3 (anywhere b.0.0 r b.0.1 t.0 t.1 b.1.0 t.2)).0
-          | inr none ↦ feasible r b.0.0 b.0.1 Missing 1 i b.1.0 (omega arith) (omega arith) (n, (b.0.0, refl, b.0.2), b.1.1, none)
+          | inr none ↦ feasible r b.0.0 b.0.1 MissingStop 1 i b.1.0 (omega arith) (omega arith) (n, (b.0.0, refl, b.0.2), b.1.1, none)
         ]
-    kept_rules DeliveryFirst r i n from to b =
+    kept_rules EarlyDelivery r i n from to b =
         let later = b.1.2 in
-        feasible r b.0.0 b.0.1 DeliveryFirst 1 i n (omega arith) (omega arith) (
+        feasible r b.0.0 b.0.1 EarlyDelivery 1 i n (omega arith) (omega arith) (
           (b.0.0, refl, b.0.2),
           (
             b.1.0,
@@ -270,7 +270,7 @@ module _ (p : Instance) (routes : List (List ℕ)) where
     kept_rules LateReturn r i n from to b = feasible r b.1.0 b.1.1 LateReturn 1 i n (omega arith) (omega arith) (b.0, (b.1.0, refl, b.1.2, b.1.3, b.1.4, b.1.5))
     kept_rules _ r i n from to b = omega arith
 
--- the item at an index holds what all hold
+-- a property of all items holds for the item at an index
 pub all_items : {X : Type 0} (P : X → Type 0) (xs : List X) → All P xs → (r : ℕ) (x : X) → item_at xs r ≡ Some x → P x
 all_items P xs all zero x at = absurd (none_some x at)
 all_items {X = X} P xs all (suc r) x at = by xs (recursion_from_All P xs all) r at
@@ -284,7 +284,7 @@ pub items_all : {X : Type 0} (P : X → Type 0) (xs : List X) → ((r : ℕ) (x 
 items_all P xs each = All-from_recursion P xs (all_by_get P xs (λ k x at. each (suc k) x at))
 
 module _ (p : Instance) (pins routes : List (List ℕ)) where
-  -- all rules are kept exactly where the plan passes by its routes
+  -- all rules hold exactly if the plan passes route by route
   rules_from : IsPassing p pins routes → KeepsRules 1 11 p (planned routes pins)
   rules_from passing =
       planned_step p routes pins
@@ -310,19 +310,19 @@ module _ (p : Instance) (pins routes : List (List ℕ)) where
           absurd (kept Fleet 0 0 0 (omega arith) (omega arith)
           (inr ((refl, refl), refl, λ same. (let h : true ≡ false = sym (eq-eqb (length routes) p.fleet same) ∙ e in cc))))
 
-  -- the test, part by part
+  -- a plan that passes the test meets the conditions of `IsPassing`, and conversely
   tested_passing : passes p pins routes ≡ true → IsPassing p pins routes
   unfolding passes
   tested_passing test =
       let one =
-      and_parts (are_live_once p (concat routes))
+      and_parts (are_distinct_stops p (concat routes))
       (eqb (length routes) p.fleet && (list_all (feasible_alone p) routes && begin_with_pins routes pins)) test in
       let two = and_parts (eqb (length routes) p.fleet) (list_all (feasible_alone p) routes && begin_with_pins routes pins) one.1 in
       let three = and_parts (list_all (feasible_alone p) routes) (begin_with_pins routes pins) two.1 in
       record {
         plan = live_tested p (concat routes) one.0;
         fleet = eqb-true (length routes) p.fleet two.0;
-        feasible = All-weaker (λ route. feasible_alone p route ≡ true) (IsFeasibleAlone p) (λ route t. (tests_say_feasible p route).0 t) routes
+        feasible = All-weaker (λ route. feasible_alone p route ≡ true) (IsFeasibleAlone p) (λ route t. (feasible_alone_decides_feasibility p route).0 t) routes
             (AllPass-from_list_all (feasible_alone p) routes three.0);
         pinned = seats_keep routes pins (pins_tested routes pins three.1);
       }
@@ -330,69 +330,69 @@ module _ (p : Instance) (pins routes : List (List ℕ)) where
   passing_tested : IsPassing p pins routes → passes p pins routes ≡ true
   unfolding passes
   passing_tested passing =
-      and_from (are_live_once p (concat routes)) (eqb (length routes) p.fleet && (list_all (feasible_alone p) routes && begin_with_pins routes pins))
+      and_from (are_distinct_stops p (concat routes)) (eqb (length routes) p.fleet && (list_all (feasible_alone p) routes && begin_with_pins routes pins))
       (tested_live p (concat routes) (passing.plan))
       (and_from (eqb (length routes) p.fleet) (list_all (feasible_alone p) routes && begin_with_pins routes pins)
       (eq-eqb (length routes) p.fleet (passing.fleet))
       (and_from (list_all (feasible_alone p) routes) (begin_with_pins routes pins)
       (list_all-from_AllPass (feasible_alone p) routes
-      (All-weaker (IsFeasibleAlone p) (λ route. feasible_alone p route ≡ true) (λ route t. (tests_say_feasible p route).1 t) routes (passing.feasible)))
+      (All-weaker (IsFeasibleAlone p) (λ route. feasible_alone p route ≡ true) (λ route t. (feasible_alone_decides_feasibility p route).1 t) routes (passing.feasible)))
       (tested_pins routes pins (keeps_seats routes pins (passing.pinned)))))
 
-pub passes_are_local : PassesAreLocal
-passes_are_local p pins routes = (tested_passing p pins routes, passing_tested p pins routes)
+pub passing_is_local : PassingIsLocal
+passing_is_local p pins routes = (tested_passing p pins routes, passing_tested p pins routes)
 
-pub tests_say_pass : TestsSayPass
-tests_say_pass p pins routes = (
+pub passes_decides_the_verdict : PassesDecidesTheVerdict
+passes_decides_the_verdict p pins routes = (
   λ test. (rules_from p pins routes (tested_passing p pins routes test), refl),
   λ is. passing_tested p pins routes (passing_from p pins routes is.0),
 )
 
-pub plans_are_local : PlansAreLocal
+pub plans_are_disjoint_routes : PlansAreDisjointRoutes
 unfolding StandOnce
-plans_are_local p routes =
+plans_are_disjoint_routes p routes =
     (λ plan. (each plan, λ q j r i n a b. (stands_once p routes (once_seat p routes plan) q j r i n a b).0), λ both. joined both.0 both.1)
   where
-    each : IsPlan p routes → All (AreLiveOnce p) routes
+    each : IsPlan p routes → All (AreDistinctStops p) routes
     each plan = live_routes p routes (none_unknown p routes (live_seat p routes plan)) (none_repeated p routes (once_seat p routes plan))
 
-    once : All (AreLiveOnce p) routes → StandInOneRoute routes → StandOnce routes
+    once : All (AreDistinctStops p) routes → ShareNoStop routes → StandOnce routes
     once all one q j r i n a b =
         let same = one (suc q) (suc j) (suc r) (suc i) n a b in
         let e : q ≡ r = omega arith in
-        let live = all_items (AreLiveOnce p) routes all (suc r) b.0 b.1 in
+        let live = all_items (AreDistinctStops p) routes all (suc r) b.0 b.1 in
         let route : a.0 ≡ b.0 = same_Some a.0 b.0 (sym a.1 ∙ ap (slice_get routes) e ∙ b.1) in
         (e, distinct_places b.0 j i n (live.distinct) (subst (λ (l : List ℕ). slice_get l j ≡ Some n) route a.2) b.2)
 
-    lives : All (AreLiveOnce p) routes → (r i n : ℕ) → Sits routes r i n → IsLive p n
+    lives : All (AreDistinctStops p) routes → (r i n : ℕ) → Sits routes r i n → IsKnownStop p n
     lives all r i n sits =
-        let live = all_items (AreLiveOnce p) routes all (suc r) sits.0 sits.1 in
-        item_holds (IsLive p) sits.0 i n (recursion_from_All (IsLive p) sits.0 (live.live)) sits.2
+        let live = all_items (AreDistinctStops p) routes all (suc r) sits.0 sits.1 in
+        item_holds (IsKnownStop p) sits.0 i n (recursion_from_All (IsKnownStop p) sits.0 (live.live)) sits.2
 
-    joined : All (AreLiveOnce p) routes → StandInOneRoute routes → IsPlan p routes
+    joined : All (AreDistinctStops p) routes → ShareNoStop routes → IsPlan p routes
     joined all one = is_plan p routes (none_unknown p routes (lives all)) (none_repeated p routes (once all one))
 
-pub pins_are_live_once : PinsAreLiveOnce
-pins_are_live_once p pins routes test =
-    items_all (AreLiveOnce p) pins (λ r pin at. record {
-      live = All-from_recursion (IsLive p) pin (all_by_get (IsLive p) pin (λ i n on. lives r pin at i n on));
+pub pins_are_distinct_stops : PinsAreDistinctStops
+pins_are_distinct_stops p pins routes test =
+    items_all (AreDistinctStops p) pins (λ r pin at. record {
+      live = All-from_recursion (IsKnownStop p) pin (all_by_get (IsKnownStop p) pin (λ i n on. lives r pin at i n on));
       distinct = distinct_route pin (λ j i n a b. once r pin at j i n a b);
     })
   where
     passing : IsPassing p pins routes
     passing = tested_passing p pins routes test
 
-    sits : (r : ℕ) (pin : List ℕ) → item_at pins r ≡ Some pin → (i n : ℕ) → slice_get pin i ≡ Some n → Stands routes r (suc i) n
+    sits : (r : ℕ) (pin : List ℕ) → item_at pins r ≡ Some pin → (i n : ℕ) → slice_get pin i ≡ Some n → HasStopAt routes r (suc i) n
     sits r pin at i n on = let kept : KeepsPins routes pins = passing.pinned in kept r (suc i) n (pin, at, on)
 
-    lives : (r : ℕ) (pin : List ℕ) → item_at pins r ≡ Some pin → (i n : ℕ) → slice_get pin i ≡ Some n → IsLive p n
+    lives : (r : ℕ) (pin : List ℕ) → item_at pins r ≡ Some pin → (i n : ℕ) → slice_get pin i ≡ Some n → IsKnownStop p n
     lives r pin at i n on = let s = standing routes r (suc i) n (sits r pin at i n on) in live_seat p routes (passing.plan) s.0 s.1 n s.4
 
     once : (r : ℕ) (pin : List ℕ) → item_at pins r ≡ Some pin → (j i n : ℕ) → slice_get pin j ≡ Some n → slice_get pin i ≡ Some n → j ≡ i
     once r pin at j i n a b =
         let e = (stands_once p routes (once_seat p routes (passing.plan)) r (suc j) r (suc i) n (sits r pin at j n a) (sits r pin at i n b)).1 in omega arith
 
--- lists of one length have the same indices
+-- lists of the same length have the same indices
 item_of_same : {X Y : Type 0} (xs : List X) (ys : List Y) → length xs ≡ length ys → (k : ℕ) (x : X) → slice_get xs k ≡ Some x
     → (y : Y) × (slice_get ys k ≡ Some y)
 item_of_same [] ys same k x at = absurd (none_some x at)
@@ -402,7 +402,7 @@ item_of_same (z ∷ xs) (y ∷ ys) same (suc k) x at = item_of_same xs ys (omega
 
 pub routes_may_be_replaced : RoutesMayBeReplaced
 routes_may_be_replaced p pins routes others test same apart change = passing_tested p pins others (record {
-  plan = (plans_are_local p others).1 (items_all (AreLiveOnce p) others live, apart);
+  plan = (plans_are_disjoint_routes p others).1 (items_all (AreDistinctStops p) others live, apart);
   fleet = same ∙ passing.fleet;
   feasible = items_all (IsFeasibleAlone p) others feasible;
   pinned = seats_keep others pins pinned;
@@ -411,16 +411,16 @@ routes_may_be_replaced p pins routes others test same apart change = passing_tes
     passing : IsPassing p pins routes
     passing = tested_passing p pins routes test
 
-    live : (r : ℕ) (route : List ℕ) → item_at others r ≡ Some route → AreLiveOnce p route
+    live : (r : ℕ) (route : List ℕ) → item_at others r ≡ Some route → AreDistinctStops p route
     live r route at = elim (change r route at) [
-      | inl old ↦ all_items (AreLiveOnce p) routes ((plans_are_local p routes).0 (passing.plan)).0 r route old
+      | inl old ↦ all_items (AreDistinctStops p) routes ((plans_are_disjoint_routes p routes).0 (passing.plan)).0 r route old
       | inr may ↦ may.stops
     ]
 
     feasible : (r : ℕ) (route : List ℕ) → item_at others r ≡ Some route → IsFeasibleAlone p route
     feasible r route at = elim (change r route at) [
       | inl old ↦ all_items (IsFeasibleAlone p) routes (passing.feasible) r route old
-      | inr may ↦ (tests_say_feasible p route).0 (may.feasible)
+      | inr may ↦ (feasible_alone_decides_feasibility p route).0 (may.feasible)
     ]
 
     pinned : (r i n : ℕ) → Sits pins r i n → Sits others r i n
@@ -441,15 +441,15 @@ verdicts_are_unique p s (Broken rule r i n) (Broken other q j m) a b =
     let one = a.2 in
     let two = b.2 in
     let ahead = one.least b.0 q j m (two.from) (two.to) (two.broken) in
-    let behind = two.least a.0 r i n (one.from) (one.to) (one.broken) in
+    let following = two.least a.0 r i n (one.from) (one.to) (one.broken) in
     let number = a.1 in
     let number' = b.1 in
     elim ahead [
-      | inl lt ↦ elim behind [
+      | inl lt ↦ elim following [
         | inl gt ↦ absurd (omega arith)
         | inr gt ↦ (let e = gt.0 in absurd (omega arith))
       ]
-      | inr le ↦ elim behind [
+      | inr le ↦ elim following [
         | inl gt ↦ (let e = le.0 in absurd (omega arith))
         | inr ge ↦ (
             let e = le.0 in

@@ -1,4 +1,4 @@
--- Requests that are left out, one after another.
+-- Requests that no route serves, one after another.
 use Rattle.std.proofs.Common.{
   ◌≡◌,
   ℕ,
@@ -36,20 +36,20 @@ use Rattle.std.specs.Option.{option_and_then, option_or}
 use Rattle.std.proofs.lemmas.List.Sums.{sum_by_more}
 use Rattle.std.proofs.lemmas.Option.{slice_get_cases}
 use Rattle.route_sched.specs.Cost.{is_planned}
-use Rattle.plan_audit.specs.Finding.{unserved_in, first_unserved}
+use Rattle.plan_audit.specs.FirstFault.{unserved_in, first_unserved}
 use Rattle.plan_audit.proofs.FirstLemmas.{none_some}
 use Rattle.plan_types.specs.Instance.{Instance, IsInstance}
 use Rattle.plan_types.specs.Laws.{IsBelowNext, RequestsAreBelowNext}
 use Rattle.plan_types.specs.declared.requests.Request.{Request}
 
--- what is answered of the request at an index
+-- the answer for the request at an index
 pub unserved_is : RequestsAreBelowNext → (p : Instance) (routes : List (List ℕ)) (k n : ℕ) (r : Request) (b : Bool) → IsInstance p
     → slice_get p.requests k ≡ Some (n, r) → (IsBelowNext p r → b ≡ is_planned routes r)
     → cond b None (Some n) ≡ option_and_then (unserved_in routes) (slice_get p.requests k)
 unserved_is below p routes k n r b valid at served =
     ap (λ c. cond c None (Some n)) (served (below p k n r valid at)) ∙ sym (ap (option_and_then (unserved_in routes)) at)
 
--- the requests from index k on
+-- if the request at index k is not served, it is the first such request from index k on
 pub unserved_here : (routes : List (List ℕ)) (es : List (ℕ × Request)) (k n : ℕ) → option_and_then (unserved_in routes) (slice_get es k) ≡ Some n
     → first_unserved routes (drop k es) ≡ Some n
 unserved_here routes [] k n is = absurd (none_some n is)
@@ -67,7 +67,7 @@ unserved_later routes es k is = by es k is ∙ ap (λ n. first_unserved routes (
     by (e ∷ es) zero is = ap (λ (o : Option ℕ). option_or o (first_unserved routes es)) is
     by (e ∷ es) (suc k) is = by es k is
 
--- one more of the requests is left out, or none more
+-- the number of unserved requests grows by one or not at all
 abbrev is_left_out : List (List ℕ) → ℕ × Request → Bool
 is_left_out routes e = not (is_planned routes e.1)
 

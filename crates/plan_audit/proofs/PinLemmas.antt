@@ -1,13 +1,13 @@
--- The first place at which a route is not as its pin.
+-- The first place at which a route differs from its pin.
 use Rattle.std.proofs.Common.{◌≡◌, ◌≢◌, ℕ, zero, suc, ◌<◌, ◌≤◌, ◌⊎◌, true, false, cond, List, [], ◌∷◌, Option, Some, None, slice_get, unwrap_or, refl, sym, ap, subst, ◌∙◌, inl, inr, arith}
 use Rattle.std.proofs.lemmas.Bool.Decides.{eqb_tells}
 use Rattle.std.proofs.lemmas.Option.{same_Some}
-use Rattle.plan_audit.specs.Rules.{item_at, Stands, IsNotAfter}
-use Rattle.plan_audit.specs.Finding.{first_off_pin, is_found, off_pin_at}
-use Rattle.plan_audit.specs.Verdict.{IsOffPin}
+use Rattle.plan_audit.specs.Rules.{item_at, HasStopAt, IsNotAfter}
+use Rattle.plan_audit.specs.FirstFault.{first_pin_mismatch, is_found, pin_mismatch_at}
+use Rattle.plan_audit.specs.Verdict.{IsPinMismatch}
 use Rattle.plan_audit.specs.declared.faults.Fault.{Fault}
 use Rattle.plan_audit.proofs.FirstLemmas.{none_some}
-use Rattle.plan_audit.proofs.SpotLemmas.{Spot, IsTestOf, IsLeastOf, rule_nothing, rule_found}
+use Rattle.plan_audit.proofs.FailingPlaces.{Spot, IsTestOf, IsLeastOf, rule_nothing, rule_found}
 use Rattle.plan_audit.proofs.TimeLemmas.{standing_in}
 
 -- whether a place holds stop n
@@ -21,7 +21,7 @@ holds n (Some m) = elim (eqb_tells m n) as (λ _. IsHolding n (Some m)) [
   | inr t ↦ inr (t.0, λ same. t.1 (same_Some m n same))
 ]
 
--- before a place of a list there are places
+-- each place before a place of a list has an item
 place_before : (ns : List ℕ) (i n j : ℕ) → slice_get ns i ≡ Some n → j < i → (m : ℕ) × (slice_get ns j ≡ Some m)
 place_before [] i n j at lt = absurd (none_some n at)
 place_before (x ∷ ns) zero n j at lt = absurd (omega arith)
@@ -38,15 +38,15 @@ no_item zero n at = none_some n at
 no_item (suc i) n at = none_some n at
 
 module _ (routes pins : List (List ℕ)) where
-  -- the route is not as its pin at this place, whatever stands before
+  -- the route differs from its pin at this place, and possibly at earlier ones
   IsOff : ℕ → ℕ → ℕ → Type 0
   IsOff r i n = (pin : List ℕ) × (item_at pins r ≡ Some pin) × (item_at pin i ≡ Some n) × (item_at (unwrap_or (item_at routes r) []) i ≢ Some n)
 
-  off_rule : IsTestOf IsOff (λ r _ i n. off_pin_at (unwrap_or (slice_get routes r) []) i n) pins
+  off_rule : IsTestOf IsOff (λ r _ i n. pin_mismatch_at (unwrap_or (slice_get routes r) []) i n) pins
   unfolding IsOff
   off_rule = record { to = λ r i s t. to r i s t (holds t.1 (slice_get (unwrap_or (slice_get routes r) []) i)); from = from }
     where
-      to : (r i s : ℕ) (t : Spot (λ r _ i n. off_pin_at (unwrap_or (slice_get routes r) []) i n) pins r i s)
+      to : (r i s : ℕ) (t : Spot (λ r _ i n. pin_mismatch_at (unwrap_or (slice_get routes r) []) i n) pins r i s)
           → IsHolding t.1 (slice_get (unwrap_or (slice_get routes r) []) i) → IsOff (suc r) (suc i) s
       to r i s t (inl h) =
           absurd (none_some s (let g : cond (is_found t.1 (slice_get (unwrap_or (slice_get routes r) []) i)) None (Some t.1) ≡ Some s = t.4 in rw (h.0) at g))
@@ -56,7 +56,7 @@ module _ (routes pins : List (List ℕ)) where
           (t.0, t.2, subst (λ n. slice_get t.0 i ≡ Some n) same t.3, subst (λ n. slice_get (unwrap_or (slice_get routes r) []) i ≢ Some n) same h.1)
 
       from : (r i s : ℕ) → IsOff r i s
-          → (q : ℕ) × (j : ℕ) × (r ≡ suc q) × (i ≡ suc j) × Spot (λ r _ i n. off_pin_at (unwrap_or (slice_get routes r) []) i n) pins q j s
+          → (q : ℕ) × (j : ℕ) × (r ≡ suc q) × (i ≡ suc j) × Spot (λ r _ i n. pin_mismatch_at (unwrap_or (slice_get routes r) []) i n) pins q j s
       from r i s b =
           let t = standing_in pins b.0 r i s b.1 b.2 in
           let off : slice_get (unwrap_or (slice_get routes t.0) []) t.1 ≢ Some s =
@@ -75,11 +75,11 @@ module _ (routes pins : List (List ℕ)) where
             ),
           )
 
-  pub pin_nothing : first_off_pin routes pins ≡ None → (r i n : ℕ) → IsOffPin routes pins r i n → ⊥
+  pub pin_nothing : first_pin_mismatch routes pins ≡ None → (r i n : ℕ) → IsPinMismatch routes pins r i n → ⊥
   unfolding IsOff
   pin_nothing none r i n b = rule_nothing IsOff _ pins off_rule none r i n (b.0, b.1, b.2, b.3)
 
-  pub pin_found : (f : Fault) → first_off_pin routes pins ≡ Some f → IsLeastOf (IsOffPin routes pins) (suc f.route) (suc f.place) f.stop
+  pub pin_found : (f : Fault) → first_pin_mismatch routes pins ≡ Some f → IsLeastOf (IsPinMismatch routes pins) (suc f.route) (suc f.place) f.stop
   unfolding IsOff
   pin_found f at =
       let one = rule_found IsOff _ pins off_rule f at in
@@ -89,7 +89,7 @@ module _ (routes pins : List (List ℕ)) where
         least = λ q j m c. one.least q j m (c.0, c.1, c.2, c.3);
       }
     where
-      -- a place before the first that differs
+      -- at a place before the first difference, the route and its pin have the same stop
       alike : IsLeastOf IsOff (suc f.route) (suc f.place) f.stop → (pin : List ℕ) → slice_get pins f.route ≡ Some pin → slice_get pin f.place ≡ Some f.stop
           → (j : ℕ) → 1 ≤ j → j < suc f.place → item_at (unwrap_or (slice_get routes f.route) []) j ≡ item_at pin j
       alike one pin on there zero from below = absurd (omega arith)
@@ -100,16 +100,16 @@ module _ (routes pins : List (List ℕ)) where
             | inr h ↦ absurd (not_before (suc f.route) (suc f.place) f.stop (suc j) m.0 below (one.least (suc f.route) (suc j) m.0 (pin, on, m.1, h.1)))
           ]
 
-  -- where no place is off, each route begins with its pin
-  pub pins_kept : ((r i n : ℕ) → IsOffPin routes pins r i n → ⊥) → (r i n : ℕ) → Stands pins r i n → Stands routes r i n
+  -- if no place differs, each route begins with its pin
+  pub pins_kept : ((r i n : ℕ) → IsPinMismatch routes pins r i n → ⊥) → (r i n : ℕ) → HasStopAt pins r i n → HasStopAt routes r i n
   unfolding IsOff
-  pins_kept none r i n t = by (first_off_pin routes pins) refl
+  pins_kept none r i n t = by (first_pin_mismatch routes pins) refl
     where
-      here : (o : Option (List ℕ)) → item_at routes r ≡ o → IsHolding n (item_at (unwrap_or o []) i) → (IsOff r i n → ⊥) → Stands routes r i n
+      here : (o : Option (List ℕ)) → item_at routes r ≡ o → IsHolding n (item_at (unwrap_or o []) i) → (IsOff r i n → ⊥) → HasStopAt routes r i n
       here None e (inl h) kept = absurd (no_item i n h.1)
       here (Some route) e (inl h) kept = (route, e, h.1)
       here o e (inr h) kept = absurd (kept (t.0, t.1, t.2, subst (λ (o : Option (List ℕ)). item_at (unwrap_or o []) i ≢ Some n) (sym e) h.1))
 
-      by : (o : Option Fault) → first_off_pin routes pins ≡ o → Stands routes r i n
+      by : (o : Option Fault) → first_pin_mismatch routes pins ≡ o → HasStopAt routes r i n
       by None e = here (item_at routes r) refl (holds n (item_at (unwrap_or (item_at routes r) []) i)) (rule_nothing IsOff _ pins off_rule e r i n)
       by (Some f) e = absurd (none (suc f.route) (suc f.place) f.stop (pin_found f e).broken)

@@ -1,4 +1,4 @@
--- Plans whose stops are all known and stand once each.
+-- Plans whose stops are known and distinct.
 use Rattle.std.proofs.Common.{◌≡◌, ℕ, zero, suc, ◌<◌, false, List, [], ◌∷◌, ◌++◌, All, Option, Some, None, IsSome, slice_get, refl, sym, ap, ◌∙◌, inl, inr, arith, nat_eq}
 use Rattle.std.specs.List.{AllByRecursion, IsDistinct, concat}
 use Rattle.std.proofs.lemmas.Bool.Decides.{eqb_tells}
@@ -6,11 +6,11 @@ use Rattle.std.proofs.lemmas.List.Elements.{All-from_recursion}
 use Rattle.plan_types.specs.Instance.{Instance, IsInstance, stop_at}
 use Rattle.plan_types.specs.Laws.{StopsAreBelowNext}
 use Rattle.plan_types.specs.declared.requests.Stop.{Stop}
-use Rattle.route_sched.specs.Route.{IsLive, AreLiveOnce, IsPlan}
+use Rattle.route_sched.specs.Route.{IsKnownStop, AreDistinctStops, IsPlan}
 use Rattle.plan_audit.specs.Rules.{IsUnknown, IsRepeated}
-use Rattle.plan_audit.proofs.SeatLemmas.{Sits, neither_before}
+use Rattle.plan_audit.proofs.PositionLemmas.{Sits, neither_before}
 
--- what holds of the item at each index
+-- a property of the item at each index holds for all items
 pub all_by_get : {X : Type 0} (P : X → Type 0) (xs : List X) → ((k : ℕ) (x : X) → slice_get xs k ≡ Some x → P x) → AllByRecursion P xs
 all_by_get P [] each = tt
 all_by_get P (x ∷ xs) each = (each zero x refl, all_by_get P xs (λ k y at. each (suc k) y at))
@@ -29,7 +29,7 @@ unfolding IsDistinct
 distinct-append [] ys a b apart = b
 distinct-append (x ∷ xs) ys a b apart = (all-append (λ y. nat_eq x y ≡ false) xs ys a.0 apart.0, distinct-append xs ys a.1 b apart.1)
 
--- no number stands at two places
+-- no number is at two places
 apart_from : (n m : ℕ) → (n ≡ m → ⊥) → nat_eq n m ≡ false
 apart_from n m ne = elim (eqb_tells n m) [ inl t ↦ absurd (ne t.1) | inr t ↦ t.0 ]
 
@@ -42,7 +42,7 @@ distinct_route (n ∷ ns) once = (
   distinct_route ns (λ j i m a b. let e : suc j ≡ suc i = once (suc j) (suc i) m a b in omega arith),
 )
 
--- each stop has one seat
+-- each stop has only one position
 unfoldable pub StandOnce : List (List ℕ) → Type 0
 StandOnce routes = (q j r i n : ℕ) → Sits routes q j n → Sits routes r i n → (q ≡ r) × (j ≡ i)
 
@@ -67,15 +67,15 @@ module _ (p : Instance) (routes : List (List ℕ)) (known : (r i n : ℕ) → Is
       by (Some s) e = refl
       by None e = absurd (known (suc r) (suc i) n (sits, e))
 
-  -- so every number is below the next
+  -- each stop number of the routes is below the next number
   pub known_below : StopsAreBelowNext → IsInstance p → All (λ route. All (λ n. n < p.next_number) route) routes
   known_below stops_below valid =
       All-from_recursion (λ route. All (λ n. n < p.next_number) route) routes (all_by_get (λ route. All (λ n. n < p.next_number) route) routes (λ r route at.
       All-from_recursion (λ n. n < p.next_number) route
       (all_by_get (λ n. n < p.next_number) route (λ i n on. stops_below p n valid (live-at r i n (route, at, on))))))
 
-  live_in : AllByRecursion (AllByRecursion (IsLive p)) routes
-  live_in = all_by_get (AllByRecursion (IsLive p)) routes (λ r route at. all_by_get (IsLive p) route (λ i n on. live-at r i n (route, at, on)))
+  live_in : AllByRecursion (AllByRecursion (IsKnownStop p)) routes
+  live_in = all_by_get (AllByRecursion (IsKnownStop p)) routes (λ r route at. all_by_get (IsKnownStop p) route (λ i n on. live-at r i n (route, at, on)))
 
   module _ (once : (r i n : ℕ) → IsRepeated p routes r i n → ⊥) where
     stand_once : StandOnce routes
@@ -88,13 +88,13 @@ module _ (p : Instance) (routes : List (List ℕ)) (known : (r i n : ℕ) → Is
 
     pub is_plan : IsPlan p routes
     is_plan = record {
-      live = All-from_recursion (IsLive p) (concat routes) (all-concat (IsLive p) routes live_in);
+      live = All-from_recursion (IsKnownStop p) (concat routes) (all-concat (IsKnownStop p) routes live_in);
       distinct = distinct_concat routes stand_once;
     }
 
-    pub live_routes : All (AreLiveOnce p) routes
+    pub live_routes : All (AreDistinctStops p) routes
     unfolding StandOnce
-    live_routes = All-from_recursion (AreLiveOnce p) routes (all_by_get (AreLiveOnce p) routes (λ r route at. record {
-      live = All-from_recursion (IsLive p) route (all_by_get (IsLive p) route (λ i n on. live-at r i n (route, at, on)));
+    live_routes = All-from_recursion (AreDistinctStops p) routes (all_by_get (AreDistinctStops p) routes (λ r route at. record {
+      live = All-from_recursion (IsKnownStop p) route (all_by_get (IsKnownStop p) route (λ i n on. live-at r i n (route, at, on)));
       distinct = distinct_route route (λ j i n a b. (stand_once r j r i n (route, at, a) (route, at, b)).1);
     }))

@@ -9,14 +9,14 @@ use Rattle.std.proofs.lemmas.List.Elements.{All-filter}
 use Rattle.std.proofs.lemmas.List.Sums.{sum_by-cons}
 use Rattle.std.proofs.lemmas.Option.{same_Some}
 use Rattle.plan_types.specs.Instance.{Instance}
-use Rattle.plan_types.specs.Laws.{NamedAreFound, RequestsStandByName}
+use Rattle.plan_types.specs.Laws.{NamedRequestsAreFound, RequestsAreStoredByName}
 use Rattle.plan_types.specs.Request.{stops_of}
 use Rattle.plan_types.specs.declared.plans.Cost.{Cost}
 use Rattle.plan_types.specs.declared.requests.Kind.{Kind}
 use Rattle.plan_types.specs.declared.requests.Kind.TheVariants.{LiLim, Vrp}
 use Rattle.plan_types.specs.declared.requests.Request.{Request}
 use Rattle.plan_types.specs.declared.requests.Request.TheVariants.{Single, Pair}
-use Rattle.route_sched.specs.Route.{AreLiveOnce, IsPlan}
+use Rattle.route_sched.specs.Route.{AreDistinctStops, IsPlan}
 use Rattle.route_sched.specs.Cost.{cost_of, has_stop, is_planned, total_length, unplanned_count, used_count, vehicle_count}
 use Rattle.route_sched.specs.Schedule.{route_length}
 use Rattle.route_sched.proofs.Steps.{route_length-nil}
@@ -26,16 +26,16 @@ use Rattle.plan_audit.specs.Laws.{AreAllPlanned, IsPlanned}
 use Rattle.plan_audit.specs.Locality.{IsPassing}
 use Rattle.plan_audit.specs.Printing.{UsedRoutesAreSound, WholePlansPassPrinted}
 use Rattle.plan_audit.specs.Verdict.{KeepsRules, planned, printed}
-use Rattle.plan_audit.specs.declared.rules.Rule.TheVariants.{Missing, Fleet, Pin, PrintedCost}
+use Rattle.plan_audit.specs.declared.rules.Rule.TheVariants.{MissingStop, Fleet, Pin, PrintedCost}
 use Rattle.plan_audit.proofs.FirstLemmas.{none_some}
 use Rattle.plan_audit.proofs.FleetLemmas.{none_beyond, used-most}
 use Rattle.plan_audit.proofs.LawProofs as laws
-use Rattle.plan_audit.proofs.LocalLemmas.{all_items, items_all, kept_rules, live_seat, once_seat, passes_are_local}
+use Rattle.plan_audit.proofs.LocalLemmas.{all_items, items_all, kept_rules, live_seat, once_seat, passing_is_local}
 use Rattle.plan_audit.proofs.ServedLemmas.{a_seat}
 use Rattle.plan_audit.proofs.SoundLemmas.{keeps_from, keeps_partners, sound_from}
 use Rattle.plan_audit.proofs.StepLemmas.{pass_step, plan_from}
 
--- ---- what lists of routes give without the empty ones
+-- ---- lists of routes without the empty ones
 used-first : (n : ℕ) (ns : List ℕ) (routes : List (List ℕ)) → used_routes ((n ∷ ns) ∷ routes) ≡ (n ∷ ns) ∷ used_routes routes
 used-first n ns routes = rw (ne_eqb (length (n ∷ ns)) 0 (λ e. absurd (omega (arith, e)))) refl
 
@@ -44,7 +44,7 @@ concat-used [] = refl
 concat-used ([] ∷ routes) = concat-used routes
 concat-used ((n ∷ ns) ∷ routes) = ap concat (used-first n ns routes) ∙ ap (λ later. (n ∷ ns) ++ later) (concat-used routes)
 
--- a sum in which an empty route counts nothing
+-- a sum in which an empty route counts 0
 sum-used : (f : List ℕ → ℕ) → f [] ≡ 0 → (routes : List (List ℕ)) → sum_by f (used_routes routes) ≡ sum_by f routes
 sum-used f none [] = refl
 sum-used f none ([] ∷ routes) = let step = sum_by-cons f [] routes in let rest = sum-used f none routes in omega (arith, step, rest, none)
@@ -75,7 +75,7 @@ cost-used p routes =
     ∙ (ap (λ v. cost (unplanned_count p routes) v (total_length p (used_routes routes))) (vehicles-used p.kind routes)
     ∙ ap (λ d. cost (unplanned_count p routes) (vehicle_count p.kind routes) d) (total-used p routes))
 
--- ---- where none is unplanned, each is planned
+-- ---- if no request is unplanned, each is planned
 pub is_there : (routes : List (List ℕ)) (request : Request) → is_planned routes request ≡ true → IsPlanned routes request
 is_there routes (Single s) e = elim (or_cases (has_stop routes s.number) false e) [
   | inl t ↦ a_seat routes s.number t
@@ -89,7 +89,7 @@ is_there routes (Pair a b) e = elim (or_cases (has_stop routes a.number) (has_st
   ]
 ]
 
--- what a request counts
+-- 1 for an unplanned request, else 0
 abbrev left : List (List ℕ) → ℕ × Request → ℕ
 left routes e = cond (not (is_planned routes e.1)) 1 0
 
@@ -116,7 +116,7 @@ all_planned p routes none name request at = is_there routes request (none_left r
 -- ---- the rules
 module _ (p : Instance) (routes : List (List ℕ)) (plan : IsPlan p routes) (feasible : All (IsFeasibleAlone p) routes) where
   used_plan : IsPlan p (used_routes routes)
-  used_plan = subst (AreLiveOnce p) (sym (concat-used routes)) plan
+  used_plan = subst (AreDistinctStops p) (sym (concat-used routes)) plan
 
   used_feasible : All (IsFeasibleAlone p) (used_routes routes)
   used_feasible = All-filter (λ route. not (eqb (length route) 0)) (IsFeasibleAlone p) routes feasible
@@ -126,16 +126,16 @@ module _ (p : Instance) (routes : List (List ℕ)) (plan : IsPlan p routes) (fea
       kept_rules p (used_routes routes) [] (once_seat p (used_routes routes) used_plan) (live_seat p (used_routes routes) used_plan)
       (λ r route at. all_items (IsFeasibleAlone p) (used_routes routes) used_feasible r route at)
 
-  -- printed, each request is planned, too
+  -- if each request is planned, the printed form of the plan keeps rules 1 to 8
   printed_kept : (cost : ℕ) → AreAllPlanned p (used_routes routes) → KeepsRules 1 8 p (printed (used_routes routes) cost)
-  printed_kept cost all Missing r i n from to (inl b) = used_kept Missing r i n from to b
-  printed_kept cost all Missing r i n from to (inr b) = laws.is_planned p (used_routes routes) all n b.1
+  printed_kept cost all MissingStop r i n from to (inl b) = used_kept MissingStop r i n from to b
+  printed_kept cost all MissingStop r i n from to (inr b) = laws.is_planned p (used_routes routes) all n b.1
   printed_kept cost all Fleet r i n from to b = omega arith
   printed_kept cost all Pin r i n from to b = omega arith
   printed_kept cost all PrintedCost r i n from to b = omega arith
   printed_kept cost all rule r i n from to b = used_kept rule r i n from to b
 
-pub used_routes_are_sound : RequestsStandByName → NamedAreFound → UsedRoutesAreSound
+pub used_routes_are_sound : RequestsAreStoredByName → NamedRequestsAreFound → UsedRoutesAreSound
 used_routes_are_sound by_name found p routes valid sound =
     sound_from found p (planned (used_routes routes) []) valid (used_kept p routes (plan_from p (planned routes []) kept) feasible)
   where
@@ -154,7 +154,7 @@ whole_plans_pass_printed p pins routes test none = (
 )
   where
     passing : IsPassing p pins routes
-    passing = (passes_are_local p pins routes).0 test
+    passing = (passing_is_local p pins routes).0 test
 
     kept : KeepsRules 1 8 p (printed (used_routes routes) (total_length p routes))
     kept = printed_kept p routes passing.plan passing.feasible (total_length p routes) (all_planned p (used_routes routes) (unplanned-used p routes ∙ none))

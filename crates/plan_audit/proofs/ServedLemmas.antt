@@ -13,19 +13,19 @@ use Rattle.std.proofs.lemmas.Option.{same_Some}
 use Rattle.plan_types.specs.Request.{stops_of}
 use Rattle.plan_types.specs.declared.requests.Request.{Request}
 use Rattle.plan_types.specs.declared.requests.Request.TheVariants.{Single, Pair}
-use Rattle.plan_audit.specs.Rules.{StandsSomewhere}
+use Rattle.plan_audit.specs.Rules.{IsVisited}
 use Rattle.route_sched.specs.Cost.{has_stop, is_planned}
-use Rattle.plan_audit.specs.Finding.{place_of, seat_in, seat_from, seat_of, first_unserved}
-use Rattle.plan_audit.specs.declared.seats.PlanPlace.{PlanPlace}
+use Rattle.plan_audit.specs.FirstFault.{place_of, position_in, position_from, position_of, first_unserved}
+use Rattle.plan_audit.specs.declared.first_positions.StopPosition.{StopPosition}
 use Rattle.plan_audit.proofs.FirstLemmas.{none_some}
-use Rattle.plan_audit.proofs.SeatLemmas.{seat_of-found}
-use Rattle.plan_audit.proofs.RuleLemmas.{nowhere-seat}
+use Rattle.plan_audit.proofs.PositionLemmas.{position_of-found}
+use Rattle.plan_audit.proofs.RuleLemmas.{nowhere-first_position}
 
--- none of its stops stands anywhere
+-- no stop of the request is in a route
 abbrev pub IsNowhere : List (List ℕ) → Request → Type 0
-IsNowhere routes r = AllByRecursion (λ s. StandsSomewhere routes s.number → ⊥) (stops_of r)
+IsNowhere routes r = AllByRecursion (λ s. IsVisited routes s.number → ⊥) (stops_of r)
 
--- who is planned has a seat
+-- a stop is in a list exactly if it has a first place in it
 place-has : (n k : ℕ) (ms : List ℕ) → is_some (place_of n k ms) ≡ list_any (nat_eq n) ms
 place-has n k [] = refl
 place-has n k (m ∷ ms) = elim (eqb_tells m n) [
@@ -33,44 +33,44 @@ place-has n k (m ∷ ms) = elim (eqb_tells m n) [
   | inr t ↦ rw (t.0, ne_eqb n m (λ e. t.1 (sym e))) (place-has n (k + 1) ms)
 ]
 
-seat_in-has : (n k : ℕ) (route : List ℕ) → is_some (seat_in n k route) ≡ list_any (nat_eq n) route
-seat_in-has n k route = mapped (place_of n 0 route) ∙ place-has n 0 route
+position_in-has : (n k : ℕ) (route : List ℕ) → is_some (position_in n k route) ≡ list_any (nat_eq n) route
+position_in-has n k route = mapped (place_of n 0 route) ∙ place-has n 0 route
   where
-    seat : ℕ → PlanPlace
-    seat i = record { route = k; place = i }
+    first_position : ℕ → StopPosition
+    first_position i = record { route = k; place = i }
 
-    mapped : (o : Option ℕ) → is_some (option_map seat o) ≡ is_some o
+    mapped : (o : Option ℕ) → is_some (option_map first_position o) ≡ is_some o
     mapped None = refl
     mapped (Some i) = refl
 
-is_some-or : (o p : Option PlanPlace) → is_some (option_or o p) ≡ (is_some o || is_some p)
+is_some-or : (o p : Option StopPosition) → is_some (option_or o p) ≡ (is_some o || is_some p)
 is_some-or None p = refl
 is_some-or (Some s) p = refl
 
-seat_from-has : (n k : ℕ) (routes : List (List ℕ)) → is_some (seat_from n k routes) ≡ list_any (nat_eq n) (concat routes)
-seat_from-has n k [] = refl
-seat_from-has n k (route ∷ routes) =
-    is_some-or (seat_in n k route) (seat_from n (k + 1) routes)
-    ∙ ap (λ b. b || is_some (seat_from n (k + 1) routes)) (seat_in-has n k route)
-    ∙ ap (λ b. list_any (nat_eq n) route || b) (seat_from-has n (k + 1) routes)
+position_from-has : (n k : ℕ) (routes : List (List ℕ)) → is_some (position_from n k routes) ≡ list_any (nat_eq n) (concat routes)
+position_from-has n k [] = refl
+position_from-has n k (route ∷ routes) =
+    is_some-or (position_in n k route) (position_from n (k + 1) routes)
+    ∙ ap (λ b. b || is_some (position_from n (k + 1) routes)) (position_in-has n k route)
+    ∙ ap (λ b. list_any (nat_eq n) route || b) (position_from-has n (k + 1) routes)
     ∙ sym (list_any-append (nat_eq n) route (concat routes))
 
-pub seat-has : (routes : List (List ℕ)) (n : ℕ) → is_some (seat_of routes n) ≡ has_stop routes n
-seat-has routes n = seat_from-has n 0 routes
+pub first_position-has : (routes : List (List ℕ)) (n : ℕ) → is_some (position_of routes n) ≡ has_stop routes n
+first_position-has routes n = position_from-has n 0 routes
 
-pub no_seat : (routes : List (List ℕ)) (n : ℕ) → has_stop routes n ≡ false → StandsSomewhere routes n → ⊥
-no_seat routes n none = by (seat_of routes n) refl
+pub no_seat : (routes : List (List ℕ)) (n : ℕ) → has_stop routes n ≡ false → IsVisited routes n → ⊥
+no_seat routes n none = by (position_of routes n) refl
   where
-    by : (o : Option PlanPlace) → seat_of routes n ≡ o → StandsSomewhere routes n → ⊥
-    by None e = nowhere-seat routes n e
-    by (Some u) e = absurd (let h : is_some (seat_of routes n) ≡ false = seat-has routes n ∙ none in let g : true ≡ false = (rw e at h) in cc)
+    by : (o : Option StopPosition) → position_of routes n ≡ o → IsVisited routes n → ⊥
+    by None e = nowhere-first_position routes n e
+    by (Some u) e = absurd (let h : is_some (position_of routes n) ≡ false = first_position-has routes n ∙ none in let g : true ≡ false = (rw e at h) in cc)
 
-pub a_seat : (routes : List (List ℕ)) (n : ℕ) → has_stop routes n ≡ true → StandsSomewhere routes n
-a_seat routes n some = by (seat_of routes n) refl
+pub a_seat : (routes : List (List ℕ)) (n : ℕ) → has_stop routes n ≡ true → IsVisited routes n
+a_seat routes n some = by (position_of routes n) refl
   where
-    by : (o : Option PlanPlace) → seat_of routes n ≡ o → StandsSomewhere routes n
-    by None e = absurd (let h : is_some (seat_of routes n) ≡ true = seat-has routes n ∙ some in let g : false ≡ true = (rw e at h) in cc)
-    by (Some u) e = (suc u.route, suc u.place, (seat_of-found routes n u e).sits)
+    by : (o : Option StopPosition) → position_of routes n ≡ o → IsVisited routes n
+    by None e = absurd (let h : is_some (position_of routes n) ≡ true = first_position-has routes n ∙ some in let g : false ≡ true = (rw e at h) in cc)
+    by (Some u) e = (suc u.route, suc u.place, (position_of-found routes n u e).sits)
 
 pub not_served : (routes : List (List ℕ)) (r : Request) → is_planned routes r ≡ false → IsNowhere routes r
 not_served routes (Single s) e = (no_seat routes s.number (or_parts (has_stop routes s.number) false e).0, tt)
@@ -111,7 +111,7 @@ below_less a b h = elim (cases_lt a b) [
       ])
 ]
 
--- the first that is not served
+-- n is the first request that is not served
 pub record IsFirstUnserved (routes : List (List ℕ)) (es : List (ℕ × Request)) (n : ℕ) : Type 0 where
   pub request : Request
   pub found : lookup (nat_eq n) es ≡ Some request

@@ -7,7 +7,7 @@ use Rattle.std.proofs.lemmas.Bool.{eq-eqb}
 use Rattle.std.proofs.lemmas.Bool.Decides.{eqb_tells}
 use Rattle.std.proofs.lemmas.Option.{same_Some}
 use Rattle.plan_types.specs.Instance.{Instance, IsInstance, partner_at, pickup_at}
-use Rattle.plan_types.specs.Laws.{IsFoundAt, NamedAreFound}
+use Rattle.plan_types.specs.Laws.{IsFoundAt, NamedRequestsAreFound}
 use Rattle.plan_types.specs.Request.{stop_in, IsRequest}
 use Rattle.plan_types.specs.declared.requests.Stop.{Stop}
 use Rattle.plan_types.specs.declared.requests.Request.{Request}
@@ -20,7 +20,7 @@ abbrev pub HasStop : ℕ → Request → Type 0
 HasStop n (Single s) = s.number ≡ n
 HasStop n (Pair a b) = (a.number ≡ n) ⊎ (b.number ≡ n)
 
--- a request and the look-up of one of its stops
+-- a stop of a request is found by its number
 stop_found : (n : ℕ) (r : Request) → HasStop n r → (s : Stop) × (stop_in n r ≡ Some s)
 stop_found n (Single s) has = (s, rw (eq-eqb s.number n has) refl)
 stop_found n (Pair a b) (inl has) = (a, rw (eq-eqb a.number n has) refl)
@@ -42,7 +42,7 @@ has_found n (Pair a b) s is = elim (eqb_tells a.number n) [
   ]
 ]
 
--- what holds of each request holds of one that is found
+-- a property of all requests holds for one that is found
 request_holds : (P : Request → Type 0) (es : List (ℕ × Request)) (name : ℕ) (r : Request) → AllByRecursion (λ e. P e.1) es → lookup (nat_eq name) es ≡ Some r
     → P r
 request_holds P [] name r all at = absurd (none_some r at)
@@ -55,8 +55,8 @@ request_holds P (e ∷ es) name r all at = by (eqb_tells name e.0) (λ h. reques
 pub pair_apart : (p : Instance) → IsInstance p → (name : ℕ) (a b : Stop) → IsNamed p name (Pair a b) → a.number ≢ b.number
 pair_apart p valid name a b at = let request = request_holds IsRequest p.requests name (Pair a b) valid.valid at in request.2
 
-module _ (found : NamedAreFound) (p : Instance) (valid : IsInstance p) where
-  -- a request is found at each of its stops
+module _ (found : NamedRequestsAreFound) (p : Instance) (valid : IsInstance p) where
+  -- a request is found by each of its stops
   by_stop : (name n : ℕ) (r : Request) → IsNamed p name r → HasStop n r → IsFoundAt p n r
   by_stop name n r at has = found p n name r valid at (ap is_some (stop_found n r has).1)
 

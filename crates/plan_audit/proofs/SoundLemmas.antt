@@ -1,4 +1,4 @@
--- What is kept by a sound plan, and the other way round.
+-- A plan that keeps the rules is sound, and conversely.
 use Rattle.std.proofs.Common.{
   ◌≡◌,
   get_or,
@@ -45,38 +45,38 @@ use Rattle.std.proofs.lemmas.List.Sums.{fold_push}
 use Rattle.std.proofs.lemmas.List.FromFn.{map-range_with_len_more}
 use Rattle.std.proofs.lemmas.Option.{same_Some, slice_get-get_or, slice_get_within}
 use Rattle.plan_types.specs.Instance.{Instance, IsInstance, stop_at, partner_at, request_with, first_some, pickup_at}
-use Rattle.plan_types.specs.Laws.{NamedAreFound, RequestsStandByName}
+use Rattle.plan_types.specs.Laws.{NamedRequestsAreFound, RequestsAreStoredByName}
 use Rattle.plan_types.specs.Request.{request_name, stop_in, partner_in, pickup_in}
 use Rattle.plan_types.specs.declared.requests.Stop.{Stop}
 use Rattle.plan_types.specs.declared.requests.Request.{Request}
 use Rattle.plan_types.specs.declared.requests.Request.TheVariants.{Single, Pair}
 use Rattle.plan_types.specs.declared.requests.Kind.TheVariants.{LiLim}
-use Rattle.route_sched.specs.Route.{IsLive, place}
+use Rattle.route_sched.specs.Route.{IsKnownStop, place}
 use Rattle.route_sched.specs.Schedule.{start, load, time_between, greatest}
-use Rattle.plan_audit.specs.Rules.{item_at, Stands, StandsSomewhere, IsUnknown, IsRepeated, IsMissing, IsSplit, IsDeliveredFirst, IsOverloaded, IsLate, IsLateReturn}
-use Rattle.plan_audit.specs.Finding.{seat_of}
+use Rattle.plan_audit.specs.Rules.{item_at, HasStopAt, IsVisited, IsUnknown, IsRepeated, IsMissing, IsSplit, IsEarlyDelivery, IsOverloaded, IsLate, IsLateReturn}
+use Rattle.plan_audit.specs.FirstFault.{position_of}
 use Rattle.plan_audit.specs.Verdict.{Subject, planned, printed, routes_of, Breaks, KeepsRules}
-use Rattle.plan_audit.specs.Laws.{StandsOnce, IsPlanned, IsServedOnce, IsNamed, IsPlaceOf, IsSoundPlan}
-use Rattle.plan_audit.specs.declared.seats.PlanPlace.{PlanPlace}
-use Rattle.plan_audit.specs.declared.rules.Rule.TheVariants.{UnknownStop, Twice, Missing, SplitPair, DeliveryFirst, Load, Late, LateReturn}
+use Rattle.plan_audit.specs.Laws.{HasStopOnlyAt, IsPlanned, IsServedOnce, IsNamed, IsPlaceOf, IsSoundPlan}
+use Rattle.plan_audit.specs.declared.first_positions.StopPosition.{StopPosition}
+use Rattle.plan_audit.specs.declared.rules.Rule.TheVariants.{UnknownStop, VisitedTwice, MissingStop, SplitPair, EarlyDelivery, Load, Late, LateReturn}
 use Rattle.plan_audit.proofs.FirstLemmas.{none_some}
-use Rattle.plan_audit.proofs.SeatLemmas.{seat_of-found, neither_before}
-use Rattle.plan_audit.proofs.RuleLemmas.{nowhere-seat}
+use Rattle.plan_audit.proofs.PositionLemmas.{position_of-found, neither_before}
+use Rattle.plan_audit.proofs.RuleLemmas.{nowhere-first_position}
 use Rattle.plan_audit.proofs.VerdictLemmas.{Keeps}
 use Rattle.plan_audit.proofs.ServiceLemmas.{HasStop, has_found, pair_apart, partner_of_pickup, partner_of_delivery, pickup_of_delivery}
 
--- a partner that is missing breaks the third rule of a plan and of a printed solution
-pub missing_in : (p : Instance) (s : Subject) (r i n : ℕ) → IsMissing p (routes_of s) r i n → Breaks p s Missing r i n
+-- a missing partner breaks rule 3 for a plan and for a printed solution
+pub missing_in : (p : Instance) (s : Subject) (r i n : ℕ) → IsMissing p (routes_of s) r i n → Breaks p s MissingStop r i n
 missing_in p (planned routes pins) r i n b = b
 missing_in p (printed routes cost) r i n b = inl b
 
--- a stop stands somewhere or nowhere
-pub somewhere_or_not : (routes : List (List ℕ)) (n : ℕ) → StandsSomewhere routes n ⊎ (StandsSomewhere routes n → ⊥)
-somewhere_or_not routes n = by (seat_of routes n) refl
+-- a stop is in some route or in none
+pub somewhere_or_not : (routes : List (List ℕ)) (n : ℕ) → IsVisited routes n ⊎ (IsVisited routes n → ⊥)
+somewhere_or_not routes n = by (position_of routes n) refl
   where
-    by : (o : Option PlanPlace) → seat_of routes n ≡ o → StandsSomewhere routes n ⊎ (StandsSomewhere routes n → ⊥)
-    by None e = inr (nowhere-seat routes n e)
-    by (Some u) e = inl (suc u.route, suc u.place, (seat_of-found routes n u e).sits)
+    by : (o : Option StopPosition) → position_of routes n ≡ o → IsVisited routes n ⊎ (IsVisited routes n → ⊥)
+    by None e = inr (nowhere-first_position routes n e)
+    by (Some u) e = inl (suc u.route, suc u.place, (position_of-found routes n u e).sits)
 
 -- a place of a route has a stop
 pub stop_there : (ns : List ℕ) (i : ℕ) → 1 ≤ i → i ≤ length ns → (n : ℕ) × (item_at ns i ≡ Some n)
@@ -97,50 +97,50 @@ start_from p route i =
     omega arith
 
 -- a plan that keeps the rules is sound
-module _ (found : NamedAreFound) (p : Instance) (s : Subject) (valid : IsInstance p) (kept : KeepsRules 1 8 p s) where
-  live : (r i n : ℕ) → Stands (routes_of s) r i n → IsLive p n
+module _ (found : NamedRequestsAreFound) (p : Instance) (s : Subject) (valid : IsInstance p) (kept : KeepsRules 1 8 p s) where
+  live : (r i n : ℕ) → HasStopAt (routes_of s) r i n → IsKnownStop p n
   live r i n t = by (stop_at p n) refl
     where
       by : (o : Option Stop) → stop_at p n ≡ o → IsSome o
       by (Some x) e = refl
       by None e = absurd (kept UnknownStop r i n (omega arith) (omega arith) (t, e))
 
-  not_twice : (r i q j n : ℕ) → Stands (routes_of s) r i n → Stands (routes_of s) q j n → (q < r) ⊎ ((q ≡ r) × (j < i)) → ⊥
-  not_twice r i q j n t u earlier = kept Twice r i n (omega arith) (omega arith) (t, (q, j, earlier, u))
+  not_twice : (r i q j n : ℕ) → HasStopAt (routes_of s) r i n → HasStopAt (routes_of s) q j n → (q < r) ⊎ ((q ≡ r) × (j < i)) → ⊥
+  not_twice r i q j n t u earlier = kept VisitedTwice r i n (omega arith) (omega arith) (t, (q, j, earlier, u))
 
-  once : (r i n : ℕ) → Stands (routes_of s) r i n → (q j : ℕ) → Stands (routes_of s) q j n → (q ≡ r) × (j ≡ i)
+  once : (r i n : ℕ) → HasStopAt (routes_of s) r i n → (q j : ℕ) → HasStopAt (routes_of s) q j n → (q ≡ r) × (j ≡ i)
   once r i n t q j u = neither_before q j r i (not_twice r i q j n t u) (not_twice q j r i n u t)
 
-  stands_once : (r i n : ℕ) → Stands (routes_of s) r i n → StandsOnce (routes_of s) r i n
+  stands_once : (r i n : ℕ) → HasStopAt (routes_of s) r i n → HasStopOnlyAt (routes_of s) r i n
   stands_once r i n t = (t, once r i n t)
 
-  -- the other stop of a pair stands, too
-  partner_stands : (r i n m : ℕ) → Stands (routes_of s) r i n → partner_at p n ≡ Some m → StandsSomewhere (routes_of s) m
+  -- the other stop of a pair is in a route too
+  partner_stands : (r i n m : ℕ) → HasStopAt (routes_of s) r i n → partner_at p n ≡ Some m → IsVisited (routes_of s) m
   partner_stands r i n m t is = elim (somewhere_or_not (routes_of s) m) [
     | inl there ↦ there
-    | inr nowhere ↦ absurd (kept Missing r i m (omega arith) (omega arith) (missing_in p s r i m (n, t, is, nowhere)))
+    | inr nowhere ↦ absurd (kept MissingStop r i m (omega arith) (omega arith) (missing_in p s r i m (n, t, is, nowhere)))
   ]
 
-  both_served : (name : ℕ) (a b : Stop) → IsNamed p name (Pair a b) → (r i q j : ℕ) → Stands (routes_of s) r i a.number → Stands (routes_of s) q j b.number
+  both_served : (name : ℕ) (a b : Stop) → IsNamed p name (Pair a b) → (r i q j : ℕ) → HasStopAt (routes_of s) r i a.number → HasStopAt (routes_of s) q j b.number
       → IsServedOnce (routes_of s) (Pair a b)
   both_served name a b at r i q j t u = elim (eqb_tells q r) [
     | inr ne ↦ absurd (kept SplitPair r i a.number (omega arith) (omega arith) (t, (b.number, partner_of_pickup found p valid name a b at, (q, j, ne.1, u))))
     | inl same ↦ (
-        let u' : Stands (routes_of s) r j b.number = subst (λ q. Stands (routes_of s) q j b.number) (same.1) u in
+        let u' : HasStopAt (routes_of s) r j b.number = subst (λ q. HasStopAt (routes_of s) q j b.number) (same.1) u in
         elim (cases_lt i j) [
           | inl lt ↦ (r, i, j, lt, stands_once r i a.number t, stands_once r j b.number u')
           | inr ge ↦ absurd
-              (kept DeliveryFirst r j b.number (omega arith) (omega arith) (u', (a.number, pickup_of_delivery found p valid name a b at, (i, behind ge u', t))))
+              (kept EarlyDelivery r j b.number (omega arith) (omega arith) (u', (a.number, pickup_of_delivery found p valid name a b at, (i, following ge u', t))))
         ])
   ]
     where
-      same_stop : (t' : Stands (routes_of s) r i a.number) (u' : Stands (routes_of s) r j b.number) → i ≡ j → a.number ≡ b.number
+      same_stop : (t' : HasStopAt (routes_of s) r i a.number) (u' : HasStopAt (routes_of s) r j b.number) → i ≡ j → a.number ≡ b.number
       same_stop t' u' e =
           let route : t'.0 ≡ u'.0 = same_Some _ _ (sym t'.1 ∙ u'.1) in
           same_Some _ _ (sym t'.2 ∙ subst (λ k. item_at t'.0 k ≡ Some b.number) (sym e) (subst (λ (l : List ℕ). item_at l j ≡ Some b.number) (sym route) u'.2))
 
-      behind : j ≤ i → Stands (routes_of s) r j b.number → j < i
-      behind ge u' = elim (cases_lt j i) [
+      following : j ≤ i → HasStopAt (routes_of s) r j b.number → j < i
+      following ge u' = elim (cases_lt j i) [
         | inl lt ↦ lt
         | inr le ↦ absurd (pair_apart p valid name a b at (same_stop t u' (omega arith)))
       ]
@@ -198,15 +198,15 @@ first_request n (e ∷ es) s is = by (stop_in n e.1) refl (λ h. first_request n
         let later = rest (sym (ap (λ (o : Option Stop). option_or o (first_some (stop_in n) es)) at) ∙ is) in
         (later.0, ap (λ (o : Option Stop). option_or (option_map (λ _. e.1) o) (first_some (λ r. option_map (λ _. r) (stop_in n r)) es)) at ∙ later.1, later.2)
 
-module _ (by_name : RequestsStandByName) (p : Instance) (valid : IsInstance p) where
+module _ (by_name : RequestsAreStoredByName) (p : Instance) (valid : IsInstance p) where
   pair_of : (n m : ℕ) → partner_at p n ≡ Some m → (a : Stop) × (b : Stop) × IsPairOf p n m a b
   unfolding IsPairOf
   pair_of n m is = by (request_with p n) refl is
     where
       by : (o : Option Request) → request_with p n ≡ o → option_and_then (partner_in n) o ≡ Some m → (a : Stop) × (b : Stop) × IsPairOf p n m a b
-      by None e told = absurd (none_some m told)
-      by (Some (Single s)) e told = absurd (none_some m told)
-      by (Some (Pair a b)) e told = elim (eqb_tells a.number n) [
+      by None e reported = absurd (none_some m reported)
+      by (Some (Single s)) e reported = absurd (none_some m reported)
+      by (Some (Pair a b)) e reported = elim (eqb_tells a.number n) [
         | inl t ↦ (
           a,
           b,
@@ -214,7 +214,7 @@ module _ (by_name : RequestsStandByName) (p : Instance) (valid : IsInstance p) w
             by_name p n (Pair a b) valid e,
             inl (
               t.1,
-              same_Some _ _ (let h : cond (eqb a.number n) (Some b.number) (cond (eqb b.number n) (Some a.number) None) ≡ Some m = told in rw (t.0) at h),
+              same_Some _ _ (let h : cond (eqb a.number n) (Some b.number) (cond (eqb b.number n) (Some a.number) None) ≡ Some m = reported in rw (t.0) at h),
             ),
           ),
         )
@@ -227,12 +227,12 @@ module _ (by_name : RequestsStandByName) (p : Instance) (valid : IsInstance p) w
               inr (
                 u.1,
                 same_Some _ _
-                    (let h : cond (eqb a.number n) (Some b.number) (cond (eqb b.number n) (Some a.number) None) ≡ Some m = told in rw (t.0, u.0) at h),
+                    (let h : cond (eqb a.number n) (Some b.number) (cond (eqb b.number n) (Some a.number) None) ≡ Some m = reported in rw (t.0, u.0) at h),
               ),
             ),
           )
           | inr u ↦ absurd
-              (none_some m (let h : cond (eqb a.number n) (Some b.number) (cond (eqb b.number n) (Some a.number) None) ≡ Some m = told in rw (t.0, u.0) at h))
+              (none_some m (let h : cond (eqb a.number n) (Some b.number) (cond (eqb b.number n) (Some a.number) None) ≡ Some m = reported in rw (t.0, u.0) at h))
         ]
       ]
 
@@ -241,24 +241,24 @@ module _ (by_name : RequestsStandByName) (p : Instance) (valid : IsInstance p) w
     where
       by : (o : Option Request) → request_with p n ≡ o → option_and_then (pickup_in n) o ≡ Some m
           → (a : Stop) × (b : Stop) × IsNamed p a.number (Pair a b) × (b.number ≡ n) × (a.number ≡ m)
-      by None e told = absurd (none_some m told)
-      by (Some (Single s)) e told = absurd (none_some m told)
-      by (Some (Pair a b)) e told = elim (eqb_tells a.number n) [
-        | inl t ↦ absurd (none_some m (let h : cond (eqb a.number n) None (cond (eqb b.number n) (Some a.number) None) ≡ Some m = told in rw (t.0) at h))
+      by None e reported = absurd (none_some m reported)
+      by (Some (Single s)) e reported = absurd (none_some m reported)
+      by (Some (Pair a b)) e reported = elim (eqb_tells a.number n) [
+        | inl t ↦ absurd (none_some m (let h : cond (eqb a.number n) None (cond (eqb b.number n) (Some a.number) None) ≡ Some m = reported in rw (t.0) at h))
         | inr t ↦ elim (eqb_tells b.number n) [
           | inl u ↦ (
             a,
             b,
             by_name p n (Pair a b) valid e,
             u.1,
-            same_Some _ _ (let h : cond (eqb a.number n) None (cond (eqb b.number n) (Some a.number) None) ≡ Some m = told in rw (t.0, u.0) at h),
+            same_Some _ _ (let h : cond (eqb a.number n) None (cond (eqb b.number n) (Some a.number) None) ≡ Some m = reported in rw (t.0, u.0) at h),
           )
-          | inr u ↦ absurd (none_some m (let h : cond (eqb a.number n) None (cond (eqb b.number n) (Some a.number) None) ≡ Some m = told in rw (t.0, u.0) at h))
+          | inr u ↦ absurd (none_some m (let h : cond (eqb a.number n) None (cond (eqb b.number n) (Some a.number) None) ≡ Some m = reported in rw (t.0, u.0) at h))
         ]
       ]
 
-  -- the request of a live stop
-  request_of : (n : ℕ) → IsLive p n → (r : Request) × IsNamed p (request_name r) r × HasStop n r
+  -- a current stop belongs to a request
+  request_of : (n : ℕ) → IsKnownStop p n → (r : Request) × IsNamed p (request_name r) r × HasStop n r
   request_of n is = by (stop_at p n) refl is
     where
       by : (o : Option Stop) → stop_at p n ≡ o → IsSome o → (r : Request) × IsNamed p (request_name r) r × HasStop n r
@@ -269,21 +269,21 @@ z_apart : (a b : ℤ) → a <ℤ b → b ≤ℤ a → ⊥
 z_apart a b lt le = omega (arith, ints)
 
 -- a sound plan keeps the rules
-module _ (by_name : RequestsStandByName) (p : Instance) (valid : IsInstance p) (s : Subject) (sound : IsSoundPlan p (routes_of s)) where
-  -- a stop that stands has one place
-  one_place : (r i n : ℕ) → Stands (routes_of s) r i n → (q : ℕ) × (j : ℕ) × StandsOnce (routes_of s) q j n
+module _ (by_name : RequestsAreStoredByName) (p : Instance) (valid : IsInstance p) (s : Subject) (sound : IsSoundPlan p (routes_of s)) where
+  -- a stop in the routes has exactly one place
+  one_place : (r i n : ℕ) → HasStopAt (routes_of s) r i n → (q : ℕ) × (j : ℕ) × HasStopOnlyAt (routes_of s) q j n
   one_place r i n t = let f = request_of by_name p valid n (sound.live r i n t) in by f.0 f.1 f.2
     where
-      by : (q : Request) → IsNamed p (request_name q) q → HasStop n q → (q : ℕ) × (j : ℕ) × StandsOnce (routes_of s) q j n
+      by : (q : Request) → IsNamed p (request_name q) q → HasStop n q → (q : ℕ) × (j : ℕ) × HasStopOnlyAt (routes_of s) q j n
       by (Single a) at has =
-          let served = sound.served a.number (Single a) at (r, i, subst (λ m. Stands (routes_of s) r i m) (sym has) t) in
-          (served.0, served.1, subst (λ m. StandsOnce (routes_of s) served.0 served.1 m) has served.2)
+          let served = sound.served a.number (Single a) at (r, i, subst (λ m. HasStopAt (routes_of s) r i m) (sym has) t) in
+          (served.0, served.1, subst (λ m. HasStopOnlyAt (routes_of s) served.0 served.1 m) has served.2)
       by (Pair a b) at (inl has) =
-          let served = sound.served a.number (Pair a b) at (inl (r, i, subst (λ m. Stands (routes_of s) r i m) (sym has) t)) in
-          (served.0, served.1, subst (λ m. StandsOnce (routes_of s) served.0 served.1 m) has served.4)
+          let served = sound.served a.number (Pair a b) at (inl (r, i, subst (λ m. HasStopAt (routes_of s) r i m) (sym has) t)) in
+          (served.0, served.1, subst (λ m. HasStopOnlyAt (routes_of s) served.0 served.1 m) has served.4)
       by (Pair a b) at (inr has) =
-          let served = sound.served a.number (Pair a b) at (inr (r, i, subst (λ m. Stands (routes_of s) r i m) (sym has) t)) in
-          (served.0, served.2, subst (λ m. StandsOnce (routes_of s) served.0 served.2 m) has served.5)
+          let served = sound.served a.number (Pair a b) at (inr (r, i, subst (λ m. HasStopAt (routes_of s) r i m) (sym has) t)) in
+          (served.0, served.2, subst (λ m. HasStopOnlyAt (routes_of s) served.0 served.2 m) has served.5)
 
   keeps_twice : (r i n : ℕ) → IsRepeated p (routes_of s) r i n → ⊥
   keeps_twice r i n b =
@@ -300,11 +300,11 @@ module _ (by_name : RequestsStandByName) (p : Instance) (valid : IsInstance p) (
       let x = pair.0 in let y = pair.1 in
       elim pair.2.1 [
         | inl e ↦ (
-            let served = sound.served x.number (Pair x y) pair.2.0 (inl (r, i, subst (λ m. Stands (routes_of s) r i m) (sym e.0) b.1)) in
-            b.3 (served.0, served.2, subst (λ m. Stands (routes_of s) served.0 served.2 m) e.1 served.5.0))
+            let served = sound.served x.number (Pair x y) pair.2.0 (inl (r, i, subst (λ m. HasStopAt (routes_of s) r i m) (sym e.0) b.1)) in
+            b.3 (served.0, served.2, subst (λ m. HasStopAt (routes_of s) served.0 served.2 m) e.1 served.5.0))
         | inr e ↦ (
-            let served = sound.served x.number (Pair x y) pair.2.0 (inr (r, i, subst (λ m. Stands (routes_of s) r i m) (sym e.0) b.1)) in
-            b.3 (served.0, served.1, subst (λ m. Stands (routes_of s) served.0 served.1 m) e.1 served.4.0))
+            let served = sound.served x.number (Pair x y) pair.2.0 (inr (r, i, subst (λ m. HasStopAt (routes_of s) r i m) (sym e.0) b.1)) in
+            b.3 (served.0, served.1, subst (λ m. HasStopAt (routes_of s) served.0 served.1 m) e.1 served.4.0))
       ]
 
   keeps_whole : (r i n : ℕ) → IsSplit p (routes_of s) r i n → ⊥
@@ -315,24 +315,24 @@ module _ (by_name : RequestsStandByName) (p : Instance) (valid : IsInstance p) (
       let x = pair.0 in let y = pair.1 in
       elim pair.2.1 [
         | inl e ↦ (
-            let here : Stands (routes_of s) r i x.number = subst (λ k. Stands (routes_of s) r i k) (sym e.0) b.0 in
-            let there : Stands (routes_of s) q j y.number = subst (λ k. Stands (routes_of s) q j k) (sym e.1) b.1.2.3 in
+            let here : HasStopAt (routes_of s) r i x.number = subst (λ k. HasStopAt (routes_of s) r i k) (sym e.0) b.0 in
+            let there : HasStopAt (routes_of s) q j y.number = subst (λ k. HasStopAt (routes_of s) q j k) (sym e.1) b.1.2.3 in
             let served = sound.served x.number (Pair x y) pair.2.0 (inl (r, i, here)) in
             b.1.2.2 ((served.5.1 q j there).0 ∙ sym (served.4.1 r i here).0))
         | inr e ↦ (
-            let here : Stands (routes_of s) r i y.number = subst (λ k. Stands (routes_of s) r i k) (sym e.0) b.0 in
-            let there : Stands (routes_of s) q j x.number = subst (λ k. Stands (routes_of s) q j k) (sym e.1) b.1.2.3 in
+            let here : HasStopAt (routes_of s) r i y.number = subst (λ k. HasStopAt (routes_of s) r i k) (sym e.0) b.0 in
+            let there : HasStopAt (routes_of s) q j x.number = subst (λ k. HasStopAt (routes_of s) q j k) (sym e.1) b.1.2.3 in
             let served = sound.served x.number (Pair x y) pair.2.0 (inr (r, i, here)) in
             b.1.2.2 ((served.4.1 q j there).0 ∙ sym (served.5.1 r i here).0))
       ]
 
-  keeps_order : (r i n : ℕ) → IsDeliveredFirst p (routes_of s) r i n → ⊥
+  keeps_order : (r i n : ℕ) → IsEarlyDelivery p (routes_of s) r i n → ⊥
   keeps_order r i n b =
       let m = b.1.0 in let j = b.1.2.0 in
       let pair = pickup_pair by_name p valid n m b.1.1 in
       let x = pair.0 in let y = pair.1 in
-      let here : Stands (routes_of s) r i y.number = subst (λ k. Stands (routes_of s) r i k) (sym pair.3) b.0 in
-      let there : Stands (routes_of s) r j x.number = subst (λ k. Stands (routes_of s) r j k) (sym pair.4) b.1.2.2 in
+      let here : HasStopAt (routes_of s) r i y.number = subst (λ k. HasStopAt (routes_of s) r i k) (sym pair.3) b.0 in
+      let there : HasStopAt (routes_of s) r j x.number = subst (λ k. HasStopAt (routes_of s) r j k) (sym pair.4) b.1.2.2 in
       let served = sound.served x.number (Pair x y) pair.2 (inr (r, i, here)) in
       let first = (served.4.1 r j there).1 in
       let last = (served.5.1 r i here).1 in
@@ -365,12 +365,12 @@ module _ (by_name : RequestsStandByName) (p : Instance) (valid : IsInstance p) (
       by None e some = (let g : false ≡ true = some in cc)
       by (Some x) e some = none_some x (sym e)
 
-  pub keeps_from : Keeps p s Missing → KeepsRules 1 8 p s
+  pub keeps_from : Keeps p s MissingStop → KeepsRules 1 8 p s
   keeps_from missing UnknownStop r i n from to b = keeps_live r i n b
-  keeps_from missing Twice r i n from to b = keeps_twice r i n b
-  keeps_from missing Missing r i n from to b = missing r i n b
+  keeps_from missing VisitedTwice r i n from to b = keeps_twice r i n b
+  keeps_from missing MissingStop r i n from to b = missing r i n b
   keeps_from missing SplitPair r i n from to b = keeps_whole r i n b
-  keeps_from missing DeliveryFirst r i n from to b = keeps_order r i n b
+  keeps_from missing EarlyDelivery r i n from to b = keeps_order r i n b
   keeps_from missing Load r i n from to b = keeps_loads r i n b
   keeps_from missing Late r i n from to b = keeps_windows r i n b
   keeps_from missing LateReturn r i n from to b = keeps_returns r i n b

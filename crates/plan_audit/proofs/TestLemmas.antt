@@ -1,4 +1,4 @@
--- The test of a route says that it is feasible alone.
+-- The test of a route agrees with feasibility alone.
 use Rattle.std.proofs.Common.{
   ◌≡◌,
   ℕ,
@@ -47,17 +47,17 @@ use Rattle.plan_types.specs.declared.requests.Kind.{Kind}
 use Rattle.plan_types.specs.declared.requests.Kind.TheVariants.{LiLim, Vrp}
 use Rattle.route_sched.specs.Route.{place}
 use Rattle.route_sched.specs.Schedule.{start, load}
-use Rattle.plan_audit.specs.Rules.{item_at, Stands, StandsSomewhere}
+use Rattle.plan_audit.specs.Rules.{item_at, HasStopAt, IsVisited}
 use Rattle.plan_audit.specs.Alone.{IsFeasibleAlone}
 use Rattle.plan_audit.specs.Passes.{has, has_whole_pairs, picks_up_first, keeps_capacity, keeps_windows, is_back_in_time, keeps_times, feasible_alone}
-use Rattle.plan_audit.specs.Locality.{TestsSayFeasible}
-use Rattle.plan_audit.specs.declared.rules.Rule.TheVariants.{Missing, SplitPair, DeliveryFirst, Load, Late, LateReturn}
+use Rattle.plan_audit.specs.Locality.{FeasibleAloneDecidesFeasibility}
+use Rattle.plan_audit.specs.declared.rules.Rule.TheVariants.{MissingStop, SplitPair, EarlyDelivery, Load, Late, LateReturn}
 use Rattle.plan_audit.proofs.FirstLemmas.{none_some}
 use Rattle.plan_audit.proofs.AloneLemmas.{only_route, not_split, in_route}
 use Rattle.plan_audit.proofs.SoundLemmas.{stop_there, stop_within}
 use Rattle.plan_audit.proofs.TimeLemmas.{true_from, positive}
 
--- a test of all items, by index
+-- a test of all items holds for the item at each index
 pub all_true : {X : Type 0} (test : X → Bool) (xs : List X) → list_all test xs ≡ true → (k : ℕ) (x : X) → slice_get xs k ≡ Some x → test x ≡ true
 all_true test [] all k x at = absurd (none_some x at)
 all_true test (y ∷ xs) all zero x at = subst (λ z. test z ≡ true) (same_Some y x at) (and_parts (test y) (list_all test xs) all).0
@@ -67,7 +67,7 @@ pub true_all : {X : Type 0} (test : X → Bool) (xs : List X) → ((k : ℕ) (x 
 true_all test [] each = refl
 true_all test (y ∷ xs) each = and_from (test y) (list_all test xs) (each zero y refl) (true_all test xs (λ k x at. each (suc k) x at))
 
--- and of the numbers of a range
+-- a test of all numbers of a range holds for each of them
 pub range_true : (test : ℕ → Bool) (a n : ℕ) → list_all test (range_with_len a n) ≡ true → (i : ℕ) → a ≤ i → i < a + n → test i ≡ true
 range_true test a zero all i from to = absurd (omega arith)
 range_true test a (suc n) all i from to =
@@ -83,7 +83,7 @@ true_range test a (suc n) each =
     and_from (test a) (list_all test (range_with_len (a + 1) n)) (each a (omega arith) (omega arith))
     (true_range test (a + 1) n (λ i from to. each i (omega arith) (omega arith)))
 
--- who stands at a place is in the list, and the other way round
+-- a number at a place is in the list, and conversely
 pub has_at : (ns : List ℕ) (k n : ℕ) → slice_get ns k ≡ Some n → has ns n ≡ true
 has_at ns k n at = any_passes_from_place (nat_eq n) ns k n at (eq-eqb n n refl)
 
@@ -94,24 +94,24 @@ place_of_had (m ∷ ns) n had = elim (or_cases (nat_eq n m) (has ns n) had) [
   | inr h ↦ (let t = place_of_had ns n h in (suc t.0, t.1))
 ]
 
--- who stands in the only route
-in_only : (route : List ℕ) (r i n : ℕ) → Stands (route ∷ []) r i n → (j : ℕ) × (i ≡ suc j) × (slice_get route j ≡ Some n)
+-- a stop of the only route
+in_only : (route : List ℕ) (r i n : ℕ) → HasStopAt (route ∷ []) r i n → (j : ℕ) × (i ≡ suc j) × (slice_get route j ≡ Some n)
 in_only route r zero n t = absurd (none_some n t.2)
 in_only route r (suc j) n t = (j, refl, subst (λ (l : List ℕ). slice_get l j ≡ Some n) (sym (only_route route t.0 r t.1).1) t.2)
 
 module _ (p : Instance) where
-  -- a pickup behind its delivery, by places
-  none_behind : (ns : List ℕ) → picks_up_first p ns ≡ true → (i j n m : ℕ) → i < j → slice_get ns i ≡ Some n → slice_get ns j ≡ Some m → pickup_at p n ≡ Some m
+  -- if the test holds, no pickup comes after its delivery
+  none_following : (ns : List ℕ) → picks_up_first p ns ≡ true → (i j n m : ℕ) → i < j → slice_get ns i ≡ Some n → slice_get ns j ≡ Some m → pickup_at p n ≡ Some m
       → ⊥
-  none_behind [] first i j n m lt at on is = none_some n at
-  none_behind (x ∷ ns) first i zero n m lt at on is = omega arith
-  none_behind (x ∷ ns) first zero (suc j) n m lt at on is =
+  none_following [] first i j n m lt at on is = none_some n at
+  none_following (x ∷ ns) first i zero n m lt at on is = omega arith
+  none_following (x ∷ ns) first zero (suc j) n m lt at on is =
       let both = and_parts (not (option_map_or (has ns) (pickup_at p x) false)) (picks_up_first p ns) first in
-      let told : pickup_at p x ≡ Some m = ap (pickup_at p) (same_Some x n at) ∙ is in
-      let found : option_map_or (has ns) (pickup_at p x) false ≡ true = ap (λ (o : Option ℕ). option_map_or (has ns) o false) told ∙ has_at ns j m on in
+      let reported : pickup_at p x ≡ Some m = ap (pickup_at p) (same_Some x n at) ∙ is in
+      let found : option_map_or (has ns) (pickup_at p x) false ≡ true = ap (λ (o : Option ℕ). option_map_or (has ns) o false) reported ∙ has_at ns j m on in
       both_ways (option_map_or (has ns) (pickup_at p x) false) (not-true (option_map_or (has ns) (pickup_at p x) false) both.0) found
-  none_behind (x ∷ ns) first (suc i) (suc j) n m lt at on is =
-      none_behind ns (and_parts (not (option_map_or (has ns) (pickup_at p x) false)) (picks_up_first p ns) first).1 i j n m (omega arith) at on is
+  none_following (x ∷ ns) first (suc i) (suc j) n m lt at on is =
+      none_following ns (and_parts (not (option_map_or (has ns) (pickup_at p x) false)) (picks_up_first p ns) first).1 i j n m (omega arith) at on is
 
   picked_first : (ns : List ℕ) → ((i j n m : ℕ) → i < j → slice_get ns i ≡ Some n → slice_get ns j ≡ Some m → pickup_at p n ≡ Some m → ⊥)
       → picks_up_first p ns ≡ true
@@ -130,14 +130,14 @@ module _ (p : Instance) where
       by (Some m) e = had m e (has ns m) refl
 
   module _ (route : List ℕ) where
-    -- the other stop of a pair is there, by places
+    -- if the test holds, the other stop of each pair is in the route
     partner_there : has_whole_pairs p route ≡ true → (j m n : ℕ) → slice_get route j ≡ Some m → partner_at p m ≡ Some n → (k : ℕ) × (slice_get route k ≡ Some n)
     partner_there whole j m n at is =
         place_of_had route n
         (ap (λ (o : Option ℕ). option_map_or (has route) o true) (sym is)
         ∙ all_true (λ n. option_map_or (has route) (partner_at p n) true) route whole j m at)
 
-    whole_pairs : ((j m n : ℕ) → slice_get route j ≡ Some m → partner_at p m ≡ Some n → (StandsSomewhere (route ∷ []) n → ⊥) → ⊥)
+    whole_pairs : ((j m n : ℕ) → slice_get route j ≡ Some m → partner_at p m ≡ Some n → (IsVisited (route ∷ []) n → ⊥) → ⊥)
         → has_whole_pairs p route ≡ true
     whole_pairs none = true_all (λ n. option_map_or (has route) (partner_at p n) true) route (λ j m at. by m j at (partner_at p m) refl)
       where
@@ -194,18 +194,18 @@ module _ (p : Instance) where
         rest = and_parts (keeps_capacity p route) (keeps_times p.kind p route) first.1
 
         by : IsFeasibleAlone p route
-        by Missing r i n from to b =
+        by MissingStop r i n from to b =
             let here = in_only route r i b.0 b.1 in
             let there = partner_there pairs.0 here.0 b.0 n here.2 b.2 in
             b.3 (1, suc there.0, (route, refl, there.1))
         by SplitPair r i n from to b = not_split p route r i n b
-        by DeliveryFirst r i n from to b =
+        by EarlyDelivery r i n from to b =
             let here = in_only route r i n b.0 in
             let there = in_only route r b.1.2.0 b.1.0 b.1.2.2 in
             let lt = b.1.2.1 in
             let a = here.1 in
             let c = there.1 in
-            none_behind route first.0 here.0 there.0 n b.1.0 (omega arith) here.2 there.2 b.1.1
+            none_following route first.0 here.0 there.0 n b.1.0 (omega arith) here.2 there.2 b.1.1
         by Load r i n from to b =
             not_above rest.0 i n (in_route route (λ l. item_at l i ≡ Some n) r b.0 b.1 b.2) (in_route route (λ l. pos p.capacity <ℤ load p l i) r b.0 b.1 b.3)
         by Late r i n from to b =
@@ -218,12 +218,12 @@ module _ (p : Instance) where
 
     module _ (kept : IsFeasibleAlone p route) where
       pairs_kept : has_whole_pairs p route ≡ true
-      pairs_kept = whole_pairs (λ j m n at is nowhere. kept Missing 1 (suc j) n (omega arith) (omega arith) (m, (route, refl, at), is, nowhere))
+      pairs_kept = whole_pairs (λ j m n at is nowhere. kept MissingStop 1 (suc j) n (omega arith) (omega arith) (m, (route, refl, at), is, nowhere))
 
       first_kept : picks_up_first p route ≡ true
       first_kept =
           picked_first route
-          (λ i j n m lt at on is. kept DeliveryFirst 1 (suc i) n (omega arith) (omega arith)
+          (λ i j n m lt at on is. kept EarlyDelivery 1 (suc i) n (omega arith) (omega arith)
           ((route, refl, at), (m, is, (suc j, omega arith, (route, refl, on)))))
 
       capacity_kept : keeps_capacity p route ≡ true
@@ -275,5 +275,5 @@ module _ (p : Instance) where
           (and_from (picks_up_first p route) (keeps_capacity p route && keeps_times p.kind p route) first_kept
           (and_from (keeps_capacity p route) (keeps_times p.kind p route) capacity_kept times_kept))
 
-pub tests_say_feasible : TestsSayFeasible
-tests_say_feasible p route = (feasible_from p route, feasible_to p route)
+pub feasible_alone_decides_feasibility : FeasibleAloneDecidesFeasibility
+feasible_alone_decides_feasibility p route = (feasible_from p route, feasible_to p route)

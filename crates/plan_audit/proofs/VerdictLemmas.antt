@@ -1,18 +1,18 @@
--- The least broken rule, rule after rule.
+-- The first broken rule, one rule after another.
 use Rattle.std.proofs.Common.{◌≡◌, ℕ, suc, ◌+◌, ◌<◌, ◌≤◌, Option, Some, None, Result, Ok, Err, refl, sym, ap, subst, ◌∙◌, inl, inr, arith, add-one, cond, eqb}
 use Rattle.std.proofs.lemmas.Bool.{cases_lt}
 use Rattle.std.specs.Prelude.{MatchResult}
 use Rattle.plan_types.specs.Instance.{Instance, IsInstance}
 use Rattle.plan_types.specs.declared.plans.Cost.{Cost}
 use Rattle.plan_audit.specs.Rules.{IsNotAfter, IsMissing}
-use Rattle.plan_audit.specs.Finding.{unserved_of}
-use Rattle.plan_audit.specs.Verdict.{Subject, planned, printed, routes_of, rule_number, Breaks, KeepsRules, IsLeastBroken, IsBrokenOver, IsVerdictOver}
+use Rattle.plan_audit.specs.FirstFault.{unserved_of}
+use Rattle.plan_audit.specs.Verdict.{Subject, planned, printed, routes_of, rule_number, Breaks, KeepsRules, IsFirstBroken, IsBrokenWithin, IsVerdictWithin}
 use Rattle.plan_audit.specs.declared.rules.Rule.{Rule}
-use Rattle.plan_audit.specs.declared.rules.Rule.TheVariants.{UnknownStop, Twice, Missing, SplitPair, DeliveryFirst, Load, Late, LateReturn, Fleet, Pin, PrintedCost}
+use Rattle.plan_audit.specs.declared.rules.Rule.TheVariants.{UnknownStop, VisitedTwice, MissingStop, SplitPair, EarlyDelivery, Load, Late, LateReturn, Fleet, Pin, PrintedCost}
 use Rattle.plan_audit.specs.declared.rules.Verdict.{Verdict}
 use Rattle.plan_audit.specs.declared.rules.Verdict.TheVariants.{Pass, Broken}
 use Rattle.plan_audit.proofs.FirstLemmas.{none_some}
-use Rattle.plan_audit.proofs.SpotLemmas.{IsLeastOf}
+use Rattle.plan_audit.proofs.FailingPlaces.{IsLeastOf}
 use Rattle.plan_audit.proofs.RuleLemmas.{standing}
 use Rattle.plan_audit.proofs.ServedLemmas.{unserved_found, unserved_nothing}
 
@@ -20,10 +20,10 @@ use Rattle.plan_audit.proofs.ServedLemmas.{unserved_found, unserved_nothing}
 numbered : ℕ → Rule
 numbered n =
     cond (eqb n 1) UnknownStop
-    (cond (eqb n 2) Twice
-    (cond (eqb n 3) Missing
+    (cond (eqb n 2) VisitedTwice
+    (cond (eqb n 3) MissingStop
     (cond (eqb n 4) SplitPair
-    (cond (eqb n 5) DeliveryFirst
+    (cond (eqb n 5) EarlyDelivery
     (cond (eqb n 6) Load (cond (eqb n 7) Late (cond (eqb n 8) LateReturn (cond (eqb n 9) Fleet (cond (eqb n 10) Pin PrintedCost)))))))))
 
 numbered-is : (k : Rule) → numbered (rule_number k) ≡ k
@@ -38,7 +38,7 @@ same_rule k m e = sym (numbered-is k) ∙ ap numbered e ∙ numbered-is m
 unfoldable pub KeepsBelow : ℕ → ℕ → Instance → Subject → Type 0
 KeepsBelow low b p s = (m : Rule) (r i n : ℕ) → low ≤ rule_number m → rule_number m < b → Breaks p s m r i n → ⊥
 
--- nowhere is this rule broken
+-- the rule is broken nowhere
 abbrev pub Keeps : Instance → Subject → Rule → Type 0
 Keeps p s k = (r i n : ℕ) → Breaks p s k r i n → ⊥
 
@@ -65,7 +65,7 @@ module _ (p : Instance) (s : Subject) where
   ]
 
   pub least_broken : (low high : ℕ) (k : Rule) (r i n : ℕ) → low ≤ rule_number k → rule_number k ≤ high → KeepsBelow low (rule_number k) p s
-      → IsLeastOf (Breaks p s k) r i n → IsLeastBroken low high p s k r i n
+      → IsLeastOf (Breaks p s k) r i n → IsFirstBroken low high p s k r i n
   unfolding KeepsBelow
   least_broken low high k r i n from to kept one = record {
     from = from;
@@ -80,8 +80,8 @@ module _ (p : Instance) (s : Subject) where
     ];
   }
 
-  -- rules behind the last may be added
-  pub broken_wider : (low mid high : ℕ) (v : Verdict) → mid ≤ high → IsBrokenOver low mid p s v → IsBrokenOver low high p s v
+  -- a first violation stays the first one if later rules are added
+  pub broken_wider : (low mid high : ℕ) (v : Verdict) → mid ≤ high → IsBrokenWithin low mid p s v → IsBrokenWithin low high p s v
   broken_wider low mid high (Pass cost) le b = absurd b
   broken_wider low mid high (Broken rule r i n) le b =
       let least = b.2 in
@@ -99,8 +99,8 @@ module _ (p : Instance) (s : Subject) where
         },
       )
 
-  -- rules before the first may be added where none of them is broken
-  pub broken_after : (low mid high : ℕ) (v : Verdict) → low ≤ mid + 1 → KeepsRules low mid p s → IsBrokenOver (mid + 1) high p s v → IsBrokenOver low high p s v
+  -- a first violation stays the first one if earlier rules are added and none of them is broken
+  pub broken_after : (low mid high : ℕ) (v : Verdict) → low ≤ mid + 1 → KeepsRules low mid p s → IsBrokenWithin (mid + 1) high p s v → IsBrokenWithin low high p s v
   broken_after low mid high (Pass cost) le kept b = absurd b
   broken_after low mid high (Broken rule r i n) le kept b =
       let least = b.2 in
@@ -118,33 +118,33 @@ module _ (p : Instance) (s : Subject) where
         },
       )
 
-  -- a verdict may be that a rule is broken
-  pub broken_verdict : (low high : ℕ) (v : Verdict) → IsBrokenOver low high p s v → IsVerdictOver low high p s v
+  -- a first violation of the rules from low to high is the verdict on these rules
+  pub broken_verdict : (low high : ℕ) (v : Verdict) → IsBrokenWithin low high p s v → IsVerdictWithin low high p s v
   broken_verdict low high (Pass cost) b = absurd b
   broken_verdict low high (Broken rule r i n) b = b
 
-  -- what the other rules tell, where the first are kept
+  -- the verdict on all rules is that on the later ones if the earlier ones hold
   pub judged_after : (low mid high : ℕ) (o : Result Cost Verdict) → low ≤ mid + 1 → KeepsRules low mid p s
-      → MatchResult o (λ cost. IsVerdictOver (mid + 1) high p s (Pass cost)) (IsBrokenOver (mid + 1) high p s)
-      → MatchResult o (λ cost. IsVerdictOver low high p s (Pass cost)) (IsBrokenOver low high p s)
+      → MatchResult o (λ cost. IsVerdictWithin (mid + 1) high p s (Pass cost)) (IsBrokenWithin (mid + 1) high p s)
+      → MatchResult o (λ cost. IsVerdictWithin low high p s (Pass cost)) (IsBrokenWithin low high p s)
   judged_after low mid high (Ok cost) le kept h = (keeps_both low mid high kept h.0, h.1)
   judged_after low mid high (Err v) le kept h = broken_after low mid high v le kept h
 
--- what a place counted from 0 tells
-pub told_at : (low high : ℕ) (p : Instance) (s : Subject) (k : Rule) (r i n : ℕ) → IsLeastBroken low high p s k (suc r) (suc i) n
-    → IsBrokenOver low high p s (Broken (rule_number k) (r + 1) (i + 1) n)
-told_at low high p s k r i n b = (
+-- the verdict for a place counted from 0
+pub reported_at : (low high : ℕ) (p : Instance) (s : Subject) (k : Rule) (r i n : ℕ) → IsFirstBroken low high p s k (suc r) (suc i) n
+    → IsBrokenWithin low high p s (Broken (rule_number k) (r + 1) (i + 1) n)
+reported_at low high p s k r i n b = (
   k,
   refl,
-  subst (λ r'. IsLeastBroken low high p s k r' (i + 1) n) (sym (add-one r)) (subst (λ i'. IsLeastBroken low high p s k (suc r) i' n) (sym (add-one i)) b),
+  subst (λ r'. IsFirstBroken low high p s k r' (i + 1) n) (sym (add-one r)) (subst (λ i'. IsFirstBroken low high p s k (suc r) i' n) (sym (add-one i)) b),
 )
 
--- the third rule, of a subject of which u is the first request that must be served and is not
+-- rule 3, for a plan or solution in which u is the first request that must be served and is not
 module _ (p : Instance) where
-  pub unserved_least : IsInstance p → (s : Subject) (u : Option ℕ) → u ≡ unserved_of p s → (n : ℕ) → u ≡ Some n → IsLeastOf (Breaks p s Missing) 0 0 n
+  pub unserved_least : IsInstance p → (s : Subject) (u : Option ℕ) → u ≡ unserved_of p s → (n : ℕ) → u ≡ Some n → IsLeastOf (Breaks p s MissingStop) 0 0 n
   unserved_least valid (planned routes pins) u asked n is = absurd (none_some n (sym asked ∙ is))
   unserved_least valid (printed routes cost) u asked n is =
-      let first = unserved_found routes p.requests n valid.rising (sym asked ∙ is) in
+      let first = unserved_found routes p.requests n valid.ascending (sym asked ∙ is) in
       record {
         broken = inr ((refl, refl), (first.request, first.found, first.nowhere));
         least = λ q j m b. elim b as (λ _. IsNotAfter 0 0 n q j m) [
@@ -154,7 +154,7 @@ module _ (p : Instance) where
       }
 
   pub missing_least : (s : Subject) (u : Option ℕ) → u ≡ unserved_of p s → u ≡ None → (r i n : ℕ) → IsLeastOf (IsMissing p (routes_of s)) r i n
-      → IsLeastOf (Breaks p s Missing) r i n
+      → IsLeastOf (Breaks p s MissingStop) r i n
   missing_least (planned routes pins) u asked none r i n one = record { broken = one.broken; least = one.least }
   missing_least (printed routes cost) u asked none r i n one = record {
     broken = inl (one.broken);
@@ -164,7 +164,7 @@ module _ (p : Instance) where
     ];
   }
 
-  pub missing_kept : (s : Subject) (u : Option ℕ) → u ≡ unserved_of p s → u ≡ None → ((r i n : ℕ) → IsMissing p (routes_of s) r i n → ⊥) → Keeps p s Missing
+  pub missing_kept : (s : Subject) (u : Option ℕ) → u ≡ unserved_of p s → u ≡ None → ((r i n : ℕ) → IsMissing p (routes_of s) r i n → ⊥) → Keeps p s MissingStop
   missing_kept (planned routes pins) u asked none kept = kept
   missing_kept (printed routes cost) u asked none kept = λ r i n b. elim b [
     | inl a ↦ kept r i n a

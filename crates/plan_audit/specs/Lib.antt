@@ -1,4 +1,4 @@
--- what public contracts say
+-- the definitions in public contracts
 pub mod Alone
 pub mod Laws
 pub mod Locality
@@ -6,5 +6,5 @@ pub mod Passes
 pub mod Printing
 pub mod Rules
 pub mod Verdict
--- what those of private functions say
-pub mod Finding
+-- the definitions in private contracts
+pub mod FirstFault

@@ -1,56 +1,59 @@
-//! A list of stops as the only route: rules 3 to 8. Here no pair can be split.
+//! A list of stops checked as the only route: rules 3 to 8. A pair cannot be split here.
 //!
-//! Without memory there is nowhere to keep the places of the stops, since a problem that is borrowed can't be
-//! marked; so each partner is looked for in the list. The auditor makes a list of seats instead.
+//! This allocates nothing and cannot mark stops in a borrowed problem. So it searches the list for each
+//! partner. The auditor uses a table of first positions instead.
 ghost use Rattle.std.specs.Prelude.{◌≡◌, ◌∷◌, [], ◌<◌, MatchOption};
-ghost use Rattle.route_sched.specs.Route.{AreLiveOnce};
-ghost use Rattle.plan_audit.specs.Finding.{first_place, seat_of, missing_at, delivered_at};
+ghost use Rattle.route_sched.specs.Route.{AreDistinctStops};
+ghost use Rattle.plan_audit.specs.FirstFault.{first_place_fault, position_of, missing_at, early_delivery_at};
 ghost use Rattle.plan_audit.specs.Passes.{feasible_alone};
-ghost use Rattle.plan_audit.specs.Alone.{IsFeasibleAlone, IsFaultAlone, IsLeastAlone};
+ghost use Rattle.plan_audit.specs.Alone.{IsFeasibleAlone, IsFaultAlone, IsFirstBrokenAlone};
 
-use crate::faults::{PlaceFault, first_place};
-use crate::laws::tests_say_feasible;
+use crate::faults::{PlaceFault, first_place_fault};
+use crate::first_positions::StopPosition;
+use crate::laws::feasible_alone_decides_feasibility;
 use crate::pairs::{early_delivery, missing_partner};
 use crate::rules::Rule;
-use crate::seats::PlanPlace;
 use crate::timing::{late_return, late_stop, overload};
 use plan_types::{Kind, Problem};
 
-/// The least of the rules 3 to 8 that these stops break as the only route, by its number; none where the list is
-/// feasible alone. The stops are live and distinct. Takes no memory, and so looks through the list for the other stop
-/// of each pair: its time is quadratic.
+/// Returns the number of the first of the rules 3 to 8 that these stops break as the only route, or `None` if
+/// the list is feasible alone. The caller guarantees that the stops belong to current requests and are
+/// distinct. Allocates nothing, and so searches the list for the other stop of each pair, which takes quadratic
+/// time.
 pub fn route_fault(problem: &Problem, route: &[u32]) -> Option<u32>
-    requires { AreLiveOnce problem.now route.now }
+    requires { AreDistinctStops problem.now route.now }
     ensures { MatchOption result (IsFeasibleAlone problem.now route.now)
         (IsFaultAlone problem.now route.now) }
 {
-    match broken_alone(problem, route) {
+    match first_broken_alone(problem, route) {
         Some(rule) => Some(rule.number()),
         None => None,
     }
 }
 
-/// Whether the list is a feasible route by itself: it breaks none of the rules 3 to 8 as the only route. The stops are
-/// live and distinct. Takes the time of `route_fault`, and no memory either.
+/// Returns whether the list is feasible alone: as the only route it breaks none of the rules 3 to 8. The caller
+/// guarantees that the stops belong to current requests and are distinct. Takes as long as `route_fault` and
+/// allocates nothing either.
 pub fn is_feasible(problem: &Problem, route: &[u32]) -> bool
-    requires { AreLiveOnce problem.now route.now }
+    requires { AreDistinctStops problem.now route.now }
     ensures { result ≡ feasible_alone problem.now route.now }
 {
-    tests_say_feasible();
+    feasible_alone_decides_feasibility();
     route_fault(problem, route).is_none()
 }
 
-// The first rule that the list breaks as the only route. No pair is split there.
-fn broken_alone(problem: &Problem, route: &[u32]) -> Option<Rule>
-    requires { AreLiveOnce problem.now route.now }
+// Returns the first of the rules 3 to 8 that the list breaks as the only route. A pair cannot be split in an
+// only route.
+fn first_broken_alone(problem: &Problem, route: &[u32]) -> Option<Rule>
+    requires { AreDistinctStops problem.now route.now }
     ensures { MatchOption result (IsFeasibleAlone problem.now route.now)
-        (IsLeastAlone problem.now route.now) }
+        (IsFirstBrokenAlone problem.now route.now) }
 {
     if missing_alone(problem, route).is_some() {
-        return Some(Rule::Missing);
+        return Some(Rule::MissingStop);
     }
-    if delivered_alone(problem, route).is_some() {
-        return Some(Rule::DeliveryFirst);
+    if early_delivery_alone(problem, route).is_some() {
+        return Some(Rule::EarlyDelivery);
     }
     if overload(problem, route).is_some() {
         return Some(Rule::Load);
@@ -68,38 +71,38 @@ fn broken_alone(problem: &Problem, route: &[u32]) -> Option<Rule>
     None
 }
 
-// The first stop whose partner is not in the list.
+// Returns the first stop whose partner is not in the list.
 fn missing_alone(problem: &Problem, route: &[u32]) -> Option<PlaceFault>
-    ensures { result ≡ first_place (λ _ n. missing_at problem.now (route.now ∷ []) n) 0 route.now }
+    ensures { result ≡ first_place_fault (λ _ n. missing_at problem.now (route.now ∷ []) n) 0 route.now }
 {
-    first_place(route, |_, stop| missing_stop(problem, route, stop))
+    first_place_fault(route, |_, stop| missing_stop(problem, route, stop))
 }
 
 fn missing_stop(problem: &Problem, route: &[u32], stop: u32) -> Option<u32>
     ensures { result ≡ missing_at problem.now (route.now ∷ []) stop }
 {
-    missing_partner(problem, stop, |other| seat_alone(route, other))
+    missing_partner(problem, stop, |other| position_alone(route, other))
 }
 
-// The first delivery whose pickup stands later in the list.
-fn delivered_alone(problem: &Problem, route: &[u32]) -> Option<PlaceFault>
-    ensures { result ≡ first_place (delivered_at problem.now (route.now ∷ [])) 0 route.now }
+// Returns the first delivery whose pickup is later in the list.
+fn early_delivery_alone(problem: &Problem, route: &[u32]) -> Option<PlaceFault>
+    ensures { result ≡ first_place_fault (early_delivery_at problem.now (route.now ∷ [])) 0 route.now }
 {
-    first_place(route, |place, stop| {
-        delivered_stop(problem, route, place, stop)
+    first_place_fault(route, |place, stop| {
+        early_delivery_at(problem, route, place, stop)
     })
 }
 
-fn delivered_stop(problem: &Problem, route: &[u32], place: usize, stop: u32) -> Option<u32>
-    ensures { result ≡ delivered_at problem.now (route.now ∷ []) place stop }
+fn early_delivery_at(problem: &Problem, route: &[u32], place: usize, stop: u32) -> Option<u32>
+    ensures { result ≡ early_delivery_at problem.now (route.now ∷ []) place stop }
 {
-    early_delivery(problem, place, stop, |other| seat_alone(route, other))
+    early_delivery(problem, place, stop, |other| position_alone(route, other))
 }
 
-// The first seat of a stop in the list.
-fn seat_alone(route: &[u32], stop: u32) -> Option<PlanPlace>
-    ensures { result ≡ seat_of (route.now ∷ []) stop }
+// Returns the first position of a stop in the list.
+fn position_alone(route: &[u32], stop: u32) -> Option<StopPosition>
+    ensures { result ≡ position_of (route.now ∷ []) stop }
 {
     let place = route.iter().position(|other| *other == stop)?;
-    Some(PlanPlace { route: 0, place })
+    Some(StopPosition { route: 0, place })
 }

@@ -1,22 +1,22 @@
 //! The search for the first place that breaks a rule. Routes and places count from 0 here.
 //!
-//! That a told place fits (`+ 1 < 2 ^ 64`) stands in clauses and not in a ghost field, since the definitions
-//! build such records, and a record with a ghost field is built only with its proof.
+//! The bound on a reported place (`+ 1 < 2 ^ 64`) is in the clauses, not in a ghost field: the definitions
+//! build these records, and a record with a ghost field can be built only with a proof.
 ghost use Rattle.std.specs.Prelude.{◌≡◌, ℕ, ◌+◌, ◌^◌, ◌<◌, List, Option, Contains, IfSome, length};
-ghost use Rattle.plan_audit.specs.Finding.{first_place, first_route};
+ghost use Rattle.plan_audit.specs.FirstFault.{first_place_fault, first_fault};
 ghost use Rattle.std.specs.Borrow.{Bor};
 ghost use Rattle.plan_audit.specs.declared.faults.PlaceFault.{PlaceFault};
 
 use plan_types::Route;
 
-/// A place of a route that breaks a rule, and the stop to tell.
+/// A place of a route that breaks a rule, and the stop to report.
 #[derive(Clone, Copy)]
 pub(crate) struct PlaceFault {
     pub place: usize,
     pub stop: u32,
 }
 
-/// A place of a plan that breaks a rule, and the stop to tell.
+/// A place of a plan that breaks a rule, and the stop to report.
 #[derive(Clone, Copy)]
 pub(crate) struct Fault {
     pub route: usize,
@@ -24,15 +24,15 @@ pub(crate) struct Fault {
     pub stop: u32,
 }
 
-/// What the test answers first: it is given each place with its stop.
-pub(crate) fn first_place<F: Fn(usize, u32) -> Option<u32>>(
+/// Calls the test with each place and its stop, and returns its first answer.
+pub(crate) fn first_place_fault<F: Fn(usize, u32) -> Option<u32>>(
     route: &[u32],
     test: F,
 ) -> Option<PlaceFault>
     requires { F.IsAlwaysCallable test }
-    ensures told { (tells : ℕ → ℕ → Option ℕ)
+    ensures reported { (tells : ℕ → ℕ → Option ℕ)
         → ((i n : ℕ) (o : Option ℕ) → Contains route.now n → F.post test i n o → o ≡ tells i n)
-        → result ≡ first_place tells 0 route.now }
+        → result ≡ first_place_fault tells 0 route.now }
     ensures fits { IfSome result (λ t. t.place + 1 < 2 ^ 64) }
 {
     for (place, stop) in route.iter().enumerate() {
@@ -43,26 +43,26 @@ pub(crate) fn first_place<F: Fn(usize, u32) -> Option<u32>>(
     None
 }
 
-/// What the test of routes answers first: it is given each route with its number.
+/// Calls the test with each route and its number, and returns its first answer.
 pub(crate) fn first_fault<F: Fn(usize, &[u32]) -> Option<PlaceFault>>(
     routes: &[Route],
     test: F,
 ) -> Option<Fault>
     requires { (k : ℕ) (route : Bor (List ℕ)) → Contains routes.now route.now → F.pre test k route }
-    ensures told { (tells : ℕ → List ℕ → Option PlaceFault)
+    ensures reported { (tells : ℕ → List ℕ → Option PlaceFault)
         → ((k : ℕ) (route : Bor (List ℕ)) (o : Option PlaceFault) → Contains routes.now route.now
         → F.post test k route o → o ≡ tells k route.now)
-        → result ≡ first_route tells 0 routes.now }
+        → result ≡ first_fault tells 0 routes.now }
     ensures route { IfSome result (λ f. f.route + 1 < 2 ^ 64) }
     ensures place { ((k : ℕ) (route : Bor (List ℕ)) (o : Option PlaceFault) → F.post test k route o
         → IfSome o (λ t. t.place + 1 < 2 ^ 64)) → IfSome result (λ f. f.place + 1 < 2 ^ 64) }
 {
     for (number, route) in routes.iter().enumerate() {
-        if let Some(told) = test(number, route.as_slice()) {
+        if let Some(reported) = test(number, route.as_slice()) {
             return Some(Fault {
                 route: number,
-                place: told.place,
-                stop: told.stop,
+                place: reported.place,
+                stop: reported.stop,
             });
         }
     }

@@ -1,12 +1,12 @@
-//! The rule on the number of vehicles, 9, for routes that need not be one for each vehicle.
+//! Rule 9, on the number of vehicles, for routes that need not be one per vehicle.
 ghost use Rattle.std.specs.Prelude.{◌≡◌, ◌+◌, ◌<◌, ◌^◌, IfSome};
-ghost use Rattle.plan_audit.specs.Finding.{first_beyond};
+ghost use Rattle.plan_audit.specs.FirstFault.{first_route_beyond};
 
 use plan_types::Route;
 
-/// The first route that is used beyond so many vehicles, counted from 0.
-pub(crate) fn first_beyond(fleet: u32, routes: &[Route]) -> Option<usize>
-    ensures told { result ≡ first_beyond fleet 0 routes.now }
+/// Returns the index, from 0, of the first nonempty route for which no vehicle is left.
+pub(crate) fn first_route_beyond(fleet: u32, routes: &[Route]) -> Option<usize>
+    ensures reported { result ≡ first_route_beyond fleet 0 routes.now }
     ensures fits { IfSome result (λ k. k + 1 < 2 ^ 64) }
 {
     let mut left = fleet;

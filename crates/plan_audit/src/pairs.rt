@@ -1,41 +1,45 @@
 //! The pair that a stop belongs to.
 ghost use Rattle.std.specs.Prelude.{◌≡◌, ℕ, ◌<◌, List, Option};
-ghost use Rattle.plan_audit.specs.Finding.{seat_of, missing_at, delivered_at};
-ghost use Rattle.plan_audit.specs.declared.seats.PlanPlace.{PlanPlace};
+ghost use Rattle.plan_audit.specs.FirstFault.{position_of, missing_at, early_delivery_at};
+ghost use Rattle.plan_audit.specs.declared.first_positions.StopPosition.{StopPosition};
 
-use crate::seats::PlanPlace;
+use crate::first_positions::StopPosition;
 use plan_types::Problem;
 
-/// The other stop of the stop's pair, where `seat` finds no seat for it.
-pub(crate) fn missing_partner<F: Fn(u32) -> Option<PlanPlace>>(
+/// Returns the other stop of the stop's pair if `first_position` finds no position for it.
+pub(crate) fn missing_partner<F: Fn(u32) -> Option<StopPosition>>(
     problem: &Problem,
     stop: u32,
-    seat: F,
+    first_position: F,
 ) -> Option<u32>
-    requires { F.IsAlwaysCallable seat }
+    requires { F.IsAlwaysCallable first_position }
     ensures { (routes : List (List ℕ))
-        → ((n : ℕ) (o : Option PlanPlace) → n < problem.now.next_number → F.post seat n o
-        → o ≡ seat_of routes n) → result ≡ missing_at problem.now routes stop }
+        → ((n : ℕ) (o : Option StopPosition) → n < problem.now.next_number → F.post first_position n o
+        → o ≡ position_of routes n) → result ≡ missing_at problem.now routes stop }
 {
     let partner = problem.partner_of(stop)?;
-    match seat(partner) {
+    match first_position(partner) {
         Some(_) => None,
         None => Some(partner),
     }
 }
 
-/// The stop, where it is a delivery whose pickup has its seat behind this place.
-pub(crate) fn early_delivery<F: Fn(u32) -> Option<PlanPlace>>(
+/// Returns the stop if it is a delivery whose pickup is first at a later place.
+pub(crate) fn early_delivery<F: Fn(u32) -> Option<StopPosition>>(
     problem: &Problem,
     place: usize,
     stop: u32,
-    seat: F,
+    first_position: F,
 ) -> Option<u32>
-    requires { F.IsAlwaysCallable seat }
+    requires { F.IsAlwaysCallable first_position }
     ensures { (routes : List (List ℕ))
-        → ((n : ℕ) (o : Option PlanPlace) → n < problem.now.next_number → F.post seat n o
-        → o ≡ seat_of routes n) → result ≡ delivered_at problem.now routes place stop }
+        → ((n : ℕ) (o : Option StopPosition) → n < problem.now.next_number → F.post first_position n o
+        → o ≡ position_of routes n) → result ≡ early_delivery_at problem.now routes place stop }
 {
-    let seat = seat(problem.pickup_of(stop)?)?;
-    if place < seat.place { Some(stop) } else { None }
+    let first_position = first_position(problem.pickup_of(stop)?)?;
+    if place < first_position.place {
+        Some(stop)
+    } else {
+        None
+    }
 }

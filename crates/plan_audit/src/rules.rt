@@ -1,49 +1,49 @@
-//! The eleven rules by number and name, what each asks and which function asks it, and what an audit answers.
+//! The eleven rules with their numbers and names, and the verdict of an audit.
 ghost use Rattle.std.specs.Prelude.{◌≡◌, ◌+◌, ◌<◌, ◌^◌};
 ghost use Rattle.plan_audit.specs.Rules.{item_at};
-ghost use Rattle.plan_audit.specs.Verdict.{all_rules, is_of_stops, rule_name, rule_number, rule_of};
+ghost use Rattle.plan_audit.specs.Verdict.{all_rules, is_stop_rule, rule_name, rule_number, rule_of};
 
 use crate::faults::Fault;
 use plan_types::Cost;
 
-/// The rules, in the order in which they are asked.
+/// The rules, in the order in which they are checked.
 #[derive(Clone, Copy, Debug, PartialEq, Eq)]
 pub enum Rule {
-    /// 1: a stop is of no request (`Scan::first_unknown`).
+    /// 1: a stop belongs to no request (`Scan::first_unknown`).
     UnknownStop = 1,
-    /// 2: a stop stands at an earlier place too (`Scan::first_repeated`).
-    Twice,
-    /// 3: the other stop of a pair is in no route (`Scan::first_missing`); in a printed solution, a request is in none
-    /// (`Scan::first_unserved`).
-    Missing,
+    /// 2: a stop is at an earlier place too (`Scan::first_repeated`).
+    VisitedTwice,
+    /// 3: the other stop of a pair is in no route (`Scan::first_missing`), or a request is in no route of a
+    /// printed solution (`Scan::first_unserved`).
+    MissingStop,
     /// 4: the other stop of a pair is in another route (`Scan::first_split`).
     SplitPair,
-    /// 5: the pickup stands later in the route (`Scan::first_delivered`).
-    DeliveryFirst,
-    /// 6: the vehicle carries more than it can (`timing::first_overload`).
+    /// 5: the pickup is later in the route than its delivery (`Scan::first_early_delivery`).
+    EarlyDelivery,
+    /// 6: the load exceeds the capacity (`timing::first_overload`).
     Load,
     /// 7: service starts after the stop's latest time (`timing::first_late`).
     Late,
-    /// 8: the vehicle is back after the depot's latest time (`timing::first_late_return`).
+    /// 8: the vehicle returns after the depot's latest time (`timing::first_late_return`).
     LateReturn,
-    /// 9: a plan has not one route for each vehicle (`audits::audit`); a printed solution uses more vehicles than there
-    /// are (`fleet::first_beyond`).
+    /// 9: a plan does not have one route for each vehicle (`audits::audit`), or a printed solution uses more
+    /// vehicles than there are (`fleet::first_route_beyond`).
     Fleet,
-    /// 10: a route does not begin with its pin (`pins::first_off_pin`).
+    /// 10: a route does not begin with its pin (`pins::first_pin_mismatch`).
     Pin,
-    /// 11: the printed cost is not the distance driven (`audits::audit_solution`).
+    /// 11: the printed cost is not the distance of the routes (`audits::audit_solution`).
     PrintedCost,
 }
 
-/// What an audit answers.
+/// The result of an audit.
 #[derive(Clone, Copy, Debug, PartialEq, Eq)]
 pub enum Verdict {
-    /// No rule is broken; what the routes cost.
+    /// No rule is broken. Holds the cost of the routes.
     Pass(Cost),
-    /// The least broken rule, by rule, route, place and stop. Routes and places count from 1; a route, place or stop that
-    /// the rule does not speak of is 0.
+    /// The first violation, by rule, route, place and stop. Routes and places count from 1. A route, place or
+    /// stop that the rule does not refer to is 0.
     Broken {
-        /// The rule's number, as it is printed; `Rule::of_number` gives the rule.
+        /// The rule's number, as it is printed. `Rule::from_number` returns the rule.
         rule: u32,
         route: u64,
         place: u64,
@@ -51,13 +51,13 @@ pub enum Verdict {
     },
 }
 
-/// The rules by their numbers, from 1 on.
+/// The rules in order of their numbers, from 1.
 static RULES: [Rule; 11] = [
     Rule::UnknownStop,
-    Rule::Twice,
-    Rule::Missing,
+    Rule::VisitedTwice,
+    Rule::MissingStop,
     Rule::SplitPair,
-    Rule::DeliveryFirst,
+    Rule::EarlyDelivery,
     Rule::Load,
     Rule::Late,
     Rule::LateReturn,
@@ -67,45 +67,46 @@ static RULES: [Rule; 11] = [
 ];
 
 impl Rule {
-    /// All rules, by their numbers from 1 on.
+    /// Returns all rules in order of their numbers, from 1.
     pub fn all<'a>() -> &'a [Rule]
         ensures { result.now ≡ all_rules }
     {
         RULES.as_slice()
     }
 
-    /// The rule of a number from 1 to 11; of any other there is none.
-    pub fn of_number(number: u32) -> Option<Rule>
+    /// Returns the rule with a number from 1 to 11, or `None` for any other number.
+    pub fn from_number(number: u32) -> Option<Rule>
         ensures { result ≡ rule_of number }
     {
         rule_at(Rule::all(), number)
     }
 
-    /// The number by which the rule is told.
+    /// Returns the number that is printed for the rule.
     pub fn number(self) -> u32
         ensures { result ≡ rule_number self }
     {
         self as u32
     }
 
-    /// Whether the rule asks which stops stand where, and nothing of loads, times or the plan as a whole: rules 1 to 5.
-    pub fn is_of_stops(self) -> bool
-        ensures { result ≡ is_of_stops self }
+    /// Returns whether the rule is one of the rules 1 to 5. They check only which stops are at which places,
+    /// not loads, times or the plan as a whole.
+    pub fn is_stop_rule(self) -> bool
+        ensures { result ≡ is_stop_rule self }
     {
         self.number() < Rule::Load.number()
     }
 
-    /// What is wrong where the rule is broken, in the words that people are told.
+    /// Returns a short description of the violation, as it is printed.
     #[tactic(auto, unfolding(crate::specs::Verdict::rule_name))]
     pub fn name(self) -> &'static str
         ensures { result.now ≡ rule_name self }
     {
         match self {
             Rule::UnknownStop => "unknown stop",
-            Rule::Twice => "visited twice",
-            Rule::Missing => "missing stop",
+            Rule::VisitedTwice => "visited twice",
+            Rule::MissingStop => "missing stop",
             Rule::SplitPair => "split pair",
-            Rule::DeliveryFirst => "early delivery",
+            Rule::EarlyDelivery => "early delivery",
             Rule::Load => "overload",
             Rule::Late => "late service",
             Rule::LateReturn => "late return",
@@ -115,7 +116,7 @@ impl Rule {
         }
     }
 
-    /// The verdict that this rule is broken there.
+    /// Returns the verdict that this rule is broken at this place.
     pub(crate) fn broken_at(self, fault: Fault) -> Verdict
         requires route { fault.route + 1 < 2 ^ 64 }
         requires place { fault.place + 1 < 2 ^ 64 }
@@ -130,7 +131,7 @@ impl Rule {
         }
     }
 
-    /// The verdict that this rule is broken from this route on.
+    /// Returns the verdict that this rule is broken from this route on.
     pub(crate) fn broken_from(self, route: usize) -> Verdict
         requires { route + 1 < 2 ^ 64 }
         ensures { result ≡ Verdict.Broken (rule_number self) (route + 1) 0 0 }
@@ -143,7 +144,7 @@ impl Rule {
         }
     }
 
-    /// The verdict that this rule is broken by a stop in no route.
+    /// Returns the verdict that this rule is broken, with this stop and without route and place.
     pub(crate) fn broken_by(self, stop: u32) -> Verdict
         ensures { result ≡ Verdict.Broken (rule_number self) 0 0 stop }
     {
@@ -156,7 +157,7 @@ impl Rule {
     }
 }
 
-// The rule at a place, from 1 on.
+// Returns the rule at a place, counted from 1.
 fn rule_at(rules: &[Rule], place: u32) -> Option<Rule>
     ensures { result ≡ item_at rules.now place }
 {

@@ -1,31 +1,30 @@
-//! The rules that speak of where stops stand, 1 to 5, by the first seat of each stop; and the requests
-//! without one.
+//! Rules 1 to 5, checked by the first position of each stop, and the requests in no route.
 ghost use Rattle.std.specs.Prelude.{◌≡◌, ℕ, ◌^◌, ◌+◌, ◌<◌, ◌≤◌, vec_len, List, None, Option, All, IfOk, IfSome, slice_index_or, slice_get};
 ghost use Rattle.std.specs.Option.{option_and_then};
-ghost use Rattle.plan_audit.specs.Finding.{first_place, IsFirstTold, told_by, first_unserved, unserved_in, seat_of, unknown_at, repeated_at, missing_at, split_at, delivered_at};
+ghost use Rattle.plan_audit.specs.FirstFault.{first_place_fault, FindsFirstFault, place_fault_by, first_unserved, unserved_in, position_of, unknown_at, repeated_at, missing_at, split_at, early_delivery_at};
 ghost use Rattle.route_sched.specs.Cost.{has_stop, is_planned, unplanned_count};
 ghost use Rattle.plan_types.specs.Instance.{IsInstance};
 ghost use Rattle.plan_types.specs.Laws.{IsBelowNext};
 
-use crate::faults::{Fault, PlaceFault, first_fault, first_place};
+use crate::faults::{Fault, PlaceFault, first_fault, first_place_fault};
+use crate::first_positions::{StopPosition, first_positions};
 use crate::pairs::{early_delivery, missing_partner};
-use crate::seats::{PlanPlace, seats};
-use plan_types::{OutOfMemory, Problem, Request, Route, numbers_are_below_the_next};
+use plan_types::{OutOfMemory, Problem, Request, Route, numbers_are_below_next_number};
 use std::alloc::Global;
 
-/// A plan under audit, with the first seat of each stop number.
+/// A plan under audit, with the first position of each stop number.
 #[derive(Drop)]
 pub(crate) struct Scan<'a> {
     pub problem: &'a Problem,
     pub routes: &'a [Route],
-    seats: Vec<Option<PlanPlace>>,
-    ghost sized: { problem.now.next_number ≤ vec_len seats },
-    ghost seated: { (n : ℕ) → n < vec_len seats
-        → slice_index_or seats.items n None ≡ seat_of routes.now n },
+    first_positions: Vec<Option<StopPosition>>,
+    ghost sized: { problem.now.next_number ≤ vec_len first_positions },
+    ghost seated: { (n : ℕ) → n < vec_len first_positions
+        → slice_index_or first_positions.items n None ≡ position_of routes.now n },
 }
 
 impl<'a> Scan<'a> {
-    /// Of these routes, of which it finds the seats.
+    /// Records the first positions of the stops in these routes.
     pub(crate) fn new(
         alloc: Global,
         problem: &'a Problem,
@@ -35,72 +34,76 @@ impl<'a> Scan<'a> {
             × (scan.routes.now ≡ routes.entry.now)) }
         ensures valid { IfOk result (λ scan. IsInstance scan.problem.now) }
     {
-        let seats = seats(alloc, problem.next_number as usize, routes)?;
+        let first_positions = first_positions(alloc, problem.next_number as usize, routes)?;
         Ok(Scan {
             problem,
             routes,
-            seats,
+            first_positions,
         })
     }
 }
 
 impl Scan<'_> {
-    // The first seat of a stop number of the problem.
-    fn seat(&self, stop: u32) -> Option<PlanPlace>
+    // Returns the first position of a stop number of the problem.
+    fn first_position(&self, stop: u32) -> Option<StopPosition>
         ensures { stop < self.now.problem.now.next_number
-            → result ≡ seat_of self.now.routes.now stop }
+            → result ≡ position_of self.now.routes.now stop }
     {
-        self.seats.as_slice().get(stop as usize).copied().flatten()
+        self.first_positions
+            .as_slice()
+            .get(stop as usize)
+            .copied()
+            .flatten()
     }
 
-    /// The first stop of the plan that is of no request.
+    /// Finds the first stop of the plan that belongs to no request.
     pub(crate) fn first_unknown(&self) -> Option<Fault>
-        ensures { IsFirstTold
-            (told_by (λ _ _ _ n. unknown_at self.now.problem.now self.now.routes.now n))
+        ensures { FindsFirstFault
+            (place_fault_by (λ _ _ _ n. unknown_at self.now.problem.now self.now.routes.now n))
             self.now.routes.now result }
     {
         first_fault(self.routes, |_, route| self.unknown(route))
     }
 
-    /// The first stop of the plan that stands at an earlier place too.
+    /// Finds the first stop of the plan that is at an earlier place too.
     pub(crate) fn first_repeated(&self) -> Option<Fault>
         requires { All (λ route. All (λ n. n < self.now.problem.now.next_number) route)
             self.now.routes.now }
-        ensures { IsFirstTold
-            (told_by (λ r _ i n. repeated_at self.now.problem.now self.now.routes.now r i n))
+        ensures { FindsFirstFault
+            (place_fault_by (λ r _ i n. repeated_at self.now.problem.now self.now.routes.now r i n))
             self.now.routes.now result }
     {
         first_fault(self.routes, |number, route| self.repeated(number, route))
     }
 
-    /// The first stop of the plan whose partner is in no route; the partner is told.
+    /// Finds the first stop of the plan whose partner is in no route, and reports the partner.
     pub(crate) fn first_missing(&self) -> Option<Fault>
-        ensures { IsFirstTold
-            (told_by (λ _ _ _ n. missing_at self.now.problem.now self.now.routes.now n))
+        ensures { FindsFirstFault
+            (place_fault_by (λ _ _ _ n. missing_at self.now.problem.now self.now.routes.now n))
             self.now.routes.now result }
     {
         first_fault(self.routes, |_, route| self.missing(route))
     }
 
-    /// The first stop of the plan whose partner is in another route.
+    /// Finds the first stop of the plan whose partner is in another route.
     pub(crate) fn first_split(&self) -> Option<Fault>
-        ensures { IsFirstTold
-            (told_by (λ r _ _ n. split_at self.now.problem.now self.now.routes.now r n))
+        ensures { FindsFirstFault
+            (place_fault_by (λ r _ _ n. split_at self.now.problem.now self.now.routes.now r n))
             self.now.routes.now result }
     {
         first_fault(self.routes, |number, route| self.split(number, route))
     }
 
-    /// The first delivery of the plan whose pickup stands later in its route.
-    pub(crate) fn first_delivered(&self) -> Option<Fault>
-        ensures { IsFirstTold
-            (told_by (λ _ _ i n. delivered_at self.now.problem.now self.now.routes.now i n))
+    /// Finds the first delivery of the plan whose pickup is later in its route.
+    pub(crate) fn first_early_delivery(&self) -> Option<Fault>
+        ensures { FindsFirstFault
+            (place_fault_by (λ _ _ i n. early_delivery_at self.now.problem.now self.now.routes.now i n))
             self.now.routes.now result }
     {
-        first_fault(self.routes, |_, route| self.delivered(route))
+        first_fault(self.routes, |_, route| self.early_delivery_in(route))
     }
 
-    /// The least name of a request with no stop in any route.
+    /// Returns the lowest name of a request with no stop in any route.
     pub(crate) fn first_unserved(&self) -> Option<u32>
         ensures { result ≡ first_unserved self.now.routes.now self.now.problem.now.requests }
     {
@@ -113,7 +116,7 @@ impl Scan<'_> {
         None
     }
 
-    /// How many requests have no stop in any route.
+    /// Returns the number of requests with no stop in any route.
     pub(crate) fn unplanned(&self) -> u64
         ensures { result ≡ unplanned_count self.now.problem.now self.now.routes.now }
     {
@@ -127,12 +130,12 @@ impl Scan<'_> {
         unplanned
     }
 
-    // The name of the request at this index, where it is not planned.
+    // Returns the name of the request at this index if it is not planned.
     fn unserved_at(&self, index: usize) -> Option<u32>
         ensures { result ≡ option_and_then (unserved_in self.now.routes.now)
             (slice_get self.now.problem.now.requests index) }
     {
-        numbers_are_below_the_next();
+        numbers_are_below_next_number();
         let problem = self.problem;
         let (name, request) = problem.requests.get_index(index)?;
         if self.is_planned(request) {
@@ -154,95 +157,95 @@ impl Scan<'_> {
         }
     }
 
-    // Whether a route has the stop.
+    // Returns whether a route has the stop.
     fn has_stop(&self, stop: u32) -> bool
         ensures { stop < self.now.problem.now.next_number
             → result ≡ has_stop self.now.routes.now stop }
     {
-        self.seat(stop).is_some()
+        self.first_position(stop).is_some()
     }
 
-    // The first stop of a route that is of no request.
+    // Finds the first stop of a route that belongs to no request.
     fn unknown(&self, route: &[u32]) -> Option<PlaceFault>
-        ensures told { result ≡ first_place
+        ensures reported { result ≡ first_place_fault
             (λ _ n. unknown_at self.now.problem.now self.now.routes.now n) 0 route.now }
         ensures fits { IfSome result (λ t. t.place + 1 < 2 ^ 64) }
     {
-        first_place(route, |_, stop| match self.problem.stop(stop) {
+        first_place_fault(route, |_, stop| match self.problem.stop(stop) {
             Some(_) => None,
             None => Some(stop),
         })
     }
 
-    // The first stop of a route that stands at an earlier place too.
+    // Finds the first stop of a route that is at an earlier place too.
     fn repeated(&self, number: usize, route: &[u32]) -> Option<PlaceFault>
         requires { All (λ n. n < self.now.problem.now.next_number) route.now }
-        ensures told { result ≡ first_place
+        ensures reported { result ≡ first_place_fault
             (repeated_at self.now.problem.now self.now.routes.now number) 0 route.now }
         ensures fits { IfSome result (λ t. t.place + 1 < 2 ^ 64) }
     {
-        first_place(route, |place, stop| self.repeated_stop(number, place, stop))
+        first_place_fault(route, |place, stop| self.repeated_stop(number, place, stop))
     }
 
     fn repeated_stop(&self, number: usize, place: usize, stop: u32) -> Option<u32>
         ensures { stop < self.now.problem.now.next_number
             → result ≡ repeated_at self.now.problem.now self.now.routes.now number place stop }
     {
-        let seat = self.seat(stop)?;
-        if seat.route == number && seat.place == place {
+        let first_position = self.first_position(stop)?;
+        if first_position.route == number && first_position.place == place {
             None
         } else {
             Some(stop)
         }
     }
 
-    // The first stop of a route whose partner is in no route.
+    // Finds the first stop of a route whose partner is in no route.
     fn missing(&self, route: &[u32]) -> Option<PlaceFault>
-        ensures told { result ≡ first_place
+        ensures reported { result ≡ first_place_fault
             (λ _ n. missing_at self.now.problem.now self.now.routes.now n) 0 route.now }
         ensures fits { IfSome result (λ t. t.place + 1 < 2 ^ 64) }
     {
-        first_place(route, |_, stop| self.missing_stop(stop))
+        first_place_fault(route, |_, stop| self.missing_stop(stop))
     }
 
     fn missing_stop(&self, stop: u32) -> Option<u32>
         ensures { result ≡ missing_at self.now.problem.now self.now.routes.now stop }
     {
-        missing_partner(self.problem, stop, |stop| self.seat(stop))
+        missing_partner(self.problem, stop, |stop| self.first_position(stop))
     }
 
-    // The first stop of a route whose partner is in another one.
+    // Finds the first stop of a route whose partner is in another route.
     fn split(&self, number: usize, route: &[u32]) -> Option<PlaceFault>
-        ensures told { result ≡ first_place
+        ensures reported { result ≡ first_place_fault
             (λ _ n. split_at self.now.problem.now self.now.routes.now number n) 0 route.now }
         ensures fits { IfSome result (λ t. t.place + 1 < 2 ^ 64) }
     {
-        first_place(route, |_, stop| self.split_stop(number, stop))
+        first_place_fault(route, |_, stop| self.split_stop(number, stop))
     }
 
     fn split_stop(&self, number: usize, stop: u32) -> Option<u32>
         ensures { result ≡ split_at self.now.problem.now self.now.routes.now number stop }
     {
-        let seat = self.seat(self.problem.partner_of(stop)?)?;
-        if seat.route == number {
+        let first_position = self.first_position(self.problem.partner_of(stop)?)?;
+        if first_position.route == number {
             None
         } else {
             Some(stop)
         }
     }
 
-    // The first delivery of a route whose pickup stands later.
-    fn delivered(&self, route: &[u32]) -> Option<PlaceFault>
-        ensures told { result ≡ first_place
-            (delivered_at self.now.problem.now self.now.routes.now) 0 route.now }
+    // Finds the first delivery of a route whose pickup is later.
+    fn early_delivery_in(&self, route: &[u32]) -> Option<PlaceFault>
+        ensures reported { result ≡ first_place_fault
+            (early_delivery_at self.now.problem.now self.now.routes.now) 0 route.now }
         ensures fits { IfSome result (λ t. t.place + 1 < 2 ^ 64) }
     {
-        first_place(route, |place, stop| self.delivered_stop(place, stop))
+        first_place_fault(route, |place, stop| self.early_delivery_at(place, stop))
     }
 
-    fn delivered_stop(&self, place: usize, stop: u32) -> Option<u32>
-        ensures { result ≡ delivered_at self.now.problem.now self.now.routes.now place stop }
+    fn early_delivery_at(&self, place: usize, stop: u32) -> Option<u32>
+        ensures { result ≡ early_delivery_at self.now.problem.now self.now.routes.now place stop }
     {
-        early_delivery(self.problem, place, stop, |stop| self.seat(stop))
+        early_delivery(self.problem, place, stop, |stop| self.first_position(stop))
     }
 }

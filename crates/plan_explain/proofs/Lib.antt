@@ -1,4 +1,4 @@
 -- The lemma files of this crate.
-pub mod BehindLemmas
+pub mod AfterCostLemmas
 pub mod RouteLemmas
 pub mod RowLemmas

@@ -1,13 +1,13 @@
--- What contracts say.
-pub mod Explained
-pub mod Cited
-pub mod Forms
+-- The definitions that contracts use.
+pub mod VerdictTexts
+pub mod Quotes
+pub mod Templates
 pub mod EvidenceTexts
 pub mod SolFaults
-pub mod Behind
-pub mod Refused
+pub mod AfterCost
+pub mod Refusals
 pub mod Sentences
 pub mod Summaries
 pub mod Tables
-pub mod Unasked
-pub mod Further
+pub mod IgnoredLimits
+pub mod OtherViolations

@@ -1,4 +1,4 @@
--- The sentence on a broken rule, with its figures. Routes and places count from 1.
+-- The sentence on a broken rule, with its values. Routes and places count from 1.
 use Rattle.std.specs.Prelude.{ℕ, ◌+◌, ◌-◌, ◌==◌, ◌||◌, nat_lt, not, Bool, true, is_none, if◌then◌else◌, List, [], ◌∷◌, ◌++◌, length, Option, Some, None, unwrap_or, slice_get, decimal, codes}
 use Rattle.std.specs.Fmt.{signed_decimal}
 use Rattle.std.specs.List.{list_any}
@@ -8,8 +8,8 @@ use Rattle.route_sched.specs.Cost.{total_length, used_count}
 use Rattle.plan_audit.specs.Rules.{item_at}
 use Rattle.plan_audit.specs.declared.rules.Rule.{Rule}
 use Rattle.plan_audit.specs.declared.rules.Rule.TheVariants as rules
-use Rattle.rule_breaches.specs.Seats.{first_seat}
-use Rattle.plan_explain.specs.Forms.{demand_text, form, seat_text, text_if}
+use Rattle.rule_violations.specs.Positions.{first_position}
+use Rattle.plan_explain.specs.Templates.{demand_text, form, position_text, text_if}
 use Rattle.plan_explain.specs.Tables.{rows_of}
 use Rattle.plan_explain.specs.declared.rows.Row.{Row}
 use Rattle.plan_explain.specs.declared.sentences.Shift.{Shift}
@@ -17,34 +17,34 @@ use Rattle.plan_explain.specs.declared.sentences.Shift.TheVariants.{TooHigh, Too
 use Rattle.plan_explain.specs.declared.verdicts.Fault.{Fault}
 
 -- the stops of a route; route 0 has none
-abbrev pub route_told : List (List ℕ) → ℕ → List ℕ
-route_told routes r = unwrap_or (item_at routes r) []
+abbrev pub reported_route : List (List ℕ) → ℕ → List ℕ
+reported_route routes r = unwrap_or (item_at routes r) []
 
--- words on a stop and where it stands first
+-- words on a stop and the place where it first appears
 abbrev pub stop_sentence : List ℕ → List (List ℕ) → ℕ → List ℕ
-stop_sentence phrase routes n = form phrase (decimal n ∷ seat_text (first_seat routes n) ∷ [])
+stop_sentence phrase routes n = form phrase (decimal n ∷ position_text (first_position routes n) ∷ [])
 
--- and on another stop beside it, if there is one
-abbrev pub beside_text : List ℕ → List (List ℕ) → Option ℕ → List ℕ
-beside_text phrase routes None = []
-beside_text phrase routes (Some m) = stop_sentence phrase routes m
+-- words on another stop and its place, if there is one
+abbrev pub second_stop_text : List ℕ → List (List ℕ) → Option ℕ → List ℕ
+second_stop_text phrase routes None = []
+second_stop_text phrase routes (Some m) = stop_sentence phrase routes m
 
--- a number that is one too high, or one too low, is of no request when that is mended
-abbrev pub is_off : Instance → Shift → ℕ → Bool
-is_off p TooHigh n = is_none (stop_at p (n - 1))
-is_off p TooLow n = not (nat_lt n p.next_number) || is_none (stop_at p (n + 1))
+-- the stop is still unknown after its number is corrected by one
+abbrev pub is_unknown_shifted : Instance → Shift → ℕ → Bool
+is_unknown_shifted p TooHigh n = is_none (stop_at p (n - 1))
+is_unknown_shifted p TooLow n = not (nat_lt n p.next_number) || is_none (stop_at p (n + 1))
 
--- some stop of the routes is so
-abbrev pub is_some_off : Instance → Shift → List (List ℕ) → Bool
-is_some_off p shift routes = list_any (list_any (is_off p shift)) routes
+-- some stop of the routes is unknown after the correction
+abbrev pub any_unknown_shifted : Instance → Shift → List (List ℕ) → Bool
+any_unknown_shifted p shift routes = list_any (list_any (is_unknown_shifted p shift)) routes
 
--- the numbers of all stops are one too high, or one too low
+-- a hint that the numbers of all stops are one too high, or one too low
 abbrev pub shift_text : Instance → List (List ℕ) → List ℕ
 shift_text p routes =
-    if not (is_some_off p TooHigh routes) then codes ". Each stop less 1 is one of the instance: are the numbers one too high?"
-    else text_if (codes ". Each stop and 1 more is one of the instance: are the numbers one too low?") (not (is_some_off p TooLow routes))
+    if not (any_unknown_shifted p TooHigh routes) then codes ". Each stop less 1 is one of the instance: are the numbers one too high?"
+    else text_if (codes ". Each stop and 1 more is one of the instance: are the numbers one too low?") (not (any_unknown_shifted p TooLow routes))
 
--- rule 1
+-- rule 1: an unknown stop
 abbrev pub unknown_text : Instance → ℕ → List ℕ
 unknown_text p n =
     if n == 0 then codes "unknown stop: stop 0 is the depot, which no route line has"
@@ -53,24 +53,24 @@ unknown_text p n =
 abbrev pub unknown_sentence : Instance → List (List ℕ) → ℕ → List ℕ
 unknown_sentence p routes n = unknown_text p n ++ shift_text p routes
 
--- 3 and 4: a stop, and the other one of its pair
+-- rules 3 and 4: a stop, and the other stop of its pair
 abbrev pub pair_sentence : List ℕ → Instance → List (List ℕ) → ℕ → List ℕ
-pair_sentence phrase p routes n = stop_sentence phrase routes n ++ beside_text (codes "; the other stop of its pair, stop @, is @") routes (partner_at p n)
+pair_sentence phrase p routes n = stop_sentence phrase routes n ++ second_stop_text (codes "; the other stop of its pair, stop @, is @") routes (partner_at p n)
 
--- 5: a delivery, and its pickup
-abbrev pub early_sentence : List ℕ → Instance → List (List ℕ) → ℕ → List ℕ
-early_sentence phrase p routes n =
-    stop_sentence phrase routes n ++ beside_text (codes "; its pickup, stop @, is @") routes (pickup_at p n)
+-- rule 5: a delivery, and its pickup
+abbrev pub delivery_first_sentence : List ℕ → Instance → List (List ℕ) → ℕ → List ℕ
+delivery_first_sentence phrase p routes n =
+    stop_sentence phrase routes n ++ second_stop_text (codes "; its pickup, stop @, is @") routes (pickup_at p n)
 
 unfoldable pub load_text : List ℕ → Instance → Row → List ℕ
 load_text phrase p row = form phrase (decimal row.stop ∷ demand_text (stop_at p row.stop) ∷ signed_decimal row.load ∷ decimal p.capacity ∷ [])
 
--- 6 and 7, by the row of the place that is told
+-- rule 6: the load after the stop of this row, and the capacity
 abbrev pub load_sentence : Instance → Option Row → List ℕ
 load_sentence p None = []
 load_sentence p (Some row) = load_text (codes "overload: after stop @@, the load is @, the capacity @") p row
 
--- a stop, a time, the latest time, and by how much it is late
+-- a stop, a time, the latest time allowed, and the difference
 abbrev pub late_text : List ℕ → ℕ → ℕ → ℕ → List ℕ
 late_text phrase n start latest = form phrase (decimal n ∷ decimal start ∷ decimal latest ∷ decimal (start - latest) ∷ [])
 
@@ -78,36 +78,36 @@ abbrev pub late_sentence : Option Row → List ℕ
 late_sentence None = []
 late_sentence (Some row) = late_text (codes "late service: stop @ starts at @, latest @: late by @") row.stop row.start row.latest
 
--- the last stop of a route; 0 where it has none
+-- the last stop of a route; 0 if it has none
 abbrev pub last_stop : List ℕ → ℕ
 last_stop route = unwrap_or (slice_get route (length route - 1)) 0
 
--- 8: the last stop, and when the vehicle is back behind it
+-- rule 8: the last stop, and the time when the vehicle is back after it
 unfoldable pub return_sentence : Instance → List ℕ → List ℕ
 return_sentence p route = late_text (codes "late return: after stop @ the vehicle is back at @, latest @: late by @") (last_stop route) (start p route (length route + 1)) p.depot.latest
 
 -- the row of a place, counted from 1
-abbrev pub row_told : Instance → List ℕ → ℕ → Option Row
-row_told p route i = item_at (rows_of p route) i
+abbrev pub reported_row : Instance → List ℕ → ℕ → Option Row
+reported_row p route i = item_at (rows_of p route) i
 
--- 9
+-- rule 9: too many vehicles
 abbrev pub fleet_sentence : Instance → List (List ℕ) → List ℕ
 fleet_sentence p routes = form (codes "too many vehicles: @ are used, the fleet has @") (decimal (used_count routes) ∷ decimal p.fleet ∷ [])
 
--- 11, of a printed cost
+-- rule 11: a wrong printed cost
 abbrev pub cost_sentence : Instance → List (List ℕ) → ℕ → List ℕ
 cost_sentence p routes printed = form (codes "wrong cost: @ is printed, the distance driven is @") (decimal printed ∷ decimal (total_length p routes) ∷ [])
 
 -- the sentence on a rule; a printed solution has no pins
 abbrev pub rule_sentence : Instance → List (List ℕ) → Fault → Rule → List ℕ
 rule_sentence p routes f rules.UnknownStop = unknown_sentence p routes f.stop
-rule_sentence p routes f rules.Twice = stop_sentence (codes "visited twice: stop @ is @ already") routes f.stop
-rule_sentence p routes f rules.Missing = pair_sentence (codes "missing stop: stop @ is @") p routes f.stop
+rule_sentence p routes f rules.VisitedTwice = stop_sentence (codes "visited twice: stop @ is @ already") routes f.stop
+rule_sentence p routes f rules.MissingStop = pair_sentence (codes "missing stop: stop @ is @") p routes f.stop
 rule_sentence p routes f rules.SplitPair = pair_sentence (codes "split pair: stop @ is @") p routes f.stop
-rule_sentence p routes f rules.DeliveryFirst = early_sentence (codes "early delivery: stop @ is @") p routes f.stop
-rule_sentence p routes f rules.Load = load_sentence p (row_told p (route_told routes f.route) f.place)
-rule_sentence p routes f rules.Late = late_sentence (row_told p (route_told routes f.route) f.place)
-rule_sentence p routes f rules.LateReturn = return_sentence p (route_told routes f.route)
+rule_sentence p routes f rules.EarlyDelivery = delivery_first_sentence (codes "early delivery: stop @ is @") p routes f.stop
+rule_sentence p routes f rules.Load = load_sentence p (reported_row p (reported_route routes f.route) f.place)
+rule_sentence p routes f rules.Late = late_sentence (reported_row p (reported_route routes f.route) f.place)
+rule_sentence p routes f rules.LateReturn = return_sentence p (reported_route routes f.route)
 rule_sentence p routes f rules.Fleet = fleet_sentence p routes
 rule_sentence p routes f rules.Pin = []
 rule_sentence p routes f rules.PrintedCost = cost_sentence p routes f.printed

@@ -1,4 +1,4 @@
--- What is said of a fault of a solution's text behind its kind.
+-- The details of a solution's fault, printed after its kind.
 use Rattle.std.specs.Prelude.{ℕ, ◌==◌, ◌&&◌, ◌||◌, not, Bool, false, if◌then◌else◌, List, [], ◌∷◌, find, length, unwrap_or, codes, Option, Some, None, decimal}
 use Rattle.std.specs.Char.{is_ascii_digit}
 use Rattle.std.specs.List.{list_any}
@@ -9,47 +9,47 @@ use Rattle.instance_read.specs.VrpLines.{key_text, value_text}
 use Rattle.sol_text.specs.LineShapes.{cost_tail}
 use Rattle.sol_text.specs.declared.faults.SolFaultKind.{SolFaultKind}
 use Rattle.sol_text.specs.declared.faults.SolFaultKind.TheVariants.{BadLine, BadNumber, NoCost, OutOfMemory}
-use Rattle.plan_explain.specs.Cited.{is_fraction, is_no_customer, shown_bytes}
+use Rattle.plan_explain.specs.Quotes.{is_fraction, is_bad_customer, shown_bytes}
 use Rattle.plan_audit.specs.Rules.{item_at}
-use Rattle.plan_explain.specs.Forms.{form, text_if}
+use Rattle.plan_explain.specs.Templates.{form, text_if}
 
--- blanks stand before the first word
-abbrev pub begins_blank : List ℕ → Bool
-begins_blank [] = false
-begins_blank (b ∷ bs) = is_blank b
+-- the line begins with a blank
+abbrev pub begins_with_blank : List ℕ → Bool
+begins_with_blank [] = false
+begins_with_blank (b ∷ bs) = is_blank b
 
--- the word begins a route or a cost line, in any letter case
-abbrev pub is_line_word : List ℕ → Bool
-is_line_word word =
+-- the word begins a route line or a cost line, in any letter case
+abbrev pub is_line_keyword : List ℕ → Bool
+is_line_keyword word =
     str_eq_ignore_ascii_case word (codes "route") || (str_eq_ignore_ascii_case word (codes "cost") || str_eq_ignore_ascii_case word (codes "cost:"))
 
--- the first of these words; empty where there is none
+-- the first of these words; empty if there is none
 abbrev pub first_word : List (List ℕ) → List ℕ
 first_word [] = []
 first_word (word ∷ more) = word
 
 abbrev pub is_indented : List ℕ → Bool
-is_indented line = begins_blank line && is_line_word (first_word (words_of line))
+is_indented line = begins_with_blank line && is_line_keyword (first_word (words_of line))
 
--- a byte that no key of a word has: a digit, or #
-abbrev pub is_no_key_byte : ℕ → Bool
-is_no_key_byte b = is_ascii_digit b || b == 35
+-- a byte that no key has if it is only words: a digit, or #
+abbrev pub is_not_key_byte : ℕ → Bool
+is_not_key_byte b = is_ascii_digit b || b == 35
 
--- the line has a colon, and before it words alone
+-- the line has a colon, and no digit and no # before it
 abbrev pub is_key_line : List ℕ → Bool
-is_key_line line = list_any (λ b. b == 58) line && not (list_any is_no_key_byte (key_text line))
+is_key_line line = list_any (λ b. b == 58) line && not (list_any is_not_key_byte (key_text line))
 
 abbrev pub other_line_text : List ℕ → List ℕ
 other_line_text line =
     if is_indented line then codes ": Route and Cost have to begin their lines, as they do behind: sed 's/^[[:blank:]]*//'"
     else text_if (codes ": a solution has no other keys, as it has none behind: grep -iE '^(route|cost)'") (is_key_line line)
 
--- how many words stand behind `Cost`, where the line begins so; else how such a line is done without
+-- how many words follow `Cost`, if the line begins with it; otherwise advice on such a line
 abbrev pub bad_line_text : List ℕ → Option (List ℕ) → List ℕ
 bad_line_text line None = other_line_text line
 bad_line_text line (Some tail) = form (codes ": 1 due behind Cost, @ found") (decimal (length (words_of tail)) ∷ [])
 
--- the cost has a fraction, or an exponent
+-- the cost has a fraction or an exponent
 abbrev pub is_unrounded : List ℕ → Bool
 is_unrounded word = list_any (λ b. (b == 46) || (b == 101) || (b == 69)) word
 
@@ -58,23 +58,23 @@ cost_text word has_fraction is_unrounded = form (codes ": the cost is @@, allowe
     ∷ text_if (codes ", which has a fraction") has_fraction
     ∷ text_if (codes ". Each way is rounded to a whole number here; behind the word routes no cost is asked") is_unrounded ∷ [])
 
--- the first word that is no customer, if there is one
+-- the first word that is not a customer, if there is one
 abbrev pub bad_customer_text : Option (List ℕ) → List ℕ
 bad_customer_text None = []
 bad_customer_text (Some word) = form (codes ": a customer is @, allowed are digits alone, at most 4294967295") (shown_bytes word ∷ [])
 
--- the cost, or a customer of those behind the colon of a route line
+-- the wrong cost, or the first wrong customer after the colon of a route line
 abbrev pub wrong_number_text : List ℕ → Option (List ℕ) → List ℕ
 wrong_number_text line (Some tail) = let word = first_word (words_of tail) in cost_text word (is_fraction word) (is_unrounded word)
-wrong_number_text line None = bad_customer_text (find is_no_customer (words_of (value_text line)))
+wrong_number_text line None = bad_customer_text (find is_bad_customer (words_of (value_text line)))
 
--- the line with this number; empty where the text has none
-abbrev pub told_line : List ℕ → ℕ → List ℕ
-told_line text n = unwrap_or (item_at (lines_of text) n) []
+-- the line with this number; empty if the file has no such line
+abbrev pub faulty_line : List ℕ → ℕ → List ℕ
+faulty_line text n = unwrap_or (item_at (lines_of text) n) []
 
--- what line n has of a fault
+-- the details of a fault that line n shows
 abbrev pub sol_detail : List ℕ → ℕ → SolFaultKind → List ℕ
-sol_detail text n BadLine = let line = told_line text n in bad_line_text line (cost_tail line)
-sol_detail text n BadNumber = let line = told_line text n in wrong_number_text line (cost_tail line)
+sol_detail text n BadLine = let line = faulty_line text n in bad_line_text line (cost_tail line)
+sol_detail text n BadNumber = let line = faulty_line text n in wrong_number_text line (cost_tail line)
 sol_detail text n NoCost = codes "; behind the word routes no cost is asked"
 sol_detail text n OutOfMemory = []

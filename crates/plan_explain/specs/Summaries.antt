@@ -4,39 +4,40 @@ use Rattle.std.specs.Int.{int_max}
 use Rattle.plan_types.specs.Instance.{Instance}
 use Rattle.route_sched.specs.Schedule.{leg, route_length, start}
 use Rattle.route_sched.specs.Cost.{total_length}
-use Rattle.told_text.specs.Columns.{right, right_signed}
-use Rattle.plan_explain.specs.Forms.{form}
+use Rattle.text_buffer.specs.Columns.{right, right_signed}
+use Rattle.plan_explain.specs.Templates.{form}
 use Rattle.plan_explain.specs.Tables.{rows_of}
 use Rattle.plan_explain.specs.declared.rows.Row.{Row}
 use Rattle.plan_explain.specs.declared.summaries.Summary.{Summary}
 
--- how long the vehicle waits there
-abbrev pub wait : Row → ℕ
-wait r = r.start - r.arrival
+-- the waiting time at the place of a row
+abbrev pub waiting_time : Row → ℕ
+waiting_time r = r.start - r.arrival
 
--- how long it waits at all places
+-- the waiting time at all places
 abbrev pub waiting : Instance → List ℕ → ℕ
-waiting p route = sum_by wait (rows_of p route)
+waiting p route = sum_by waiting_time (rows_of p route)
 
--- the most that the vehicle carries
+-- the greatest load of the vehicle
 abbrev pub greatest_load : Instance → List ℕ → ℤ
 greatest_load p route = fold int_max (pos 0) (map (λ r. r.load) (rows_of p route))
 
--- It sets off so that it comes to the first stop just when service starts; the last start is the return.
+-- The departure makes the vehicle arrive at the first stop just when service starts. The last start is the
+-- return.
 abbrev pub summary_of : Instance → List ℕ → Summary
 summary_of p route = record {
   stops = length route;
   distance = route_length p route;
   load = greatest_load p route;
-  set_off = start p route 1 - leg p route 0;
-  back = start p route (length route + 1);
+  departure = start p route 1 - leg p route 0;
+  return_time = start p route (length route + 1);
   waiting = waiting p route;
 }
 
 abbrev pub route_line : ℕ → Summary → List ℕ
-route_line k s = form (codes "@ @ @ @ @ @ @\n") (right 5 k ∷ right 6 s.stops ∷ right 10 s.distance ∷ right_signed 9 s.load ∷ right 10 s.set_off ∷ right 10 s.back ∷ right 10 s.waiting ∷ [])
+route_line k s = form (codes "@ @ @ @ @ @ @\n") (right 5 k ∷ right 6 s.stops ∷ right 10 s.distance ∷ right_signed 9 s.load ∷ right 10 s.departure ∷ right 10 s.return_time ∷ right 10 s.waiting ∷ [])
 
--- the line of each, the first of them with this number
+-- a line for each route; the first has number k
 abbrev pub route_lines : ℕ → List Summary → List ℕ
 route_lines k [] = []
 route_lines k (s ∷ ss) = route_line k s ++ route_lines (k + 1) ss

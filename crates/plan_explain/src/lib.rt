@@ -1,53 +1,58 @@
-//! What a person needs to mend a solution, behind the line of its audit: figures in place of numbers of rules.
+//! Explanations of verdicts and of refused files, for a person who has to correct a solution or an instance.
 //!
-//! Entry functions: `explain_verdict` for a verdict, `explain_instance_fault` and `explain_solution_fault` for a text that is
-//! refused, `explain_driven` for the routes of one that may be read; called by `auditor_cli` (the word `explain`), which prints the
-//! audit's line first, with its status. `rows_of`, `stop_visits_of`, `wait`, `set_off` and `summary_of` give the figures of a route;
-//! `plan_timetable` tells them too. Source: this project's own. Each figure is `route_sched`'s start, load, length or cost.
+//! `auditor_cli` prints them for the `explain` subcommand, after the line of the audit. `explain_verdict`
+//! explains a verdict. `explain_instance_fault` and `explain_solution_fault` explain why a file is refused.
+//! `explain_distance` returns the distance of routes that can be read although the solution is refused for its
+//! cost. `rows_of`, `stop_visits_of`, `waiting_time`, `departure` and `summary_of` return the values of a
+//! route; `plan_timetable` prints them too.
 //!
-//! How it works: for a broken rule a sentence with its figures, then the route that is told as a table, then how often the rule is
-//! broken and where else. Where a stop of that route is unknown or stands twice, the table has places and stops alone. For a wrong
-//! cost, or a solution that passes, a line for each route and the sums. Where a line says when a vehicle sets off, it is as late as
-//! service starts no later for it; arrivals and waiting are those of one that leaves at once. What the line of a refused instance has
-//! of its fault is the evidence that `instance_read` gives, here put into words. Words have `@` where a value stands (`put_form`).
+//! If a rule is broken, the text has a sentence with the values at the first violation, the route as a table,
+//! how often the rule is broken and where else, and how often each later rule is broken. If a stop is unknown
+//! or appears twice, the schedule is not known, so the table has only places and stops.
+//!
+//! If the cost is wrong, or the solution passes, the text has a line for each route and the sums. A departure
+//! is the latest one that delays no service; arrivals and waiting times are those of a vehicle that leaves at
+//! once.
+//!
+//! In the templates of `put_template`, `@` stands for a value.
+//!
+//! Source: this project's own. Starts, loads, distances and costs are those of `route_sched`; `instance_read`
+//! finds the details of an instance's fault.
 //!
 //! Modules, in reading order:
-//! - `forms`: words with values in them, as the names of fields and keys
-//! - `rows`, `stop_visits`: what happens at the places of a route, with the ways between them and the services
+//! - `templates`: templates, and the names of fields and keys
+//! - `rows`, `stop_visits`: arrival, start, load, leg and service at each place of a route
 //! - `tables`, `summaries`: a route as a table; a line for each route, and the sums
-//! - `sentences`: the sentence on a broken rule, and on numbers that are all one too high or too low
-//! - `further`: all places that break a rule (`rule_breaches`), how they are told, and how many break each rule behind it
-//! - `verdicts`: what is said of a verdict, and how far the routes of a refused text drive
-//! - `cited`: lines, words and bytes of a refused text
-//! - `evidence`, `sol_faults`: what is said of the evidence of a fault of an instance, and of a fault of a solution's text
-//! - `refused`: what is said of a text that is refused, of its fault and as a whole
-//! - `unasked`: limits of an instance, and what stands behind a cost line, neither of which is asked
+//! - `sentences`: the sentence on a broken rule, and the hint that all stop numbers are one too high or too low
+//! - `other_violations`: all violations of a rule (`rule_violations`), and how often each later rule is broken
+//! - `verdicts`: the text for a verdict, and the distance of the routes of a refused file
+//! - `quotes`: quoted lines, words and bytes of a refused file
+//! - `evidence`, `sol_faults`: the details of an instance's fault and of a solution's fault
+//! - `refusals`: the whole text for a refused file
+//! - `ignored_lines`: limits of an instance that are ignored, and text after the cost line of a solution
 //!
-//! Said by `specs/Explained.antt`, `Sentences.antt`, `Tables.antt`, `Further.antt`, `Summaries.antt` and `Refused.antt`. Proved:
-//! - `explain_verdict`, `explain_driven`: for each verdict on a printed solution the bytes are `verdict_text` and `driven_text`
-//! - `explain_instance_fault`, `explain_solution_fault`: for each text and fault they are `instance_fault_text`, `solution_fault_text`
-//! - `line_behind_cost`: the first line that is not blank behind the cost line of a solution's text, which its reader passes over
-//!   (`reading_ends_at_the_cost_line`); `unasked_limit`: the first line of an instance whose key names a limit that is not asked
-//! - `rows_of`, `stop_visits_of`, `wait`, `set_off`, `summary_of`: the rows of a route, when a vehicle leaves for them, and what it comes to
+//! Proved: for every verdict on a printed solution and every fault of a file, the printed bytes are exactly
+//! those of the definitions in `specs/`. The reader of solutions ignores the line that `line_after_cost` finds.
+//! The rows, visits and summaries of a route are those of its schedule.
 #![tactic(auto)]
 
-mod cited;
 mod evidence;
-mod forms;
-mod further;
-mod refused;
+mod ignored_lines;
+mod other_violations;
+mod quotes;
+mod refusals;
 mod rows;
 mod sentences;
 mod sol_faults;
 mod stop_visits;
 mod summaries;
 mod tables;
-mod unasked;
+mod templates;
 mod verdicts;
 
-pub use refused::{explain_instance_fault, explain_solution_fault};
+pub use ignored_lines::{ignored_limit_line, line_after_cost, reading_ends_at_the_cost_line};
+pub use refusals::{explain_instance_fault, explain_solution_fault};
 pub use rows::Row;
-pub use stop_visits::{StopVisit, rows_of, set_off, stop_visits_of};
-pub use summaries::{Summary, summary_of, wait};
-pub use unasked::{line_behind_cost, reading_ends_at_the_cost_line, unasked_limit};
-pub use verdicts::{explain_driven, explain_verdict, verdict_knows_ways};
+pub use stop_visits::{StopVisit, departure, rows_of, stop_visits_of};
+pub use summaries::{Summary, summary_of, waiting_time};
+pub use verdicts::{explain_distance, explain_verdict, verdict_schedule_is_known};

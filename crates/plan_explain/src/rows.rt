@@ -1,18 +1,18 @@
-//! What happens at a place of a route: arrival, start of service, window and load.
+//! The times, the window and the load at a place of a route.
 
-/// A place of a route, counted from 1, or the return behind the last one.
+/// A place of a route, counted from 1, or the return to the depot after the last stop.
 #[derive(Clone, Copy, Debug, PartialEq, Eq)]
 pub struct Row {
     pub place: u64,
-    /// Its number; 0 is the depot.
+    /// The number of the stop; 0 is the depot.
     pub stop: u32,
-    /// When the vehicle comes.
+    /// The time when the vehicle arrives.
     pub arrival: u64,
-    /// When service starts.
+    /// The time when service starts.
     pub start: u64,
-    /// When it may start.
+    /// The window: service may start from `earliest` to `latest`.
     pub earliest: u32,
     pub latest: u32,
-    /// What the vehicle carries after it.
+    /// The load after the stop.
     pub load: i64,
 }

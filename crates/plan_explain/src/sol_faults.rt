@@ -1,22 +1,22 @@
-//! What is said of a fault of a solution's text behind its kind.
+//! The details of a solution's fault, printed after its kind.
 ghost use Rattle.std.specs.Prelude.{◌≡◌, ◌++◌, find};
 ghost use Rattle.std.specs.List.{list_any};
 ghost use Rattle.std.specs.Option.{option_copied};
 ghost use Rattle.text_lines.specs.Words.{words_of};
 ghost use Rattle.sol_text.specs.LineShapes.{cost_tail};
-ghost use Rattle.plan_explain.specs.Cited.{is_no_customer};
-ghost use Rattle.plan_explain.specs.SolFaults.{bad_customer_text, bad_line_text, cost_text, first_word, is_indented, is_line_word, is_key_line, is_no_key_byte, is_unrounded, other_line_text, sol_detail, wrong_number_text};
+ghost use Rattle.plan_explain.specs.Quotes.{is_bad_customer};
+ghost use Rattle.plan_explain.specs.SolFaults.{bad_customer_text, bad_line_text, cost_text, first_word, is_indented, is_line_keyword, is_key_line, is_not_key_byte, is_unrounded, other_line_text, sol_detail, wrong_number_text};
 
-use crate::cited::{is_fraction, line_at};
-use crate::forms::Value::{Cited, Number, WordsIf};
-use crate::forms::{put_form, put_if};
+use crate::quotes::{is_fraction, line_at};
+use crate::templates::Value::{Number, Quote, TextIf};
+use crate::templates::{put_if, put_template};
 use instance_read::split_key;
 use sol_text::{SolFault, SolFaultKind, cost_tail};
+use text_buffer::TextBuffer;
 use text_lines::{Words, digits_to_u32, word_count};
-use told_text::Told;
 
-/// Appends what the line that the fault names has of it.
-pub(crate) fn put_sol_detail(text: &mut Told, solution: &[u8], fault: SolFault)
+/// Appends the details of the line that the fault names.
+pub(crate) fn put_sol_detail(text: &mut TextBuffer, solution: &[u8], fault: SolFault)
     ensures { text.new ≡ text.old ++ sol_detail solution.now fault.line fault.kind }
 {
     let line = line_at(solution, fault.line).unwrap_or(&[]);
@@ -28,20 +28,20 @@ pub(crate) fn put_sol_detail(text: &mut Told, solution: &[u8], fault: SolFault)
     }
 }
 
-// How many words a cost line has, or how another line is done without.
-fn put_bad_line(text: &mut Told, line: &[u8])
+// Appends how many words follow `Cost`, or advice on another line that is not allowed.
+fn put_bad_line(text: &mut TextBuffer, line: &[u8])
     ensures { text.new ≡ text.old ++ bad_line_text line.now (cost_tail line.now) }
 {
     match cost_tail(line) {
         Some(tail) => {
             let found = Number(word_count(tail) as u64);
-            put_form(text, ": 1 due behind Cost, @ found", &[found])
+            put_template(text, ": 1 due behind Cost, @ found", &[found])
         }
         None => put_other_line(text, line),
     }
 }
 
-fn put_other_line(text: &mut Told, line: &[u8])
+fn put_other_line(text: &mut TextBuffer, line: &[u8])
     ensures { text.new ≡ text.old ++ other_line_text line.now }
 {
     if is_indented(line) {
@@ -55,35 +55,35 @@ fn put_other_line(text: &mut Told, line: &[u8])
     }
 }
 
-// Whether the first word of a route or a cost line stands behind blanks.
+// Returns whether blanks precede the first word of a route line or a cost line.
 fn is_indented(line: &[u8]) -> bool
     ensures { result ≡ is_indented line.now }
 {
-    matches!(line, [b' ' | b'\t', ..]) && is_line_word(first_word(line))
+    matches!(line, [b' ' | b'\t', ..]) && is_line_keyword(first_word(line))
 }
 
-fn is_line_word(word: &[u8]) -> bool
-    ensures { result ≡ is_line_word word.now }
+fn is_line_keyword(word: &[u8]) -> bool
+    ensures { result ≡ is_line_keyword word.now }
 {
     word.eq_ignore_ascii_case(b"route")
         || word.eq_ignore_ascii_case(b"cost")
         || word.eq_ignore_ascii_case(b"cost:")
 }
 
-// Whether the line has a colon, and before it words alone.
+// Returns whether the line has a colon, and no digit and no `#` before it.
 fn is_key_line(line: &[u8]) -> bool
     ensures { result ≡ is_key_line line.now }
 {
-    line.contains(&b':') && !has_no_key_byte(split_key(line).0)
+    line.contains(&b':') && !has_non_key_byte(split_key(line).0)
 }
 
-fn has_no_key_byte(key: &[u8]) -> bool
-    ensures { result ≡ list_any is_no_key_byte key.now }
+fn has_non_key_byte(key: &[u8]) -> bool
+    ensures { result ≡ list_any is_not_key_byte key.now }
 {
     key.iter().any(|byte| matches!(*byte, b'0'..=b'9' | b'#'))
 }
 
-fn put_wrong_number(text: &mut Told, line: &[u8])
+fn put_wrong_number(text: &mut TextBuffer, line: &[u8])
     ensures { text.new ≡ text.old ++ wrong_number_text line.now (cost_tail line.now) }
 {
     match cost_tail(line) {
@@ -91,42 +91,42 @@ fn put_wrong_number(text: &mut Told, line: &[u8])
             let word = first_word(tail);
             put_cost(text, word, is_fraction(word), is_unrounded(word))
         }
-        None => put_bad_customer(text, no_customer(split_key(line).1)),
+        None => put_bad_customer(text, first_bad_customer(split_key(line).1)),
     }
 }
 
 #[tactic(auto, unfolding(crate::specs::SolFaults::cost_text))]
-fn put_cost(text: &mut Told, word: &[u8], has_fraction: bool, is_unrounded: bool)
+fn put_cost(text: &mut TextBuffer, word: &[u8], has_fraction: bool, is_unrounded: bool)
     ensures { text.new ≡ text.old ++ cost_text word.now has_fraction is_unrounded }
 {
-    let fraction = WordsIf(", which has a fraction", has_fraction);
+    let fraction = TextIf(", which has a fraction", has_fraction);
     let note =
         ". Each way is rounded to a whole number here; behind the word routes no cost is asked";
-    let values = [Cited(word), fraction, WordsIf(note, is_unrounded)];
+    let values = [Quote(word), fraction, TextIf(note, is_unrounded)];
     let words = ": the cost is @@, allowed are whole numbers in 0..18446744073709551615@";
-    put_form(text, words, &values);
+    put_template(text, words, &values);
 }
 
-// Whether the cost has a fraction, or an exponent.
+// Returns whether the cost has a fraction or an exponent.
 fn is_unrounded(word: &[u8]) -> bool
     ensures { result ≡ is_unrounded word.now }
 {
     word.iter().any(|byte| matches!(*byte, b'.' | b'e' | b'E'))
 }
 
-fn put_bad_customer(text: &mut Told, word: Option<&[u8]>)
+fn put_bad_customer(text: &mut TextBuffer, word: Option<&[u8]>)
     ensures { text.new ≡ text.old ++ bad_customer_text (option_copied word.entry) }
 {
     if let Some(word) = word {
         let words = ": a customer is @, allowed are digits alone, at most 4294967295";
-        put_form(text, words, &[Cited(word)]);
+        put_template(text, words, &[Quote(word)]);
     }
 }
 
-// The first word that is no number of a customer.
+// Returns the first word that is not the number of a customer.
 #[tactic(auto, unfolding(sol_text::specs::Values::customer_of))]
-fn no_customer(tail: &[u8]) -> Option<&[u8]>
-    ensures { option_copied result ≡ find is_no_customer (words_of tail.now) }
+fn first_bad_customer(tail: &[u8]) -> Option<&[u8]>
+    ensures { option_copied result ≡ find is_bad_customer (words_of tail.now) }
 {
     for word in Words::new(tail) {
         if digits_to_u32(word).is_none() {
@@ -136,7 +136,7 @@ fn no_customer(tail: &[u8]) -> Option<&[u8]>
     None
 }
 
-// Empty where the line has none.
+// Returns the first word of the line, or an empty word if there is none.
 fn first_word(line: &[u8]) -> &[u8]
     ensures { result.now ≡ first_word (words_of line.now) }
 {

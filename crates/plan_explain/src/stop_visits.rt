@@ -1,30 +1,31 @@
-//! The places of a route, each with the way to it and the service there.
+//! The places of a route, each with the leg to it and its service.
 ghost use Rattle.std.specs.Prelude.{◌≡◌, ◌+◌, ◌<◌, ◌^◌, IfOk, map};
-ghost use Rattle.route_sched.specs.Route.{AreLiveOnce};
-ghost use Rattle.plan_explain.specs.Tables.{stop_visit_at, stop_visits_of, rows_of, set_off};
+ghost use Rattle.route_sched.specs.Route.{AreDistinctStops};
+ghost use Rattle.plan_explain.specs.Tables.{stop_visit_at, stop_visits_of, rows_of, departure};
 
 use crate::rows::Row;
 use plan_types::{OutOfMemory, Problem};
 use route_sched::{Visit, Visits};
 use std::alloc::Global;
 
-/// A visit to a place of a route: what happens there, the way to it and the service.
+/// A visit to a place of a route, with the leg to it and the service.
 #[derive(Clone, Copy, Debug, PartialEq, Eq)]
 pub struct StopVisit {
     pub row: Row,
-    /// How far it is from the place before, which is how long the way takes.
+    /// The distance from the place before, which is also the travel time.
     pub leg: u32,
-    /// How long service takes.
+    /// The duration of service.
     pub service: u32,
 }
 
-/// The visits of a route, the return last. Times and distances are in the problem's unit, loads in that of its demands.
+/// Returns the visits of a route, with the return to the depot as the last one. Times and distances are in the
+/// problem's unit, loads in the unit of its demands.
 pub fn stop_visits_of(
     alloc: Global,
     problem: &Problem,
     route: &[u32],
 ) -> Result<Vec<StopVisit>, OutOfMemory>
-    requires { AreLiveOnce problem.now route.now }
+    requires { AreDistinctStops problem.now route.now }
     ensures { IfOk result (λ stop_visits. stop_visits.items
         ≡ stop_visits_of problem.now route.now) }
 {
@@ -47,7 +48,7 @@ pub fn stop_visits_of(
     Ok(stop_visits)
 }
 
-// A visit straight after another one, which is at this place.
+// Returns the visit at the place after `place`, from the visit before it.
 fn stop_visit(place: usize, last: &Visit, visit: &Visit) -> StopVisit
     requires place { place + 1 < 2 ^ 64 }
     requires time { last.now.start + last.now.stop.service + visit.now.leg < 2 ^ 64 }
@@ -69,9 +70,9 @@ fn stop_visit(place: usize, last: &Visit, visit: &Visit) -> StopVisit
     }
 }
 
-/// The rows of a route, the return last: its visits without ways and services.
+/// Returns the rows of a route, with the return to the depot as the last one.
 pub fn rows_of(alloc: Global, problem: &Problem, route: &[u32]) -> Result<Vec<Row>, OutOfMemory>
-    requires { AreLiveOnce problem.now route.now }
+    requires { AreDistinctStops problem.now route.now }
     ensures { IfOk result (λ rows. rows.items ≡ rows_of problem.now route.now) }
 {
     let visits = stop_visits_of(alloc, problem, route)?;
@@ -88,9 +89,10 @@ fn rows_at(alloc: Global, visits: &[StopVisit]) -> Result<Vec<Row>, OutOfMemory>
     Ok(rows)
 }
 
-/// When a vehicle that comes just when service starts leaves the place before.
-pub fn set_off(visit: &StopVisit) -> u64
-    ensures { result ≡ set_off visit.now }
+/// Returns the latest departure from the place before that delays no service: the vehicle arrives just when
+/// service starts.
+pub fn departure(visit: &StopVisit) -> u64
+    ensures { result ≡ departure visit.now }
 {
     visit.row.start.saturating_sub(u64::from(visit.leg))
 }

@@ -1,43 +1,43 @@
 //! A line for each route, and the sums.
 ghost use Rattle.std.specs.Prelude.{◌≡◌, ◌++◌, ◌<◌, ◌^◌, All, IfOk, OnOk, fold, map, pos, sum_by};
 ghost use Rattle.std.specs.Int.{int_max};
-ghost use Rattle.route_sched.specs.Route.{AreLiveOnce};
-ghost use Rattle.plan_explain.specs.Summaries.{lines_text, route_line, route_lines, summary_of, summary_text, sums_text, wait, waiting};
+ghost use Rattle.route_sched.specs.Route.{AreDistinctStops};
+ghost use Rattle.plan_explain.specs.Summaries.{lines_text, route_line, route_lines, summary_of, summary_text, sums_text, waiting_time, waiting};
 ghost use Rattle.plan_explain.specs.Tables.{rows_of};
 
-use crate::forms::Value::{Right, RightLong, RightSigned};
-use crate::forms::put_form;
 use crate::rows::Row;
 use crate::stop_visits::rows_of;
+use crate::templates::Value::{Right, RightLong, RightSigned};
+use crate::templates::put_template;
 use plan_types::{OutOfMemory, Problem, Route};
 use route_sched::{route_distance, total_distance};
-use rule_breaches::visit_behind;
+use rule_violations::visit_after;
 use std::alloc::Global;
-use told_text::Told;
+use text_buffer::TextBuffer;
 
-/// What a route comes to.
+/// The totals of a route.
 #[derive(Clone, Copy, Debug, PartialEq, Eq)]
 pub struct Summary {
     pub stops: u64,
     pub distance: u64,
-    /// The most that the vehicle carries.
+    /// The greatest load of the vehicle.
     pub load: i64,
-    /// When the vehicle leaves the depot, where it comes to the first stop just when service starts.
-    pub set_off: u64,
-    /// When the vehicle is back at the depot.
-    pub back: u64,
-    /// How long the vehicle waits.
+    /// The departure from the depot that makes the vehicle arrive at the first stop just when service starts.
+    pub departure: u64,
+    /// The time when the vehicle is back at the depot.
+    pub return_time: u64,
+    /// The total waiting time.
     pub waiting: u64,
 }
 
 /// Appends a line for each route, and the sums.
 pub(crate) fn put_summary(
     alloc: Global,
-    text: &mut Told,
+    text: &mut TextBuffer,
     problem: &Problem,
     routes: &[Route],
 ) -> Result<(), OutOfMemory>
-    requires { All (AreLiveOnce problem.now) routes.now }
+    requires { All (AreDistinctStops problem.now) routes.now }
     ensures { OnOk result (text.new ≡ text.old ++ summary_text problem.now routes.now) }
 {
     let summaries = summaries(alloc, problem, routes)?;
@@ -52,7 +52,7 @@ fn summaries(
     problem: &Problem,
     routes: &[Route],
 ) -> Result<Vec<Summary>, OutOfMemory>
-    requires { All (AreLiveOnce problem.now) routes.now }
+    requires { All (AreDistinctStops problem.now) routes.now }
     ensures { IfOk result (λ summaries. summaries.items
         ≡ map (summary_of problem.now) routes.now) }
 {
@@ -63,19 +63,20 @@ fn summaries(
     Ok(summaries)
 }
 
-/// What a route comes to. Distance and times are in the problem's unit, the load in that of its demands.
+/// Returns the totals of a route. Distance and times are in the problem's unit, the load in the unit of its
+/// demands.
 pub fn summary_of(alloc: Global, problem: &Problem, route: &[u32]) -> Result<Summary, OutOfMemory>
-    requires { AreLiveOnce problem.now route.now }
+    requires { AreDistinctStops problem.now route.now }
     ensures { IfOk result (λ summary. summary ≡ summary_of problem.now route.now) }
 {
     let rows = rows_of(alloc, problem, route)?;
-    let first = visit_behind(problem, route, 0);
+    let first = visit_after(problem, route, 0);
     Ok(Summary {
         stops: route.len() as u64,
         distance: route_distance(problem, route),
         load: greatest_load(rows.as_slice()),
-        set_off: first.start.saturating_sub(u64::from(first.leg)),
-        back: visit_behind(problem, route, route.len()).start,
+        departure: first.start.saturating_sub(u64::from(first.leg)),
+        return_time: visit_after(problem, route, route.len()).start,
         waiting: waiting(problem, route, rows.as_slice()),
     })
 }
@@ -90,28 +91,28 @@ fn greatest_load(rows: &[Row]) -> i64
     greatest
 }
 
-// How long the vehicle waits in all. That is never more than the time at which it is back.
+// Returns the total waiting time. It never exceeds the time of the return, so the sum can't overflow.
 fn waiting(problem: &Problem, route: &[u32], rows: &[Row]) -> u64
     requires { rows.now ≡ rows_of problem.now route.now }
     ensures { result ≡ waiting problem.now route.now }
 {
     let mut waiting = 0;
     for row in rows {
-        waiting += wait(row);
+        waiting += waiting_time(row);
     }
     waiting
 }
 
-/// How long the vehicle waits at the place of a row.
-pub fn wait(row: &Row) -> u64
-    ensures value { result ≡ wait row.now }
+/// Returns the waiting time at the place of a row.
+pub fn waiting_time(row: &Row) -> u64
+    ensures value { result ≡ waiting_time row.now }
     ensures fits { row.now.start < 2 ^ 64 }
 {
     row.start.saturating_sub(row.arrival)
 }
 
 #[tactic(auto, unfolding(crate::specs::Summaries::lines_text))]
-fn put_lines(text: &mut Told, heading: &str, summaries: &[Summary], distance: u128)
+fn put_lines(text: &mut TextBuffer, heading: &str, summaries: &[Summary], distance: u128)
     ensures { text.new ≡ text.old ++ lines_text heading.now summaries.now distance }
 {
     text.push_str(heading);
@@ -119,7 +120,7 @@ fn put_lines(text: &mut Told, heading: &str, summaries: &[Summary], distance: u1
     put_sums(text, stops_in(summaries), distance, waiting_in(summaries));
 }
 
-fn put_routes(text: &mut Told, summaries: &[Summary])
+fn put_routes(text: &mut TextBuffer, summaries: &[Summary])
     ensures { text.new ≡ text.old ++ route_lines 1 summaries.now }
 {
     for (route, summary) in summaries.iter().enumerate() {
@@ -127,15 +128,23 @@ fn put_routes(text: &mut Told, summaries: &[Summary])
     }
 }
 
-fn put_route(text: &mut Told, route: u64, summary: &Summary)
+fn put_route(text: &mut TextBuffer, route: u64, summary: &Summary)
     ensures { text.new ≡ text.old ++ route_line route summary.now }
 {
     let (route, stops) = (Right(5, route), Right(6, summary.stops));
     let (distance, load) = (Right(10, summary.distance), RightSigned(9, summary.load));
-    let (set_off, back) = (Right(10, summary.set_off), Right(10, summary.back));
+    let (departure, return_time) = (Right(10, summary.departure), Right(10, summary.return_time));
     let waiting = Right(10, summary.waiting);
-    let values = [route, stops, distance, load, set_off, back, waiting];
-    put_form(text, "@ @ @ @ @ @ @\n", &values);
+    let values = [
+        route,
+        stops,
+        distance,
+        load,
+        departure,
+        return_time,
+        waiting,
+    ];
+    put_template(text, "@ @ @ @ @ @ @\n", &values);
 }
 
 fn stops_in(summaries: &[Summary]) -> u128
@@ -158,10 +167,10 @@ fn waiting_in(summaries: &[Summary]) -> u128
     waiting
 }
 
-fn put_sums(text: &mut Told, stops: u128, distance: u128, waiting: u128)
+fn put_sums(text: &mut TextBuffer, stops: u128, distance: u128, waiting: u128)
     ensures { text.new ≡ text.old ++ sums_text stops distance waiting }
 {
     let (stops, waiting) = (RightLong(6, stops), RightLong(42, waiting));
     let values = [stops, RightLong(10, distance), waiting];
-    put_form(text, "  sum @ @ @\n", &values);
+    put_template(text, "  sum @ @ @\n", &values);
 }

@@ -1,25 +1,26 @@
 //! A route as a table.
 ghost use Rattle.std.specs.Prelude.{◌≡◌, ◌++◌, OnOk};
 ghost use Rattle.std.specs.List.{flat_map};
-ghost use Rattle.route_sched.specs.Route.{AreLiveOnce};
-ghost use Rattle.plan_explain.specs.Tables.{figures_text, heading, row_text, stop_row, stop_rows, stops_table, table_text};
+ghost use Rattle.route_sched.specs.Route.{AreDistinctStops};
+ghost use Rattle.plan_explain.specs.Tables.{row_values_text, heading, row_text, stop_row, stop_rows, stops_table, table_text};
 
-use crate::forms::Value::{Left, Right, RightSigned, WordsIf};
-use crate::forms::put_form;
 use crate::stop_visits::{StopVisit, stop_visits_of};
+use crate::templates::Value::{Left, Right, RightSigned, TextIf};
+use crate::templates::put_template;
 use plan_types::{Kind, OutOfMemory, Problem};
-use rule_breaches::{is_late, is_overload};
+use rule_violations::{is_late, is_overload};
 use std::alloc::Global;
-use told_text::Told;
+use text_buffer::TextBuffer;
 
-/// Appends the table of a route: each place with the way to it, its times, window, service and load, the return last.
+/// Appends the table of a route: each place with the leg to it, its times, window, service and load. The return
+/// is the last row.
 pub(crate) fn put_table(
     alloc: Global,
-    text: &mut Told,
+    text: &mut TextBuffer,
     problem: &Problem,
     route: &[u32],
 ) -> Result<(), OutOfMemory>
-    requires { AreLiveOnce problem.now route.now }
+    requires { AreDistinctStops problem.now route.now }
     ensures { OnOk result (text.new ≡ text.old ++ table_text problem.now route.now) }
 {
     let visits = stop_visits_of(alloc, problem, route)?;
@@ -38,7 +39,7 @@ fn heading(kind: Kind) -> &'static str
     }
 }
 
-fn put_rows(text: &mut Told, problem: &Problem, visits: &[StopVisit])
+fn put_rows(text: &mut TextBuffer, problem: &Problem, visits: &[StopVisit])
     ensures { text.new ≡ text.old ++ flat_map (row_text problem.now) visits.now }
 {
     for visit in visits {
@@ -46,24 +47,24 @@ fn put_rows(text: &mut Told, problem: &Problem, visits: &[StopVisit])
     }
 }
 
-fn put_row(text: &mut Told, problem: &Problem, visit: &StopVisit)
+fn put_row(text: &mut TextBuffer, problem: &Problem, visit: &StopVisit)
     ensures { text.new ≡ text.old ++ row_text problem.now visit.now }
 {
     let much = is_overload(problem, visit.row.load);
     let late = is_late(problem, visit.row.start, visit.row.latest);
-    put_figures(text, problem.kind, visit, much, late);
+    put_row_values(text, problem.kind, visit, much, late);
 }
 
-// The figures of a row, with a mark where the vehicle carries too much, and one where it is late.
-#[tactic(auto, unfolding(crate::specs::Tables::figures_text))]
-fn put_figures(text: &mut Told, kind: Kind, visit: &StopVisit, much: bool, late: bool)
-    ensures { text.new ≡ text.old ++ figures_text kind visit.now much late }
+// Appends the values of a row, with a mark if the vehicle is overloaded and one if it is late.
+#[tactic(auto, unfolding(crate::specs::Tables::row_values_text))]
+fn put_row_values(text: &mut TextBuffer, kind: Kind, visit: &StopVisit, much: bool, late: bool)
+    ensures { text.new ≡ text.old ++ row_values_text kind visit.now much late }
 {
     let row = &visit.row;
     let (place, stop) = (Right(5, row.place), Right(6, u64::from(row.stop)));
     let (leg, arrival) = (Right(8, u64::from(visit.leg)), Right(10, row.arrival));
     let load = RightSigned(9, row.load);
-    let (much, late) = (WordsIf("  overload", much), WordsIf("  late", late));
+    let (much, late) = (TextIf("  overload", much), TextIf("  late", late));
     match kind {
         Kind::LiLim => {
             let start = Right(10, row.start);
@@ -73,25 +74,25 @@ fn put_figures(text: &mut Told, kind: Kind, visit: &StopVisit, much: bool, late:
             let values = [
                 place, stop, leg, arrival, start, earliest, latest, service, load, much, late,
             ];
-            put_form(text, "@ @ @ @ @ @..@ @ @@@\n", &values)
+            put_template(text, "@ @ @ @ @ @..@ @ @@@\n", &values)
         }
         Kind::Vrp => {
             let values = [place, stop, leg, arrival, load, much, late];
-            put_form(text, "@ @ @ @ @@@\n", &values)
+            put_template(text, "@ @ @ @ @@@\n", &values)
         }
     }
 }
 
 /// Appends the places of a route with their stops, without times, under this heading.
 #[tactic(auto, unfolding(crate::specs::Tables::stops_table))]
-pub(crate) fn put_stops(text: &mut Told, heading: &str, route: &[u32])
+pub(crate) fn put_stops(text: &mut TextBuffer, heading: &str, route: &[u32])
     ensures { text.new ≡ text.old ++ stops_table heading.now route.now }
 {
     text.push_str(heading);
     put_stop_rows(text, route);
 }
 
-fn put_stop_rows(text: &mut Told, route: &[u32])
+fn put_stop_rows(text: &mut TextBuffer, route: &[u32])
     ensures { text.new ≡ text.old ++ stop_rows 1 route.now }
 {
     for (place, stop) in route.iter().enumerate() {
@@ -99,8 +100,8 @@ fn put_stop_rows(text: &mut Told, route: &[u32])
     }
 }
 
-fn put_stop_row(text: &mut Told, place: u64, stop: u32)
+fn put_stop_row(text: &mut TextBuffer, place: u64, stop: u32)
     ensures { text.new ≡ text.old ++ stop_row place stop }
 {
-    put_form(text, "@ @\n", &[Right(5, place), Right(6, u64::from(stop))]);
+    put_template(text, "@ @\n", &[Right(5, place), Right(6, u64::from(stop))]);
 }

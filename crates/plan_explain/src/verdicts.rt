@@ -1,30 +1,33 @@
-//! What is said of a verdict, and how far the routes of a text drive that is refused for its cost.
+//! The text for a verdict, and the distance of routes whose solution is refused for its cost.
 ghost use Rattle.std.specs.Prelude.{◌≡◌, ◌++◌, ℕ, All, IfOk, IsTrue, OnOk, string_bytes};
-ghost use Rattle.route_sched.specs.Route.{AreLiveOnce};
+ghost use Rattle.route_sched.specs.Route.{AreDistinctStops};
 ghost use Rattle.plan_audit.specs.Verdict.{IsVerdict, printed};
-ghost use Rattle.rule_breaches.specs.Ways.{knows_ways};
-ghost use Rattle.plan_explain.specs.Explained.{driven_text, fault_text, route_shown, shown_text, verdict_knows_ways, verdict_text};
-ghost use Rattle.plan_explain.specs.Sentences.{route_told, row_told, sentence};
+ghost use Rattle.rule_violations.specs.KnownSchedule.{schedule_is_known};
+ghost use Rattle.plan_explain.specs.VerdictTexts.{distance_text, fault_text, route_shown, shown_text, verdict_schedule_is_known, verdict_text};
+ghost use Rattle.plan_explain.specs.Sentences.{reported_route, reported_row, sentence};
 
-use crate::forms::Value::Long;
-use crate::forms::put_form;
-use crate::further::{RULES, put_further, put_others};
+use crate::other_violations::{RULES, put_later_rules, put_other_violations};
 use crate::rows::Row;
 use crate::sentences as say;
 use crate::stop_visits::rows_of;
 use crate::summaries::put_summary;
 use crate::tables::{put_stops, put_table};
+use crate::templates::Value::Long;
+use crate::templates::put_template;
 use plan_audit::{Rule, Verdict};
 use plan_types::{OutOfMemory, Problem, Route};
 use route_sched::total_distance;
-use rule_breaches::knows_ways;
+use rule_violations::schedule_is_known;
 use sol_text::Solution;
 use std::alloc::Global;
-use told_text::Told;
+use text_buffer::TextBuffer;
 
-/// What a verdict says to who has to mend the solution, in whole lines. For a broken rule: a sentence with its figures, and the route
-/// that is told, place by place. For a solution that passes: a line for each route, and the sums. The verdict may be that on its routes
-/// with another printed cost; its own is told where it is the cost that is wrong.
+/// Returns the explanation of a verdict, in whole lines. For a broken rule it is a sentence with its values,
+/// and the route of the violation place by place. For a solution that passes it is a line for each route, and
+/// the sums.
+///
+/// The caller may pass the verdict on the same routes with another printed cost. If the cost is wrong, the text
+/// shows the solution's own.
 pub fn explain_verdict(
     alloc: Global,
     problem: &Problem,
@@ -35,14 +38,14 @@ pub fn explain_verdict(
     ensures { IfOk result (λ text. string_bytes text
         ≡ verdict_text problem.now solution.now verdict) }
 {
-    let mut text = Told::new(alloc);
+    let mut text = TextBuffer::new(alloc);
     put_verdict(alloc, &mut text, problem, solution, verdict)?;
     text.into_string()
 }
 
 fn put_verdict(
     alloc: Global,
-    text: &mut Told,
+    text: &mut TextBuffer,
     problem: &Problem,
     solution: &Solution,
     verdict: Verdict,
@@ -60,7 +63,7 @@ fn put_verdict(
             place,
             stop,
         } => {
-            let Some(rule) = Rule::of_number(rule) else {
+            let Some(rule) = Rule::from_number(rule) else {
                 return Ok(());
             };
             let fault = Fault {
@@ -75,7 +78,7 @@ fn put_verdict(
     }
 }
 
-/// What a verdict tells of a broken rule, and the printed cost; routes and places count from 1.
+/// The first violation of a verdict, and the printed cost; routes and places count from 1.
 #[derive(Clone, Copy)]
 pub(crate) struct Fault {
     pub rule: Rule,
@@ -87,44 +90,55 @@ pub(crate) struct Fault {
 
 fn put_fault(
     alloc: Global,
-    text: &mut Told,
+    text: &mut TextBuffer,
     problem: &Problem,
     routes: &[Route],
     fault: &Fault,
 ) -> Result<(), OutOfMemory>
-    requires { IsTrue (knows_ways fault.now.rule) → All (AreLiveOnce problem.now) routes.now }
+    requires { IsTrue (schedule_is_known fault.now.rule) → All (AreDistinctStops problem.now) routes.now }
     ensures { OnOk result (text.new ≡ text.old ++ fault_text problem.now routes.now fault.now) }
 {
     put_sentence(alloc, text, problem, routes, fault)?;
     text.push_str("\n");
     put_shown(alloc, text, problem, routes, fault.rule, fault.route)?;
-    put_further(alloc, text, problem, routes, fault.rule)?;
-    put_others(alloc, text, problem, routes, fault.rule, &RULES)
+    put_other_violations(alloc, text, problem, routes, fault.rule)?;
+    put_later_rules(alloc, text, problem, routes, fault.rule, &RULES)
 }
 
-// The sentence on a broken rule.
+// Appends the sentence on a broken rule.
 fn put_sentence(
     alloc: Global,
-    text: &mut Told,
+    text: &mut TextBuffer,
     problem: &Problem,
     routes: &[Route],
     fault: &Fault,
 ) -> Result<(), OutOfMemory>
-    requires { IsTrue (knows_ways fault.now.rule) → All (AreLiveOnce problem.now) routes.now }
+    requires { IsTrue (schedule_is_known fault.now.rule) → All (AreDistinctStops problem.now) routes.now }
     ensures { OnOk result (text.new ≡ text.old ++ sentence problem.now routes.now fault.now) }
 {
-    let stops = route_told(routes, fault.route);
+    let stops = reported_route(routes, fault.route);
     let (place, stop) = (fault.place, fault.stop);
     match fault.rule {
         Rule::UnknownStop => say::put_unknown(text, problem, routes, stop),
-        Rule::Twice => say::put_stop(text, "visited twice: stop @ is @ already", routes, stop),
-        Rule::Missing => say::put_pair(text, "missing stop: stop @ is @", problem, routes, stop),
+        Rule::VisitedTwice => say::put_stop(
+            text,
+            "visited twice: stop @ is @ already",
+            routes,
+            stop,
+        ),
+        Rule::MissingStop => say::put_pair(
+            text,
+            "missing stop: stop @ is @",
+            problem,
+            routes,
+            stop,
+        ),
         Rule::SplitPair => say::put_pair(text, "split pair: stop @ is @", problem, routes, stop),
-        Rule::DeliveryFirst => {
-            say::put_early(text, "early delivery: stop @ is @", problem, routes, stop)
+        Rule::EarlyDelivery => {
+            say::put_delivery_first(text, "early delivery: stop @ is @", problem, routes, stop)
         }
-        Rule::Load => say::put_overload(text, problem, row_told(alloc, problem, stops, place)?),
-        Rule::Late => say::put_late(text, row_told(alloc, problem, stops, place)?),
+        Rule::Load => say::put_overload(text, problem, reported_row(alloc, problem, stops, place)?),
+        Rule::Late => say::put_late(text, reported_row(alloc, problem, stops, place)?),
         Rule::LateReturn => say::put_late_return(text, problem, stops),
         Rule::Fleet => say::put_fleet(text, problem, routes),
         Rule::Pin => {}
@@ -133,16 +147,16 @@ fn put_sentence(
     Ok(())
 }
 
-// What is shown of the routes for a broken rule.
+// Appends the routes that the broken rule needs: the route of the violation, or all of them for a wrong cost.
 fn put_shown(
     alloc: Global,
-    text: &mut Told,
+    text: &mut TextBuffer,
     problem: &Problem,
     routes: &[Route],
     rule: Rule,
     route: u64,
 ) -> Result<(), OutOfMemory>
-    requires { IsTrue (knows_ways rule) → All (AreLiveOnce problem.now) routes.now }
+    requires { IsTrue (schedule_is_known rule) → All (AreDistinctStops problem.now) routes.now }
     ensures { OnOk result (text.new ≡ text.old ++ shown_text problem.now routes.now rule route) }
 {
     match rule {
@@ -151,23 +165,23 @@ fn put_shown(
     }
 }
 
-// The route that is told.
+// Appends the route of the violation.
 fn put_route_shown(
     alloc: Global,
-    text: &mut Told,
+    text: &mut TextBuffer,
     problem: &Problem,
     routes: &[Route],
     rule: Rule,
     route: u64,
 ) -> Result<(), OutOfMemory>
-    requires { IsTrue (knows_ways rule) → All (AreLiveOnce problem.now) routes.now }
+    requires { IsTrue (schedule_is_known rule) → All (AreDistinctStops problem.now) routes.now }
     ensures { OnOk result (text.new ≡ text.old ++ route_shown problem.now routes.now rule route) }
 {
     if route == 0 {
         return Ok(());
     }
-    let stops = route_told(routes, route);
-    if knows_ways(rule) {
+    let stops = reported_route(routes, route);
+    if schedule_is_known(rule) {
         put_table(alloc, text, problem, stops)
     } else {
         put_stops(text, "place   stop\n", stops);
@@ -175,9 +189,9 @@ fn put_route_shown(
     }
 }
 
-// The stops of a route, counted from 1; route 0 has none.
-fn route_told(routes: &[Route], route: u64) -> &[u32]
-    ensures { result.now ≡ route_told routes.now route }
+// Returns the stops of a route, counted from 1; route 0 has none.
+fn reported_route(routes: &[Route], route: u64) -> &[u32]
+    ensures { result.now ≡ reported_route routes.now route }
 {
     if route == 0 {
         return &[];
@@ -188,15 +202,15 @@ fn route_told(routes: &[Route], route: u64) -> &[u32]
     }
 }
 
-// The row of a place of a route, counted from 1.
-fn row_told(
+// Returns the row of a place of a route, counted from 1.
+fn reported_row(
     alloc: Global,
     problem: &Problem,
     route: &[u32],
     place: u64,
 ) -> Result<Option<Row>, OutOfMemory>
-    requires { AreLiveOnce problem.now route.now }
-    ensures { IfOk result (λ row. row ≡ row_told problem.now route.now place) }
+    requires { AreDistinctStops problem.now route.now }
+    ensures { IfOk result (λ row. row ≡ reported_row problem.now route.now place) }
 {
     if place == 0 {
         return Ok(None);
@@ -205,9 +219,10 @@ fn row_told(
     Ok(rows.as_slice().get(place as usize - 1).copied())
 }
 
-/// How far routes drive, as a line, in the problem's unit; none where a stop is unknown or stands twice, since nobody knows it
-/// then. The verdict is that on these routes, whatever cost they are printed with.
-pub fn explain_driven(
+/// Returns a line with the distance of the routes, in the problem's unit. Returns no line if a stop is unknown
+/// or appears twice, since the distance is not known then. The verdict is the one on these routes, with any
+/// printed cost.
+pub fn explain_distance(
     alloc: Global,
     problem: &Problem,
     routes: &[Route],
@@ -215,32 +230,33 @@ pub fn explain_driven(
 ) -> Result<String, OutOfMemory>
     requires { (cost : ℕ) × IsVerdict problem.now (printed routes.now cost) verdict }
     ensures { IfOk result (λ text. string_bytes text
-        ≡ driven_text problem.now routes.now verdict) }
+        ≡ distance_text problem.now routes.now verdict) }
 {
-    let mut text = Told::new(alloc);
-    put_driven(&mut text, problem, routes, verdict);
+    let mut text = TextBuffer::new(alloc);
+    put_distance(&mut text, problem, routes, verdict);
     text.into_string()
 }
 
-fn put_driven(text: &mut Told, problem: &Problem, routes: &[Route], verdict: Verdict)
+fn put_distance(text: &mut TextBuffer, problem: &Problem, routes: &[Route], verdict: Verdict)
     requires { (cost : ℕ) × IsVerdict problem.now (printed routes.now cost) verdict }
-    ensures { text.new ≡ text.old ++ driven_text problem.now routes.now verdict }
+    ensures { text.new ≡ text.old ++ distance_text problem.now routes.now verdict }
 {
-    if verdict_knows_ways(verdict) {
+    if verdict_schedule_is_known(verdict) {
         let distance = Long(total_distance(problem, routes));
         let words = "distance that the routes drive, each way rounded: @\n";
-        put_form(text, words, &[distance]);
+        put_template(text, words, &[distance]);
     }
 }
 
-/// Whether no stop of routes with this verdict is unknown or stands twice: then the vehicles' ways are known.
-pub fn verdict_knows_ways(verdict: Verdict) -> bool
-    ensures { result ≡ verdict_knows_ways verdict }
+/// Returns whether no stop is unknown or appears twice in routes with this verdict, so that their schedule is
+/// known.
+pub fn verdict_schedule_is_known(verdict: Verdict) -> bool
+    ensures { result ≡ verdict_schedule_is_known verdict }
 {
     match verdict {
         Verdict::Pass(_) => true,
-        Verdict::Broken { rule, .. } => match Rule::of_number(rule) {
-            Some(rule) => knows_ways(rule),
+        Verdict::Broken { rule, .. } => match Rule::from_number(rule) {
+            Some(rule) => schedule_is_known(rule),
             None => false,
         },
     }

@@ -1,16 +1,16 @@
--- What is kept of a route are live stops, each once.
+-- The part of a route that is drawn has known and distinct stops.
 use Rattle.std.proofs.Common.{◌≡◌, ℕ, Bool, true, false, not, ◌||◌, List, [], ◌∷◌, ◌++◌, cond, ap, refl}
 use Rattle.std.specs.Prelude.{nat_eq, ◌==◌, is_some}
 use Rattle.std.specs.List.{AllByRecursion, IsDistinct, list_any}
 use Rattle.std.proofs.lemmas.Bool.{and_parts, not-true, true≢false}
 use Rattle.std.proofs.lemmas.List.Elements.{All-append, All-cons, All-nil}
 use Rattle.plan_types.specs.Instance.{Instance, stop_at}
-use Rattle.route_sched.specs.Route.{AreLiveOnce, IsLive}
-use Rattle.plan_picture.specs.Known.{is_new, kept_after}
+use Rattle.route_sched.specs.Route.{AreDistinctStops, IsKnownStop}
+use Rattle.plan_picture.specs.DrawnStops.{is_new, kept_after}
 
-pub none_once : (p : Instance) → AreLiveOnce p []
+pub none_once : (p : Instance) → AreDistinctStops p []
 unfolding IsDistinct
-none_once p = record { live = All-nil (IsLive p); distinct = tt }
+none_once p = record { live = All-nil (IsKnownStop p); distinct = tt }
 
 -- neither of two tests passes
 neither : (a b : Bool) → (a || b) ≡ false → (a ≡ false) × (b ≡ false)
@@ -28,16 +28,16 @@ one_more (x ∷ kept) n distinct none =
     let parts = neither (x == n) (list_any (λ m. m == n) kept) none in
     (also_differs x n kept distinct.0 parts.0, one_more kept n distinct.1 parts.1)
 
--- a new stop may follow
-pub once_more : (p : Instance) (kept : List ℕ) (n : ℕ) → AreLiveOnce p kept → is_new p kept n ≡ true → AreLiveOnce p (kept ++ n ∷ [])
+-- the kept stops and one more new stop are known and distinct
+pub once_more : (p : Instance) (kept : List ℕ) (n : ℕ) → AreDistinctStops p kept → is_new p kept n ≡ true → AreDistinctStops p (kept ++ n ∷ [])
 once_more p kept n once new =
     let parts = and_parts (is_some (stop_at p n)) (not (list_any (λ m. m == n) kept)) new in
     record {
-      live = All-append (IsLive p) kept (n ∷ []) once.live (All-cons (IsLive p) n [] parts.0 (All-nil (IsLive p)));
+      live = All-append (IsKnownStop p) kept (n ∷ []) once.live (All-cons (IsKnownStop p) n [] parts.0 (All-nil (IsKnownStop p)));
       distinct = one_more kept n once.distinct (not-true (list_any (λ m. m == n) kept) parts.1);
     }
 
--- what is kept, where the next stop is new and where it is not
+-- the kept stops, if the next stop is new and if it is not
 pub kept_new : (p : Instance) (kept route : List ℕ) (n : ℕ) → is_new p kept n ≡ true → kept_after p kept (n ∷ route) ≡ kept_after p (kept ++ n ∷ []) route
 kept_new p kept route n new = ap (λ b. kept_after p (cond b (kept ++ n ∷ []) kept) route) new
 

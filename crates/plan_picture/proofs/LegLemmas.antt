@@ -6,9 +6,9 @@ use Rattle.std.proofs.lemmas.Bool.{and_from}
 use Rattle.std.proofs.lemmas.List.{append-nil}
 use Rattle.std.proofs.lemmas.List.Elements.{recursion_from_All}
 use Rattle.plan_types.specs.Instance.{Instance, stop_at}
-use Rattle.route_sched.specs.Route.{IsLive, place}
-use Rattle.route_sched.specs.Visiting.{visit_after}
-use Rattle.plan_picture.specs.Known.{is_new, kept_after, visits_of}
+use Rattle.route_sched.specs.Route.{IsKnownStop, place}
+use Rattle.route_sched.specs.VisitList.{visit_after}
+use Rattle.plan_picture.specs.DrawnStops.{is_new, kept_after, visits_of}
 use Rattle.plan_picture.specs.Laws.{IsIn, LegsAreDrawn, RoutesAreKept}
 use Rattle.plan_picture.specs.Map.{leg_text, legs_text, line_head, line_text}
 use Rattle.plan_picture.specs.Tags.{fixed}
@@ -17,7 +17,7 @@ use Rattle.plan_picture.specs.declared.tags.Tag.TheVariants as tags
 use Rattle.plan_picture.proofs.KeptLemmas.{kept_new}
 use Rattle.plan_picture.proofs.PartLemmas.{in_left, in_right, in_whole}
 
--- what stands behind some numbers differs from them
+-- a number that differs from all of a list differs from the item after `kept`
 differs : (x n : ℕ) (kept route : List ℕ) → AllByRecursion (λ y. nat_eq x y ≡ false) (kept ++ n ∷ route) → nat_eq x n ≡ false
 differs x n [] route all = all.0
 differs x n (y ∷ kept) route all = differs x n kept route all.1
@@ -27,7 +27,7 @@ unfolding IsDistinct
 none_there [] n route distinct = refl
 none_there (x ∷ kept) n route distinct = ap (λ b. b || list_any (λ m. m == n) kept) (differs x n kept route distinct.0) ∙ none_there kept n route distinct.1
 
-all_kept : (p : Instance) (kept route : List ℕ) → AllByRecursion (IsLive p) route → IsDistinct nat_eq (kept ++ route) → kept_after p kept route ≡ kept ++ route
+all_kept : (p : Instance) (kept route : List ℕ) → AllByRecursion (IsKnownStop p) route → IsDistinct nat_eq (kept ++ route) → kept_after p kept route ≡ kept ++ route
 all_kept p kept [] live distinct = sym (append-nil kept)
 all_kept p kept (n ∷ route) live distinct =
     let new : is_new p kept n ≡ true = and_from (is_some (stop_at p n)) (not (list_any (λ m. m == n) kept)) live.0 (ap not (none_there kept n route distinct)) in
@@ -35,9 +35,9 @@ all_kept p kept (n ∷ route) live distinct =
     ∙ (all_kept p (kept ++ n ∷ []) route live.1 (subst (IsDistinct nat_eq) (sym (append_assoc kept (n ∷ []) route)) distinct) ∙ append_assoc kept (n ∷ []) route)
 
 pub routes_are_kept : RoutesAreKept
-routes_are_kept p route once = all_kept p [] route (recursion_from_All (IsLive p) route once.live) once.distinct
+routes_are_kept p route once = all_kept p [] route (recursion_from_All (IsKnownStop p) route once.live) once.distinct
 
--- of the legs behind place j, the one that is i places further
+-- the leg i places after place j is in the text of the legs from place j on
 legs_in : (p : Instance) (f : Frame) (route : List ℕ) (j m i : ℕ) → i < m
     → IsIn (leg_text f (place p route (j + i)) (place p route (j + i + 1))) (legs_text f (place p route j) (map (visit_after p route) (range_with_len j m)))
 legs_in p f route j zero i less = absurd (omega (arith, less))

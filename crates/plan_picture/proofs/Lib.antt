@@ -1,4 +1,4 @@
--- The lemma files, which upper crates may cite.
+-- The lemma files, which crates that use this one may cite.
 pub mod KeptLemmas
 pub mod LawProofs
 pub mod LegLemmas

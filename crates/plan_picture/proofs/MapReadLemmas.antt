@@ -6,15 +6,15 @@ use Rattle.std.specs.Option.{option_and_then, option_map_or}
 use Rattle.plan_types.specs.Instance.{Instance, partner_at, pickup_at}
 use Rattle.plan_types.specs.declared.requests.Stop.{Stop}
 use Rattle.route_sched.specs.declared.visits.Visit.{Visit}
-use Rattle.plan_picture.specs.Frame.{on_the_way, point_of}
-use Rattle.plan_picture.specs.Known.{stop_among, unserved, visits_of}
+use Rattle.plan_picture.specs.Frame.{arrow_point, point_of}
+use Rattle.plan_picture.specs.DrawnStops.{stop_among, unserved, visits_of}
 use Rattle.plan_picture.specs.Labels.{labels_of}
 use Rattle.plan_picture.specs.Map.{
   arrow_text,
   badge_text,
   box_size,
   box_text,
-  foot_of,
+  baseline_of,
   has_arrow,
   is_delivery,
   join_text,
@@ -32,15 +32,15 @@ use Rattle.plan_picture.specs.Map.{
   marks_text,
   number_text,
   opening_text,
-  over_mark,
-  over_text,
+  upper_mark,
+  upper_layer_text,
   pair_text,
   pairs_text,
   ring_text,
   rings_text,
-  under_mark,
-  under_shape,
-  under_text,
+  lower_mark,
+  lower_shape,
+  lower_layer_text,
 }
 use Rattle.plan_picture.specs.Svg.{at_text, attribute, broken_class, colour, each, numbered, placed_tag}
 use Rattle.plan_picture.specs.Tags.{fixed}
@@ -70,7 +70,7 @@ use Rattle.plan_picture.proofs.PieceLemmas.{
 }
 use Rattle.plan_picture.proofs.ReadLemmas.{Goes, goes_on, inside_keeps, quoted_keeps, Stays, stays_all, stays_each, stays_if, stays_with}
 
--- where there is something, its text stays
+-- an optional text between tags leaves the open elements as they were
 pub stays_maybe : {X : Type 0} (f : X → List ℕ) (o : Option X) → ((x : X) → Stays (f x)) → Stays (option_map_or f o [])
 stays_maybe f None stays = λ n os. refl
 stays_maybe f (Some x) stays = stays x
@@ -117,14 +117,14 @@ leg_stays f a b n os =
     goes_on start (head ++ first ++ arrow) (second ++ fixed tags.LineEnd)
     (goes_on start (head ++ first) arrow (goes_on start head first (leg_begins ((a.number == 0) || (b.number == 0)) n os)
     (at_goes line (n ∷ os) (point_of f a))) (arrow_goes (has_arrow f (point_of f a) (point_of f b)) line (n ∷ os)
-    (on_the_way (point_of f a) (point_of f b))))
+    (arrow_point (point_of f a) (point_of f b))))
     (goes_on (quoted line (n ∷ os)) second (fixed tags.LineEnd) (at_goes line (n ∷ os) (point_of f b)) (line_ends n os))
 
 legs_stay : (f : Frame) (last : Stop) (visits : List Visit) → Stays (legs_text f last visits)
 legs_stay f last [] = λ n os. refl
 legs_stay f last (v ∷ visits) = stays_with (leg_text f last v.stop) (legs_text f v.stop visits) (leg_stays f last v.stop) (legs_stay f v.stop visits)
 
--- the group of a route
+-- the beginning of a route's line opens a group
 line_opens : (broken number : ℕ) (n : List ℕ) (os : List (List ℕ)) → Goes (inside (n ∷ os)) (line_head broken number) (inside (codes "g" ∷ n ∷ os))
 unfolding line_head broken_class fixed
 line_opens broken number n os = by (number == broken)
@@ -173,13 +173,13 @@ begins_if : (c : Bool) (t u : Tag) → BeginsMark t → BeginsMark u → BeginsM
 begins_if true t u first next = first
 begins_if false t u first next = next
 
-under_mark_stays : (p : Instance) (f : Frame) (s : Stop) → Stays (under_mark p f s)
+under_mark_stays : (p : Instance) (f : Frame) (s : Stop) → Stays (lower_mark p f s)
 unfolding fixed
 under_mark_stays p f s =
-    stays_if (is_delivery p s) [] (mark_text (under_shape p s) f s) (λ n os. refl)
-    (mark_stays (under_shape p s) f s (begins_if (is_some (partner_at p s.number)) tags.PickupMark tags.StopMark (λ n os. refl) (λ n os. refl)))
+    stays_if (is_delivery p s) [] (mark_text (lower_shape p s) f s) (λ n os. refl)
+    (mark_stays (lower_shape p s) f s (begins_if (is_some (partner_at p s.number)) tags.PickupMark tags.StopMark (λ n os. refl) (λ n os. refl)))
 
-over_mark_stays : (p : Instance) (f : Frame) (s : Stop) → Stays (over_mark p f s)
+over_mark_stays : (p : Instance) (f : Frame) (s : Stop) → Stays (upper_mark p f s)
 unfolding fixed
 over_mark_stays p f s =
     stays_if (is_delivery p s) (mark_text tags.DeliveryMark f s) [] (mark_stays tags.DeliveryMark f s (λ n os. refl)) (λ n os. refl)
@@ -188,9 +188,9 @@ marks_stay : (p : Instance) (f : Frame) (stops : List Stop) → Stays (marks_tex
 unfolding marks_text fixed
 marks_stay p f stops =
     let depot = mark_text tags.DepotMark f p.depot in
-    let under = flat_map (under_mark p f) stops in
-    stays_with (depot ++ under) (flat_map (over_mark p f) stops)
-    (stays_with depot under (mark_stays tags.DepotMark f p.depot (λ n os. refl)) (stays_all (under_mark p f) stops (under_mark_stays p f))) (stays_all (over_mark p f) stops (over_mark_stays p f))
+    let under = flat_map (lower_mark p f) stops in
+    stays_with (depot ++ under) (flat_map (upper_mark p f) stops)
+    (stays_with depot under (mark_stays tags.DepotMark f p.depot (λ n os. refl)) (stays_all (lower_mark p f) stops (under_mark_stays p f))) (stays_all (upper_mark p f) stops (over_mark_stays p f))
 
 rings_stay : (f : Frame) (stops left : List Stop) (broken : ℕ) → Stays (rings_text f stops left broken)
 unfolding rings_text fixed
@@ -219,8 +219,8 @@ unfolding number_text
 number_stays f t j k a begins n os =
     let start = inside (n ∷ os) in
     let name = codes "text" in
-    goes_on start (placed_tag t (foot_of f j a) ++ numbered tags.TagEnd k) (fixed tags.TextEnd)
-    (goes_on start (placed_tag t (foot_of f j a)) (numbered tags.TagEnd k) (placed_goes start name (n ∷ os) t (foot_of f j a) (begins n os)) (number_goes name n os k)) (text_ends n os)
+    goes_on start (placed_tag t (baseline_of f j a) ++ numbered tags.TagEnd k) (fixed tags.TextEnd)
+    (goes_on start (placed_tag t (baseline_of f j a)) (numbered tags.TagEnd k) (placed_goes start name (n ∷ os) t (baseline_of f j a) (begins n os)) (number_goes name n os k)) (text_ends n os)
 
 label_stays : (f : Frame) (kind : LabelKind) (k : ℕ) (a : Area) → Stays (label_kind_text f kind k a)
 unfolding badge_text fixed
@@ -252,7 +252,7 @@ opening_opens f n os =
     (attribute_goes (quoted name (n ∷ os)) name (n ∷ os) tags.Letters f.unit refl)) refl
 
 pub map_stays : (f : Frame) (p : Instance) (stops : List Stop) (first : ℕ) (routes : List (List ℕ)) (route stop : ℕ) → Stays (map_in f p stops first routes route stop)
-unfolding map_in under_text over_text
+unfolding map_in lower_layer_text upper_layer_text
 map_stays f p stops first routes route stop n os =
     let a = inside (n ∷ os) in
     let name = codes "svg" in

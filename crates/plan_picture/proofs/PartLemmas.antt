@@ -7,7 +7,7 @@ use Rattle.std.proofs.lemmas.List.{append-nil}
 use Rattle.std.proofs.lemmas.List.Concat.{flat_map-append}
 use Rattle.plan_types.specs.Instance.{Instance, stop_at}
 use Rattle.plan_types.specs.declared.requests.Stop.{Stop}
-use Rattle.plan_picture.specs.Known.{listed, stops_below}
+use Rattle.plan_picture.specs.DrawnStops.{listed, stops_below}
 use Rattle.plan_picture.specs.Laws.{IsIn}
 use Rattle.plan_picture.specs.Svg.{each}
 
@@ -20,7 +20,7 @@ in_left a b c (x, y, e) = (x, y ++ c, ap (λ z. z ++ c) e ∙ (append_assoc x (a
 pub in_right : (a b c : List ℕ) → IsIn a c → IsIn a (b ++ c)
 in_right a b c (x, y, e) = (b ++ x, y, ap (λ z. b ++ z) e ∙ sym (append_assoc b x (a ++ y)))
 
--- the text of a stop is in that of all stops below a greater number
+-- The text of a stop is in the text of all stops below a greater number.
 pub stop_in_all : (f : Stop → List ℕ) (p : Instance) (n : ℕ) (s : Stop) (m : ℕ) → stop_at p n ≡ Some s → n < m → IsIn (f s) (flat_map f (stops_below p m))
 stop_in_all f p n s zero at less = absurd (omega (arith, less))
 stop_in_all f p n s (suc m) at less =
@@ -37,7 +37,7 @@ stop_in_all f p n s (suc m) at less =
 none_some : {X : Type 0} (x : X) → None ≡ Some x → ⊥
 none_some x h = let g : false ≡ true = (let k : None ≡ Some x = h in cc) in false≢true g
 
--- the text of a route is in that of all routes
+-- The text of a route is in the text of all routes.
 pub route_in_all : (f : ℕ → List ℕ → List ℕ) (k : ℕ) (routes : List (List ℕ)) (r : ℕ) (route : List ℕ) → slice_get routes r ≡ Some route → IsIn (f (k + r) route) (each f k routes)
 route_in_all f k [] r route at = absurd (none_some route at)
 route_in_all f k (x ∷ routes) zero route at =

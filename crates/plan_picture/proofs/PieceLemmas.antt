@@ -1,10 +1,10 @@
 -- The pieces of SVG are well-formed.
 use Rattle.std.proofs.Common.{ℕ, ◌+◌, ◌*◌, ◌%◌, Bool, true, false, List, [], ◌∷◌, ◌++◌, refl, codes}
 use Rattle.std.specs.Prelude.{◌==◌, decimal, if◌then◌else◌}
-use Rattle.plan_picture.specs.Svg.{at_text, attribute, bar, colour, figure, numbered, placed_tag, placed_text, some_figure}
+use Rattle.plan_picture.specs.Svg.{at_text, attribute, bar, colour, word_and_number, numbered, placed_tag, placed_text, word_and_nonzero}
 use Rattle.plan_picture.specs.Styles.{style}
 use Rattle.plan_picture.specs.Tags.{fixed}
-use Rattle.plan_picture.specs.WellFormed.{Place, inside, quoted, unquoted}
+use Rattle.plan_picture.specs.WellFormed.{ReaderState, inside, quoted, unquoted}
 use Rattle.plan_picture.specs.Words.{word}
 use Rattle.plan_picture.specs.declared.frame.Point.{Point}
 use Rattle.plan_picture.specs.declared.styles.Style.TheVariants as styles
@@ -13,25 +13,25 @@ use Rattle.plan_picture.specs.declared.tags.Tag.TheVariants as tags
 use Rattle.plan_picture.specs.declared.words.Word.{Word}
 use Rattle.plan_picture.proofs.ReadLemmas.{Goes, inside_keeps, Keeps, goes_on, plain_decimal, quoted_keeps, Stays, stays_with}
 
--- a tag and a number behind it
-pub numbered_goes : (a b : Place) (t : Tag) (n : ℕ) → Keeps b → Goes a (fixed t) b → Goes a (numbered t n) b
+-- a tag and a number after it
+pub numbered_goes : (a b : ReaderState) (t : Tag) (n : ℕ) → Keeps b → Goes a (fixed t) b → Goes a (numbered t n) b
 unfolding numbered
 numbered_goes a b t n keeps first = goes_on a (fixed t) (decimal n) first (keeps (decimal n) (plain_decimal n))
 
--- words and a figure between tags
-pub figure_stays : (w : Word) (n : ℕ) → Stays (word w) → Stays (figure w n)
-unfolding figure
-figure_stays w n first = stays_with (word w) (decimal n) first (λ m os. inside_keeps (m ∷ os) (decimal n) (plain_decimal n))
+-- words and a number between tags leave the open elements as they were
+pub value_stays : (w : Word) (n : ℕ) → Stays (word w) → Stays (word_and_number w n)
+unfolding word_and_number
+value_stays w n first = stays_with (word w) (decimal n) first (λ m os. inside_keeps (m ∷ os) (decimal n) (plain_decimal n))
 
-pub some_figure_stays : (w : Word) (n : ℕ) → Stays (word w) → Stays (some_figure w n)
-some_figure_stays w n first = by (n == 0)
+pub some_value_stays : (w : Word) (n : ℕ) → Stays (word w) → Stays (word_and_nonzero w n)
+some_value_stays w n first = by (n == 0)
   where
-    by : (b : Bool) → Stays (if b then [] else figure w n)
+    by : (b : Bool) → Stays (if b then [] else word_and_number w n)
     by true = λ m os. refl
-    by false = figure_stays w n first
+    by false = value_stays w n first
 
 -- an attribute that begins in a tag, and ends in it
-pub attribute_goes : (a : Place) (m : List ℕ) (os : List (List ℕ)) (t : Tag) (n : ℕ) → Goes a (fixed t) (quoted m os) → Goes a (attribute t n) (unquoted m os)
+pub attribute_goes : (a : ReaderState) (m : List ℕ) (os : List (List ℕ)) (t : Tag) (n : ℕ) → Goes a (fixed t) (quoted m os) → Goes a (attribute t n) (unquoted m os)
 unfolding attribute fixed
 attribute_goes a m os t n first =
     goes_on a (fixed t ++ decimal n) (fixed tags.Quote) (goes_on a (fixed t) (decimal n) first (quoted_keeps m os (decimal n) (plain_decimal n))) refl
@@ -68,14 +68,14 @@ width_goes m os n = attribute_goes (unquoted m os) m os tags.Width n (width_begi
 pub height_goes : (m : List ℕ) (os : List (List ℕ)) (n : ℕ) → Goes (unquoted m os) (attribute tags.Height n) (unquoted m os)
 height_goes m os n = attribute_goes (unquoted m os) m os tags.Height n (height_begins m os)
 
--- a tag with its place
-pub placed_goes : (a : Place) (m : List ℕ) (os : List (List ℕ)) (t : Tag) (point : Point) → Goes a (fixed t) (unquoted m os) → Goes a (placed_tag t point) (unquoted m os)
+-- a tag with its position
+pub placed_goes : (a : ReaderState) (m : List ℕ) (os : List (List ℕ)) (t : Tag) (point : Point) → Goes a (fixed t) (unquoted m os) → Goes a (placed_tag t point) (unquoted m os)
 unfolding placed_tag
 placed_goes a m os t point first =
     goes_on a (fixed t ++ attribute tags.X point.x) (attribute tags.Y point.y) (goes_on a (fixed t) (attribute tags.X point.x) first (x_goes m os point.x)) (y_goes m os point.y)
 
 -- a colour
-pub colour_goes : (a : Place) (m : List ℕ) (os : List (List ℕ)) (t : Tag) (n : ℕ) → Goes a (fixed t) (quoted m os) → Goes a (colour t n) (unquoted m os)
+pub colour_goes : (a : ReaderState) (m : List ℕ) (os : List (List ℕ)) (t : Tag) (n : ℕ) → Goes a (fixed t) (quoted m os) → Goes a (colour t n) (unquoted m os)
 unfolding colour fixed style
 colour_goes a m os t n first =
     let hue = 137 * n % 360 in
@@ -85,7 +85,7 @@ colour_goes a m os t n first =
     (goes_on a (numbered t hue) (style styles.Saturation) (numbered_goes a (quoted m os) t hue (quoted_keeps m os) first) refl)
     (quoted_keeps m os (decimal light) (plain_decimal light))) refl
 
--- a place in a value
+-- a point in a value
 pub at_goes : (m : List ℕ) (os : List (List ℕ)) (point : Point) → Goes (quoted m os) (at_text point) (quoted m os)
 unfolding at_text fixed
 at_goes m os point =
@@ -104,7 +104,7 @@ pub text_ends : (n : List ℕ) (os : List (List ℕ)) → Goes (inside (codes "t
 unfolding fixed
 text_ends n os = refl
 
--- a number in such an element
+-- a number in an element `text`
 pub number_goes : (m n : List ℕ) (os : List (List ℕ)) (k : ℕ) → Goes (unquoted m (n ∷ os)) (numbered tags.TagEnd k) (inside (m ∷ n ∷ os))
 number_goes m n os k = numbered_goes (unquoted m (n ∷ os)) (inside (m ∷ n ∷ os)) tags.TagEnd k (inside_keeps (m ∷ n ∷ os)) (tag_opens m (n ∷ os))
 
@@ -134,7 +134,7 @@ bar_stays t first width begins = by (width == 0)
         (goes_on a (fixed t) (attribute tags.X first) (begins n os) (x_goes name (n ∷ os) first)) (width_goes name (n ∷ os) width))
         (tag_closes name n os)
 
--- this text opens a group, whose end closes it
+-- this text opens a group, and its end closes it
 abbrev pub OpensGroup : List ℕ → Type 0
 OpensGroup t = (n : List ℕ) (os : List (List ℕ)) → Goes (inside (n ∷ os)) t (inside (codes "g" ∷ n ∷ os))
 

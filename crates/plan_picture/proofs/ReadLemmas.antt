@@ -1,24 +1,25 @@
--- What reading the pieces of a text leads to. A text with no `'`, `<`, `&` and `>` changes nothing between tags and in a value.
+-- The state of a reader after the pieces of a text. A text without `'`, `<`, `&` and `>` changes no state
+-- between tags and none in a value.
 use Rattle.std.proofs.Common.{◌≡◌, ◌∙◌, ℕ, ◌+◌, ◌/◌, ◌%◌, ◌<◌, ℤ, pos, negsuc, Bool, true, false, not, ◌||◌, List, [], ◌∷◌, ◌++◌, zero, suc, refl, ap, arith}
 use Rattle.std.specs.Prelude.{◌==◌, nat_lt, decimal, if◌then◌else◌}
 use Rattle.std.specs.Fmt.{digit_glyph, digits, digits_onto, signed_decimal}
 use Rattle.std.specs.List.{AllByRecursion, flat_map}
 use Rattle.std.proofs.lemmas.Bool.{ltb-true, ne_eqb}
 use Rattle.plan_picture.specs.Svg.{each}
-use Rattle.plan_picture.specs.WellFormed.{Place, inside, is_plain, lost, opened, quoted, read_on, step, unquoted}
+use Rattle.plan_picture.specs.WellFormed.{ReaderState, inside, is_plain, malformed, opened, quoted, read_all, step, unquoted}
 
--- reading this text leads from one place to another
-abbrev pub Goes : Place → List ℕ → Place → Type 0
-Goes a t b = read_on a t ≡ b
+-- reading this text leads from one state to another
+abbrev pub Goes : ReaderState → List ℕ → ReaderState → Type 0
+Goes a t b = read_all a t ≡ b
 
-pub read_append : (a : Place) (t u : List ℕ) → read_on a (t ++ u) ≡ read_on (read_on a t) u
+pub read_append : (a : ReaderState) (t u : List ℕ) → read_all a (t ++ u) ≡ read_all (read_all a t) u
 read_append a [] u = refl
 read_append a (c ∷ t) u = read_append (step a c) t u
 
-pub goes_on : (a : Place) (t u : List ℕ) {b c : Place} → Goes a t b → Goes b u c → Goes a (t ++ u) c
-goes_on a t u first next = read_append a t u ∙ (ap (λ p. read_on p u) first ∙ next)
+pub goes_on : (a : ReaderState) (t u : List ℕ) {b c : ReaderState} → Goes a t b → Goes b u c → Goes a (t ++ u) c
+goes_on a t u first next = read_append a t u ∙ (ap (λ p. read_all p u) first ∙ next)
 
--- a text that stands between tags, and leaves all that was open as it was
+-- a text between tags that leaves the open elements as they were
 abbrev pub Stays : List ℕ → Type 0
 Stays t = (n : List ℕ) (os : List (List ℕ)) → Goes (inside (n ∷ os)) t (inside (n ∷ os))
 
@@ -37,22 +38,22 @@ pub stays_each : (f : ℕ → List ℕ → List ℕ) (k : ℕ) (routes : List (L
 stays_each f k [] each_stays = λ n os. refl
 stays_each f k (route ∷ routes) each_stays = stays_with (f k route) (each f (k + 1) routes) (each_stays k route) (stays_each f (k + 1) routes each_stays)
 
--- letters and digits
+-- characters none of which is `'`, `<`, `&` or `>`
 abbrev pub IsPlain : List ℕ → Type 0
 IsPlain t = AllByRecursion (λ c. is_plain c ≡ true) t
 
-abbrev pub Keeps : Place → Type 0
+abbrev pub Keeps : ReaderState → Type 0
 Keeps a = (t : List ℕ) → IsPlain t → Goes a t a
 
 pub inside_keeps : (os : List (List ℕ)) → Keeps (inside os)
 inside_keeps os [] plain = refl
-inside_keeps os (c ∷ t) plain = ap (λ b. read_on (if b then inside os else if c == 60 then opened os else lost) t) plain.0 ∙ inside_keeps os t plain.1
+inside_keeps os (c ∷ t) plain = ap (λ b. read_all (if b then inside os else if c == 60 then opened os else malformed) t) plain.0 ∙ inside_keeps os t plain.1
 
 pub quoted_keeps : (n : List ℕ) (os : List (List ℕ)) → Keeps (quoted n os)
 quoted_keeps n os [] plain = refl
-quoted_keeps n os (c ∷ t) plain = ap (λ b. read_on (if b then quoted n os else if c == 39 then unquoted n os else lost) t) plain.0 ∙ quoted_keeps n os t plain.1
+quoted_keeps n os (c ∷ t) plain = ap (λ b. read_all (if b then quoted n os else if c == 39 then unquoted n os else malformed) t) plain.0 ∙ quoted_keeps n os t plain.1
 
--- the letters above `/` but for `<` and `>`
+-- the characters above `/` except `<` and `>`
 plain_by : (c : ℕ) → (c == 39) ≡ false → (c == 60) ≡ false → (c == 38) ≡ false → (c == 62) ≡ false → is_plain c ≡ true
 plain_by c a b d e =
     ap (λ x. not (x || (c == 60) || (c == 38) || (c == 62))) a

@@ -11,7 +11,7 @@ use Rattle.plan_types.specs.declared.requests.Stop.{Stop}
 use Rattle.route_sched.specs.Schedule.{route_length}
 use Rattle.route_sched.specs.declared.visits.Visit.{Visit}
 use Rattle.plan_picture.specs.Days.{
-  across,
+  time_x,
   bars_text,
   chart_head,
   chart_text,
@@ -24,7 +24,7 @@ use Rattle.plan_picture.specs.Days.{
   tick_step,
   tick_text,
   ticks_text,
-  time_room,
+  time_width,
   time_text,
   times_row,
   times_rows,
@@ -34,9 +34,9 @@ use Rattle.plan_picture.specs.Days.{
   window_text,
   work_text,
 }
-use Rattle.plan_picture.specs.Known.{visits_of}
+use Rattle.plan_picture.specs.DrawnStops.{visits_of}
 use Rattle.plan_picture.specs.Svg.{attribute, bar, broken_class, colour, each, numbered, placed_text, tagged}
-use Rattle.plan_picture.specs.Table.{columns_text, figures_text, heading_text, load_text, row_end, row_head, row_place, row_text, rows_text, top_load}
+use Rattle.plan_picture.specs.Table.{columns_text, row_values_text, heading_text, load_text, row_end, row_head, row_place, row_text, rows_text, top_load}
 use Rattle.plan_picture.specs.Styles.{style}
 use Rattle.plan_picture.specs.Tags.{fixed}
 use Rattle.plan_picture.specs.WellFormed.{inside, quoted, unquoted}
@@ -69,10 +69,10 @@ head_begins broken number n os =
     by true = refl
     by false = refl
 
-figures_go : (p : Instance) (number : ℕ) (route : List ℕ) (n : List ℕ) (os : List (List ℕ))
-    → Goes (unquoted (codes "text") (codes "g" ∷ n ∷ os)) (figures_text p number route) (inside (codes "tspan" ∷ codes "text" ∷ codes "g" ∷ n ∷ os))
-unfolding figures_text load_text fixed
-figures_go p number route n os =
+values_go : (p : Instance) (number : ℕ) (route : List ℕ) (n : List ℕ) (os : List (List ℕ))
+    → Goes (unquoted (codes "text") (codes "g" ∷ n ∷ os)) (row_values_text p number route) (inside (codes "tspan" ∷ codes "text" ∷ codes "g" ∷ n ∷ os))
+unfolding row_values_text load_text fixed
+values_go p number route n os =
     let a = unquoted (codes "text") (codes "g" ∷ n ∷ os) in
     let names = codes "tspan" ∷ codes "text" ∷ codes "g" ∷ n ∷ os in
     let b = inside names in
@@ -105,9 +105,9 @@ row_stays p g broken first index route n os =
     let number = first + index in
     let place = row_place g index in
     let head = row_head broken number in
-    let figures = figures_text p number route in
+    let figures = row_values_text p number route in
     goes_on a (place ++ head ++ figures) (row_end g index)
-    (goes_on a (place ++ head) figures (goes_on a place head (place_opens g index n os) (head_begins broken number n os)) (figures_go p number route n os)) (row_ends g index n os)
+    (goes_on a (place ++ head) figures (goes_on a place head (place_opens g index n os) (head_begins broken number n os)) (values_go p number route n os)) (row_ends g index n os)
 
 pub rows_stay : (p : Instance) (g : Grid) (broken first : ℕ) (routes : List (List ℕ)) → Stays (rows_text p g broken first routes)
 unfolding rows_text fixed
@@ -142,7 +142,7 @@ visits_stay start service [] = λ n os. refl
 visits_stay start service (v ∷ visits) =
     stays_with (visit_text (start + service) v) (visits_text v.start v.stop.service visits) (visit_stays (start + service) v) (visits_stay v.start v.stop.service visits)
 
--- a row that is moved down
+-- a row that is moved down leaves the open elements as they were
 moved_stays : (y : ℕ) (t : List ℕ) → Stays t → Stays (numbered tags.Day y ++ fixed tags.DayOpen ++ t ++ fixed tags.GroupEnd)
 unfolding fixed
 moved_stays y t within n os =
@@ -166,8 +166,8 @@ time_stays x v =
 times_stay : (first last free : ℕ) (visits : List Visit) → Stays (times_text first last free visits)
 times_stay first last free [] = λ n os. refl
 times_stay first last free (v ∷ visits) =
-    let x = across first last v.start in
-    let next = x + time_room v in
+    let x = time_x first last v.start in
+    let next = x + time_width v in
     stays_if (nat_le free x) (time_text x v ++ times_text first last next visits) (times_text first last free visits)
     (stays_with (time_text x v) (times_text first last next visits) (time_stays x v) (times_stay first last next visits)) (times_stay first last free visits)
 
@@ -192,7 +192,7 @@ line_stays x height n os =
 tick_stays : (first last height time : ℕ) → Stays (tick_text first last height time)
 unfolding tick_text fixed
 tick_stays first last height time =
-    let x = across first last time in
+    let x = time_x first last time in
     stays_if (nat_le time last) (tick_line x height ++ placed_text tags.TickTime x time) []
     (stays_with (tick_line x height) (placed_text tags.TickTime x time) (line_stays x height) (placed_text_stays tags.TickTime x time (λ n os. refl))) (λ n os. refl)
 

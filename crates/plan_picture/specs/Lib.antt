@@ -1,8 +1,8 @@
--- what public contracts say
+-- the definitions that public contracts use
 pub mod Days
 pub mod Frame
 pub mod Heads
-pub mod Known
+pub mod DrawnStops
 pub mod Labels
 pub mod Laws
 pub mod Map

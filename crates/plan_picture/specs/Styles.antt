@@ -1,4 +1,4 @@
--- How a picture looks: the style of each class, the shapes of the marks, letters and colours.
+-- The look of a picture: the style of each class, the shapes of the marks, letters and colours.
 use Rattle.std.specs.Prelude.{ℕ, List, codes}
 use Rattle.plan_picture.specs.declared.styles.Style.{Style}
 use Rattle.plan_picture.specs.declared.styles.Style.TheVariants as styles

@@ -1,4 +1,4 @@
--- The pieces of SVG that a picture is made of.
+-- The pieces of SVG that make up a picture.
 use Rattle.std.specs.Prelude.{ℕ, ◌+◌, ◌*◌, ◌%◌, ◌==◌, if◌then◌else◌, List, [], ◌∷◌, ◌++◌, decimal, length}
 use Rattle.plan_picture.specs.Styles.{style}
 use Rattle.plan_picture.specs.Tags.{fixed}
@@ -9,31 +9,31 @@ use Rattle.plan_picture.specs.declared.tags.Tag.{Tag}
 use Rattle.plan_picture.specs.declared.tags.Tag.TheVariants as tags
 use Rattle.plan_picture.specs.declared.words.Word.{Word}
 
--- a tag and the number behind it
+-- a tag and the number after it
 unfoldable pub numbered : Tag → ℕ → List ℕ
 numbered t n = fixed t ++ decimal n
 
--- the same with the quote that ends an attribute
+-- a tag, a number, and the quote that ends an attribute
 unfoldable pub attribute : Tag → ℕ → List ℕ
 attribute t n = fixed t ++ decimal n ++ fixed tags.Quote
 
--- a tag and the words behind it
+-- a tag and the words after it
 unfoldable pub tagged : Tag → Word → List ℕ
 tagged t w = fixed t ++ word w
 
--- words and the figure behind them
-unfoldable pub figure : Word → ℕ → List ℕ
-figure w n = word w ++ decimal n
+-- words and the number after them
+unfoldable pub word_and_number : Word → ℕ → List ℕ
+word_and_number w n = word w ++ decimal n
 
--- the same, and nothing where the figure is 0
-abbrev pub some_figure : Word → ℕ → List ℕ
-some_figure w n = if n == 0 then [] else figure w n
+-- words and the number after them, or nothing if it is 0
+abbrev pub word_and_nonzero : Word → ℕ → List ℕ
+word_and_nonzero w n = if n == 0 then [] else word_and_number w n
 
--- a place of a line, as ` X,Y`
+-- a point of a line, as ` X,Y`
 unfoldable pub at_text : Point → List ℕ
 at_text point = numbered tags.Blank point.x ++ numbered tags.Comma point.y
 
--- a number as an element `text`, whose tag is begun by this text
+-- a number as an element `text`, whose start tag begins with this tag
 unfoldable pub placed_text : Tag → ℕ → ℕ → List ℕ
 placed_text t x n = fixed t ++ attribute tags.X x ++ numbered tags.TagEnd n ++ fixed tags.TextEnd
 
@@ -41,7 +41,7 @@ placed_text t x n = fixed t ++ attribute tags.X x ++ numbered tags.TagEnd n ++ f
 abbrev pub digit_count : ℕ → ℕ
 digit_count n = length (decimal n)
 
--- a tag with the place where it stands, not closed yet
+-- a tag and its position, without the end of the tag
 unfoldable pub placed_tag : Tag → Point → List ℕ
 placed_tag t point = fixed t ++ attribute tags.X point.x ++ attribute tags.Y point.y
 
@@ -49,16 +49,16 @@ placed_tag t point = fixed t ++ attribute tags.X point.x ++ attribute tags.Y poi
 unfoldable pub colour : Tag → ℕ → List ℕ
 colour t number = numbered t (137 * number % 360) ++ style styles.Saturation ++ decimal (30 + number % 7 * 4) ++ fixed tags.ColourEnd
 
--- a bar of a tag from a time on, where it is not empty
+-- a bar that begins at a time, unless it is empty
 unfoldable pub bar : Tag → ℕ → ℕ → List ℕ
 bar t first width =
     if width == 0 then [] else fixed t ++ attribute tags.X first ++ attribute tags.Width width ++ fixed tags.Close
 
--- where a route is the broken one
+-- the class of the route that breaks a rule
 unfoldable pub broken_class : ℕ → ℕ → List ℕ
 broken_class broken number = if number == broken then fixed tags.BrokenClass else []
 
--- a text for each route, in order, the first one with this number
+-- a text for each route, in order; the first has this number
 abbrev pub each : (ℕ → List ℕ → List ℕ) → ℕ → List (List ℕ) → List ℕ
 each f number [] = []
 each f number (route ∷ routes) = f number route ++ each f (number + 1) routes

@@ -1,4 +1,4 @@
--- The tags of a picture. Attributes stand in single quotes; a number or another text may follow.
+-- The tags of a picture. Attributes are in single quotes; a number or another piece may follow.
 use Rattle.std.specs.Prelude.{ℕ, List, codes}
 use Rattle.plan_picture.specs.declared.tags.Tag.{Tag}
 use Rattle.plan_picture.specs.declared.tags.Tag.TheVariants as tags

@@ -1,4 +1,4 @@
--- The words of a picture, for people. A figure may follow.
+-- The words of a picture, for people. A number may follow.
 use Rattle.std.specs.Prelude.{ℕ, List, codes}
 use Rattle.plan_picture.specs.declared.words.Word.{Word}
 use Rattle.plan_picture.specs.declared.words.Word.TheVariants as words

@@ -1,9 +1,9 @@
 //! The chart beside the table: when each vehicle drives, waits and serves.
 ghost use Rattle.std.specs.Prelude.{◌≡◌, ◌+◌, ◌≤◌, ◌^◌, ◌++◌, max, All};
 ghost use Rattle.std.specs.List.{flat_map, range_with_len};
-ghost use Rattle.route_sched.specs.Route.{AreLiveOnce};
-ghost use Rattle.plan_picture.specs.Days.{across, bars_text, chart_head, chart_text, day_text, days_text, horizon, last_start, late_text, nth_tick, tick_line, tick_step, tick_text, ticks_text, time_room, time_text, times_row, times_rows, times_text, visit_text, visits_text, window_text, work_text};
-ghost use Rattle.plan_picture.specs.Known.{visits_of};
+ghost use Rattle.route_sched.specs.Route.{AreDistinctStops};
+ghost use Rattle.plan_picture.specs.Days.{time_x, bars_text, chart_head, chart_text, day_text, days_text, horizon, last_start, late_text, nth_tick, tick_line, tick_step, tick_text, ticks_text, time_width, time_text, times_row, times_rows, times_text, visit_text, visits_text, window_text, work_text};
+ghost use Rattle.plan_picture.specs.DrawnStops.{visits_of};
 ghost use Rattle.plan_picture.specs.Svg.{each};
 
 use crate::styles::Style;
@@ -13,9 +13,9 @@ use plan_types::{Kind, Problem, Route, Stop};
 use route_sched::{Visit, Visits};
 
 impl Svg {
-    /// The chart, where windows count.
+    /// Appends the chart, if the problem has windows.
     pub(crate) fn put_days(&mut self, problem: &Problem, routes: &[Route])
-        requires { All (AreLiveOnce problem.now) routes.now }
+        requires { All (AreDistinctStops problem.now) routes.now }
         ensures { self.new ≡ self.old ++ days_text problem.now.kind problem.now routes.now }
     {
         match problem.kind {
@@ -29,7 +29,7 @@ impl Svg {
 
     #[tactic(auto, unfolding(crate::specs::Days::chart_text))]
     fn put_chart(&mut self, problem: &Problem, last: u64, routes: &[Route])
-        requires { All (AreLiveOnce problem.now) routes.now }
+        requires { All (AreDistinctStops problem.now) routes.now }
         ensures { self.new ≡ self.old ++ chart_text problem.now last routes.now }
     {
         let first = problem.depot.earliest;
@@ -38,7 +38,7 @@ impl Svg {
         self.put_times_rows(problem, last, routes);
     }
 
-    // The axis.
+    // Appends the axis.
     #[tactic(auto, unfolding(crate::specs::Days::ticks_text))]
     fn put_ticks(&mut self, first: u32, last: u64, height: u128)
         ensures { self.new ≡ self.old ++ ticks_text first last height }
@@ -60,7 +60,7 @@ impl Svg {
         }
     }
 
-    // A line down all rows, with its time above.
+    // Appends a line down all rows, with its time above.
     #[tactic(auto, unfolding(crate::specs::Days::tick_text))]
     fn put_tick(&mut self, first: u32, last: u64, height: u128, time: u128)
         ensures { self.new ≡ self.old ++ tick_text first last height time }
@@ -68,7 +68,7 @@ impl Svg {
         if time > last as u128 {
             return;
         }
-        let x = across(first, last, time as u64);
+        let x = time_x(first, last, time as u64);
         self.put_tick_line(x, height);
         self.put_text(Tag::TickTime, x, time);
     }
@@ -85,7 +85,7 @@ impl Svg {
 
     #[tactic(auto, unfolding(crate::specs::Days::bars_text))]
     fn put_bars(&mut self, problem: &Problem, last: u64, routes: &[Route])
-        requires { All (AreLiveOnce problem.now) routes.now }
+        requires { All (AreDistinctStops problem.now) routes.now }
         ensures { self.new ≡ self.old ++ bars_text problem.now last routes.now }
     {
         let height = 30 * routes.len() as u128;
@@ -110,7 +110,7 @@ impl Svg {
 
     #[tactic(auto, unfolding(crate::specs::Days::times_rows))]
     fn put_times_rows(&mut self, problem: &Problem, last: u64, routes: &[Route])
-        requires { All (AreLiveOnce problem.now) routes.now }
+        requires { All (AreDistinctStops problem.now) routes.now }
         ensures { self.new ≡ self.old ++ times_rows problem.now last routes.now }
     {
         self.put_style(Style::Times);
@@ -119,7 +119,7 @@ impl Svg {
     }
 
     fn put_each_times_row(&mut self, problem: &Problem, last: u64, routes: &[Route])
-        requires { All (AreLiveOnce problem.now) routes.now }
+        requires { All (AreDistinctStops problem.now) routes.now }
         ensures { self.new ≡ self.old ++ each (times_row problem.now last) 0 routes.now }
     {
         for (index, route) in routes.iter().enumerate() {
@@ -129,7 +129,7 @@ impl Svg {
 
     #[tactic(auto, unfolding(crate::specs::Days::times_row))]
     fn put_times_row(&mut self, problem: &Problem, last: u64, index: usize, route: &[u32])
-        requires { AreLiveOnce problem.now route.now }
+        requires { AreDistinctStops problem.now route.now }
         ensures { self.new ≡ self.old ++ times_row problem.now last index route.now }
     {
         self.put_numbered(Tag::Day, 1116 + 30 * index as u128);
@@ -138,24 +138,24 @@ impl Svg {
         self.put(Tag::GroupEnd);
     }
 
-    // The times of the visits, each where it covers none before.
+    // Appends the times of the visits, except those that would cover an earlier one.
     fn put_times(&mut self, problem: &Problem, last: u64, route: &[u32])
-        requires { AreLiveOnce problem.now route.now }
+        requires { AreDistinctStops problem.now route.now }
         ensures { self.new ≡ self.old
             ++ times_text problem.now.depot.earliest last 0 (visits_of problem.now route.now) }
     {
         let first = problem.depot.earliest;
         let mut free = 0;
         for visit in Visits::new(problem, route) {
-            let x = across(first, last, visit.start);
+            let x = time_x(first, last, visit.start);
             if free <= x {
                 self.put_time(x, &visit);
-                free = x + u128::from(time_room(&visit));
+                free = x + u128::from(time_width(&visit));
             }
         }
     }
 
-    // A stop, and when service starts there.
+    // Appends a stop's number and the start of its service.
     #[tactic(auto, unfolding(crate::specs::Days::time_text))]
     fn put_time(&mut self, x: u128, visit: &Visit)
         ensures { self.new ≡ self.old ++ time_text x visit.now }
@@ -165,7 +165,7 @@ impl Svg {
     }
 
     fn put_each_day(&mut self, problem: &Problem, routes: &[Route])
-        requires { All (AreLiveOnce problem.now) routes.now }
+        requires { All (AreDistinctStops problem.now) routes.now }
         ensures { self.new ≡ self.old ++ each (day_text problem.now) 0 routes.now }
     {
         for (index, route) in routes.iter().enumerate() {
@@ -173,10 +173,10 @@ impl Svg {
         }
     }
 
-    // The day of the vehicle whose row is at this index.
+    // Appends the day of the vehicle whose row has this index.
     #[tactic(auto, unfolding(crate::specs::Days::day_text))]
     fn put_day(&mut self, problem: &Problem, index: usize, route: &[u32])
-        requires { AreLiveOnce problem.now route.now }
+        requires { AreDistinctStops problem.now route.now }
         ensures { self.new ≡ self.old ++ day_text problem.now index route.now }
     {
         self.put_numbered(Tag::Day, 30 * index as u128);
@@ -186,7 +186,7 @@ impl Svg {
     }
 
     fn put_visits(&mut self, first: u32, problem: &Problem, route: &[u32])
-        requires { AreLiveOnce problem.now route.now }
+        requires { AreDistinctStops problem.now route.now }
         ensures { self.new ≡ self.old ++ visits_text first 0 (visits_of problem.now route.now) }
     {
         let mut start = u64::from(first);
@@ -207,7 +207,7 @@ impl Svg {
         self.put_late(visit);
     }
 
-    // Driving, waiting and service.
+    // Appends driving, waiting and service.
     #[tactic(auto, unfolding(crate::specs::Days::work_text))]
     fn put_work(&mut self, leave: u128, visit: &Visit)
         requires { leave ≤ 2 ^ 65 }
@@ -223,7 +223,7 @@ impl Svg {
         self.put_bar(Tag::Serve, start, service);
     }
 
-    // The window of a stop; the depot's is the chart's whole width.
+    // Appends the window of a stop; the depot's window is the whole width of the chart.
     #[tactic(auto, unfolding(crate::specs::Days::window_text))]
     fn put_window(&mut self, stop: &Stop)
         ensures { self.new ≡ self.old ++ window_text stop.now }
@@ -235,7 +235,7 @@ impl Svg {
         self.put_bar(Tag::Window, stop.earliest as u128, width as u128);
     }
 
-    // How much too late the service starts.
+    // Appends a bar for how late the service starts.
     #[tactic(auto, unfolding(crate::specs::Days::late_text))]
     fn put_late(&mut self, visit: &Visit)
         ensures { self.new ≡ self.old ++ late_text visit.now }
@@ -249,9 +249,9 @@ impl Svg {
     }
 }
 
-// The latest of the depot's end and all starts of service.
+// Returns the latest of the end of the depot's window and all starts of service.
 fn horizon(problem: &Problem, routes: &[Route]) -> u64
-    requires { All (AreLiveOnce problem.now) routes.now }
+    requires { All (AreDistinctStops problem.now) routes.now }
     ensures { result ≡ horizon problem.now problem.now.depot.latest routes.now }
 {
     let mut last = u64::from(problem.depot.latest);
@@ -261,9 +261,9 @@ fn horizon(problem: &Problem, routes: &[Route]) -> u64
     last
 }
 
-// The latest of a time and the starts of service along a route.
+// Returns the latest of a time and the starts of service along a route.
 fn last_start(first: u64, problem: &Problem, route: &[u32]) -> u64
-    requires { AreLiveOnce problem.now route.now }
+    requires { AreDistinctStops problem.now route.now }
     ensures { result ≡ last_start first (visits_of problem.now route.now) }
 {
     let mut last = first;
@@ -273,7 +273,8 @@ fn last_start(first: u64, problem: &Problem, route: &[u32]) -> u64
     last
 }
 
-// The distance of the ticks of a day that is so long: 1, 2 or 5 with zeros behind it, so that about twelve fit.
+// Returns the distance between the ticks of a day of this length: 1, 2 or 5, followed by zeros, so that about
+// twelve ticks fit.
 fn tick_step(zeros: u32, span: u64) -> u64
     ensures value { result ≡ tick_step zeros span }
     ensures some { 1 ≤ result }
@@ -291,18 +292,18 @@ fn tick_step(zeros: u32, span: u64) -> u64
     10 * tick_step(zeros - 1, span / 10)
 }
 
-// How much room a stop and its time need.
-fn time_room(visit: &Visit) -> u32
-    ensures { result ≡ time_room visit.now }
+// Returns the width that a stop's number and its time need.
+fn time_width(visit: &Visit) -> u32
+    ensures { result ≡ time_width visit.now }
 {
     let number = u64::from(visit.stop.number);
     6 * digits(visit.start).max(digits(number)) + 5
 }
 
-// Where a time stands beside the table.
-#[tactic(auto, unfolding(crate::specs::Days::across))]
-fn across(first: u32, last: u64, time: u64) -> u128
-    ensures value { result ≡ across first last time }
+// Returns the x coordinate of a time beside the table.
+#[tactic(auto, unfolding(crate::specs::Days::time_x))]
+fn time_x(first: u32, last: u64, time: u64) -> u128
+    ensures value { result ≡ time_x first last time }
     ensures bound { result ≤ 2 ^ 80 }
 {
     let first = u64::from(first);

@@ -1,11 +1,11 @@
-//! The whole picture: the verdict, the map, the table and the days; and that of one route.
+//! The whole picture: the verdict, the map, the table and the days; and the picture of one route.
 ghost use Rattle.std.specs.Prelude.{◌≡◌, ◌≤◌, ◌^◌, ◌++◌, All, IfOk, OnOk};
 ghost use Rattle.std.specs.Option.{option_map};
-ghost use Rattle.route_sched.specs.Route.{AreLiveOnce};
-ghost use Rattle.plan_picture.specs.Picture.{broken_route, broken_stop, drawn_text, picture, route_picture, route_text, sized_head, whole_text};
+ghost use Rattle.route_sched.specs.Route.{AreDistinctStops};
+ghost use Rattle.plan_picture.specs.Picture.{broken_route, broken_stop, map_and_table_text, picture, route_picture, route_text, sized_head, whole_text};
 
-use crate::known::{kept_routes, known_stops, stops_along, unserved};
-use crate::scene::{Broken, Scene};
+use crate::drawn_stops::{kept_routes, stops_along, stops_in_order, unserved};
+use crate::scene::{Highlight, Scene};
 use crate::svg::Svg;
 use crate::table::grid_of;
 use crate::tags::Tag;
@@ -14,11 +14,13 @@ use plan_types::{OutOfMemory, Problem, Route, Stop};
 use std::alloc::Global;
 use std::slice;
 
-/// The picture of a plan as SVG 2: a line for each route with its direction, a mark and a number for each stop, a row of figures for
-/// each route, and, where windows count, the day of each vehicle. All numbers that are computed are whole.
+/// Returns the picture of a plan as SVG 2: a line for each route with its direction, a mark and a number for
+/// each stop, and a row of values for each route. If the problem has windows, it also has the day of each
+/// vehicle. All computed numbers are whole.
 ///
-/// What the verdict tells as broken is marked, and told in words. Of each route the stops are drawn that the problem has, each where
-/// it stands first, so a plan that breaks rules is drawn too. Stops that no route has are ringed and counted.
+/// A violation is marked, and described in words. For each route the picture has the stops that the problem
+/// knows, each at its first place, so a plan that breaks rules is drawn too. Unserved stops are ringed and
+/// counted.
 pub fn draw(
     alloc: Global,
     problem: &Problem,
@@ -34,7 +36,8 @@ pub fn draw(
     svg.into_vec()
 }
 
-/// The picture of one route alone, larger: its stops fill the map. Routes count from 1; `None` where there is none with this number.
+/// Returns the picture of a single route, larger: its stops fill the map. Routes count from 1. Returns `None`
+/// if there is no route with this number.
 pub fn draw_route(
     alloc: Global,
     problem: &Problem,
@@ -58,13 +61,13 @@ pub fn draw_route(
     Ok(Some(svg.into_vec()?))
 }
 
-fn broken_at(verdict: Verdict) -> Broken
+fn broken_at(verdict: Verdict) -> Highlight
     ensures route { result.route ≡ broken_route verdict }
     ensures stop { result.stop ≡ broken_stop verdict }
 {
     match verdict {
-        Verdict::Pass(_) => Broken { route: 0, stop: 0 },
-        Verdict::Broken { route, stop, .. } => Broken { route, stop },
+        Verdict::Pass(_) => Highlight { route: 0, stop: 0 },
+        Verdict::Broken { route, stop, .. } => Highlight { route, stop },
     }
 }
 
@@ -77,15 +80,15 @@ impl Svg {
         routes: &[Route],
         verdict: Verdict,
     ) -> Result<(), OutOfMemory>
-        requires { All (AreLiveOnce problem.now) routes.now }
+        requires { All (AreDistinctStops problem.now) routes.now }
         ensures { OnOk result (self.new ≡ self.old ++ whole_text problem.now routes.now verdict) }
     {
-        let stops = known_stops(alloc, problem)?;
+        let stops = stops_in_order(alloc, problem)?;
         let left = unserved(alloc, routes, &stops)?;
         self.put_sized_head(problem, routes.len());
         self.put_title(problem, routes, verdict, 0);
         self.put_unserved_count(left.len());
-        self.put_drawn(alloc, problem, &stops, 1, routes, verdict)
+        self.put_map_and_table(alloc, problem, &stops, 1, routes, verdict)
     }
 
     #[tactic(auto, unfolding(crate::specs::Picture::route_text))]
@@ -99,15 +102,15 @@ impl Svg {
         route: &Route,
     ) -> Result<(), OutOfMemory>
         requires number { number ≤ 2 ^ 63 }
-        requires routes { All (AreLiveOnce problem.now) routes.now }
-        requires route { AreLiveOnce problem.now route.now }
+        requires routes { All (AreDistinctStops problem.now) routes.now }
+        requires route { AreDistinctStops problem.now route.now }
         ensures { OnOk result (self.new ≡ self.old
             ++ route_text problem.now routes.now verdict number route.now) }
     {
         let stops = stops_along(alloc, problem, route.as_slice())?;
         self.put_sized_head(problem, 1);
         self.put_title(problem, routes, verdict, number);
-        self.put_drawn(
+        self.put_map_and_table(
             alloc,
             problem,
             &stops,
@@ -117,7 +120,7 @@ impl Svg {
         )
     }
 
-    // The head of a picture with so many rows.
+    // Appends the head of a picture with this number of rows.
     fn put_sized_head(&mut self, problem: &Problem, rows: usize)
         ensures { self.new ≡ self.old ++ sized_head problem.now rows }
     {
@@ -128,9 +131,9 @@ impl Svg {
         );
     }
 
-    // The map and the table of these stops and routes, the first of which has the number `first`.
-    #[tactic(auto, unfolding(crate::specs::Picture::drawn_text))]
-    fn put_drawn(
+    // Appends the map and the table of these stops and routes; the first route has the number `first`.
+    #[tactic(auto, unfolding(crate::specs::Picture::map_and_table_text))]
+    fn put_map_and_table(
         &mut self,
         alloc: Global,
         problem: &Problem,
@@ -140,9 +143,9 @@ impl Svg {
         verdict: Verdict,
     ) -> Result<(), OutOfMemory>
         requires first { first ≤ 2 ^ 63 }
-        requires routes { All (AreLiveOnce problem.now) routes.now }
+        requires routes { All (AreDistinctStops problem.now) routes.now }
         ensures { OnOk result (self.new ≡ self.old
-            ++ drawn_text problem.now stops.now first routes.now verdict) }
+            ++ map_and_table_text problem.now stops.now first routes.now verdict) }
     {
         let scene = Scene {
             problem,

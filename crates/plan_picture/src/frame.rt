@@ -1,21 +1,21 @@
-//! Where the stops stand in the picture.
+//! The position of the stops in the picture.
 //!
-//! The scale is the least whole number by which the greater side becomes 4000 long or more. Marks, lines and
-//! letters are measured in `em` of a font as large as the unit, a 400th of that side rounded down.
+//! The scale is the smallest whole number that makes the longer side at least 4000. Marks, lines and letters
+//! are measured in `em`. The font size is the unit, a 400th of that side, rounded down.
 ghost use Rattle.std.specs.Prelude.{◌≡◌, ◌≤◌, ◌^◌};
 ghost use Rattle.std.specs.Int.{int_max, int_min};
-ghost use Rattle.plan_picture.specs.Frame.{apart, bounds_at, bounds_of, framed, gap, on_the_way, point_of, scale_of, size_of, unit_of, widened};
+ghost use Rattle.plan_picture.specs.Frame.{absolute_difference, bounds_at, bounds_of, framed, gap, arrow_point, point_of, scale_of, size_of, unit_of, widened};
 
 use plan_types::Stop;
 
-/// A place of the picture.
+/// A point of the picture.
 #[derive(Clone, Copy)]
 pub(crate) struct Point {
     pub x: u128,
     pub y: u128,
 }
 
-/// The least and the greatest coordinates of stops.
+/// The smallest and the greatest coordinates of stops.
 #[derive(Clone, Copy)]
 pub(crate) struct Bounds {
     pub left: i32,
@@ -24,19 +24,19 @@ pub(crate) struct Bounds {
     pub top: i32,
 }
 
-/// How coordinates become places: the corner from which they count, and by what they are multiplied.
+/// The mapping from coordinates to points: the corner from which they count, and the factor.
 #[derive(Clone, Copy)]
 pub(crate) struct Frame {
     pub left: i32,
     pub top: i32,
     pub scale: u32,
-    /// By which marks, lines and letters are measured.
+    /// The unit of marks, lines and letters.
     pub unit: u64,
     pub width: u128,
     pub height: u128,
 }
 
-/// The bounds of the depot and the stops.
+/// Returns the bounds of the depot and the stops.
 #[tactic(auto, unfolding(crate::specs::Frame::bounds_of))]
 pub(crate) fn stop_bounds(depot: &Stop, stops: &[Stop]) -> Bounds
     ensures { result ≡ bounds_of depot.now stops.now }
@@ -48,7 +48,7 @@ pub(crate) fn stop_bounds(depot: &Stop, stops: &[Stop]) -> Bounds
     bounds
 }
 
-// The bounds of one stop.
+// Returns the bounds of one stop.
 fn bounds_at(stop: &Stop) -> Bounds
     ensures { result ≡ bounds_at stop.now }
 {
@@ -60,19 +60,19 @@ fn bounds_at(stop: &Stop) -> Bounds
     }
 }
 
-fn lesser(x: &i32, y: &i32) -> i32
+fn smaller(x: &i32, y: &i32) -> i32
     ensures { result ≡ int_min x.now y.now }
 {
     (*x).min(*y)
 }
 
-fn greater(x: &i32, y: &i32) -> i32
+fn larger(x: &i32, y: &i32) -> i32
     ensures { result ≡ int_max x.now y.now }
 {
     (*x).max(*y)
 }
 
-// How far two coordinates are apart.
+// Returns the distance between two coordinates.
 fn gap(x: i32, y: i32) -> u32
     ensures { result ≡ gap x y }
 {
@@ -80,15 +80,15 @@ fn gap(x: i32, y: i32) -> u32
 }
 
 impl Bounds {
-    // The bounds with one more stop within.
+    // Returns the bounds extended by one more stop.
     fn widened(&self, stop: &Stop) -> Bounds
         ensures { result ≡ widened self.now stop.now }
     {
         Bounds {
-            left: lesser(&self.left, &stop.x),
-            right: greater(&self.right, &stop.x),
-            bottom: lesser(&self.bottom, &stop.y),
-            top: greater(&self.top, &stop.y),
+            left: smaller(&self.left, &stop.x),
+            right: larger(&self.right, &stop.x),
+            bottom: smaller(&self.bottom, &stop.y),
+            top: larger(&self.top, &stop.y),
         }
     }
 
@@ -116,7 +116,7 @@ impl Bounds {
         u64::from(self.scale()) * u64::from(self.size()) / 400
     }
 
-    /// The frame of these bounds.
+    /// Returns the frame of these bounds.
     #[tactic(auto, unfolding(crate::specs::Frame::framed))]
     pub(crate) fn frame(&self) -> Frame
         ensures { result ≡ framed self.now }
@@ -137,7 +137,7 @@ impl Bounds {
 }
 
 impl Frame {
-    /// Where a stop stands.
+    /// Returns the point of a stop.
     #[tactic(auto, unfolding(crate::specs::Frame::point_of))]
     pub(crate) fn point(&self, stop: &Stop) -> Point
         ensures place { result ≡ point_of self.now stop.now }
@@ -153,21 +153,21 @@ impl Frame {
     }
 }
 
-/// How far two numbers are apart.
-pub(crate) fn apart(m: u128, n: u128) -> u128
-    ensures { result ≡ apart m n }
+/// Returns the difference of two numbers.
+pub(crate) fn absolute_difference(m: u128, n: u128) -> u128
+    ensures { result ≡ absolute_difference m n }
 {
     m.saturating_sub(n).max(n.saturating_sub(m))
 }
 
 impl Point {
-    /// The place three fifths of the way to another one.
-    pub(crate) fn on_the_way(&self, end: &Point) -> Point
+    /// Returns the point at three fifths of the line to another one.
+    pub(crate) fn arrow_point(&self, end: &Point) -> Point
         requires near { self.now.x ≤ 2 ^ 70 }
         requires high { self.now.y ≤ 2 ^ 70 }
         requires end_near { end.now.x ≤ 2 ^ 70 }
         requires end_high { end.now.y ≤ 2 ^ 70 }
-        ensures { result ≡ on_the_way self.now end.now }
+        ensures { result ≡ arrow_point self.now end.now }
     {
         Point {
             x: (2 * self.x + 3 * end.x) / 5,

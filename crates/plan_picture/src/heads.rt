@@ -1,11 +1,12 @@
-//! What stands over the map: the cost, or the broken rule in words with its figures, and how many stops are unserved.
+//! The text above the map: the cost, or the broken rule in words with its values, and the number of unserved
+//! stops.
 ghost use Rattle.std.specs.Prelude.{◌≡◌, ◌++◌, [], All};
 ghost use Rattle.std.specs.Option.{option_map_or};
 ghost use Rattle.route_sched.specs.Cost.{used_count};
-ghost use Rattle.route_sched.specs.Route.{AreLiveOnce};
+ghost use Rattle.route_sched.specs.Route.{AreDistinctStops};
 ghost use Rattle.plan_audit.specs.Rules.{item_at};
-ghost use Rattle.plan_picture.specs.Heads.{bar_key, bar_words, broken_place, broken_text, cost_text, fleet_figures, head_text, key_text, load_figures, mark_words, one_route, pair_key, pair_words, partial_text, partner_figures, rule_figures, rule_text, scope_text, shapes_text, sheet_text, size_text, start_figures, stop_key, stop_words, title_head, title_start, title_text, unserved_text, vehicles_text, verdict_text, visit_told};
-ghost use Rattle.plan_picture.specs.Known.{visits_of};
+ghost use Rattle.plan_picture.specs.Heads.{bar_key, bar_words, broken_place, broken_text, cost_text, fleet_values, head_text, key_text, load_values, mark_words, one_route, pair_key, pair_words, partial_text, partner_value, rule_values, rule_text, scope_text, shapes_text, sheet_text, size_text, start_values, stop_key, stop_words, title_head, title_start, title_text, unserved_text, vehicles_text, verdict_text, reported_visit};
+ghost use Rattle.plan_picture.specs.DrawnStops.{visits_of};
 
 use crate::styles::Style;
 use crate::svg::Svg;
@@ -15,7 +16,7 @@ use plan_audit::{Rule, Verdict};
 use plan_types::{Cost, Kind, Problem, Route};
 use route_sched::{Visit, Visits, total_distance, used_count};
 
-/// A broken rule, and where it is broken; routes and places count from 1, and 0 is none.
+/// A broken rule and its place; routes and places count from 1, and 0 means none.
 #[derive(Clone, Copy)]
 pub(crate) struct BrokenRule {
     pub rule: Rule,
@@ -25,7 +26,7 @@ pub(crate) struct BrokenRule {
 }
 
 impl Svg {
-    /// Appends the size of the picture, its shapes, and what they mean.
+    /// Appends the size of the picture, its shapes, and the key to them.
     #[tactic(auto, unfolding(crate::specs::Heads::head_text))]
     pub(crate) fn put_head(&mut self, kind: Kind, height: u128)
         ensures { self.new ≡ self.old ++ head_text kind height }
@@ -66,7 +67,7 @@ impl Svg {
         self.put_style(Style::Paper);
     }
 
-    // What the marks and the bars mean.
+    // Appends the key to the marks and the bars.
     fn put_key(&mut self, kind: Kind)
         ensures { self.new ≡ self.old ++ key_text kind }
     {
@@ -141,7 +142,7 @@ impl Svg {
         self.put(Tag::TextEnd);
     }
 
-    /// Appends the verdict, and which route is drawn, 0 for all.
+    /// Appends the verdict, and the number of the route that is drawn, 0 for all.
     #[tactic(auto, unfolding(crate::specs::Heads::title_text))]
     pub(crate) fn put_title(
         &mut self,
@@ -150,7 +151,7 @@ impl Svg {
         verdict: Verdict,
         number: u64,
     )
-        requires { All (AreLiveOnce problem.now) routes.now }
+        requires { All (AreDistinctStops problem.now) routes.now }
         ensures { self.new ≡ self.old ++ title_text problem.now routes.now verdict number }
     {
         self.put_title_start(verdict);
@@ -180,13 +181,13 @@ impl Svg {
     fn put_one_route(&mut self, number: u64, all: usize)
         ensures { self.new ≡ self.old ++ one_route number all }
     {
-        self.put_figure(Word::OneRoute, number as u128);
-        self.put_figure(Word::OfRoutes, all as u128);
+        self.put_word_and_number(Word::OneRoute, number as u128);
+        self.put_word_and_number(Word::OfRoutes, all as u128);
         self.put_word(Word::OfPlan);
     }
 
     fn put_verdict(&mut self, problem: &Problem, routes: &[Route], verdict: Verdict)
-        requires { All (AreLiveOnce problem.now) routes.now }
+        requires { All (AreDistinctStops problem.now) routes.now }
         ensures { self.new ≡ self.old ++ verdict_text problem.now routes.now verdict }
     {
         match verdict {
@@ -197,7 +198,7 @@ impl Svg {
                 place,
                 stop,
             } => {
-                let Some(rule) = Rule::of_number(rule) else {
+                let Some(rule) = Rule::from_number(rule) else {
                     return;
                 };
                 let breach = BrokenRule {
@@ -216,12 +217,12 @@ impl Svg {
         ensures { self.new ≡ self.old ++ cost_text kind cost }
     {
         self.put_partial(cost.unplanned);
-        self.put_figure(Word::Unplanned, cost.unplanned as u128);
+        self.put_word_and_number(Word::Unplanned, cost.unplanned as u128);
         self.put_vehicles(kind, cost.vehicles);
-        self.put_figure(Word::Distance, cost.distance as u128);
+        self.put_word_and_number(Word::Distance, cost.distance as u128);
     }
 
-    // A plan that leaves requests out is told as one.
+    // Appends that the plan is partial, if it leaves requests out.
     fn put_partial(&mut self, unplanned: u64)
         ensures { self.new ≡ self.old ++ partial_text unplanned }
     {
@@ -235,26 +236,26 @@ impl Svg {
         ensures { self.new ≡ self.old ++ vehicles_text kind vehicles }
     {
         match kind {
-            Kind::LiLim => self.put_figure(Word::Vehicles, vehicles as u128),
+            Kind::LiLim => self.put_word_and_number(Word::Vehicles, vehicles as u128),
             Kind::Vrp => {}
         }
     }
 
     #[tactic(auto, unfolding(crate::specs::Heads::broken_text))]
     fn put_broken_rule(&mut self, problem: &Problem, routes: &[Route], breach: BrokenRule)
-        requires { All (AreLiveOnce problem.now) routes.now }
+        requires { All (AreDistinctStops problem.now) routes.now }
         ensures { self.new ≡ self.old ++ broken_text problem.now routes.now breach }
     {
         self.put_rule(breach.rule);
         self.put_broken_place(breach);
-        self.put_rule_figures(problem, routes, breach);
+        self.put_rule_values(problem, routes, breach);
     }
 
     #[tactic(auto, unfolding(crate::specs::Heads::rule_text))]
     fn put_rule(&mut self, rule: Rule)
         ensures { self.new ≡ self.old ++ rule_text rule }
     {
-        self.put_figure(Word::BrokenRule, rule.number() as u128);
+        self.put_word_and_number(Word::BrokenRule, rule.number() as u128);
         self.put_word(Word::BeforeName);
         self.put_rule_name(rule);
     }
@@ -263,88 +264,91 @@ impl Svg {
     fn put_broken_place(&mut self, breach: BrokenRule)
         ensures { self.new ≡ self.old ++ broken_place breach }
     {
-        self.put_some_figure(Word::BrokenRoute, breach.route as u128);
-        self.put_some_figure(Word::BrokenPlace, breach.place as u128);
-        self.put_some_figure(Word::BrokenStop, breach.stop as u128);
+        self.put_word_and_nonzero(Word::BrokenRoute, breach.route as u128);
+        self.put_word_and_nonzero(Word::BrokenPlace, breach.place as u128);
+        self.put_word_and_nonzero(Word::BrokenStop, breach.stop as u128);
     }
 
-    fn put_rule_figures(&mut self, problem: &Problem, routes: &[Route], breach: BrokenRule)
-        requires { All (AreLiveOnce problem.now) routes.now }
-        ensures { self.new ≡ self.old ++ rule_figures breach.rule problem.now routes.now breach }
+    fn put_rule_values(&mut self, problem: &Problem, routes: &[Route], breach: BrokenRule)
+        requires { All (AreDistinctStops problem.now) routes.now }
+        ensures { self.new ≡ self.old ++ rule_values breach.rule problem.now routes.now breach }
     {
         match breach.rule {
-            Rule::Missing | Rule::SplitPair | Rule::DeliveryFirst => {
+            Rule::MissingStop | Rule::SplitPair | Rule::EarlyDelivery => {
                 self.put_partner(problem, breach.stop)
             }
             Rule::Load => {
-                let visit = visit_told(problem, routes, breach.route, breach.place);
-                self.put_load_told(problem, visit)
+                let visit = reported_visit(problem, routes, breach.route, breach.place);
+                self.put_reported_load(problem, visit)
             }
             Rule::Late => {
-                let visit = visit_told(problem, routes, breach.route, breach.place);
-                self.put_start_told(Word::Start, visit)
+                let visit = reported_visit(problem, routes, breach.route, breach.place);
+                self.put_reported_start(Word::Start, visit)
             }
             Rule::LateReturn => {
-                let visit = visit_told(problem, routes, breach.route, breach.place);
-                self.put_start_told(Word::Back, visit)
+                let visit = reported_visit(problem, routes, breach.route, breach.place);
+                self.put_reported_start(Word::Back, visit)
             }
             Rule::Fleet => self.put_fleet(problem, routes),
-            Rule::PrintedCost => self.put_figure(Word::Driven, total_distance(problem, routes)),
-            Rule::UnknownStop | Rule::Twice | Rule::Pin => {}
+            Rule::PrintedCost => self.put_word_and_number(
+                Word::Driven,
+                total_distance(problem, routes),
+            ),
+            Rule::UnknownStop | Rule::VisitedTwice | Rule::Pin => {}
         }
     }
 
-    // The other stop of a pair.
+    // Appends the other stop of a pair.
     fn put_partner(&mut self, problem: &Problem, stop: u32)
-        ensures { self.new ≡ self.old ++ partner_figures problem.now stop }
+        ensures { self.new ≡ self.old ++ partner_value problem.now stop }
     {
         match problem.partner_of(stop) {
-            Some(partner) => self.put_figure(Word::Partner, partner as u128),
+            Some(partner) => self.put_word_and_number(Word::Partner, partner as u128),
             None => {}
         }
     }
 
-    fn put_load_told(&mut self, problem: &Problem, visit: Option<Visit>)
-        ensures { self.new ≡ self.old ++ option_map_or (load_figures problem.now) visit [] }
+    fn put_reported_load(&mut self, problem: &Problem, visit: Option<Visit>)
+        ensures { self.new ≡ self.old ++ option_map_or (load_values problem.now) visit [] }
     {
         match visit {
-            Some(visit) => self.put_load_figures(problem, &visit),
+            Some(visit) => self.put_load_values(problem, &visit),
             None => {}
         }
     }
 
-    fn put_start_told(&mut self, word: Word, visit: Option<Visit>)
-        ensures { self.new ≡ self.old ++ option_map_or (start_figures word) visit [] }
+    fn put_reported_start(&mut self, word: Word, visit: Option<Visit>)
+        ensures { self.new ≡ self.old ++ option_map_or (start_values word) visit [] }
     {
         match visit {
-            Some(visit) => self.put_start_figures(word, &visit),
+            Some(visit) => self.put_start_values(word, &visit),
             None => {}
         }
     }
 
-    #[tactic(auto, unfolding(crate::specs::Heads::load_figures))]
-    fn put_load_figures(&mut self, problem: &Problem, visit: &Visit)
-        ensures { self.new ≡ self.old ++ load_figures problem.now visit.now }
+    #[tactic(auto, unfolding(crate::specs::Heads::load_values))]
+    fn put_load_values(&mut self, problem: &Problem, visit: &Visit)
+        ensures { self.new ≡ self.old ++ load_values problem.now visit.now }
     {
         self.put_word(Word::Load);
         self.put_number(visit.load);
-        self.put_figure(Word::Capacity, problem.capacity as u128);
+        self.put_word_and_number(Word::Capacity, problem.capacity as u128);
     }
 
-    #[tactic(auto, unfolding(crate::specs::Heads::start_figures))]
-    fn put_start_figures(&mut self, word: Word, visit: &Visit)
-        ensures { self.new ≡ self.old ++ start_figures word visit.now }
+    #[tactic(auto, unfolding(crate::specs::Heads::start_values))]
+    fn put_start_values(&mut self, word: Word, visit: &Visit)
+        ensures { self.new ≡ self.old ++ start_values word visit.now }
     {
-        self.put_figure(word, visit.start as u128);
-        self.put_figure(Word::Latest, visit.stop.latest as u128);
+        self.put_word_and_number(word, visit.start as u128);
+        self.put_word_and_number(Word::Latest, visit.stop.latest as u128);
     }
 
-    #[tactic(auto, unfolding(crate::specs::Heads::fleet_figures))]
+    #[tactic(auto, unfolding(crate::specs::Heads::fleet_values))]
     fn put_fleet(&mut self, problem: &Problem, routes: &[Route])
-        ensures { self.new ≡ self.old ++ fleet_figures problem.now routes.now }
+        ensures { self.new ≡ self.old ++ fleet_values problem.now routes.now }
     {
-        self.put_figure(Word::Used, used_count(routes) as u128);
-        self.put_figure(Word::Fleet, problem.fleet as u128);
+        self.put_word_and_number(Word::Used, used_count(routes) as u128);
+        self.put_word_and_number(Word::Fleet, problem.fleet as u128);
     }
 
     /// Appends how many stops are in no route, if any.
@@ -356,7 +360,7 @@ impl Svg {
             return;
         }
         self.put(Tag::UnservedCount);
-        self.put_figure(Word::Unserved, count as u128);
+        self.put_word_and_number(Word::Unserved, count as u128);
         self.put(Tag::TextEnd);
     }
 }
@@ -370,10 +374,10 @@ fn title_head(verdict: Verdict) -> Tag
     }
 }
 
-// The visit of a place, where routes and places count from 1.
-fn visit_told(problem: &Problem, routes: &[Route], route: u64, place: u64) -> Option<Visit>
-    requires { All (AreLiveOnce problem.now) routes.now }
-    ensures { result ≡ visit_told problem.now routes.now route place }
+// Returns the visit at a place of a route; routes and places count from 1.
+fn reported_visit(problem: &Problem, routes: &[Route], route: u64, place: u64) -> Option<Visit>
+    requires { All (AreDistinctStops problem.now) routes.now }
+    ensures { result ≡ reported_visit problem.now routes.now route place }
 {
     if route == 0 {
         return None;
@@ -385,7 +389,7 @@ fn visit_told(problem: &Problem, routes: &[Route], route: u64, place: u64) -> Op
 }
 
 fn visit_at(problem: &Problem, route: &[u32], place: u64) -> Option<Visit>
-    requires { AreLiveOnce problem.now route.now }
+    requires { AreDistinctStops problem.now route.now }
     ensures { result ≡ item_at (visits_of problem.now route.now) place }
 {
     if place == 0 {

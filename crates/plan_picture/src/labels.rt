@@ -1,25 +1,25 @@
-//! Where the numbers of routes and stops stand, so that none covers a mark or another number.
+//! The positions of the numbers of routes and stops, so that none covers a mark or another number.
 //!
-//! The routes' numbers take their places first, then the stops' by rising number: each above its mark, to the right, below or
-//! to the left, where that is free.
+//! The numbers of routes are placed first, then those of stops in ascending order. Each is placed above its
+//! mark, to the right, below or to the left, at the first free position.
 ghost use Rattle.std.specs.Prelude.{◌≡◌, ◌≤◌, ◌^◌, [], IfOk, OnOk, Some};
-ghost use Rattle.plan_picture.specs.Labels.{area_of, area_on, around, badge_area, badge_extent, before, behind, covers, free_along, free_area, is_free, is_within, labels_of, marked, noted, number_extent, overlaps, quarters, with_badges, with_marks, with_numbers};
+ghost use Rattle.plan_picture.specs.Labels.{area_of, area_on, span_around, badge_area, badge_extent, span_before, span_after, covers, free_along, free_area, is_free, is_within, labels_of, mark_labels, with_label, number_extent, overlaps, quarters, with_badges, with_marks, with_numbers};
 
+use crate::drawn_stops::stops_along;
 use crate::frame::Frame;
-use crate::known::stops_along;
 use crate::scene::Scene;
 use crate::svg::digits;
 use plan_types::{OutOfMemory, Stop};
 use std::alloc::Global;
 
-/// A part of the map's width or of its height.
+/// An interval of the map's width or height.
 #[derive(Clone, Copy)]
 pub(crate) struct Span {
     pub first: u128,
     pub last: u128,
 }
 
-/// A part of the map.
+/// A rectangle of the map.
 #[derive(Clone, Copy)]
 pub(crate) struct Area {
     pub left: u128,
@@ -28,7 +28,8 @@ pub(crate) struct Area {
     pub bottom: u128,
 }
 
-/// Half the width and half the height of a number, and how far it is from the middle of its mark, in quarters of the unit.
+/// Half the width and half the height of a number, and its distance from the middle of its mark, in quarters of
+/// the unit.
 #[derive(Clone, Copy)]
 pub(crate) struct Extent {
     pub across: u32,
@@ -36,7 +37,7 @@ pub(crate) struct Extent {
     pub gap: u32,
 }
 
-/// What takes a place on the map.
+/// The kinds of things that occupy the map.
 #[derive(Clone, Copy)]
 pub(crate) enum LabelKind {
     /// The mark of a stop or of the depot.
@@ -47,7 +48,7 @@ pub(crate) enum LabelKind {
     Number,
 }
 
-/// A mark or a number, and where it stands.
+/// A mark or a number, and its area.
 #[derive(Clone, Copy)]
 pub(crate) struct Label {
     pub kind: LabelKind,
@@ -55,26 +56,26 @@ pub(crate) struct Label {
     pub area: Area,
 }
 
-/// The marks, and the numbers of routes and stops that found a place.
+/// Returns the marks, and the numbers of routes and stops that found a free area.
 pub(crate) fn labels(alloc: Global, frame: &Frame, scene: &Scene) -> Result<Vec<Label>, OutOfMemory>
     ensures { let s = scene.now in IfOk result (λ labels. labels.items
         ≡ labels_of s.problem.now frame.now s.first s.routes.now s.stops.now) }
 {
     let problem = scene.problem;
     let mut labels = Vec::new(alloc);
-    note_marks(&mut labels, frame, &problem.depot, scene.stops)?;
-    note_badges(alloc, &mut labels, frame, scene)?;
-    note_numbers(&mut labels, frame, scene.stops)?;
+    add_marks(&mut labels, frame, &problem.depot, scene.stops)?;
+    add_badges(alloc, &mut labels, frame, scene)?;
+    add_numbers(&mut labels, frame, scene.stops)?;
     Ok(labels)
 }
 
-fn note(
+fn add_label(
     labels: &mut Vec<Label>,
     kind: LabelKind,
     number: u64,
     area: Option<Area>,
 ) -> Result<(), OutOfMemory>
-    ensures { OnOk result (labels.new.items ≡ noted labels.old.items kind number area) }
+    ensures { OnOk result (labels.new.items ≡ with_label labels.old.items kind number area) }
 {
     match area {
         Some(area) => labels.push(Label { kind, number, area })?,
@@ -83,30 +84,30 @@ fn note(
     Ok(())
 }
 
-fn note_marks(
+fn add_marks(
     labels: &mut Vec<Label>,
     frame: &Frame,
     depot: &Stop,
     stops: &[Stop],
 ) -> Result<(), OutOfMemory>
     requires { labels.old.items ≡ [] }
-    ensures { OnOk result (labels.new.items ≡ marked frame.now depot.now stops.now) }
+    ensures { OnOk result (labels.new.items ≡ mark_labels frame.now depot.now stops.now) }
 {
-    note(labels, LabelKind::Mark, 0, Some(frame.area_on(17, depot)))?;
-    note_each_mark(labels, frame, stops)
+    add_label(labels, LabelKind::Mark, 0, Some(frame.area_on(17, depot)))?;
+    add_each_mark(labels, frame, stops)
 }
 
-fn note_each_mark(labels: &mut Vec<Label>, frame: &Frame, stops: &[Stop]) -> Result<(), OutOfMemory>
+fn add_each_mark(labels: &mut Vec<Label>, frame: &Frame, stops: &[Stop]) -> Result<(), OutOfMemory>
     ensures { OnOk result (labels.new.items ≡ with_marks frame.now labels.old.items stops.now) }
 {
     for stop in stops {
         let area = frame.area_on(10, stop);
-        note(labels, LabelKind::Mark, u64::from(stop.number), Some(area))?;
+        add_label(labels, LabelKind::Mark, u64::from(stop.number), Some(area))?;
     }
     Ok(())
 }
 
-fn note_badges(
+fn add_badges(
     alloc: Global,
     labels: &mut Vec<Label>,
     frame: &Frame,
@@ -119,18 +120,18 @@ fn note_badges(
         let number = scene.first + index as u64;
         let stops = stops_along(alloc, scene.problem, route.as_slice())?;
         let area = frame.badge_area(labels.as_slice(), number, &stops);
-        note(labels, LabelKind::Badge, number, area)?;
+        add_label(labels, LabelKind::Badge, number, area)?;
     }
     Ok(())
 }
 
-fn note_numbers(labels: &mut Vec<Label>, frame: &Frame, stops: &[Stop]) -> Result<(), OutOfMemory>
+fn add_numbers(labels: &mut Vec<Label>, frame: &Frame, stops: &[Stop]) -> Result<(), OutOfMemory>
     ensures { OnOk result (labels.new.items ≡ with_numbers frame.now labels.old.items stops.now) }
 {
     for stop in stops {
         let number = u64::from(stop.number);
         let area = frame.free_area(labels.as_slice(), &number_extent(number), stop);
-        note(labels, LabelKind::Number, number, area)?;
+        add_label(labels, LabelKind::Number, number, area)?;
     }
     Ok(())
 }
@@ -173,7 +174,7 @@ fn area_of(across: Span, down: Span) -> Area
 }
 
 impl Area {
-    // Whether two areas have a place in common.
+    // Returns whether two areas overlap.
     fn overlaps(&self, other: &Area) -> bool
         ensures { result ≡ overlaps self.now other.now }
     {
@@ -183,7 +184,7 @@ impl Area {
             && other.top < self.bottom
     }
 
-    // Whether it covers something that was placed before.
+    // Returns whether the area covers something that was placed before.
     fn covers(&self, labels: &[Label]) -> bool
         ensures { result ≡ covers self.now labels.now }
     {
@@ -197,7 +198,7 @@ impl Area {
 }
 
 impl Frame {
-    /// So many quarters of the unit.
+    /// Returns k quarters of the unit.
     pub(crate) fn quarters(&self, k: u32) -> u128
         ensures value { result ≡ quarters self.now k }
         ensures bound { result ≤ 2 ^ 96 }
@@ -205,10 +206,10 @@ impl Frame {
         u128::from(k) * u128::from(self.unit) / 4
     }
 
-    // As far before a place as behind it.
-    fn around(&self, k: u32, at: u128) -> Span
+    // Returns the interval from k quarters before a coordinate to k quarters after it.
+    fn span_around(&self, k: u32, at: u128) -> Span
         requires { at ≤ 2 ^ 70 }
-        ensures { result ≡ around self.now k at }
+        ensures { result ≡ span_around self.now k at }
     {
         Span {
             first: at.saturating_sub(self.quarters(k)),
@@ -216,11 +217,11 @@ impl Frame {
         }
     }
 
-    // Before a place and a gap, twice `half` long.
-    fn before(&self, gap: u32, half: u32, at: u128) -> Span
+    // Returns the interval that ends a gap before a coordinate and is twice `half` long.
+    fn span_before(&self, gap: u32, half: u32, at: u128) -> Span
         requires gap { gap ≤ 400 }
         requires half { half ≤ 400 }
-        ensures { result ≡ before self.now gap half at }
+        ensures { result ≡ span_before self.now gap half at }
     {
         Span {
             first: at.saturating_sub(self.quarters(gap + 2 * half)),
@@ -228,12 +229,12 @@ impl Frame {
         }
     }
 
-    // Behind a place and a gap, twice `half` long.
-    fn behind(&self, gap: u32, half: u32, at: u128) -> Span
+    // Returns the interval that begins a gap after a coordinate and is twice `half` long.
+    fn span_after(&self, gap: u32, half: u32, at: u128) -> Span
         requires gap { gap ≤ 400 }
         requires half { half ≤ 400 }
         requires at { at ≤ 2 ^ 70 }
-        ensures { result ≡ behind self.now gap half at }
+        ensures { result ≡ span_after self.now gap half at }
     {
         Span {
             first: at + self.quarters(gap),
@@ -241,12 +242,12 @@ impl Frame {
         }
     }
 
-    // The area of a mark.
+    // Returns the area of a mark.
     fn area_on(&self, k: u32, stop: &Stop) -> Area
         ensures { result ≡ area_on self.now k stop.now }
     {
         let point = self.point(stop);
-        area_of(self.around(k, point.x), self.around(k, point.y))
+        area_of(self.span_around(k, point.x), self.span_around(k, point.y))
     }
 
     fn is_within(&self, area: &Area) -> bool
@@ -255,7 +256,7 @@ impl Frame {
         0 < area.left && area.right <= self.width && 0 < area.top && area.bottom <= self.height
     }
 
-    // Whether an area is within the frame, and covers nothing that was placed before.
+    // Returns whether an area is within the frame and covers nothing that was placed before.
     #[tactic(auto, unfolding(crate::specs::Labels::is_free))]
     fn is_free(&self, labels: &[Label], area: &Area) -> bool
         ensures { result ≡ is_free self.now labels.now area.now }
@@ -263,7 +264,7 @@ impl Frame {
         self.is_within(area) && !area.covers(labels)
     }
 
-    // The first free area around a mark.
+    // Returns the first free area around a mark.
     #[tactic(auto, unfolding(crate::specs::Labels::free_area))]
     fn free_area(&self, labels: &[Label], extent: &Extent, stop: &Stop) -> Option<Area>
         requires across { extent.now.across ≤ 400 }
@@ -272,28 +273,28 @@ impl Frame {
         ensures { result ≡ free_area self.now labels.now extent.now stop.now }
     {
         let point = self.point(stop);
-        let across = self.around(extent.across, point.x);
-        let down = self.around(extent.down, point.y);
-        let above = area_of(across, self.before(extent.gap, extent.down, point.y));
+        let across = self.span_around(extent.across, point.x);
+        let down = self.span_around(extent.down, point.y);
+        let above = area_of(across, self.span_before(extent.gap, extent.down, point.y));
         if self.is_free(labels, &above) {
             return Some(above);
         }
-        let right = area_of(self.behind(extent.gap, extent.across, point.x), down);
+        let right = area_of(self.span_after(extent.gap, extent.across, point.x), down);
         if self.is_free(labels, &right) {
             return Some(right);
         }
-        let below = area_of(across, self.behind(extent.gap, extent.down, point.y));
+        let below = area_of(across, self.span_after(extent.gap, extent.down, point.y));
         if self.is_free(labels, &below) {
             return Some(below);
         }
-        let left = area_of(self.before(extent.gap, extent.across, point.x), down);
+        let left = area_of(self.span_before(extent.gap, extent.across, point.x), down);
         if self.is_free(labels, &left) {
             return Some(left);
         }
         None
     }
 
-    // The first free area around any of these stops.
+    // Returns the first free area around any of these stops.
     fn free_along(&self, labels: &[Label], extent: &Extent, stops: &[Stop]) -> Option<Area>
         requires across { extent.now.across ≤ 400 }
         requires down { extent.now.down ≤ 400 }
@@ -308,7 +309,7 @@ impl Frame {
         None
     }
 
-    // Where the number of a route stands: at a stop from its middle on, else at one before.
+    // Returns the area for the number of a route: at a stop from its middle on, else at an earlier stop.
     fn badge_area(&self, labels: &[Label], number: u64, stops: &[Stop]) -> Option<Area>
         ensures { result ≡ badge_area self.now labels.now number stops.now }
     {

@@ -1,23 +1,24 @@
-//! What is in each picture, and that it is well-formed.
+//! Laws on the contents of every picture, and that it is well-formed.
 ghost use Rattle.plan_picture.specs.Laws.{LegsAreDrawn, PicturesAreWellFormed, RoutePicturesAreWellFormed, RoutesAreDrawn, RoutesAreKept, StopsAreMarked};
 
-use plan_types::numbers_are_below_the_next;
+use plan_types::numbers_are_below_next_number;
 
-/// Each stop of the problem has its mark.
+/// States that each stop of the problem has its mark.
 pub fn stops_are_marked()
     ensures { StopsAreMarked }
 {
-    numbers_are_below_the_next();
+    numbers_are_below_next_number();
 }
 
-/// Each route has its line, with each of its legs; where its stops are live, each once, none is left out.
+/// States that each route has its line, with each of its legs. If its stops are known and distinct, none is
+/// left out.
 pub fn legs_are_drawn()
     ensures routes { RoutesAreDrawn }
     ensures kept { RoutesAreKept }
     ensures legs { LegsAreDrawn }
 {}
 
-/// Each opened element is closed, in order, and each attribute is quoted.
+/// States that each opened element is closed, in order, and that each attribute is quoted.
 pub fn pictures_are_well_formed()
     ensures whole { PicturesAreWellFormed }
     ensures route { RoutePicturesAreWellFormed }

@@ -1,45 +1,47 @@
-//! A plan as a picture: the depot, the stops with their numbers, each route with its direction and its figures, and the day of
-//! each vehicle; or one route of it, larger.
+//! A plan as an SVG picture: the depot, the stops with their numbers, each route with its direction, a table of
+//! the routes, and the day of each vehicle.
 //!
-//! Entry functions: `draw`, called by `planner_cli` (the word `draw`), and `draw_route`.
+//! `draw` draws a plan for the `draw` subcommand of `planner_cli`, `draw_route` a single route, larger.
 //!
-//! Source: SVG 2 for the elements; the picture is this project's own.
+//! Coordinates count from the smallest x and the greatest y and are multiplied by one whole number, so no
+//! computed number has a fraction.
 //!
-//! How it works: places count from the least x and the greatest y and are multiplied by one whole number, so no number that is
-//! computed has a fraction. What the verdict tells as broken is drawn too: of a route the stops that the problem has, each where
-//! it stands first. The route that the verdict names has a broken line and a red row, its stop a ring; the rule stands in words
-//! over the map. Stops that no route has are ringed and counted. A number of a route or a stop takes the first place around its
-//! mark where it covers no mark and no number before it, and is left out where there is none.
+//! Violations are drawn too. For each route the picture has the stops that the problem knows, each at its first
+//! place. The route that the verdict names has a dashed line and a red row, its stop has a ring, and the rule
+//! is in words above the map. Unserved stops are ringed and counted.
+//!
+//! The number of a route or a stop takes the first free position around its mark, where it covers no mark and
+//! no earlier number. If there is none, the number is left out.
+//!
+//! Source: SVG 2 for the elements; the design is this project's own. Loads, starts and distances are those of
+//! `route_sched`. The look is judged by eye (`examples/lc101.svg`).
 //!
 //! Modules, in reading order:
-//! - `styles`, `tags`, `words`: how it looks, its elements, and what people read
+//! - `styles`, `tags`, `words`: the styles, the elements, and the words for people
 //! - `svg`: the text of a picture, piece by piece
-//! - `frame`: where the stops stand
-//! - `known`: the stops that are drawn, and what is drawn of a route
-//! - `scene`: what a picture shows
-//! - `labels`: where numbers stand
+//! - `frame`: the position of the stops
+//! - `drawn_stops`: the stops that are drawn, and the part of a route that is drawn
+//! - `scene`: the contents of a picture
+//! - `labels`: the positions of numbers
 //! - `map`: pairs, legs, marks and numbers
-//! - `table`: a row of figures for each route
-//! - `days`: when each vehicle drives, waits and serves
-//! - `heads`: what stands over the map
+//! - `table`: a row of values for each route
+//! - `days`: a chart of when each vehicle drives, waits and serves
+//! - `heads`: the text above the map
 //! - `drawing`: `draw` and `draw_route`, the whole pictures
-//! - `laws`: what is in each picture
+//! - `laws`: the contents of every picture
 //!
-//! Said by `specs/Picture.antt`, and piece by piece by the files that have the modules' names. Proved:
-//! - `draw`, `draw_route`: the bytes are those of the definition (`picture`, `route_picture`), or want of memory
-//! - `stops_are_marked`: each stop of the problem has its mark, at its coordinates scaled by a whole number
-//! - `legs_are_drawn`: each route has its line, with each of its legs; of live stops, each once, none is left out
-//! - `pictures_are_well_formed`: each element that is opened is closed, the last one first, and each attribute has a value in
-//!   quotes (`specs/WellFormed.antt`); that no attribute stands twice in a tag is seen by `tests/picture.py` alone
-//!
-//! Loads, starts and distances are `route_sched`'s. How it looks is judged by eye (`examples/lc101.svg`).
+//! Proved: `draw` and `draw_route` return exactly the bytes of the definitions in `specs/Picture.antt`, or
+//! memory runs out. Each stop of the problem has its mark, at its coordinates scaled by a whole number, and
+//! each route has its line with each of its legs. Each opened element is closed in order and each attribute has
+//! a quoted value (`specs/WellFormed.antt`). That no attribute appears twice in a tag is only tested, by
+//! `tests/picture.py`.
 #![tactic(auto)]
 
 mod days;
 mod drawing;
+mod drawn_stops;
 mod frame;
 mod heads;
-mod known;
 mod labels;
 mod laws;
 mod map;

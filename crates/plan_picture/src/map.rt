@@ -1,13 +1,13 @@
 //! The map: pairs, legs, marks, rings and numbers.
 ghost use Rattle.std.specs.Prelude.{◌≡◌, ◌≤◌, ◌^◌, ◌++◌, OnOk, is_some};
 ghost use Rattle.std.specs.List.{flat_map};
-ghost use Rattle.route_sched.specs.Route.{AreLiveOnce};
-ghost use Rattle.plan_picture.specs.Known.{visits_of};
-ghost use Rattle.plan_picture.specs.Map.{arrow_text, badge_text, box_size, box_text, foot_of, has_arrow, is_delivery, join_text, label_text, labels_text, leg_head, leg_text, legs_text, line_head, line_text, lines_text, map_in, map_text, mark_text, marks_text, number_text, opening_text, over_mark, over_text, pair_text, pairs_text, ring_text, rings_text, under_mark, under_shape, under_text};
+ghost use Rattle.route_sched.specs.Route.{AreDistinctStops};
+ghost use Rattle.plan_picture.specs.DrawnStops.{visits_of};
+ghost use Rattle.plan_picture.specs.Map.{arrow_text, badge_text, box_size, box_text, baseline_of, has_arrow, is_delivery, join_text, label_text, labels_text, leg_head, leg_text, legs_text, line_head, line_text, lines_text, map_in, map_text, mark_text, marks_text, number_text, opening_text, upper_mark, upper_layer_text, pair_text, pairs_text, ring_text, rings_text, lower_mark, lower_shape, lower_layer_text};
 ghost use Rattle.plan_picture.specs.Svg.{each};
 
-use crate::frame::{Frame, Point, apart, stop_bounds};
-use crate::known::{stop_among, unserved};
+use crate::drawn_stops::{stop_among, unserved};
+use crate::frame::{Frame, Point, absolute_difference, stop_bounds};
 use crate::labels::{Area, Label, LabelKind, labels};
 use crate::scene::Scene;
 use crate::svg::Svg;
@@ -17,7 +17,7 @@ use route_sched::Visits;
 use std::alloc::Global;
 
 impl Svg {
-    /// Appends the map: an element `svg`.
+    /// Appends the map, an element `svg`.
     pub(crate) fn put_map(&mut self, alloc: Global, scene: &Scene) -> Result<(), OutOfMemory>
         ensures { let s = scene.now in OnOk result (self.new ≡ self.old
             ++ map_text s.problem.now s.stops.now s.first s.routes.now
@@ -34,26 +34,31 @@ impl Svg {
             ++ map_in frame.now s.problem.now s.stops.now s.first s.routes.now
             s.broken.route s.broken.stop) }
     {
-        self.put_under(frame, scene);
-        self.put_over(alloc, frame, scene)
+        self.put_lower_layer(frame, scene);
+        self.put_upper_layer(alloc, frame, scene)
     }
 
-    // The lines.
-    #[tactic(auto, unfolding(crate::specs::Map::under_text))]
-    fn put_under(&mut self, frame: &Frame, scene: &Scene)
+    // Appends the lines.
+    #[tactic(auto, unfolding(crate::specs::Map::lower_layer_text))]
+    fn put_lower_layer(&mut self, frame: &Frame, scene: &Scene)
         ensures { let s = scene.now in self.new ≡ self.old
-            ++ under_text s.problem.now frame.now s.stops.now s.first s.routes.now s.broken.route }
+            ++ lower_layer_text s.problem.now frame.now s.stops.now s.first s.routes.now s.broken.route }
     {
         self.put_opening(frame);
         self.put_pairs(scene.problem, frame, scene.stops);
         self.put_lines(frame, scene);
     }
 
-    // What lies above the lines.
-    #[tactic(auto, unfolding(crate::specs::Map::over_text))]
-    fn put_over(&mut self, alloc: Global, frame: &Frame, scene: &Scene) -> Result<(), OutOfMemory>
+    // Appends what is drawn above the lines.
+    #[tactic(auto, unfolding(crate::specs::Map::upper_layer_text))]
+    fn put_upper_layer(
+        &mut self,
+        alloc: Global,
+        frame: &Frame,
+        scene: &Scene,
+    ) -> Result<(), OutOfMemory>
         ensures { let s = scene.now in OnOk result (self.new ≡ self.old
-            ++ over_text s.problem.now frame.now s.stops.now s.first s.routes.now s.broken.stop) }
+            ++ upper_layer_text s.problem.now frame.now s.stops.now s.first s.routes.now s.broken.stop) }
     {
         let stops = scene.stops;
         let left = unserved(alloc, scene.routes, stops)?;
@@ -92,7 +97,7 @@ impl Svg {
         }
     }
 
-    // A delivery is joined with its pickup.
+    // Appends the line between a delivery and its pickup.
     fn put_pair(&mut self, problem: &Problem, frame: &Frame, stops: &[Stop], stop: &Stop)
         ensures { self.new ≡ self.old ++ pair_text problem.now frame.now stops.now stop.now }
     {
@@ -134,10 +139,10 @@ impl Svg {
         }
     }
 
-    // The legs of a route.
+    // Appends the legs of a route.
     #[tactic(auto, unfolding(crate::specs::Map::line_text))]
     fn put_line(&mut self, frame: &Frame, scene: &Scene, number: u64, route: &[u32])
-        requires { AreLiveOnce scene.now.problem.now route.now }
+        requires { AreDistinctStops scene.now.problem.now route.now }
         ensures { let s = scene.now in self.new ≡ self.old
             ++ line_text s.problem.now frame.now s.broken.route number route.now }
     {
@@ -158,7 +163,7 @@ impl Svg {
     }
 
     fn put_legs(&mut self, frame: &Frame, depot: &Stop, problem: &Problem, route: &[u32])
-        requires { AreLiveOnce problem.now route.now }
+        requires { AreDistinctStops problem.now route.now }
         ensures { self.new ≡ self.old
             ++ legs_text frame.now depot.now (visits_of problem.now route.now) }
     {
@@ -182,7 +187,7 @@ impl Svg {
         self.put(Tag::LineEnd);
     }
 
-    // The place of a leg's arrow, where the leg is long enough.
+    // Appends the point of a leg's arrow, if the leg is long enough.
     fn put_arrow(&mut self, frame: &Frame, from: &Point, to: &Point)
         requires near { from.now.x ≤ 2 ^ 70 }
         requires high { from.now.y ≤ 2 ^ 70 }
@@ -191,7 +196,7 @@ impl Svg {
         ensures { self.new ≡ self.old ++ arrow_text frame.now from.now to.now }
     {
         if has_arrow(frame, from, to) {
-            self.put_at(from.on_the_way(to));
+            self.put_at(from.arrow_point(to));
         }
     }
 
@@ -200,44 +205,44 @@ impl Svg {
         ensures { self.new ≡ self.old ++ marks_text problem.now frame.now stops.now }
     {
         self.put_mark(Tag::DepotMark, frame, &problem.depot);
-        self.put_under_marks(problem, frame, stops);
-        self.put_over_marks(problem, frame, stops);
+        self.put_lower_marks(problem, frame, stops);
+        self.put_upper_marks(problem, frame, stops);
     }
 
-    fn put_under_marks(&mut self, problem: &Problem, frame: &Frame, stops: &[Stop])
-        ensures { self.new ≡ self.old ++ flat_map (under_mark problem.now frame.now) stops.now }
+    fn put_lower_marks(&mut self, problem: &Problem, frame: &Frame, stops: &[Stop])
+        ensures { self.new ≡ self.old ++ flat_map (lower_mark problem.now frame.now) stops.now }
     {
         for stop in stops {
-            self.put_under_mark(problem, frame, stop);
+            self.put_lower_mark(problem, frame, stop);
         }
     }
 
-    fn put_over_marks(&mut self, problem: &Problem, frame: &Frame, stops: &[Stop])
-        ensures { self.new ≡ self.old ++ flat_map (over_mark problem.now frame.now) stops.now }
+    fn put_upper_marks(&mut self, problem: &Problem, frame: &Frame, stops: &[Stop])
+        ensures { self.new ≡ self.old ++ flat_map (upper_mark problem.now frame.now) stops.now }
     {
         for stop in stops {
-            self.put_over_mark(problem, frame, stop);
+            self.put_upper_mark(problem, frame, stop);
         }
     }
 
-    fn put_under_mark(&mut self, problem: &Problem, frame: &Frame, stop: &Stop)
-        ensures { self.new ≡ self.old ++ under_mark problem.now frame.now stop.now }
+    fn put_lower_mark(&mut self, problem: &Problem, frame: &Frame, stop: &Stop)
+        ensures { self.new ≡ self.old ++ lower_mark problem.now frame.now stop.now }
     {
         if is_delivery(problem, stop) {
             return;
         }
-        self.put_mark(under_shape(problem, stop), frame, stop);
+        self.put_mark(lower_shape(problem, stop), frame, stop);
     }
 
-    fn put_over_mark(&mut self, problem: &Problem, frame: &Frame, stop: &Stop)
-        ensures { self.new ≡ self.old ++ over_mark problem.now frame.now stop.now }
+    fn put_upper_mark(&mut self, problem: &Problem, frame: &Frame, stop: &Stop)
+        ensures { self.new ≡ self.old ++ upper_mark problem.now frame.now stop.now }
     {
         if is_delivery(problem, stop) {
             self.put_mark(Tag::DeliveryMark, frame, stop);
         }
     }
 
-    // A shape where the stop stands, with the stop's number as its title.
+    // Appends a shape at the stop, with the stop's number as its title.
     #[tactic(auto, unfolding(crate::specs::Map::mark_text))]
     fn put_mark(&mut self, shape: Tag, frame: &Frame, stop: &Stop)
         ensures { self.new ≡ self.old ++ mark_text shape frame.now stop.now }
@@ -331,19 +336,19 @@ impl Svg {
         self.put_attribute(Tag::Height, area.bottom.saturating_sub(area.top));
     }
 
-    // A number in its area.
+    // Appends a number in its area.
     #[tactic(auto, unfolding(crate::specs::Map::number_text))]
     fn put_number_at(&mut self, frame: &Frame, text: Tag, k: u32, number: u64, area: &Area)
         ensures { self.new ≡ self.old ++ number_text frame.now text k number area.now }
     {
-        let foot = foot_of(frame, k, area);
+        let foot = baseline_of(frame, k, area);
         self.put_placed(text, foot);
         self.put_numbered(Tag::TagEnd, number as u128);
         self.put(Tag::TextEnd);
     }
 }
 
-// A leg to or from the depot is pale.
+// Returns the tag of a leg. A leg to or from the depot is pale.
 fn leg_head(start: &Stop, end: &Stop) -> Tag
     ensures { result ≡ leg_head start.now end.now }
 {
@@ -354,12 +359,13 @@ fn leg_head(start: &Stop, end: &Stop) -> Tag
     }
 }
 
-// Whether a leg is long enough for an arrow.
+// Returns whether a leg is long enough for an arrow.
 #[tactic(auto, unfolding(crate::specs::Map::has_arrow))]
 fn has_arrow(frame: &Frame, from: &Point, to: &Point) -> bool
     ensures { result ≡ has_arrow frame.now from.now to.now }
 {
-    14 * u128::from(frame.unit) <= apart(from.x, to.x).max(apart(from.y, to.y))
+    14 * u128::from(frame.unit)
+        <= absolute_difference(from.x, to.x).max(absolute_difference(from.y, to.y))
 }
 
 fn is_delivery(problem: &Problem, stop: &Stop) -> bool
@@ -368,9 +374,9 @@ fn is_delivery(problem: &Problem, stop: &Stop) -> bool
     problem.pickup_of(stop.number).is_some()
 }
 
-// The shape of a stop that is no delivery.
-fn under_shape(problem: &Problem, stop: &Stop) -> Tag
-    ensures { result ≡ under_shape problem.now stop.now }
+// Returns the shape of a stop that is not a delivery.
+fn lower_shape(problem: &Problem, stop: &Stop) -> Tag
+    ensures { result ≡ lower_shape problem.now stop.now }
 {
     if problem.partner_of(stop.number).is_some() {
         Tag::PickupMark
@@ -379,9 +385,9 @@ fn under_shape(problem: &Problem, stop: &Stop) -> Tag
     }
 }
 
-// Where the letters of a number stand: in the middle of its area, `k` quarters of the unit above its lower edge.
-fn foot_of(frame: &Frame, k: u32, area: &Area) -> Point
-    ensures { result ≡ foot_of frame.now k area.now }
+// Returns the baseline of a number: in the middle of its area, `k` quarters of the unit above its lower edge.
+fn baseline_of(frame: &Frame, k: u32, area: &Area) -> Point
+    ensures { result ≡ baseline_of frame.now k area.now }
 {
     let half = area.right.saturating_sub(area.left) / 2;
     Point {

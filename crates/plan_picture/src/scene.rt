@@ -1,25 +1,25 @@
-//! What a picture shows.
+//! The contents of a picture.
 ghost use Rattle.std.specs.Prelude.{◌≤◌, ◌^◌, All};
 ghost use Rattle.std.proofs.Props.{props};
-ghost use Rattle.route_sched.specs.Route.{AreLiveOnce};
+ghost use Rattle.route_sched.specs.Route.{AreDistinctStops};
 
 use plan_types::{Problem, Route, Stop};
 
-/// What is broken: the number of a route and that of a stop, 0 for none.
+/// The route and the stop of the violation, by number; 0 means none.
 #[derive(Clone, Copy)]
-pub(crate) struct Broken {
+pub(crate) struct Highlight {
     pub route: u64,
     pub stop: u32,
 }
 
-/// What is shown of a problem: stops, and routes, the first of which has the number `first`; and what is broken.
+/// A problem, stops, and routes, the first of which has the number `first`; and the violation.
 #[derive(Drop)]
 pub(crate) struct Scene<'a> {
     pub problem: &'a Problem,
     pub stops: &'a [Stop],
     pub first: u64,
     pub routes: &'a [Route],
-    pub broken: Broken,
+    pub broken: Highlight,
     ghost numbered: { first ≤ 2 ^ 63 },
-    ghost live: { All (AreLiveOnce problem.now) routes.now } by { Prim.hlevel props },
+    ghost live: { All (AreDistinctStops problem.now) routes.now } by { Prim.hlevel props },
 }

@@ -1,8 +1,8 @@
-//! How a picture looks: the style of each class, the shapes of the marks, letters and colours.
+//! The look of a picture: the style of each class, the shapes of the marks, letters and colours.
 ghost use Rattle.std.specs.Prelude.{◌≡◌};
 ghost use Rattle.plan_picture.specs.Styles.{style};
 
-/// A text that says how something looks.
+/// A part of the style of a picture.
 #[derive(Clone, Copy)]
 pub(crate) enum Style {
     Letters,
@@ -22,7 +22,7 @@ pub(crate) enum Style {
 }
 
 impl Style {
-    /// The text itself.
+    /// Returns the text of the style.
     #[tactic(auto, unfolding(crate::specs::Styles::style))]
     pub(crate) fn as_str(self) -> &'static str
         ensures { result.now ≡ style self }

@@ -1,9 +1,10 @@
 //! The text of a picture, piece by piece.
 //!
-//! Route n has the colour `hsl(137 n mod 360, 75%, 30 + 4 (n mod 7)%)`, which is another one for 2,520 routes.
+//! Route n has the colour `hsl(137 n mod 360, 75%, 30 + 4 (n mod 7)%)`. The first 2,520 routes have different
+//! colours.
 ghost use Rattle.std.specs.Prelude.{◌≡◌, ◌++◌, ◌≤◌, [], IfOk};
 ghost use Rattle.plan_audit.specs.Verdict.{rule_name};
-ghost use Rattle.plan_picture.specs.Svg.{at_text, attribute, bar, broken_class, colour, digit_count, figure, numbered, placed_tag, placed_text, some_figure, tagged};
+ghost use Rattle.plan_picture.specs.Svg.{at_text, attribute, bar, broken_class, colour, digit_count, word_and_number, numbered, placed_tag, placed_text, word_and_nonzero, tagged};
 ghost use Rattle.plan_picture.specs.Styles.{style};
 ghost use Rattle.plan_picture.specs.Tags.{fixed};
 ghost use Rattle.plan_picture.specs.Words.{word};
@@ -17,12 +18,12 @@ use plan_audit::Rule;
 use plan_types::OutOfMemory;
 use std::alloc::Global;
 use std::marker::Model;
-use told_text::Told;
+use text_buffer::TextBuffer;
 
-/// The text so far. Once memory has run out nothing more is kept, and `into_vec` tells that.
+/// The text so far. Once memory runs out, nothing more is kept, and `into_vec` returns the error.
 #[derive(Drop)]
 pub(crate) struct Svg {
-    text: Told,
+    text: TextBuffer,
 }
 
 impl Model for Svg {
@@ -34,16 +35,16 @@ impl Model for Svg {
 }
 
 impl Svg {
-    /// No text.
+    /// Creates an empty text.
     pub(crate) fn new(alloc: Global) -> Svg
         ensures { result ≡ [] }
     {
         Svg {
-            text: Told::new(alloc),
+            text: TextBuffer::new(alloc),
         }
     }
 
-    /// Gives the bytes back, without taking memory, unless it had run out before.
+    /// Returns the bytes. It allocates nothing, but fails if memory ran out before.
     pub(crate) fn into_vec(self) -> Result<Vec<u8>, OutOfMemory>
         ensures { IfOk result (λ bytes. bytes.items ≡ self) }
     {
@@ -65,14 +66,14 @@ impl Svg {
         self.text.push_str(rule.name());
     }
 
-    /// Appends how something looks.
+    /// Appends a piece of style.
     pub(crate) fn put_style(&mut self, what: Style)
         ensures { self.new ≡ self.old ++ style what }
     {
         self.text.push_str(what.as_str());
     }
 
-    /// Appends words.
+    /// Appends the text of a word.
     pub(crate) fn put_word(&mut self, what: Word)
         ensures { self.new ≡ self.old ++ word what }
     {
@@ -86,7 +87,7 @@ impl Svg {
         self.text.push_str(tag.as_str());
     }
 
-    /// A tag and the number behind it.
+    /// Appends a tag and the number after it.
     #[tactic(auto, unfolding(crate::specs::Svg::numbered))]
     pub(crate) fn put_numbered(&mut self, tag: Tag, n: u128)
         ensures { self.new ≡ self.old ++ numbered tag n }
@@ -95,7 +96,7 @@ impl Svg {
         self.put_number(n);
     }
 
-    /// The same with the quote that ends an attribute.
+    /// Appends a tag, a number, and the quote that ends an attribute.
     #[tactic(auto, unfolding(crate::specs::Svg::attribute))]
     pub(crate) fn put_attribute(&mut self, tag: Tag, n: u128)
         ensures { self.new ≡ self.old ++ attribute tag n }
@@ -105,7 +106,7 @@ impl Svg {
         self.put(Tag::Quote);
     }
 
-    /// A tag with the place where it stands, not closed yet.
+    /// Appends a tag and its position, without closing the tag.
     #[tactic(auto, unfolding(crate::specs::Svg::placed_tag))]
     pub(crate) fn put_placed(&mut self, tag: Tag, point: Point)
         ensures { self.new ≡ self.old ++ placed_tag tag point }
@@ -115,7 +116,7 @@ impl Svg {
         self.put_attribute(Tag::Y, point.y);
     }
 
-    /// A tag and the words behind it.
+    /// Appends a tag and the words after it.
     #[tactic(auto, unfolding(crate::specs::Svg::tagged))]
     pub(crate) fn put_tagged(&mut self, tag: Tag, word: Word)
         ensures { self.new ≡ self.old ++ tagged tag word }
@@ -124,26 +125,26 @@ impl Svg {
         self.put_word(word);
     }
 
-    /// Words and the figure behind them.
-    #[tactic(auto, unfolding(crate::specs::Svg::figure))]
-    pub(crate) fn put_figure(&mut self, word: Word, n: u128)
-        ensures { self.new ≡ self.old ++ figure word n }
+    /// Appends words and the number after them.
+    #[tactic(auto, unfolding(crate::specs::Svg::word_and_number))]
+    pub(crate) fn put_word_and_number(&mut self, word: Word, n: u128)
+        ensures { self.new ≡ self.old ++ word_and_number word n }
     {
         self.put_word(word);
         self.put_number(n);
     }
 
-    /// The same, and nothing where the figure is 0.
-    pub(crate) fn put_some_figure(&mut self, word: Word, n: u128)
-        ensures { self.new ≡ self.old ++ some_figure word n }
+    /// Appends words and the number after them, or nothing if it is 0.
+    pub(crate) fn put_word_and_nonzero(&mut self, word: Word, n: u128)
+        ensures { self.new ≡ self.old ++ word_and_nonzero word n }
     {
         if n == 0 {
             return;
         }
-        self.put_figure(word, n);
+        self.put_word_and_number(word, n);
     }
 
-    /// A place of a line, as ` X,Y`.
+    /// Appends a point of a line, as ` X,Y`.
     #[tactic(auto, unfolding(crate::specs::Svg::at_text))]
     pub(crate) fn put_at(&mut self, point: Point)
         ensures { self.new ≡ self.old ++ at_text point }
@@ -152,7 +153,7 @@ impl Svg {
         self.put_numbered(Tag::Comma, point.y);
     }
 
-    /// A number as an element `text`, whose tag is begun by this text.
+    /// Appends a number as an element `text`; `tag` begins its start tag.
     #[tactic(auto, unfolding(crate::specs::Svg::placed_text))]
     pub(crate) fn put_text(&mut self, tag: Tag, x: u128, n: u128)
         ensures { self.new ≡ self.old ++ placed_text tag x n }
@@ -163,7 +164,7 @@ impl Svg {
         self.put(Tag::TextEnd);
     }
 
-    /// An attribute with the colour of the route with this number.
+    /// Appends an attribute with the colour of the route with this number.
     #[tactic(auto, unfolding(crate::specs::Svg::colour))]
     pub(crate) fn put_colour(&mut self, tag: Tag, number: u64)
         ensures { self.new ≡ self.old ++ colour tag number }
@@ -176,7 +177,7 @@ impl Svg {
         self.put(Tag::ColourEnd);
     }
 
-    /// A class where the route with this number is the broken one.
+    /// Appends a class if the route with this number is the broken one.
     #[tactic(auto, unfolding(crate::specs::Svg::broken_class))]
     pub(crate) fn put_broken(&mut self, broken: u64, number: u64)
         ensures { self.new ≡ self.old ++ broken_class broken number }
@@ -186,7 +187,7 @@ impl Svg {
         }
     }
 
-    /// A bar of a tag from a time on, where it is not empty.
+    /// Appends a bar that begins at a time, unless it is empty.
     #[tactic(auto, unfolding(crate::specs::Svg::bar))]
     pub(crate) fn put_bar(&mut self, tag: Tag, first: u128, width: u128)
         ensures { self.new ≡ self.old ++ bar tag first width }
@@ -201,7 +202,7 @@ impl Svg {
     }
 }
 
-/// How many digits a number has.
+/// Returns how many digits a number has.
 pub(crate) fn digits(n: u64) -> u32
     ensures count { result ≡ digit_count n }
     ensures few { result ≤ 40 }

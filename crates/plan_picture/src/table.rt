@@ -1,11 +1,11 @@
-//! The table under the map: a row for each route, with its colour and its figures in columns. Where windows count, the day of
-//! its vehicle stands beside it, else the rows stand in three blocks.
+//! The table under the map: a row for each route, with its colour and its values in columns. If the problem has
+//! windows, the day of the vehicle is beside its row; otherwise the rows form three blocks.
 ghost use Rattle.std.specs.Prelude.{◌≡◌, ◌+◌, ◌<◌, ◌^◌, ◌++◌};
 ghost use Rattle.std.specs.Int.{int_max};
-ghost use Rattle.route_sched.specs.Route.{AreLiveOnce};
-ghost use Rattle.plan_picture.specs.Known.{visits_of};
+ghost use Rattle.route_sched.specs.Route.{AreDistinctStops};
+ghost use Rattle.plan_picture.specs.DrawnStops.{visits_of};
 ghost use Rattle.plan_picture.specs.Svg.{each};
-ghost use Rattle.plan_picture.specs.Table.{columns_text, figures_text, grid_of, heading_text, load_text, row_end, row_head, row_place, row_text, rows_text, top_load};
+ghost use Rattle.plan_picture.specs.Table.{columns_text, row_values_text, grid_of, heading_text, load_text, row_end, row_head, row_place, row_text, rows_text, top_load};
 
 use crate::scene::Scene;
 use crate::svg::Svg;
@@ -14,14 +14,14 @@ use crate::words::Word;
 use plan_types::{Kind, Problem};
 use route_sched::{Visit, Visits, route_distance};
 
-/// How many rows stand in a block of the table, and how far they are apart.
+/// The number of rows in a block of the table, and the distance between them.
 #[derive(Clone, Copy)]
 pub(crate) struct Grid {
     pub rows: usize,
     pub pitch: u32,
 }
 
-/// The grid for so many rows.
+/// Returns the grid for this number of rows.
 #[tactic(auto, unfolding(crate::specs::Table::grid_of))]
 pub(crate) fn grid_of(kind: Kind, rows: usize) -> Grid
     ensures value { result ≡ grid_of kind rows }
@@ -40,7 +40,7 @@ pub(crate) fn grid_of(kind: Kind, rows: usize) -> Grid
 }
 
 impl Svg {
-    /// Appends a row of figures for each route.
+    /// Appends a row of values for each route.
     #[tactic(auto, unfolding(crate::specs::Table::rows_text))]
     pub(crate) fn put_rows(&mut self, grid: Grid, scene: &Scene)
         requires { 0 < grid.rows }
@@ -66,14 +66,14 @@ impl Svg {
     fn put_row(&mut self, grid: Grid, scene: &Scene, index: usize, route: &[u32])
         requires grid { 0 < grid.rows }
         requires number { scene.now.first + index < 2 ^ 64 }
-        requires route { AreLiveOnce scene.now.problem.now route.now }
+        requires route { AreDistinctStops scene.now.problem.now route.now }
         ensures { let s = scene.now in self.new ≡ self.old
             ++ row_text s.problem.now grid s.broken.route s.first index route.now }
     {
         let number = scene.first + index as u64;
         self.put_row_place(grid, index);
         self.put_row_head(scene.broken.route, number);
-        self.put_figures(scene.problem, number, route);
+        self.put_row_values(scene.problem, number, route);
         self.put_row_end(grid, index);
     }
 
@@ -97,10 +97,10 @@ impl Svg {
         self.put_broken(broken, number);
     }
 
-    #[tactic(auto, unfolding(crate::specs::Table::figures_text))]
-    fn put_figures(&mut self, problem: &Problem, number: u64, route: &[u32])
-        requires { AreLiveOnce problem.now route.now }
-        ensures { self.new ≡ self.old ++ figures_text problem.now number route.now }
+    #[tactic(auto, unfolding(crate::specs::Table::row_values_text))]
+    fn put_row_values(&mut self, problem: &Problem, number: u64, route: &[u32])
+        requires { AreDistinctStops problem.now route.now }
+        ensures { self.new ≡ self.old ++ row_values_text problem.now number route.now }
     {
         self.put_numbered(Tag::RouteCell, number as u128);
         self.put_numbered(Tag::StopsCell, route.len() as u128);
@@ -126,7 +126,7 @@ impl Svg {
         self.put(Tag::GroupEnd);
     }
 
-    // What the columns are, over the first row of each block.
+    // Appends the headings of the columns above the first row of each block.
     fn put_heading(&mut self, grid: Grid, index: usize)
         requires { 0 < grid.rows }
         ensures { self.new ≡ self.old ++ heading_text grid index }
@@ -148,19 +148,19 @@ impl Svg {
     }
 }
 
-// The greatest load, at least 0.
+// Returns the greatest load, at least 0.
 fn top_load(problem: &Problem, route: &[u32]) -> i64
-    requires { AreLiveOnce problem.now route.now }
+    requires { AreDistinctStops problem.now route.now }
     ensures { result ≡ top_load (visits_of problem.now route.now) }
 {
     let mut top = 0;
     for visit in Visits::new(problem, route) {
-        top = greater_load(top, &visit);
+        top = larger_load(top, &visit);
     }
     top
 }
 
-fn greater_load(top: i64, visit: &Visit) -> i64
+fn larger_load(top: i64, visit: &Visit) -> i64
     ensures { result ≡ int_max top visit.now.load }
 {
     top.max(visit.load)

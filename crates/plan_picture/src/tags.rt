@@ -1,8 +1,8 @@
-//! The tags of a picture: its elements, where they stand, and their classes.
+//! The tags of a picture: its elements, their positions, and their classes.
 ghost use Rattle.std.specs.Prelude.{◌≡◌};
 ghost use Rattle.plan_picture.specs.Tags.{fixed};
 
-/// A text of tags. Attributes stand in single quotes; a number or another text may follow.
+/// A piece of tags. Attributes are in single quotes; a number or another piece may follow.
 #[derive(Clone, Copy)]
 pub(crate) enum Tag {
     Quote,
@@ -95,7 +95,7 @@ pub(crate) enum Tag {
 }
 
 impl Tag {
-    /// The text itself.
+    /// Returns the text of the tag.
     #[tactic(auto, unfolding(crate::specs::Tags::fixed))]
     pub(crate) fn as_str(self) -> &'static str
         ensures { result.now ≡ fixed self }

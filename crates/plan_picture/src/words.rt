@@ -2,7 +2,7 @@
 ghost use Rattle.std.specs.Prelude.{◌≡◌};
 ghost use Rattle.plan_picture.specs.Words.{word};
 
-/// What people read. A figure may follow.
+/// Words for people. A number may follow.
 #[derive(Clone, Copy)]
 pub(crate) enum Word {
     OneRoute,
@@ -45,7 +45,7 @@ pub(crate) enum Word {
 }
 
 impl Word {
-    /// The text itself.
+    /// Returns the text of the words.
     #[tactic(auto, unfolding(crate::specs::Words::word))]
     pub(crate) fn as_str(self) -> &'static str
         ensures { result.now ≡ word self }

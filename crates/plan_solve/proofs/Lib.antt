@@ -1,4 +1,4 @@
--- The lemma files, for this crate alone.
+-- The lemma files, for this crate only
 mod AnnealLemmas
-mod AuditedLemmas
+mod AuditLemmas
 mod SearchLemmas

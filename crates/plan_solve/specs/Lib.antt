@@ -1,5 +1,5 @@
--- what public contracts reach
-pub mod Audited
+-- Definitions that public contracts use
+pub mod AuditLaw
 pub mod Solved
--- of private functions alone
-pub mod Telling
+-- Definitions that only private functions use
+pub mod ProgressState

@@ -1,31 +1,31 @@
-//! The commands of a store's line `anneal 0 STEPS`, with a line before the first and behind each that makes another twentieth
-//! of the steps.
+//! Annealing: the operations of the command `anneal 0 STEPS`, with a progress line before the first one and
+//! after each that reaches another twentieth of the steps.
 ghost use Rattle.std.specs.Prelude.{◌≡◌, true, max, IfOk};
 ghost use Rattle.std.specs.Io.KnownBytes.{Appends};
-ghost use Rattle.plan_solve.specs.Solved.{anneal_lines, annealed, line_behind, parts_made};
-ghost use Rattle.plan_solve.specs.Telling.{HasMade, HasEnded};
-ghost use Rattle.command_core.specs.Job.{JobValue};
-ghost use Rattle.command_core.specs.declared.states.State.TheVariants.{Loaded};
+ghost use Rattle.plan_solve.specs.Solved.{anneal_lines, annealed, line_after, twentieths_made};
+ghost use Rattle.plan_solve.specs.ProgressState.{HasMade, HasEnded};
+ghost use Rattle.command_types.specs.Job.{JobValue};
+ghost use Rattle.command_types.specs.declared.states.State.TheVariants.{Loaded};
 
-use crate::carrying::{carry_out, job_of};
-use crate::telling::{EndedJob, tell};
+use crate::execute::{execute, job_of};
+use crate::progress_lines::{EndedJob, write_progress};
 use command_core::{Job, Planner, State};
-use command_text::{Steps, next_command};
+use command_text::{StepCursor, next_command};
 use plan_types::OutOfMemory;
 use std::alloc::Global;
 use std::io::Write;
 
-/// How far a solving is told.
+/// The progress lines written so far.
 #[derive(Clone, Copy)]
-struct Telling {
-    /// Whether each line of progress was written.
-    is_told: bool,
-    /// How many twentieths of all steps were made at the last line.
+struct ProgressState {
+    /// Whether each progress line was written.
+    is_written: bool,
+    /// The number of twentieths of all steps that were made when the last line was written.
     parts: u128,
 }
 
-/// So many steps of annealing by stages; where vehicles count, with tries of fewer before them.
-pub(crate) fn anneal_telling<W: Write>(
+/// Anneals by stages for this many steps. If vehicles count, attempts to use fewer vehicles come first.
+pub(crate) fn anneal_with_progress<W: Write>(
     alloc: Global,
     begun: Job,
     steps: u32,
@@ -35,53 +35,61 @@ pub(crate) fn anneal_telling<W: Write>(
         (annealed begun steps) (anneal_lines begun steps)) }
 {
     let mut planner = Planner::new(State::Loaded(begun));
-    let told = anneal_stages(alloc, &mut planner, steps, progress);
-    EndedJob::of(planner, told)
+    let reported = anneal_by_stages(alloc, &mut planner, steps, progress);
+    EndedJob::of(planner, reported)
 }
 
-// The steps from the job that the planner has; whether each line was written.
-fn anneal_stages<W: Write>(
+// Makes the steps, starting from the planner's job. Returns whether each progress line was written.
+fn anneal_by_stages<W: Write>(
     alloc: Global,
     planner: &mut Planner,
     steps: u32,
     progress: &mut W,
 ) -> Result<bool, OutOfMemory>
-    ensures { IfOk result (λ is_told. (begun : JobValue) → planner.old ≡ Loaded begun
+    ensures { IfOk result (λ is_written. (begun : JobValue) → planner.old ≡ Loaded begun
         → HasMade (W.contents progress.old) (W.contents progress.new)
-        (annealed begun steps) (anneal_lines begun steps) planner.new is_told) }
+        (annealed begun steps) (anneal_lines begun steps) planner.new is_written) }
 {
-    let is_told = tell(true, job_of(planner)?, progress);
-    let mut told = Telling { is_told, parts: 0 };
-    let mut left = Steps::Stages {
+    let is_written = write_progress(true, job_of(planner)?, progress);
+    let mut reported = ProgressState {
+        is_written,
+        parts: 0,
+    };
+    let mut left = StepCursor::Stages {
         from: 0,
         to: u64::from(steps),
     };
-    while let Some((command, behind)) = next_command(left, planner.state()) {
-        carry_out(alloc, planner, command)?;
-        told = tell_more(told, job_of(planner)?, steps, progress);
-        left = behind;
+    while let Some((command, following)) = next_command(left, planner.state()) {
+        execute(alloc, planner, command)?;
+        reported = write_progress_if_due(reported, job_of(planner)?, steps, progress);
+        left = following;
     }
-    Ok(told.is_told)
+    Ok(reported.is_written)
 }
 
-// A line where the job has made more twentieths of all steps than at the last line.
-fn tell_more<W: Write>(told: Telling, job: &Job, steps: u32, progress: &mut W) -> Telling
-    ensures parts { result.parts ≡ max told.parts (parts_made steps job.now) }
-    ensures told { result.is_told ≡ true → (told.is_told ≡ true)
+// Writes a progress line if the job has made more twentieths of all steps than when the last line was written.
+fn write_progress_if_due<W: Write>(
+    reported: ProgressState,
+    job: &Job,
+    steps: u32,
+    progress: &mut W,
+) -> ProgressState
+    ensures parts { result.parts ≡ max reported.parts (twentieths_made steps job.now) }
+    ensures reported { result.is_written ≡ true → (reported.is_written ≡ true)
         × Appends (W.contents progress.old) (W.contents progress.new)
-        (line_behind steps told.parts job.now) }
+        (line_after steps reported.parts job.now) }
 {
-    let parts = parts_made(job, steps);
-    if parts <= told.parts {
-        return told;
+    let parts = twentieths_made(job, steps);
+    if parts <= reported.parts {
+        return reported;
     }
-    let is_told = tell(told.is_told, job, progress);
-    Telling { is_told, parts }
+    let is_written = write_progress(reported.is_written, job, progress);
+    ProgressState { is_written, parts }
 }
 
-// How many twentieths of so many steps the job has made.
-fn parts_made(job: &Job, steps: u32) -> u128
-    ensures { result ≡ parts_made steps job.now }
+// Returns how many twentieths of the steps the job has made.
+fn twentieths_made(job: &Job, steps: u32) -> u128
+    ensures { result ≡ twentieths_made steps job.now }
 {
     let made = 20 * u128::from(job.steps);
     made.checked_div(u128::from(steps)).unwrap_or(0)

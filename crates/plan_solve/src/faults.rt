@@ -1,8 +1,8 @@
-//! Why there is no plan.
+//! The reasons why there is no plan.
 use instance_read::ReadFault;
 use thiserror::Error;
 
-/// Why there is no plan.
+/// A reason why there is no plan.
 #[derive(Clone, Copy, Debug, PartialEq, Eq, Error)]
 pub enum SolveFault {
     #[error("the instance is refused: {0}")]

@@ -1,49 +1,43 @@
-//! An instance solved at once, without a store: the program's word `solve`.
+//! Solving an instance in one uninterrupted run, without a store: the `solve` subcommand.
 //!
-//! Entry function: `solve`, from an instance's text to a plan's; called by `planner_cli`.
+//! `solve` turns the text of an instance into the text of a plan, a `.sol` file of CVRPLIB. It loads the
+//! problem with the seed and inserts each unplanned request at its best place, like the `run` commands `load`
+//! and `build`. With a deviation it then makes the given number of steps by the search, like the command
+//! `search`. Without a deviation it executes the operations of the command `anneal 0 STEPS`, one by one
+//! (`command_text`). It prints progress lines. If one of them can't be written, the run continues, but prints
+//! no more.
 //!
-//! Source: this project's own; the text is a `.sol` file of CVRPLIB.
-//!
-//! How it works: the problem is loaded with the seed, and each unplanned request is put in where it is best, as the
-//! commands `load` and `build` of a store do. With a deviation the search makes the steps, as `search` does. Without one
-//! the commands of a store's line `anneal 0 STEPS` are carried out, one after another (`command_text`). Lines tell how
-//! far it is.
+//! Source: this project's own.
 //!
 //! Modules, in reading order:
-//! - `faults`: why there is no plan
-//! - `carrying`: commands that a planner carries out
-//! - `marks`: at which steps a search tells a line
-//! - `telling`: a line of progress
-//! - `searching`: the search, with its lines
-//! - `annealing`: annealing by stages, with its lines
-//! - `printing`: the text of a plan, and what it leaves out
-//! - `solving`: `solve`
-//! - `laws`: what is solved, for every instance
+//! - `faults`: the reasons why there is no plan
+//! - `execute`: executes operations with a planner
+//! - `marks`: the steps at which a search prints a progress line
+//! - `progress_lines`: a progress line, and the result of the steps
+//! - `search`: the search, with progress lines
+//! - `annealing`: annealing by stages, with progress lines
+//! - `printing`: the text of a plan, and the requests that it leaves out
+//! - `solver`: `solve`
+//! - `laws`: the properties of the result, for every instance
 //!
-//! Said by `specs/Solved.antt` and `Audited.antt`. Proved:
-//! - `solve`, where it answers (`IsSolved`): the text is that of the plan which loading, building and so many steps give,
-//!   the requests that it leaves out are named, and the lines were written unless it says that one could not be
-//! - `solve`, where it refuses (`Fails`): the text's first fault, with nothing written
-//! - `solving_is_commands`: with a deviation the plan is what the commands of a store make of the instance, however the
-//!   steps are cut
-//! - `annealing_is_commands`: without one it is what the commands of the line `anneal 0 STEPS` make behind `load` and
-//!   `build`, and what that line leaves
-//! - `what_is_solved_passes_the_audit`: where no request is left out, both texts spell values, the solution is sound,
-//!   serves each request, keeps the fleet and prints the distance that it drives
-//!
-//! `OutOfMemory` may come at any time. A line that can't be written ends no solving; behind it none is told.
+//! Proved: `solve` returns the plan that loading, building and the given number of steps make, or the first
+//! fault of the text, or `OutOfMemory`. The names of the unplanned requests are complete, and the progress
+//! lines were written unless it reports that one could not be. With a deviation the plan is the one that the
+//! operations of a store make, however the steps are split into searches. Without one it is the plan that the
+//! command `anneal 0 STEPS` leaves. If no request is left out, the solution passes the audit: it serves each
+//! request, uses no more vehicles than there are, and prints its distance.
 #![tactic(auto)]
 
 mod annealing;
-mod carrying;
+mod execute;
 mod faults;
 mod laws;
 mod marks;
 mod printing;
-mod searching;
-mod solving;
-mod telling;
+mod progress_lines;
+mod search;
+mod solver;
 
 pub use faults::SolveFault;
-pub use laws::{annealing_is_commands, solving_is_commands, what_is_solved_passes_the_audit};
-pub use solving::{Solved, solve};
+pub use laws::{annealing_equals_commands, solutions_pass_the_audit, solving_equals_commands};
+pub use solver::{SolvedPlan, solve};

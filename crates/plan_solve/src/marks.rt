@@ -1,14 +1,14 @@
-//! At which steps a line tells how far the search is.
+//! The numbers of steps after which a search prints a progress line.
 ghost use Rattle.std.specs.Prelude.{◌≡◌, ◌≤◌};
 ghost use Rattle.plan_solve.specs.Solved.{twentieths};
 
-/// How many parts the steps are told in.
-pub(crate) const PARTS: u32 = 20;
+/// The number of parts into which progress lines divide the steps.
+pub(crate) const TWENTIETHS: u32 = 20;
 
-/// So many twentieths of the steps, rounded down.
+/// Returns `parts` twentieths of the steps, rounded down.
 pub(crate) fn twentieths(steps: u32, parts: u32) -> u32
     requires { parts ≤ 20 }
     ensures { result ≡ twentieths steps parts }
 {
-    (u64::from(parts) * u64::from(steps) / u64::from(PARTS)) as u32
+    (u64::from(parts) * u64::from(steps) / u64::from(TWENTIETHS)) as u32
 }

@@ -3,50 +3,50 @@ ghost use Rattle.std.specs.Prelude.{◌≡◌, [], IfOk};
 ghost use Rattle.sol_text.specs.Faults.{Spells};
 ghost use Rattle.seeded_search.specs.Steps.{unplanned_names};
 ghost use Rattle.command_text.specs.Showing.{solution_of};
-ghost use Rattle.plan_solve.specs.Solved.{TellsPlan, plan_text};
+ghost use Rattle.plan_solve.specs.Solved.{PrintsPlan, plan_text};
 
-use crate::solving::Solved;
-use crate::telling::EndedJob;
+use crate::progress_lines::EndedJob;
+use crate::solver::SolvedPlan;
 use command_core::{Job, unplanned_names};
-use plan_audit::passes_are_local;
+use plan_audit::passing_is_local;
 use plan_types::OutOfMemory;
 use sol_text::{write_routes, write_sol};
 use std::alloc::{AllocError, Global};
 
-/// What is told of a job's plan.
-pub(crate) fn answer(alloc: Global, ended: EndedJob) -> Result<Solved, OutOfMemory>
-    ensures plan { IfOk result (TellsPlan ended.job) }
-    ensures told { IfOk result (λ solved. solved.is_told ≡ ended.is_told) }
+/// Returns the answer for a job's plan.
+pub(crate) fn answer(alloc: Global, ended: EndedJob) -> Result<SolvedPlan, OutOfMemory>
+    ensures plan { IfOk result (PrintsPlan ended.job) }
+    ensures reported { IfOk result (λ solved. solved.is_written ≡ ended.is_written) }
 {
-    let told = told_of(alloc, &ended.job)?;
-    Ok(Solved {
-        text: told.text,
-        unplanned: told.unplanned,
+    let reported = printed_plan(alloc, &ended.job)?;
+    Ok(SolvedPlan {
+        text: reported.text,
+        unplanned: reported.unplanned,
         job: ended.job,
-        is_told: ended.is_told,
+        is_written: ended.is_written,
     })
 }
 
-// What is told of a plan, made where no job lives that a way out would drop.
+// The text of a plan. A function of its own makes it, so that an early return there has no job to drop.
 #[derive(Drop)]
-struct Printed {
+struct PrintedPlan {
     text: Vec<u8>,
     unplanned: Vec<u32>,
 }
 
-fn told_of(alloc: Global, job: &Job) -> Result<Printed, OutOfMemory>
-    ensures text { IfOk result (λ told. told.text.items ≡ plan_text job.now) }
-    ensures unplanned { IfOk result (λ told. told.unplanned.items
+fn printed_plan(alloc: Global, job: &Job) -> Result<PrintedPlan, OutOfMemory>
+    ensures text { IfOk result (λ reported. reported.text.items ≡ plan_text job.now) }
+    ensures unplanned { IfOk result (λ reported. reported.unplanned.items
         ≡ unplanned_names job.now.problem job.now.plan) }
-    ensures spells { IfOk result (λ told. told.unplanned.items ≡ []
-        → Spells told.text.items (solution_of job.now)) }
+    ensures spells { IfOk result (λ reported. reported.unplanned.items ≡ []
+        → Spells reported.text.items (solution_of job.now)) }
 {
     let unplanned = unplanned_names(alloc, &job.problem, job.plan.routes.as_slice())?;
     let text = plan_text(alloc, job, &unplanned)?;
-    Ok(Printed { text, unplanned })
+    Ok(PrintedPlan { text, unplanned })
 }
 
-// The text of the plan, which leaves the requests of these names out.
+// Returns the text of the plan, which leaves out the requests with these names.
 fn plan_text(alloc: Global, job: &Job, unplanned: &[u32]) -> Result<Vec<u8>, OutOfMemory>
     requires { unplanned.now ≡ unplanned_names job.now.problem job.now.plan }
     ensures text { IfOk result (λ text. text.items ≡ plan_text job.now) }
@@ -56,7 +56,7 @@ fn plan_text(alloc: Global, job: &Job, unplanned: &[u32]) -> Result<Vec<u8>, Out
     if !unplanned.is_empty() {
         return write_routes(alloc, job.plan.routes.as_slice());
     }
-    passes_are_local();
+    passing_is_local();
     match write_sol(alloc, &job.problem, &job.plan) {
         Ok(text) => Ok(text),
         Err(_) => Err(AllocError),

@@ -1,3 +1,3 @@
--- The lemma files, which upper crates may cite.
+-- The lemma files, which crates that use this one may cite.
 pub mod RouteLemmas
 pub mod SlackLemmas

@@ -42,7 +42,7 @@ use Rattle.route_sched.specs.Route.{place}
 use Rattle.route_sched.specs.Schedule.{load, start}
 use Rattle.plan_audit.specs.Passes.{feasible_alone, has_whole_pairs, is_back_in_time, keeps_capacity, keeps_times, keeps_windows, picks_up_first}
 use Rattle.slack_tables.specs.Insertion.{KeepsLimits}
-use Rattle.plan_explain.specs.Tables.{stop_visit_behind, stop_visits_of}
+use Rattle.plan_explain.specs.Tables.{stop_visit_after, stop_visits_of}
 use Rattle.plan_explain.specs.declared.stop_visits.StopVisit.{StopVisit}
 use Rattle.plan_timetable.specs.Timed.{IsRowIn}
 
@@ -73,7 +73,7 @@ kept_alone p route feasible =
     let one = and_parts (has_whole_pairs p route) (picks_up_first p route && (keeps_capacity p route && keeps_times p.kind p route)) feasible in
     (and_parts (picks_up_first p route) (keeps_capacity p route && keeps_times p.kind p route) one.1).1
 
--- a route that is used and feasible alone keeps the capacity and the windows
+-- A used route that is feasible alone keeps the capacity and the windows.
 pub kept_limits : (p : Instance) (route : List ℕ) → 0 < length route → feasible_alone p route ≡ true → KeepsLimits p route
 kept_limits p route used feasible =
     let both = and_parts (keeps_capacity p route) (keeps_times p.kind p route) (kept_alone p route feasible) in
@@ -89,10 +89,10 @@ kept_limits p route used feasible =
       ];
     }
 
--- the row of each visit of a route is that of a stop or of the return
+-- The row of each visit of a route is that of a stop or of the return.
 pub row_in : (p : Instance) (route : List ℕ) (visits : List StopVisit) (k : ℕ) (d : StopVisit) → visits ≡ stop_visits_of p route → k < length visits → IsRowIn p route (slice_index_or visits k d).row
 row_in p route visits k d are lt =
-    let few : length visits ≡ length route + 1 = ap length are ∙ length-map-range_with_len (stop_visit_behind p route) 0 (length route + 1) in
-    let visit : slice_index_or visits k d ≡ stop_visit_behind p route k = ap (λ hs. slice_index_or hs k d) are
-    ∙ get_or-map-range_with_len (stop_visit_behind p route) 0 (length route + 1) k k d (omega (arith, few)) (omega arith) in
+    let few : length visits ≡ length route + 1 = ap length are ∙ length-map-range_with_len (stop_visit_after p route) 0 (length route + 1) in
+    let visit : slice_index_or visits k d ≡ stop_visit_after p route k = ap (λ hs. slice_index_or hs k d) are
+    ∙ get_or-map-range_with_len (stop_visit_after p route) 0 (length route + 1) k k d (omega (arith, few)) (omega arith) in
     subst (λ h. IsRowIn p route h.row) (sym visit) (record { within = omega (arith, few); latest = refl })

@@ -1,4 +1,5 @@
--- Latest starts: by the sum of the way, and by the greatest start from which a vehicle goes on in time.
+-- Two forms of a latest start agree: the one by the sum of legs and services, and the greatest start from which
+-- a vehicle continues in time.
 use Rattle.std.proofs.Common.{◌≡◌, ℕ, zero, suc, ◌+◌, ◌-◌, ◌<◌, ◌≤◌, max, min, List, length, map, fold, refl, ap, subst, arith, inl, inr}
 use Rattle.std.specs.List.{range_with_len}
 use Rattle.std.proofs.lemmas.Bool.{cases_lt}
@@ -7,17 +8,17 @@ use Rattle.plan_types.specs.Instance.{Instance}
 use Rattle.plan_types.specs.declared.requests.Kind.TheVariants.{LiLim}
 use Rattle.route_sched.specs.Route.{place}
 use Rattle.route_sched.specs.Schedule.{leg, start, time_between}
-use Rattle.route_sched.proofs.LiveStops.{place-return}
+use Rattle.route_sched.proofs.KnownStops.{place-return}
 use Rattle.route_sched.proofs.Steps.{start-next}
 use Rattle.slack_tables.specs.Along.{moved_along}
 use Rattle.slack_tables.specs.Insertion.{KeepsLimits}
-use Rattle.slack_tables.specs.Latest.{GoesOn, IsLatestStart}
+use Rattle.slack_tables.specs.Latest.{MeetsLaterWindows, IsLatestStart}
 use Rattle.slack_tables.proofs.AlongLemmas.{moved-first, moved-next}
 use Rattle.slack_tables.proofs.CourseLemmas.{moved-is}
 use Rattle.plan_timetable.specs.Entries.{latest_for, latest_allowed}
 use Rattle.plan_timetable.specs.Laws.{IsLatestInTime, LatestStartsAreGreatest}
 
--- ---- the least of some numbers
+-- ---- the minimum of some numbers
 module _ (f : ℕ → ℕ) where
   least_from : ℕ → ℕ → ℕ → ℕ
   least_from b i n = fold min b (map f (range_with_len i n))
@@ -42,7 +43,7 @@ module _ (f : ℕ → ℕ) where
   ]
 
 module _ (p : Instance) (route : List ℕ) where
-  -- ---- on the way from place i
+  -- ---- from place i on
   between-none : (i : ℕ) → time_between p route i i ≡ 0
   between-none i = let none : i - i ≡ 0 = omega arith in rw none refl
 
@@ -51,7 +52,7 @@ module _ (p : Instance) (route : List ℕ) where
       let one_more : k + 1 - i ≡ (k - i) + 1 = omega arith in
       rw one_more (sum_by-map-range_with_len_more (λ x. x) (λ j. (place p route j).service + leg p route j) i (k - i) k (omega arith))
 
-  -- nobody is anywhere before the time of the way
+  -- No vehicle is at a later place before the time that legs and services take.
   not_before : (i t n : ℕ) → t + time_between p route i (i + n) ≤ moved_along (place p route) i t (i + n)
   not_before i t zero =
       let none : i + 0 ≡ i = omega arith in
@@ -60,7 +61,8 @@ module _ (p : Instance) (route : List ℕ) where
       let more : i + suc n ≡ i + n + 1 = omega arith in
       rw more (omega (arith, not_before i t n, moved-next (place p route) i t (i + n) (omega arith), between-more i (i + n) (omega arith)))
 
-  -- nor later than that and the time at which the vehicle is there
+  -- At a later place, service starts by the time that legs and services take, or by the scheduled start,
+  -- whichever is later.
   not_after : (i t n : ℕ) → moved_along (place p route) i t (i + n) ≤ max (t + time_between p route i (i + n)) (start p route (i + n))
   not_after i t zero =
       let none : i + 0 ≡ i = omega arith in
@@ -69,7 +71,7 @@ module _ (p : Instance) (route : List ℕ) where
       let more : i + suc n ≡ i + n + 1 = omega arith in
       rw more (omega (arith, not_after i t n, moved-next (place p route) i t (i + n) (omega arith), between-more i (i + n) (omega arith), start-next p route (i + n)))
 
-  -- the vehicle needs the time of the way itself
+  -- The schedule itself takes at least the time of legs and services.
   takes : (i n : ℕ) → start p route i + time_between p route i (i + n) ≤ start p route (i + n)
   takes i zero =
       let none : i + 0 ≡ i = omega arith in
@@ -81,35 +83,36 @@ module _ (p : Instance) (route : List ℕ) where
   module _ (lilim : p.kind ≡ LiLim) (limits : KeepsLimits p route) where
     in_time : (k : ℕ) → 1 ≤ k → k ≤ length route + 1 → start p route k ≤ (place p route k).latest
     in_time k from to = elim (cases_lt (length route) k) [
-      | inl behind ↦ (let end : length route + 1 ≡ k = omega arith in
+      | inl following ↦ (let end : length route + 1 ≡ k = omega arith in
           let depot : (place p route (length route + 1)).latest ≡ p.depot.latest = ap (λ s. s.latest) (place-return p route (length route) (omega arith)) in
           subst (λ j. start p route j ≤ (place p route j).latest) end (omega (arith, limits.return lilim, depot)))
       | inr within ↦ limits.window lilim k from within
     ]
 
-    -- from place i on the way to place k is no longer than its latest time
+    -- From place i, the time to place k is at most the latest time of place k.
     fits : (i k : ℕ) → i < k → k ≤ length route + 1 → time_between p route i k ≤ (place p route k).latest
     fits i k h to =
         let way : i + (k - i) ≡ k = omega arith in
         let long : start p route i + time_between p route i k ≤ start p route k = subst (λ j. start p route i + time_between p route i j ≤ start p route j) way (takes i (k - i)) in
         omega (arith, long, in_time k (omega arith) to)
 
-    -- whoever is in time at place k by the sum of the way is in time there
-    goes_on : (i t : ℕ) → ((k : ℕ) → i < k → k ≤ length route + 1 → t ≤ latest_for p route i k) → GoesOn p route i t
+    -- A start that is at most the latest start for each later place misses no later window.
+    goes_on : (i t : ℕ) → ((k : ℕ) → i < k → k ≤ length route + 1 → t ≤ latest_for p route i k) → MeetsLaterWindows p route i t
     goes_on i t each = λ _ k h to.
         let way : i + (k - i) ≡ k = omega arith in
         let late : moved_along (place p route) i t k ≤ max (t + time_between p route i k) (start p route k) = subst
         (λ j. moved_along (place p route) i t j ≤ max (t + time_between p route i j) (start p route j)) way (not_after i t (k - i)) in
         omega (arith, moved-is p route i t k, late, each k h to, fits i k h to, in_time k (omega arith) to)
 
-    -- and the other way round
-    each_on : (i t : ℕ) → GoesOn p route i t → (k : ℕ) → i < k → k ≤ length route + 1 → t ≤ latest_for p route i k
+    -- A start that misses no later window is at most the latest start for each later place.
+    each_on : (i t : ℕ) → MeetsLaterWindows p route i t → (k : ℕ) → i < k → k ≤ length route + 1 → t ≤ latest_for p route i k
     each_on i t goes k h to =
         let way : i + (k - i) ≡ k = omega arith in
         let early : t + time_between p route i k ≤ moved_along (place p route) i t k = subst (λ j. t + time_between p route i j ≤ moved_along (place p route) i t j) way (not_before i t (k - i)) in
         omega (arith, moved-is p route i t k, early, goes lilim k h to)
 
-    -- the latest start, by the numbers of which it is the least
+    -- A start is at most the latest start at a place if it is at most the latest start for this place and for
+    -- each later one.
     at_most : (i t : ℕ) → t ≤ (place p route i).latest → ((k : ℕ) → i < k → k ≤ length route + 1 → t ≤ latest_for p route i k) → t ≤ latest_allowed p route i
     unfolding latest_allowed least_from
     at_most i t here each = least_below (latest_for p route i) (place p route i).latest (i + 1) (length route + 1 - i) t here (λ k from to. each k (omega arith) (omega arith))
@@ -122,22 +125,22 @@ module _ (p : Instance) (route : List ℕ) where
     unfolding latest_allowed least_from
     each_too i k h to = least_each (latest_for p route i) (place p route i).latest (i + 1) (length route + 1 - i) k (omega arith) (omega arith)
 
-    latest_goes_on : (i : ℕ) → GoesOn p route i (latest_allowed p route i)
+    latest_goes_on : (i : ℕ) → MeetsLaterWindows p route i (latest_allowed p route i)
     latest_goes_on i = goes_on i (latest_allowed p route i) (each_too i)
 
     is_latest : (i : ℕ) → IsLatestInTime p route i (latest_allowed p route i)
     is_latest i = record {
-      in_time = record { here = here_too i; behind = latest_goes_on i };
-      greatest = λ u timely. at_most i u timely.here (each_on i u timely.behind);
+      in_time = record { here = here_too i; following = latest_goes_on i };
+      greatest = λ u timely. at_most i u timely.here (each_on i u timely.following);
     }
 
-    -- what a table answers, and the window of the place itself
+    -- the answer of a table, with the window of the place itself
     pub limited : (i : ℕ) (t : ℕ) → IsLatestStart p route i t → min (place p route i).latest t ≡ latest_allowed p route i
     limited i t is =
-        let less = at_most i (min (place p route i).latest t) (omega arith) (λ k h to. omega (arith, each_on i t is.goes_on k h to)) in
+        let less = at_most i (min (place p route i).latest t) (omega arith) (λ k h to. omega (arith, each_on i t is.continues_within_limits k h to)) in
         omega (arith, less, here_too i, is.greatest (latest_allowed p route i) (latest_goes_on i))
 
-    pub unlimited : (i : ℕ) → ((t : ℕ) → GoesOn p route i t) → (place p route i).latest ≡ latest_allowed p route i
+    pub unlimited : (i : ℕ) → ((t : ℕ) → MeetsLaterWindows p route i t) → (place p route i).latest ≡ latest_allowed p route i
     unlimited i goes =
         let less = at_most i (place p route i).latest (omega arith) (each_on i (place p route i).latest (goes (place p route i).latest)) in
         omega (arith, less, here_too i)

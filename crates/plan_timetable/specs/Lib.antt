@@ -1,8 +1,8 @@
--- what public contracts say
+-- the definitions that public contracts use
 pub mod Cells
 pub mod Entries
 pub mod Laws
 pub mod Timetable
 pub mod Words
--- what those of private functions say
+-- the definitions that only contracts of private functions use
 pub mod Timed

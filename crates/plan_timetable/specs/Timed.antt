@@ -1,4 +1,4 @@
--- What private functions know of a route's table and of its rows.
+-- Properties of a route's table and of its rows that private functions use.
 use Rattle.std.specs.Prelude.{◌≡◌, ℕ, ◌+◌, ◌≤◌, ◌&&◌, true, false, List, length, Option, MatchOption}
 use Rattle.plan_types.specs.Instance.{Instance}
 use Rattle.plan_types.specs.declared.requests.Kind.TheVariants.{LiLim}
@@ -16,11 +16,11 @@ pub record IsTimed (p : Instance) (route : List ℕ) (c : Course) : Type 0 where
   pub limits : KeepsLimits p route
   pub course : c ≡ course_of p route
 
--- there is a table exactly where latest starts are told
+-- there is a table exactly if latest starts are printed
 abbrev pub IsTableOf : Instance → List ℕ → Option Course → Type 0
 IsTableOf p route table = MatchOption table ((has_times p.kind && feasible_alone p route) ≡ false) (IsTimed p route)
 
--- a row of a stop or of the return
+-- the row of a stop or of the return
 pub record IsRowIn (p : Instance) (route : List ℕ) (row : Row) : Type 0 where
   pub within : row.place ≤ length route + 1
   pub latest : row.latest ≡ (place p route row.place).latest

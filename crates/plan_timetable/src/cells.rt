@@ -1,27 +1,27 @@
-//! Numbers in their columns, or behind tabs.
+//! Numbers in their columns, or after tabs.
 ghost use Rattle.std.specs.Prelude.{◌≡◌, ◌++◌};
-ghost use Rattle.plan_timetable.specs.Cells.{field, load_cell, number, number_or_nothing};
+ghost use Rattle.plan_timetable.specs.Cells.{field, load_cell, number, optional_number};
 ghost use Rattle.plan_timetable.specs.Words.{word};
 
 use crate::forms::Form;
 use crate::words::Word;
-use told_text::Told;
+use text_buffer::TextBuffer;
 
 /// Appends a word.
-pub(crate) fn put_word(text: &mut Told, form: Form, what: Word)
+pub(crate) fn put_word(text: &mut TextBuffer, form: Form, what: Word)
     ensures { text.new ≡ text.old ++ word form what }
 {
     text.push_str(what.text(form));
 }
 
 /// Appends a number to a line, in a column of this width.
-pub(crate) fn put_number(text: &mut Told, form: Form, width: usize, n: u64)
+pub(crate) fn put_number(text: &mut TextBuffer, form: Form, width: usize, n: u64)
     ensures { text.new ≡ text.old ++ number form width n }
 {
     match form {
         Form::Columns => {
             text.push_str(" ");
-            text.push_right(width, u128::from(n))
+            text.push_right_aligned(width, u128::from(n))
         }
         Form::Tabs => {
             text.push_str("\t");
@@ -31,13 +31,13 @@ pub(crate) fn put_number(text: &mut Told, form: Form, width: usize, n: u64)
 }
 
 /// Appends a load to a line, in a column of 8.
-pub(crate) fn put_load(text: &mut Told, form: Form, load: i64)
+pub(crate) fn put_load(text: &mut TextBuffer, form: Form, load: i64)
     ensures { text.new ≡ text.old ++ load_cell form load }
 {
     match form {
         Form::Columns => {
             text.push_str(" ");
-            text.push_right_signed(8, load)
+            text.push_right_aligned_signed(8, load)
         }
         Form::Tabs => {
             text.push_str("\t");
@@ -46,9 +46,9 @@ pub(crate) fn put_load(text: &mut Told, form: Form, load: i64)
     }
 }
 
-/// Appends a number, or that there is none, to a line, in a column of 8.
-pub(crate) fn put_number_or_nothing(text: &mut Told, form: Form, n: Option<u64>)
-    ensures { text.new ≡ text.old ++ number_or_nothing form n }
+/// Appends a number, or the sign for none, to a line, in a column of 8.
+pub(crate) fn put_optional_number(text: &mut TextBuffer, form: Form, n: Option<u64>)
+    ensures { text.new ≡ text.old ++ optional_number form n }
 {
     match n {
         None => put_word(text, form, Word::Nothing),
@@ -56,8 +56,8 @@ pub(crate) fn put_number_or_nothing(text: &mut Told, form: Form, n: Option<u64>)
     }
 }
 
-/// Appends a word and the number behind it.
-pub(crate) fn put_field(text: &mut Told, form: Form, what: Word, n: u64)
+/// Appends a word and the number after it.
+pub(crate) fn put_field(text: &mut TextBuffer, form: Form, what: Word, n: u64)
     ensures { text.new ≡ text.old ++ field form what n }
 {
     put_word(text, form, what);

@@ -1,9 +1,9 @@
-//! How late service may start.
+//! The latest start of service.
 ghost use Rattle.std.specs.Prelude.{◌≡◌, ◌<◌, true, IfOk, length};
 ghost use Rattle.plan_types.specs.declared.requests.Kind.TheVariants.{LiLim};
 ghost use Rattle.plan_audit.specs.Passes.{feasible_alone};
-ghost use Rattle.route_sched.specs.Route.{AreLiveOnce};
-ghost use Rattle.plan_timetable.specs.Entries.{latest_allowed, latest_told};
+ghost use Rattle.route_sched.specs.Route.{AreDistinctStops};
+ghost use Rattle.plan_timetable.specs.Entries.{latest_allowed, latest_start_shown};
 ghost use Rattle.plan_timetable.specs.Timed.{IsRowIn, IsTableOf, IsTimed};
 
 use plan_audit::is_feasible;
@@ -12,13 +12,13 @@ use plan_types::{Kind, OutOfMemory, Problem};
 use slack_tables::RouteTable;
 use std::alloc::Global;
 
-/// The table of a route, where times are asked and it is feasible alone.
+/// Returns the table of a route, if the problem has times and the route is feasible alone.
 pub(crate) fn table_of(
     alloc: Global,
     problem: &Problem,
     route: &[u32],
 ) -> Result<Option<RouteTable>, OutOfMemory>
-    requires route { AreLiveOnce problem.now route.now }
+    requires route { AreDistinctStops problem.now route.now }
     requires used { 0 < length route.now }
     ensures { IfOk result (IsTableOf problem.now route.now) }
 {
@@ -32,9 +32,9 @@ pub(crate) fn table_of(
     Ok(Some(timed_table(alloc, problem, route)?))
 }
 
-// The table of a route with times that is feasible alone.
+// Returns the table of a route with times that is feasible alone.
 fn timed_table(alloc: Global, problem: &Problem, route: &[u32]) -> Result<RouteTable, OutOfMemory>
-    requires route { AreLiveOnce problem.now route.now }
+    requires route { AreDistinctStops problem.now route.now }
     requires used { 0 < length route.now }
     requires kind { problem.now.kind ≡ LiLim }
     requires feasible { feasible_alone problem.now route.now ≡ true }
@@ -43,8 +43,8 @@ fn timed_table(alloc: Global, problem: &Problem, route: &[u32]) -> Result<RouteT
     RouteTable::build(alloc, problem, route)
 }
 
-/// The latest start at the place of a row, where there is a table.
-pub(crate) fn latest_told(
+/// Returns the latest start at the place of a row, if there is a table.
+pub(crate) fn latest_start_shown(
     problem: &Problem,
     route: &[u32],
     table: &Option<RouteTable>,
@@ -52,7 +52,7 @@ pub(crate) fn latest_told(
 ) -> Option<u64>
     requires table { IsTableOf problem.now route.now table.now }
     requires row { IsRowIn problem.now route.now row.now }
-    ensures { result ≡ latest_told problem.now route.now row.now.place }
+    ensures { result ≡ latest_start_shown problem.now route.now row.now.place }
 {
     match table {
         Some(table) => Some(latest_allowed(problem, route, table, row)),
@@ -60,7 +60,7 @@ pub(crate) fn latest_told(
     }
 }
 
-// The latest start from which neither this service nor one behind it nor the return is late.
+// Returns the latest start from which neither this service nor a later one nor the return is late.
 fn latest_allowed(problem: &Problem, route: &[u32], table: &RouteTable, row: &Row) -> u64
     requires table { IsTimed problem.now route.now table.now }
     requires row { IsRowIn problem.now route.now row.now }
@@ -68,7 +68,7 @@ fn latest_allowed(problem: &Problem, route: &[u32], table: &RouteTable, row: &Ro
 {
     let here = u64::from(row.latest);
     match table.latest_start(row.place as usize) {
-        Some(behind) => here.min(behind),
+        Some(following) => here.min(following),
         None => here,
     }
 }

@@ -1,17 +1,17 @@
-//! The words of a timetable, in columns and by tabs.
+//! The words of a timetable, in columns and with tabs.
 ghost use Rattle.std.specs.Prelude.{◌≡◌};
 ghost use Rattle.plan_timetable.specs.Words.{in_form, word};
 
 use crate::forms::Form;
 
-/// What stands before a number, in place of one, or in a line of its own.
+/// A word before a number, instead of one, or on a line of its own.
 #[derive(Clone, Copy)]
 pub(crate) enum Word {
     Vehicle,
     Stops,
     Distance,
     Load,
-    SetOff,
+    Departure,
     Return,
     Waiting,
     TimesHeading,
@@ -20,7 +20,7 @@ pub(crate) enum Word {
     Pickup,
     Delivery,
     Single,
-    Back,
+    ReturnStop,
     Nothing,
     PinMayEnd,
     PinMayNotEnd,
@@ -29,7 +29,7 @@ pub(crate) enum Word {
 }
 
 impl Word {
-    /// The word in this form, in ASCII.
+    /// Returns the word in this form, in ASCII.
     #[tactic(auto, unfolding(crate::specs::Words::word))]
     pub(crate) fn text(self, form: Form) -> &'static str
         ensures { result.now ≡ word form self }
@@ -39,7 +39,7 @@ impl Word {
             Word::Stops => in_form(form, ": stops ", "\t"),
             Word::Distance => in_form(form, ", distance ", "\t"),
             Word::Load => in_form(form, ", load ", "\t"),
-            Word::SetOff => in_form(form, ", set off ", "\t"),
+            Word::Departure => in_form(form, ", set off ", "\t"),
             Word::Return => in_form(form, ", return ", "\t"),
             Word::Waiting => in_form(form, ", waiting ", "\t"),
             Word::TimesHeading => in_form(
@@ -56,7 +56,7 @@ impl Word {
             Word::Pickup => in_form(form, "  pickup  ", "\tpickup"),
             Word::Delivery => in_form(form, "  delivery", "\tdelivery"),
             Word::Single => in_form(form, "  single  ", "\tsingle"),
-            Word::Back => in_form(form, "  return  ", "\treturn"),
+            Word::ReturnStop => in_form(form, "  return  ", "\treturn"),
             Word::Nothing => in_form(form, "        -", "\t-"),
             Word::PinMayEnd => in_form(form, " pin", "\tpin"),
             Word::PinMayNotEnd => in_form(form, "", "\t-"),
@@ -66,7 +66,7 @@ impl Word {
     }
 }
 
-// What stands in columns, or what stands there by tabs.
+// Returns the words of this form.
 fn in_form(form: Form, columns: &'static str, tabs: &'static str) -> &'static str
     ensures { result.now ≡ in_form form columns.now tabs.now }
 {

@@ -1,4 +1,4 @@
--- One more request among those that stand by name.
+-- Adding a request to a list that is in ascending order of name.
 use Rattle.std.proofs.Common.{
   ◌≡◌,
   ◌≢◌,
@@ -69,7 +69,7 @@ use Rattle.plan_types.specs.Instance.{Instance, IsInstance, IsTaken, lesser_name
 use Rattle.plan_types.specs.Request.{request_name}
 use Rattle.plan_types.specs.declared.requests.Request.{Request}
 
--- the first i names are lesser and the others greater
+-- if the first i names are smaller and the others greater, the names split at place i
 pub names_split : (name : ℕ) (es : List (ℕ × Request)) (i : ℕ) → i ≤ length es
     → ((k : ℕ) → k < i → get_or (keys_of es) k 0 < name)
     → ((k : ℕ) → i ≤ k → k < length es → name < get_or (keys_of es) k 0)
@@ -85,7 +85,7 @@ names_split name (e ∷ es) (suc i) le low high =
     let rest = names_split name es i (omega arith) (λ k b. low (suc k) (omega arith)) (λ k a b. high (suc k) (omega arith) (omega arith)) in
     (rw (lt-ltb e.0 name below) (ap (λ l. e ∷ l) rest.0), rw (le-ltb name e.0 (omega arith)) (rest.1))
 
--- a name that is found nowhere stands at no place
+-- a name that a lookup does not find is at no place
 lookup-none_at : (name : ℕ) (es : List (ℕ × Request)) (i : ℕ) → lookup (nat_eq name) es ≡ None → i < length es → get_or (keys_of es) i 0 ≡ name → ⊥
 lookup-none_at name [] i none within at = omega arith
 lookup-none_at name (e ∷ es) i none within at = elim (eqb_tells name e.0) [
@@ -98,15 +98,15 @@ lookup-none_at name (e ∷ es) i none within at = elim (eqb_tells name e.0) [
     further zero b at apart rest = apart (sym at)
     further (suc j) b at apart rest = rest j (omega arith) at
 
--- what a binary search of the names says of a name that is not there
-module _ (name : ℕ) (es : List (ℕ × Request)) (rising : IsStrictlySortedBy nat_cmp (keys_of es)) (none : lookup (nat_eq name) es ≡ None) where
+-- the result of a binary search for a name that is not in the list
+module _ (name : ℕ) (es : List (ℕ × Request)) (ascending : IsStrictlySortedBy nat_cmp (keys_of es)) (none : lookup (nat_eq name) es ≡ None) where
   pub search_split : (r : Result ℕ ℕ) → IsBinarySearchResult (λ y. nat_cmp y name) (keys_of es) r
       → MatchResult r (λ i. ⊥) (λ i. (lesser_names es name ≡ take i es) × (greater_names es name ≡ drop i es))
   search_split (Ok i) h =
-      let s = searched (keys_of es) name (Ok i) h (λ i j a b. non_decreasing_from_sorted _ rising i j 0 a b) in
+      let s = searched (keys_of es) name (Ok i) h (λ i j a b. non_decreasing_from_sorted _ ascending i j 0 a b) in
       lookup-none_at name es i none (let b : i < length (keys_of es) = s.0 in rw length-map at b) s.1
   search_split (Err i) h =
-      let s = searched (keys_of es) name (Err i) h (λ i j a b. non_decreasing_from_sorted _ rising i j 0 a b) in
+      let s = searched (keys_of es) name (Err i) h (λ i j a b. non_decreasing_from_sorted _ ascending i j 0 a b) in
       names_split name es i (let b : i ≤ length (keys_of es) = s.0 in rw length-map at b) s.1 (λ k a b. s.2 k a (rw length-map b))
 
 -- moving the last element to place i
@@ -118,7 +118,7 @@ move_index-last es e i =
     let front : remove (es ++ e ∷ []) (length es) ≡ es = remove-append_right es (e ∷ []) (length es) (length es) refl (omega arith) ∙ rw one (append-nil es) in
     ap (λ (o : Option (ℕ × Request)). option_map_or (λ x. insert (remove (es ++ e ∷ []) (length es)) i x) o (es ++ e ∷ [])) there ∙ ap (λ l. insert l i e) front
 
--- a new name that goes before place i
+-- inserting a new name before place i
 pub inserted_before : (name : ℕ) (r : Request) (es : List (ℕ × Request)) (i j : ℕ) → i ≤ length es → lookup (nat_eq name) es ≡ None
     → j ≡ index_before (position_or_len (nat_eq name) (keys_of es)) i
     → move_index (insert_entry nat_eq es name r) (position_or_len (nat_eq name) (keys_of es)) j ≡ take i es ++ (name, r) ∷ drop i es
@@ -130,27 +130,27 @@ inserted_before name r es i j le none is =
     ∙ ap (λ n. move_index (es ++ (name, r) ∷ []) n j) last ∙ ap (λ n. move_index (es ++ (name, r) ∷ []) (length es) n) place
     ∙ move_index-last es (name, r) i
 
--- where the names split at place i, that is the list with the request among them
+-- if the names split at place i, the result is the list with the request inserted there
 pub with_entry-at : (es : List (ℕ × Request)) (name : ℕ) (r : Request) (i : ℕ) → name ≡ request_name r → lesser_names es name ≡ take i es
     → greater_names es name ≡ drop i es → take i es ++ (name, r) ∷ drop i es ≡ with_entry es r
 with_entry-at es name r i is lesser greater = rw (← lesser, ← greater) (ap (λ n. lesser_names es n ++ (n, r) ∷ greater_names es n) is)
 
--- the last of rising names is the greatest
+-- the last of ascending names is the greatest
 pub last_is_greatest : (name : ℕ) (es : List (ℕ × Request)) (e : ℕ × Request) → IsStrictlySortedBy nat_cmp (keys_of es) → slice_get es (length es - 1) ≡ Some e
     → IsTrue (nat_lt e.0 name) ↔ All (λ n. n < name) (keys_of es)
-last_is_greatest name es e rising at =
+last_is_greatest name es e ascending at =
     let last = length es - 1 in
     let within = slice_get_within es last e at in
     let key : (d : ℕ) → get_or (keys_of es) last d ≡ e.0 =
     λ d. get_or_from_slice_get (keys_of es) last e.0 d (slice_get-map (λ e. e.0) es last ∙ ap (option_map (λ e. e.0)) at) in (
       λ less k d b.
           let greatest =
-          non_decreasing_from_sorted _ rising k last d (let short : k < length es = rw length-map at b in omega arith) (rw length-map (omega arith)) in
+          non_decreasing_from_sorted _ ascending k last d (let short : k < length es = rw length-map at b in omega arith) (rw length-map (omega arith)) in
           omega (arith, key d, ltb-true e.0 name less),
       λ below. lt-ltb e.0 name (let least : get_or (keys_of es) last 0 < name = below last 0 (rw length-map (omega arith)) in rw (key 0) at least),
     )
 
--- where each name is lesser, the request goes last
+-- if all names are smaller, the request goes last
 module _ (name : ℕ) (es : List (ℕ × Request)) (below : All (λ n. n < name) (keys_of es)) where
   all_lesser : (lesser_names es name ≡ es) × (greater_names es name ≡ [])
   all_lesser =
@@ -171,11 +171,11 @@ less_is a b h = elim (cases_lt a b) [
   ]
 ]
 
--- a name that is not there splits rising names
+-- a name that is not in the list splits ascending names
 splits_absent : (es : List (ℕ × Request)) (name : ℕ) → IsStrictlySortedBy nat_cmp (keys_of es) → lookup (nat_eq name) es ≡ None → Splits es name
 unfolding IsStrictlySortedBy
-splits_absent [] name rising none = refl
-splits_absent (e ∷ es) name rising none = by (cases_order e.0 name) (λ h. splits_absent es name rising.1 h)
+splits_absent [] name ascending none = refl
+splits_absent (e ∷ es) name ascending none = by (cases_order e.0 name) (λ h. splits_absent es name ascending.1 h)
   where
     others : (name ≡ e.0 → ⊥) → lookup (nat_eq name) es ≡ None
     others differ = let g : cond (eqb name e.0) (Some e.1) (lookup (nat_eq name) es) ≡ None = none in rw (ne_eqb name e.0 differ) at g
@@ -194,13 +194,13 @@ splits_absent (e ∷ es) name rising none = by (cases_order e.0 name) (λ h. spl
         absurd (none_some e.1 (sym (let g : cond (eqb name e.0) (Some e.1) (lookup (nat_eq name) es) ≡ None = none in rw (eq-eqb name e.0 (sym same)) at g)))
     by (inr (inl below)) rest = rw (lt-ltb e.0 name below, le-ltb name e.0 (omega arith)) (ap (λ l. e ∷ l) (rest (others (λ h. omega arith))))
     by (inr (inr above)) rest =
-        let more = all_greater e.0 above es rising.0 in
+        let more = all_greater e.0 above es ascending.0 in
         rw (le-ltb e.0 name (omega arith), lt-ltb name e.0 above, more.0, more.1) refl
 
 pub splits_free : (p : Instance) (r : Request) → IsInstance p → (IsTaken p r → ⊥) → Splits p.requests (request_name r)
-splits_free p r valid free = splits_absent p.requests (request_name r) valid.rising (lookup-name-free p r valid free)
+splits_free p r valid free = splits_absent p.requests (request_name r) valid.ascending (lookup-name-free p r valid free)
 
--- a look-up by name among requests and one more
+-- a lookup by name after an insertion
 lookup-among : (xs ys : List (ℕ × Request)) (e : ℕ × Request) (m : ℕ) → (m ≡ e.0 → lookup (nat_eq m) xs ≡ None)
     → lookup (nat_eq m) (xs ++ e ∷ ys) ≡ cond (eqb m e.0) (Some e.1) (lookup (nat_eq m) (xs ++ ys))
 lookup-among [] ys e m none = refl

@@ -1,4 +1,4 @@
--- What makes a problem valid.
+-- A valid problem stays valid with one more request.
 use Rattle.std.proofs.Common.{◌≡◌, ℕ, ◌≤◌, List, [], ◌∷◌, refl, sym, ap, ◌∙◌, ◌++◌, map, filter, cond, Bool, true, false, nat_lt, max, ◌<◌, arith}
 use Rattle.std.proofs.lemmas.List.{map-append}
 use Rattle.std.proofs.lemmas.List.Concat.{flat_map-append}
@@ -30,11 +30,11 @@ IsInstance-new kind depot capacity fleet d q k = record {
   fleet = k;
   named = tt;
   valid = tt;
-  rising = tt;
+  ascending = tt;
   distinct = tt;
   above = tt;
-  next_from_one = omega arith;
-  next_to_most = omega arith;
+  next_number_min = omega arith;
+  next_number_max = omega arith;
 }
 
 all-insert : {X : Type 0} (P : X → Type 0) (xs ys : List X) (y : X) → AllByRecursion P (xs ++ ys) → P y → AllByRecursion P (xs ++ y ∷ ys)
@@ -48,16 +48,16 @@ all-weaker P Q f (x ∷ xs) all = (f x all.0, all-weaker P Q f xs all.1)
 numbers-append : (xs ys : List (ℕ × Request)) → numbers_among (xs ++ ys) ≡ numbers_among xs ++ numbers_among ys
 numbers-append xs ys = ap (map (λ s. s.number)) (flat_map-append (λ e. stops_of e.1) xs ys) ∙ map-append (λ s. s.number) (stops_among xs) (stops_among ys)
 
--- a name between lesser and greater ones
-rising-insert : (xs ys : List (ℕ × Request)) (e : ℕ × Request) → IsStrictlySortedBy nat_cmp (keys_of (xs ++ ys))
+-- inserting a name between smaller and greater ones keeps the order
+ascending-insert : (xs ys : List (ℕ × Request)) (e : ℕ × Request) → IsStrictlySortedBy nat_cmp (keys_of (xs ++ ys))
     → AllByRecursion (λ x. nat_lt x.0 e.0 ≡ true) xs → AllByRecursion (λ y. nat_lt e.0 y.0 ≡ true) ys → IsStrictlySortedBy nat_cmp (keys_of (xs ++ e ∷ ys))
 unfolding IsStrictlySortedBy
-rising-insert [] ys e up lo hi = (above ys hi, up)
+ascending-insert [] ys e up lo hi = (above ys hi, up)
   where
     above : (ys : List (ℕ × Request)) → AllByRecursion (λ y. nat_lt e.0 y.0 ≡ true) ys → AllByRecursion (λ y. nat_cmp e.0 y ≡ Less) (keys_of ys)
     above [] all = tt
     above (y ∷ ys) all = (rw all.0 refl, above ys all.1)
-rising-insert (x ∷ xs) ys e up lo hi = (below xs up.0, rising-insert xs ys e up.1 lo.1 hi)
+ascending-insert (x ∷ xs) ys e up lo hi = (below xs up.0, ascending-insert xs ys e up.1 lo.1 hi)
   where
     below : (xs : List (ℕ × Request)) → AllByRecursion (λ y. nat_cmp x.0 y ≡ Less) (keys_of (xs ++ ys))
         → AllByRecursion (λ y. nat_cmp x.0 y ≡ Less) (keys_of (xs ++ e ∷ ys))
@@ -72,7 +72,7 @@ passes p (x ∷ xs) = by (p x) refl (passes p xs)
     by true e rest = (e, rest)
     by false e rest = rest
 
--- a number among others that it differs from
+-- inserting a number that differs from all others keeps them distinct
 distinct-insert : (xs ys : List ℕ) (n : ℕ) → AllByRecursion (λ m. nat_eq n m ≡ false) (xs ++ ys) → IsDistinct nat_eq (xs ++ ys)
     → IsDistinct nat_eq (xs ++ n ∷ ys)
 distinct-insert xs ys n apart distinct =
@@ -80,7 +80,7 @@ distinct-insert xs ys n apart distinct =
     (IsPermutation-sym (xs ++ n ∷ ys) (n ∷ (xs ++ ys)) (IsPermutation-middle xs n ys))
     (IsDistinct-cons nat_eq n (xs ++ ys) apart distinct)
 
--- the numbers of a request that is not taken among the others
+-- the numbers of a new request differ from all others
 distinct-request : (p : Instance) (r : Request) (xs ys : List ℕ) → IsRequest r → (IsTaken p r → ⊥) → xs ++ ys ≡ numbers_among p.requests
     → IsDistinct nat_eq (xs ++ ys) → IsDistinct nat_eq (xs ++ (map (λ s. s.number) (stops_of r) ++ ys))
 distinct-request p (Single a) xs ys valid free is distinct =
@@ -96,7 +96,7 @@ distinct-request p (Pair a b) xs ys valid free is distinct =
     apart (inl t) = absurd (valid.2 t.1)
     apart (inr t) = t.0
 
--- a bound on numbers that holds of those of a request too
+-- a bound on all numbers still holds if the new request's numbers keep it
 above-request : (n m : ℕ) (r : Request) (xs ys : List ℕ) → number_after r ≤ m → n ≤ m → AllByRecursion (λ x. x < n) (xs ++ ys)
     → AllByRecursion (λ x. x < m) (xs ++ (map (λ s. s.number) (stops_of r) ++ ys))
 above-request n m (Single a) xs ys after le all =
@@ -106,10 +106,10 @@ above-request n m (Pair a b) xs ys after le all =
     (all-insert (λ x. x < m) xs ys b.number (all-weaker (λ x. x < n) (λ x. x < m) (λ x h. omega arith) (xs ++ ys) all) (omega arith)) (omega arith)
 
 number_after-le : (r : Request) → IsRequest r → number_after r ≤ 40001
-number_after-le (Single a) valid = let h = valid.0.to_most in omega arith
-number_after-le (Pair a b) valid = let h = valid.0.to_most in let g = valid.1.to_most in omega arith
+number_after-le (Single a) valid = let h = valid.0.to_max in omega arith
+number_after-le (Pair a b) valid = let h = valid.0.to_max in let g = valid.1.to_max in omega arith
 
--- one more request that keeps the limits and takes no number
+-- adding a valid request with free numbers keeps the problem valid
 pub IsInstance-with_request : (p : Instance) (r : Request) → IsInstance p → IsRequest r → (IsTaken p r → ⊥) → Splits p.requests (request_name r)
     → IsInstance (with_request p r)
 IsInstance-with_request p r valid fits free split =
@@ -121,19 +121,19 @@ IsInstance-with_request p r valid fits free split =
     let after : numbers_among (lesser ++ entry ∷ greater) ≡ numbers_among lesser ++ (map (λ s. s.number) (stops_of r) ++ numbers_among greater) =
     numbers-append lesser (entry ∷ greater) ∙ ap (λ l. numbers_among lesser ++ l) (map-append (λ s. s.number) (stops_of r) (stops_among greater)) in
     let bound = number_after-le r fits in
-    let old_bound = valid.next_to_most in
-    let old_from = valid.next_from_one in
+    let old_bound = valid.next_number_max in
+    let old_from = valid.next_number_min in
     record {
       depot = valid.depot;
       capacity = valid.capacity;
       fleet = valid.fleet;
       named = all-insert (λ e. e.0 ≡ request_name e.1) lesser greater entry (rw split valid.named) refl;
       valid = all-insert (λ e. IsRequest e.1) lesser greater entry (rw split valid.valid) fits;
-      rising = rising-insert lesser greater entry (rw split valid.rising) (passes (λ e. nat_lt e.0 name) p.requests) (passes (λ e. nat_lt name e.0) p.requests);
+      ascending = ascending-insert lesser greater entry (rw split valid.ascending) (passes (λ e. nat_lt e.0 name) p.requests) (passes (λ e. nat_lt name e.0) p.requests);
       distinct = rw after (distinct-request p r (numbers_among lesser) (numbers_among greater) fits free numbers (rw numbers valid.distinct));
       above = rw after
           (above-request p.next_number (max p.next_number (number_after r)) r (numbers_among lesser) (numbers_among greater) (omega arith) (omega arith)
           (rw numbers valid.above));
-      next_from_one = omega arith;
-      next_to_most = omega arith;
+      next_number_min = omega arith;
+      next_number_max = omega arith;
     }

@@ -1,6 +1,7 @@
--- The lemma files, which upper crates may cite.
+-- The lemma files, which other crates may cite.
 pub mod InsertLemmas
 pub mod InstanceLemmas
 pub mod LawProofs
 pub mod LookupLemmas
 pub mod TakeLemmas
+pub mod RequestCounts

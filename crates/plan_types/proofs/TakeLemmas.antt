@@ -1,4 +1,4 @@
--- One request less among those that stand by name.
+-- Removing a request from a list that is in ascending order of name.
 use Rattle.std.proofs.Common.{
   ◌≡◌,
   ◌≢◌,
@@ -45,12 +45,12 @@ use Rattle.std.proofs.lemmas.Bool.{eq-eqb, le-ltb, ne_eqb}
 use Rattle.std.proofs.lemmas.Bool.Decides.{eqb_tells}
 use Rattle.plan_types.specs.Instance.{Instance, IsInstance, first_some, stops_among, numbers_among, without_entry, without_request}
 use Rattle.plan_types.specs.Request.{request_name, stop_in, partner_in, stops_of, number_after, IsRequest}
-use Rattle.plan_types.specs.Located.{located_in, located_at}
-use Rattle.plan_types.specs.declared.problems.Located.{Located}
+use Rattle.plan_types.specs.StopEntry.{entry_in, table_entry}
+use Rattle.plan_types.specs.declared.problems.StopEntry.{StopEntry}
 use Rattle.plan_types.specs.declared.requests.Stop.{Stop}
 use Rattle.plan_types.specs.declared.requests.Request.{Request}
 use Rattle.plan_types.specs.declared.requests.Request.TheVariants.{Single, Pair}
-use Rattle.plan_types.proofs.LookupLemmas.{none_some, itself, AsksStop, itself-asks, located-asks, none-asked, lookup-request_with}
+use Rattle.plan_types.proofs.LookupLemmas.{none_some, itself, AsksStop, itself-asks, by_number-asks, none-asked, lookup-request_with}
 
 none-filter : {X : Type 0} (f : Request → Option X) (q : ℕ × Request → Bool) (es : List (ℕ × Request)) → first_some f es ≡ None
     → first_some f (filter q es) ≡ None
@@ -69,7 +69,7 @@ none-filter {X} f q (e ∷ es) h = by (f e.1) refl (λ g. none-filter f q es g)
         kept true = rw o none
         kept false = none
 
--- numbers that all differ from n lead to no stop
+-- if all numbers differ from n, no stop has number n
 none-apart : (es : List (ℕ × Request)) (n : ℕ) → AllByRecursion (λ m. nat_eq n m ≡ false) (numbers_among es) → first_some (stop_in n) es ≡ None
 none-apart [] n all = refl
 none-apart (e ∷ es) n all = by e.1 all (λ h. none-apart es n h)
@@ -83,7 +83,7 @@ none-apart (e ∷ es) n all = by e.1 all (λ h. none-apart es n h)
     by (Single a) all rest = rw (flip a.number all.0) (rest all.1)
     by (Pair a b) all rest = rw (flip a.number all.0, flip b.number all.1.0) (rest all.1.1)
 
--- where a request has the stop no later one has it
+-- if a request has the stop, no later request has it
 apart : (e : ℕ × Request) (es : List (ℕ × Request)) (n : ℕ) (s : Stop) → IsDistinct nat_eq (numbers_among (e ∷ es)) → stop_in n e.1 ≡ Some s
     → first_some (stop_in n) es ≡ None
 unfolding IsDistinct
@@ -110,7 +110,7 @@ distinct-rest e es distinct = by e.1 distinct
     by (Single a) d = d.1
     by (Pair a b) d = d.1.1
 
--- a look-up of one of its stops finds the request under a name
+-- a request that is stored under a name is found by a lookup of one of its stops
 module _ {X : Type 0} (n : ℕ) (f : Request → Option X) (asks : AsksStop n f) where
   pub named-found : (es : List (ℕ × Request)) (name : ℕ) (r : Request) (s : Stop) (x : X) → IsDistinct nat_eq (numbers_among es)
       → lookup (nat_eq name) es ≡ Some r → stop_in n r ≡ Some s → f r ≡ Some x → first_some f es ≡ Some x
@@ -143,7 +143,7 @@ found-has (e ∷ es) n r is none = by (stop_in n e.1) refl (λ h. found-has es n
         let same : e.1 ≡ r = (let g : option_or (itself n e.1) (first_some (itself n) es) ≡ Some r = is in let f : Some e.1 ≡ Some r = (rw o at g) in cc) in
         none_some x (sym none ∙ ap (stop_in n) (sym same) ∙ o)
 
--- nothing is left at a number of the request that is taken out
+-- after the removal, lookups of the request's numbers find nothing
 pub freed : (es : List (ℕ × Request)) (n : ℕ) (r : Request) → AllByRecursion (λ e. e.0 ≡ request_name e.1) es → IsDistinct nat_eq (numbers_among es)
     → first_some (itself n) es ≡ Some r → first_some (stop_in n) (without_entry es (request_name r)) ≡ None
 freed [] n r named distinct is = refl
@@ -167,7 +167,7 @@ freed (e ∷ es) n r named distinct is = by (stop_in n e.1) refl (λ h. freed es
         let out : eqb e.0 (request_name r) ≡ true = eq-eqb e.0 (request_name r) (named.0 ∙ ap request_name same) in
         rw out (none-filter (stop_in n) (λ e. not (eqb e.0 (request_name r))) es (apart e es n x distinct o))
 
--- at other numbers a look-up finds what it found
+-- lookups of other numbers find what they found before
 pub kept-others : {X : Type 0} (n name : ℕ) (f : Request → Option X) → AsksStop n f → (es : List (ℕ × Request))
     → AllByRecursion (λ e. e.0 ≡ request_name e.1) es → IsDistinct nat_eq (numbers_among es)
     → ((r : Request) → first_some (itself n) es ≡ Some r → request_name r ≢ name) → first_some f (without_entry es name) ≡ first_some f es
@@ -192,7 +192,8 @@ kept-others {X} n name f asks (e ∷ es) named distinct other =
         let after : first_some f (without_entry es name) ≡ None = none-filter f (λ e. not (eqb e.0 name)) es (none-asked n f asks es none) in
         rw (ne_eqb e.0 name differ, after, none-asked n f asks es none) refl
 
--- by name
+-- after a removal, a lookup of the removed name finds nothing, and lookups of other names find what they found
+-- before
 pub lookup-without : (es : List (ℕ × Request)) (name m : ℕ) → lookup (nat_eq m) (without_entry es name) ≡ cond (eqb m name) None (lookup (nat_eq m) es)
 lookup-without [] name m = by (eqb m name)
   where
@@ -233,7 +234,7 @@ without-none (e ∷ es) name none = by (eqb_tells name e.0) (λ h. without-none 
         rw (ne_eqb e.0 name (λ h. t.1 (sym h)))
         (ap (λ l. e ∷ l) (rest (let g : cond (eqb name e.0) (Some e.1) (lookup (nat_eq name) es) ≡ None = none in rw (t.0) at g)))
 
--- a name below each that follows is none of them
+-- a name below all names that follow is not one of these
 lookup-below : (es : List (ℕ × Request)) (name : ℕ) → AllByRecursion (λ y. nat_cmp name y ≡ Less) (keys_of es) → lookup (nat_eq name) es ≡ None
 lookup-below [] name all = refl
 lookup-below (e ∷ es) name all = elim (eqb_tells name e.0) [
@@ -241,17 +242,17 @@ lookup-below (e ∷ es) name all = elim (eqb_tells name e.0) [
   | inr t ↦ rw (t.0) (lookup-below es name all.1)
 ]
 
--- where names rise, taking out the first request of the name leaves those of other names
+-- if names are ascending, removing the first request of a name leaves exactly those with other names
 pub removed : (es : List (ℕ × Request)) (name : ℕ) → IsStrictlySortedBy nat_cmp (keys_of es) → remove_entry (nat_eq name) es ≡ without_entry es name
 unfolding IsStrictlySortedBy
-removed [] name rising = refl
-removed (e ∷ es) name rising = elim (eqb_tells name e.0) [
+removed [] name ascending = refl
+removed (e ∷ es) name ascending = elim (eqb_tells name e.0) [
   | inl t ↦ rw (t.0, eq-eqb e.0 name (sym t.1))
-      (sym (without-none es name (lookup-below es name (subst (λ m. AllByRecursion (λ y. nat_cmp m y ≡ Less) (keys_of es)) (sym t.1) rising.0))))
-  | inr t ↦ rw (t.0, ne_eqb e.0 name (λ h. t.1 (sym h))) (ap (λ l. e ∷ l) (removed es name rising.1))
+      (sym (without-none es name (lookup-below es name (subst (λ m. AllByRecursion (λ y. nat_cmp m y ≡ Less) (keys_of es)) (sym t.1) ascending.0))))
+  | inr t ↦ rw (t.0, ne_eqb e.0 name (λ h. t.1 (sym h))) (ap (λ l. e ∷ l) (removed es name ascending.1))
 ]
 
--- what holds of all holds of those that stay
+-- what is true for all elements is true for those that stay
 all-filter : {X : Type 0} (P : X → Type 0) (q : X → Bool) (xs : List X) → AllByRecursion P xs → AllByRecursion P (filter q xs)
 all-filter P q [] all = tt
 all-filter P q (x ∷ xs) all = by (q x) (all-filter P q xs all.1)
@@ -268,14 +269,14 @@ keys-filter P q (e ∷ es) all = by (q e) (keys-filter P q es all.1)
     by true rest = (all.0, rest)
     by false rest = rest
 
-rising-filter : (q : ℕ × Request → Bool) (es : List (ℕ × Request)) → IsStrictlySortedBy nat_cmp (keys_of es)
+ascending-filter : (q : ℕ × Request → Bool) (es : List (ℕ × Request)) → IsStrictlySortedBy nat_cmp (keys_of es)
     → IsStrictlySortedBy nat_cmp (keys_of (filter q es))
 unfolding IsStrictlySortedBy
-rising-filter q [] rising = tt
-rising-filter q (e ∷ es) rising = by (q e) (rising-filter q es rising.1)
+ascending-filter q [] ascending = tt
+ascending-filter q (e ∷ es) ascending = by (q e) (ascending-filter q es ascending.1)
   where
     by : (b : Bool) → IsStrictlySortedBy nat_cmp (keys_of (filter q es)) → IsStrictlySortedBy nat_cmp (keys_of (cond b (e ∷ filter q es) (filter q es)))
-    by true rest = (keys-filter (λ y. nat_cmp e.0 y ≡ Less) q es rising.0, rest)
+    by true rest = (keys-filter (λ y. nat_cmp e.0 y ≡ Less) q es ascending.0, rest)
     by false rest = rest
 
 numbers-filter : (P : ℕ → Type 0) (q : ℕ × Request → Bool) (es : List (ℕ × Request)) → AllByRecursion P (numbers_among es)
@@ -318,7 +319,7 @@ distinct-filter q (e ∷ es) distinct = by e.1 refl distinct (λ h. distinct-fil
             ((d.0.0, numbers-filter (λ y. nat_eq a.number y ≡ false) q es d.0.1), (numbers-filter (λ y. nat_eq b.number y ≡ false) q es d.1.0, rest d.1.1))
         kept false = rest d.1.1
 
--- a problem without one of its requests is a problem
+-- removing a request keeps the problem valid
 pub IsInstance-without_request : (p : Instance) (name : ℕ) → IsInstance p → IsInstance (without_request p name)
 IsInstance-without_request p name valid =
     let other : ℕ × Request → Bool = λ e. not (eqb e.0 name) in
@@ -328,30 +329,30 @@ IsInstance-without_request p name valid =
       fleet = valid.fleet;
       named = all-filter (λ e. e.0 ≡ request_name e.1) other p.requests valid.named;
       valid = all-filter (λ e. IsRequest e.1) other p.requests valid.valid;
-      rising = rising-filter other p.requests valid.rising;
+      ascending = ascending-filter other p.requests valid.ascending;
       distinct = distinct-filter other p.requests valid.distinct;
       above = numbers-filter (λ n. n < p.next_number) other p.requests valid.above;
-      next_from_one = valid.next_from_one;
-      next_to_most = valid.next_to_most;
+      next_number_min = valid.next_number_min;
+      next_number_max = valid.next_number_max;
     }
 
--- the table reaches as far as its entries
-within : (xs : List (Option Located)) (n : ℕ) (l : Located) → located_at xs n ≡ Some l → n < length xs
+-- a number with an entry is within the table
+within : (xs : List (Option StopEntry)) (n : ℕ) (l : StopEntry) → table_entry xs n ≡ Some l → n < length xs
 within [] n l is = absurd (none_some l is)
 within (x ∷ xs) zero l is = omega arith
 within (x ∷ xs) (suc n) l is = let h = within xs n l is in omega arith
 
--- and so over the stops of each request
-pub reaches : (p : Instance) (name : ℕ) (r : Request) (xs : List (Option Located)) → IsInstance p
-    → ((n : ℕ) → located_at xs n ≡ first_some (located_in n) p.requests) → lookup (nat_eq name) p.requests ≡ Some r → number_after r ≤ length xs
+-- the numbers of all stops of a request are within the table
+pub reaches : (p : Instance) (name : ℕ) (r : Request) (xs : List (Option StopEntry)) → IsInstance p
+    → ((n : ℕ) → table_entry xs n ≡ first_some (entry_in n) p.requests) → lookup (nat_eq name) p.requests ≡ Some r → number_after r ≤ length xs
 reaches p name r xs valid table at = by r refl
   where
     each : (n : ℕ) (s : Stop) → stop_in n r ≡ Some s → n < length xs
     each n s has =
-        let l : Located = record { name = request_name r; partner = partner_in n r; stop = s } in
+        let l : StopEntry = record { name = request_name r; partner = partner_in n r; stop = s } in
         within xs n l
         (table n
-        ∙ named-found n (located_in n) (located-asks n) p.requests name r s l valid.distinct at has
+        ∙ named-found n (entry_in n) (by_number-asks n) p.requests name r s l valid.distinct at has
         (ap (option_map (λ s. record { name = request_name r; partner = partner_in n r; stop = s })) has))
 
     by : (q : Request) → r ≡ q → number_after q ≤ length xs
@@ -364,7 +365,7 @@ reaches p name r xs valid table at = by r refl
         ] in
         omega arith
 
--- what stands under a name has that name
+-- a request that is stored under a name has that name
 named-own : (es : List (ℕ × Request)) (name : ℕ) (r : Request) → AllByRecursion (λ e. e.0 ≡ request_name e.1) es → lookup (nat_eq name) es ≡ Some r
     → request_name r ≡ name
 named-own [] name r named at = absurd (none_some r at)
@@ -378,22 +379,22 @@ named-own (e ∷ es) name r named at = by (eqb_tells name e.0) (λ h. named-own 
         sym (ap request_name same) ∙ sym named.0 ∙ sym t.1
     by (inr t) rest = rest (let g : cond (eqb name e.0) (Some e.1) (lookup (nat_eq name) es) ≡ Some r = at in rw (t.0) at g)
 
--- what is left in the table is what the other requests put there
+-- the entries that stay in the table are those of the other requests
 pub cleared : (p : Instance) (name n : ℕ) (r : Request) → IsInstance p → lookup (nat_eq name) p.requests ≡ Some r
-    → cond (is_some (stop_in n r)) None (first_some (located_in n) p.requests) ≡ first_some (located_in n) (without_entry p.requests name)
+    → cond (is_some (stop_in n r)) None (first_some (entry_in n) p.requests) ≡ first_some (entry_in n) (without_entry p.requests name)
 cleared p name n r valid at = by (stop_in n r) refl
   where
     own : request_name r ≡ name
     own = named-own p.requests name r valid.named at
 
     by : (o : Option Stop) → stop_in n r ≡ o
-        → cond (is_some o) None (first_some (located_in n) p.requests) ≡ first_some (located_in n) (without_entry p.requests name)
+        → cond (is_some o) None (first_some (entry_in n) p.requests) ≡ first_some (entry_in n) (without_entry p.requests name)
     by (Some s) has =
         let found = named-found n (itself n) (itself-asks n) p.requests name r s r valid.distinct at has (ap (option_map (λ _. r)) has) in
         let none = freed p.requests n r valid.named valid.distinct found in
-        sym (subst (λ m. first_some (located_in n) (without_entry p.requests m) ≡ None) own
-        (none-asked n (located_in n) (located-asks n) (without_entry p.requests (request_name r)) none))
-    by None has = sym (kept-others n name (located_in n) (located-asks n) p.requests valid.named valid.distinct other)
+        sym (subst (λ m. first_some (entry_in n) (without_entry p.requests m) ≡ None) own
+        (none-asked n (entry_in n) (by_number-asks n) (without_entry p.requests (request_name r)) none))
+    by None has = sym (kept-others n name (entry_in n) (by_number-asks n) p.requests valid.named valid.distinct other)
       where
         other : (q : Request) → first_some (itself n) p.requests ≡ Some q → request_name q ≢ name
         other q found same =

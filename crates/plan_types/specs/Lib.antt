@@ -1,9 +1,9 @@
--- what public contracts say
+-- definitions that public contracts use
 pub mod Cost
 pub mod Instance
 pub mod Laws
 pub mod Lending
 pub mod Limits
 pub mod Request
--- what those of private functions say
-pub mod Located
+-- definitions that only private contracts use
+pub mod StopEntry

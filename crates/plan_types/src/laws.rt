@@ -1,59 +1,59 @@
-//! What holds of every problem, for every look-up, and of all costs: laws are functions with an empty body.
+//! Facts about every problem, every lookup and every cost. Each law is a function with an empty body.
 ghost use Rattle.std.specs.Prelude.{◌≡◌};
 ghost use Rattle.std.specs.Ordering.{partial_lt, partial_le, is_lt};
-ghost use Rattle.plan_types.specs.Cost.{cost_below, cost_at_most, BelowTells, AtMostTells, CostsAreTotal, CostsAreTransitive, CostsAreAntisymmetric, BelowThenAtMost, AtMostThenBelow, BelowIsAtMost};
-ghost use Rattle.plan_types.specs.Laws.{RequestsStandByName, NamedAreFound, RequestsAreBelowNext, FoundAreBelowNext, StopsAreBelowNext, FreshAreFree, PutGivesProblem, PutIsFound, PutKeepsOthers, PutByName, TakeGivesProblem, TakeFreesNumbers, TakeKeepsOthers, TakeByName, TakeOfNone};
+ghost use Rattle.plan_types.specs.Cost.{cost_below, cost_at_most, CostBelowIsCorrect, CostAtMostIsCorrect, CostsAreTotal, CostsAreTransitive, CostsAreAntisymmetric, BelowThenAtMost, AtMostThenBelow, BelowIsAtMost};
+ghost use Rattle.plan_types.specs.Laws.{RequestsAreStoredByName, NamedRequestsAreFound, RequestsAreBelowNext, FoundRequestsAreBelowNext, StopsAreBelowNext, NewNumbersAreFree, PutKeepsProblemValid, PutRequestIsFound, PutKeepsOthers, LookupAfterPut, TakeKeepsProblemValid, TakeFreesNumbers, TakeKeepsOthers, LookupAfterTake, TakeOfUnknownName};
 
 use crate::plans::Cost;
 
-/// The request that has a stop stands under its name.
-pub fn requests_stand_by_name()
-    ensures { RequestsStandByName }
+/// States that the request with a given stop is stored under its own name.
+pub fn requests_are_stored_by_name()
+    ensures { RequestsAreStoredByName }
 {}
 
-/// Each number of a request is below the number that the next new stop takes.
-pub fn numbers_are_below_the_next()
+/// States that each number of a request is below `next_number`, so that new stops get free numbers.
+pub fn numbers_are_below_next_number()
     ensures requests { RequestsAreBelowNext }
-    ensures found { FoundAreBelowNext }
+    ensures found { FoundRequestsAreBelowNext }
     ensures stops { StopsAreBelowNext }
-    ensures fresh { FreshAreFree }
+    ensures fresh { NewNumbersAreFree }
 {}
 
-/// The request under a name is found at each of its numbers.
+/// States that a request that is stored under a name is found by lookups of each of its numbers.
 pub fn requests_are_found_by_stop()
-    ensures { NamedAreFound }
+    ensures { NamedRequestsAreFound }
 {}
 
-/// What is found after a request is put whose numbers are free.
+/// States what lookups find after a request with free numbers has been added.
 pub fn put_adds_one_request()
-    ensures problem { PutGivesProblem }
-    ensures found { PutIsFound }
+    ensures problem { PutKeepsProblemValid }
+    ensures found { PutRequestIsFound }
     ensures others { PutKeepsOthers }
-    ensures named { PutByName }
+    ensures named { LookupAfterPut }
 {}
 
-/// What is found after a request is taken out.
+/// States what lookups find after a request has been removed.
 pub fn take_removes_one_request()
-    ensures problem { TakeGivesProblem }
+    ensures problem { TakeKeepsProblemValid }
     ensures freed { TakeFreesNumbers }
     ensures others { TakeKeepsOthers }
-    ensures named { TakeByName }
-    ensures none { TakeOfNone }
+    ensures named { LookupAfterTake }
+    ensures none { TakeOfUnknownName }
 {}
 
-/// Costs are compared part by part.
-pub fn costs_compare_part_by_part()
+/// States that costs are compared by unplanned requests, then vehicles, then distance.
+pub fn costs_compare_lexicographically()
     ensures less { (a : Cost) → (b : Cost)
         → partial_lt ⟦<Cost as PartialOrd>⟧.partial_cmp a b ≡ cost_below a b }
     ensures at_most { (a : Cost) → (b : Cost)
         → partial_le ⟦<Cost as PartialOrd>⟧.partial_cmp a b ≡ cost_at_most a b }
     ensures order { (a : Cost) → (b : Cost) → is_lt (⟦<Cost as Ord>⟧.cmp a b) ≡ cost_below a b }
-    ensures below_tells { BelowTells }
-    ensures at_most_tells { AtMostTells }
+    ensures below_is_correct { CostBelowIsCorrect }
+    ensures at_most_is_correct { CostAtMostIsCorrect }
 {}
 
-/// Of two costs one is at most the other, and the order goes on from cost to cost.
-pub fn costs_are_in_order()
+/// States that costs are totally ordered: of two costs one is at most the other, and the order is transitive.
+pub fn costs_are_totally_ordered()
     ensures total { CostsAreTotal }
     ensures transitive { CostsAreTransitive }
     ensures antisymmetric { CostsAreAntisymmetric }

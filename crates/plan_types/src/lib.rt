@@ -1,43 +1,35 @@
-//! The data of pickup and delivery and of capacitated routing: stops, requests, problems, plans, pins and
-//! costs.
+//! The data types of pickup and delivery (PDPTW) and of capacitated routing (CVRP): stops, requests, problems,
+//! plans, pins and costs.
 //!
-//! Every other crate that knows a problem stands on this one. Begin at `Problem`: a depot, a fleet of equal
-//! vehicles, and requests by name, which `put` adds and `take` takes out. A plan has one `Route` for each
-//! vehicle.
+//! Every crate that handles a problem depends on this one. Start with `Problem`: a depot, a fleet of equal
+//! vehicles, and the requests by name, which `put` adds and `take` removes. A plan has one `Route` per vehicle.
 //!
 //! Modules, in reading order:
 //! - `limits`: the limits of each number, as constants.
-//! - `requests`: a stop, a request (a single stop, or a pickup with its delivery), the two kinds of problem.
-//! - `problems`: the problem, and its look-ups by stop number.
-//! - `plans`: routes, plans, pins, and costs.
-//! - `laws`: what holds of every problem, look-up and cost, without code.
+//! - `requests`: a stop, a request (a single stop, or a pickup with its delivery), and the two kinds of
+//!   problem.
+//! - `problems`: the problem, and its lookups by stop number.
+//! - `plans`: routes, plans, pins and costs.
+//! - `laws`: facts about every problem, every lookup and every cost, without code.
 //!
-//! Specs: `Limits` and `Request` (what a stop and a request keep), `Instance` (a problem as plain data, and
-//! its look-ups), `Cost`, `Laws`; `Located` ties the fields of a `Problem` to its instance, `Lending` says
-//! what a borrowed route becomes.
+//! Source: the usual terms of the field, for PDPTW as in Li and Lim's instances, for CVRP as in CVRPLIB. The
+//! limits are this project's own.
 //!
-//! Source: the field's usual terms, for PDPTW as Li and Lim's instances have them and for CVRP as CVRPLIB
-//! does. The limits are this project's own.
+//! A problem keeps its requests in ascending order of name, and next to them a table of the stops by number. An
+//! entry of the table has the stop, the name of its request and its partner, so that `stop`, `name_of`,
+//! `partner_of` and `pickup_of` each read one entry.
 //!
-//! How a problem is kept: beside the requests, by name in rising order, stands a table of the stops by
-//! number, each with its request's name and its partner. So `stop`, `name_of`, `partner_of` and `pickup_of`
-//! read one entry. The type's invariant ties the table to the requests, so a write to a public field that
-//! breaks a limit is not proved.
+//! The type's invariant ties the table to the requests. Code that writes a value outside its limits to a public
+//! field of a problem therefore does not verify.
 //!
-//! A field that contracts compare is no bare `Vec`, whose capacity an equation would compare too: `Route` is
-//! seen as a list of numbers, `Routes` as a list of such lists.
+//! Contracts see a `Route` as a list of numbers and `Routes` as a list of such lists. They are not plain
+//! `Vec`s, because an equation between two `Vec`s also compares their capacities.
 //!
-//! Proved:
-//! - a `Problem` always keeps its limits, distinct stop numbers, rising names and `next_number` (its
-//!   invariant);
-//! - `put` gives `with_request`, or tells the first refusal and leaves the problem as it was; `take` gives
-//!   `without_request` and the request, without memory;
-//! - the look-ups are `stop_at`, `name_at`, `partner_at` and `pickup_at`; `copy` gives an equal problem;
-//! - `Route` and `Routes` change as lists do (`insert`, `remove`, `slice_set`), and a refusal changes
-//!   nothing;
-//! - the laws: who has a stop stands under its name, and is found at each of its numbers; each number is
-//!   below `next_number`; what is found after a `put` or a `take`; costs are compared by unplanned requests,
-//!   then vehicles, then distance, which is a total order.
+//! Proved: a `Problem` always keeps its limits, distinct stop numbers, ascending names, and a `next_number`
+//! above all stop numbers. `put` adds exactly the given request, or reports the first reason not to and changes
+//! nothing; `take` removes exactly the named request, without allocating; lookups, copies and changes of routes
+//! return what their definitions say. Costs are compared by unplanned requests, then vehicles, then distance,
+//! which is a total order.
 #![tactic(auto)]
 
 mod laws;
@@ -47,8 +39,8 @@ mod problems;
 mod requests;
 
 pub use laws::{
-    costs_are_in_order, costs_compare_part_by_part, numbers_are_below_the_next,
-    put_adds_one_request, requests_are_found_by_stop, requests_stand_by_name,
+    costs_are_totally_ordered, costs_compare_lexicographically, numbers_are_below_next_number,
+    put_adds_one_request, requests_are_found_by_stop, requests_are_stored_by_name,
     take_removes_one_request,
 };
 pub use plans::{Cost, Pins, Plan, Route, Routes};
@@ -56,6 +48,8 @@ pub use problems::{Problem, PutFault};
 pub use requests::{Kind, Request, Stop};
 use std::alloc::AllocError;
 
-/// Why a call that needed memory gave up: an allocation was refused. This is std's `AllocError`, so that `?` converts to
-/// it; where a fault type has a case for it, the case has this name.
+/// The error of an operation that could not allocate memory.
+///
+/// It is std's `AllocError`, so that `?` converts to it. Error types that include this case have a variant of
+/// this name.
 pub type OutOfMemory = AllocError;

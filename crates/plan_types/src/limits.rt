@@ -1,20 +1,22 @@
-//! The limits that a problem's numbers keep, and what searches are asked for at most. All are inclusive.
+//! The limits of the numbers of a problem, and the most search steps that one command may request. All are
+//! inclusive.
 
-/// The greatest stop number; 0 is the depot's.
+/// The greatest stop number. Number 0 is the depot.
 pub const MAX_STOP_NUMBER: u32 = 40_000;
 /// The greatest number of vehicles.
 pub const MAX_FLEET: u32 = 40_000;
-/// The greatest coordinate; the least is its negative.
+/// The greatest coordinate. The smallest is its negative.
 pub const MAX_COORDINATE: i32 = 1_000_000;
 /// The greatest capacity of a vehicle.
 pub const MAX_CAPACITY: u32 = 1_000_000;
-/// The greatest demand of a single or a pickup; the least is 0.
+/// The greatest demand of a single stop or a pickup. The smallest is 0.
 pub const MAX_DEMAND: i32 = 1_000_000;
-/// The latest end of a window.
+/// The latest time at which a time window may end.
 pub const MAX_TIME: u32 = 100_000_000;
-/// The longest service.
+/// The longest service time.
 pub const MAX_SERVICE: u32 = 1_000_000;
-/// The greatest deviation, in the unit of distance: how much longer than another plan a step of a search may make one.
+/// The greatest deviation, in units of distance. The deviation says by how much a search step may make a plan
+/// longer than another plan.
 pub const MAX_DEVIATION: u32 = 1_000_000_000;
-/// The most steps that one line or word asks for.
-pub const MAX_ASKED_STEPS: u64 = 1_000_000_000;
+/// The most search steps that one command or operand may request.
+pub const MAX_REQUESTED_STEPS: u64 = 1_000_000_000;

@@ -1,8 +1,8 @@
 //! Routes, plans, pins and costs.
 //!
-//! One route of a list is changed by `set`, taken by `replace`, or lent by `route_mut` to be edited in its
-//! place. A route's stops are not lent as a slice that can be written, since the kit finds no proof of that
-//! borrow; `Route::set` stands for it.
+//! A caller can set one route of a list (`set`), exchange it (`replace`), or borrow it to edit it in place
+//! (`route_mut`). `Route` does not lend its stops as a mutable slice, because the prover finds no proof for
+//! that borrow. `Route::set` takes its place.
 ghost use Rattle.std.specs.Prelude.{◌≡◌, ◌<◌, ◌≤◌, IfOk, OnOk, OnErr, Some, length, slice_get, slice_set, insert, remove};
 ghost use Rattle.std.specs.Prelude.{List, [], ◌∷◌, ◌++◌, ℕ};
 
@@ -11,7 +11,7 @@ use std::alloc::Global;
 use std::marker::Model;
 use std::mem;
 
-/// The stops of one vehicle in the order of its visits, by number. The depot at both ends is left out.
+/// The stop numbers of one vehicle in the order of its visits, without the depot at both ends.
 #[derive(Debug, Drop)]
 pub struct Route {
     stops: Vec<u32>,
@@ -24,7 +24,7 @@ impl Model for Route {
 }
 
 impl Route {
-    /// A route that visits no stop. Takes no memory.
+    /// Returns a route without stops. Does not allocate.
     pub fn new(alloc: Global) -> Route
         ensures { result ≡ [] }
     {
@@ -33,7 +33,7 @@ impl Route {
         }
     }
 
-    /// The same, with room for so many stops.
+    /// Returns a route without stops that has room for `stops` stops.
     pub fn with_capacity(alloc: Global, stops: usize) -> Result<Route, OutOfMemory>
         ensures { IfOk result (λ route. route ≡ []) }
     {
@@ -42,7 +42,7 @@ impl Route {
         })
     }
 
-    /// Visits one more stop, after the others. A refusal changes nothing.
+    /// Appends a stop. On an error the route is unchanged.
     pub fn push(&mut self, stop: u32) -> Result<(), OutOfMemory>
         ensures ok { OnOk result (self.new ≡ self.old ++ stop ∷ []) }
         ensures err { OnErr result (self.new ≡ self.old) }
@@ -51,7 +51,7 @@ impl Route {
         Ok(())
     }
 
-    /// Visits these stops too, after the others. A refusal changes nothing.
+    /// Appends these stops. On an error the route is unchanged.
     pub fn extend_from_slice(&mut self, stops: &[u32]) -> Result<(), OutOfMemory>
         ensures ok { OnOk result (self.new ≡ self.old ++ stops.now) }
         ensures err { OnErr result (self.new ≡ self.old) }
@@ -59,7 +59,8 @@ impl Route {
         self.stops.extend_from_slice(stops)
     }
 
-    /// Visits one more stop at this place, counted from 0, before the one that stands there. A refusal changes nothing.
+    /// Inserts a stop at this place, counted from 0, before the stop that is there. On an error the route is
+    /// unchanged.
     pub fn insert(&mut self, place: usize, stop: u32) -> Result<(), OutOfMemory>
         requires { place ≤ length self.old }
         ensures ok { OnOk result (self.new ≡ insert self.old place stop) }
@@ -69,7 +70,7 @@ impl Route {
         Ok(())
     }
 
-    /// Leaves out the stop at this place, counted from 0, and gives its number. Takes no memory.
+    /// Removes the stop at this place, counted from 0, and returns its number. Does not allocate.
     pub fn remove(&mut self, place: usize) -> u32
         requires { place < length self.old }
         ensures stop { slice_get self.old place ≡ Some result }
@@ -78,7 +79,7 @@ impl Route {
         self.stops.remove(place)
     }
 
-    /// Visits this stop in place of the one at this place, counted from 0. Takes no memory.
+    /// Replaces the stop at this place, counted from 0. Does not allocate.
     pub fn set(&mut self, place: usize, stop: u32)
         requires { place < length self.old }
         ensures { self.new ≡ slice_set self.old place stop }
@@ -86,14 +87,14 @@ impl Route {
         self.stops[place] = stop;
     }
 
-    /// The stop numbers in order.
+    /// Returns the stop numbers in order.
     pub fn as_slice(&self) -> &[u32]
         ensures { result.now ≡ self.now }
     {
         self.stops.as_slice()
     }
 
-    /// Gives the numbers back, without taking memory.
+    /// Returns the stop numbers as a vector, without allocating.
     pub fn into_vec(self) -> Vec<u32>
         ensures { result.items ≡ self }
     {
@@ -101,7 +102,7 @@ impl Route {
         stops
     }
 
-    /// A second route with the same stops.
+    /// Returns a route with the same stops.
     pub fn copy(&self) -> Result<Route, OutOfMemory>
         ensures { IfOk result (λ copy. copy ≡ self.now) }
     {
@@ -113,7 +114,7 @@ impl Route {
 impl From<Vec<u32>> for Route {
     ghost from_gives = { λ stops route. route ≡ stops.items };
 
-    /// Takes no memory.
+    /// Wraps the stop numbers, without allocating.
     fn from(stops: Vec<u32>) -> Route {
         Route { stops }
     }
@@ -135,7 +136,7 @@ impl Routes {
     ghost use Rattle.std.specs.Borrow.{sem};
     ghost use Rattle.plan_types.specs.Lending.{LendsRoute};
 
-    /// No routes. Takes no memory.
+    /// Returns a list without routes. Does not allocate.
     pub fn new(alloc: Global) -> Routes
         ensures { result ≡ [] }
     {
@@ -144,7 +145,7 @@ impl Routes {
         }
     }
 
-    /// The same, with room for so many routes.
+    /// Returns a list without routes that has room for `routes` routes.
     pub fn with_capacity(alloc: Global, routes: usize) -> Result<Routes, OutOfMemory>
         ensures { IfOk result (λ list. list ≡ []) }
     {
@@ -153,7 +154,7 @@ impl Routes {
         })
     }
 
-    /// Adds the route of the next vehicle. A refusal changes nothing, and gives up the route.
+    /// Appends the route of the next vehicle. On an error the list is unchanged and the route is lost.
     pub fn push(&mut self, route: Route) -> Result<(), OutOfMemory>
         ensures ok { OnOk result (self.new ≡ self.old ++ route ∷ []) }
         ensures err { OnErr result (self.new ≡ self.old) }
@@ -162,7 +163,7 @@ impl Routes {
         Ok(())
     }
 
-    /// The route at this index, counted from 0, to be changed in its place.
+    /// Borrows the route at this index, counted from 0, so that the caller can edit it in place.
     pub fn route_mut(&mut self, index: usize) -> &mut Route
         requires { index < length self.old }
         ensures* writes_back { sem 𝓛 (LendsRoute self.entry index result) }
@@ -171,7 +172,7 @@ impl Routes {
         &mut self.routes[index]
     }
 
-    /// Sets the route at this index, counted from 0. Takes no memory.
+    /// Replaces the route at this index, counted from 0. Does not allocate.
     pub fn set(&mut self, index: usize, route: Route)
         requires { index < length self.old }
         ensures { self.new ≡ slice_set self.old index route }
@@ -179,7 +180,7 @@ impl Routes {
         self.routes[index] = route;
     }
 
-    /// Sets the route at this index, counted from 0, and gives the one that was there. Takes no memory.
+    /// Replaces the route at this index, counted from 0, and returns the old one. Does not allocate.
     pub fn replace(&mut self, index: usize, route: Route) -> Route
         requires { index < length self.old }
         ensures old { slice_get self.old index ≡ Some result }
@@ -188,14 +189,14 @@ impl Routes {
         mem::replace(&mut self.routes[index], route)
     }
 
-    /// The routes in order.
+    /// Returns the routes in order.
     pub fn as_slice(&self) -> &[Route]
         ensures { result.now ≡ self.now }
     {
         self.routes.as_slice()
     }
 
-    /// Gives the routes back, without taking memory.
+    /// Returns the routes as a vector, without allocating.
     pub fn into_vec(self) -> Vec<Route>
         ensures { result.items ≡ self }
     {
@@ -203,7 +204,7 @@ impl Routes {
         routes
     }
 
-    /// A second list of the same routes.
+    /// Returns a list of the same routes.
     pub fn copy(&self) -> Result<Routes, OutOfMemory>
         ensures { IfOk result (λ copy. copy ≡ self.now) }
     {
@@ -225,20 +226,20 @@ fn copies(alloc: Global, routes: &[Route]) -> Result<Vec<Route>, OutOfMemory>
 impl From<Vec<Route>> for Routes {
     ghost from_gives = { λ routes list. list ≡ routes.items };
 
-    /// Takes no memory.
+    /// Wraps the routes, without allocating.
     fn from(routes: Vec<Route>) -> Routes {
         Routes { routes }
     }
 }
 
-/// What each vehicle does. A request with no stop in any route is unplanned.
+/// The routes of all vehicles. A request with no stop in any route is unplanned.
 #[derive(Debug, Drop)]
 pub struct Plan {
     pub routes: Routes,
 }
 
 impl Plan {
-    /// A second plan with the same routes.
+    /// Returns a plan with the same routes.
     pub fn copy(&self) -> Result<Plan, OutOfMemory>
         ensures { IfOk result (λ copy. copy ≡ self.now) }
     {
@@ -248,14 +249,14 @@ impl Plan {
     }
 }
 
-/// For each vehicle the stops that its route must begin with.
+/// For each vehicle, the stops that its route must begin with.
 #[derive(Debug, Drop)]
 pub struct Pins {
     pub routes: Routes,
 }
 
 impl Pins {
-    /// A second list of the same pins.
+    /// Returns the same pins.
     pub fn copy(&self) -> Result<Pins, OutOfMemory>
         ensures { IfOk result (λ copy. copy ≡ self.now) }
     {
@@ -265,13 +266,13 @@ impl Pins {
     }
 }
 
-/// What a plan costs, compared part by part in this order.
+/// The cost of a plan. Costs are compared field by field, in this order.
 #[derive(Clone, Copy, Debug, PartialEq, Eq, PartialOrd, Ord)]
 pub struct Cost {
-    /// How many requests have no stop in any route.
+    /// The number of requests with no stop in any route.
     pub unplanned: u64,
-    /// How many routes are not empty; 0 in a problem of kind `Vrp`, where distance alone counts.
+    /// The number of nonempty routes. It is 0 in a problem of kind `Vrp`, where only the distance counts.
     pub vehicles: u64,
-    /// The sum of the distances between neighbouring places.
+    /// The sum of the distances between consecutive stops, including the depot at both ends.
     pub distance: u64,
 }

@@ -1,4 +1,4 @@
-//! The problem: its requests by name, and beside them a table of the stops by number.
+//! The problem: its requests by name, and next to them a table of the stops by number.
 ghost use Rattle.std.specs.Prelude.{◌≡◌, ℕ, All, IsTrue, ◌<◌, ◌≤◌, ◌↔◌, length, IsOk, IfOk, IfErr, IfSome, OnOk, OnErr, IsErrOf, IsSome, None, Some, nat_eq, ◌==◌, if◌then◌else◌, take, drop, vec_len};
 ghost use Rattle.std.specs.List.{AllByRecursion};
 ghost use Rattle.std.specs.List.Sorted.{IsStrictlySortedBy};
@@ -9,7 +9,7 @@ ghost use Rattle.indexmap.specs.IndexMap.{get, keys, index_map_len};
 ghost use Rattle.plan_types.specs.Limits.{IsDepot, IsCapacity, IsFleet, IsStop};
 ghost use Rattle.plan_types.specs.Request.{request_name, stop_in, number_after, IsRequest};
 ghost use Rattle.plan_types.specs.Instance.{stop_at, name_at, request_with, partner_at, pickup_at, new_instance, with_entry, with_request, without_request, lesser_names, greater_names, numbers_among, first_some, IsInstance, IsTaken};
-ghost use Rattle.plan_types.specs.Located.{located_at, located_in};
+ghost use Rattle.plan_types.specs.StopEntry.{table_entry, entry_in};
 
 use crate::OutOfMemory;
 use crate::limits::{MAX_CAPACITY, MAX_FLEET};
@@ -19,47 +19,48 @@ use std::alloc::{AllocError, AllocFailed, Global};
 use std::marker::Model;
 use thiserror::Error;
 
-/// Why a problem is not made, or does not take a request.
+/// The reason why a problem was not created or did not accept a request.
 #[derive(Clone, Copy, Debug, PartialEq, Eq, Error)]
 pub enum PutFault {
-    /// A field is outside its limits, a pair has one number twice, or its delivery is not of its pickup's goods.
+    /// A field is outside its limits, the two stops of a pair have the same number, or the delivery's demand is
+    /// not the negative of the pickup's.
     #[error("a field is outside its limits")]
     Range,
-    /// A stop of the problem has one of the request's numbers.
+    /// One of the request's numbers is the number of a stop of the problem.
     #[error("a stop number is taken")]
     Taken,
-    /// An allocation was refused.
+    /// An allocation failed.
     #[error("out of memory")]
     OutOfMemory,
 }
 
 /// A stop, the name of its request, and the other stop of its pair.
 #[derive(Clone, Copy, Debug)]
-pub(crate) struct Located {
+pub(crate) struct StopEntry {
     name: u32,
     partner: Option<u32>,
     stop: Stop,
 }
 
-/// What is to be planned: a depot, a fleet of equal vehicles, and requests.
+/// The data of a planning problem: a depot, a fleet of equal vehicles, and requests.
 ///
-/// Every number keeps its limits, no stop number stands twice, and the requests stand by name in rising order. Contracts
-/// see a record of the public fields, with the requests as a list of (name, request).
+/// Every number keeps its limits, all stop numbers are different, and the requests are in ascending order of
+/// name. Contracts see a record of the public fields, with the requests as a list of (name, request).
 #[derive(Debug, Drop)]
 pub struct Problem {
     pub kind: Kind,
-    /// Where each route begins and ends; its window is the vehicles' day.
+    /// The place where each route begins and ends. Its time window is the working day of the vehicles.
     pub depot: Stop,
-    /// What one vehicle can carry, 0..=1,000,000.
+    /// The most that one vehicle can carry, 0..=1,000,000.
     pub capacity: u32,
-    /// How many vehicles there are, 1..=40,000.
+    /// The number of vehicles, 1..=40,000.
     pub fleet: u32,
-    /// The requests by name, in rising order.
+    /// The requests by name, in ascending order.
     pub requests: IndexMap<u32, Request>,
-    /// The number that the next new stop takes, 1..=40,001: above each number that is there.
+    /// The number for the next new stop, 1..=40,001. It is greater than all numbers in use.
     pub next_number: u32,
-    // By number, so that a look-up of a stop, its request or its partner is one read of memory.
-    located: Vec<Option<Located>>,
+    // Indexed by stop number, so that a lookup of a stop, its request or its partner reads one entry.
+    by_number: Vec<Option<StopEntry>>,
 }
 
 impl Model for Problem {
@@ -67,7 +68,7 @@ impl Model for Problem {
 
     ghost Value = { Instance };
 
-    ghost use Rattle.plan_types.specs.Located.{IsConsistent, instance_of};
+    ghost use Rattle.plan_types.specs.StopEntry.{IsConsistent, instance_of};
 
     ghost view = { instance_of };
 
@@ -75,7 +76,9 @@ impl Model for Problem {
 }
 
 impl Problem {
-    /// A problem without requests. The depot has number, demand and service 0; what is outside its limits is `Range`.
+    /// Returns a problem without requests.
+    ///
+    /// Returns `Range` if a value is outside its limits, or if the depot's number, demand or service is not 0.
     pub fn new(
         alloc: Global,
         kind: Kind,
@@ -98,63 +101,66 @@ impl Problem {
             fleet,
             requests: IndexMap::new(alloc),
             next_number: 1,
-            located: Vec::new(alloc),
+            by_number: Vec::new(alloc),
         })
     }
 
-    /// The stop with this number; none where no request has it, and for the depot's 0. Takes no memory.
+    /// Returns the stop with this number, or `None` if no request has such a stop. The depot, number 0, is not
+    /// found. Does not allocate.
     pub fn stop(&self, number: u32) -> Option<&Stop>
         ensures found { option_copied result ≡ stop_at self.now number }
         ensures stop { IfSome result
             (λ s. (s.now.number ≡ number) × IsStop s.now × (number < self.now.next_number)) }
         ensures valid { IsInstance self.now }
     {
-        match self.located(number) {
-            Some(located) => Some(&located.stop),
+        match self.by_number(number) {
+            Some(by_number) => Some(&by_number.stop),
             None => None,
         }
     }
 
-    /// The name of the request that has the stop with this number. Takes no memory.
+    /// Returns the name of the request that has the stop with this number. Does not allocate.
     pub fn name_of(&self, number: u32) -> Option<u32>
         ensures found { result ≡ name_at self.now number }
         ensures request { IfSome result
             (λ name. lookup (nat_eq name) self.now.requests ≡ request_with self.now number) }
         ensures valid { IsInstance self.now }
     {
-        match self.located(number) {
-            Some(located) => Some(located.name),
+        match self.by_number(number) {
+            Some(by_number) => Some(by_number.name),
             None => None,
         }
     }
 
-    /// The number of the other stop of its pair. Takes no memory.
+    /// Returns the number of the other stop of the pair that has the stop with this number. Does not allocate.
     pub fn partner_of(&self, number: u32) -> Option<u32>
         ensures found { result ≡ partner_at self.now number }
         ensures below { IfSome result (λ n. n < self.now.next_number) }
         ensures valid { IsInstance self.now }
     {
-        match self.located(number) {
-            Some(located) => located.partner,
+        match self.by_number(number) {
+            Some(by_number) => by_number.partner,
             None => None,
         }
     }
 
-    /// The number of its pickup, where the stop with this number is a delivery. Takes no memory.
+    /// Returns the number of the pickup if the stop with this number is a delivery. Does not allocate.
     pub fn pickup_of(&self, number: u32) -> Option<u32>
         ensures found { result ≡ pickup_at self.now number }
         ensures below { IfSome result (λ n. n < self.now.next_number) }
         ensures valid { IsInstance self.now }
     {
-        match self.located(number) {
-            Some(located) if located.name != number => Some(located.name),
+        match self.by_number(number) {
+            Some(by_number) if by_number.name != number => Some(by_number.name),
             _ => None,
         }
     }
 
-    /// Adds a request under its name, and raises `next_number` above its numbers. `Range` is told before `Taken`, and
-    /// that before want of memory. A refusal changes nothing.
-    // Inlined as far as the map, so that a request's fields need not pass through memory one by one.
+    /// Adds a request under its name and raises `next_number` above its numbers.
+    ///
+    /// `Range` comes before `Taken`, and `Taken` before `OutOfMemory`. On an error the problem is unchanged.
+    // This function is inlined, and so are those that it calls before the map is reached. Otherwise each field
+    // of a request would pass through memory.
     #[inline(always)]
     pub fn put(&mut self, request: Request) -> Result<(), PutFault>
         ensures ok { OnOk result ((self.new ≡ with_request self.old request) × IsRequest request
@@ -182,61 +188,61 @@ impl Problem {
         ensures err { OnErr result (self.new ≡ self.old) }
     {
         let after = request.number_after();
-        make_room(&mut self.located, after as usize)?;
+        make_room(&mut self.by_number, after as usize)?;
         insert_by_name(&mut self.requests, request)?;
-        locate(&mut self.located, &request);
+        add_to_table(&mut self.by_number, &request);
         self.next_number = self.next_number.max(after);
         Ok(())
     }
 
-    /// Takes out the request with this name, and no other. Its numbers are not given again, since `next_number`
-    /// stays. Takes no memory.
+    /// Removes the request with this name, and no other. `next_number` stays, so its numbers are not reused.
+    /// Does not allocate.
     pub fn take(&mut self, name: u32) -> Option<Request>
         ensures taken { result ≡ lookup (nat_eq name) self.old.requests }
         ensures after { self.new ≡ without_request self.old name }
     {
         let request = self.requests.shift_remove(&name)?;
-        vacate(&mut self.located, &request);
+        remove_from_table(&mut self.by_number, &request);
         Some(request)
     }
 
-    // Whether one of the request's numbers is there.
+    // Returns whether one of the request's numbers is in use.
     fn is_taken(&self, request: &Request) -> bool
         ensures taken { IsTrue result ↔ IsTaken self.now request.now }
         ensures valid { IsInstance self.now }
     {
         match request {
-            Request::Single(stop) => self.is_live(stop.number),
+            Request::Single(stop) => self.has_stop(stop.number),
             Request::Pair(pickup, delivery) => {
-                self.is_live(pickup.number) || self.is_live(delivery.number)
+                self.has_stop(pickup.number) || self.has_stop(delivery.number)
             }
         }
     }
 
-    // Whether a stop has this number.
-    fn is_live(&self, number: u32) -> bool
+    // Returns whether a stop has this number.
+    fn has_stop(&self, number: u32) -> bool
         ensures live { IsTrue result ↔ IsSome (stop_at self.now number) }
         ensures valid { IsInstance self.now }
     {
         self.stop(number).is_some()
     }
 
-    /// Sets the number that the next new stop takes, in 1..=40,001 and above each number that is there.
+    /// Sets the number for the next new stop. It must be in 1..=40,001 and greater than all numbers in use.
     pub fn set_next_number(&mut self, number: u32)
         requires from_one { 1 ≤ number }
-        requires to_most { number ≤ 40001 }
+        requires to_max { number ≤ 40001 }
         requires above { AllByRecursion (λ n. n < number) (numbers_among self.old.requests) }
         ensures { self.new ≡ record self.old { next_number = number } }
     {
         self.next_number = number;
     }
 
-    /// A second problem like this one.
+    /// Returns an equal problem.
     pub fn copy(&self) -> Result<Problem, OutOfMemory>
         ensures { IfOk result (λ copy. copy ≡ self.now) }
     {
         let requests = self.requests.clone()?;
-        let located = Vec::from_slice(*self.located.allocator(), self.located.as_slice())?;
+        let by_number = Vec::from_slice(*self.by_number.allocator(), self.by_number.as_slice())?;
         Ok(Problem {
             kind: self.kind,
             depot: self.depot,
@@ -244,61 +250,61 @@ impl Problem {
             fleet: self.fleet,
             requests,
             next_number: self.next_number,
-            located,
+            by_number,
         })
     }
 
-    // The table's entry at this number.
-    fn located(&self, number: u32) -> Option<&Located>
-        ensures found { option_copied result ≡ first_some (located_in number) self.now.requests }
+    // Returns the table's entry for this number.
+    fn by_number(&self, number: u32) -> Option<&StopEntry>
+        ensures found { option_copied result ≡ first_some (entry_in number) self.now.requests }
         ensures valid { IsInstance self.now }
     {
-        entry_at(&self.located, number)
+        entry_at(&self.by_number, number)
     }
 }
 
-fn entry_at(located: &[Option<Located>], number: u32) -> Option<&Located>
-    ensures { option_copied result ≡ located_at located.now number }
+fn entry_at(by_number: &[Option<StopEntry>], number: u32) -> Option<&StopEntry>
+    ensures { option_copied result ≡ table_entry by_number.now number }
 {
-    match located.get(number as usize) {
+    match by_number.get(number as usize) {
         Some(entry) => entry.as_ref(),
         None => None,
     }
 }
 
-// Lengthens the table to this length, with empty entries. A refusal leaves its entries.
-fn make_room(located: &mut Vec<Option<Located>>, len: usize) -> Result<(), AllocError>
-    ensures same { (n : ℕ) → located_at located.new.items n ≡ located_at located.old.items n }
-    ensures room { OnOk result (len ≤ vec_len located.new) }
+// Extends the table to this length with empty entries. On an error its entries stay.
+fn make_room(by_number: &mut Vec<Option<StopEntry>>, len: usize) -> Result<(), AllocError>
+    ensures same { (n : ℕ) → table_entry by_number.new.items n ≡ table_entry by_number.old.items n }
+    ensures room { OnOk result (len ≤ vec_len by_number.new) }
 {
-    while located.len() < len {
-        located.push(None)?;
+    while by_number.len() < len {
+        by_number.push(None)?;
     }
     Ok(())
 }
 
-// Puts the request between those of lesser and those of greater names.
+// Inserts the request between those with smaller and those with greater names.
 #[inline(always)]
 fn insert_by_name(requests: &mut IndexMap<u32, Request>, request: Request) -> Result<(), AllocError>
-    requires rising { IsStrictlySortedBy nat_cmp (keys requests.old) }
+    requires ascending { IsStrictlySortedBy nat_cmp (keys requests.old) }
     requires absent { get nat_eq requests.old (request_name request) ≡ None }
     ensures ok { OnOk result (requests.new.entries ≡ with_entry requests.old.entries request) }
     ensures err { OnErr result (requests.new.entries ≡ requests.old.entries) }
 {
     let name = request.name();
-    // Requests mostly come in rising order: then there is nothing to search, and nothing to move.
+    // Requests mostly come in ascending order. Then there is nothing to search for and nothing to move.
     if is_above_all(requests, name) {
         requests.insert(name, request)?;
         return Ok(());
     }
-    let place = place_of(requests, name);
+    let place = insertion_place(requests, name);
     requests.insert_before(place, name, request)?;
     Ok(())
 }
 
-// Whether each request has a lesser name.
+// Returns whether all requests have smaller names.
 fn is_above_all(requests: &IndexMap<u32, Request>, name: u32) -> bool
-    requires rising { IsStrictlySortedBy nat_cmp (keys requests.now) }
+    requires ascending { IsStrictlySortedBy nat_cmp (keys requests.now) }
     ensures { IsTrue result ↔ All (λ n. n < name) (keys requests.now) }
 {
     match requests.last() {
@@ -307,9 +313,9 @@ fn is_above_all(requests: &IndexMap<u32, Request>, name: u32) -> bool
     }
 }
 
-// How many requests have a lesser name.
-fn place_of(requests: &IndexMap<u32, Request>, name: u32) -> usize
-    requires rising { IsStrictlySortedBy nat_cmp (keys requests.now) }
+// Returns the number of requests with a smaller name.
+fn insertion_place(requests: &IndexMap<u32, Request>, name: u32) -> usize
+    requires ascending { IsStrictlySortedBy nat_cmp (keys requests.now) }
     requires absent { get nat_eq requests.now name ≡ None }
     ensures within { result ≤ index_map_len requests.now }
     ensures lesser { lesser_names requests.now.entries name ≡ take result requests.now.entries }
@@ -322,55 +328,56 @@ fn place_of(requests: &IndexMap<u32, Request>, name: u32) -> usize
 }
 
 // Enters the stops of a request into the table, which has room for them.
-fn locate(located: &mut [Option<Located>], request: &Request)
-    requires { number_after request.now ≤ length located.old }
-    ensures { (n : ℕ) → located_at located.new n
-        ≡ option_or (located_in n request.now) (located_at located.old n) }
+fn add_to_table(by_number: &mut [Option<StopEntry>], request: &Request)
+    requires { number_after request.now ≤ length by_number.old }
+    ensures { (n : ℕ) → table_entry by_number.new n
+        ≡ option_or (entry_in n request.now) (table_entry by_number.old n) }
 {
     let name = request.name();
     match request {
-        Request::Single(stop) => enter(located, name, None, stop),
+        Request::Single(stop) => set_entry(by_number, name, None, stop),
         Request::Pair(pickup, delivery) => {
-            // The pickup last, as a look-up by number finds it first.
-            enter(located, name, Some(pickup.number), delivery);
-            enter(located, name, Some(delivery.number), pickup);
+            // If both stops had the same number, the later entry would replace the earlier one. The pickup is
+            // entered last, since the definition takes the pickup first, too.
+            set_entry(by_number, name, Some(pickup.number), delivery);
+            set_entry(by_number, name, Some(delivery.number), pickup);
         }
     }
 }
 
-fn enter(located: &mut [Option<Located>], name: u32, partner: Option<u32>, stop: &Stop)
-    requires { stop.now.number < length located.old }
-    ensures { (n : ℕ) → located_at located.new n
+fn set_entry(by_number: &mut [Option<StopEntry>], name: u32, partner: Option<u32>, stop: &Stop)
+    requires { stop.now.number < length by_number.old }
+    ensures { (n : ℕ) → table_entry by_number.new n
         ≡ (if stop.now.number == n then Some
         (record { name = name; partner = partner; stop = stop.now })
-        else located_at located.old n) }
+        else table_entry by_number.old n) }
 {
-    located[stop.number as usize] = Some(Located {
+    by_number[stop.number as usize] = Some(StopEntry {
         name,
         partner,
         stop: *stop,
     });
 }
 
-// Takes the stops of a request out of the table.
-fn vacate(located: &mut [Option<Located>], request: &Request)
-    requires { number_after request.now ≤ length located.old }
-    ensures { (n : ℕ) → located_at located.new n
-        ≡ (if is_some (stop_in n request.now) then None else located_at located.old n) }
+// Removes the stops of a request from the table.
+fn remove_from_table(by_number: &mut [Option<StopEntry>], request: &Request)
+    requires { number_after request.now ≤ length by_number.old }
+    ensures { (n : ℕ) → table_entry by_number.new n
+        ≡ (if is_some (stop_in n request.now) then None else table_entry by_number.old n) }
 {
     match request {
-        Request::Single(stop) => clear(located, stop.number),
+        Request::Single(stop) => clear_entry(by_number, stop.number),
         Request::Pair(pickup, delivery) => {
-            clear(located, pickup.number);
-            clear(located, delivery.number);
+            clear_entry(by_number, pickup.number);
+            clear_entry(by_number, delivery.number);
         }
     }
 }
 
-fn clear(located: &mut [Option<Located>], number: u32)
-    requires { number < length located.old }
-    ensures { (n : ℕ) → located_at located.new n
-        ≡ (if number == n then None else located_at located.old n) }
+fn clear_entry(by_number: &mut [Option<StopEntry>], number: u32)
+    requires { number < length by_number.old }
+    ensures { (n : ℕ) → table_entry by_number.new n
+        ≡ (if number == n then None else table_entry by_number.old n) }
 {
-    located[number as usize] = None;
+    by_number[number as usize] = None;
 }

@@ -1,24 +1,25 @@
-//! Stops and requests, and the limits that their fields keep.
+//! Stops and requests, and the limits of their fields.
 ghost use Rattle.std.specs.Prelude.{◌≡◌, ◌↔◌, IsTrue};
 ghost use Rattle.plan_types.specs.Limits.{IsCoordinate, IsVisit, IsStop, IsDepot, IsDemand};
 ghost use Rattle.plan_types.specs.Request.{request_name, number_after, IsRequest};
 
 use crate::limits::{MAX_COORDINATE, MAX_DEMAND, MAX_SERVICE, MAX_STOP_NUMBER, MAX_TIME};
 
-/// A place that a vehicle visits, with what it loads there and when it may begin to serve.
+/// A visit of a vehicle: where it is, what is loaded there, and when the service may begin.
 #[derive(Clone, Copy, Debug, PartialEq, Eq)]
 pub struct Stop {
-    /// 1..=40,000, or 0 for the depot.
+    /// The number, 1..=40,000, or 0 for the depot.
     pub number: u32,
     /// The coordinates, in -1,000,000..=1,000,000.
     pub x: i32,
     pub y: i32,
-    /// The goods taken on board, in -1,000,000..=1,000,000; negative at a delivery.
+    /// The change of the load at this stop, in -1,000,000..=1,000,000. It is negative at a delivery.
     pub demand: i32,
-    /// The window in which the service begins, in 0..=100,000,000. A unit of distance takes a unit of time.
+    /// The time window in which the service begins, in 0..=100,000,000. Travelling one unit of distance takes
+    /// one unit of time.
     pub earliest: u32,
     pub latest: u32,
-    /// How long the service takes, 0..=1,000,000, in the same unit.
+    /// The duration of the service, 0..=1,000,000, in the same unit.
     pub service: u32,
 }
 
@@ -35,7 +36,7 @@ fn is_demand(goods: i32) -> bool
 }
 
 impl Stop {
-    // Whether place, window and service keep their limits.
+    // Returns whether the place, the time window and the service keep their limits.
     fn is_visit(&self) -> bool
         ensures { IsTrue result ↔ IsVisit self.now }
     {
@@ -46,14 +47,14 @@ impl Stop {
             && self.service <= MAX_SERVICE
     }
 
-    // Whether it can be a customer's stop.
+    // Returns whether this can be a customer's stop.
     fn is_stop(&self) -> bool
         ensures { IsTrue result ↔ IsStop self.now }
     {
         1 <= self.number && self.number <= MAX_STOP_NUMBER && self.is_visit()
     }
 
-    /// Whether it can be the depot.
+    /// Returns whether this can be the depot.
     pub(crate) fn is_depot(&self) -> bool
         ensures { IsTrue result ↔ IsDepot self.now }
     {
@@ -61,17 +62,17 @@ impl Stop {
     }
 }
 
-/// What a customer asks for.
+/// A customer's order.
 #[derive(Clone, Copy, Debug, PartialEq, Eq)]
 pub enum Request {
-    /// One stop, whose demand, 0 or more, is on board from there on.
+    /// One stop with a demand of 0 or more, which stays on board until the end of the route.
     Single(Stop),
     /// A pickup, then the delivery of the same goods by the same vehicle.
     Pair(Stop, Stop),
 }
 
 impl Request {
-    /// The number of the single stop or of the pickup, by which the request is known.
+    /// Returns the number of the single stop or of the pickup, which is the request's name.
     pub fn name(&self) -> u32
         ensures { result ≡ request_name self.now }
     {
@@ -81,7 +82,7 @@ impl Request {
         }
     }
 
-    /// Whether it can be a request of a problem.
+    /// Returns whether this can be a request of a problem.
     pub(crate) fn is_request(&self) -> bool
         ensures { IsTrue result ↔ IsRequest self.now }
     {
@@ -97,7 +98,7 @@ impl Request {
         }
     }
 
-    /// One above its greatest number.
+    /// Returns the number after the greatest number of the request.
     pub(crate) fn number_after(&self) -> u32
         requires { IsRequest self.now }
         ensures { result ≡ number_after self.now }
@@ -109,11 +110,11 @@ impl Request {
     }
 }
 
-/// Which rules a problem follows.
+/// The set of rules that a problem follows.
 #[derive(Clone, Copy, Debug, PartialEq, Eq)]
 pub enum Kind {
     /// Pickup and delivery with time windows (Li and Lim).
     LiLim,
-    /// Capacitated vehicle routing (CVRPLIB): windows are kept and not asked.
+    /// Capacitated vehicle routing (CVRPLIB). Time windows are stored but not checked.
     Vrp,
 }

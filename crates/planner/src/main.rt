@@ -1,19 +1,21 @@
-//! The program `planner`: plans pickup and delivery routing and capacitated routing, over a store that outlasts a
-//! stop or at once, and audits plans.
+//! The program `planner`: plans routes for pickup and delivery and for capacitated routing, either in a store
+//! that survives crashes or in one call, and audits plans.
 //!
-//! All that it does is `planner_cli::run_words`. `main` hands on the words, the files and the standard streams, and names
-//! `Unknown`, which stands for what no code can know: what a store's file is as it is opened. A word that is not UTF-8 ends
-//! with 64 and a text of our own, since std's arguments and paths, and `clap`'s words, are `str`.
+//! All its work is done by `planner_cli::run_args`. `main` passes it the arguments, the files and the standard
+//! streams, and `UnknownFile`, which stands for something that no code can know: what a store's file holds when it
+//! is opened. An argument that is not UTF-8 ends the program with status 64 and a message of our own, since the
+//! arguments and paths of std, and the arguments of `clap`, are `str`.
 //!
-//! The system gives the number of a standard stream that is closed to the next file that is opened. Were that a store, what is
-//! printed would overwrite it; so each such number is taken first.
+//! If a standard stream is closed, the system assigns its file descriptor to the next file that is opened. If
+//! that were a store, printing would overwrite it. So `main` first reserves the descriptor of each closed
+//! stream.
 #![tactic(auto)]
 
+use file_disk::{HostDeviceFiles, UnknownFile};
 use planner_cli::{
-    Caused, HostFiles, HostNewFiles, Streams, Watched, command_words, run_words, status,
-    tell_causes,
+    ErrorCapture, FailureTracking, HostFiles, HostNewFiles, Streams, command_args, report_causes,
+    run_args, status,
 };
-use sector_disk::{HostDisks, Unknown};
 use std::fs::File;
 use std::io;
 use std::io::ErrorKind;
@@ -21,54 +23,55 @@ use std::os::fd::{AsRawFd, RawFd};
 use std::process::ExitCode;
 use std::rt::Files;
 
-/// The number of standard error: the standard streams have those from 0 to this.
-const LAST_STANDARD: RawFd = 2;
+/// The file descriptor of standard error: the standard streams have the descriptors from 0 to this one.
+const LAST_STANDARD_FD: RawFd = 2;
 
 fn main(rt: HostRuntime) -> ExitCode {
-    // Open until all is done.
-    let _stand_ins = match stand_ins(&rt) {
-        Ok(stand_ins) => stand_ins,
-        Err(error) => return ExitCode::from(unopened_status(error.kind())),
+    // Stays open until the end.
+    let _stand_ins = match reserve_standard_fds(&rt) {
+        Ok(reserve_standard_fds) => reserve_standard_fds,
+        Err(error) => return ExitCode::from(open_failure_status(error.kind())),
     };
-    let status = match command_words(&rt) {
+    let status = match command_args(&rt) {
         Ok(words) => status_of(&rt, words.as_slice()),
         Err(status) => status,
     };
     ExitCode::from(status)
 }
 
-// Does what the words ask for, over the system's files and the standard streams.
+// Executes the command line with the system's files and the standard streams.
 fn status_of(rt: &HostRuntime, words: &[String]) -> u8 {
-    let mut disks = HostDisks::new(rt);
+    let mut disks = HostDeviceFiles::new(rt);
     let mut files = HostFiles::new(rt);
     let mut new_files = HostNewFiles::new(rt);
     let streams = Streams {
-        input: Watched::new(Caused::new(rt.reader())),
-        output: Watched::new(Caused::new(io::writer(rt))),
+        input: FailureTracking::new(ErrorCapture::new(rt.reader())),
+        output: FailureTracking::new(ErrorCapture::new(io::writer(rt))),
         errors: rt.stderr(),
     };
-    let (status, streams, left) = run_words(
+    let (status, streams, left) = run_args(
         rt,
-        Unknown,
-        Unknown,
+        UnknownFile,
+        UnknownFile,
         &mut disks,
         &mut files,
         &mut new_files,
         streams,
         words,
     );
-    // Closes the files of stores.
+    // Closes the store files.
     drop(left);
-    tell_causes(rt, streams);
+    report_causes(rt, streams);
     status
 }
 
-// A file for each standard stream that is closed. It is a folder, which can be opened everywhere and neither written nor read.
-fn stand_ins<R: Files<File = File> + AllocGlobal>(rt: &R) -> io::Result<Vec<File>> {
+// Opens one file for each standard stream that is closed. It is the folder `/`, which can be opened on every
+// system and can be neither written nor read.
+fn reserve_standard_fds<R: Files<File = File> + AllocGlobal>(rt: &R) -> io::Result<Vec<File>> {
     let mut held = Vec::new(rt.alloc());
-    for _ in 0..=LAST_STANDARD {
+    for _ in 0..=LAST_STANDARD_FD {
         let file = File::open(rt, "/")?;
-        if file.as_raw_fd() > LAST_STANDARD {
+        if file.as_raw_fd() > LAST_STANDARD_FD {
             break;
         }
         held.push(file)?;
@@ -76,8 +79,8 @@ fn stand_ins<R: Files<File = File> + AllocGlobal>(rt: &R) -> io::Result<Vec<File
     Ok(held)
 }
 
-// The status where the system opened no folder, or memory was refused.
-fn unopened_status(kind: ErrorKind) -> u8 {
+// Returns the status if the system opened no folder or memory ran out.
+fn open_failure_status(kind: ErrorKind) -> u8 {
     match kind {
         ErrorKind::OutOfMemory => status::OUT_OF_MEMORY,
         _ => status::FILE,

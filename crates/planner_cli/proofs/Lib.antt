@@ -1,10 +1,10 @@
--- The lemma files, which upper crates may cite.
+-- The lemma files, which crates above this one may use.
 pub mod AdoptLemmas
-pub mod DoubtLemmas
+pub mod WarningLemmas
 pub mod OkLemmas
 pub mod OpenLemmas
 pub mod ReadLemmas
-pub mod SolvedListLemmas
-pub mod StopLemmas
+pub mod SolvesLemmas
+pub mod CrashLemmas
 pub mod StoreLemmas
-pub mod TellLemmas
+pub mod MessageLemmas

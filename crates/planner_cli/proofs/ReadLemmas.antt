@@ -1,21 +1,21 @@
--- A device that was read, and then read again, was read at most.
+-- A device that was read, and then read again, was at most read.
 use Rattle.std.proofs.Common.{◌≡◌, ◌∙◌, ℕ, List, refl}
 use Rattle.checkpoint.specs.Reads.{IsUnchanged}
-use Rattle.planner_cli.specs.LeftDevices.{IsReadAtMost}
-use Rattle.sector_disk.specs.Sectors.{IsCalled, Passes, SameImages, as_many}
-use Rattle.sector_disk.specs.Throughout.{goes_on, joined, started, weakened}
+use Rattle.planner_cli.specs.StoreDevices.{IsReadAtMost}
+use Rattle.sector_disk.specs.Sectors.{IsCalled, Passes, SameImages, same_count}
+use Rattle.sector_disk.specs.Throughout.{extended, joined, started, weakened}
 use Rattle.sector_disk.specs.declared.sectors.Sectors as sectors
 
 module _ {D : Type 0} (on : sectors.Ghosts D) where
-  -- since this moment there is no other
+  -- The only moment since the present one is the present one itself.
   abbrev OnlyNow : Type 0
   OnlyNow = (d : D) (m : ℕ) (image : List ℕ) → on.honest d → on.possible_since d (on.clock d) m image → (m ≡ on.calls d) × on.possible d image
 
-  -- the images are those that were, and as many calls have finished
+  -- The image was possible before, and the number of finished calls is the same.
   abbrev Still : D → ℕ → List ℕ → Type 0
   Still old m image = (m ≡ on.calls old) × on.possible old image
 
-  -- it was not called
+  -- A device that is not called is at most read.
   pub not_read : OnlyNow → (device : D) → IsReadAtMost on device device
   not_read only_now device = record {
     same_len = refl;
@@ -28,8 +28,8 @@ module _ {D : Type 0} (on : sectors.Ghosts D) where
     };
   }
 
-  -- it was read once
-  pub read_once : OnlyNow → (old new : D) (faults_then : ℕ → ℕ) → IsCalled on.len on.calls on.faults on.honest as_many faults_then old new
+  -- A device that is read once is at most read.
+  pub read_once : OnlyNow → (old new : D) (faults_then : ℕ → ℕ) → IsCalled on.len on.calls on.faults on.honest same_count faults_then old new
       → (on.honest new → on.seen new ≡ on.seen old) → (on.honest new → SameImages (on.possible old) (on.possible new))
       → (on.honest new → Passes on.clock on.possible_since on.calls on.possible (on.possible old) old new) → IsReadAtMost on old new
   read_once only_now old new faults_then called reads images moments = record {
@@ -39,13 +39,13 @@ module _ {D : Type 0} (on : sectors.Ghosts D) where
     kept = λ honest. record {
       reads = reads honest;
       images = images honest;
-      moments = goes_on on.clock on.possible_since old old new (Still old) (on.calls old) (on.calls new) (on.possible old) (on.possible new)
+      moments = extended on.clock on.possible_since old old new (Still old) (on.calls old) (on.calls new) (on.possible old) (on.possible new)
           (started on.clock on.possible_since old (Still old) (λ m image since. only_now old m image (called.honest_before honest) since)) (moments honest)
           (λ image at. (refl, at)) (λ image at. (called.finished, (images honest).nothing_else image at));
     };
   }
 
-  -- what is unchanged twice is unchanged
+  -- Two steps that leave a device unchanged leave it unchanged together.
   pub unchanged_again : (old mid new : D) → on.calls mid ≡ on.calls old → IsUnchanged on.clock on.possible_since on.possible on.seen on.calls old mid
       → IsUnchanged on.clock on.possible_since on.possible on.seen on.calls mid new → IsUnchanged on.clock on.possible_since on.possible on.seen on.calls old new
   unchanged_again old mid new same first second = record {

@@ -1,28 +1,28 @@
--- what public contracts reach
-pub mod Acknowledged
-pub mod Adopting
-pub mod Caused
-pub mod Checked
-pub mod Drawn
-pub mod Formatting
-pub mod LeftDevices
-pub mod Loading
-pub mod Looked
-pub mod Opened
+-- Modules that public contracts use.
+pub mod OkLaws
+pub mod Adopt
+pub mod ErrorCapture
+pub mod Check
+pub mod Draw
+pub mod Format
+pub mod StoreDevices
+pub mod Load
+pub mod ReadOnly
+pub mod Opening
 pub mod Program
-pub mod Recovering
-pub mod Running
-pub mod SolvedList
-pub mod Solving
+pub mod RunRecovery
+pub mod Run
+pub mod Solves
+pub mod Solve
 pub mod Statuses
-pub mod Strictly
-pub mod Telling
-pub mod Timetabled
-pub mod Upgrading
-pub mod Written
-pub use Rattle.command_line.specs.Asked
-pub use Rattle.command_serving.specs.Served
-pub use Rattle.command_serving.specs.Streams
--- of private functions alone
-pub mod Doubted
-pub mod Foretold
+pub mod StrictRun
+pub mod Messages
+pub mod Timetable
+pub mod Upgrade
+pub mod PrintInstance
+pub use Rattle.command_line.specs.Invocations
+pub use Rattle.command_server.specs.ServeContract
+pub use Rattle.command_server.specs.Streams
+-- Modules that only private functions use.
+pub mod WarnedOpening
+pub mod ReplayNotice

@@ -1,49 +1,57 @@
-//! What is known of stops within the word `run`, from its promises and those of `open` alone, and of what other words tell by `ok`.
-ghost use Rattle.planner_cli.specs.Acknowledged.{IsDoneBeforeOk, IsMadeBeforeOk};
-ghost use Rattle.planner_cli.specs.Recovering.{EachInputIsSome, OfTheReading, RunHeadline, RunKeepsAnswers, RunsAreLinked, ServedRunHeadline, ServedRunKeepsAnswers};
-ghost use Rattle.planner_cli.specs.Strictly.{StrictRunsEnd};
+//! Laws about crashes during `run`, which follow from the contracts of `run` and of `open`, and about the `ok`
+//! of other subcommands.
+ghost use Rattle.planner_cli.specs.OkLaws.{OkFollowsCommand, OkFollowsFormat};
+ghost use Rattle.planner_cli.specs.RunRecovery.{EveryReadingHasAnInput, ForTheReading, RunRecovers, RunKeepsAnswers, RunsAreLinked, OpenedRunRecovers, OpenedRunKeepsAnswers};
+ghost use Rattle.planner_cli.specs.StrictRun.{StrictRunsEnd};
 
-use command_serving::{nothing_is_done_behind_a_refusal, stopped_servings_recover};
+use command_server::{crashed_servings_recover, nothing_is_done_after_a_refusal};
 use command_text::texts_have_a_reading;
 use recover::recovery_keeps_every_acknowledged_command;
 use sector_disk::Sectors;
 
-/// Stopped at any moment of `run` over a device, with any choice that the device allows, opening it gives the state after a
-/// first part of the commands of its input that were kept, which holds every acknowledged one, and at most one more. Of stops within the
-/// opening it is so where each image that a stop might have left before stands for the state that is opened. Each command whose
-/// answer was put to the output by then, and so each whose `ok` or `at` was handed on, is among them; behind the opening this is so
-/// whatever images were possible before, as behind a kill within a commit. What the texts of instances spell is told by the one
-/// function that there is. Whatever the reads of an input gave, there is one of which this speaks.
-pub fn stopped_runs_recover<D: Sectors, E: Sectors>()
-    ensures behind { OfTheReading (ServedRunHeadline D.Sectors E.Sectors) }
-    ensures whole { OfTheReading (RunHeadline D.Sectors E.Sectors) }
-    ensures told { OfTheReading (RunKeepsAnswers D.Sectors E.Sectors) }
-    ensures told_behind { OfTheReading (ServedRunKeepsAnswers D.Sectors E.Sectors) }
-    ensures inputs { EachInputIsSome }
+/// Proves the recovery of `run`. Let it crash at any moment, whatever the device keeps. Opening the device then
+/// recovers the state after a prefix of the commands that the run kept, with every acknowledged command and at
+/// most one more.
+///
+/// A command counts as acknowledged as soon as its answer is written to the output, so every `ok` or `at` that
+/// was flushed is covered. For crashes after the opening this holds whatever crash images were possible before,
+/// for example after a kill within a commit. For crashes within the opening it holds if every crash image from
+/// before recovers to the state that is opened.
+///
+/// The laws refer to the one function that defines the contents of each text (`ForTheReading`). Whatever the
+/// reads of an input returned, there is an input to which the laws apply.
+pub fn crashed_runs_recover<D: Sectors, E: Sectors>()
+    ensures following { ForTheReading (OpenedRunRecovers D.Sectors E.Sectors) }
+    ensures whole { ForTheReading (RunRecovers D.Sectors E.Sectors) }
+    ensures reported { ForTheReading (RunKeepsAnswers D.Sectors E.Sectors) }
+    ensures printed_after_opening { ForTheReading (OpenedRunKeepsAnswers D.Sectors E.Sectors) }
+    ensures inputs { EveryReadingHasAnInput }
 {
     texts_have_a_reading();
     recovery_keeps_every_acknowledged_command::<D, E>();
-    stopped_servings_recover::<D, E>();
+    crashed_servings_recover::<D, E>();
 }
 
-/// A run that was stopped, and the opening of the next one over what the stop left, are a link: `restarts_add_up` of `recover` joins
-/// any list of such links.
-pub fn stopped_runs_are_linked<D: Sectors, E: Sectors>()
-    ensures { OfTheReading (RunsAreLinked D.Sectors E.Sectors) }
+/// Proves that a crashed run and the next opening form a link. `restarts_compose` of `recover` joins any list of
+/// such links.
+pub fn crashed_runs_are_linked<D: Sectors, E: Sectors>()
+    ensures { ForTheReading (RunsAreLinked D.Sectors E.Sectors) }
 {
-    stopped_runs_recover::<D, E>();
+    crashed_runs_recover::<D, E>();
 }
 
-/// Stopped at any moment when a byte of `ok` was put, the device holds what it tells: the store that `format` or `upgrade` made, or
-/// the state that the command of `load` or `adopt` makes. What was handed on, so whatever was read, is part of what was put.
-pub fn told_stores_are_durable<D: Sectors>()
-    ensures made { IsMadeBeforeOk D.Sectors }
-    ensures done { IsDoneBeforeOk D.Sectors }
+/// Proves that `ok` is durable. After a crash at any moment when at least one byte of `ok` was written, the
+/// device holds the store that `format` or `upgrade` made, or the state after the command of `load` or `adopt`.
+/// Every flushed byte was written before.
+pub fn printed_ok_is_durable<D: Sectors>()
+    ensures made { OkFollowsFormat D.Sectors }
+    ensures done { OkFollowsCommand D.Sectors }
 {}
 
-/// A strict run that ends at an answer, while its output has not failed, has done nothing behind this answer.
+/// Proves that a strict run that ends at an answer, while its output has not failed, has done nothing after
+/// this answer.
 pub fn strict_runs_end_at_an_answer<D: Sectors>()
     ensures { StrictRunsEnd D.Sectors }
 {
-    nothing_is_done_behind_a_refusal::<D>();
+    nothing_is_done_after_a_refusal::<D>();
 }

@@ -1,53 +1,59 @@
-//! What the program does with its words: files are read and made, answers are printed.
+//! Executes a command line: reads and makes files, and prints answers.
 //!
-//! `run_words` takes what opens the files of stores, what reads files and what makes them, the streams, and values of `T: Start` and `U: Start`, all of which `main`
-//! makes: what the files of a store, and of one that a load or an upgrade makes, are as they are opened.
+//! `main` makes everything that touches the system and passes it to `run_args`: what opens store files, what
+//! reads and makes other files, and the streams. It also passes values of `T: FileAssumptions` and `U:
+//! FileAssumptions`. They stand for the contents of the files of the old and of the new store when they are
+//! opened.
 ghost use Rattle.std.specs.Prelude.{◌≡◌, ◌≤◌, ◌∷◌, IfOk, drop, map};
-ghost use Rattle.command_line.specs.Asked.{ArePositional, WordsAsked, asked_by, asked_of};
-ghost use Rattle.command_serving.specs.Held.{given_by, held};
-ghost use Rattle.sector_disk.specs.Disks.{IsMadeAt, IsSharedAt, IsTakenAt};
-ghost use Rattle.planner_cli.specs.Program.{EndsWith, IsDone, TellsUsage, seen};
-ghost use Rattle.planner_cli.specs.Running.{RunsStore, ServesStore};
+ghost use Rattle.command_line.specs.Invocations.{ArePositional, InvocationValue, parsed_words, invocation_value};
+ghost use Rattle.command_server.specs.TrackedStream.{given_by, held};
+ghost use Rattle.file_disk.specs.DeviceFiles.{IsCreatedAt, IsOpenedReadOnlyAt, IsOpenedExistingAt};
+ghost use Rattle.planner_cli.specs.Program.{EndsWith, IsDone, PrintsUsage, seen};
+ghost use Rattle.planner_cli.specs.Run.{RunsStore, ServesStore};
 ghost use Rattle.planner_cli.specs.Statuses.{CanEndWith};
 
-use crate::adopted::adopt_read;
-use crate::checked::check_store;
-use crate::drawn::{draw_read, draw_store};
-use crate::left_devices::LeftDevices;
-use crate::loaded::load_read;
-use crate::solved::solve_read;
-use crate::solved_list::solves_read;
+use crate::adopt::adopt_solution;
+use crate::check::check_store;
+use crate::draw::{draw_files, draw_store};
+use crate::instance::write_store;
+use crate::load::load_instance;
+use crate::solve::solve_instance;
+use crate::solves::solve_list;
+use crate::store_devices::StoreDevices;
 use crate::stores::{format_store, run_store, upgrade_store};
-use crate::timetabled::{form_of, timetable_read, timetable_store};
-use crate::written::write_store;
+use crate::timetable::{form_of, timetable_files, timetable_store};
 use auditor_cli::{
-    ReadFiles, WriteFiles, audit_example, audit_files, audits_read, explain_read, status_of,
-    tell_usage,
+    ReadFiles, WriteFiles, audit_example, audit_files, audit_list, explain_files, print_usage,
+    status_of,
 };
-use command_line::{Invocation, read_words};
-use command_serving::Watched;
+use command_line::{Invocation, parse_arguments};
+use command_server::FailureTracking;
 use command_text::HELP;
-use sector_disk::{DiskCall, Disks, FileCalls, FileDevice, HostFile, Sectors, Start};
+use file_disk::{DeviceFiles, FileAssumptions, FileCalls, FileDevice, FileRequest, HostFile};
+use sector_disk::Sectors;
 use std::convert::AsStr;
 use std::io;
 use std::io::{Read, Write};
 
-/// What the program reads commands from, what it prints answers to, and what it prints all else to.
+/// The streams of the program: `input` for commands, `output` for answers, and `errors` for everything else.
 #[derive(Drop)]
 pub struct Streams<I, W, E> {
-    pub input: Watched<I>,
-    pub output: Watched<W>,
+    pub input: FailureTracking<I>,
+    pub output: FailureTracking<W>,
     pub errors: E,
 }
 
-/// Does what the words of the command line ask for, the program's name first, and gives the status to end with
-/// (`status`), the streams, and the devices of stores as they are left. Where an answer cannot be printed, the status is `FILE`.
-/// `start` stands for what the store's file is as it is opened, `start_of_new` for that of a store that is made.
-pub fn run_words<
+/// Executes the command line `words`, which begins with the program's name. Returns the exit status (see
+/// `status`), the streams, and the devices of stores as they are left. If an answer can't be printed, the
+/// status is `FILE`.
+///
+/// `start` stands for the contents of the store's file when it is opened, `start_of_new` for those of the file
+/// of a new store.
+pub fn run_args<
     R,
-    T: Start,
-    U: Start,
-    X: Disks,
+    T: FileAssumptions,
+    U: FileAssumptions,
+    X: DeviceFiles,
     F: ReadFiles,
     N: WriteFiles,
     I: Read,
@@ -66,33 +72,33 @@ pub fn run_words<
 ) -> (
     u8,
     Streams<I, W, E>,
-    LeftDevices<FileDevice<T>, FileDevice<U>>,
+    StoreDevices<FileDevice<T>, FileDevice<U>>,
 )
 where
     R: Eprint + AllocGlobal,
-    ensures does { let asked = drop 1 (map S.text words.now) in
-        (a : WordsAsked) → ArePositional asked → asked_by asked ≡ Some a
+    ensures does { let requested = drop 1 (map S.text words.now) in
+        (a : InvocationValue) → ArePositional requested → parsed_words requested ≡ Some a
         → EndsWith ⟦<FileDevice<T> as Sectors>⟧ ⟦<FileDevice<U> as Sectors>⟧
-        (IsTakenAt ⟦<HostFile as FileCalls>⟧.entries)
-        (IsSharedAt ⟦<HostFile as FileCalls>⟧.entries) (IsMadeAt ⟦<HostFile as FileCalls>⟧.entries)
-        (IsMadeAt ⟦<HostFile as FileCalls>⟧.entries) a
-        (seen F.reads N.writes X.asked I.remaining W.contents E.contents files.old new_files.old
+        (IsOpenedExistingAt ⟦<HostFile as FileCalls>⟧.entries)
+        (IsOpenedReadOnlyAt ⟦<HostFile as FileCalls>⟧.entries) (IsCreatedAt ⟦<HostFile as FileCalls>⟧.entries)
+        (IsCreatedAt ⟦<HostFile as FileCalls>⟧.entries) a
+        (seen F.reads N.writes X.requested I.remaining W.contents E.contents files.old new_files.old
         disks.old streams)
-        (seen F.reads N.writes X.asked I.remaining W.contents E.contents files.new new_files.new
+        (seen F.reads N.writes X.requested I.remaining W.contents E.contents files.new new_files.new
         disks.new result.1)
         result.2 result.0 }
-    ensures usage { let asked = drop 1 (map S.text words.now) in
-        ArePositional asked → asked_by asked ≡ None
-        → TellsUsage asked
-        (seen F.reads N.writes X.asked I.remaining W.contents E.contents files.old new_files.old
+    ensures usage { let requested = drop 1 (map S.text words.now) in
+        ArePositional requested → parsed_words requested ≡ None
+        → PrintsUsage requested
+        (seen F.reads N.writes X.requested I.remaining W.contents E.contents files.old new_files.old
         disks.old streams)
-        (seen F.reads N.writes X.asked I.remaining W.contents E.contents files.new new_files.new
+        (seen F.reads N.writes X.requested I.remaining W.contents E.contents files.new new_files.new
         disks.new result.1)
         result.2 result.0 }
 {
-    match read_words(rt.alloc(), words, HELP) {
+    match parse_arguments(rt.alloc(), words, HELP) {
         Ok(invocation) => {
-            let (told, streams, left) = do_asked(
+            let (reported, streams, left) = dispatch(
                 rt,
                 start,
                 start_of_new,
@@ -102,22 +108,22 @@ where
                 streams,
                 invocation,
             );
-            (status_of(told), streams, left)
+            (status_of(reported), streams, left)
         }
         Err(error) => {
             let mut streams = streams;
-            let told = tell_usage(&error, &mut streams.output, &mut streams.errors);
-            (status_of(told), streams, LeftDevices::none())
+            let reported = print_usage(&error, &mut streams.output, &mut streams.errors);
+            (status_of(reported), streams, StoreDevices::none())
         }
     }
 }
 
-// Does what is asked for, and tells what came of it.
-fn do_asked<
+// Executes the parsed subcommand and prints the answer.
+fn dispatch<
     R,
-    T: Start,
-    U: Start,
-    X: Disks,
+    T: FileAssumptions,
+    U: FileAssumptions,
+    X: DeviceFiles,
     F: ReadFiles,
     N: WriteFiles,
     I: Read,
@@ -135,34 +141,34 @@ fn do_asked<
 ) -> (
     io::Result<u8>,
     Streams<I, W, E>,
-    LeftDevices<FileDevice<T>, FileDevice<U>>,
+    StoreDevices<FileDevice<T>, FileDevice<U>>,
 )
 where
     R: Eprint + AllocGlobal,
-    ensures status { IfOk result.0 (CanEndWith (asked_of invocation.entry)) }
+    ensures status { IfOk result.0 (CanEndWith (invocation_value invocation.entry)) }
     ensures done { IsDone ⟦<FileDevice<T> as Sectors>⟧ ⟦<FileDevice<U> as Sectors>⟧
-        (IsTakenAt ⟦<HostFile as FileCalls>⟧.entries)
-        (IsSharedAt ⟦<HostFile as FileCalls>⟧.entries) (IsMadeAt ⟦<HostFile as FileCalls>⟧.entries)
-        (IsMadeAt ⟦<HostFile as FileCalls>⟧.entries) (asked_of invocation.entry)
-        (seen F.reads N.writes X.asked I.remaining W.contents E.contents files.old new_files.old
+        (IsOpenedExistingAt ⟦<HostFile as FileCalls>⟧.entries)
+        (IsOpenedReadOnlyAt ⟦<HostFile as FileCalls>⟧.entries) (IsCreatedAt ⟦<HostFile as FileCalls>⟧.entries)
+        (IsCreatedAt ⟦<HostFile as FileCalls>⟧.entries) (invocation_value invocation.entry)
+        (seen F.reads N.writes X.requested I.remaining W.contents E.contents files.old new_files.old
         disks.old streams)
-        (seen F.reads N.writes X.asked I.remaining W.contents E.contents files.new new_files.new
+        (seen F.reads N.writes X.requested I.remaining W.contents E.contents files.new new_files.new
         disks.new result.1) result.2 result.0 }
 {
     let mut streams = streams;
     let alloc = rt.alloc();
     match invocation {
         Invocation::BuiltIn => {
-            let told = audit_example(alloc, &mut streams.output);
-            (told, streams, LeftDevices::none())
+            let reported = audit_example(alloc, &mut streams.output);
+            (reported, streams, StoreDevices::none())
         }
         Invocation::Audit {
             paths,
             routes_alone,
         } => {
             let Streams { output, errors, .. } = &mut streams;
-            let told = audit_files(alloc, paths, routes_alone, files, output, errors);
-            (told, streams, LeftDevices::none())
+            let reported = audit_files(alloc, paths, routes_alone, files, output, errors);
+            (reported, streams, StoreDevices::none())
         }
         Invocation::Audits {
             kind,
@@ -170,48 +176,48 @@ where
             routes_alone,
         } => {
             let Streams { output, errors, .. } = &mut streams;
-            let told = audits_read(alloc, kind, list, routes_alone, files, output, errors);
-            (told, streams, LeftDevices::none())
+            let reported = audit_list(alloc, kind, list, routes_alone, files, output, errors);
+            (reported, streams, StoreDevices::none())
         }
         Invocation::Explain {
             paths,
             routes_alone,
         } => {
             let Streams { output, errors, .. } = &mut streams;
-            let told = explain_read(alloc, paths, routes_alone, files, output, errors);
-            (told, streams, LeftDevices::none())
+            let reported = explain_files(alloc, paths, routes_alone, files, output, errors);
+            (reported, streams, StoreDevices::none())
         }
         Invocation::Draw { paths, route } => {
             let Streams { output, errors, .. } = &mut streams;
-            let told = draw_read(alloc, paths, route, files, output, errors);
-            (told, streams, LeftDevices::none())
+            let reported = draw_files(alloc, paths, route, files, output, errors);
+            (reported, streams, StoreDevices::none())
         }
         Invocation::DrawStore { store, route } => {
             let Streams { output, errors, .. } = &mut streams;
-            let told = draw_store(rt, disks, start, store, route, output, errors);
-            (told, streams, LeftDevices::none())
+            let reported = draw_store(rt, disks, start, store, route, output, errors);
+            (reported, streams, StoreDevices::none())
         }
         Invocation::Solve(task) => {
             let Streams { output, errors, .. } = &mut streams;
-            let told = solve_read(alloc, task, files, output, errors);
-            (told, streams, LeftDevices::none())
+            let reported = solve_instance(alloc, task, files, output, errors);
+            (reported, streams, StoreDevices::none())
         }
         Invocation::Solves(tasks) => {
             let Streams { output, errors, .. } = &mut streams;
-            let told = solves_read(alloc, tasks, files, new_files, output, errors);
-            (told, streams, LeftDevices::none())
+            let reported = solve_list(alloc, tasks, files, new_files, output, errors);
+            (reported, streams, StoreDevices::none())
         }
         Invocation::Format { store } => {
-            let (told, store) = format_store(rt, disks, start, store, &mut streams.output);
-            let left = LeftDevices {
+            let (reported, store) = format_store(rt, disks, start, store, &mut streams.output);
+            let left = StoreDevices {
                 store,
                 new_store: None,
             };
-            (told, streams, left)
+            (reported, streams, left)
         }
         Invocation::Load(loading) => {
             let Streams { output, errors, .. } = &mut streams;
-            let (told, left) = load_read(
+            let (reported, left) = load_instance(
                 rt,
                 disks,
                 start,
@@ -221,39 +227,41 @@ where
                 output,
                 errors,
             );
-            (told, streams, left)
+            (reported, streams, left)
         }
         Invocation::Run { store, is_strict } => {
-            let (told, streams, store) = run_over(rt, disks, start, store, is_strict, streams);
-            let left = LeftDevices {
+            let (reported, streams, store) = run_subcommand(
+                rt, disks, start, store, is_strict, streams,
+            );
+            let left = StoreDevices {
                 store,
                 new_store: None,
             };
-            (told, streams, left)
+            (reported, streams, left)
         }
         Invocation::Adopt { store, solution } => {
             let Streams { output, errors, .. } = &mut streams;
-            let (told, store) = adopt_read(
+            let (reported, store) = adopt_solution(
                 rt, disks, start, store, solution, files, output, errors,
             );
-            let left = LeftDevices {
+            let left = StoreDevices {
                 store,
                 new_store: None,
             };
-            (told, streams, left)
+            (reported, streams, left)
         }
         Invocation::StoreInstance { store } => {
             let Streams { output, errors, .. } = &mut streams;
-            let told = write_store(rt, disks, start, store, output, errors);
-            (told, streams, LeftDevices::none())
+            let reported = write_store(rt, disks, start, store, output, errors);
+            (reported, streams, StoreDevices::none())
         }
         Invocation::Check { store } => {
             let Streams { output, errors, .. } = &mut streams;
-            let told = check_store(rt, disks, start, store, output, errors);
-            (told, streams, LeftDevices::none())
+            let reported = check_store(rt, disks, start, store, output, errors);
+            (reported, streams, StoreDevices::none())
         }
         Invocation::Upgrade { old, new } => {
-            let (told, left) = upgrade_store(
+            let (reported, left) = upgrade_store(
                 rt,
                 disks,
                 start,
@@ -262,24 +270,32 @@ where
                 new,
                 &mut streams.output,
             );
-            (told, streams, left)
+            (reported, streams, left)
         }
         Invocation::Timetable { paths, is_tabbed } => {
             let form = form_of(is_tabbed);
             let Streams { output, errors, .. } = &mut streams;
-            let told = timetable_read(alloc, paths, form, files, output, errors);
-            (told, streams, LeftDevices::none())
+            let reported = timetable_files(alloc, paths, form, files, output, errors);
+            (reported, streams, StoreDevices::none())
         }
         Invocation::StoreTimetable { store, is_tabbed } => {
             let Streams { output, errors, .. } = &mut streams;
-            let told = timetable_store(rt, disks, start, store, form_of(is_tabbed), output, errors);
-            (told, streams, LeftDevices::none())
+            let reported = timetable_store(
+                rt,
+                disks,
+                start,
+                store,
+                form_of(is_tabbed),
+                output,
+                errors,
+            );
+            (reported, streams, StoreDevices::none())
         }
     }
 }
 
-// Serves the input over the store in the file.
-fn run_over<R, X: Disks, T: Start, I: Read, W: Write, E: Write>(
+// Executes the subcommand `run`: serves the input over the store in the file.
+fn run_subcommand<R, X: DeviceFiles, T: FileAssumptions, I: Read, W: Write, E: Write>(
     rt: &R,
     disks: &mut X,
     start: T,
@@ -290,14 +306,14 @@ fn run_over<R, X: Disks, T: Start, I: Read, W: Write, E: Write>(
 where
     R: Eprint + AllocGlobal,
     ensures status { IfOk result.0 (λ status. status ≤ 4) }
-    ensures asks { X.asked disks.new ≡ (DiskCall.Take, store.now) ∷ X.asked disks.old }
+    ensures asks { X.requested disks.new ≡ (FileRequest.OpenExisting, store.now) ∷ X.requested disks.old }
     ensures runs { IfOk result.0 (RunsStore ⟦<FileDevice<T> as Sectors>⟧
-        (IsTakenAt ⟦<HostFile as FileCalls>⟧.entries) store.now is_strict
+        (IsOpenedExistingAt ⟦<HostFile as FileCalls>⟧.entries) store.now is_strict
         (given_by I.remaining streams.input result.1.input) (held W.contents streams.output)
         (held W.contents result.1.output) result.1.input.has_failed
         result.1.output.has_failed) }
     ensures serves { ServesStore ⟦<FileDevice<T> as Sectors>⟧
-        (IsTakenAt ⟦<HostFile as FileCalls>⟧.entries) store.now is_strict
+        (IsOpenedExistingAt ⟦<HostFile as FileCalls>⟧.entries) store.now is_strict
         (given_by I.remaining streams.input result.1.input) (held W.contents streams.output)
         (held W.contents result.1.output) result.1.input.has_failed
         result.1.output.has_failed result.2 }
@@ -307,7 +323,7 @@ where
         output,
         mut errors,
     } = streams;
-    let (told, output, left) = run_store(
+    let (reported, output, left) = run_store(
         rt,
         disks,
         start,
@@ -322,5 +338,5 @@ where
         output,
         errors,
     };
-    (told, streams, left)
+    (reported, streams, left)
 }

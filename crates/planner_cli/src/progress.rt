@@ -1,4 +1,4 @@
-//! How far a long command is, on standard error; no clause speaks of it.
+//! The progress of long commands, on standard error. No clause covers it.
 ghost use Rattle.std.specs.Prelude.{[], true, Some};
 
 use log::kv::Source;
@@ -6,7 +6,7 @@ use log::span::Spans;
 use log::{Log, Metadata, Record};
 use std::fmt::Display;
 
-/// Writes what each record says as a line on standard error. A line that can't be written is dropped.
+/// A logger that writes each record as a line on standard error. A line that can't be written is dropped.
 #[derive(Drop)]
 pub(crate) struct Progress<'a, R>(pub &'a R);
 

@@ -1,63 +1,64 @@
-//! Stores in files: `format`, `run` over standard input, and `upgrade`.
+//! The subcommands over stores in files: `format`, `run` over standard input, and `upgrade`.
 //!
-//! What the system said of a file that can't be opened or made, and of a device's call that failed, is told on standard
-//! error; no clause speaks of it.
+//! If a file can't be opened or made, or a call of a device fails, the system's error is printed on standard
+//! error. No clause covers these lines.
 ghost use Rattle.std.specs.Prelude.{◌≡◌, ◌≢◌, ◌≤◌, ◌<◌, ◌↔◌, ◌∷◌, Bool, Err, IfOk, IsErrOf, List, OnOk, false, true};
 ghost use Rattle.std.specs.Io.KnownBytes.{Appends};
-ghost use Rattle.command_serving.specs.Held.{given_by, held};
-ghost use Rattle.command_serving.specs.Strict.{TellsLast};
-ghost use Rattle.command_serving.specs.declared.answering.ServeFault.TheVariants.{ReadFault};
-ghost use Rattle.sector_disk.specs.Disks.{DiskEntry, IsMadeAt, IsTakenAt};
+ghost use Rattle.command_server.specs.TrackedStream.{given_by, held};
+ghost use Rattle.command_server.specs.Strict.{ReportsLast};
+ghost use Rattle.command_server.specs.declared.answering.ServeFault.TheVariants.{ReadFault};
+ghost use Rattle.file_disk.specs.DeviceFiles.{FileRequestEntry, IsCreatedAt, IsOpenedExistingAt};
 ghost use Rattle.checkpoint.specs.Layouts.{sectors_in, version_2};
-ghost use Rattle.planner_cli.specs.Formatting.{FormatsStore, IsFormatted, IsMadeWith, MakesStoreAt};
+ghost use Rattle.planner_cli.specs.Format.{FormatsStore, IsFormatted, IsMadeWith, MakesStoreAt};
 ghost use Rattle.planner_cli.specs.Statuses.{IsUpgradeStatus};
-ghost use Rattle.planner_cli.specs.Telling.{TellsFormat, TellsText, new_line, open_status, unmade_line};
-ghost use Rattle.planner_cli.specs.Upgrading.{TellsSame, UpgradesOnto, UpgradesOther, UpgradesStore, UpgradesTaken};
-ghost use Rattle.planner_cli.specs.Running.{IsEnded, RunsSession, RunsStore, ServesOver, ServesStore, TellsEnded, TellsServed, opened_line, stop_unless};
+ghost use Rattle.planner_cli.specs.Messages.{PrintsFormatResult, PrintsText, new_file_fault_line, file_fault_status, new_format_fault_line};
+ghost use Rattle.planner_cli.specs.Upgrade.{PrintsSameStore, UpgradesDevice, UpgradesDistinct, UpgradesStore, UpgradesFromFile};
+ghost use Rattle.planner_cli.specs.Run.{IsInputServed, RunsSession, RunsStore, ServesOver, ServesStore, PrintsServeEnd, PrintsServeResult, opened_line, stop_unless_failed};
 
-use crate::doubted::open_doubted;
-use crate::left_devices::LeftDevices;
-use crate::opened::{close_store, tell_unopened};
-use crate::progress::Progress;
-use crate::remains::{tell_length, tell_not_old};
-use crate::telling::{
-    tell_cause, tell_format, tell_new_refusal, tell_refusal, tell_store_fault, tell_text,
-    tell_upgrade,
+use crate::file_hints::{report_length, report_upgrade_hint};
+use crate::messages::{
+    print_file_refusal, print_format_result, print_line, print_new_file_refusal, print_store_fault,
+    print_upgrade_result, report_cause,
 };
+use crate::opening::{close_store, print_open_failure};
+use crate::progress::Progress;
+use crate::store_devices::StoreDevices;
+use crate::warned_opening::open_with_warning;
 use auditor_cli::status::{BROKEN, DONE, FILE, USAGE};
 use checkpoint::{FormatFault, Place, SECTORS, format, format_with};
 use command_core::State;
-use command_serving::{ServeFault, Stopped, Strict, Watched, serve_source};
+use command_server::{FailedAnswer, FailureTracking, ServeFault, StrictWriter, serve_source};
+use file_disk::{DeviceFiles, FileAssumptions, FileCalls, FileDevice, FileRequest, HostFile};
 use recover::{Opened, Session, read_version_1};
-use sector_disk::{DiskCall, Disks, FileCalls, FileDevice, HostFile, Sectors, Start};
+use sector_disk::Sectors;
 use std::alloc::Global;
 use std::io;
 use std::io::{Read, Write};
 
-/// Makes an empty store in the file, tells what came of it, and gives the device, if there is one.
-pub(crate) fn format_store<R, X: Disks, T: Start, W: Write>(
+/// Makes an empty store in the file and prints the result. Returns the device, if there is one.
+pub(crate) fn format_store<R, X: DeviceFiles, T: FileAssumptions, W: Write>(
     rt: &R,
     disks: &mut X,
     start: T,
     store: &str,
-    output: &mut Watched<W>,
+    output: &mut FailureTracking<W>,
 ) -> (io::Result<u8>, Option<FileDevice<T>>)
 where
     R: Eprint + AllocGlobal,
     ensures status { IfOk result.0 (λ status. status ≤ 4) }
-    ensures asks { X.asked disks.new ≡ (DiskCall.Make, store.now) ∷ X.asked disks.old }
+    ensures asks { X.requested disks.new ≡ (FileRequest.Create, store.now) ∷ X.requested disks.old }
     ensures formats { FormatsStore ⟦<FileDevice<T> as Sectors>⟧
-        (IsMadeAt ⟦<HostFile as FileCalls>⟧.entries) store.now
+        (IsCreatedAt ⟦<HostFile as FileCalls>⟧.entries) store.now
         (held W.contents output.old) (held W.contents output.new) result.0 result.1 }
 {
-    match disks.make(store, SECTORS, start) {
+    match disks.create(store, SECTORS, start) {
         Ok(mut device) => {
             let made = format_device(rt.alloc(), &mut device);
-            let told = tell_format(output, &device, made);
-            tell_cause(rt, store, device.cause());
-            (told, Some(device))
+            let reported = print_format_result(output, &device, made);
+            report_cause(rt, store, device.cause());
+            (reported, Some(device))
         }
-        Err(refusal) => (tell_refusal(rt, output, store, refusal), None),
+        Err(refusal) => (print_file_refusal(rt, output, store, refusal), None),
     }
 }
 
@@ -70,41 +71,41 @@ pub(crate) fn format_device<D: Sectors>(alloc: Global, device: &mut D) -> Result
     format(alloc, device)
 }
 
-/// Opens the store in the file, and serves the input over it, by `is_strict` up to the first answer that tells a refusal or a
-/// failed device. Why the store is suspect, and how many search steps opening repeats, is told on `errors` first. The device, if there
-/// is one, is given as it is left.
-pub(crate) fn run_store<R, X: Disks, T: Start, I: Read, W: Write, E: Write>(
+/// Opens the store in the file and serves the input over it. If `is_strict`, serving ends at the first answer
+/// that reports a refusal or a failed device. Before serving, prints on `errors` an integrity warning if the
+/// store is suspect, and how many search steps opening replays. Returns the device, if there is one.
+pub(crate) fn run_store<R, X: DeviceFiles, T: FileAssumptions, I: Read, W: Write, E: Write>(
     rt: &R,
     disks: &mut X,
     start: T,
     store: &str,
     is_strict: bool,
-    input: &mut Watched<I>,
-    output: Watched<W>,
+    input: &mut FailureTracking<I>,
+    output: FailureTracking<W>,
     errors: &mut E,
-) -> (io::Result<u8>, Watched<W>, Option<FileDevice<T>>)
+) -> (io::Result<u8>, FailureTracking<W>, Option<FileDevice<T>>)
 where
     R: Eprint + AllocGlobal,
     ensures status { IfOk result.0 (λ status. status ≤ 4) }
-    ensures asks { X.asked disks.new ≡ (DiskCall.Take, store.now) ∷ X.asked disks.old }
+    ensures asks { X.requested disks.new ≡ (FileRequest.OpenExisting, store.now) ∷ X.requested disks.old }
     ensures runs { IfOk result.0 (RunsStore ⟦<FileDevice<T> as Sectors>⟧
-        (IsTakenAt ⟦<HostFile as FileCalls>⟧.entries) store.now is_strict
+        (IsOpenedExistingAt ⟦<HostFile as FileCalls>⟧.entries) store.now is_strict
         (given_by I.remaining input.old input.new)
         (held W.contents output) (held W.contents result.1)
         input.new.has_failed result.1.has_failed) }
     ensures serves { ServesStore ⟦<FileDevice<T> as Sectors>⟧
-        (IsTakenAt ⟦<HostFile as FileCalls>⟧.entries) store.now is_strict
+        (IsOpenedExistingAt ⟦<HostFile as FileCalls>⟧.entries) store.now is_strict
         (given_by I.remaining input.old input.new)
         (held W.contents output) (held W.contents result.1)
         input.new.has_failed result.1.has_failed result.2 }
 {
-    match open_doubted(rt, disks, start, store, errors) {
+    match open_with_warning(rt, disks, start, store, errors) {
         Ok(opened) => {
             let Opened {
                 mut session,
                 replayed,
             } = opened;
-            let (told, output) = serve_opened(
+            let (reported, output) = serve_opened(
                 rt,
                 rt.alloc(),
                 &mut session,
@@ -114,177 +115,179 @@ where
                 output,
             );
             let device = close_store(rt, store, session);
-            (told, output, Some(device))
+            (reported, output, Some(device))
         }
         Err(unopened) => {
-            let (mut writer, noted) = output.apart();
-            let (told, left) = tell_unopened(rt, &mut writer, store, unopened);
-            (told, Watched::again(writer, noted), left)
+            let (mut writer, noted) = output.into_parts();
+            let (reported, left) = print_open_failure(rt, &mut writer, store, unopened);
+            (reported, FailureTracking::from_parts(writer, noted), left)
         }
     }
 }
 
-/// Makes a store in the new file, of the state that the store of version 1 in the old one stands for, and tells what came of
-/// it. The old store is read whole before the new file is made, and neither is touched where both are one.
-pub(crate) fn upgrade_store<R, X: Disks, T: Start, U: Start, W: Write>(
+/// Reads the store of version 1 in the old file, makes a store with its state in the new file, and prints the
+/// result. The old store is read completely before the new file is made. If both paths lead to the same file,
+/// neither is touched.
+pub(crate) fn upgrade_store<R, X: DeviceFiles, T: FileAssumptions, U: FileAssumptions, W: Write>(
     rt: &R,
     disks: &mut X,
     start: T,
     start_of_new: U,
     old: &str,
     new: &str,
-    output: &mut Watched<W>,
-) -> (io::Result<u8>, LeftDevices<FileDevice<T>, FileDevice<U>>)
+    output: &mut FailureTracking<W>,
+) -> (io::Result<u8>, StoreDevices<FileDevice<T>, FileDevice<U>>)
 where
     R: Eprint + AllocGlobal,
     ensures status { IfOk result.0 IsUpgradeStatus }
     ensures upgrades { UpgradesStore ⟦<FileDevice<T> as Sectors>⟧ ⟦<FileDevice<U> as Sectors>⟧
-        (IsTakenAt ⟦<HostFile as FileCalls>⟧.entries) (IsMadeAt ⟦<HostFile as FileCalls>⟧.entries)
-        old.now new.now (record { was = X.asked disks.old; now = X.asked disks.new })
+        (IsOpenedExistingAt ⟦<HostFile as FileCalls>⟧.entries) (IsCreatedAt ⟦<HostFile as FileCalls>⟧.entries)
+        old.now new.now (record { was = X.requested disks.old; now = X.requested disks.new })
         (held W.contents output.old) (held W.contents output.new) result.0 result.1 }
 {
     if old == new {
-        return (tell_same(output), LeftDevices::none());
+        return (print_same_store(output), StoreDevices::none());
     }
-    upgrade_other(rt, disks, start, start_of_new, old, new, output)
+    upgrade_distinct(rt, disks, start, start_of_new, old, new, output)
 }
 
-// The same for two words that differ, which may lead to one file all the same.
-fn upgrade_other<R, X: Disks, T: Start, U: Start, W: Write>(
+// Upgrades a store between two paths that differ but may still lead to the same file.
+fn upgrade_distinct<R, X: DeviceFiles, T: FileAssumptions, U: FileAssumptions, W: Write>(
     rt: &R,
     disks: &mut X,
     start: T,
     start_of_new: U,
     old: &str,
     new: &str,
-    output: &mut Watched<W>,
-) -> (io::Result<u8>, LeftDevices<FileDevice<T>, FileDevice<U>>)
+    output: &mut FailureTracking<W>,
+) -> (io::Result<u8>, StoreDevices<FileDevice<T>, FileDevice<U>>)
 where
     R: Eprint + AllocGlobal,
     ensures status { IfOk result.0 IsUpgradeStatus }
-    ensures upgrades { (compared : List DiskEntry) × (is_one : Bool)
-        × UpgradesOther ⟦<FileDevice<T> as Sectors>⟧ ⟦<FileDevice<U> as Sectors>⟧
-        (IsTakenAt ⟦<HostFile as FileCalls>⟧.entries) (IsMadeAt ⟦<HostFile as FileCalls>⟧.entries)
+    ensures upgrades { (compared : List FileRequestEntry) × (is_one : Bool)
+        × UpgradesDistinct ⟦<FileDevice<T> as Sectors>⟧ ⟦<FileDevice<U> as Sectors>⟧
+        (IsOpenedExistingAt ⟦<HostFile as FileCalls>⟧.entries) (IsCreatedAt ⟦<HostFile as FileCalls>⟧.entries)
         old.now new.now compared is_one
-        (record { was = X.asked disks.old; now = X.asked disks.new })
+        (record { was = X.requested disks.old; now = X.requested disks.new })
         (held W.contents output.old) (held W.contents output.new) result.0 result.1 }
 {
-    if disks.are_one(old, new) {
-        return (tell_same(output), LeftDevices::none());
+    if disks.is_same_file(old, new) {
+        return (print_same_store(output), StoreDevices::none());
     }
-    upgrade_taken(rt, disks, start, start_of_new, old, new, output)
+    upgrade_from_file(rt, disks, start, start_of_new, old, new, output)
 }
 
-fn tell_same<W: Write>(output: &mut W) -> io::Result<u8>
-    ensures { TellsSame (W.contents output.old) (W.contents output.new) result }
+fn print_same_store<W: Write>(output: &mut W) -> io::Result<u8>
+    ensures { PrintsSameStore (W.contents output.old) (W.contents output.new) result }
 {
-    tell_text(output, b"same store", USAGE)
+    print_line(output, b"same store", USAGE)
 }
 
-// Takes the old file, and upgrades the store in it.
-fn upgrade_taken<R, X: Disks, T: Start, U: Start, W: Write>(
+// Opens the old file for writing, which locks it, and upgrades the store in it.
+fn upgrade_from_file<R, X: DeviceFiles, T: FileAssumptions, U: FileAssumptions, W: Write>(
     rt: &R,
     disks: &mut X,
     start: T,
     start_of_new: U,
     old: &str,
     new: &str,
-    output: &mut Watched<W>,
-) -> (io::Result<u8>, LeftDevices<FileDevice<T>, FileDevice<U>>)
+    output: &mut FailureTracking<W>,
+) -> (io::Result<u8>, StoreDevices<FileDevice<T>, FileDevice<U>>)
 where
     R: Eprint + AllocGlobal,
     ensures status { IfOk result.0 (λ status. status ≤ 4) }
-    ensures upgrades { (taken : List DiskEntry)
-        × UpgradesTaken ⟦<FileDevice<T> as Sectors>⟧ ⟦<FileDevice<U> as Sectors>⟧
-        (IsTakenAt ⟦<HostFile as FileCalls>⟧.entries) (IsMadeAt ⟦<HostFile as FileCalls>⟧.entries)
-        old.now new.now taken (record { was = X.asked disks.old; now = X.asked disks.new })
+    ensures upgrades { (taken : List FileRequestEntry)
+        × UpgradesFromFile ⟦<FileDevice<T> as Sectors>⟧ ⟦<FileDevice<U> as Sectors>⟧
+        (IsOpenedExistingAt ⟦<HostFile as FileCalls>⟧.entries) (IsCreatedAt ⟦<HostFile as FileCalls>⟧.entries)
+        old.now new.now taken (record { was = X.requested disks.old; now = X.requested disks.new })
         (held W.contents output.old) (held W.contents output.new) result.0 result.1 }
 {
-    match disks.take(old, start) {
-        Ok(device) => upgrade_onto(rt, disks, device, start_of_new, old, new, output),
+    match disks.open_existing(old, start) {
+        Ok(device) => upgrade_device(rt, disks, device, start_of_new, old, new, output),
         Err(refusal) => {
-            tell_length(rt, old, refusal.fault);
-            let told = tell_refusal(rt, output, old, refusal);
-            (told, LeftDevices::none())
+            report_length(rt, old, refusal.fault);
+            let reported = print_file_refusal(rt, output, old, refusal);
+            (reported, StoreDevices::none())
         }
     }
 }
 
-// Reads the store of version 1 on the device over the old file, and makes one of its state in the new file.
-fn upgrade_onto<R, X: Disks, T: Start, U: Start, W: Write>(
+// Reads the store of version 1 on the device over the old file, and makes a store with its state in the new
+// file.
+fn upgrade_device<R, X: DeviceFiles, T: FileAssumptions, U: FileAssumptions, W: Write>(
     rt: &R,
     disks: &mut X,
     mut device: FileDevice<T>,
     start: U,
     old: &str,
     new: &str,
-    output: &mut Watched<W>,
-) -> (io::Result<u8>, LeftDevices<FileDevice<T>, FileDevice<U>>)
+    output: &mut FailureTracking<W>,
+) -> (io::Result<u8>, StoreDevices<FileDevice<T>, FileDevice<U>>)
 where
     R: Eprint + AllocGlobal,
     ensures status { IfOk result.0 (λ status. status ≤ 4) }
-    ensures upgrades { UpgradesOnto ⟦<FileDevice<T> as Sectors>⟧ ⟦<FileDevice<U> as Sectors>⟧
-        (IsTakenAt ⟦<HostFile as FileCalls>⟧.entries) (IsMadeAt ⟦<HostFile as FileCalls>⟧.entries)
-        device new.now (record { was = X.asked disks.old; now = X.asked disks.new })
+    ensures upgrades { UpgradesDevice ⟦<FileDevice<T> as Sectors>⟧ ⟦<FileDevice<U> as Sectors>⟧
+        (IsOpenedExistingAt ⟦<HostFile as FileCalls>⟧.entries) (IsCreatedAt ⟦<HostFile as FileCalls>⟧.entries)
+        device new.now (record { was = X.requested disks.old; now = X.requested disks.new })
         (held W.contents output.old) (held W.contents output.new) result.0 result.1 }
 {
     let read = read_version_1(rt.alloc(), &mut device);
-    tell_cause(rt, old, device.cause());
+    report_cause(rt, old, device.cause());
     match read {
         Ok(state) => {
-            let (told, made) = make_upgraded(rt, disks, start, new, &state, output);
+            let (reported, made) = make_new_store(rt, disks, start, new, &state, output);
             drop(state);
-            let left = LeftDevices {
+            let left = StoreDevices {
                 store: Some(device),
                 new_store: made,
             };
-            (told, left)
+            (reported, left)
         }
         Err(fault) => {
-            tell_not_old(rt, old, fault);
-            let told = tell_store_fault(output, fault);
-            let left = LeftDevices {
+            report_upgrade_hint(rt, old, fault);
+            let reported = print_store_fault(output, fault);
+            let left = StoreDevices {
                 store: Some(device),
                 new_store: None,
             };
-            (told, left)
+            (reported, left)
         }
     }
 }
 
-// Makes a store of the state in the new file. The device over the old one is held meanwhile, and so its lock.
-fn make_upgraded<R, X: Disks, U: Start, W: Write>(
+// Makes a store with this state in the new file. Meanwhile the device over the old file keeps its lock.
+fn make_new_store<R, X: DeviceFiles, U: FileAssumptions, W: Write>(
     rt: &R,
     disks: &mut X,
     start: U,
     new: &str,
     state: &State,
-    output: &mut Watched<W>,
+    output: &mut FailureTracking<W>,
 ) -> (io::Result<u8>, Option<FileDevice<U>>)
 where
     R: Eprint + AllocGlobal,
     ensures status { IfOk result.0 (λ status. status ≤ 4) }
-    ensures asks { X.asked disks.new ≡ (DiskCall.Make, new.now) ∷ X.asked disks.old }
+    ensures asks { X.requested disks.new ≡ (FileRequest.Create, new.now) ∷ X.requested disks.old }
     ensures makes { MakesStoreAt ⟦<FileDevice<U> as Sectors>⟧
-        (IsMadeAt ⟦<HostFile as FileCalls>⟧.entries) state.now new.now
-        (λ made calls. TellsFormat unmade_line made calls
+        (IsCreatedAt ⟦<HostFile as FileCalls>⟧.entries) state.now new.now
+        (λ made calls. PrintsFormatResult new_format_fault_line made calls
         (held W.contents output.old) (held W.contents output.new) result.0)
-        (λ fault. TellsText (new_line new.now fault) (open_status fault)
+        (λ fault. PrintsText (new_file_fault_line new.now fault) (file_fault_status fault)
         (W.contents output.old.inner) (W.contents output.new.inner) result.0) result.1 }
 {
-    match disks.make(new, SECTORS, start) {
+    match disks.create(new, SECTORS, start) {
         Ok(mut made) => {
-            let upgraded = make_device(rt.alloc(), &mut made, state);
-            let told = tell_upgrade(output, &made, upgraded);
-            tell_cause(rt, new, made.cause());
-            (told, Some(made))
+            let upgraded = format_with_state(rt.alloc(), &mut made, state);
+            let reported = print_upgrade_result(output, &made, upgraded);
+            report_cause(rt, new, made.cause());
+            (reported, Some(made))
         }
-        Err(refusal) => (tell_new_refusal(rt, output, new, refusal), None),
+        Err(refusal) => (print_new_file_refusal(rt, output, new, refusal), None),
     }
 }
 
-// Makes a store of the state on the device.
-fn make_device<D: Sectors>(
+// Makes a store with this state on the device.
+fn format_with_state<D: Sectors>(
     alloc: Global,
     device: &mut D,
     state: &State,
@@ -296,16 +299,16 @@ fn make_device<D: Sectors>(
     format_with(alloc, device, state)
 }
 
-// Tells how many steps were repeated, and serves the input.
+// Prints how many search steps were replayed, and serves the input.
 fn serve_opened<R: Eprint, D: Sectors + Drop, I: Read, W: Write>(
     rt: &R,
     alloc: Global,
     session: &mut Session<D>,
     replayed: u64,
     is_strict: bool,
-    input: &mut Watched<I>,
-    output: Watched<W>,
-) -> (io::Result<u8>, Watched<W>)
+    input: &mut FailureTracking<I>,
+    output: FailureTracking<W>,
+) -> (io::Result<u8>, FailureTracking<W>)
     ensures status { IfOk result.0 (λ status. status ≤ 4) }
     ensures runs { IfOk result.0 (RunsSession D.Sectors session.old replayed is_strict
         (given_by I.remaining input.old input.new)
@@ -316,21 +319,21 @@ fn serve_opened<R: Eprint, D: Sectors + Drop, I: Read, W: Write>(
         (held W.contents output) (held W.contents result.1)
         input.new.has_failed result.1.has_failed session.new }
 {
-    let (mut writer, noted) = output.apart();
-    let opened = tell_opened(replayed, &mut writer);
-    let output = Watched::again(writer, noted);
+    let (mut writer, noted) = output.into_parts();
+    let opened = print_opened(replayed, &mut writer);
+    let output = FailureTracking::from_parts(writer, noted);
     match opened {
         Ok(()) => {
             let ended = serve_input(rt, alloc, session, is_strict, input, output);
-            let (mut writer, noted) = ended.output.apart();
-            let told = tell_ended(ended.served, ended.stopped, &mut writer);
-            (told, Watched::again(writer, noted))
+            let (mut writer, noted) = ended.output.into_parts();
+            let reported = print_serve_end(ended.served, ended.failed_answer, &mut writer);
+            (reported, FailureTracking::from_parts(writer, noted))
         }
         Err(error) => (Err(error), output),
     }
 }
 
-fn tell_opened<W: Write>(replayed: u64, output: &mut W) -> io::Result<()>
+fn print_opened<W: Write>(replayed: u64, output: &mut W) -> io::Result<()>
     ensures { OnOk result (Appends (W.contents output.old) (W.contents output.new)
         (opened_line replayed)) }
 {
@@ -338,13 +341,13 @@ fn tell_opened<W: Write>(replayed: u64, output: &mut W) -> io::Result<()>
     output.flush()
 }
 
-/// What came of serving an input, and the output as it is left.
+/// The result of serving an input, and the output as it is left.
 #[derive(Drop)]
-struct Ended<W: Write> {
+struct ServeOutcome<W: Write> {
     served: Result<(), ServeFault>,
-    /// What a strict serving ended at.
-    stopped: Option<Stopped>,
-    output: Watched<W>,
+    /// The answer at which a strict run ended, if there is one.
+    failed_answer: Option<FailedAnswer>,
+    output: FailureTracking<W>,
 }
 
 // Serves the input.
@@ -353,11 +356,11 @@ fn serve_input<R: Eprint, D: Sectors + Drop, I: Read, W: Write>(
     alloc: Global,
     session: &mut Session<D>,
     is_strict: bool,
-    input: &mut Watched<I>,
-    output: Watched<W>,
-) -> Ended<W>
-    ensures { IsEnded D.Sectors session.old is_strict (given_by I.remaining input.old input.new)
-        (held W.contents output) result.served result.stopped (held W.contents result.output)
+    input: &mut FailureTracking<I>,
+    output: FailureTracking<W>,
+) -> ServeOutcome<W>
+    ensures { IsInputServed D.Sectors session.old is_strict (given_by I.remaining input.old input.new)
+        (held W.contents output) result.served result.failed_answer (held W.contents result.output)
         input.new.has_failed result.output.has_failed session.new }
 {
     if is_strict {
@@ -365,69 +368,70 @@ fn serve_input<R: Eprint, D: Sectors + Drop, I: Read, W: Write>(
     }
     let mut output = output;
     let served = serve_source(&Progress(rt), alloc, session, input, &mut output);
-    Ended {
+    ServeOutcome {
         served,
-        stopped: None,
+        failed_answer: None,
         output,
     }
 }
 
-// Serves the input up to the first answer that tells a refusal or a failed device.
+// Serves the input up to the first answer that reports a refusal or a failed device.
 fn serve_strictly<R: Eprint, D: Sectors + Drop, I: Read, W: Write>(
     rt: &R,
     alloc: Global,
     session: &mut Session<D>,
-    input: &mut Watched<I>,
-    output: Watched<W>,
-) -> Ended<W>
-    ensures { IsEnded D.Sectors session.old true (given_by I.remaining input.old input.new)
-        (held W.contents output) result.served result.stopped (held W.contents result.output)
+    input: &mut FailureTracking<I>,
+    output: FailureTracking<W>,
+) -> ServeOutcome<W>
+    ensures { IsInputServed D.Sectors session.old true (given_by I.remaining input.old input.new)
+        (held W.contents output) result.served result.failed_answer (held W.contents result.output)
         input.new.has_failed result.output.has_failed session.new }
 {
-    let mut answers = Strict::new(output);
+    let mut answers = StrictWriter::new(output);
     let served = serve_source(&Progress(rt), alloc, session, input, &mut answers);
-    let stopped = stop_of(&answers);
-    Ended {
+    let failed_answer = strict_stop(&answers);
+    ServeOutcome {
         served,
-        stopped,
+        failed_answer,
         output: answers.into_inner(),
     }
 }
 
-// What the last answer tells, where the writer has not failed.
-fn stop_of<W: Write>(answers: &Strict<W>) -> Option<Stopped>
-    ensures stop { result ≡ stop_unless answers.now.writer.has_failed answers.now.told }
+// Returns the answer that ends a strict run, if the last answer does and the writer has not failed.
+fn strict_stop<W: Write>(answers: &StrictWriter<W>) -> Option<FailedAnswer>
+    ensures stop { result ≡ stop_unless_failed answers.now.writer.has_failed answers.now.reported }
     ensures last { answers.now.writer.has_failed ≡ false
-        → TellsLast answers.now.before (held W.contents answers.now.writer) result }
+        → ReportsLast answers.now.before (held W.contents answers.now.writer) result }
 {
     if answers.has_failed() {
         return None;
     }
-    answers.stopped()
+    answers.failed_answer()
 }
 
-// Gives the status of what was served, by the answer that a strict serving ended at, if it did.
-fn tell_ended<W: Write>(
+// Returns the status of a run. If a strict run ended at an answer, prints nothing more; otherwise prints a line
+// if the input can't be read.
+fn print_serve_end<W: Write>(
     served: Result<(), ServeFault>,
-    stopped: Option<Stopped>,
+    failed_answer: Option<FailedAnswer>,
     output: &mut W,
 ) -> io::Result<u8>
     ensures status { IfOk result (λ status. status ≤ 4) }
-    ensures told { IfOk result (TellsEnded served stopped
+    ensures reported { IfOk result (PrintsServeEnd served failed_answer
         (W.contents output.old) (W.contents output.new)) }
     ensures kept { served ≢ Err ReadFault → output.new ≡ output.old }
 {
-    match stopped {
-        Some(Stopped::Refused) => Ok(BROKEN),
-        Some(Stopped::DeviceFault) => Ok(FILE),
-        None => tell_served(served, output),
+    match failed_answer {
+        Some(FailedAnswer::Refused) => Ok(BROKEN),
+        Some(FailedAnswer::DeviceFault) => Ok(FILE),
+        None => print_serve_result(served, output),
     }
 }
 
-// Tells an input that can't be read, and gives the status of what was served.
-fn tell_served<W: Write>(served: Result<(), ServeFault>, output: &mut W) -> io::Result<u8>
+// Prints a line if the input can't be read, and returns the status of the run.
+fn print_serve_result<W: Write>(served: Result<(), ServeFault>, output: &mut W) -> io::Result<u8>
     ensures status { IfOk result (λ status. status ≤ 4) }
-    ensures told { IfOk result (TellsServed served
+    ensures reported { IfOk result (PrintsServeResult served
         (W.contents output.old) (W.contents output.new)) }
     ensures kept { served ≢ Err ReadFault → output.new ≡ output.old }
 {

@@ -1,60 +1,62 @@
--- Rounds, one after another, as a fold over states.
+-- The result of rounds, one after another, is a fold over states.
 use Rattle.std.proofs.Common.{◌≡◌, ℕ, List, [], ◌∷◌, take, sym, ◌∙◌, ap, subst}
 use Rattle.sector_disk.specs.declared.mem_device.MemDevice.{MemDevice}
-use Rattle.plan_audit.specs.Locality.{TestsSayPass}
-use Rattle.command_core.specs.Runs.{IsState, after, AreAccepted}
-use Rattle.command_core.specs.RunLaws.{RunsKeepFacts, PlansNeverCostMore, RunsAreOneSearch, RunsAreOneAnnealing, IsNoWorse}
-use Rattle.command_core.specs.declared.states.State.{State}
-use Rattle.command_core.specs.declared.commands.Command.{Command}
+use Rattle.plan_audit.specs.Locality.{PassesDecidesTheVerdict}
+use Rattle.command_core.specs.Runs.{after, AreAccepted}
+use Rattle.command_types.specs.States.{IsState}
+use Rattle.command_core.specs.RunLaws.{RunsKeepInvariants, PlansNeverCostMore, RunsAreOneSearch, RunsAreOneAnnealing, IsNoWorse}
+use Rattle.command_types.specs.declared.states.State.{State}
+use Rattle.command_types.specs.declared.commands.Command.{Command}
 use Rattle.recover.specs.declared.replies.Run.{Run}
 use Rattle.recover.specs.declared.rounds.Round.{Round}
 use Rattle.state_codec.specs.declared.version.Version.TheVariants.{Two}
-use Rattle.recover.specs.StandsFor.{StandsFor}
+use Rattle.recover.specs.RecoversTo.{RecoversTo}
 use Rattle.recover.specs.Replies.{kept}
 use Rattle.recover.specs.Sessions.{SessionValue}
 use Rattle.recover.specs.Rounds.{seen_in, AreRounds, IsMemoryOpened, EndsRounds}
-use Rattle.recover.specs.Folds.{AreCounts, standing, LeadsTo, IsFold}
+use Rattle.recover.specs.Folds.{AreCounts, recovered_commands, LeadsTo, IsFold}
 use Rattle.recover.proofs.Headlines.{passing, stands_state}
 use Rattle.recover.proofs.StepLemmas.{after-append, accepted-append}
 use Rattle.recover.proofs.RoundLemmas.{reads_possible}
 
--- the commands of the rounds that stand lead from what the device stood for to what it stands for now
+-- the recovered commands of the rounds lead from the state that the device recovered to at first to the one
+-- that it recovers to now
 record Folds (begun : State) (rounds : List Round) (runs : List Run) (left : MemDevice) : Type 0 where
   pub counts : List ℕ
   pub one_each : AreCounts rounds runs counts
-  pub accepted : AreAccepted begun (standing rounds runs counts)
-  pub stands : StandsFor Two (seen_in left) (after begun (standing rounds runs counts))
+  pub accepted : AreAccepted begun (recovered_commands rounds runs counts)
+  pub stands : RecoversTo Two (seen_in left) (after begun (recovered_commands rounds runs counts))
 
-folds : (rounds : List Round) (runs : List Run) (device left : MemDevice) (begun : State) → AreRounds device rounds runs left → StandsFor Two (seen_in device) begun → Folds begun rounds runs left
-folds [] [] device left begun are stands = record { counts = []; one_each = tt; accepted = tt; stands = subst (λ (d : MemDevice). StandsFor Two (seen_in d) begun) (sym are) stands }
+folds : (rounds : List Round) (runs : List Run) (device left : MemDevice) (begun : State) → AreRounds device rounds runs left → RecoversTo Two (seen_in device) begun → Folds begun rounds runs left
+folds [] [] device left begun are stands = record { counts = []; one_each = tt; accepted = tt; stands = subst (λ (d : MemDevice). RecoversTo Two (seen_in d) begun) (sym are) stands }
 folds (round ∷ rounds) (run ∷ runs) device left begun are stands =
     let here = are.1 in
     let some = here.images (seen_in are.0) (reads_possible are.0) in
     let mine : List Command = take some.count (kept round.commands.items run.replies.items) in
     let same : here.first.state ≡ begun = here.opened.alone begun stands in
-    let rest = folds rounds runs are.0 left (after begun mine) are.2 (subst (λ (s : State). StandsFor Two (seen_in are.0) (after s mine)) same some.stands) in
-    let more : List Command = standing rounds runs rest.counts in record {
+    let rest = folds rounds runs are.0 left (after begun mine) are.2 (subst (λ (s : State). RecoversTo Two (seen_in are.0) (after s mine)) same some.stands) in
+    let more : List Command = recovered_commands rounds runs rest.counts in record {
       counts = some.count ∷ rest.counts;
       one_each = (record { all_acknowledged = some.all_acknowledged; one_more = some.one_more; within = some.within }, rest.one_each);
       accepted = accepted-append begun mine more (subst (λ (s : State). AreAccepted s mine) same some.accepted) rest.accepted;
-      stands = subst (λ (s : State). StandsFor Two (seen_in left) s) (sym (after-append begun mine more)) rest.stands;
+      stands = subst (λ (s : State). RecoversTo Two (seen_in left) s) (sym (after-append begun mine more)) rest.stands;
     }
 folds [] (run ∷ runs) device left begun are stands = elim are [ ]
 folds (round ∷ rounds) [] device left begun are stands = elim are [ ]
 
--- what the device stood for at first
+-- the state that the device recovered to at first
 record Begins (device : MemDevice) : Type 0 where
   pub begun : State
-  pub stands : StandsFor Two (seen_in device) begun
+  pub stands : RecoversTo Two (seen_in device) begun
 
 begins : (rounds : List Round) (runs : List Run) (device left : MemDevice) (session : SessionValue MemDevice) → AreRounds device rounds runs left → IsMemoryOpened left session → Begins device
-begins [] [] device left session are opened = record { begun = session.state; stands = subst (λ (d : MemDevice). StandsFor Two (seen_in d) session.state) are opened.stands }
+begins [] [] device left session are opened = record { begun = session.state; stands = subst (λ (d : MemDevice). RecoversTo Two (seen_in d) session.state) are opened.stands }
 begins (round ∷ rounds) (run ∷ runs) device left session are opened = record { begun = are.1.first.state; stands = are.1.opened.stands }
 begins [] (run ∷ runs) device left session are opened = elim are [ ]
 begins (round ∷ rounds) [] device left session are opened = elim are [ ]
 
-module _ (keep : RunsKeepFacts) (never_more : PlansNeverCostMore) (one_search : RunsAreOneSearch) (one_annealing : RunsAreOneAnnealing) (say : TestsSayPass) where
-  -- of a state that keeps the facts of states
+module _ (keep : RunsKeepInvariants) (never_more : PlansNeverCostMore) (one_search : RunsAreOneSearch) (one_annealing : RunsAreOneAnnealing) (say : PassesDecidesTheVerdict) where
+  -- a state that keeps its invariants leads to the state after accepted commands
   pub leads_to : (begun : State) (commands : List Command) (given : State) → IsState given → AreAccepted begun commands → given ≡ after begun commands → LeadsTo begun commands given
   leads_to begun commands given facts accepted same = record {
     accepted = accepted;
@@ -76,6 +78,6 @@ module _ (keep : RunsKeepFacts) (never_more : PlansNeverCostMore) (one_search : 
         stands = at.stands;
         counts = all.counts;
         one_each = all.one_each;
-        leads = leads_to at.begun (standing rounds runs all.counts) session.state
+        leads = leads_to at.begun (recovered_commands rounds runs all.counts) session.state
             (stands_state keep never_more say (seen_in ends.left) session.state ends.opened.stands) all.accepted (ends.opened.alone _ all.stands);
       }

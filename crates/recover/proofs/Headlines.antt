@@ -1,29 +1,30 @@
--- Recovery gives what the image stands for, and that is the state after a first part of the commands.
+-- Recovery returns the state that the image recovers to, which is the state after a prefix of the commands.
 use Rattle.std.proofs.Common.{◌≡◌, ℕ, ◌≤◌, List, take, sym, subst}
 use Rattle.std.specs.Prelude.{Result, Ok, Err}
 use Rattle.std.proofs.lemmas.List.{take-take, length-take-le}
 use Rattle.sector_disk.specs.declared.sectors.Sectors as sectors
-use Rattle.plan_audit.specs.Locality.{TestsSayPass}
-use Rattle.command_core.specs.Runs.{IsState, after, last_change}
-use Rattle.command_core.specs.RunLaws.{RunsKeepFacts, PlansNeverCostMore, IsNoWorse}
-use Rattle.command_core.specs.declared.states.State.{State}
-use Rattle.command_core.specs.declared.states.State.TheVariants.{Empty, Loaded}
-use Rattle.command_core.specs.declared.commands.Command.{Command}
+use Rattle.plan_audit.specs.Locality.{PassesDecidesTheVerdict}
+use Rattle.command_core.specs.Runs.{after, last_change}
+use Rattle.command_types.specs.States.{IsState}
+use Rattle.command_core.specs.RunLaws.{RunsKeepInvariants, PlansNeverCostMore, IsNoWorse}
+use Rattle.command_types.specs.declared.states.State.{State}
+use Rattle.command_types.specs.declared.states.State.TheVariants.{Empty, Loaded}
+use Rattle.command_types.specs.declared.commands.Command.{Command}
 use Rattle.state_codec.specs.declared.version.Version.TheVariants.{Two}
 use Rattle.checkpoint.specs.declared.faults.StoreFault.{StoreFault}
 use Rattle.checkpoint.specs.declared.faults.StoreFault.TheVariants.{NotFormatted, BadVersion, Codec, Spent, OutOfMemory, DeviceFault}
-use Rattle.recover.specs.StandsFor.{StandsFor}
+use Rattle.recover.specs.RecoversTo.{RecoversTo}
 use Rattle.recover.specs.Replies.{kept, acked}
-use Rattle.recover.specs.Moments.{StandsForSome}
-use Rattle.recover.specs.Opening.{GivesUnlessFailed, Opens}
+use Rattle.recover.specs.Moments.{RecoversToPrefix}
+use Rattle.recover.specs.Opening.{ReturnsUnlessFailed, Opens}
 use Rattle.recover.specs.Headline.{HasPassingPlan, IsRecovered, Headline}
 
--- the test that the invariant of a job asks says what the auditor's verdict is
-pub passing : TestsSayPass → (state : State) → IsState state → HasPassingPlan state
+-- the test in the invariant of a job agrees with the auditor's verdict
+pub passing : PassesDecidesTheVerdict → (state : State) → IsState state → HasPassingPlan state
 passing say Empty h = tt
 passing say (Loaded job) h = (_, (say job.problem job.pins job.plan).0 h.plan)
 
-weaker : (P Q : State → Type 0) → ((state : State) → P state → Q state) → (outcome : Result State StoreFault) → GivesUnlessFailed P outcome → GivesUnlessFailed Q outcome
+weaker : (P Q : State → Type 0) → ((state : State) → P state → Q state) → (outcome : Result State StoreFault) → ReturnsUnlessFailed P outcome → ReturnsUnlessFailed Q outcome
 weaker P Q so (Ok state) h = so state h
 weaker P Q so (Err OutOfMemory) h = tt
 weaker P Q so (Err DeviceFault) h = tt
@@ -32,12 +33,12 @@ weaker P Q so (Err BadVersion) h = elim h [ ]
 weaker P Q so (Err (Codec _)) h = elim h [ ]
 weaker P Q so (Err Spent) h = elim h [ ]
 
-module _ (keep : RunsKeepFacts) (never_more : PlansNeverCostMore) (say : TestsSayPass) where
-  -- what an image stands for keeps the facts of states
-  pub stands_state : (image : List ℕ) (state : State) → StandsFor Two image state → IsState state
+module _ (keep : RunsKeepInvariants) (never_more : PlansNeverCostMore) (say : PassesDecidesTheVerdict) where
+  -- a state that an image recovers to keeps its invariants
+  pub stands_state : (image : List ℕ) (state : State) → RecoversTo Two image state → IsState state
   stands_state image state stands = subst IsState stands.leads (keep stands.snapshot stands.commands stands.holds.facts stands.accepted)
 
-  pub recovered : (begun : State) (commands : List Command) (acknowledged : ℕ) (image : List ℕ) → (stop : StandsForSome begun commands acknowledged image)
+  pub recovered : (begun : State) (commands : List Command) (acknowledged : ℕ) (image : List ℕ) → (stop : RecoversToPrefix begun commands acknowledged image)
       → (given : State) → given ≡ after begun (take stop.count commands) → IsRecovered begun commands acknowledged given
   recovered begun commands acknowledged image stop given same = record {
     count = stop.count;
@@ -56,9 +57,9 @@ module _ (keep : RunsKeepFacts) (never_more : PlansNeverCostMore) (say : TestsSa
           subst (λ (cs : List Command). IsNoWorse (after begun cs) given) (take-take q stop.count commands to)
           (subst (λ (s : State). IsNoWorse (after begun (take q (take stop.count commands))) s) (sym same) now.0)
 
-  -- what opening gives of an image that a stop may leave
-  pub gives : (begun : State) (commands : List Command) (acknowledged : ℕ) (image : List ℕ) → StandsForSome begun commands acknowledged image
-      → (outcome : Result State StoreFault) → Opens Two image outcome → GivesUnlessFailed (IsRecovered begun commands acknowledged) outcome
+  -- opening an image that a crash may leave returns a state as the headline describes it
+  pub gives : (begun : State) (commands : List Command) (acknowledged : ℕ) (image : List ℕ) → RecoversToPrefix begun commands acknowledged image
+      → (outcome : Result State StoreFault) → Opens Two image outcome → ReturnsUnlessFailed (IsRecovered begun commands acknowledged) outcome
   gives begun commands acknowledged image stop outcome opens =
       weaker (λ given. given ≡ after begun (take stop.count commands)) (IsRecovered begun commands acknowledged)
       (recovered begun commands acknowledged image stop)
@@ -67,5 +68,5 @@ module _ (keep : RunsKeepFacts) (never_more : PlansNeverCostMore) (say : TestsSa
   pub headline : {D E : Type 0} (on : sectors.Ghosts D) (again : sectors.Ghosts E) → Headline on again
   headline on again old new commands replies m image device left outcome whole honest leaves stopped reads settled opens =
       gives old.state (kept commands replies) (acked m replies) (again.seen device)
-      (subst (StandsForSome old.state (kept commands replies) (acked m replies)) (sym reads) (leaves whole honest m image stopped))
+      (subst (RecoversToPrefix old.state (kept commands replies) (acked m replies)) (sym reads) (leaves whole honest m image stopped))
       outcome (opens settled)

@@ -1,4 +1,4 @@
--- The lemma files, for this crate alone.
+-- The lemma files of this crate.
 mod Headlines
 mod RunLemmas
 mod StepLemmas
@@ -10,4 +10,4 @@ mod RoundLemmas
 mod FoldLemmas
 mod LinkLemmas
 mod RestartLemmas
-mod Joins
+mod CompositionLemmas

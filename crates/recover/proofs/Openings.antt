@@ -1,33 +1,33 @@
--- What is read of a device and repeated is what opening promises.
+-- Reading a device and replaying its commands satisfies the contract of opening.
 use Rattle.std.proofs.Common.{◌≡◌, ⊎_elim, ℕ, List, sym, ◌∙◌, ap, subst}
 use Rattle.std.specs.Prelude.{Result, Ok, Err, MatchResult}
 use Rattle.command_core.specs.Runs.{after, AreAccepted}
-use Rattle.command_core.specs.declared.states.State.{State}
+use Rattle.command_types.specs.declared.states.State.{State}
 use Rattle.state_codec.specs.declared.version.Version.{Version}
 use Rattle.checkpoint.specs.declared.faults.StoreFault.{StoreFault}
 use Rattle.checkpoint.specs.declared.faults.StoreFault.TheVariants.{NotFormatted, BadVersion, Codec, Spent, OutOfMemory, DeviceFault}
 use Rattle.checkpoint.specs.declared.places.Place.{Place}
-use Rattle.checkpoint.specs.Holdless.{UnlessUnread}
+use Rattle.checkpoint.specs.InvalidImages.{UnlessReadFailed}
 use Rattle.checkpoint.specs.Laws.{HoldAtMostOne, NeverBoth}
-use Rattle.recover.specs.StandsFor.{StandsFor}
-use Rattle.recover.specs.Opening.{Opens, StandsForNone}
-use Rattle.recover.specs.Repeating.{IsRepeated}
+use Rattle.recover.specs.RecoversTo.{RecoversTo}
+use Rattle.recover.specs.Opening.{Opens, RecoversToNothing}
+use Rattle.recover.specs.Replaying.{IsReplayedImage}
 
 module _ (version : Version) where
-  -- what was repeated is what the image stands for
-  module _ (image : List ℕ) (state : State) (place : Place) (replayed : ℕ) (found : IsRepeated version image state place replayed) where
-    pub stands : StandsFor version image state
+  -- if the image was replayed, the replayed state is the one that the image recovers to
+  module _ (image : List ℕ) (state : State) (place : Place) (replayed : ℕ) (found : IsReplayedImage version image state place replayed) where
+    pub stands : RecoversTo version image state
     stands = record { snapshot = found.snapshot; commands = found.commands; place = place; holds = found.holds; accepted = found.accepted; leads = found.leads }
 
   module _ (one : HoldAtMostOne) (never : NeverBoth) (image : List ℕ) where
-    -- an image stands for one state
-    same_state : (state other : State) → StandsFor version image state → StandsFor version image other → state ≡ other
+    -- an image recovers to at most one state
+    same_state : (state other : State) → RecoversTo version image state → RecoversTo version image other → state ≡ other
     same_state state other a b =
         let same = one version image a.snapshot b.snapshot a.commands b.commands a.place b.place a.holds b.holds in
         sym a.leads ∙ ap (λ (s : State). after s a.commands) same.0 ∙ ap (after b.snapshot) same.1 ∙ b.leads
 
-    -- and never beside a cause to stand for none
-    stands_without_cause : (state : State) (fault : StoreFault) → StandsFor version image state → StandsForNone version image fault → ⊥
+    -- an image that recovers to a state has no fault
+    stands_without_cause : (state : State) (fault : StoreFault) → RecoversTo version image state → RecoversToNothing version image fault → ⊥
     stands_without_cause state fault stands none = ⊎_elim
         (never version image stands.snapshot stands.commands stands.place fault stands.holds)
         (λ broken. let r = broken.1 in
@@ -35,7 +35,7 @@ module _ (version : Version) where
         r.refused (subst (λ (s : State). AreAccepted s r.commands) same.0 (subst (AreAccepted stands.snapshot) same.1 stands.accepted)))
         none
 
-    pub opens : (outcome : Result State StoreFault) → MatchResult outcome (StandsFor version image) (UnlessUnread (StandsForNone version image)) → Opens version image outcome
+    pub opens : (outcome : Result State StoreFault) → MatchResult outcome (RecoversTo version image) (UnlessReadFailed (RecoversToNothing version image)) → Opens version image outcome
     opens (Ok given) known state saved = same_state given state known saved
     opens (Err DeviceFault) known state saved = tt
     opens (Err OutOfMemory) known state saved = tt

@@ -1,17 +1,17 @@
--- The commands of records add search steps and begin nothing anew.
+-- The commands of records add search steps, and none of them resets the count.
 use Rattle.std.proofs.Common.{◌≡◌, ℕ, ◌+◌, ◌-◌, ◌*◌, ◌^◌, ◌<◌, ◌≤◌, List, [], ◌∷◌, length, sym, ◌∙◌, ap, subst, arith}
 use Rattle.std.specs.Prelude.{sum_by, None}
 use Rattle.std.proofs.lemmas.List.Elements.{recursion_from_All}
 use Rattle.std.proofs.lemmas.List.Sums.{sum_by-cons}
 use Rattle.std.specs.List.{AllByRecursion}
 use Rattle.command_core.specs.Effects.{effect}
-use Rattle.command_core.specs.Refusing.{refusal}
-use Rattle.command_core.specs.Commands.{steps_of}
+use Rattle.command_core.specs.Refusals.{refusal}
+use Rattle.command_types.specs.Commands.{steps_of}
 use Rattle.command_core.specs.Runs.{after, AreAccepted}
-use Rattle.command_core.specs.declared.states.State.{State}
-use Rattle.command_core.specs.declared.states.State.TheVariants.{Empty, Loaded}
-use Rattle.command_core.specs.declared.commands.Command.{Command}
-use Rattle.command_core.specs.declared.commands.Command.TheVariants.{Load}
+use Rattle.command_types.specs.declared.states.State.{State}
+use Rattle.command_types.specs.declared.states.State.TheVariants.{Empty, Loaded}
+use Rattle.command_types.specs.declared.commands.Command.{Command}
+use Rattle.command_types.specs.declared.commands.Command.TheVariants.{Load}
 use Rattle.command_core.proofs.NumberLemmas.{few_recorded, recorded_no_load, steps_counted}
 use Rattle.state_codec.specs.declared.version.Version.{Version}
 use Rattle.state_codec.specs.Limits.{IsRecorded}
@@ -19,24 +19,24 @@ use Rattle.state_codec.proofs.RecordLaws.{recorded_fits}
 use Rattle.checkpoint.specs.declared.places.Place.{Place}
 use Rattle.checkpoint.specs.Holds.{Holds}
 use Rattle.checkpoint.specs.Laws.{HoldAtMostOne}
-use Rattle.recover.specs.Opening.{steps_in, IsToRepeat}
-use Rattle.recover.specs.Repeating.{IsRepeated}
+use Rattle.recover.specs.Opening.{steps_of_state, IsStepsToReplay}
+use Rattle.recover.specs.Replaying.{IsReplayedImage}
 
 module _ (version : Version) where
-  -- what an accepted command that has a record adds to the steps of a state
-  adds_one : (s : State) (c : Command) → IsRecorded version c → refusal s c ≡ None → steps_in (effect s c) ≡ steps_in s + steps_of c
+  -- The steps that an accepted command with a record adds to a state are the steps of the command.
+  adds_one : (s : State) (c : Command) → IsRecorded version c → refusal s c ≡ None → steps_of_state (effect s c) ≡ steps_of_state s + steps_of c
   adds_one Empty (Load p seed) recorded accepted = elim recorded [ ]
   adds_one Empty c recorded accepted = cc accepted
   adds_one (Loaded j) c recorded accepted = steps_counted j c (recorded_no_load c (recorded_fits version c recorded).0)
 
-  adds : (s : State) (cs : List Command) → AllByRecursion (IsRecorded version) cs → AreAccepted s cs → steps_in (after s cs) ≡ steps_in s + sum_by steps_of cs
+  adds : (s : State) (cs : List Command) → AllByRecursion (IsRecorded version) cs → AreAccepted s cs → steps_of_state (after s cs) ≡ steps_of_state s + sum_by steps_of cs
   adds s [] recorded accepted = omega arith
   adds s (c ∷ cs) recorded accepted =
       let first = adds_one s c recorded.0 accepted.1 in
       let rest = adds (effect s c) cs recorded.1 accepted.2 in
-      subst (λ (n : ℕ). steps_in (after (effect s c) cs) ≡ steps_in s + n) (sym (sum_by-cons steps_of c cs)) (omega (arith, first, rest))
+      subst (λ (n : ℕ). steps_of_state (after (effect s c) cs) ≡ steps_of_state s + n) (sym (sum_by-cons steps_of c cs)) (omega (arith, first, rest))
 
-  -- a record has at most 256 steps
+  -- A record has at most 256 steps.
   few_of : (c : Command) → IsRecorded version c → steps_of c ≤ 256
   few_of c recorded = let both = recorded_fits version c recorded in few_recorded c both.0 both.1
 
@@ -51,14 +51,15 @@ module _ (version : Version) where
     all_recorded : AllByRecursion (IsRecorded version) commands
     all_recorded = recursion_from_All (IsRecorded version) commands holds.recorded
 
-    -- so that what a store holds has at most 65,536
+    -- So the commands of a store have at most 65,536 steps in all.
     few_held : sum_by steps_of commands ≤ 65536
     few_held = omega (arith, few commands all_recorded, holds.used, room)
 
-    -- What an image holds, and the commands repeated: the steps that the state has made beside the snapshot's are those of its searches.
-    pub repeated : AreAccepted snapshot commands → (state : State) → after snapshot commands ≡ state → IsRepeated version image state place (steps_in state - steps_in snapshot)
-    repeated accepted state leads =
-        let now : steps_in state ≡ steps_in snapshot + sum_by steps_of commands = ap steps_in (sym leads) ∙ adds snapshot commands all_recorded accepted in
+    -- If the commands of an image are replayed, the steps of the state beyond those of the snapshot are the
+    -- steps of the commands.
+    pub replay_records : AreAccepted snapshot commands → (state : State) → after snapshot commands ≡ state → IsReplayedImage version image state place (steps_of_state state - steps_of_state snapshot)
+    replay_records accepted state leads =
+        let now : steps_of_state state ≡ steps_of_state snapshot + sum_by steps_of commands = ap steps_of_state (sym leads) ∙ adds snapshot commands all_recorded accepted in
         record {
           snapshot = snapshot;
           commands = commands;
@@ -70,8 +71,9 @@ module _ (version : Version) where
           most = omega (arith, now, few_held);
         }
 
-    -- What is counted before they are repeated is what opening repeats, since an image holds one list of commands.
-    pub to_repeat : HoldAtMostOne → (steps : ℕ) → (sum_by steps_of commands < 2 ^ 64 → steps ≡ sum_by steps_of commands) → IsToRepeat version image steps
+    -- The number of steps counted before opening is the number that opening replays, since an image holds only
+    -- one list of commands.
+    pub to_repeat : HoldAtMostOne → (steps : ℕ) → (sum_by steps_of commands < 2 ^ 64 → steps ≡ sum_by steps_of commands) → IsStepsToReplay version image steps
     to_repeat one steps counted =
         let now : steps ≡ sum_by steps_of commands = counted (omega (arith, few_held)) in
         record {

@@ -1,36 +1,37 @@
--- Restarts, one after another, are links.
+-- Consecutive restarts are links.
 use Rattle.std.proofs.Common.{◌≡◌, ℕ, suc, List, [], ◌∷◌, ◌++◌, length, take, refl, sym, ◌∙◌, ap, subst, append-nil}
 use Rattle.std.specs.Prelude.{Result, Ok, Err, map}
 use Rattle.std.proofs.Math.Seq.{take-append_seam}
 use Rattle.sector_disk.specs.MemDevice.{memory}
 use Rattle.sector_disk.specs.Memory.{MayLeave}
 use Rattle.sector_disk.specs.declared.mem_device.MemDevice.{MemDevice}
-use Rattle.plan_audit.specs.Locality.{TestsSayPass}
-use Rattle.command_core.specs.RunLaws.{RunsKeepFacts, PlansNeverCostMore}
-use Rattle.command_core.specs.declared.states.State.{State}
-use Rattle.command_core.specs.declared.commands.Command.{Command}
+use Rattle.plan_audit.specs.Locality.{PassesDecidesTheVerdict}
+use Rattle.command_core.specs.RunLaws.{RunsKeepInvariants, PlansNeverCostMore}
+use Rattle.command_types.specs.declared.states.State.{State}
+use Rattle.command_types.specs.declared.commands.Command.{Command}
 use Rattle.checkpoint.specs.declared.faults.StoreFault.{StoreFault}
 use Rattle.state_codec.specs.declared.version.Version.TheVariants.{Two}
 use Rattle.recover.specs.declared.replies.Run.{Run}
 use Rattle.recover.specs.declared.rounds.RoundsFault.{RoundsFault}
 use Rattle.recover.specs.declared.rounds.RoundsFault.TheVariants as rounds
 use Rattle.recover.specs.declared.restarts.Restart.{Restart}
-use Rattle.recover.specs.StandsFor.{StandsFor}
+use Rattle.recover.specs.RecoversTo.{RecoversTo}
 use Rattle.recover.specs.Replies.{kept}
-use Rattle.recover.specs.Moments.{StandsForSome}
+use Rattle.recover.specs.Moments.{RecoversToPrefix}
 use Rattle.recover.specs.Sessions.{SessionValue}
 use Rattle.recover.specs.Headline.{IsRecovered}
-use Rattle.recover.specs.Links.{Restart as Link, AreLinked, LinksLeadOn}
+use Rattle.recover.specs.Links.{Restart as Link, AreLinked, LinksCompose}
 use Rattle.recover.specs.Rounds.{seen_in, count_ok, IsMemoryOpened, IsUnbegun}
 use Rattle.recover.specs.Restarts.{CarriesOut, IsRestart, IsNoRestart, AreRestarts, EndsRestarts, IsFirstOpened, AreJoined, CutsRestarts, kept_by}
 use Rattle.recover.proofs.Headlines.{recovered, stands_state}
 use Rattle.recover.proofs.RoundLemmas.{reads_possible}
 
--- what runs are told of by the links behind them
+-- The kept commands and the acknowledged count of each link.
 abbrev told_by : List Link → List (List Command × ℕ)
 told_by links = map (λ link. (link.commands, link.acknowledged)) links
 
--- A run from this state kept these commands; what stands of them leads to the state that the next opening gave, and so on.
+-- A run that began in this state kept these commands. The recovered ones lead to the state that the next
+-- opening returned, and so on up to the last state.
 record GoesOn (begun : State) (commands : List Command) (acknowledged : ℕ) (restarts : List Restart) (runs : List (Result Run StoreFault)) (last : State) : Type 0 where
   pub given : State
   pub recovered : IsRecovered begun commands acknowledged given
@@ -38,28 +39,28 @@ record GoesOn (begun : State) (commands : List Command) (acknowledged : ℕ) (re
   pub one_each : told_by links ≡ kept_by restarts runs
   pub linked : AreLinked given links last
 
--- The same of the first opening that succeeds.
+-- The recovered commands, beginning with the first opening that succeeds.
 record Begins (first device : MemDevice) (restarts : List Restart) (runs : List (Result Run StoreFault)) (last : State) : Type 0 where
   pub image : List ℕ
   pub possible : MayLeave (memory first) image
   pub seen : IsFirstOpened runs → image ≡ seen_in device
   pub begun : State
-  pub stands : StandsFor Two image begun
+  pub stands : RecoversTo Two image begun
   pub links : List Link
   pub one_each : told_by links ≡ kept_by restarts runs
   pub linked : AreLinked begun links last
 
-module _ (keep : RunsKeepFacts) (never_more : PlansNeverCostMore) (say : TestsSayPass) where
-  -- what an opening gives of what a run left
+module _ (keep : RunsKeepInvariants) (never_more : PlansNeverCostMore) (say : PassesDecidesTheVerdict) where
+  -- Opening a device that a run has left is a link.
   link_to : (begun : State) (commands : List Command) (acknowledged : ℕ) (device : MemDevice) (session : SessionValue MemDevice)
-      → ((image : List ℕ) → MayLeave (memory device) image → StandsForSome begun commands acknowledged image) → IsMemoryOpened device session → IsRecovered begun commands acknowledged session.state
+      → ((image : List ℕ) → MayLeave (memory device) image → RecoversToPrefix begun commands acknowledged image) → IsMemoryOpened device session → IsRecovered begun commands acknowledged session.state
   link_to begun commands acknowledged device session images opened =
       let stop = images (seen_in device) (reads_possible device) in
       recovered keep never_more say begun commands acknowledged (seen_in device) stop session.state (opened.alone _ stop.stands)
 
   goes_on : (restarts : List Restart) (runs : List (Result Run StoreFault)) (device left : MemDevice) (session : SessionValue MemDevice)
       → AreRestarts device restarts runs left → IsMemoryOpened left session → (begun : State) (commands : List Command) (acknowledged : ℕ)
-      → ((image : List ℕ) → MayLeave (memory device) image → StandsForSome begun commands acknowledged image) → GoesOn begun commands acknowledged restarts runs session.state
+      → ((image : List ℕ) → MayLeave (memory device) image → RecoversToPrefix begun commands acknowledged image) → GoesOn begun commands acknowledged restarts runs session.state
   goes_on [] [] device left session are opened begun commands acknowledged images = record {
     given = session.state;
     recovered = link_to begun commands acknowledged device session images (subst (λ (d : MemDevice). IsMemoryOpened d session) are opened);
@@ -76,7 +77,7 @@ module _ (keep : RunsKeepFacts) (never_more : PlansNeverCostMore) (say : TestsSa
         given = came.first.state;
         recovered = link_to begun commands acknowledged here.armed came.first (λ image possible. images image (here.same.images.nothing_else image possible)) came.opened;
         links = (record { commands = mine; acknowledged = many; given = rest.given }) ∷ rest.links;
-        one_each = ap (λ told. (mine, many) ∷ told) rest.one_each;
+        one_each = ap (λ reported. (mine, many) ∷ reported) rest.one_each;
         linked = (rest.recovered, rest.linked);
       }
   goes_on (restart ∷ restarts) (Err fault ∷ runs) device left session are opened begun commands acknowledged images =
@@ -100,7 +101,7 @@ module _ (keep : RunsKeepFacts) (never_more : PlansNeverCostMore) (say : TestsSa
     possible = images (seen_in device) (reads_possible device);
     seen = λ at. refl;
     begun = session.state;
-    stands = subst (λ (d : MemDevice). StandsFor Two (seen_in d) session.state) are opened.stands;
+    stands = subst (λ (d : MemDevice). RecoversTo Two (seen_in d) session.state) are opened.stands;
     links = [];
     one_each = refl;
     linked = refl;
@@ -117,7 +118,7 @@ module _ (keep : RunsKeepFacts) (never_more : PlansNeverCostMore) (say : TestsSa
         begun = came.first.state;
         stands = came.opened.stands;
         links = (record { commands = mine; acknowledged = many; given = rest.given }) ∷ rest.links;
-        one_each = ap (λ told. (mine, many) ∷ told) rest.one_each;
+        one_each = ap (λ reported. (mine, many) ∷ reported) rest.one_each;
         linked = (rest.recovered, rest.linked);
       }
   begins (restart ∷ restarts) (Err fault ∷ runs) first device left session images are opened =
@@ -136,7 +137,7 @@ module _ (keep : RunsKeepFacts) (never_more : PlansNeverCostMore) (say : TestsSa
   begins [] (run ∷ runs) first device left session images are opened = elim are [ ]
   begins (restart ∷ restarts) [] first device left session images are opened = elim are [ ]
 
-  pub are_joined : LinksLeadOn → (device : MemDevice) (restarts : List Restart) (runs : List (Result Run StoreFault)) (session : SessionValue MemDevice)
+  pub are_joined : LinksCompose → (device : MemDevice) (restarts : List Restart) (runs : List (Result Run StoreFault)) (session : SessionValue MemDevice)
       → EndsRestarts device restarts runs session → AreJoined device restarts runs session.state
   are_joined lead device restarts runs session ends =
       let all = begins restarts runs device device ends.left session (λ image possible. possible) ends.done ends.opened in record {
@@ -151,7 +152,7 @@ module _ (keep : RunsKeepFacts) (never_more : PlansNeverCostMore) (say : TestsSa
         leads = lead all.begun session.state all.links (stands_state keep never_more say all.image all.begun all.stands) all.linked;
       }
 
--- one restart more
+-- Restarts and one more are a longer list of restarts.
 pub restarts_more : (restarts : List Restart) (runs : List (Result Run StoreFault)) (device mid left : MemDevice) (restart : Restart) (run : Result Run StoreFault)
     → AreRestarts device restarts runs mid → IsRestart mid restart run left → AreRestarts device (restarts ++ restart ∷ []) (runs ++ run ∷ []) left
 restarts_more [] [] device mid left restart run are more = (left, subst (λ (d : MemDevice). IsRestart d restart run left) are more, refl)
@@ -159,14 +160,15 @@ restarts_more (r ∷ restarts) (x ∷ runs) device mid left restart run are more
 restarts_more [] (x ∷ runs) device mid left restart run are more = elim are [ ]
 restarts_more (r ∷ restarts) [] device mid left restart run are more = elim are [ ]
 
--- one run for each
+-- Restarts have one result each.
 pub one_each : (restarts : List Restart) (runs : List (Result Run StoreFault)) (device left : MemDevice) → AreRestarts device restarts runs left → length runs ≡ length restarts
 one_each [] [] device left are = refl
 one_each (r ∷ restarts) (x ∷ runs) device left are = ap suc (one_each restarts runs are.0 left are.2)
 one_each [] (x ∷ runs) device left are = elim are [ ]
 one_each (r ∷ restarts) [] device left are = elim are [ ]
 
--- the first few restarts, and then one that was not begun, or all of them and the last opening
+-- The restarts that were executed, from their first part and the rest: the next one did not begin, or the last
+-- opening failed.
 pub cuts_restarts : (restarts before more : List Restart) (runs : List (Result Run StoreFault)) (device mid left : MemDevice) (fault : RoundsFault) → before ++ more ≡ restarts
     → AreRestarts device before runs mid → IsUnbegun mid fault left → ((cause : StoreFault) → fault ≡ rounds.Open cause → more ≡ []) → CutsRestarts device restarts fault left
 cuts_restarts restarts before more runs device mid left fault all are unbegun last = record {
@@ -181,11 +183,11 @@ cuts_restarts restarts before more runs device mid left fault all are unbegun la
     many : length runs ≡ length before
     many = one_each before runs device mid are
 
--- a restart that was not begun
+-- If there was no memory for the answers of a restart, it did not begin.
 pub unbegun_of : (device left : MemDevice) (fault : RoundsFault) → IsNoRestart device fault left → IsUnbegun device fault left
 unbegun_of device left (rounds.Open cause) unbegun = elim unbegun [ ]
 unbegun_of device left rounds.OutOfMemory unbegun = unbegun
 
--- is none whose opening failed
+-- If a restart did not begin, the cause is not that its opening failed.
 pub no_opening : (device left : MemDevice) (fault : RoundsFault) (P : Type 0) → IsNoRestart device fault left → (cause : StoreFault) → fault ≡ rounds.Open cause → P
 no_opening device left fault P unbegun cause is = absurd (subst (λ (f : RoundsFault). IsNoRestart device f left) is unbegun)

@@ -1,4 +1,4 @@
--- What a round leaves, from what a run promises of each moment.
+-- The images that a round leaves, from the guarantee of a run for each moment.
 use Rattle.std.proofs.Common.{◌≡◌, ℕ, suc, ◌+◌, ◌-◌, ◌^◌, ◌<◌, ◌≤◌, cond, List, [], ◌∷◌, ◌++◌, length, take, refl, sym, ◌∙◌, ap, subst, arith}
 use Rattle.std.specs.Prelude.{Result, Ok, Err, is_ok, IsErrAnd, IfErr}
 use Rattle.std.proofs.lemmas.Bool.{le-leb}
@@ -10,8 +10,8 @@ use Rattle.sector_disk.specs.Memory.{len_of, MayLeave, clock_of, MayHaveLeft, hi
 use Rattle.sector_disk.specs.MemoryLaws.{memory_reads_possible}
 use Rattle.sector_disk.specs.HistoryLaws.{history_counts_now, history_only_now}
 use Rattle.sector_disk.specs.declared.mem_device.MemDevice.{MemDevice}
-use Rattle.command_core.specs.declared.states.State.{State}
-use Rattle.command_core.specs.declared.commands.Command.{Command}
+use Rattle.command_types.specs.declared.states.State.{State}
+use Rattle.command_types.specs.declared.commands.Command.{Command}
 use Rattle.checkpoint.specs.declared.places.Place.{Place}
 use Rattle.recover.specs.declared.denials.Denial.{Denial}
 use Rattle.recover.specs.declared.denials.Denial.TheVariants.{Broken, Core, Spent, OutOfMemory, DeviceFault}
@@ -20,9 +20,9 @@ use Rattle.recover.specs.declared.replies.Run.{Run}
 use Rattle.recover.specs.declared.rounds.Round.{Round}
 use Rattle.recover.specs.declared.rounds.RoundsFault.{RoundsFault}
 use Rattle.state_codec.specs.declared.version.Version.TheVariants.{Two}
-use Rattle.recover.specs.StandsFor.{StandsFor}
+use Rattle.recover.specs.RecoversTo.{RecoversTo}
 use Rattle.recover.specs.Replies.{kept, acked}
-use Rattle.recover.specs.Moments.{StandsForSome, RunLeaves}
+use Rattle.recover.specs.Moments.{RecoversToPrefix, RunLeaves}
 use Rattle.recover.specs.Opening.{IsReplayed}
 use Rattle.recover.specs.Sessions.{SessionValue}
 use Rattle.recover.specs.Applying.{faults_after_answer}
@@ -30,15 +30,15 @@ use Rattle.recover.specs.Rounds.{seen_in, IsMemoryRun, count_ok, is_device_fault
 use Rattle.recover.specs.Restarts.{CarriesOut}
 use Rattle.recover.proofs.RunLemmas.{unacked, one_acked, counted_from}
 
--- what reads give is a possible image
+-- The image that reads return is possible.
 pub reads_possible : (device : MemDevice) → MayLeave (memory device) (seen_in device)
 reads_possible device = memory_reads_possible (memory device) device.kept.whole device.kept.fit
 
--- a possible image is one of this moment, since each earlier one
+-- A possible image belongs to the present moment, which is one of the moments since any earlier one.
 pub counts_now : (device : MemDevice) (t : ℕ) (image : List ℕ) → t ≤ clock_of (memory device) → MayLeave (memory device) image → MayHaveLeft (memory device) t (memory device).calls image
 counts_now device t image le possible = history_counts_now (history_of (memory device)) t image le possible
 
--- finished calls never become fewer
+-- The number of finished calls never decreases.
 calls_rise : (commands : List Command) (replies : List Reply) (old new : SessionValue MemDevice) → IsMemoryRun old commands replies new → (memory old.device).calls ≤ (memory new.device).calls
 calls_rise commands replies old new run =
     let all = counted_from (λ d. len_of (memory d)) (λ d. (memory d).calls) (λ d. (memory d).faults) (λ d. Unit {0}) (λ d. clock_of (memory d)) (λ d. MayHaveLeft (memory d)) (λ d. MayLeave (memory d))
@@ -51,7 +51,7 @@ ok-cons reply replies = sum_by-cons (λ r. cond (is_ok r.answer) 1 0) reply repl
 faults-cons : (reply : Reply) (replies : List Reply) → count_device_faults (reply ∷ replies) ≡ cond (is_device_fault reply.answer) 1 0 + count_device_faults replies
 faults-cons reply replies = sum_by-cons (λ r. cond (is_device_fault r.answer) 1 0) reply replies
 
--- at the end of a run each Ok is acknowledged
+-- At the end of a run each command that was answered Ok is acknowledged.
 pub all_acked : (commands : List Command) (replies : List Reply) (old new : SessionValue MemDevice) → IsMemoryRun old commands replies new → acked (memory new.device).calls replies ≡ count_ok replies
 all_acked [] [] old new run = refl
 all_acked (command ∷ commands) (reply ∷ replies) old new run =
@@ -71,7 +71,7 @@ all_acked (command ∷ commands) (reply ∷ replies) old new run =
 all_acked [] (reply ∷ replies) old new run = elim run [ ]
 all_acked (command ∷ commands) [] old new run = elim run [ ]
 
--- below the last count each DeviceFault tells of one more failed call
+-- Below 2^64-1 failed calls, each DeviceFault counts as one failed call.
 pub all_faults : (commands : List Command) (replies : List Reply) (old new : SessionValue MemDevice) → IsMemoryRun old commands replies new
     → (memory new.device).faults < 2 ^ 64 - 1 → (memory new.device).faults ≡ (memory old.device).faults + count_device_faults replies
 all_faults [] [] old new run below = let same = ap (λ (s : SessionValue MemDevice). (memory s.device).faults) run in omega (arith, same)
@@ -90,19 +90,19 @@ all_faults (command ∷ commands) (reply ∷ replies) old new run below =
 all_faults [] (reply ∷ replies) old new run below = elim run [ ]
 all_faults (command ∷ commands) [] old new run below = elim run [ ]
 
--- at the end of a run each image has all its acknowledged commands
+-- At the end of a run each image has all acknowledged commands.
 pub images_at_the_end : (commands : List Command) (replies : List Reply) (old new : SessionValue MemDevice) → IsMemoryRun old commands replies new
     → Throughout (λ d. clock_of (memory d)) (λ d. MayHaveLeft (memory d)) old.device new.device (RunLeaves old.state commands replies)
-    → (image : List ℕ) → MayLeave (memory new.device) image → StandsForSome old.state (kept commands replies) (count_ok replies) image
+    → (image : List ℕ) → MayLeave (memory new.device) image → RecoversToPrefix old.state (kept commands replies) (count_ok replies) image
 images_at_the_end commands replies old new run moments image possible =
-    subst (λ (n : ℕ). StandsForSome old.state (kept commands replies) n image) (all_acked commands replies old new run)
+    subst (λ (n : ℕ). RecoversToPrefix old.state (kept commands replies) n image) (all_acked commands replies old new run)
     (moments.each (memory new.device).calls image (counts_now new.device (clock_of (memory old.device)) image moments.later possible))
 
--- a session that differs in what is to fail alone was opened as that one was
+-- If two sessions differ only in the failures that are set, both were opened from the same device.
 still_opened : (device : MemDevice) (old new : SessionValue MemDevice) → IsSameDevice (memory old.device) (memory new.device) → new.state ≡ old.state → new.place ≡ old.place
     → new.is_broken ≡ old.is_broken → IsMemoryOpened device old → IsMemoryOpened device new
 still_opened device old new same state place broken opened = record {
-  stands = subst (λ (s : State). StandsFor Two (seen_in device) s) (sym state) opened.stands;
+  stands = subst (λ (s : State). RecoversTo Two (seen_in device) s) (sym state) opened.stands;
   alone = λ other stands. state ∙ opened.alone other stands;
   whole = broken ∙ opened.whole;
   calls = same.calls ∙ opened.calls;
@@ -111,7 +111,7 @@ still_opened device old new same state place broken opened = record {
       (subst (λ (p : Place). (n : ℕ) × IsReplayed Two (seen_in device) old.state p n) (sym place) opened.replayed);
 }
 
--- a session that was opened, a stop that was set, a run, and what is left of its device
+-- An opened session, a crash that was set, a run, and the end of the device are a round.
 module _ (device : MemDevice) (round : Round) (replies : List Reply) (session first last : SessionValue MemDevice) (left : MemDevice) where
   pub is_round : IsMemoryOpened device session → IsSameDevice (memory session.device) (memory first.device) → first.state ≡ session.state → first.place ≡ session.place
       → first.is_broken ≡ session.is_broken → IsSet round.stop first.device → IsMemoryRun first round.commands.items replies last
@@ -132,7 +132,7 @@ module _ (device : MemDevice) (round : Round) (replies : List Reply) (session fi
             let now = begun.faults in omega (arith, all, counted, now);
       }
 
--- a session that was opened, a run, and its device
+-- An opened session that runs commands and is closed carries them out.
 pub carries_out : (device : MemDevice) (commands : List Command) (replies : List Reply) (first last : SessionValue MemDevice) (handed : MemDevice)
     → IsMemoryOpened device first → IsMemoryRun first commands replies last
     → Throughout (λ d. clock_of (memory d)) (λ d. MayHaveLeft (memory d)) first.device last.device (RunLeaves first.state commands replies)
@@ -149,7 +149,7 @@ carries_out device commands replies first last handed opened run moments closed 
       let now = opened.faults in omega (arith, all, counted, now);
 }
 
--- one round more
+-- Rounds and one more are a longer list of rounds.
 pub rounds_more : (rounds : List Round) (runs : List Run) (device mid left : MemDevice) (round : Round) (run : Run) → AreRounds device rounds runs mid → IsRound mid round run.replies.items left
     → AreRounds device (rounds ++ round ∷ []) (runs ++ run ∷ []) left
 rounds_more [] [] device mid left round run are more = (left, subst (λ (d : MemDevice). IsRound d round run.replies.items left) are more, refl)
@@ -157,14 +157,14 @@ rounds_more (r ∷ rounds) (x ∷ runs) device mid left round run are more = (ar
 rounds_more [] (x ∷ runs) device mid left round run are more = elim are [ ]
 rounds_more (r ∷ rounds) [] device mid left round run are more = elim are [ ]
 
--- one run for each
+-- Rounds have one run each.
 pub one_run_each : (rounds : List Round) (runs : List Run) (device left : MemDevice) → AreRounds device rounds runs left → length runs ≡ length rounds
 one_run_each [] [] device left are = refl
 one_run_each (r ∷ rounds) (x ∷ runs) device left are = ap suc (one_run_each rounds runs are.0 left are.2)
 one_run_each [] (x ∷ runs) device left are = elim are [ ]
 one_run_each (r ∷ rounds) [] device left are = elim are [ ]
 
--- the first few rounds, and then one that was not begun
+-- If some first rounds were executed and the next one did not begin, the whole list was cut there.
 pub cuts_rounds : (rounds before more : List Round) (runs : List Run) (device mid left : MemDevice) (fault : RoundsFault) → before ++ more ≡ rounds → AreRounds device before runs mid
     → IsUnbegun mid fault left → CutsRounds device rounds fault left
 cuts_rounds rounds before more runs device mid left fault all are unbegun = record {
@@ -175,7 +175,7 @@ cuts_rounds rounds before more runs device mid left fault all are unbegun = reco
   unbegun = unbegun;
 }
 
--- `?` passes a refusal up as it is
+-- `?` returns a refusal unchanged
 pub passed_up : {T : Type 0} (result : Result T (RoundsFault × MemDevice)) (refused : RoundsFault × MemDevice) → IsErrAnd result (λ e. e ≡ refused)
     → (P : RoundsFault × MemDevice → Type 0) → P refused → IfErr result P
 passed_up (Ok x) refused is P h = absurd is

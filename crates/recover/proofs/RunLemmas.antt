@@ -1,4 +1,4 @@
--- What one command after another promises is what a run promises.
+-- The guarantees of single commands, one after another, imply that of a run.
 use Rattle.std.proofs.Common.{◌≡◌, inl, inr, ⊎_elim, ℕ, suc, ◌+◌, ◌≤◌, Bool, true, false, ◌&&◌, cond, List, [], ◌∷◌, ◌++◌, take, refl, sym, ◌∙◌, ap, subst, arith}
 use Rattle.std.specs.Prelude.{Result, Ok, Err, Option, Some, is_ok, nat_le, if◌then◌else◌}
 use Rattle.std.proofs.lemmas.Bool.{le-leb, lt-leb}
@@ -8,20 +8,20 @@ use Rattle.sector_disk.specs.Sectors.{Throughout}
 use Rattle.sector_disk.specs.Throughout as through
 use Rattle.command_core.specs.Effects.{effect}
 use Rattle.command_core.specs.Runs.{after, AreAccepted}
-use Rattle.command_core.specs.declared.states.State.{State}
-use Rattle.command_core.specs.declared.commands.Command.{Command}
+use Rattle.command_types.specs.declared.states.State.{State}
+use Rattle.command_types.specs.declared.commands.Command.{Command}
 use Rattle.state_codec.specs.declared.version.Version.TheVariants.{Two}
 use Rattle.checkpoint.specs.declared.places.Place.{Place}
 use Rattle.recover.specs.declared.denials.Denial.{Denial}
 use Rattle.recover.specs.declared.denials.Denial.TheVariants.{Broken, Core, Spent, OutOfMemory, DeviceFault}
 use Rattle.recover.specs.declared.replies.Reply.{Reply}
-use Rattle.recover.specs.StandsFor.{StandsFor}
+use Rattle.recover.specs.RecoversTo.{RecoversTo}
 use Rattle.recover.specs.Replies.{kept, acked, is_acknowledged}
-use Rattle.recover.specs.Moments.{StandsForSome, RunLeaves}
+use Rattle.recover.specs.Moments.{RecoversToPrefix, RunLeaves}
 use Rattle.recover.specs.Sessions.{SessionValue}
 use Rattle.recover.specs.Applying.{IsBetween, IsAnswer, Makes, denial, calls_of, is_snapshot_due, IsApplied, IsRun}
 
--- the first reply and the others
+-- The acknowledged commands are that of the first reply, if it is, and those of the others.
 acked-cons : (m : ℕ) (reply : Reply) (replies : List Reply) → acked m (reply ∷ replies) ≡ cond (is_acknowledged m reply) 1 0 + acked m replies
 acked-cons m reply replies = sum_by-cons (λ r. cond (is_acknowledged m r) 1 0) reply replies
 
@@ -35,9 +35,9 @@ one_acked m reply replies is = acked-cons m reply replies ∙ ap (λ (b : Bool).
 some_calls : (place : Place) (command : Command) → 1 ≤ calls_of place command
 some_calls place command = elim (is_snapshot_due place command) as (λ b. 1 ≤ (if b then 4 else 2)) [ true ↦ omega arith | false ↦ omega arith ]
 
--- a first part of the first command alone is one of all
+-- A prefix of the first command is a prefix of all commands.
 early : (begun : State) (command : Command) (more : List Command) (few all : ℕ) (image : List ℕ) → all ≡ few
-    → StandsForSome begun (command ∷ []) few image → StandsForSome begun (command ∷ more) all image
+    → RecoversToPrefix begun (command ∷ []) few image → RecoversToPrefix begun (command ∷ more) all image
 early begun command more few all image same some =
     let front : take some.count (command ∷ more) ≡ take some.count (command ∷ []) = take-append-le some.count (command ∷ []) more some.within in
     let within : some.count ≤ 1 = some.within in record {
@@ -46,12 +46,12 @@ early begun command more few all image same some =
       one_more = omega (arith, same, some.one_more);
       within = omega (arith, within);
       accepted = subst (λ (l : List Command). AreAccepted begun l) (sym front) some.accepted;
-      stands = subst (λ (l : List Command). StandsFor Two image (after begun l)) (sym front) some.stands;
+      stands = subst (λ (l : List Command). RecoversTo Two image (after begun l)) (sym front) some.stands;
     }
 
--- a first part of those behind it, and it
+-- The first command and a prefix of the others are a prefix of all commands.
 late : (begun : State) (command : Command) (more : List Command) (few all : ℕ) (image : List ℕ) → all ≡ 1 + few → AreAccepted begun (command ∷ [])
-    → StandsForSome (effect begun command) more few image → StandsForSome begun (command ∷ more) all image
+    → RecoversToPrefix (effect begun command) more few image → RecoversToPrefix begun (command ∷ more) all image
 late begun command more few all image same accepted some = record {
   count = suc some.count;
   all_acknowledged = omega (arith, same, some.all_acknowledged);
@@ -71,7 +71,7 @@ module _ {D : Type 0} (len calls faults : D → ℕ) (honest : D → Type 0) (cl
   abbrev All : D → D → (ℕ → List ℕ → Type 0) → Type 0
   All old new P = Throughout clock since old new P
 
-  -- one more command, after a run
+  -- A run and one more command are a longer run.
   pub run_more : (commands : List Command) (replies : List Reply) (old mid new : SessionValue D) (command : Command) (reply : Reply) → Run old commands replies mid → Applied mid command reply new
       → Run old (commands ++ command ∷ []) (replies ++ reply ∷ []) new
   run_more [] [] old mid new command reply run applied = (new, subst (λ (s : SessionValue D). Applied s command reply new) run applied, refl)
@@ -86,18 +86,18 @@ module _ {D : Type 0} (len calls faults : D → ℕ) (honest : D → Type 0) (cl
     before = λ t m image le left. ⊎_elim (λ past. inl past) (λ x. ⊎_elim (λ past. inl past) (λ y. inr (x, y)) (q.before t m image le left)) (p.before t m image le left);
   }
 
-  -- a broken session answers nothing but that it is
+  -- A broken session answers only Broken.
   broken_stays : (commands : List Command) (replies : List Reply) (old new : SessionValue D) → old.is_broken ≡ true → Run old commands replies new → (new ≡ old) × ((m : ℕ) → acked m replies ≡ 0)
   broken_stays [] [] old new broken run = (run, λ m. refl)
   broken_stays (command ∷ commands) (reply ∷ replies) old new broken run =
       let mid = run.0 in
       let applied : Applied old command reply mid = run.1 in
       let why : denial old command ≡ Some Broken = rw broken refl in
-      let told : reply.answer ≡ Err Broken = subst (λ (o : Option Denial). IsAnswer o reply.answer) why applied.answer in
-      let same : mid ≡ old = subst (λ (a : Result (Unit {0}) Denial). Makes a old command mid) told applied.makes in
+      let reported : reply.answer ≡ Err Broken = subst (λ (o : Option Denial). IsAnswer o reply.answer) why applied.answer in
+      let same : mid ≡ old = subst (λ (a : Result (Unit {0}) Denial). Makes a old command mid) reported applied.makes in
       let rest = broken_stays commands replies mid new (ap (λ (s : SessionValue D). s.is_broken) same ∙ broken) run.2 in (
         rest.0 ∙ same,
-        λ m. unacked m reply replies (ap (λ (a : Result (Unit {0}) Denial). is_ok a && nat_le reply.calls m) told) ∙ rest.1 m,
+        λ m. unacked m reply replies (ap (λ (a : Result (Unit {0}) Denial). is_ok a && nat_le reply.calls m) reported) ∙ rest.1 m,
       )
   broken_stays [] (reply ∷ replies) old new broken run = elim run [ ]
   broken_stays (command ∷ commands) [] old new broken run = elim run [ ]
@@ -109,7 +109,7 @@ module _ {D : Type 0} (len calls faults : D → ℕ) (honest : D → Type 0) (cl
   honest_back [] (reply ∷ replies) old new run h = elim run [ ]
   honest_back (command ∷ commands) [] old new run h = elim run [ ]
 
-  -- when no more calls have finished than before a run, none of its commands is acknowledged
+  -- If no call has finished since a run began, none of its commands is acknowledged.
   none_yet : (commands : List Command) (replies : List Reply) (old new : SessionValue D) → Run old commands replies new → (m : ℕ) → m ≤ calls old.device → acked m replies ≡ 0
   none_yet [] [] old new run m le = refl
   none_yet (command ∷ commands) (reply ∷ replies) old new run m le = first reply.answer reply.calls run.1 (λ later. none_yet commands replies run.0 new run.2 m later)
@@ -131,11 +131,11 @@ module _ {D : Type 0} (len calls faults : D → ℕ) (honest : D → Type 0) (cl
   none_yet (command ∷ commands) [] old new run m le = elim run [ ]
 
   module _ (only_now : (d : D) (m : ℕ) (image : List ℕ) → honest d → since d (clock d) m image → (m ≡ calls d) × possible d image) where
-    -- no fewer calls than this session's device has finished
+    -- At least as many calls have finished as on the device of this session.
     abbrev from : SessionValue D → ℕ → List ℕ → Type 0
     from s m image = calls s.device ≤ m
 
-    -- within a run no moment has fewer finished calls than its beginning
+    -- Within a run no moment has fewer finished calls than its beginning.
     pub counted_from : (commands : List Command) (replies : List Reply) (old new : SessionValue D) → Run old commands replies new → honest new.device
         → All old.device new.device (λ m image. calls old.device ≤ m)
     counted_from [] [] old new run h =
@@ -163,11 +163,11 @@ module _ {D : Type 0} (len calls faults : D → ℕ) (honest : D → Type 0) (cl
     counted_from [] (reply ∷ replies) old new run h = elim run [ ]
     counted_from (command ∷ commands) [] old new run h = elim run [ ]
 
-    -- what each image of a session stands for
+    -- Each image of a session recovers to its state.
     abbrev Stands : SessionValue D → Type 0
-    Stands s = (image : List ℕ) → possible s.device image → StandsFor Two image s.state
+    Stands s = (image : List ℕ) → possible s.device image → RecoversTo Two image s.state
 
-    -- a command that was refused leaves what those behind it do
+    -- If the first command is refused, the images of the run are those of the remaining commands.
     refused : (command : Command) (commands : List Command) (replies : List Reply) (old mid new : SessionValue D) (answer : Result (Unit {0}) Denial) (n : ℕ)
         → is_ok answer ≡ false → kept (command ∷ commands) (record { answer = answer; calls = n } ∷ replies) ≡ kept commands replies → mid ≡ old → old.is_broken ≡ false → Stands old
         → (mid.is_broken ≡ false → Stands mid → All mid.device new.device (RunLeaves mid.state commands replies))
@@ -178,10 +178,11 @@ module _ {D : Type 0} (len calls faults : D → ℕ) (honest : D → Type 0) (cl
         subst (λ (s : SessionValue D). All s.device new.device (RunLeaves s.state commands replies)) same
         (rest (ap (λ (s : SessionValue D). s.is_broken) same ∙ whole) (subst (λ (s : SessionValue D). Stands s) (sym same) stands)) in
         through.weakened clock since old.device new.device (RunLeaves old.state commands replies) (RunLeaves old.state (command ∷ commands) (reply ∷ replies))
-        (λ m image some. subst (λ (l : List Command). StandsForSome old.state l (acked m (reply ∷ replies)) image) (sym same_kept)
-        (subst (λ (k : ℕ). StandsForSome old.state (kept commands replies) k image) (sym (unacked m reply replies (ap (λ (b : Bool). b && nat_le n m) bad))) some)) here
+        (λ m image some. subst (λ (l : List Command). RecoversToPrefix old.state l (acked m (reply ∷ replies)) image) (sym same_kept)
+        (subst (λ (k : ℕ). RecoversToPrefix old.state (kept commands replies) k image) (sym (unacked m reply replies (ap (λ (b : Bool). b && nat_le n m) bad))) some)) here
 
-    -- At each moment of a run each image stands for the state after a first part of the commands that were kept, with all acknowledged ones.
+    -- At each moment of a run each image recovers to the state after a prefix of the kept commands, with all
+    -- acknowledged ones.
     pub run_leaves : (commands : List Command) (replies : List Reply) (old new : SessionValue D) → Run old commands replies new → old.is_broken ≡ false → Stands old → honest new.device
         → All old.device new.device (RunLeaves old.state commands replies)
     run_leaves [] [] old new run whole stands h =
@@ -209,7 +210,7 @@ module _ {D : Type 0} (len calls faults : D → ℕ) (honest : D → Type 0) (cl
             let counted : calls run.0.device ≡ calls old.device + calls_of old.place command = applied.called.finished in
             let own = both old.device run.0.device (RunLeaves old.state (command ∷ []) (reply ∷ []))
             (IsBetween (calls old.device) (calls old.device + calls_of old.place command)) (applied.moments whole mid_honest) (applied.counts mid_honest) in
-            let behind = both run.0.device new.device (RunLeaves run.0.state commands replies) (λ m image. calls run.0.device ≤ m)
+            let following = both run.0.device new.device (RunLeaves run.0.state commands replies) (λ m image. calls run.0.device ≤ m)
             (rest done_so.is_broken (applied.stands done_so.is_broken mid_honest)) (counted_from commands replies run.0 new run.2 h) in
             through.joined clock since old.device run.0.device new.device (RunLeaves old.state (command ∷ commands) (reply ∷ replies))
             (through.weakened clock since old.device run.0.device
@@ -225,7 +226,7 @@ module _ {D : Type 0} (len calls faults : D → ℕ) (honest : D → Type 0) (cl
             (λ m image all. late old.state command (kept commands replies) (acked m replies) (acked m (reply ∷ replies)) image
             (one_acked m reply replies (le-leb n m (omega (arith, applied.count, all.1))))
             done_so.accepted
-            (subst (λ (s : State). StandsForSome s (kept commands replies) (acked m replies) image) done_so.state all.0)) behind)
+            (subst (λ (s : State). RecoversToPrefix s (kept commands replies) (acked m replies) image) done_so.state all.0)) following)
         first (Err DeviceFault) n applied rest =
             let reply : Reply = record { answer = Err DeviceFault; calls = n } in
             let stays = broken_stays commands replies run.0 new applied.makes.is_broken run.2 in

@@ -1,4 +1,4 @@
--- What a command makes of a session, by what its commit did.
+-- The effect of a command on a session follows from that of its commit.
 use Rattle.std.proofs.Common.{◌≡◌, ◌≢◌, ⊎_elim, ℕ, ◌+◌, ◌<◌, ◌≤◌, Bool, true, false, ◌&&◌, ◌||◌, not, List, [], ◌∷◌, refl, subst, arith}
 use Rattle.std.specs.Prelude.{◌^◌, ◌==◌, Ok, Err, Option, Some, None, if◌then◌else◌}
 use Rattle.std.specs.Option.{option_map, option_or}
@@ -7,31 +7,31 @@ use Rattle.std.proofs.lemmas.Bool.Decides.{eqb_tells}
 use Rattle.sector_disk.specs.Sectors.{Throughout}
 use Rattle.sector_disk.specs.Throughout as through
 use Rattle.command_core.specs.Effects.{effect}
-use Rattle.command_core.specs.Refusing.{refusal}
-use Rattle.command_core.specs.Commands.{is_recorded}
+use Rattle.command_core.specs.Refusals.{refusal}
+use Rattle.command_types.specs.Commands.{is_recorded}
 use Rattle.command_core.specs.Runs.{AreAccepted}
-use Rattle.command_core.specs.declared.refusals.Refusal.{Refusal}
-use Rattle.command_core.specs.declared.states.State.{State}
-use Rattle.command_core.specs.declared.commands.Command.{Command}
+use Rattle.command_types.specs.declared.refusals.Refusal.{Refusal}
+use Rattle.command_types.specs.declared.states.State.{State}
+use Rattle.command_types.specs.declared.commands.Command.{Command}
 use Rattle.state_codec.specs.declared.version.Version.TheVariants.{Two}
 use Rattle.checkpoint.specs.declared.places.Place.{Place}
 use Rattle.recover.specs.declared.denials.Denial.{Denial}
 use Rattle.recover.specs.declared.denials.Denial.TheVariants.{Broken, Core, Spent, DeviceFault}
 use Rattle.recover.specs.declared.replies.Reply.{Reply}
-use Rattle.recover.specs.StandsFor.{StandsFor}
+use Rattle.recover.specs.RecoversTo.{RecoversTo}
 use Rattle.recover.specs.Replies.{acked}
-use Rattle.recover.specs.Moments.{StandsForSome, RunLeaves}
+use Rattle.recover.specs.Moments.{RecoversToPrefix, RunLeaves}
 use Rattle.recover.specs.Sessions.{SessionValue, AllHold}
 use Rattle.recover.specs.Applying.{is_snapshot_due, place_after, spent, denial, IsBetween}
 use Rattle.recover.specs.Committing.{IsInStep}
 use Rattle.recover.proofs.RunLemmas.{unacked, one_acked}
 use Rattle.recover.proofs.StepLemmas.{held}
 
--- images that hold a state and commands stand for the state after these
-pub stands_of : (images : List ℕ → Type 0) (state : State) (place : Place) → AllHold images state place → (image : List ℕ) → images image → StandsFor Two image state
+-- images that hold a state and commands recover to the state after the commands
+pub stands_of : (images : List ℕ → Type 0) (state : State) (place : Place) → AllHold images state place → (image : List ℕ) → images image → RecoversTo Two image state
 stands_of images state place all image left = held images state place all image (all.each image left)
 
--- where there is no denial, the session is not broken, and has a sequence left
+-- without a denial the session is not broken and has a sequence left
 pub undenied : {D : Type 0} (s : SessionValue D) (command : Command) → denial s command ≡ None → (s.is_broken ≡ false) × (spent s.place command ≡ None)
 undenied s command none = from s.is_broken (refusal s.state command) none
   where
@@ -43,7 +43,7 @@ undenied s command none = from s.is_broken (refusal s.state command) none
 less_unless : (a b : ℕ) → a ≤ b → (a == b) ≡ false → a < b
 less_unless a b most off = ⊎_elim (λ (same : ((a == b) ≡ true) × (a ≡ b)). cc (same.0, off)) (λ (other : ((a == b) ≡ false) × (a ≢ b)). omega (arith, most, other.1)) (eqb_tells a b)
 
--- the place after a command is one that a session may have
+-- the place after a command is a valid place of a session
 pub place_fits : (place : Place) (command : Command) → spent place command ≡ None → 1 ≤ place.sequence → place.sequence ≤ 2 ^ 60 → place.used ≤ 256
     → (1 ≤ (place_after place command).sequence) × ((place_after place command).sequence ≤ 2 ^ 60) × ((place_after place command).used ≤ 256)
 place_fits place command unspent first last used =
@@ -58,20 +58,20 @@ place_fits place command unspent first last used =
     from true true true room more e = cc e
     from false full true room more e = cc e
 
--- moments of a command that was carried out, and of one within which the device failed
+-- the moments of a command that was executed, or during which the device failed
 module _ (state : State) (command : Command) (accepted : AreAccepted state (command ∷ [])) (next : State) (same : next ≡ effect state command)
     (calls steps n m : ℕ) (image : List ℕ) (step : IsInStep state next calls steps m image) where
-  none : (all : ℕ) → all ≡ 0 → StandsFor Two image state → StandsForSome state (command ∷ []) all image
+  none : (all : ℕ) → all ≡ 0 → RecoversTo Two image state → RecoversToPrefix state (command ∷ []) all image
   none all e stands = record { count = 0; all_acknowledged = omega (arith, e); one_more = omega arith; within = omega arith; accepted = tt; stands = stands }
 
-  one : (all : ℕ) → all ≤ 1 → StandsFor Two image next → StandsForSome state (command ∷ []) all image
+  one : (all : ℕ) → all ≤ 1 → RecoversTo Two image next → RecoversToPrefix state (command ∷ []) all image
   one all le stands = record {
     count = 1;
     all_acknowledged = omega (arith, le);
     one_more = omega arith;
     within = omega arith;
     accepted = accepted;
-    stands = subst (λ (s : State). StandsFor Two image s) same stands;
+    stands = subst (λ (s : State). RecoversTo Two image s) same stands;
   }
 
   pub leaves_ok : (done : Unit {0}) → n ≡ calls + steps → RunLeaves state (command ∷ []) (record { answer = Ok done; calls = n } ∷ []) m image
@@ -89,10 +89,10 @@ module _ (state : State) (command : Command) (accepted : AreAccepted state (comm
       let not_yet : acked m (reply ∷ []) ≡ 0 = unacked m reply [] refl in
       ⊎_elim (none (acked m (reply ∷ [])) not_yet) (one (acked m (reply ∷ [])) (omega (arith, not_yet))) step.either
 
--- a call that does nothing
+-- a command that does not call the device leaves the images as they were
 module _ {D : Type 0} (calls : D → ℕ) (honest : D → Type 0) (clock : D → ℕ) (since : D → ℕ → ℕ → List ℕ → Type 0) (possible : D → List ℕ → Type 0)
     (only_now : (d : D) (m : ℕ) (image : List ℕ) → honest d → since d (clock d) m image → (m ≡ calls d) × possible d image) (d : D) (h : honest d) where
-  pub still : (state : State) → ((image : List ℕ) → possible d image → StandsFor Two image state) → (command : Command) (why : Denial) (n : ℕ)
+  pub still : (state : State) → ((image : List ℕ) → possible d image → RecoversTo Two image state) → (command : Command) (why : Denial) (n : ℕ)
       → Throughout clock since d d (RunLeaves state (command ∷ []) (record { answer = Err why; calls = n } ∷ []))
   still state stands command why n = through.started clock since d (RunLeaves state (command ∷ []) (record { answer = Err why; calls = n } ∷ [])) (λ m image left.
       let not_yet : acked m (record { answer = Err why; calls = n } ∷ []) ≡ 0 = unacked m (record { answer = Err why; calls = n }) [] refl in record {
@@ -108,7 +108,8 @@ module _ {D : Type 0} (calls : D → ℕ) (honest : D → Type 0) (clock : D →
   still_between k = through.started clock since d (IsBetween (calls d) (calls d + k)) (λ m image left.
       let now : m ≡ calls d = (only_now d m image h left).0 in (omega (arith, now), omega (arith, now)))
 
--- what holds of the three denials that come before memory is asked for and the device is called
+-- a property holds for a denial that comes before memory is allocated and the device is called, if it holds for
+-- Broken, for each refusal of a state, and for Spent
 pub denied : {D : Type 0} (s : SessionValue D) (command : Command) (d : Denial) → denial s command ≡ Some d → (P : Denial → Type 0) → P Broken → ((r : Refusal) → P (Core r)) → P Spent → P d
 denied s command d is P broken core no_sequence = from s.is_broken (refusal s.state command) (is_snapshot_due s.place command && (s.place.sequence == 2 ^ 60)) is
   where

@@ -1,6 +1,6 @@
--- what public contracts reach
+-- modules that public contracts use
 pub mod Names
-pub mod StandsFor
+pub mod RecoversTo
 pub mod Replies
 pub mod Moments
 pub mod Opening
@@ -9,11 +9,11 @@ pub mod Applying
 pub mod Upgrading
 pub mod Headline
 pub mod Reopening
-pub mod Joining
+pub mod Composition
 pub mod Rounds
 pub mod Folds
 pub mod Links
 pub mod Restarts
--- of private functions alone
+-- modules that only private functions use
 pub mod Committing
-pub mod Repeating
+pub mod Replaying

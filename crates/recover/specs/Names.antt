@@ -1,6 +1,6 @@
 -- The names of denials, of refused upgrades and of the faults of rounds.
 use Rattle.std.specs.Prelude.{ℕ, List, codes}
-use Rattle.command_core.specs.Names.{refusal_name}
+use Rattle.command_types.specs.Names.{refusal_name}
 use Rattle.checkpoint.specs.Names.{store_fault_name, format_fault_name}
 use Rattle.recover.specs.declared.denials.Denial.{Denial}
 use Rattle.recover.specs.declared.denials.Denial.TheVariants.{Broken, Core, Spent, OutOfMemory, DeviceFault}

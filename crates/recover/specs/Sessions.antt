@@ -1,8 +1,9 @@
--- A session, as its callers see it, and what every session keeps.
+-- A session, as its callers see it, and its invariant.
 use Rattle.std.specs.Prelude.{◌≡◌, ℕ, ◌≤◌, Bool, false, List}
-use Rattle.command_core.specs.Runs.{IsState, after, AreAccepted}
-use Rattle.command_core.specs.declared.states.State.{State}
-use Rattle.command_core.specs.declared.commands.Command.{Command}
+use Rattle.command_core.specs.Runs.{after, AreAccepted}
+use Rattle.command_types.specs.States.{IsState}
+use Rattle.command_types.specs.declared.states.State.{State}
+use Rattle.command_types.specs.declared.commands.Command.{Command}
 use Rattle.state_codec.specs.declared.version.Version.TheVariants.{Two}
 use Rattle.checkpoint.specs.declared.places.Place.{Place}
 use Rattle.checkpoint.specs.Holds.{Holds}
@@ -10,14 +11,14 @@ use Rattle.checkpoint.specs.Layouts.{version_2, journal_room, last_sequence, sec
 
 pub record SessionValue (D : Type 0) : Type 0 where
   pub device : D
-  -- the state after every acknowledged command
+  -- The state after every acknowledged command.
   pub state : State
-  -- where the journal goes on
+  -- The place at which the journal continues.
   pub place : Place
-  -- whether the device has failed in a command
+  -- Whether the device has failed in a command.
   pub is_broken : Bool
 
--- Each of these images holds one state and commands, at this place, and stands for this state.
+-- Each of these images holds the same snapshot and commands at this place, and recovers to this state.
 pub record AllHold (images : List ℕ → Type 0) (state : State) (place : Place) : Type 0 where
   pub snapshot : State
   pub commands : List Command
@@ -25,8 +26,8 @@ pub record AllHold (images : List ℕ → Type 0) (state : State) (place : Place
   pub leads : after snapshot commands ≡ state
   pub each : (image : List ℕ) → images image → Holds Two image snapshot commands place
 
--- The state keeps the facts of states, and the device has room for a store and the store a place for what comes. While the session is not
--- broken and the device is honest, each image that a stop may leave stands for the state.
+-- The state keeps its invariants, the device has room for a store, and the place is valid. Unless the session
+-- is broken or the device is not honest, each image that a crash may leave recovers to the state.
 pub record IsSession {D : Type 0} (len : D → ℕ) (honest : D → Type 0) (possible : D → List ℕ → Type 0) (s : SessionValue D) : Type 0 where
   pub state : IsState s.state
   pub room : sectors_in version_2 ≤ len s.device

@@ -1,17 +1,17 @@
-//! A command is committed: as a record, or by a snapshot of the state after it.
+//! Commits a command: as a record, or by a snapshot of the resulting state.
 ghost use Rattle.std.specs.Prelude.{◌≡◌, ◌+◌, ◌<◌, ◌≤◌, ◌^◌, ℕ, List, [], ◌∷◌, true, None, OnOk, IfOk, IfErr};
 ghost use Rattle.command_core.specs.Effects.{effect};
-ghost use Rattle.command_core.specs.Commands.{is_recorded, fits_record};
+ghost use Rattle.command_types.specs.Commands.{is_recorded, fits_record};
 ghost use Rattle.command_core.specs.Runs.{AreAccepted};
-ghost use Rattle.command_core.specs.declared.states.State.{State};
+ghost use Rattle.command_types.specs.declared.states.State.{State};
 ghost use Rattle.sector_disk.specs.Sectors.{more};
 ghost use Rattle.sector_disk.specs.Calls.{Calls};
 ghost use Rattle.checkpoint.specs.Changes.{IsUnspent, HasRecordRoom};
-ghost use Rattle.checkpoint.specs.Places.{behind_record, behind_snapshot};
+ghost use Rattle.checkpoint.specs.Places.{place_after_record, place_after_snapshot};
 ghost use Rattle.state_codec.specs.Limits.{IsRecorded};
 ghost use Rattle.state_codec.specs.declared.version.Version.TheVariants.{Two};
 ghost use Rattle.recover.specs.Applying.{is_snapshot_due, calls_of, place_after, spent};
-ghost use Rattle.recover.specs.Committing.{IsOfChange, CanCommit, CommitsStateFrom, LeavesDevice, cause, faults_after_commit};
+ghost use Rattle.recover.specs.Committing.{IsCommitFault, CanCommit, CommitsStateFrom, LeavesDevice, cause, faults_after_commit};
 
 use checkpoint::{Place, RECORDS, StoreFault, commit_record, commit_snapshot};
 use command_core::{Command, State};
@@ -19,16 +19,17 @@ use sector_disk::Sectors;
 use state_codec::recorded_fields_have_room;
 use std::alloc::Global;
 
-/// Why a command was not committed, where the store had a place for it.
+/// The reason why a command was not committed, though the store had a place for it.
 #[derive(Clone, Copy)]
 pub(crate) enum CommitFault {
     OutOfMemory,
     DeviceFault,
 }
 
-// What the store told, where it had a place. The other faults are of reading, or of a store without a place.
+// Returns the reason why a commit failed, from the store's fault. Only two faults can occur here. The others
+// come from reading, or from a store without a place for the command.
 fn cause(fault: StoreFault) -> CommitFault
-    requires { IsOfChange fault }
+    requires { IsCommitFault fault }
     ensures { result ≡ cause fault }
 {
     match fault {
@@ -41,7 +42,7 @@ fn cause(fault: StoreFault) -> CommitFault
     }
 }
 
-/// Whether a snapshot is due: for a command without a record, and where 256 records stand.
+/// Returns whether a snapshot is due: the command has no record, or the journal already has 256.
 pub(crate) fn is_snapshot_due(place: Place, command: &Command) -> bool
     ensures { result ≡ is_snapshot_due place command.now }
 {
@@ -49,7 +50,7 @@ pub(crate) fn is_snapshot_due(place: Place, command: &Command) -> bool
 }
 
 // Commits a command as a record.
-fn as_record<D: Sectors>(
+fn commit_as_record<D: Sectors>(
     device: &mut D,
     place: Place,
     command: &Command,
@@ -57,12 +58,12 @@ fn as_record<D: Sectors>(
     requires { HasRecordRoom (D.len device.old) place command.now }
 
     ensures left { IfErr result (λ fault. LeavesDevice fault device.old device.new) }
-    ensures place { IfOk result (λ next. next ≡ behind_record place) }
+    ensures place { IfOk result (λ next. next ≡ place_after_record place) }
     ensures called { Calls D.Sectors (more result 2) (faults_after_commit result)
         device.old device.new }
     ensures leads { (state : State) → AreAccepted state (command.now ∷ [])
         → CommitsStateFrom D.Sectors result 2 state (effect state command.now)
-        place (behind_record place) device.old device.new }
+        place (place_after_record place) device.old device.new }
 {
     match commit_record(device, place, command) {
         Ok(next) => Ok(next),
@@ -70,8 +71,8 @@ fn as_record<D: Sectors>(
     }
 }
 
-// Commits a state by a snapshot of it. There is a sequence for it.
-fn as_snapshot<D: Sectors>(
+// Commits a state by a snapshot. The caller guarantees that a sequence is left for it.
+fn commit_as_snapshot<D: Sectors>(
     alloc: Global,
     device: &mut D,
     place: Place,
@@ -80,11 +81,11 @@ fn as_snapshot<D: Sectors>(
     requires { IsUnspent (D.len device.old) place }
 
     ensures left { IfErr result (λ fault. LeavesDevice fault device.old device.new) }
-    ensures place { IfOk result (λ next. next ≡ behind_snapshot place) }
+    ensures place { IfOk result (λ next. next ≡ place_after_snapshot place) }
     ensures called { Calls D.Sectors (more result 4) (faults_after_commit result)
         device.old device.new }
     ensures leads { (state : State) → CommitsStateFrom D.Sectors result 4 state next.now
-        place (behind_snapshot place) device.old device.new }
+        place (place_after_snapshot place) device.old device.new }
 {
     match commit_snapshot(alloc, device, place, next) {
         Ok(place) => Ok(place),
@@ -92,7 +93,7 @@ fn as_snapshot<D: Sectors>(
     }
 }
 
-/// Commits a command that leads to the state `next`: two calls for a record, four for a snapshot.
+/// Commits a command that leads to the state `next`: by a record with two calls, or by a snapshot with four.
 pub(crate) fn commit<D: Sectors>(
     alloc: Global,
     device: &mut D,
@@ -113,7 +114,7 @@ pub(crate) fn commit<D: Sectors>(
 {
     recorded_fields_have_room(command);
     if command.is_recorded() && place.used < RECORDS {
-        return as_record(device, place, command);
+        return commit_as_record(device, place, command);
     }
-    as_snapshot(alloc, device, place, next)
+    commit_as_snapshot(alloc, device, place, next)
 }

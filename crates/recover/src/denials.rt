@@ -1,24 +1,24 @@
-//! Why a session denies a command.
+//! The reasons why a session denies a command.
 ghost use Rattle.std.specs.Prelude.{◌≡◌};
 
 use command_core::Refusal;
 use thiserror::Error;
 
-/// Why a command was not carried out. All but `DeviceFault` leave session and device as they were.
+/// The reason why a command was not executed. All except `DeviceFault` leave session and device unchanged.
 #[derive(Clone, Copy, Debug, PartialEq, Eq, Error)]
 pub enum Denial {
-    /// The device failed in an earlier command. It has to be opened again.
+    /// The device failed in an earlier command. The store has to be opened again.
     #[error("the session is broken")]
     Broken,
-    /// The state refuses the command. Want of memory is `OutOfMemory`.
+    /// The state refuses the command. If memory runs out, the denial is `OutOfMemory` instead.
     #[error("{0}")]
     Core(Refusal),
-    /// A snapshot is due, and the store's sequences are spent.
+    /// A snapshot is due, but the store has used its last sequence.
     #[error("the sequences are spent")]
     Spent,
     #[error("out of memory")]
     OutOfMemory,
-    /// The device failed. Whether the command is kept is told when the device is opened again.
+    /// The device failed. Opening it again shows whether the command was executed.
     #[error("the device failed")]
     DeviceFault,
 }
@@ -26,7 +26,8 @@ pub enum Denial {
 impl Denial {
     ghost use Rattle.recover.specs.Names.{denial_name};
 
-    /// Its name, as answers print it. A state's refusal has its own.
+    /// Returns the name of the denial, as answers print it. For a state's refusal it is the name of the
+    /// refusal.
     pub fn name(&self) -> &'static str
         ensures { result.now ≡ denial_name self.now }
     {

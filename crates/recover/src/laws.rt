@@ -1,65 +1,73 @@
-//! What is known of stops and recovery, from the promises of `run` and of `open` alone.
+//! Laws about crashes and recovery, derived only from the contracts of `run` and `open`.
 ghost use Rattle.recover.specs.Headline.{Headline};
-ghost use Rattle.recover.specs.Joining.{AppliesAreRuns, RunsJoin, RunsAddUp, HoldsOverStops, StoppedLeaveTheSame, RefusedAreStopped, RefusedAreRepeated};
-ghost use Rattle.recover.specs.Links.{LinksLeadOn};
+ghost use Rattle.recover.specs.Composition.{AppliesAreRuns, RunsConcatenate, RunsCompose, HoldsAfterCrashedOpenings, CrashedLeaveSameImages, RefusedCountAsCrashed, RefusedCanBeRetried};
+ghost use Rattle.recover.specs.Links.{LinksCompose};
 ghost use Rattle.recover.specs.Reopening.{Reopens, OpensNew};
 
-use command_core::{annealings_add_up, effects_keep_facts, plans_never_cost_more, searches_add_up};
-use plan_audit::tests_say_pass;
+use command_core::{
+    annealings_add_up, commands_keep_invariants, plans_never_cost_more, searches_add_up,
+};
+use plan_audit::passes_decides_the_verdict;
 use sector_disk::Sectors;
 
-/// Stopped at any moment of a run, with any choice that the device allows, recovery gives the state after a first part of the commands
-/// that holds every acknowledged one, and at most one more. Its plan passes the auditor, and costs no more than any incumbent since the
-/// last change of requests or pins.
+/// Proves the headline: after a crash at any moment of a run, with any image that the device allows, recovery
+/// returns the state after a prefix of the commands. The prefix has every acknowledged command, and at most one
+/// more. The plan passes the auditor, and costs no more than any incumbent since the last change of requests or
+/// pins.
 pub fn recovery_keeps_every_acknowledged_command<D: Sectors, E: Sectors>()
     ensures { Headline D.Sectors E.Sectors }
 {
-    effects_keep_facts();
+    commands_keep_invariants();
     plans_never_cost_more();
-    tests_say_pass();
+    passes_decides_the_verdict();
 }
 
-/// `apply` is a run of one command, and a run and then another one of the same session are one run of the joined lists. At each moment
-/// of both a stop leaves what that run promises, so that the headline speaks of all the commands of a session at once.
-pub fn runs_add_up<D: Sectors>()
+/// Proves that `apply` is a run of one command, and that two consecutive runs of a session are one run of the
+/// joined lists. At each moment of both, a crash leaves what the joined run guarantees, so the headline applies
+/// to all commands of a session together.
+pub fn runs_compose<D: Sectors>()
     ensures applied { AppliesAreRuns D.Sectors }
-    ensures joined { RunsJoin D.Sectors }
-    ensures moments { RunsAddUp D.Sectors }
+    ensures joined { RunsConcatenate D.Sectors }
+    ensures moments { RunsCompose D.Sectors }
 {}
 
-/// However many openings are stopped or refused behind a run that was stopped, the next one gives what the headline says of that run:
-/// what is left is an image that a stop might have left before. One that was refused, not by the device, gives the next time what it
-/// would have given.
-pub fn stopped_openings_may_be_made_again<D: Sectors, E: Sectors>()
-    ensures over { HoldsOverStops D.Sectors E.Sectors }
-    ensures same { StoppedLeaveTheSame E.Sectors }
-    ensures refused { RefusedAreStopped E.Sectors }
-    ensures repeated { RefusedAreRepeated E.Sectors }
+/// Proves that after a crash of a run any number of openings may crash or be refused. The next opening still
+/// returns the state that the headline describes, since each possible image is one that was possible before
+/// these openings. If an opening was refused, but not because the device failed, the next one returns what it
+/// would have returned.
+pub fn crashed_openings_can_be_retried<D: Sectors, E: Sectors>()
+    ensures over { HoldsAfterCrashedOpenings D.Sectors E.Sectors }
+    ensures same { CrashedLeaveSameImages E.Sectors }
+    ensures refused { RefusedCountAsCrashed E.Sectors }
+    ensures retried { RefusedCanBeRetried E.Sectors }
 {
-    effects_keep_facts();
+    commands_keep_invariants();
     plans_never_cost_more();
-    tests_say_pass();
+    passes_decides_the_verdict();
 }
 
-/// Over any list of restarts, each of which begins with the state that the one before gave, the commands that stand, joined, led from the first
-/// state to the last: of each run all acknowledged ones, and at most one more. Each restart is what the headline gives, of whatever devices.
-pub fn restarts_add_up()
-    ensures { LinksLeadOn }
+/// Proves that restarts compose. Consider any list of restarts, each beginning with the state that the previous
+/// one returned. The commands that they recover, joined, lead from the first state to the last. For each run
+/// these are all acknowledged ones, and at most one more. Each restart is as the headline guarantees; the
+/// devices may differ.
+pub fn restarts_compose()
+    ensures { LinksCompose }
 {
-    effects_keep_facts();
+    commands_keep_invariants();
     plans_never_cost_more();
     searches_add_up();
     annealings_add_up();
-    tests_say_pass();
+    passes_decides_the_verdict();
 }
 
-/// A session that is closed gives the same state when its device is opened again: each image that a stop may leave stands for it.
-pub fn a_closed_session_opens_the_same<D: Sectors>()
+/// Proves that a closed session returns the same state when its device is opened again: each image that a crash
+/// may leave recovers to it.
+pub fn a_closed_session_reopens_with_its_state<D: Sectors>()
     ensures { Reopens D.honest D.seen D.possible }
 {}
 
-/// A store that was just made stands for the state that it was made of, whatever a stop leaves, and opens with it: the empty one after
-/// `format`.
+/// Proves that every crash image of a new store recovers to the state that it was created from, and that the
+/// store opens with this state. After `format` this is the empty state.
 pub fn a_new_store_opens_with_its_state<D: Sectors>()
     ensures { OpensNew D.honest D.seen D.possible }
 {}

@@ -1,42 +1,43 @@
-//! Opening a device: the state that its store stands for.
+//! Opens a device and recovers the state of its store.
 //!
-//! `opens` of `IsOpened` and `IsRefused` is the headline's premise, word for word. `given` and `refused` say the same without
-//! supposing that the image stands for a state: which state, or which cause, where commands that are not all accepted are told as
-//! a bad field. `replays` is said of an honest device: the code subtracts the steps and stops at zero, since of a device that lies
-//! nothing is known of the records.
+//! The clause `opens` of `IsOpened` and of `IsRefused` is exactly the premise of the headline. The clauses
+//! `given` and `refused` are stronger: they do not assume that the image recovers to a state, and say which
+//! state or which fault is returned. Commands that are not all accepted are reported as a bad field. The clause
+//! `replays` holds only for an honest device: the code subtracts numbers of steps and stops at zero, since
+//! nothing is known about the records of a dishonest device.
 ghost use Rattle.std.specs.Prelude.{IfOk, IfErr, MatchResult};
-ghost use Rattle.command_core.specs.Runs.{IsState};
+ghost use Rattle.command_types.specs.States.{IsState};
 ghost use Rattle.sector_disk.specs.Sectors.{more};
 ghost use Rattle.sector_disk.specs.Calls.{Calls};
 ghost use Rattle.state_codec.specs.declared.version.Version.TheVariants.{Two};
 ghost use Rattle.checkpoint.specs.Loads.{IsLoaded};
-ghost use Rattle.checkpoint.specs.Holdless.{HoldsNothing, IsOfLoad, UnlessUnread};
-ghost use Rattle.checkpoint.specs.Refused.{faults_after_reading};
-ghost use Rattle.recover.specs.StandsFor.{StandsFor};
-ghost use Rattle.recover.specs.Opening.{Settles, StandsForNone, IsToRepeat, IsOnlyRead, IsOpened, IsRefused};
-ghost use Rattle.recover.specs.Repeating.{IsOfRepeating, IsRepeating, TellsState};
+ghost use Rattle.checkpoint.specs.InvalidImages.{HoldsNothing, IsLoadFault, UnlessReadFailed};
+ghost use Rattle.checkpoint.specs.Refusals.{faults_after_reading};
+ghost use Rattle.recover.specs.RecoversTo.{RecoversTo};
+ghost use Rattle.recover.specs.Opening.{Settles, RecoversToNothing, IsStepsToReplay, IsOnlyRead, IsOpened, IsRefused};
+ghost use Rattle.recover.specs.Replaying.{IsReplayFault, IsReplay, ReportsState};
 
-use crate::repeating::{repeat, steps_among, steps_in};
+use crate::replaying::{replay, steps_of_commands, steps_of_state};
 use crate::sessions::Session;
-use checkpoint::{LEAST_SECTORS, Loaded, Place, StoreFault, images_hold_one_thing, load};
+use checkpoint::{Loaded, MIN_SECTORS, Place, StoreFault, images_hold_at_most_one_state, load};
 use command_core::State;
 use sector_disk::{DeviceFault, Sectors};
 use state_codec::version::Version;
 use std::alloc::Global;
 
-/// What a device's store stands for.
+/// The state to which a device's store recovers.
 #[derive(Drop)]
-pub(crate) struct Recovered {
+pub(crate) struct RecoveredState {
     pub state: State,
-    /// Where the journal goes on.
+    /// The place at which the journal continues.
     pub place: Place,
-    /// How many search steps were repeated.
+    /// The number of replayed search steps.
     pub replayed: u64,
 }
 
-// What the image that reads give holds by a version, once that image is durable: one call that finishes, and none on a device that is smaller
-// than any store.
-fn read_settled<D: Sectors>(
+// Syncs the device, so that the image that reads return is durable, and loads the content of that image. One
+// call finishes; a device smaller than any store is not called.
+fn sync_and_load<D: Sectors>(
     alloc: Global,
     device: &mut D,
     version: Version,
@@ -46,7 +47,7 @@ fn read_settled<D: Sectors>(
         device.old device.new }
     ensures settles { D.honest device.new → Settles D.Sectors result device.old device.new }
 {
-    if device.len() < LEAST_SECTORS {
+    if device.len() < MIN_SECTORS {
         return Err(StoreFault::NotFormatted);
     }
     match device.sync() {
@@ -55,91 +56,94 @@ fn read_settled<D: Sectors>(
     }
 }
 
-// What was read, with the commands of the records repeated.
-fn repeated(alloc: Global, loaded: Loaded) -> Result<Recovered, StoreFault>
+// Replays the commands of the records on the loaded state.
+fn replay_records(alloc: Global, loaded: Loaded) -> Result<RecoveredState, StoreFault>
     requires { IsState loaded.state }
-    ensures ok { IfOk result (IsRepeating loaded.state loaded.commands.items loaded.place) }
-    ensures refused { IfErr result (IsOfRepeating loaded.state loaded.commands.items) }
+    ensures ok { IfOk result (IsReplay loaded.state loaded.commands.items loaded.place) }
+    ensures refused { IfErr result (IsReplayFault loaded.state loaded.commands.items) }
 {
-    let begun = steps_in(&loaded.state);
-    let state = repeat(alloc, loaded.state, &loaded.commands)?;
-    Ok(Recovered {
-        replayed: steps_in(&state).saturating_sub(begun),
+    let begun = steps_of_state(&loaded.state);
+    let state = replay(alloc, loaded.state, &loaded.commands)?;
+    Ok(RecoveredState {
+        replayed: steps_of_state(&state).saturating_sub(begun),
         state,
         place: loaded.place,
     })
 }
 
-/// The state that the device's store of a version stands for: what is read, with the commands of the records repeated.
+/// Recovers the state of the store on the device, which has this version: loads the store and replays the
+/// commands of its records.
 pub(crate) fn recover<D: Sectors>(
     alloc: Global,
     device: &mut D,
     version: Version,
-) -> Result<Recovered, StoreFault>
-    ensures recovered { TellsState D.Sectors version result device.old device.new }
+) -> Result<RecoveredState, StoreFault>
+    ensures recovered { ReportsState D.Sectors version result device.old device.new }
     ensures called { Calls D.Sectors (more result 1) (faults_after_reading result)
         device.old device.new }
     ensures settles { D.honest device.new → Settles D.Sectors result device.old device.new }
 {
-    let loaded = read_settled(alloc, device, version)?;
-    let found = repeated(alloc, loaded)?;
+    let loaded = sync_and_load(alloc, device, version)?;
+    let found = replay_records(alloc, loaded)?;
     Ok(found)
 }
 
-/// The state that the device's store stands for, by reading alone: nothing is synced, so that a device which can't be written gives it too.
-/// What reads give may not be durable yet.
+/// Recovers the state of the device's store by reading only. Nothing is synced, so this works on a device that
+/// can't be written. The bytes that reads return may not be durable yet.
 ///
-/// It is refused only where its image stands for no state, where memory is refused or where the device fails.
+/// It is refused only if the image recovers to no state, if memory runs out or if the device fails.
 pub fn read_state<D: Sectors>(alloc: Global, device: &mut D) -> Result<State, StoreFault>
-    ensures given { D.honest device.new → MatchResult result (StandsFor Two (D.seen device.old))
-        (UnlessUnread (StandsForNone Two (D.seen device.old))) }
+    ensures given { D.honest device.new → MatchResult result (RecoversTo Two (D.seen device.old))
+        (UnlessReadFailed (RecoversToNothing Two (D.seen device.old))) }
     ensures facts { IfOk result IsState }
-    ensures fails { IfErr result IsOfLoad }
+    ensures fails { IfErr result IsLoadFault }
     ensures reads { IsOnlyRead D.Sectors result device.old device.new }
 {
     let loaded = load(alloc, device, Version::Two)?;
-    let found = repeated(alloc, loaded)?;
+    let found = replay_records(alloc, loaded)?;
     Ok(found.state)
 }
 
-/// How many search steps opening this device is to repeat: those of the searches among the records, by reading alone, so that it can be
-/// told before the first of them is made.
+/// Returns the number of search steps that opening this device will replay: those of the searches among the
+/// records. It only reads, so the number can be printed before the first step runs.
 ///
-/// Reads may give what is not durable yet, which the sync of `open` then keeps: what is read here is what `open` reads. Records whose
-/// commands are not all accepted are refused by `open` alone.
-pub fn steps_to_repeat<D: Sectors>(alloc: Global, device: &mut D) -> Result<u64, StoreFault>
+/// Reads may return bytes that are not durable yet. The sync of `open` makes them durable, so `open` reads the
+/// same bytes. Only `open` refuses records whose commands are not all accepted.
+pub fn steps_to_replay<D: Sectors>(alloc: Global, device: &mut D) -> Result<u64, StoreFault>
     ensures found { D.honest device.new
-        → MatchResult result (IsToRepeat Two (D.seen device.old))
-        (UnlessUnread (HoldsNothing Two (D.seen device.old))) }
-    ensures fails { IfErr result IsOfLoad }
+        → MatchResult result (IsStepsToReplay Two (D.seen device.old))
+        (UnlessReadFailed (HoldsNothing Two (D.seen device.old))) }
+    ensures fails { IfErr result IsLoadFault }
     ensures reads { IsOnlyRead D.Sectors result device.old device.new }
 {
-    images_hold_one_thing();
+    images_hold_at_most_one_state();
     let loaded = load(alloc, device, Version::Two)?;
-    Ok(steps_among(&loaded.commands))
+    Ok(steps_of_commands(&loaded.commands))
 }
 
 /// An opened store.
 #[derive(Drop)]
 pub struct Opened<D: Sectors> {
     pub session: Session<D>,
-    /// How many search steps were repeated.
+    /// The number of replayed search steps.
     pub replayed: u64,
 }
 
 impl<D: Sectors> Session<D> {
-    /// Opens the store on a device: a sync, and then it reads alone and repeats the commands of the records.
+    /// Opens the store on a device: syncs, then only reads, and replays the commands of the records.
     ///
-    /// The state is the one that the image which reads give stands for. It is refused only where that image stands for none, where memory is
-    /// refused or where the device fails, and hands the device back: unless that failed, reads give the same then, so that opening it again
-    /// gives what this opening would have given. At each moment within the call a stop leaves an image that it might have left before, and
-    /// after `Ok` one that stands for the state. A device of fewer than 802 sectors is `NotFormatted`, and is not called.
+    /// The image that reads return recovers to the session's state. Opening is refused only if that image
+    /// recovers to no state, if memory runs out or if the device fails. A refusal returns the device: unless
+    /// the device failed, reads then return the same, so another opening returns what this one would have
+    /// returned. At each moment within the call a crash leaves an image that it might have left before, and
+    /// after `Ok` one that recovers to the state. A device of fewer than 802 sectors is `NotFormatted`, and is
+    /// not called.
     pub fn open(alloc: Global, device: D) -> Result<Opened<D>, (StoreFault, D)>
         ensures { MatchResult result
             (λ opened. IsOpened D.Sectors device opened.session opened.replayed)
             (λ refused. IsRefused D.Sectors device refused.1 refused.0) }
     {
-        images_hold_one_thing();
+        images_hold_at_most_one_state();
         let mut device = device;
         match recover(alloc, &mut device, Version::Two) {
             Ok(found) => Ok(Opened {

@@ -1,17 +1,18 @@
-//! What a session answers. The commands that are kept end at the first `DeviceFault`, since all later answers are `Broken`.
+//! The answers of a session. The kept commands are those that were answered `Ok`, and the one that was answered
+//! `DeviceFault`, if there is one. No later command is kept, since all later answers are `Broken`.
 
 use crate::denials::Denial;
 
-/// What a session answers to a command.
+/// The answer of a session to a command.
 #[derive(Clone, Copy, Debug, PartialEq, Eq)]
 pub struct Reply {
-    /// Where it is `Ok`, the command is acknowledged: it will not be lost.
+    /// If this is `Ok`, the command is acknowledged: it will not be lost.
     pub answer: Result<(), Denial>,
-    /// How many writes and syncs of the device had finished when the session answered.
+    /// The number of finished writes and syncs of the device when the session gave the answer.
     pub calls: u64,
 }
 
-/// The answers to a list of commands, one for each.
+/// The answers to a list of commands, one for each command.
 #[derive(Debug, Drop)]
 pub struct Run {
     pub replies: Vec<Reply>,

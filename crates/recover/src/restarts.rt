@@ -1,52 +1,57 @@
-//! Restarts: a store in memory that is opened, run, and closed, killed or crashed, again and again, where an opening may fail.
+//! Restarts: a store in memory is opened, executes commands, and is closed, killed or crashed, again and again.
+//! An opening may fail.
 //!
-//! `run_restarts` carries the headline over any list of them. After a kill all that a stop might have left stays possible, and a failed
-//! opening adds nothing, so the proof goes on by what each image of the device stands for, until an opening that succeeds tells which one
-//! reads gave: this is a link, and links lead on (`restarts_add_up`).
+//! `run_restarts` extends the headline to any list of restarts. After a kill, everything that a crash might
+//! have left remains possible, and a failed opening adds no other image. So the proof tracks what each image of
+//! the device recovers to, until an opening succeeds and shows which image reads returned. The path from the
+//! start of a run to the next successful opening is a link, and links compose (`restarts_compose`).
 ghost use Rattle.std.specs.Prelude.{◌≡◌, ◌≤◌, [], List, ℕ, length, IfOk, IfErr};
 ghost use Rattle.std.specs.Vec.{vec_capacity};
 ghost use Rattle.sector_disk.specs.MemDevice.{memory};
 ghost use Rattle.sector_disk.specs.Memory.{MayLeave, IsSameDevice, KeepsCounts};
 ghost use Rattle.recover.specs.Rounds.{IsMemoryOpened};
-ghost use Rattle.recover.specs.Restarts.{IsArmed, IsEnded, CarriesOut, CameOf, IsRestart, IsNoRestart, EndsRestarts, AreJoined, CutsRestarts};
+ghost use Rattle.recover.specs.Restarts.{IsArmed, IsEnded, CarriesOut, HasResult, IsRestart, IsNoRestart, EndsRestarts, AreJoined, CutsRestarts};
 
-use crate::laws::restarts_add_up;
+use crate::laws::restarts_compose;
 use crate::replies::{Reply, Run};
 use crate::rounds::{RoundsFault, open_store, reopen};
 use crate::sessions::Session;
 use checkpoint::StoreFault;
-use command_core::{Command, effects_keep_facts, plans_never_cost_more};
-use plan_audit::tests_say_pass;
+use command_core::{Command, commands_keep_invariants, plans_never_cost_more};
+use plan_audit::passes_decides_the_verdict;
 use sector_disk::MemDevice;
 use std::alloc::Global;
 
-/// How a restart ends. After `calls` more finished calls of the device, counted from before the opening, every call fails. An opening
-/// syncs and then reads, so that 0 and 1 stop it. An end that no command reaches falls after the last one.
+/// The end of a restart. With `calls`, every call fails once this many more calls of the device have finished,
+/// counted from before the opening. An opening syncs and then reads, so with 0 or 1 the opening itself fails.
+/// If the commands make fewer calls, the end comes after the last command.
 #[derive(Debug, Drop)]
 pub enum Ending {
     /// The session is closed.
     Closed,
-    /// The process is killed, and its device is not: what a stop might have left stays possible.
+    /// The process is killed, but its device is not: everything that a crash might have left remains possible.
     Killed { calls: u64 },
-    /// The device is stopped too: each sector takes the one of its possible contents that is chosen, as `MemDevice::crash` has it.
+    /// The device crashes too: each sector takes the chosen one of its possible contents, as in
+    /// `MemDevice::crash`.
     Crashed { calls: u64, choices: Vec<u32> },
 }
 
-/// An opening of the store, commands, and an end.
+/// One opening of the store, commands, and an end.
 #[derive(Debug, Drop)]
 pub struct Restart {
     pub commands: Vec<Command>,
     pub ending: Ending,
 }
 
-/// What restarts leave: the store, opened once more, and of each restart the answers, or why the store was not opened.
+/// The result of restarts: the store, opened once more, and for each restart the answers, or the reason why the
+/// store was not opened.
 #[derive(Drop)]
 pub struct Restarts {
     pub session: Session<MemDevice>,
     pub runs: Vec<Result<Run, StoreFault>>,
 }
 
-// Sets what is to fail.
+// Sets the number of calls after which the device fails, for this end of a restart.
 fn arm(device: &mut MemDevice, ending: &Ending)
     ensures armed { IsArmed ending.now device.old device.new }
     ensures same { IsSameDevice (memory device.old) (memory device.new) }
@@ -57,7 +62,7 @@ fn arm(device: &mut MemDevice, ending: &Ending)
     }
 }
 
-// Leaves the device as the end does.
+// Ends a restart: leaves the device as it is, kills the process or crashes the device.
 fn end(device: &mut MemDevice, ending: &Ending)
     ensures ended { IsEnded ending.now device.old device.new }
     ensures images { (image : List ℕ) → MayLeave (memory device.new) image
@@ -71,7 +76,7 @@ fn end(device: &mut MemDevice, ending: &Ending)
     }
 }
 
-// Carries commands out, and closes the session. There is room for the answers.
+// Executes commands and closes the session. The caller has reserved room for the answers.
 fn run_and_close(
     alloc: Global,
     session: Session<MemDevice>,
@@ -88,7 +93,8 @@ fn run_and_close(
     (run, session.close())
 }
 
-// Opens the store and carries commands out, or tells why it is not opened. There is room for the answers.
+// Opens the store and executes commands, or returns the fault of the opening. The caller has reserved room for
+// the answers.
 fn open_and_run(
     alloc: Global,
     device: MemDevice,
@@ -97,7 +103,7 @@ fn open_and_run(
 ) -> (Result<Run, StoreFault>, MemDevice)
     requires empty { replies.items ≡ [] }
     requires room { length commands.items ≤ vec_capacity replies }
-    ensures { CameOf device commands.items result.0 result.1 }
+    ensures { HasResult device commands.items result.0 result.1 }
 {
     match open_store(alloc, device) {
         Ok(session) => {
@@ -108,7 +114,7 @@ fn open_and_run(
     }
 }
 
-// Carries out a restart. Want of memory for the answers is told before the device is called.
+// Executes one restart. If there is no memory for the answers, this is reported before the device is called.
 fn run_restart(
     alloc: Global,
     device: MemDevice,
@@ -128,12 +134,14 @@ fn run_restart(
     Ok((run, left))
 }
 
-/// Carries out restarts, one after another, and opens the store once more.
+/// Executes restarts, one after another, and opens the store once more.
 ///
-/// Wherever the process was killed or the device crashed, within an opening or behind it, the session's state is the one after the commands
-/// that stand, joined: of each restart that was opened a first part of its commands, with all that it acknowledged and at most one more. Its
-/// plan passes the auditor and costs no more than any incumbent since the last change of requests or pins among them, and searches are one
-/// search, as are annealings. A restart whose opening fails adds nothing, and the next one goes on.
+/// Wherever the process was killed or the device crashed, during an opening or after it, the session's state is
+/// the one after the recovered commands of all restarts, joined. For each restart that was opened these are a
+/// prefix of its commands, with all acknowledged ones and at most one more. The plan passes the auditor and
+/// costs no more than any incumbent since the last change of requests or pins among these commands. Consecutive
+/// searches count as one search, and so do annealings. A restart whose opening fails adds nothing, and the next
+/// one continues.
 pub fn run_restarts(
     alloc: Global,
     device: MemDevice,
@@ -145,10 +153,10 @@ pub fn run_restarts(
         AreJoined device restarts.items r.runs.items r.session.state) }
     ensures refused { IfErr result (λ e. CutsRestarts device restarts.items e.0 e.1) }
 {
-    effects_keep_facts();
+    commands_keep_invariants();
     plans_never_cost_more();
-    tests_say_pass();
-    restarts_add_up();
+    passes_decides_the_verdict();
+    restarts_compose();
     let Ok(mut runs) = Vec::with_capacity(alloc, restarts.len()) else {
         return Err((RoundsFault::OutOfMemory, device));
     };

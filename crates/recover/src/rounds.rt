@@ -1,8 +1,8 @@
-//! Rounds: a store in memory that is opened, run, and stopped or closed, again and again.
+//! Rounds: a store in memory is opened, executes commands, and is crashed or closed, again and again.
 //!
-//! `run_rounds` carries the headline over any list of stops and restarts, with no premise but that it answers `Ok`: then reads
-//! gave an image that stands for a state. A crash empties a device's history, so this is a fold over states: each round begins
-//! from the state that the one before left.
+//! `run_rounds` extends the headline to any list of crashes and restarts. The only premise is that it answers
+//! `Ok`: then the image that reads returned recovers to a state. A crash clears a device's history, so the
+//! proof is a fold over states: each round begins with the state that the previous one left.
 ghost use Rattle.std.specs.Prelude.{◌≡◌, List, ℕ, IfOk, IfErr};
 ghost use Rattle.sector_disk.specs.MemDevice.{memory};
 ghost use Rattle.sector_disk.specs.Memory.{MayLeave};
@@ -13,31 +13,31 @@ use crate::replies::Run;
 use crate::sessions::Session;
 use checkpoint::StoreFault;
 use command_core::{
-    Command, annealings_add_up, effects_keep_facts, plans_never_cost_more, searches_add_up,
+    Command, annealings_add_up, commands_keep_invariants, plans_never_cost_more, searches_add_up,
 };
-use plan_audit::tests_say_pass;
+use plan_audit::passes_decides_the_verdict;
 use sector_disk::MemDevice;
 use std::alloc::Global;
 use thiserror::Error;
 
-/// Where a round is stopped, and what is left then.
+/// A crash of a round, and what it leaves.
 #[derive(Debug, Drop)]
 pub struct Halt {
-    /// After so many more finished calls of the device, counted from the end of the opening, every call fails. A stop that no command
-    /// reaches falls after the last one.
+    /// Every call fails once this many more calls of the device have finished, counted from the end of the
+    /// opening. If the commands make fewer calls, the crash comes after the last command.
     pub calls: u64,
-    /// Which of its possible contents each sector takes, as `MemDevice::crash` has it.
+    /// The choice of a possible content for each sector, as in `MemDevice::crash`.
     pub choices: Vec<u32>,
 }
 
-/// An opening of the store, commands, and a stop or a close.
+/// One opening of the store, commands, and a crash or a close.
 #[derive(Debug, Drop)]
 pub struct Round {
     pub commands: Vec<Command>,
     pub stop: Option<Halt>,
 }
 
-/// Why a round is not carried out.
+/// The reason why a round is not executed.
 #[derive(Clone, Copy, Debug, PartialEq, Eq, Error)]
 pub enum RoundsFault {
     /// The store is not opened.
@@ -52,7 +52,7 @@ impl RoundsFault {
     ghost use Rattle.std.specs.Prelude.{◌≡◌};
     ghost use Rattle.recover.specs.Names.{rounds_fault_name};
 
-    /// Its name. That of a store that is not opened is the store's.
+    /// Returns the name of the fault. If the store is not opened, it is the name of the store's fault.
     pub fn name(&self) -> &'static str
         ensures { result.now ≡ rounds_fault_name self.now }
     {
@@ -63,7 +63,7 @@ impl RoundsFault {
     }
 }
 
-/// What rounds leave: the store, opened once more, and the answers of each.
+/// The result of rounds: the store, opened once more, and the answers of each round.
 #[derive(Drop)]
 pub struct Rounds {
     pub session: Session<MemDevice>,
@@ -76,8 +76,8 @@ impl Session<MemDevice> {
     ghost use Rattle.sector_disk.specs.Memory.{IsSameDevice};
     ghost use Rattle.recover.specs.Rounds.{IsSet};
 
-    // Sets the stop, if there is one.
-    fn halt_at(&mut self, stop: &Option<Halt>)
+    // Sets the number of calls after which the device fails, if the round ends with a crash.
+    fn set_halt(&mut self, stop: &Option<Halt>)
         ensures set { IsSet stop.now self.new.device }
         ensures device { IsSameDevice (memory self.old.device) (memory self.new.device) }
         ensures state { self.new.state ≡ self.old.state }
@@ -90,8 +90,8 @@ impl Session<MemDevice> {
     }
 }
 
-// Stops the device, if there is a stop.
-fn leave(device: &mut MemDevice, stop: &Option<Halt>)
+// Crashes the device, if the round ends with a crash.
+fn apply_halt(device: &mut MemDevice, stop: &Option<Halt>)
     ensures left { IsLeft stop.now device.old device.new }
     ensures images { (image : List ℕ) → MayLeave (memory device.new) image
         → MayLeave (memory device.old) image }
@@ -116,7 +116,7 @@ pub(crate) fn open_store(
     }
 }
 
-/// The same, with its fault as one of rounds.
+/// Like `open_store`, but returns the fault as a `RoundsFault`.
 pub(crate) fn reopen(
     alloc: Global,
     device: MemDevice,
@@ -130,10 +130,11 @@ pub(crate) fn reopen(
     }
 }
 
-/// Carries out a round on a device in memory: opens the store, runs the commands, and closes it or stops it.
+/// Executes a round on a device in memory: opens the store, executes the commands, and closes or crashes it.
 ///
-/// `Ok` comes only where the image that reads give stands for a state; the commands are then answered from it, as `apply` answers them one
-/// after another. Want of memory for the answers is told before the device is called.
+/// It answers `Ok` only if the image that reads return recovers to a state. The commands are then executed from
+/// that state on, and answered as `apply` answers them one after another. If there is no memory for the
+/// answers, this is reported before the device is called.
 pub fn run_round(
     alloc: Global,
     device: MemDevice,
@@ -146,19 +147,20 @@ pub fn run_round(
         return Err((RoundsFault::OutOfMemory, device));
     };
     let mut session = reopen(alloc, device)?;
-    session.halt_at(&round.stop);
+    session.set_halt(&round.stop);
     let run = session.run_into(alloc, round.commands, replies);
     let mut left = session.close();
-    leave(&mut left, &round.stop);
+    apply_halt(&mut left, &round.stop);
     Ok((run, left))
 }
 
-/// Carries out rounds, one after another, and opens the store once more.
+/// Executes rounds, one after another, and opens the store once more.
 ///
-/// The session's state is the one after the commands that stand, joined: of each round a first part of its commands, with all that it
-/// acknowledged and at most one more. Its plan passes the auditor and costs no more than any incumbent since the last change of requests
-/// or pins among them, and searches are one search, however the rounds cut them, as are annealings. A fault leaves the device as the
-/// rounds before left it.
+/// The session's state is the one after the recovered commands of all rounds, joined. For each round these are
+/// a prefix of its commands, with all acknowledged ones and at most one more. The plan passes the auditor and
+/// costs no more than any incumbent since the last change of requests or pins among these commands. Consecutive
+/// searches count as one search, wherever the rounds divide them, and so do annealings. A fault leaves the
+/// device as the previous rounds left it.
 pub fn run_rounds(
     alloc: Global,
     device: MemDevice,
@@ -170,11 +172,11 @@ pub fn run_rounds(
         IsFold (seen_in device) rounds.items r.runs.items r.session.state) }
     ensures refused { IfErr result (λ e. CutsRounds device rounds.items e.0 e.1) }
 {
-    effects_keep_facts();
+    commands_keep_invariants();
     plans_never_cost_more();
     searches_add_up();
     annealings_add_up();
-    tests_say_pass();
+    passes_decides_the_verdict();
     let Ok(mut runs) = Vec::with_capacity(alloc, rounds.len()) else {
         return Err((RoundsFault::OutOfMemory, device));
     };

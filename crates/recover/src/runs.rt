@@ -1,4 +1,4 @@
-//! Lists of commands.
+//! Executes lists of commands.
 ghost use Rattle.std.specs.Prelude.{◌≡◌, ◌≤◌, [], length, false, OnErr, IfOk};
 ghost use Rattle.std.specs.Vec.{vec_capacity};
 ghost use Rattle.sector_disk.specs.Sectors.{Throughout};
@@ -12,11 +12,11 @@ use sector_disk::{OutOfMemory, Sectors};
 use std::alloc::Global;
 
 impl<D: Sectors> Session<D> {
-    /// Carries commands out, one after another, and answers each as `apply` does. Want of memory for the answers is met before the first
-    /// command.
+    /// Executes commands one after another, and answers each as `apply` does. If there is no memory for the
+    /// answers, this is reported before the first command.
     ///
-    /// A stop at any moment leaves the state after a first part of the commands that were kept: all those that were acknowledged by then,
-    /// and at most one more.
+    /// A crash at any moment leaves the state after a prefix of the kept commands: all that were acknowledged
+    /// by then, and at most one more.
     pub fn run(&mut self, alloc: Global, commands: Vec<Command>) -> Result<Run, OutOfMemory>
         ensures refused { OnErr result (self.new ≡ self.old) }
         ensures replies { IfOk result
@@ -30,7 +30,7 @@ impl<D: Sectors> Session<D> {
         Ok(self.run_into(alloc, commands, replies))
     }
 
-    // Carries commands out as `run` does. There is room for the answers.
+    // Executes commands like `run`. The caller has reserved room for the answers.
     pub(crate) fn run_into(
         &mut self,
         alloc: Global,
@@ -45,7 +45,7 @@ impl<D: Sectors> Session<D> {
             → Throughout D.clock D.possible_since self.old.device self.new.device
             (RunLeaves self.old.state commands.items result.replies.items) }
     {
-        self.images_stand_for_the_state();
+        self.images_recover_to_the_state();
         let mut replies = replies;
         for command in commands {
             replies.push(self.apply(alloc, command)).unwrap();

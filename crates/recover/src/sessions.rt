@@ -1,10 +1,10 @@
 //! Sessions over a device.
 ghost use Rattle.std.specs.Prelude.{◌≡◌, ◌+◌, false, true, List, [], ◌∷◌, ℕ, None, OnOk};
-ghost use Rattle.command_core.specs.Runs.{IsState};
+ghost use Rattle.command_types.specs.States.{IsState};
 ghost use Rattle.sector_disk.specs.Sectors.{Throughout, more};
 ghost use Rattle.sector_disk.specs.Calls.{Calls};
 ghost use Rattle.state_codec.specs.declared.version.Version.TheVariants.{Two};
-ghost use Rattle.recover.specs.StandsFor.{StandsFor};
+ghost use Rattle.recover.specs.RecoversTo.{RecoversTo};
 ghost use Rattle.recover.specs.Moments.{RunLeaves};
 ghost use Rattle.recover.specs.Applying.{denial, calls_of, IsAnswer, IsApplied, Makes, IsBetween, faults_after_answer};
 
@@ -19,7 +19,8 @@ use sector_disk::{MemDevice, Sectors};
 use std::alloc::Global;
 use std::marker::Model;
 
-/// A store that takes commands. Unless it is broken and while its device is honest, each image that a stop may leave stands for its state.
+/// An open store that accepts commands. Unless it is broken, and if its device is honest, each image that a
+/// crash may leave recovers to its state.
 #[derive(Drop)]
 pub struct Session<D: Sectors> {
     device: D,
@@ -55,7 +56,7 @@ impl<D: Sectors> Model for Session<D> {
 impl<D: Sectors> Session<D> {
     ghost use Rattle.recover.specs.Sessions.{IsSession};
 
-    /// A session over a device each of whose images stands for this state.
+    /// Creates a session over this device. Each image of the device must recover to this state.
     pub(crate) fn over(device: D, state: State, place: Place) -> Session<D>
         requires { IsSession D.len D.honest D.possible
             (record { device = device; state = state; place = place; is_broken = false }) }
@@ -75,11 +76,14 @@ impl<D: Sectors> Session<D> {
         }
     }
 
-    /// Carries a command out and makes it durable. `Ok` comes after the last sync; from then on no stop loses the command.
+    /// Executes a command and makes it durable. `Ok` comes after the last sync; from then on no crash loses the
+    /// command.
     ///
-    /// A command without a record (`is_recorded`) writes a snapshot, with four calls of the device. Any other one writes a record, with
-    /// two, or a snapshot where 256 records stand. Every denial but `DeviceFault` leaves all as it was. After `DeviceFault` the session is broken:
-    /// each image that a stop may leave stands for the state before the command or for the one after it, and opening the device tells which.
+    /// A command without a record (`is_recorded`) writes a snapshot, with four calls of the device. Any other
+    /// command writes a record, with two calls, or a snapshot if the journal has 256 records. Every denial
+    /// except `DeviceFault` leaves everything unchanged. After `DeviceFault` the session is broken: each image
+    /// that a crash may leave recovers to the state before the command or to the one after it, and opening the
+    /// device shows which.
     pub fn apply(&mut self, alloc: Global, command: Command) -> Reply
         ensures { IsApplied D.len D.calls D.faults D.honest D.clock D.possible_since D.possible
             self.old command result self.new }
@@ -87,7 +91,7 @@ impl<D: Sectors> Session<D> {
         self.apply_logged(&Discard, alloc, command)
     }
 
-    /// The same, where each try with fewer vehicles is logged as it ends.
+    /// Like `apply`, but logs each attempt with fewer vehicles when it ends.
     pub fn apply_logged<R: Log>(&mut self, rt: &R, alloc: Global, command: Command) -> Reply
         ensures { IsApplied D.len D.calls D.faults D.honest D.clock D.possible_since D.possible
             self.old command result self.new }
@@ -99,7 +103,7 @@ impl<D: Sectors> Session<D> {
         }
     }
 
-    // What the command is answered.
+    // Executes the command and returns the session's answer.
     fn answer<R: Log>(&mut self, rt: &R, alloc: Global, command: &Command) -> Result<(), Denial>
         ensures answer { IsAnswer (denial self.old command.now) result }
         ensures makes { Makes result self.old command.now self.new }
@@ -114,14 +118,14 @@ impl<D: Sectors> Session<D> {
             (IsBetween (D.calls self.old.device)
             (D.calls self.old.device + calls_of self.old.place command.now)) }
     {
-        self.images_stand_for_the_state();
+        self.images_recover_to_the_state();
         match self.denial(command) {
             Some(denial) => Err(denial),
-            None => self.carry_out(rt, alloc, command),
+            None => self.execute(rt, alloc, command),
         }
     }
 
-    // Why the command is denied, before memory is asked for and the device is called.
+    // Returns the reason why the command is denied, if it is. Neither allocates memory nor calls the device.
     fn denial(&self, command: &Command) -> Option<Denial>
         ensures { result ≡ denial self.now command.now }
     {
@@ -137,9 +141,9 @@ impl<D: Sectors> Session<D> {
         None
     }
 
-    // Carries out a command that is not denied: first the state after it, for which there may be no memory, and then the commit. Where that
-    // fails, what stood before is put back.
-    fn carry_out<R: Log>(&mut self, rt: &R, alloc: Global, command: &Command) -> Result<(), Denial>
+    // Executes a command that is not denied: first computes the next state, for which memory may run out, then
+    // commits. If the commit fails, restores the previous state.
+    fn execute<R: Log>(&mut self, rt: &R, alloc: Global, command: &Command) -> Result<(), Denial>
         requires { denial self.old command.now ≡ None }
         ensures answer { IsAnswer None result }
         ensures makes { Makes result self.old command.now self.new }
@@ -171,26 +175,27 @@ impl<D: Sectors> Session<D> {
                 Ok(())
             }
             Err(CommitFault::OutOfMemory) => {
-                self.planner.put_back(before);
+                self.planner.roll_back(before);
                 Err(Denial::OutOfMemory)
             }
             Err(CommitFault::DeviceFault) => {
-                self.planner.put_back(before);
+                self.planner.roll_back(before);
                 self.is_broken = true;
                 Err(Denial::DeviceFault)
             }
         }
     }
 
-    /// Unless the session is broken and while its device is honest, each image that a stop may leave stands for the state.
-    pub fn images_stand_for_the_state(&self)
+    /// Proves that, unless the session is broken, each image that a crash may leave recovers to the state, if
+    /// the device is honest.
+    pub fn images_recover_to_the_state(&self)
         ensures { self.now.is_broken ≡ false → D.honest self.now.device → (image : List ℕ)
-            → D.possible self.now.device image → StandsFor Two image self.now.state }
+            → D.possible self.now.device image → RecoversTo Two image self.now.state }
     {
         let _device = &self.device;
     }
 
-    /// The state after every acknowledged command.
+    /// Returns the state after all acknowledged commands.
     pub fn state(&self) -> &State
         ensures state { result.now ≡ self.now.state }
         ensures facts { IsState self.now.state }
@@ -198,20 +203,21 @@ impl<D: Sectors> Session<D> {
         self.planner.state()
     }
 
-    /// Whether the device has failed in a command. Then each command is answered `Broken`, until the device is opened again.
+    /// Returns whether the device has failed in a command. If so, each command is answered `Broken`, until the
+    /// device is opened again.
     pub fn is_broken(&self) -> bool
         ensures broken { result ≡ self.now.is_broken }
         ensures stands { result ≡ false → D.honest self.now.device → (image : List ℕ)
-            → D.possible self.now.device image → StandsFor Two image self.now.state }
+            → D.possible self.now.device image → RecoversTo Two image self.now.state }
     {
         self.is_broken
     }
 
-    /// Gives the device back.
+    /// Returns the device.
     pub fn close(self) -> D
         ensures device { result ≡ self.device }
         ensures stands { self.is_broken ≡ false → D.honest result → (image : List ℕ)
-            → D.possible result image → StandsFor Two image self.state }
+            → D.possible result image → RecoversTo Two image self.state }
     {
         self.device
     }
@@ -222,7 +228,7 @@ impl Session<MemDevice> {
     ghost use Rattle.sector_disk.specs.MemDevice.{memory};
     ghost use Rattle.sector_disk.specs.Memory.{IsSameDevice};
 
-    /// After `k` more finished calls each call of the device fails.
+    /// Makes each call of the device fail once `k` more calls have finished.
     pub(crate) fn fuse(&mut self, k: u64)
         ensures set { (memory self.new.device).fuse ≡ Some k }
         ensures device { IsSameDevice (memory self.old.device) (memory self.new.device) }

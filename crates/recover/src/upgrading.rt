@@ -1,12 +1,13 @@
-//! A store of version 1 is taken over into one of the version that is written.
+//! Upgrades a store of version 1 to one of the current version.
 //!
-//! The old device is read as `open` reads one, by version 1's bytes and limits, and the new one made as `format` makes it, with the
-//! state that was read. So version 1 has no writer, and the old store stays as it was. The two stand for themselves
-//! (`read_version_1`, `format_with` of `checkpoint`), so that who makes the new device first reads the old one whole.
+//! The old device is read as `open` reads one, with the encoding and limits of version 1. The new one is
+//! formatted as by `format`, with the state that was read. So no code writes version 1, and the old store does
+//! not change. Reading and formatting are also available separately (`read_version_1`, `format_with` of
+//! `checkpoint`), so that a caller can read the old device completely before it creates the new one.
 ghost use Rattle.std.specs.Prelude.{◌≡◌, ◌<◌, ◌↔◌, IfErr, IsErrOf};
 ghost use Rattle.checkpoint.specs.Layouts.{version_2, sectors_in};
 ghost use Rattle.recover.specs.Names.{upgrade_fault_name};
-ghost use Rattle.recover.specs.Upgrading.{OnWritten, IsMadeOfOld, IsReadOnly, IsRefusal, IsWrittenAnew, ReadsOldStore};
+ghost use Rattle.recover.specs.Upgrading.{OnWritten, IsMadeFromOld, IsReadOnly, IsRefusal, IsFormatted, ReadsOldStore};
 
 use crate::opening::recover;
 use checkpoint::{FormatFault, Place, SECTORS, StoreFault, format_with};
@@ -16,19 +17,20 @@ use state_codec::version::Version;
 use std::alloc::Global;
 use thiserror::Error;
 
-/// Why a store was not upgraded.
+/// The reason why a store was not upgraded.
 #[derive(Clone, Copy, Debug, PartialEq, Eq, Error)]
 pub enum UpgradeFault {
-    /// The old device's store was not read, and the new device not called.
+    /// The old device's store was not read, and the new device was not called.
     #[error("the old store: {0}")]
     Old(StoreFault),
-    /// The new device's store was not made. After `DeviceFault` it may have none, and what it had may be lost.
+    /// The new device's store was not created. After `DeviceFault` it may have no store, and its previous
+    /// content may be lost.
     #[error("the new store: {0}")]
     New(FormatFault),
 }
 
 impl UpgradeFault {
-    /// The name of the fault within, as answers print it.
+    /// Returns the name of the old or new store's fault, as answers print it.
     pub fn name(&self) -> &'static str
         ensures { result.now ≡ upgrade_fault_name self.now }
     {
@@ -39,11 +41,12 @@ impl UpgradeFault {
     }
 }
 
-/// The state that the store of version 1 on the device stands for: what it holds, with the commands of its records repeated, all by version 1's
-/// limits. The device is synced and read, and never written to, so that it stands for its state at each moment, also where it is refused.
+/// Recovers the state of the store of version 1 on the device: loads it and replays the commands of its
+/// records, all by the limits of version 1. The device is synced and read, and never written to. So at each
+/// moment its images recover to the same state as before, even if reading is refused.
 ///
-/// It is refused only where its image stands for no state of version 1, where memory is refused or where the device fails. A device of fewer
-/// than 802 sectors is `NotFormatted`, and is not called.
+/// It is refused only if the image recovers to no state of version 1, if memory runs out or if the device
+/// fails. A device of fewer than 802 sectors is `NotFormatted`, and is not called.
 pub fn read_version_1<D: Sectors>(alloc: Global, old: &mut D) -> Result<State, StoreFault>
     ensures { ReadsOldStore D.Sectors result old.old old.new }
 {
@@ -53,11 +56,13 @@ pub fn read_version_1<D: Sectors>(alloc: Global, old: &mut D) -> Result<State, S
     }
 }
 
-/// Makes a store on the new device, of the state that the old one's store of version 1 stands for.
+/// Creates a store on the new device, with the state of the old device's store of version 1.
 ///
-/// `New(TooSmall)` below 8,450 sectors, before either device is called. Then the old device is read as `read_version_1` reads it. Then the new
-/// device gets the six calls of a format. From its first sync to its header's write each image of it is
-/// `NotFormatted`, and after `Ok` each stands for the old one's state. Want of memory for the snapshot comes before the first of these calls.
+/// If the new device has fewer than 8,450 sectors, returns `New(TooSmall)` before either device is called.
+/// Otherwise reads the old device like `read_version_1`, and then makes the six calls of a format on the new
+/// device. From its first sync to the header's write each image of the new device is `NotFormatted`. After `Ok`
+/// each image recovers to the old device's state. If memory for the snapshot runs out, this is reported before
+/// the first call of the new device.
 pub fn upgrade<D: Sectors, E: Sectors>(
     alloc: Global,
     old: &mut D,
@@ -68,9 +73,9 @@ pub fn upgrade<D: Sectors, E: Sectors>(
     ensures refused { IfErr result (λ fault.
         IsRefusal D.Sectors E.Sectors fault old.old old.new new.old new.new) }
     ensures reads { IsReadOnly D.Sectors result old.old old.new }
-    ensures writes { IsWrittenAnew E.Sectors result new.old new.new }
+    ensures writes { IsFormatted E.Sectors result new.old new.new }
     ensures makes { OnWritten result
-        (IsMadeOfOld D.Sectors E.Sectors result old.old old.new new.old new.new) }
+        (IsMadeFromOld D.Sectors E.Sectors result old.old old.new new.old new.new) }
 {
     if new.len() < SECTORS {
         return Err(UpgradeFault::New(FormatFault::TooSmall));

@@ -1,4 +1,4 @@
--- The greatest of sums that end at one place, from one place to the next.
+-- The greatest of the sums that end at one place, from one place to the next.
 use Rattle.std.proofs.Common.{◌≡◌, ℕ, zero, suc, ◌+◌, ◌-◌, ◌≤◌, max, map, refl, sym, ap, ◌∙◌, arith, add-one, subst}
 use Rattle.std.specs.List.{range_with_len}
 use Rattle.std.proofs.lemmas.List.Sums.{fold_push}
@@ -16,7 +16,7 @@ sum_between-none : (f : ℕ → ℕ) (i : ℕ) → sum_between f i i ≡ 0
 unfolding sum_between
 sum_between-none f i = let none : i - i ≡ 0 = omega arith in rw none refl
 
--- the greatest f j for n numbers j from i on
+-- the greatest f j over the n numbers j from i on
 greatest_from : (ℕ → ℕ) → ℕ → ℕ → ℕ
 greatest_from f i n = greatest (map f (range_with_len i n))
 
@@ -29,7 +29,7 @@ greatest_from-one : (f : ℕ → ℕ) (i : ℕ) → greatest_from f i 1 ≡ f i
 unfolding greatest_from
 greatest_from-one f i = omega arith
 
--- where each number grows by c, so does the greatest
+-- if each number grows by c, so does the greatest
 greatest_from-add : (f g : ℕ → ℕ) (c i n : ℕ) → ((j : ℕ) → i ≤ j → j ≤ i + n → g j ≡ f j + c) → greatest_from g i (n + 1) ≡ greatest_from f i (n + 1) + c
 greatest_from-add f g c i zero each = omega (arith, each i (omega arith) (omega arith), greatest_from-one f i, greatest_from-one g i)
 greatest_from-add f g c i (suc n) each =
@@ -43,7 +43,7 @@ chain-first e f i =
     let one : i + 1 - i ≡ 1 = omega arith in
     rw one (greatest_from-one (λ j. e j + sum_between f j i) i ∙ omega (arith, sum_between-none f i))
 
--- Who arrives early waits.
+-- the greatest sum at the next place: a vehicle that arrives early waits
 pub chain-next : (e f : ℕ → ℕ) (i k : ℕ) → i ≤ k → chain e f i (k + 1) ≡ max (e (k + 1)) (chain e f i k + f k)
 unfolding chain greatest_from
 chain-next e f i k h =

@@ -7,17 +7,17 @@ use Rattle.std.proofs.lemmas.List.{append-nil, take_at, drop_at, take-append-dro
 use Rattle.std.proofs.lemmas.List.Elements.{All-drop, All-from_get_or, All-take}
 use Rattle.std.proofs.lemmas.List.Folds.{concat-append, list_any-append}
 use Rattle.plan_types.specs.Instance.{Instance}
-use Rattle.route_sched.specs.Route.{AreLiveOnce, IsLive, IsPlan}
-use Rattle.route_sched.proofs.Counting.{distinct_right}
+use Rattle.route_sched.specs.Route.{AreDistinctStops, IsKnownStop, IsPlan}
+use Rattle.route_sched.proofs.CountLemmas.{distinct_right}
 
--- the routes before one, that one, and those after it
+-- the joined routes are those before route k, route k, and those after it
 concat_split : (routes : List (List ℕ)) (k : ℕ) → k < length routes
     → concat routes ≡ concat (take k routes) ++ (get_or routes k [] ++ concat (drop (k + 1) routes))
 concat_split routes k h =
     ap concat (sym (take-append-drop k routes))
     ∙ (concat-append (take k routes) (drop k routes) ∙ ap (λ rs. concat (take k routes) ++ concat rs) (drop_more routes k [] h))
 
--- one route more
+-- with one more route, the joined routes get the stops of this route at their end
 pub concat_more : (routes : List (List ℕ)) (k : ℕ) → k < length routes → concat (take (k + 1) routes) ≡ concat (take k routes) ++ get_or routes k []
 concat_more routes k h =
     ap concat (take_more routes k [] h)
@@ -40,25 +40,25 @@ distinct_left (x ∷ xs) ys distinct = (apart xs distinct.0, distinct_left xs ys
     apart [] all = tt
     apart (z ∷ zs) all = (all.0, apart zs all.1)
 
--- a part of a list of live stops
-live_part : (p : Instance) (xs ys zs : List ℕ) → AreLiveOnce p (xs ++ (ys ++ zs)) → AreLiveOnce p ys
+-- a part of a list of distinct current stops has distinct current stops
+live_part : (p : Instance) (xs ys zs : List ℕ) → AreDistinctStops p (xs ++ (ys ++ zs)) → AreDistinctStops p ys
 live_part p xs ys zs once = record {
-  live = subst (λ ns. All (IsLive p) ns) (take_at ys zs (length ys) refl)
-      (All-take (IsLive p) (length ys) (ys ++ zs)
-      (subst (λ ns. All (IsLive p) ns) (drop_at xs (ys ++ zs) (length xs) refl) (All-drop (IsLive p) (length xs) (xs ++ (ys ++ zs)) once.live)));
+  live = subst (λ ns. All (IsKnownStop p) ns) (take_at ys zs (length ys) refl)
+      (All-take (IsKnownStop p) (length ys) (ys ++ zs)
+      (subst (λ ns. All (IsKnownStop p) ns) (drop_at xs (ys ++ zs) (length xs) refl) (All-drop (IsKnownStop p) (length xs) (xs ++ (ys ++ zs)) once.live)));
   distinct = distinct_left ys zs (distinct_right xs (ys ++ zs) once.distinct);
 }
 
--- each route of a plan has live stops, each once
-pub route_of_plan : (p : Instance) (routes : List (List ℕ)) (k : ℕ) → k < length routes → IsPlan p routes → AreLiveOnce p (get_or routes k [])
+-- a route of a plan has distinct current stops
+pub route_of_plan : (p : Instance) (routes : List (List ℕ)) (k : ℕ) → k < length routes → IsPlan p routes → AreDistinctStops p (get_or routes k [])
 route_of_plan p routes k h plan =
-    live_part p (concat (take k routes)) (get_or routes k []) (concat (drop (k + 1) routes)) (subst (λ ns. AreLiveOnce p ns) (concat_split routes k h) plan)
+    live_part p (concat (take k routes)) (get_or routes k []) (concat (drop (k + 1) routes)) (subst (λ ns. AreDistinctStops p ns) (concat_split routes k h) plan)
 
-pub routes_of_plan : (p : Instance) (routes : List (List ℕ)) → IsPlan p routes → All (AreLiveOnce p) routes
-routes_of_plan p routes plan = All-from_get_or (AreLiveOnce p) routes [] (λ k h. route_of_plan p routes k h plan)
+pub routes_of_plan : (p : Instance) (routes : List (List ℕ)) → IsPlan p routes → All (AreDistinctStops p) routes
+routes_of_plan p routes plan = All-from_get_or (AreDistinctStops p) routes [] (λ k h. route_of_plan p routes k h plan)
 
 -- ---- stops by number
--- what stands in a route stands in the routes
+-- a stop of a route is a stop of the joined routes
 pub part_of_routes : (routes : List (List ℕ)) (k n : ℕ) → k < length routes → list_any (eqb n) (get_or routes k []) ≡ true
     → list_any (eqb n) (concat routes) ≡ true
 part_of_routes routes k n h there =
@@ -76,7 +76,7 @@ any_flipped : (n : ℕ) (xs : List ℕ) → list_any (eqb n) xs ≡ list_any (λ
 any_flipped n [] = refl
 any_flipped n (x ∷ xs) = rw (flipped n x, any_flipped n xs) refl
 
--- a stop stands in the routes where it stands in one
+-- the joined routes have a stop exactly if one of the routes has it
 pub has_stop_is : (routes : List (List ℕ)) (n : ℕ) → list_any (eqb n) (concat routes) ≡ list_any (λ route. list_any (λ y. eqb y n) route) routes
 has_stop_is [] n = refl
 has_stop_is (r ∷ routes) n = list_any-append (eqb n) r (concat routes) ∙ rw (any_flipped n r, has_stop_is routes n) refl

@@ -1,8 +1,8 @@
--- The lemma files, which upper crates may cite.
-pub mod Agreeing
+-- Lemma files that other crates may cite.
+pub mod AgreementLemmas
 pub mod Chains
 pub mod Concats
-pub mod Counting
-pub mod LiveStops
+pub mod CountLemmas
+pub mod KnownStops
 pub mod Steps
-pub mod Visited
+pub mod VisitLemmas

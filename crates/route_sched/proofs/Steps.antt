@@ -18,13 +18,13 @@ pub start-first : (p : Instance) (route : List ℕ) → start p route 0 ≡ p.de
 unfolding start place
 start-first p route = omega arith
 
--- by its definition a start is a chain of all places before it
+-- by its definition a start is a chain over all places up to it
 pub start-chain : (p : Instance) (route : List ℕ) (i : ℕ)
     → start p route i ≡ chain (λ j. (place p route j).earliest) (λ k. (place p route k).service + leg p route k) 0 i
 unfolding start chain sum_between
 start-chain p route i = let all : i + 1 - 0 ≡ i + 1 = omega arith in rw all refl
 
--- Who arrives early waits.
+-- the start at the next place: a vehicle that arrives early waits
 pub start-next : (p : Instance) (route : List ℕ) (i : ℕ)
     → start p route (i + 1) ≡ max (place p route (i + 1)).earliest (start p route i + ((place p route i).service + leg p route i))
 start-next p route i =
@@ -58,7 +58,7 @@ pub route_length_is : (p : Instance) (route : List ℕ) → route_length p route
 unfolding length_before route_length
 route_length_is p route = refl
 
--- a stop is at no distance from itself
+-- a stop has distance 0 from itself
 pub distance-self : (s : Stop) → distance s s ≡ 0
 unfolding distance nearest_root whole_root
 distance-self s = rw (same s.x, same s.y) refl
@@ -66,7 +66,7 @@ distance-self s = rw (same s.x, same s.y) refl
     same : (x : ℤ) → unsigned_abs (x -ℤ x) ≡ 0
     same x = omega (arith, ints)
 
--- so nobody drives along an empty route
+-- an empty route has length 0
 pub route_length-nil : (p : Instance) → route_length p [] ≡ 0
 unfolding route_length place
 route_length-nil p = omega (arith, distance-self p.depot)
@@ -75,13 +75,13 @@ pub route_length-empty : (p : Instance) (route : List ℕ) → length route ≡ 
 route_length-empty p [] none = route_length-nil p
 route_length-empty p (n ∷ route) none = absurd (omega arith)
 
--- the length up to the next place, from what is known at this one
+-- the length up to the next place, from the length up to this one
 pub length_before-leg : (p : Instance) (route : List ℕ) (k : ℕ) (here there : Stop) (so_far way : ℕ) → here ≡ place p route k → there ≡ place p route (k + 1)
     → so_far ≡ length_before p route k → way ≡ distance here there → so_far + way ≡ length_before p route (k + 1)
 length_before-leg p route k here there so_far way at next is far =
     let same : way ≡ leg p route k = rw (← at, ← next) far in omega (arith, length_before-next p route k)
 
--- as long as two legs for each stop
+-- the length of a route is at most 5,656,854, twice the longest leg, for each stop
 pub route_length_le : (p : Instance) (route : List ℕ) (k so_far way : ℕ) → k ≡ length route → so_far + way ≡ route_length p route → so_far ≤ 2828427 * k
     → way ≤ 2828427 → so_far + way ≤ 5656854 * length route
 route_length_le p route zero so_far way end is few short = omega (arith, route_length-empty p route (sym end))

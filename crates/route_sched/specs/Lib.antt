@@ -1,12 +1,12 @@
--- what public contracts say
-pub mod Agree
+-- the definitions in public contracts
+pub mod Agreement
 pub mod Cost
 pub mod Limits
 pub mod Route
 pub mod Schedule
-pub mod Visiting
+pub mod VisitList
 pub mod VisitsValue
--- what those of private functions say
+-- the definitions in private contracts
 pub mod Chain
-pub mod Counted
-pub mod Walking
+pub mod RequestCount
+pub mod VisitsState

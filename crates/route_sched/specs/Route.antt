@@ -4,23 +4,23 @@ use Rattle.std.specs.List.{IsDistinct, concat}
 use Rattle.plan_types.specs.Instance.{Instance, stop_at}
 use Rattle.plan_types.specs.declared.requests.Stop.{Stop}
 
--- a live request has the stop with this number
-abbrev pub IsLive : Instance → ℕ → Type 0
-IsLive p n = IsSome (stop_at p n)
+-- a stop with this number belongs to a current request
+abbrev pub IsKnownStop : Instance → ℕ → Type 0
+IsKnownStop p n = IsSome (stop_at p n)
 
--- live stops, each once
-pub record AreLiveOnce (p : Instance) (numbers : List ℕ) : Type 0 where
-  pub live : All (IsLive p) numbers
+-- stops of current requests, each once
+pub record AreDistinctStops (p : Instance) (numbers : List ℕ) : Type 0 where
+  pub live : All (IsKnownStop p) numbers
   pub distinct : IsDistinct nat_eq numbers
 
--- no route has an unknown stop, and no stop stands twice, be it in one route or in two
+-- no route has an unknown stop, and no stop occurs twice, in one route or in two
 abbrev pub IsPlan : Instance → List (List ℕ) → Type 0
-IsPlan p routes = AreLiveOnce p (concat routes)
+IsPlan p routes = AreDistinctStops p (concat routes)
 
--- the stop with this number; 0 is the depot
+-- the stop with this number, or the depot for 0
 abbrev pub stop_numbered : Instance → ℕ → Stop
 stop_numbered p n = if n == 0 then p.depot else unwrap_or (stop_at p n) p.depot
 
--- The stop at a place of a route. The depot stands at place 0, and again behind the last stop.
+-- the stop at a place of a route: the depot is at place 0 and again after the last stop
 unfoldable pub place : Instance → List ℕ → ℕ → Stop
 place p route k = stop_numbered p (slice_index (0 ∷ route) k)

@@ -1,4 +1,4 @@
--- How far a vehicle has come on its route: what contracts see of `Visits`.
+-- The value of a `Visits` iterator in contracts: the problem, the route and how far the vehicle has come.
 use Rattle.std.specs.Prelude.{ℕ, List}
 use Rattle.plan_types.specs.Instance.{Instance}
 

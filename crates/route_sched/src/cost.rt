@@ -1,17 +1,17 @@
-//! What a plan costs.
+//! The cost of a plan.
 
 ghost use Rattle.std.specs.Prelude.{◌≡◌, ◌==◌, ◌+◌, ◌*◌, ◌≤◌, length};
 ghost use Rattle.std.specs.List.{All, AllByRecursion, concat, list_any};
 ghost use Rattle.plan_types.specs.Instance.{IsInstance};
-ghost use Rattle.route_sched.specs.Route.{AreLiveOnce, IsPlan};
+ghost use Rattle.route_sched.specs.Route.{AreDistinctStops, IsPlan};
 ghost use Rattle.route_sched.specs.Cost.{has_stop, is_planned, used_count, vehicle_count, total_length, unplanned_count, cost_of};
-ghost use Rattle.route_sched.specs.Counted.{counts, counted_among, IsPart};
+ghost use Rattle.route_sched.specs.RequestCount.{counts, count_among, IsPartOf};
 
 use crate::schedule::route_distance;
 use plan_types::{Cost, Kind, Plan, Problem, Request, Route};
 
-/// What a plan costs: its unplanned requests, its nonempty routes (0 in a problem of kind `Vrp`) and its
-/// distance. Takes no memory.
+/// Returns the cost of a plan: its unplanned requests, its nonempty routes (0 for a problem of kind `Vrp`) and
+/// its distance. Allocates nothing.
 pub fn plan_cost(problem: &Problem, plan: &Plan) -> Cost
     requires { IsPlan problem.now plan.now.routes }
     ensures cost { result ≡ cost_of problem.now plan.now.routes }
@@ -22,8 +22,8 @@ pub fn plan_cost(problem: &Problem, plan: &Plan) -> Cost
     routes_cost(problem, routes, unplanned)
 }
 
-/// What the routes of a plan cost, for a caller that has counted its unplanned requests: in linear time, and
-/// without memory.
+/// Returns the cost of routes, for a caller that has counted the unplanned requests. Takes linear time and
+/// allocates nothing.
 pub fn routes_cost(problem: &Problem, routes: &[Route], unplanned: u64) -> Cost
     requires plan { IsPlan problem.now routes.now }
     requires counted { unplanned ≡ unplanned_count problem.now routes.now }
@@ -32,12 +32,12 @@ pub fn routes_cost(problem: &Problem, routes: &[Route], unplanned: u64) -> Cost
     Cost {
         unplanned,
         vehicles: vehicle_count(problem.kind, routes),
-        // A plan's routes share no stop, so it fits.
+        // The routes of a plan share no stop, so the distance fits a `u64`.
         distance: total_distance(problem, routes) as u64,
     }
 }
 
-// How many requests have a stop in a route.
+// Returns the number of requests that have a stop in a route.
 fn planned_count(problem: &Problem, routes: &[Route]) -> u64
     requires problem { IsInstance problem.now }
     requires plan { IsPlan problem.now routes.now }
@@ -50,10 +50,10 @@ fn planned_count(problem: &Problem, routes: &[Route]) -> u64
     planned
 }
 
-// How many requests are counted at a stop of this route.
+// Returns the number of requests that are counted at a stop of this route.
 fn counted_in(problem: &Problem, routes: &[Route], route: &[u32]) -> u64
-    requires { IsPart route.now routes.now }
-    ensures { result ≡ counted_among problem.now (concat routes.now) route.now }
+    requires { IsPartOf route.now routes.now }
+    ensures { result ≡ count_among problem.now (concat routes.now) route.now }
 {
     route
         .iter()
@@ -61,10 +61,10 @@ fn counted_in(problem: &Problem, routes: &[Route], route: &[u32]) -> u64
         .count() as u64
 }
 
-// Whether a request is counted at this stop: at its single stop, at its pickup, or at a delivery whose
-// pickup is in no route. The pickup is mostly in the delivery's own route, so that is searched first.
+// Returns whether a request is counted at this stop: at its single stop, at its pickup, or at a delivery whose
+// pickup is in no route. The pickup is usually in the delivery's own route, so that route is searched first.
 fn is_counted_at(problem: &Problem, routes: &[Route], route: &[u32], number: u32) -> bool
-    requires { IsPart route.now routes.now }
+    requires { IsPartOf route.now routes.now }
     ensures { result ≡ counts problem.now (concat routes.now) number }
 {
     match problem.name_of(number) {
@@ -73,7 +73,7 @@ fn is_counted_at(problem: &Problem, routes: &[Route], route: &[u32], number: u32
     }
 }
 
-/// Whether one of the routes has the stop with this number.
+/// Returns whether one of the routes has the stop with this number.
 pub fn has_stop(routes: &[Route], number: u32) -> bool
     ensures { result ≡ has_stop routes.now number }
 {
@@ -86,7 +86,8 @@ fn is_in(route: &Route, number: u32) -> bool
     route.as_slice().contains(&number)
 }
 
-/// Whether a stop of the request is in one of the routes. Takes no memory, and so looks through all routes.
+/// Returns whether a stop of the request is in one of the routes. Allocates nothing, and so searches all
+/// routes.
 pub fn is_planned(routes: &[Route], request: &Request) -> bool
     ensures { result ≡ is_planned routes.now request.now }
 {
@@ -98,7 +99,7 @@ pub fn is_planned(routes: &[Route], request: &Request) -> bool
     }
 }
 
-/// How many vehicles count: those of the nonempty routes, none in a problem of kind `Vrp`.
+/// Returns the number of vehicles in the cost: the nonempty routes, or 0 for a problem of kind `Vrp`.
 pub fn vehicle_count(kind: Kind, routes: &[Route]) -> u64
     ensures { result ≡ vehicle_count kind routes.now }
 {
@@ -108,7 +109,7 @@ pub fn vehicle_count(kind: Kind, routes: &[Route]) -> u64
     }
 }
 
-/// How many routes are not empty.
+/// Returns the number of routes that are not empty.
 pub fn used_count(routes: &[Route]) -> u64
     ensures { result ≡ used_count routes.now }
 {
@@ -118,9 +119,10 @@ pub fn used_count(routes: &[Route]) -> u64
         .count() as u64
 }
 
-/// How far the vehicles drive together. Routes that are no plan may share their stops, so many that no smaller number holds it.
+/// Returns the total distance of the routes. Routes that are not a plan may share stops, and then the sum may
+/// exceed a `u64`.
 pub fn total_distance(problem: &Problem, routes: &[Route]) -> u128
-    requires { All (AreLiveOnce problem.now) routes.now }
+    requires { All (AreDistinctStops problem.now) routes.now }
     ensures value { result ≡ total_length problem.now routes.now }
     ensures bound { result ≤ 5656854 * length (concat routes.now) }
 {

@@ -1,8 +1,8 @@
-//! Laws of the schedule, each for every problem and route.
-ghost use Rattle.route_sched.specs.Agree.{SchedulesAgree};
+//! Laws of the schedule, for every problem and route.
+ghost use Rattle.route_sched.specs.Agreement.{SchedulesAgree};
 
-/// Two problems with the same depot and the same stops for a route's numbers give the route the same starts, loads
-/// and length: its schedule asks nothing else of a problem.
+/// Proves that a route has the same starts, loads and length in two problems with the same depot and the same
+/// stops for the route's numbers. The schedule depends on nothing else in a problem.
 pub fn schedules_agree()
     ensures { SchedulesAgree }
 {}

@@ -1,8 +1,8 @@
-//! Whether a time or a load is beyond its limit: the comparisons that rules on times and loads rest on.
+//! Comparisons of a time or a load with its limit.
 ghost use Rattle.std.specs.Prelude.{◌≡◌};
-ghost use Rattle.route_sched.specs.Limits.{is_too_late, is_too_much};
+ghost use Rattle.route_sched.specs.Limits.{is_too_late, exceeds_capacity};
 
-/// Whether a time is behind the latest one.
+/// Returns whether a time is after the latest one.
 #[inline(always)]
 pub fn is_too_late(time: u64, latest: u32) -> bool
     ensures { result ≡ is_too_late time latest }
@@ -10,10 +10,10 @@ pub fn is_too_late(time: u64, latest: u32) -> bool
     time > u64::from(latest)
 }
 
-/// Whether a load is above the capacity.
+/// Returns whether a load is above the capacity.
 #[inline(always)]
-pub fn is_too_much(load: i64, capacity: u32) -> bool
-    ensures { result ≡ is_too_much load capacity }
+pub fn exceeds_capacity(load: i64, capacity: u32) -> bool
+    ensures { result ≡ exceeds_capacity load capacity }
 {
     load > i64::from(capacity)
 }

@@ -1,21 +1,21 @@
 //! The starts, the loads and the distance of a route.
 
 ghost use Rattle.std.specs.Prelude.{◌≡◌, ◌*◌, ◌≤◌, length, IfOk};
-ghost use Rattle.route_sched.specs.Route.{AreLiveOnce};
+ghost use Rattle.route_sched.specs.Route.{AreDistinctStops};
 ghost use Rattle.route_sched.specs.Schedule.{starts_of, loads_of, route_length};
 
-use crate::places::stop_behind;
+use crate::places::next_stop;
 use crate::visits::Visits;
 use nint_dist::dist;
 use plan_types::{OutOfMemory, Problem};
 use std::alloc::Global;
 
-/// When service starts at each stop of a route, and when the vehicle is back at the depot.
+/// Returns the start of service at each stop of a route, and the time when the vehicle is back at the depot.
 ///
-/// It leaves the depot at the depot's `earliest`, drives each `dist` in as much time, and waits for a
-/// stop's `earliest` where it arrives before.
+/// The vehicle leaves the depot at the depot's `earliest`. Each leg takes as much time as its distance `dist`.
+/// If the vehicle arrives before a stop's `earliest`, it waits.
 pub fn starts(alloc: Global, problem: &Problem, route: &[u32]) -> Result<Vec<u64>, OutOfMemory>
-    requires { AreLiveOnce problem.now route.now }
+    requires { AreDistinctStops problem.now route.now }
     ensures { IfOk result (λ starts. starts.items ≡ starts_of problem.now route.now) }
 {
     Visits::new(problem, route)
@@ -23,9 +23,9 @@ pub fn starts(alloc: Global, problem: &Problem, route: &[u32]) -> Result<Vec<u64
         .collect(alloc)
 }
 
-/// What the vehicle carries after each stop of a route.
+/// Returns the load after each stop of a route.
 pub fn loads(alloc: Global, problem: &Problem, route: &[u32]) -> Result<Vec<i64>, OutOfMemory>
-    requires { AreLiveOnce problem.now route.now }
+    requires { AreDistinctStops problem.now route.now }
     ensures { IfOk result (λ loads. loads.items ≡ loads_of problem.now route.now) }
 {
     Visits::new(problem, route)
@@ -34,10 +34,10 @@ pub fn loads(alloc: Global, problem: &Problem, route: &[u32]) -> Result<Vec<i64>
         .collect(alloc)
 }
 
-/// How far the vehicle drives, from the depot along the route and back to the depot. An empty route
-/// has distance 0. Takes no memory.
+/// Returns the distance from the depot along the route and back to the depot. An empty route has distance 0.
+/// Allocates nothing.
 pub fn route_distance(problem: &Problem, route: &[u32]) -> u64
-    requires { AreLiveOnce problem.now route.now }
+    requires { AreDistinctStops problem.now route.now }
     ensures value { result ≡ route_length problem.now route.now }
     ensures bound { result ≤ 5656854 * length route.now }
 {
@@ -47,7 +47,7 @@ pub fn route_distance(problem: &Problem, route: &[u32]) -> u64
     let mut distance = 0;
     let mut last = &problem.depot;
     for k in 0..=route.len() {
-        let stop = stop_behind(problem, route, k);
+        let stop = next_stop(problem, route, k);
         distance += u64::from(dist(last, stop));
         last = stop;
     }

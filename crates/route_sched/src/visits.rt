@@ -1,26 +1,25 @@
-//! A vehicle's way along its route, place by place, without memory: the auditor asks it and makes no list for
-//! a route.
+//! An iterator over the places of a route. It allocates nothing, so the auditor needs no list for a route.
 
 ghost use Rattle.std.specs.Prelude.{◌≡◌, ℕ, ◌+◌, ◌≤◌, ◌^◌, ◌+ℤ◌, unsigned_abs};
 ghost use Rattle.plan_types.specs.Limits.{IsVisit};
-ghost use Rattle.route_sched.specs.Route.{AreLiveOnce};
-ghost use Rattle.route_sched.specs.Visiting.{next_visit};
+ghost use Rattle.route_sched.specs.Route.{AreDistinctStops};
+ghost use Rattle.route_sched.specs.VisitList.{next_visit};
 
-use crate::places::stop_behind;
+use crate::places::next_stop;
 use nint_dist::dist;
 use plan_types::{Problem, Stop};
 use std::marker::Model;
 
-/// What happens at a place of a route.
+/// A visit at a place of a route.
 #[derive(Clone, Copy, Debug, PartialEq, Eq)]
 pub struct Visit {
     /// The stop, or the depot at the return.
     pub stop: Stop,
-    /// When its service starts.
+    /// The time when service starts.
     pub start: u64,
-    /// What the vehicle carries after it.
+    /// The load after the visit.
     pub load: i64,
-    /// The distance from the place before.
+    /// The distance from the previous place.
     pub leg: u32,
 }
 
@@ -29,7 +28,7 @@ pub struct Visit {
 pub struct Visits<'a> {
     problem: &'a Problem,
     route: &'a [u32],
-    // How many places the vehicle has left, and what happened at the last one.
+    // The vehicle's place on the route, and the visit at this place.
     place: usize,
     last: Visit,
 }
@@ -39,17 +38,17 @@ impl<'a> Model for Visits<'a> {
 
     ghost Value = { VisitsValue };
 
-    ghost use Rattle.route_sched.specs.Walking.{walk_of, IsWalk};
+    ghost use Rattle.route_sched.specs.VisitsState.{visits_value, IsVisitsState};
 
-    ghost view = { walk_of };
+    ghost view = { visits_value };
 
-    ghost invariant = { IsWalk };
+    ghost invariant = { IsVisitsState };
 }
 
 impl<'a> Visits<'a> {
-    /// The visits of a route. Takes no memory.
+    /// Returns the visits of a route. Allocates nothing.
     pub fn new(problem: &'a Problem, route: &'a [u32]) -> Visits<'a>
-        requires { AreLiveOnce problem.now route.now }
+        requires { AreDistinctStops problem.now route.now }
         ensures { result ≡ record { problem = problem.now; route = route.now; place = 0 } }
     {
         let stop = problem.depot;
@@ -74,7 +73,7 @@ impl<'a> Iterator for Visits<'a> {
     ghost use Rattle.std.specs.Prelude.{IfSome, Some, length};
     ghost use Rattle.std.specs.Iterator.{UpTo, YieldsFirst, at_most, item_count};
     ghost use Rattle.std.specs.Iterator.SizeHint.{IsWithinCount};
-    ghost use Rattle.route_sched.specs.Visiting.{visits_from};
+    ghost use Rattle.route_sched.specs.VisitList.{visits_from};
 
     ghost next_gives = { YieldsFirst (λ v. visits_from v.problem v.route v.place) };
 
@@ -84,8 +83,8 @@ impl<'a> Iterator for Visits<'a> {
         if self.place > self.route.len() {
             return None;
         }
-        let stop = stop_behind(self.problem, self.route, self.place);
-        self.last = visit_behind(&self.last, stop);
+        let stop = next_stop(self.problem, self.route, self.place);
+        self.last = next_visit(&self.last, stop);
         self.place += 1;
         Some(self.last)
     }
@@ -104,8 +103,8 @@ impl<'a> Iterator for Visits<'a> {
     }
 }
 
-// The visit of a stop straight after another visit.
-fn visit_behind(last: &Visit, stop: &Stop) -> Visit
+// Returns the visit of a stop directly after another visit.
+fn next_visit(last: &Visit, stop: &Stop) -> Visit
     requires last { IsVisit last.now.stop }
     requires stop { IsVisit stop.now }
     requires start { last.now.start ≤ 2 ^ 60 }
@@ -119,13 +118,13 @@ fn visit_behind(last: &Visit, stop: &Stop) -> Visit
     Visit {
         stop: *stop,
         start: arrival.max(u64::from(stop.earliest)),
-        load: load_behind(last.load, stop.demand),
+        load: load_after(last.load, stop.demand),
         leg,
     }
 }
 
-/// What the vehicle carries after a stop with this demand.
-pub fn load_behind(load: i64, demand: i32) -> i64
+/// Returns the load after a stop with this demand.
+pub fn load_after(load: i64, demand: i32) -> i64
     requires { unsigned_abs load ≤ 2 ^ 60 }
     ensures value { result ≡ load +ℤ demand }
     ensures bound { unsigned_abs result ≤ unsigned_abs load + 2 ^ 31 }

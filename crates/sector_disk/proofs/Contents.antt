@@ -1,4 +1,4 @@
--- The possible contents of a sector, in their order.
+-- The possible contents of a sector, in order.
 use Rattle.std.proofs.Common.{
   ◌≡◌,
   ◌≢◌,
@@ -55,7 +55,7 @@ use Rattle.sector_disk.specs.MemoryLaws.{whole_sectors}
 use Rattle.sector_disk.specs.Sectors.{Only}
 use Rattle.sector_disk.specs.Crash.{part_of, content_of, is_write, chosen, IsSettledBy}
 
--- a sector outside a run keeps its contents, and one inside it gains its part
+-- A sector outside a run keeps its contents, and one inside it gains its part.
 run_contents : (disk : Disk) (first : ℕ) (bytes : List ℕ) (n i : ℕ)
     → (((i < first) ⊎ (first + n ≤ i)) × ((run disk (sectors_from first bytes n)).contents i ≡ disk.contents i))
     ⊎ ((j : ℕ) × (i ≡ first + j) × (j < n) × ((run disk (sectors_from first bytes n)).contents i ≡ disk.contents i ++ sector j bytes ∷ []))
@@ -113,7 +113,7 @@ cons-option : (o : Option (List ℕ)) (call : Call) (calls : List Call) (i : ℕ
 cons-option None call calls i at = ap (λ o. cons_option o (filter_map (content_of i) calls)) at
 cons-option (Some x) call calls i at = ap (λ o. cons_option o (filter_map (content_of i) calls)) at
 
--- after writes alone
+-- After writes only, a sector has its first content and those that were written to it.
 pub contents-calls : (disk : Disk) (calls : List Call) (i : ℕ) → IsTrue (list_all is_write calls)
     → (run disk (flat_map events_of calls)).contents i ≡ disk.contents i ++ filter_map (content_of i) calls
 contents-calls disk [] i all = sym (append-nil (disk.contents i))
@@ -125,7 +125,7 @@ contents-calls disk (call ∷ calls) i all =
     ∙ append_assoc (disk.contents i) (option_to_list (content_of i call)) (filter_map (content_of i) calls)
     ∙ ap (λ (l : List (List ℕ)). disk.contents i ++ l) (sym (cons-option (content_of i call) call calls i refl))
 
--- after calls that settle it, and writes alone
+-- After settled calls and then only writes, a sector has its synced content and those that were written since.
 pub contents-stopped : (start : List ℕ) (front back : List Call) (i : ℕ) → IsSettledBy front → IsTrue (list_all is_write back)
     → (run (settled start) (flat_map events_of (front ++ back))).contents i
     ≡ sector i (run (settled start) (flat_map events_of front)).seen ∷ filter_map (content_of i) back
@@ -145,7 +145,7 @@ get_within [] n lt is = absurd (omega arith)
 get_within (y ∷ ys) zero lt is = cc
 get_within (y ∷ ys) (suc n) lt is = get_within ys n (omega arith) is
 
--- the content with this number
+-- The content with the chosen number, modulo their count.
 module _ (synced : List ℕ) (since : List (List ℕ)) (choice count : ℕ) (counted : count ≡ length since) where
   number_is : choice % length (synced ∷ since) ≡ choice % (count + 1)
   number_is = let size : length (synced ∷ since) ≡ count + 1 = omega (arith, counted) in ap (λ (n : ℕ). choice % n) size
@@ -161,7 +161,7 @@ module _ (synced : List ℕ) (since : List (List ℕ)) (choice count : ℕ) (cou
   pub chosen_there : 0 < choice % (count + 1) → slice_get since (choice % (count + 1) - 1) ≡ None → ⊥
   chosen_there later is = get_within since (choice % (count + 1) - 1) (omega (arith, counted)) is
 
--- a device that nothing was written to since it was made or crashed
+-- If a device has had no write since it was created or last crashed, its image is the initial one.
 pub disk_start : (start : List ℕ) (calls : List Call) → calls ≡ [] → run (settled start) (flat_map events_of calls) ≡ settled start
 disk_start start calls none = ap (λ (l : List Call). run (settled start) (flat_map events_of l)) none
 
@@ -175,7 +175,7 @@ only_start start calls none whole image is =
     (subst (λ (l : List Call). IsImage (length start / 512) (run (settled start) (flat_map events_of l)) image) none is)
     ∙ sym (seen_start start calls none)
 
--- the contents that were chosen make a possible image
+-- The chosen contents form a possible image.
 pub chosen_image : (n : ℕ) (disk : Disk) (choices : ℕ → ℕ) (image : List ℕ) → IsImage n disk disk.seen → length image ≡ 512 * n
     → TakesChoices n disk choices image → IsImage n disk image
 chosen_image n disk choices image possible size takes = record {

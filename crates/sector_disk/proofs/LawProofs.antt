@@ -1,4 +1,4 @@
--- The laws of the model.
+-- Proofs of the laws of the model.
 use Rattle.std.proofs.Common.{◌≡◌, ◌⊎◌, inl, inr, ℕ, zero, suc, ◌+◌, ◌*◌, ◌%◌, ◌<◌, ◌≤◌, List, [], ◌∷◌, length, take, drop, refl, sym, ◌∙◌, ap, subst, arith, length-take}
 use Rattle.std.specs.Prelude.{◌^◌, slice_index, slice_index_or, All}
 use Rattle.std.proofs.lemmas.List.{take-take, drop-take, get_or_read}

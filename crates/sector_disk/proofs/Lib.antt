@@ -1,11 +1,7 @@
--- The lemma files, for this crate alone.
+-- The lemma files. Those that are `pub` may be used in crates above.
 mod Calls
 mod Contents
-mod FileGoes
-mod FileLawProofs
-mod Goes
-mod Keeps
+pub mod HistorySteps
+mod ConsistencySteps
 mod LawProofs
-mod Openings
 mod Steps
-mod ToldSteps

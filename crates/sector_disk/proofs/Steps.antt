@@ -1,4 +1,4 @@
--- One event more, in the loops of a crash.
+-- The steps of the loops of a crash.
 use Rattle.std.proofs.Common.{
   ◌≡◌,
   ℕ,
@@ -46,11 +46,11 @@ use Rattle.std.proofs.lemmas.Bool.{and_from, false≢true}
 use Rattle.sector_disk.specs.Model.{Disk, settled, run}
 use Rattle.sector_disk.specs.ModelLaws.{run-append}
 use Rattle.sector_disk.specs.Memory.{Call, Synced, events_of}
-use Rattle.sector_disk.specs.Kept.{call_of}
+use Rattle.sector_disk.specs.Consistency.{call_of}
 use Rattle.sector_disk.specs.Crash.{content_of, is_write, IsSettledBy}
 use Rattle.sector_disk.specs.declared.mem_device.Call.{Call as Kept}
 use Rattle.sector_disk.specs.declared.mem_device.Call.TheVariants.{Write as KeptWrite, Torn as KeptTorn, Sync as KeptSync}
-use Rattle.sector_disk.proofs.Keeps.{seen_after, seen-push, events-push}
+use Rattle.sector_disk.proofs.ConsistencySteps.{seen_after, seen-push, events-push}
 
 module _ (kept : List Kept) (i : ℕ) (d : Kept) (lt : i < length kept) where
   pub calls_more : map call_of (take (i + 1) kept) ≡ map call_of (take i kept) ++ call_of (get_or kept i d) ∷ []
@@ -79,7 +79,7 @@ module _ (kept : List Kept) (i : ℕ) (d : Kept) (lt : i < length kept) where
       ≡ cons_option (content_of sector (call_of (get_or kept i d))) (filter_map (content_of sector) (map call_of (drop (i + 1) kept)))
   filter_rest sector = ap (λ (l : List Kept). filter_map (content_of sector) (map call_of l)) (drop_more kept i d lt)
 
-  -- a sync settles
+  -- A sync settles the device.
   pub settled_more : call_of (get_or kept i d) ≡ Synced → IsSettledBy (map call_of (take (i + 1) kept))
   settled_more is start =
       let calls = map call_of (take i kept) in
@@ -112,7 +112,7 @@ not_write (KeptWrite first bytes) h seen = absurd (h first bytes refl)
 not_write (KeptTorn first bytes) h seen = refl
 not_write KeptSync h seen = refl
 
--- how much an event that was tested counts
+-- If a call writes to the sector, it adds one content.
 pub one_content : (r : Option (Bor (List ℕ))) (o : Option (List ℕ)) → option_copied r ≡ o → is_some r ≡ true → length (option_to_list o) ≡ 1
 one_content None o is some = absurd (false≢true some)
 one_content (Some x) o is some = ap (λ o. length (option_to_list o)) (sym is)
@@ -125,7 +125,7 @@ pub is_none : (r : Option (Bor (List ℕ))) → ((x : Bor (List ℕ)) → r ≡ 
 is_none None h = refl
 is_none (Some x) h = absurd (h x refl)
 
--- the next content is the one that is sought, or one less is left
+-- If the content is not the next one, one fewer remains to be skipped.
 pub slice_get_later : (x : List ℕ) (xs : List (List ℕ)) (n : ℕ) → 0 < n → slice_get (x ∷ xs) n ≡ slice_get xs (n - 1)
 slice_get_later x xs zero h = absurd (omega arith)
 slice_get_later x xs (suc n) h = ap (slice_get xs) (omega arith)

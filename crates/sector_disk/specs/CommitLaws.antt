@@ -1,11 +1,11 @@
--- What holds of commits.
+-- Laws of commits.
 use Rattle.std.proofs.Common.{◌≡◌, ⊎_elim, inl, inr, ℕ, ◌+◌, ◌≤◌, List, Result, Ok, Err, OnOk, arith}
 use Rattle.std.proofs.lemmas.Result.{on_ok_weaker}
 use Rattle.sector_disk.specs.declared.sectors.Sectors as sectors
 use Rattle.sector_disk.specs.Throughout.{weakened}
 use Rattle.sector_disk.specs.Calls.{IsInCommit, During, Each, Commits}
 
--- from what each image has to what it has by that
+-- X and Y may be replaced by weaker properties
 module _ (X Y Z W : List ℕ → Type 0) (x : (image : List ℕ) → X image → Z image) (y : (image : List ℕ) → Y image → W image) where
   pub within_by : (steps quiet calls m : ℕ) (image : List ℕ) → IsInCommit X Y steps quiet calls m image → IsInCommit Z W steps quiet calls m image
   within_by steps quiet calls m image within = record {
@@ -24,7 +24,7 @@ module _ (X Y Z W : List ℕ → Type 0) (x : (image : List ℕ) → X image →
       after = on_ok_weaker result (λ each image left. y image (each image left)) is.after;
     }
 
--- of the images until some of its calls have finished no more need be said
+-- the claim about the first `quiet` calls can be dropped
 pub unquiet : (X Y : List ℕ → Type 0) (steps quiet calls m : ℕ) (image : List ℕ) → IsInCommit X Y steps quiet calls m image
     → IsInCommit X Y steps 0 calls m image
 unquiet X Y steps quiet calls m image within = record {
@@ -43,7 +43,7 @@ module _ {D : Type 0} (on : sectors.Ghosts D) where
       λ image left. (all.each (on.calls new) image (counts (on.clock old) image all.later left)).done finished
   at_last (Err e) steps quiet X Y old new counts finished all = finished
 
-  -- what is possible at the return of a success is of the last moment
+  -- a commit, from its guarantee for each moment: an image that is possible after Ok belongs to the last moment
   pub commits : {T E : Type 0} (result : Result T E) (steps quiet : ℕ) (X Y : List ℕ → Type 0) (old new : D)
       → ((t : ℕ) (image : List ℕ) → t ≤ on.clock new → on.possible new image → on.possible_since new t (on.calls new) image)
       → OnOk result (on.calls new ≡ on.calls old + steps) → During on old new (IsInCommit X Y steps quiet) → Commits on result steps quiet X Y old new

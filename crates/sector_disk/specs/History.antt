@@ -1,4 +1,5 @@
--- A device of the model over time: what it began with and its events since. A device in memory is seen so, and one over a file.
+-- The history of a device of the model: its initial content and its events since. Both a device in memory and a
+-- device over a file are seen this way.
 use Rattle.std.specs.Prelude.{ℕ, List, length}
 use Rattle.sector_disk.specs.Model.{Disk, Event, run, IsImage, MightHaveLeft}
 
@@ -6,10 +7,10 @@ pub record History : Type 0 where
   pub sectors : ℕ
   pub start : Disk
   pub events : List Event
-  -- how many writes and syncs have finished
+  -- the number of finished writes and syncs
   pub calls : ℕ
 
--- the device of the model now
+-- the device of the model after all events
 abbrev pub disk_in : History → Disk
 disk_in c = run c.start c.events
 
@@ -19,7 +20,7 @@ seen_in c = (disk_in c).seen
 abbrev pub MayLeaveIn : History → List ℕ → Type 0
 MayLeaveIn c image = IsImage c.sectors (disk_in c) image
 
--- the moments are numbered by the events so far
+-- the current moment; moments are numbered by the events so far
 abbrev pub clock_in : History → ℕ
 clock_in c = length c.events
 

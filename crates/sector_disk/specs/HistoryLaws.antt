@@ -1,4 +1,4 @@
--- What holds of the history of a device.
+-- Laws of the history of a device.
 use Rattle.std.proofs.Common.{◌≡◌, ℕ, ◌+◌, ◌≤◌, List, drop, sym, ◌∙◌, ap, subst, arith}
 use Rattle.std.proofs.lemmas.List.{take_all, drop_all}
 use Rattle.sector_disk.specs.Model.{Event, run, IsImage, finished}

@@ -1,4 +1,4 @@
--- Sectors of images.
+-- Lemmas about the sectors of images.
 use Rattle.std.proofs.Common.{
   ◌≡◌,
   ◌⊎◌,
@@ -35,14 +35,14 @@ use Rattle.std.proofs.lemmas.List.{take_at, take-append-le, drop-drop, drop-appe
 use Rattle.std.proofs.lemmas.Bool.{cases_lt}
 use Rattle.sector_disk.specs.Image.{sector, written, Mixes}
 
--- a sector of the front of two parts
+-- A sector of the first of two parts.
 pub sector_left : (i : ℕ) (xs ys : List ℕ) → 512 * i + 512 ≤ length xs → sector i (xs ++ ys) ≡ sector i xs
 sector_left i xs ys h =
     let begins : 512 * i ≤ length xs = omega arith in
     let rest : 512 ≤ length (drop (512 * i) xs) = simp length-drop (omega arith) in
     ap (take 512) (drop-append-le (512 * i) xs ys begins) ∙ take-append-le 512 (drop (512 * i) xs) ys rest
 
--- a sector of what follows f sectors
+-- A sector after the first f sectors.
 pub sector_right : (f j : ℕ) (xs ys : List ℕ) → length xs ≡ 512 * f → sector (f + j) (xs ++ ys) ≡ sector j ys
 sector_right f j xs ys h =
     let at : 512 * (f + j) ≡ 512 * f + 512 * j = omega arith in
@@ -56,7 +56,7 @@ sector_drop f j xs =
 pub length-sector : (i : ℕ) (xs : List ℕ) → 512 * i + 512 ≤ length xs → length (sector i xs) ≡ 512
 length-sector i xs h = simp (length-take, length-drop) (omega arith)
 
--- a run of k sectors from first on, inside an image
+-- A run of k sectors from sector `first` on, inside an image.
 module _ (first k : ℕ) (bytes image : List ℕ) (whole : length bytes ≡ 512 * k) (inside : 512 * first + 512 * k ≤ length image) where
   front : length (take (512 * first) image) ≡ 512 * first
   front = simp length-take (omega arith)
@@ -68,7 +68,7 @@ module _ (first k : ℕ) (bytes image : List ℕ) (whole : length bytes ≡ 512 
   length-written =
       simp (length-append, length-drop) (omega (arith, front, whole))
 
-  -- what is written to a sector of the run
+  -- The content written to a sector of the run.
   pub sector-written_inside : (j : ℕ) → j < k → sector (first + j) (written first bytes image) ≡ sector j bytes
   sector-written_inside j h =
       sector_left (first + j) (take (512 * first) image ++ bytes) (drop (512 * first + length bytes) image) (omega (arith, front_and_run))
@@ -89,7 +89,7 @@ module _ (first k : ℕ) (bytes image : List ℕ) (whole : length bytes ≡ 512 
       ∙ ap (λ (n : ℕ). sector j (drop n image)) at
       ∙ sector_drop (first + k) j image
 
-  -- a sector of a written image is in the run, with its new content, or has the old one
+  -- A sector of a written image lies in the run and has its new content, or it has its old content.
   pub sector-written_cases : (i : ℕ) → ((j : ℕ) × (i ≡ first + j) × (j < k)) ⊎ (sector i (written first bytes image) ≡ sector i image)
   sector-written_cases i = ⊎_elim
       (λ (before : i < first). inr (sector-written_before i before))
@@ -101,7 +101,7 @@ module _ (first k : ℕ) (bytes image : List ℕ) (whole : length bytes ≡ 512 
       (cases_lt i (first + k)))
       (cases_lt i first)
 
--- images with the same sectors are one
+-- Images with the same sectors are equal.
 pub same_sectors : (n : ℕ) (xs ys : List ℕ) → length xs ≡ 512 * n → length ys ≡ 512 * n → ((i : ℕ) → i < n → sector i xs ≡ sector i ys) → xs ≡ ys
 same_sectors zero [] [] hx hy same = refl
 same_sectors zero [] (y ∷ ys) hx hy same = absurd (omega arith)
@@ -113,7 +113,7 @@ same_sectors (suc n) xs ys hx hy same =
     let first : take 512 xs ≡ take 512 ys = same 0 (omega arith) in
     sym (take-append-drop 512 xs) ∙ ap (λ (l : List ℕ). l ++ drop 512 xs) first ∙ ap (λ (l : List ℕ). take 512 ys ++ l) rest ∙ take-append-drop 512 ys
 
--- an image made of a content for each sector
+-- An image built from one content for each sector.
 pub image_of : (n : ℕ) (P : ℕ → List ℕ → Type 0) → ((i : ℕ) → i < n → (content : List ℕ) × (length content ≡ 512) × P i content)
     → (image : List ℕ) × (length image ≡ 512 * n) × ((i : ℕ) → i < n → P i (sector i image))
 image_of zero P each = ([], refl, λ i h. absurd (omega arith))
@@ -131,7 +131,7 @@ image_of (suc n) P each =
         sym (sector_right 1 i content image (size ∙ refl)) ∙ ap (λ (m : ℕ). sector m (content ++ image)) (omega arith) in
         subst (P (suc i)) same (rest i (omega arith))
 
--- outside the run a mixture has the old content
+-- Outside the run a mixture has the old content.
 pub mixes_outside : (first k : ℕ) (bytes old mixture : List ℕ) → length bytes ≡ 512 * k → 512 * first + 512 * k ≤ length old
     → Mixes old (written first bytes old) mixture → (i : ℕ) → (i < first) ⊎ (first + k ≤ i)
     → sector i mixture ≡ sector i old
@@ -144,7 +144,7 @@ mixes_outside first k bytes old mixture whole inside mix i out = ⊎_elim
     (sector-written_cases first k bytes old whole inside i))
     (mix.each i)
 
--- the same sector at one place, and the same elsewhere
+-- Images that agree at one sector and at all others are equal.
 same_elsewhere : (n first : ℕ) (xs ys : List ℕ) → length xs ≡ 512 * n → length ys ≡ 512 * n → sector first xs ≡ sector first ys
     → ((i : ℕ) → (i < first) ⊎ (first + 1 ≤ i) → sector i xs ≡ sector i ys) → xs ≡ ys
 same_elsewhere n first xs ys long_xs long_ys here there = same_sectors n xs ys long_xs long_ys (λ i lt. ⊎_elim
@@ -155,7 +155,7 @@ same_elsewhere n first xs ys long_xs long_ys here there = same_sectors n xs ys l
     (cases_lt i (first + 1)))
     (cases_lt i first))
 
--- a write of one sector is there or not
+-- A write of one sector is either complete or absent.
 pub mixes_one : (n first : ℕ) (bytes old mixture : List ℕ) → length old ≡ 512 * n → length bytes ≡ 512 → first < n → Mixes old (written first bytes old) mixture
     → (mixture ≡ old) ⊎ (mixture ≡ written first bytes old)
 mixes_one n first bytes old mixture size one inside mix =

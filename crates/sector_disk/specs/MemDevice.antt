@@ -1,7 +1,7 @@
--- How a device in memory is seen.
+-- The value of a `MemDevice` in contracts.
 use Rattle.std.specs.Prelude.{map}
 use Rattle.sector_disk.specs.Memory.{Memory}
-use Rattle.sector_disk.specs.Kept.{call_of}
+use Rattle.sector_disk.specs.Consistency.{call_of}
 use Rattle.sector_disk.specs.declared.mem_device.MemDevice.{MemDevice}
 
 abbrev pub memory : MemDevice → Memory

@@ -1,4 +1,4 @@
--- What holds of a device in memory whose writes were inside it.
+-- Laws of a device in memory whose writes were inside it.
 use Rattle.std.proofs.Common.{◌≡◌, ℕ, ◌+◌, ◌*◌, ◌/◌, ◌%◌, ◌<◌, ◌≤◌, List, [], ◌∷◌, length, refl, sym, ◌∙◌, ap, subst, inl, inr, arith, ◌&&◌, ◌==◌, IsTrue}
 use Rattle.std.specs.Prelude.{nat_lt, nat_le}
 use Rattle.std.specs.List.{flat_map, Contains}
@@ -24,7 +24,7 @@ run_inside n first len is =
     let parts = run_parts (512 * n) first len is in
     (whole_sectors len parts.1, omega (arith, parts.2, whole_sectors len parts.1))
 
--- what reads give after a call is possible if it was before
+-- if the image that reads return was possible before a call, it is possible after it
 pub sound_call : (n : ℕ) (call : Call) (disk : Disk) → IsImage n disk disk.seen → IsTrue (fits (512 * n) call)
     → IsImage n (run disk (events_of call)) (run disk (events_of call)).seen
 sound_call n (Wrote first bytes) disk seen fit =
@@ -57,7 +57,7 @@ sound_calls n (call ∷ calls) disk seen fit =
     let rest = sound_calls n calls (run disk (events_of call)) (sound_call n call disk seen parts.0) parts.1 in
     subst (λ (d : Disk). IsImage n d d.seen) (sym (run-append disk (events_of call) (flat_map events_of calls))) rest
 
--- what reads give is a possible image
+-- the image that reads return is possible
 pub memory_reads_possible : (m : Memory) → length m.start % 512 ≡ 0 → IsTrue (all_fit (length m.start) m.history) → MayLeave m (seen_of m)
 memory_reads_possible m whole fit =
     let size = whole_sectors (length m.start) whole in

@@ -1,4 +1,4 @@
--- What events do to the possible images of a device.
+-- The effect of events on the possible images of a device.
 use Rattle.std.proofs.Common.{
   ◌≡◌,
   ◌≢◌,
@@ -80,7 +80,7 @@ pub seen-sectors_from : (disk : Disk) (first : ℕ) (bytes : List ℕ) (n : ℕ)
 seen-sectors_from disk first bytes zero = refl
 seen-sectors_from disk first bytes (suc n) = seen-sectors_from (next disk (Sector first (take 512 bytes))) (suc first) (drop 512 bytes) n
 
--- one sector: what it gains, and what it keeps
+-- one sector: the contents that an event adds, and those that it keeps
 gain_if : (b : Bool) (xs : List (List ℕ)) (new x : List ℕ) → Contains (if b then xs ++ new ∷ [] else xs) x → Contains xs x ⊎ ((b ≡ true) × (x ≡ new))
 gain_if true xs new x h = ⊎_elim (λ old. inl old) (λ e. inr (refl, sym e)) (Contains-push_cases xs new x h)
 gain_if false xs new x h = inl h
@@ -133,7 +133,7 @@ contents_new disk first bytes (suc n) (suc j) h =
     let all = run (next disk (Sector first (take 512 bytes))) (sectors_from (suc first) (drop 512 bytes) n) in
     subst (λ (m : ℕ). Contains (all.contents m) (sector (suc j) bytes)) at (subst (λ (x : List ℕ). Contains (all.contents (suc first + j)) x) same later)
 
--- a stop after some sectors of a run leaves nothing that one after more of them doesn't
+-- every image of a crash after j sectors of a run is possible after k sectors, if j ≤ k
 pub image_later : (n : ℕ) (disk : Disk) (first : ℕ) (bytes : List ℕ) (j k : ℕ) (image : List ℕ) → j ≤ k
     → IsImage n (run disk (sectors_from first bytes j)) image → IsImage n (run disk (sectors_from first bytes k)) image
 image_later n disk first bytes j k image le is = record {
@@ -147,9 +147,9 @@ image_later n disk first bytes j k image le is = record {
       (contents_gain disk first bytes j i (sector i image) (is.each i h));
 }
 
--- a write of k sectors inside a device of n sectors, of which what reads give is possible
+-- a write of k sectors inside a device of n sectors, for which the image that reads return is possible
 module _ (n : ℕ) (disk : Disk) (first k : ℕ) (bytes : List ℕ) (whole : length bytes ≡ 512 * k) (inside : first + k ≤ n) where
-  -- what all its sectors may leave is what a stop within it may leave
+  -- an image that is possible after the whole write is one that a crash within the write may leave
   pub image_reached : IsImage n disk disk.seen → (image : List ℕ) → IsImage n (run disk (sectors_from first bytes k)) image
       → Reached first bytes (IsImage n disk) image
   image_reached seen image is =
@@ -224,7 +224,7 @@ settled_only n seen image size is =
     same i (inl none) = absurd (omega (arith, none.1))
     same i (inr e) = sym e
 
--- moments
+-- the moments of a history after more events are appended
 module _ (n : ℕ) (start : Disk) (events more : List Event) (calls : ℕ) where
   pub left_before : (from m : ℕ) (image : List ℕ) → MightHaveLeft n start events calls from m image
       → MightHaveLeft n start (events ++ more) (calls + finished more) from m image
@@ -237,7 +237,7 @@ module _ (n : ℕ) (start : Disk) (events more : List Event) (calls : ℕ) where
     is_image = subst (λ (l : List Event). IsImage n (run start l) image) (sym (take-append-le left.moment events more left.reached)) left.is_image;
   }
 
-  -- a moment of the events that came last
+  -- a moment after one of the appended events
   pub left_within : (from j m : ℕ) (image : List ℕ) → from ≤ length events → j ≤ length more → m + finished (drop j more) ≡ calls + finished more
       → IsImage n (run (run start events) (take j more)) image
       → MightHaveLeft n start (events ++ more) (calls + finished more) from m image

@@ -1,17 +1,18 @@
--- How what holds at each moment goes on over the calls of a device.
+-- Extending a property of every moment over the calls of a device.
 use Rattle.std.proofs.Common.{◌≡◌, ◌⊎◌, inl, inr, ⊎_elim, ℕ, List, arith, subst, sym}
 use Rattle.sector_disk.specs.Sectors.{Elapses, Throughout}
 
 module _ {D : Type 0} (clock : D → ℕ) (since : D → ℕ → ℕ → List ℕ → Type 0) where
-  -- before the first call
+  -- The property holds before the first call.
   pub started : (d : D) (P : ℕ → List ℕ → Type 0) → ((m : ℕ) (image : List ℕ) → since d (clock d) m image → P m image) → Throughout clock since d d P
   started d P here = record { later = omega arith; each = here; before = λ t m image le left. inl left }
 
-  -- one call more, within which a stop leaves what has P with the old count, and after which what has P with the new one
-  pub goes_on : (old mid new : D) (P : ℕ → List ℕ → Type 0) (old_calls new_calls : ℕ) (within possible : List ℕ → Type 0) → Throughout clock since old mid P
+  -- One more call: a crash within it leaves images that have P with the old count, and after it the possible
+  -- images have P with the new one.
+  pub extended : (old mid new : D) (P : ℕ → List ℕ → Type 0) (old_calls new_calls : ℕ) (within possible : List ℕ → Type 0) → Throughout clock since old mid P
       → Elapses (clock mid) (clock new) (since mid) (since new) old_calls new_calls within possible
       → ((image : List ℕ) → within image → P old_calls image) → ((image : List ℕ) → possible image → P new_calls image) → Throughout clock since old new P
-  goes_on old mid new P old_calls new_calls within possible so_far time in_it after = record {
+  extended old mid new P old_calls new_calls within possible so_far time in_it after = record {
     later = omega (arith, so_far.later, time.later);
     each = λ m image left. ⊎_elim (so_far.each m image) (called m image) (time.nothing_else (clock old) m image so_far.later left);
     before = λ t m image le left. ⊎_elim (so_far.before t m image le) (λ now. inr (called m image now))
@@ -22,7 +23,7 @@ module _ {D : Type 0} (clock : D → ℕ) (since : D → ℕ → ℕ → List �
       called m image (inl now) = subst (λ (c : ℕ). P c image) (sym now.0) (in_it image now.1)
       called m image (inr now) = subst (λ (c : ℕ). P c image) (sym now.0) (after image now.1)
 
-  -- a call that is made of calls
+  -- Two sequences of calls, one after the other.
   pub joined : (old mid new : D) (P : ℕ → List ℕ → Type 0) → Throughout clock since old mid P → Throughout clock since mid new P
       → Throughout clock since old new P
   joined old mid new P first second = record {

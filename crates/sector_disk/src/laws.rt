@@ -1,27 +1,20 @@
-//! Laws of the written model, each for every device, every list of events and every image.
-ghost use Rattle.sector_disk.specs.Laws.{HasOneImage, HasOldOrNew, HasChoices, StaysHonest, IsAsInMemory};
+//! Laws of the model, each for every device, every list of events and every image.
+ghost use Rattle.sector_disk.specs.Laws.{HasOneImage, HasOldOrNew, HasChoices};
 
-/// After a successful sync, and no write since, a stop leaves one image: the one that reads give.
+/// Proves that after a successful sync, if no write follows, a crash leaves exactly one image: the one that
+/// reads return.
 pub fn one_image_after_a_sync()
     ensures { HasOneImage }
 {}
 
-/// A stop within a write leaves in each of its sectors the old content or the new one, and may leave any choice of them.
-pub fn old_or_new_within_a_write()
+/// Proves that a crash within a write leaves in each of its sectors the old content or the new one, and that
+/// any combination of them is possible.
+pub fn a_crash_within_a_write_leaves_old_or_new_sectors()
     ensures { HasOldOrNew }
 {}
 
-/// Each image that a stop may leave is the one that a crash of a device in memory leaves, for some choices.
-pub fn a_crash_may_choose_any_image()
+/// Proves that every image that a crash may leave is the image that a crash of a device in memory leaves for
+/// some choices.
+pub fn a_crash_can_leave_any_possible_image()
     ensures { HasChoices }
-{}
-
-/// A file can be honest: it is where its reads give what the model's device has, and go on as before where a call fails.
-pub fn a_file_can_stay_honest()
-    ensures { StaysHonest }
-{}
-
-/// After the same writes and syncs a file and a device in memory read the same, and a stop may leave the same images.
-pub fn a_file_is_as_a_device_in_memory()
-    ensures { IsAsInMemory }
 {}

@@ -1,53 +1,54 @@
-//! A device in memory that can stop anywhere: it keeps a list of its writes and syncs.
+//! A device in memory that can crash anywhere: it keeps a list of its writes and syncs.
 //!
-//! A crash replays the writes up to the last sync, and then puts into each sector the one that was chosen of the contents
-//! written to it since. What a call answers, by `fuse`, by `fail_once` or for want of memory, is said at `try_read`,
-//! `try_write` and `try_sync`, which the calls of `Sectors` make; there the clauses are the trait's.
+//! A crash replays the writes up to the last sync. Then it writes into each sector one of the contents that are
+//! possible there, as chosen by the test. The results of a call, including failures by `fuse`, by `fail_once`
+//! or because memory runs out, are specified at `try_read`, `try_write` and `try_sync`. The methods of
+//! `Sectors` call these three, and have the contracts of the trait.
 //!
-//! - A write or sync that finds no memory leaves all but `faults` as before, and moves neither `fuse` nor `fail_once`.
-//! - A write that fails only at the last count adds no content.
-//! - A fuse that is set again starts anew.
+//! - A write or sync that runs out of memory changes only `faults`, and does not advance `fuse` or `fail_once`.
+//! - A write that fails only because `calls` has reached 2^64-1 adds no content.
+//! - Setting a fuse again restarts its count.
 ghost use Rattle.std.specs.Prelude.{◌≡◌, ◌+◌, ◌-◌, ◌*◌, ◌/◌, ◌%◌, ◌^◌, ◌<◌, ◌≤◌, ◌≢◌, ◌↔◌, ◌++◌, ◌∷◌, [], List, ℕ, length, map, take, drop, slice_get, slice_index, Some, None, OnOk, OnErr, IfOk, IfSome, IsErr, IsTrue, false, if◌then◌else◌};
 ghost use Rattle.std.specs.Option.{option_copied};
 ghost use Rattle.std.specs.List.{flat_map, filter_map, list_all};
 ghost use Rattle.sector_disk.specs.Image.{sector, written};
 ghost use Rattle.sector_disk.specs.Model.{settled, run};
-ghost use Rattle.sector_disk.specs.Memory.{Wrote, Tore, Synced, TakesChoices, all_fit, events_of, is_now, one_less, one_less_or_out};
-ghost use Rattle.sector_disk.specs.Kept.{call_of, IsKept};
+ghost use Rattle.sector_disk.specs.Memory.{Wrote, Tore, Synced, TakesChoices, all_fit, events_of, is_now, one_less, one_less_or_none};
+ghost use Rattle.sector_disk.specs.Consistency.{call_of, IsConsistent};
 ghost use Rattle.sector_disk.specs.Crash.{part_of, content_of, is_write, chosen, IsSettledBy};
 
 use crate::{DeviceFault, OutOfMemory, SECTOR_SIZE, Sectors};
 use std::alloc::{AllocError, Global};
 
-/// A write or a sync that happened.
+/// A write or a sync in the history.
 #[derive(Drop)]
 enum Call {
     Write { first: u64, bytes: Vec<u8> },
-    /// A write that failed, whose sectors are possible contents all the same.
+    /// A failed write whose sectors are possible contents nevertheless.
     Torn { first: u64, bytes: Vec<u8> },
     Sync,
 }
 
-/// A device in memory. It is always honest, and fails only by `fuse`, by `fail_once`, for want of memory, or where
-/// its calls stand at 2^64-1.
+/// A device in memory. It is always honest. A call fails only by `fuse`, by `fail_once`, if memory runs out, or
+/// if 2^64-1 writes and syncs have finished.
 #[derive(Drop)]
 pub struct MemDevice {
     alloc: Global,
-    /// What was there when it was made or crashed.
+    /// The content when the device was created or last crashed.
     start: Vec<u8>,
-    /// What reads give.
+    /// The bytes that reads return.
     image: Vec<u8>,
-    /// The writes and syncs since it was made or crashed.
+    /// The writes and syncs since the device was created or last crashed.
     history: Vec<Call>,
     calls: u64,
     faults: u64,
-    /// How many more writes and syncs finish before every call fails.
+    /// The number of writes and syncs that still finish before every call fails.
     fuse: Option<u64>,
     /// Whether a write has failed by the fuse.
     torn: bool,
-    /// How many more calls come before the one that fails once.
+    /// The number of calls that still come before the single one that fails.
     once: Option<u64>,
-    ghost kept: { IsKept start.items image.items history.items },
+    ghost kept: { IsConsistent start.items image.items history.items },
 }
 
 fn is_now(left: Option<u64>) -> bool
@@ -62,8 +63,8 @@ fn one_less(left: Option<u64>) -> Option<u64>
     left.map(|k| k.saturating_sub(1))
 }
 
-fn one_less_or_out(left: Option<u64>) -> Option<u64>
-    ensures { result ≡ one_less_or_out left }
+fn one_less_or_none(left: Option<u64>) -> Option<u64>
+    ensures { result ≡ one_less_or_none left }
 {
     match left {
         Some(0) | None => None,
@@ -89,7 +90,7 @@ fn put(image: &mut [u8], first: u64, bytes: &[u8])
     image[at..at + bytes.len()].copy_from_slice(bytes);
 }
 
-// Lists a write.
+// Adds a write to the history.
 fn keep_write(
     alloc: Global,
     history: &mut Vec<Call>,
@@ -111,7 +112,7 @@ fn keep_write(
     Ok(())
 }
 
-// Lists a sync.
+// Adds a sync to the history.
 fn keep_sync(history: &mut Vec<Call>) -> Result<(), AllocError>
     ensures ok { OnOk result (map call_of history.new.items ≡ map call_of history.old.items
         ++ Synced ∷ []) }
@@ -123,12 +124,12 @@ fn keep_sync(history: &mut Vec<Call>) -> Result<(), AllocError>
 
 impl MemDevice {
     ghost use Rattle.std.specs.Prelude.{replicate};
-    ghost use Rattle.sector_disk.specs.Model.{Stops};
+    ghost use Rattle.sector_disk.specs.Model.{CrashesTo};
     ghost use Rattle.sector_disk.specs.Sectors.{Only, IsWholeRun};
     ghost use Rattle.sector_disk.specs.MemDevice.{memory};
-    ghost use Rattle.sector_disk.specs.Memory.{fresh, len_of, disk_of, seen_of, MayLeave, IsSameDevice, KeepsCounts, is_due, is_refused, tears, failed, read_of, write_of, sync_of, with_fault, Gives, GivesIfMemory, Crashes};
+    ghost use Rattle.sector_disk.specs.Memory.{fresh, len_of, disk_of, seen_of, MayLeave, IsSameDevice, KeepsCounts, is_due, is_refused, tears, failed, read_of, write_of, sync_of, with_fault, HasOutcome, HasOutcomeOrNoMemory, Crashes};
 
-    /// A device of zeros.
+    /// Creates a device of zeros.
     pub fn new(alloc: Global, sectors: u64) -> Result<MemDevice, OutOfMemory>
         ensures fresh { IfOk result (λ device. memory device ≡ fresh sectors) }
         ensures len { IfOk result (λ device. len_of (memory device) ≡ sectors) }
@@ -153,8 +154,8 @@ impl MemDevice {
         })
     }
 
-    /// After `k` more finished writes and syncs every call fails, until the device is crashed or revived. The sectors of the
-    /// first write that fails so are possible contents.
+    /// Makes every call fail after `k` more finished writes and syncs, until the device is crashed or revived.
+    /// The sectors of the first write that fails this way are possible contents.
     pub fn fuse(&mut self, k: u64)
         ensures set { memory self.new ≡ record (memory self.old) { fuse = Some k; torn = false } }
         ensures same { IsSameDevice (memory self.old) (memory self.new) }
@@ -163,7 +164,8 @@ impl MemDevice {
         self.torn = false;
     }
 
-    /// The call after the next `k` calls of any kind fails. The sectors of a write that fails so are possible contents.
+    /// Makes the call after the next `k` calls of any kind fail. If it is a write, its sectors are possible
+    /// contents.
     pub fn fail_once(&mut self, k: u64)
         ensures set { memory self.new ≡ record (memory self.old) { once = Some k } }
         ensures same { IsSameDevice (memory self.old) (memory self.new) }
@@ -171,8 +173,8 @@ impl MemDevice {
         self.once = Some(k);
     }
 
-    /// Nothing is to fail any more, and all else stays: as where a process was killed, and its device was not. What a stop may leave is what
-    /// it might have left before.
+    /// Removes the fuse and the failure of `fail_once`, and changes nothing else: the process was killed, but
+    /// its device was not. A crash may leave what it might have left before.
     pub fn revive(&mut self)
         ensures set { memory self.new ≡ record (memory self.old) {
           fuse = None;
@@ -186,18 +188,19 @@ impl MemDevice {
         self.once = None;
     }
 
-    /// Stops the device. Sector `i` takes its possible content number `choices[i]`, modulo their count: 0 is the synced
-    /// one, and then come those written since, in order. Sectors past the list take 0. What was to fail is taken out.
+    /// Crashes the device. Sector `i` takes the possible content with number `choices[i]`, modulo their count:
+    /// number 0 is the synced content, and those written since follow in order. A sector without an entry in
+    /// the list takes number 0. The fuse and the failure of `fail_once` are removed.
     pub fn crash(&mut self, choices: &[u32])
         ensures image { Crashes (λ i. slice_index choices.now i) (memory self.old)
             (memory self.new) }
-        ensures stop { Stops (len_of (memory self.old)) (disk_of (memory self.old))
+        ensures crash_image { CrashesTo (len_of (memory self.old)) (disk_of (memory self.old))
             (disk_of (memory self.new)) }
         ensures possible { MayLeave (memory self.old) (seen_of (memory self.new)) }
         ensures only { Only (seen_of (memory self.new)) (MayLeave (memory self.new)) }
         ensures counts { KeepsCounts (memory self.old) (memory self.new) }
     {
-        stop(&mut self.start, &self.history, choices);
+        crash_image(&mut self.start, &self.history, choices);
         self.image.copy_from_slice(&self.start);
         self.history.clear();
         self.fuse = None;
@@ -205,31 +208,31 @@ impl MemDevice {
         self.once = None;
     }
 
-    // Whether the call that comes now fails.
+    // Returns whether the next call fails by the fuse or `fail_once`.
     fn is_due(&self) -> bool
         ensures { result ≡ is_due (memory self.now) }
     {
         is_now(self.once) || is_now(self.fuse)
     }
 
-    // Whether a write or a sync that comes now fails.
+    // Returns whether the next call fails if it is a write or a sync.
     fn is_refused(&self) -> bool
         ensures { result ≡ is_refused (memory self.now) }
     {
         self.is_due() || self.calls == u64::MAX
     }
 
-    // Whether the sectors of a write that fails now are possible contents.
+    // Returns whether the sectors of a write that fails now are possible contents.
     fn tears(&self) -> bool
         ensures { result ≡ tears (memory self.now) }
     {
         is_now(self.once) || is_now(self.fuse) && !self.torn
     }
 
-    /// `read` of `Sectors`, with all that a device in memory answers and leaves.
+    /// Performs `Sectors::read`, with an exact contract of a device in memory.
     pub fn try_read(&mut self, first: u64, into: &mut [u8]) -> Result<(), DeviceFault>
         requires { 512 * first + length into.old ≤ 512 * len_of (memory self.old) }
-        ensures exact { Gives (read_of (memory self.old)) result (memory self.new) }
+        ensures exact { HasOutcome (read_of (memory self.old)) result (memory self.new) }
         ensures bytes { OnOk result (into.new
             ≡ take (length into.old) (drop (512 * first) (seen_of (memory self.old)))) }
     {
@@ -237,18 +240,18 @@ impl MemDevice {
             return self.fail();
         }
         get(&self.image, first, into);
-        self.once = one_less_or_out(self.once);
+        self.once = one_less_or_none(self.once);
         Ok(())
     }
 
-    /// `write` of `Sectors`, with all that a device in memory answers and leaves. It finds no memory only for a write
-    /// that it has to list.
+    /// Performs `Sectors::write`, with an exact contract of a device in memory. Only a write that is added to
+    /// the history can run out of memory.
     pub fn try_write(&mut self, first: u64, bytes: &[u8]) -> Result<(), DeviceFault>
         requires { IsWholeRun first (length bytes.now) (len_of (memory self.old)) }
-        ensures exact { GivesIfMemory (memory self.old)
+        ensures exact { HasOutcomeOrNoMemory (memory self.old)
             (write_of (memory self.old) first bytes.now) result (memory self.new) }
         ensures refused { IsTrue (is_refused (memory self.old)) → tears (memory self.old) ≡ false
-            → Gives (failed (memory self.old)) result (memory self.new) }
+            → HasOutcome (failed (memory self.old)) result (memory self.new) }
     {
         let refused = self.is_refused();
         if refused && !self.tears() {
@@ -264,16 +267,16 @@ impl MemDevice {
         put(&mut self.image, first, bytes);
         self.calls += 1;
         self.fuse = one_less(self.fuse);
-        self.once = one_less_or_out(self.once);
+        self.once = one_less_or_none(self.once);
         Ok(())
     }
 
-    /// `sync` of `Sectors`, with all that a device in memory answers and leaves.
+    /// Performs `Sectors::sync`, with an exact contract of a device in memory.
     pub fn try_sync(&mut self) -> Result<(), DeviceFault>
-        ensures exact { GivesIfMemory (memory self.old) (sync_of (memory self.old)) result
+        ensures exact { HasOutcomeOrNoMemory (memory self.old) (sync_of (memory self.old)) result
             (memory self.new) }
         ensures refused { IsTrue (is_refused (memory self.old))
-            → Gives (failed (memory self.old)) result (memory self.new) }
+            → HasOutcome (failed (memory self.old)) result (memory self.new) }
     {
         if self.is_refused() {
             return self.fail();
@@ -283,11 +286,11 @@ impl MemDevice {
         }
         self.calls += 1;
         self.fuse = one_less(self.fuse);
-        self.once = one_less_or_out(self.once);
+        self.once = one_less_or_none(self.once);
         Ok(())
     }
 
-    // A call that finds no memory.
+    // Fails the call because memory ran out.
     fn fault(&mut self) -> Result<(), DeviceFault>
         ensures fails { IsErr result }
         ensures counted { memory self.new ≡ with_fault (memory self.old) }
@@ -296,16 +299,16 @@ impl MemDevice {
         Err(DeviceFault)
     }
 
-    // A call that fails by `fuse`, by `fail_once` or at the last count.
+    // Fails the call by `fuse`, by `fail_once`, or because `calls` has reached 2^64-1.
     fn fail(&mut self) -> Result<(), DeviceFault>
-        ensures { Gives (failed (memory self.old)) result (memory self.new) }
+        ensures { HasOutcome (failed (memory self.old)) result (memory self.new) }
     {
-        self.once = one_less_or_out(self.once);
+        self.once = one_less_or_none(self.once);
         self.fault()
     }
 }
 
-// How many of the calls there are up to the last sync.
+// Returns the number of calls up to and including the last sync.
 fn synced_calls(calls: &[Call]) -> usize
     ensures bound { result ≤ length calls.now }
     ensures settled { IsSettledBy (map call_of (take result calls.now)) }
@@ -320,7 +323,7 @@ fn synced_calls(calls: &[Call]) -> usize
     synced
 }
 
-// Writes into the image what the writes wrote that finished.
+// Writes the bytes of each finished write into the image, in order.
 fn replay(image: &mut [u8], calls: &[Call])
     requires { IsTrue (all_fit (length image.old) (map call_of calls.now)) }
     ensures { image.new ≡ (run (settled image.old)
@@ -333,7 +336,7 @@ fn replay(image: &mut [u8], calls: &[Call])
     }
 }
 
-// What a write from sector `first` on writes to a sector.
+// Returns the part of a write that goes to this sector. The write begins with sector `first`.
 fn part_for(first: u64, bytes: &[u8], sector: u64) -> Option<&[u8]>
     ensures part { option_copied result ≡ part_of first bytes.now sector }
     ensures size { IfSome result (λ content. length content.now ≡ 512) }
@@ -345,7 +348,7 @@ fn part_for(first: u64, bytes: &[u8], sector: u64) -> Option<&[u8]>
     Some(&bytes[at..at + SECTOR_SIZE])
 }
 
-// What a call writes to a sector, finished or not.
+// Returns what a call writes to a sector, finished or not.
 fn content_for(call: &Call, sector: u64) -> Option<&[u8]>
     ensures content { option_copied result ≡ content_of sector (call_of call.now) }
     ensures size { IfSome result (λ content. length content.now ≡ 512) }
@@ -358,7 +361,7 @@ fn content_for(call: &Call, sector: u64) -> Option<&[u8]>
     }
 }
 
-// How many of the calls write to a sector.
+// Counts the calls that write to a sector.
 fn count_for(calls: &[Call], sector: u64) -> usize
     ensures count { result ≡ length (filter_map (content_of sector) (map call_of calls.now)) }
     ensures bound { result ≤ length calls.now }
@@ -372,7 +375,7 @@ fn count_for(calls: &[Call], sector: u64) -> usize
     count
 }
 
-// What the call writes to a sector that is the `number`th of those that write to it.
+// Returns the content that call number `number` writes to a sector, counting only the calls that write to it.
 fn nth_content(calls: &[Call], sector: u64, number: usize) -> Option<&[u8]>
     ensures content { option_copied result
         ≡ slice_get (filter_map (content_of sector) (map call_of calls.now)) number }
@@ -390,7 +393,7 @@ fn nth_content(calls: &[Call], sector: u64, number: usize) -> Option<&[u8]>
     None
 }
 
-// Puts into a sector of the image the content that was chosen for it.
+// Puts the chosen content into a sector of the image.
 fn choose_sector(image: &mut [u8], unsynced: &[Call], index: u64, choice: u32)
     requires { 512 * index + 512 ≤ length image.old }
     ensures chosen { sector index image.new
@@ -407,14 +410,14 @@ fn choose_sector(image: &mut [u8], unsynced: &[Call], index: u64, choice: u32)
     }
 }
 
-// The choice for a sector, which is 0 past the end of the list.
+// Returns the choice for a sector: 0 after the end of the list.
 fn choice_for(choices: &[u32], index: u64) -> u32
     ensures { result ≡ slice_index choices.now index }
 {
     choices.get(index as usize).copied().unwrap_or(0)
 }
 
-// Puts into each sector of the image the content that was chosen for it.
+// Puts the chosen content into each sector of the image.
 fn choose(image: &mut [u8], unsynced: &[Call], choices: &[u32])
     ensures { (i : ℕ) → i < length image.old / 512 → sector i image.new
         ≡ chosen (sector i image.old) (filter_map (content_of i) (map call_of unsynced.now))
@@ -425,8 +428,8 @@ fn choose(image: &mut [u8], unsynced: &[Call], choices: &[u32])
     }
 }
 
-// Leaves of the image at the start the one that was chosen of those that are possible after the calls.
-fn stop(image: &mut [u8], calls: &[Call], choices: &[u32])
+// Replaces the initial image by the chosen one of the images that are possible after the calls.
+fn crash_image(image: &mut [u8], calls: &[Call], choices: &[u32])
     requires { IsTrue (all_fit (length image.old) (map call_of calls.now)) }
     ensures { TakesChoices (length image.old / 512)
         (run (settled image.old) (flat_map events_of (map call_of calls.now)))
@@ -440,7 +443,7 @@ fn stop(image: &mut [u8], calls: &[Call], choices: &[u32])
 impl Sectors for MemDevice {
     ghost use Rattle.sector_disk.specs.Sectors.{calls_after, faults_after, Reached, AddsContents, Only, SameImages, Elapses};
     ghost use Rattle.sector_disk.specs.MemDevice.{memory};
-    ghost use Rattle.sector_disk.specs.Memory.{len_of, seen_of, MayLeave, clock_of, MayHaveLeft, read_of, write_of, sync_of, with_fault, Gives, GivesIfMemory};
+    ghost use Rattle.sector_disk.specs.Memory.{len_of, seen_of, MayLeave, clock_of, MayHaveLeft, read_of, write_of, sync_of, with_fault, HasOutcome, HasOutcomeOrNoMemory};
 
     ghost len = { λ d. len_of (memory d) };
 

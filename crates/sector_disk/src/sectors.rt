@@ -1,19 +1,20 @@
-//! A device as the layers above see it.
+//! A device, as the crates that use it see it.
 //!
-//! *Honest* is said of the return: a call's promises stand where the device is honest after it, and a device that is honest
-//! then was honest before. So it can mean that a device has answered as the model says in all its calls so far, which a file
-//! may do; "honest after a call exactly where it was before" could only be met by one whose honesty is settled from the start.
+//! *Honest* refers to the state after a call. The guarantees of a call hold if the device is honest after it,
+//! and only a device that was honest before a call can be honest after it. So for a file, honest can mean that
+//! it has answered as the model says in all its calls so far. If calls had to preserve honesty, only a device
+//! whose honesty is known from the start could satisfy the contract.
 ghost use Rattle.std.specs.Prelude.{◌≡◌, ◌+◌, ◌-◌, ◌*◌, ◌%◌, ◌^◌, ◌<◌, ◌≤◌, ◌↔◌, List, ℕ, length, take, drop, OnOk, OnErr, IsErr};
 ghost use Rattle.sector_disk.specs.Image.{written};
-ghost use Rattle.sector_disk.specs.Sectors.{IsWholeRun, IsCalled, as_many, OneMore, faults_after, Reached, AddsContents, Only, SameImages, Passes};
+ghost use Rattle.sector_disk.specs.Sectors.{IsWholeRun, IsCalled, same_count, OneMore, faults_after, Reached, AddsContents, Only, SameImages, Passes};
 
 use std::alloc::AllocError;
 use thiserror::Error;
 
-/// Bytes of a sector.
+/// The number of bytes of a sector.
 pub const SECTOR_SIZE: usize = 512;
 
-/// A growth was refused.
+/// An allocation failed.
 pub type OutOfMemory = AllocError;
 
 /// A read, a write or a sync failed.
@@ -21,52 +22,55 @@ pub type OutOfMemory = AllocError;
 #[error("the device failed")]
 pub struct DeviceFault;
 
-/// A device of sectors of 512 bytes. After a stop each sector holds, independently of the others, its content at the
-/// last successful sync or any content written to it since. That this is so is promised of an honest device.
+/// A device of 512-byte sectors. After a crash each sector holds, independently of the others, its content at
+/// the last successful sync or any content written to it since. This is guaranteed for an honest device.
 ///
-/// `calls` and `faults` never pass 2^64-1: where `calls` stands there a write or a sync fails, and `faults` stays there.
+/// `calls` and `faults` never exceed 2^64-1. If `calls` has this value, every write or sync fails. If `faults`
+/// has it, it stays the same.
 pub trait Sectors {
-    /// How many sectors there are.
+    /// The number of sectors.
     ghost len: { Self → ℕ };
 
-    /// Finished writes and syncs.
+    /// The number of finished writes and syncs.
     ghost calls: { Self → ℕ };
 
-    /// Failed calls of any kind.
+    /// The number of failed calls of any kind.
     ghost faults: { Self → ℕ };
 
-    /// It has answered as the model says in all its calls so far.
+    /// The device has answered as the model says in all its calls so far.
     ghost honest: { Self → Type 0 };
 
-    /// What reads give.
+    /// The bytes that reads return.
     ghost seen: { Self → List ℕ };
 
-    /// The images that a stop at this moment may leave.
+    /// The images that a crash at this moment may leave.
     ghost possible: { Self → List ℕ → Type 0 };
 
-    /// The moment, as a number that doesn't fall.
+    /// The moment, as a number that never decreases.
     ghost clock: { Self → ℕ };
 
-    /// The images that a stop at some moment from that one on might have left, with that many calls finished by then.
+    /// The images that a crash at some moment since the given one might have left. The second number is that of
+    /// the calls finished at the moment of the crash.
     ghost possible_since: { Self → ℕ → ℕ → List ℕ → Type 0 };
 
-    /// The number of sectors.
+    /// Returns the number of sectors.
     fn len(&self) -> u64
         ensures { result ≡ len self.now };
 
-    /// How many writes and syncs have finished.
+    /// Returns the number of finished writes and syncs.
     fn calls(&self) -> u64
         ensures { result ≡ calls self.now };
 
-    /// How many calls have failed.
+    /// Returns the number of failed calls.
     fn faults(&self) -> u64
         ensures { result ≡ faults self.now };
 
-    /// Reads a run of whole sectors, `first` the number of its first. After a fault the buffer's bytes are not known.
+    /// Reads a run of whole sectors that begins with sector `first`. After a fault the content of the buffer is
+    /// unspecified.
     fn read(&mut self, first: u64, into: &mut [u8]) -> Result<(), DeviceFault>
         requires { IsWholeRun first (length into.old) (len self.old) }
 
-        ensures called { IsCalled len calls faults honest as_many (faults_after result)
+        ensures called { IsCalled len calls faults honest same_count (faults_after result)
             self.old self.new }
         ensures bytes { honest self.new
             → OnOk result (into.new ≡ take (length into.old) (drop (512 * first) (seen self.old))) }
@@ -75,8 +79,8 @@ pub trait Sectors {
         ensures moments { honest self.new
             → Passes clock possible_since calls possible (possible self.old) self.old self.new };
 
-    /// Writes a run of whole sectors, `first` the number of its first. Until a sync succeeds a stop may leave the old
-    /// content or the new one in each of them; after a fault reads give one of the possible images.
+    /// Writes a run of whole sectors that begins with sector `first`. Until a sync succeeds, a crash may leave
+    /// the old content or the new one in each of them. After a fault, reads return one of the possible images.
     fn write(&mut self, first: u64, bytes: &[u8]) -> Result<(), DeviceFault>
         requires { IsWholeRun first (length bytes.now) (len self.old) }
 
@@ -95,7 +99,8 @@ pub trait Sectors {
             → Passes clock possible_since calls possible
             (Reached first bytes.now (possible self.old)) self.old self.new };
 
-    /// Makes durable what reads give. After a fault nothing more is durable, and reads give one of the possible images.
+    /// Makes the bytes that reads return durable. After a fault nothing more is durable, and reads return one
+    /// of the possible images.
     fn sync(&mut self) -> Result<(), DeviceFault>
         ensures called { IsCalled len calls faults honest (OneMore result) (faults_after result)
             self.old self.new }
@@ -106,22 +111,22 @@ pub trait Sectors {
         ensures moments { honest self.new
             → Passes clock possible_since calls possible (possible self.old) self.old self.new };
 
-    /// What reads give is a possible image.
+    /// The image that reads return is possible.
     ghost reads_possible: { (d : Self) → honest d → possible d (seen d) };
 
     /// A possible image has the device's length.
     ghost image_size: { (d : Self) (image : List ℕ) → honest d → possible d image
         → length image ≡ 512 * len d };
 
-    /// This moment is one of those since an earlier one.
+    /// The present moment is one of the moments since any earlier moment.
     ghost counts_now: { (d : Self) (t : ℕ) (image : List ℕ) → honest d → t ≤ clock d
         → possible d image → possible_since d t (calls d) image };
 
-    /// Since this moment there is no other.
+    /// The only moment since the present one is the present one itself.
     ghost only_now: { (d : Self) (m : ℕ) (image : List ℕ) → honest d
         → possible_since d (clock d) m image → (m ≡ calls d) × possible d image };
 
-    /// The moments since a later one are among those since an earlier one.
+    /// Every moment since a later moment is also a moment since an earlier one.
     ghost since_earlier: { (d : Self) (t u m : ℕ) (image : List ℕ) → honest d → t ≤ u
         → possible_since d u m image → possible_since d t m image };
 }

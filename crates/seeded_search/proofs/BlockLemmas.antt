@@ -1,4 +1,4 @@
--- The block function of the RFC is the one that rand_chacha's contracts speak of.
+-- The block function of the RFC equals that of rand_chacha's contracts.
 use Rattle.std.proofs.Common.{◌≡◌, ℕ, zero, suc, ◌<◌, ◌%◌, ◌/◌, ◌^◌, List, [], ◌∷◌, ◌++◌, refl, sym, ap, ◌∙◌, length, get_or, arith}
 use Rattle.std.specs.Prelude.{slice_index}
 use Rattle.std.proofs.lemmas.Nat.{mod_below}
@@ -14,7 +14,7 @@ sixteen x =
     slice_index x 0 ∷ slice_index x 1 ∷ slice_index x 2 ∷ slice_index x 3 ∷ slice_index x 4 ∷ slice_index x 5 ∷ slice_index x 6 ∷ slice_index x 7
     ∷ slice_index x 8 ∷ slice_index x 9 ∷ slice_index x 10 ∷ slice_index x 11 ∷ slice_index x 12 ∷ slice_index x 13 ∷ slice_index x 14 ∷ slice_index x 15 ∷ []
 
--- a column round and a diagonal round, both by the indices of each quarter round and row by row
+-- a column round and a diagonal round, once by the indices of each quarter round and once row by row
 one_double_round : (x : List ℕ) → inner_block (sixteen x) ≡ kit.diagonal_round (kit.column_round (sixteen x))
 unfolding inner_block quarter_round_at quarter_round kit.quarter_round kit.column_round kit.diagonal_round
 one_double_round x = refl
@@ -45,7 +45,7 @@ length-add_states [] ys e = refl
 length-add_states (x ∷ xs) [] e = absurd (omega arith)
 length-add_states (x ∷ xs) (y ∷ ys) e = ap suc (length-add_states xs ys (omega arith))
 
--- the state that a block of a seed's key stream begins with
+-- the initial state of a block of a seed's key stream
 start : ℕ → ℕ → List ℕ
 start seed b = kit.initial_state (key_of (key_bytes seed)) b 0
 

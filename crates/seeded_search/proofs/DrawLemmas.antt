@@ -1,4 +1,5 @@
--- Several draws from a list by the indices drawn, which leave the list as it is.
+-- Items drawn one after another without repetition, by their indices in the list, which is not changed by the
+-- draws.
 use Rattle.std.proofs.Common.{◌≡◌, ℕ, ◌+◌, ◌-◌, ◌<◌, ◌≤◌, true, false, cond, nat_le, List, [], ◌∷◌, ◌++◌, length, drop, get_or, slice_index, refl, sym, ap, subst, ◌∙◌, inl, inr, arith}
 use Rattle.std.proofs.lemmas.Bool.{cases_lt}
 use Rattle.std.specs.List.{remove}
@@ -8,7 +9,7 @@ use Rattle.seeded_search.specs.Words.{pick}
 use Rattle.seeded_search.specs.Steps.{drawn}
 use Rattle.seeded_search.specs.Draws.{left_of, AreTaken, index_of}
 
--- each takes one out
+-- each draw removes one item
 length_left : (taken xs : List ℕ) → AreTaken taken xs → length (left_of taken xs) + length taken ≡ length xs
 length_left [] xs are = omega arith
 length_left (i ∷ older) xs are =
@@ -16,7 +17,7 @@ length_left (i ∷ older) xs are =
     let one = length-remove (left_of older xs) i are.0 in
     omega arith
 
--- what is left without one
+-- the item at index k of the rest after one removal
 left_at : (i k : ℕ) (xs : List ℕ) → i < length xs → k < length (remove xs i) → (get_or (remove xs i) k 0 ≡ get_or xs (cond (nat_le i k) (k + 1) k) 0) × (cond (nat_le i k) (k + 1) k < length xs)
 left_at i k xs within low = elim (cases_lt k i) [
   | inl below ↦ (
@@ -27,7 +28,7 @@ left_at i k xs within low = elim (cases_lt k i) [
       rw yes (get_or-remove_above xs i 0 k above within, omega (arith, length-remove xs i within)))
 ]
 
--- what is left at an index is what the whole list has at the index that it leads to
+-- the item of the rest at an index is that of the whole list at the corresponding index
 left_is : (taken xs : List ℕ) (k : ℕ) → AreTaken taken xs → k < length (left_of taken xs) → (get_or (left_of taken xs) k 0 ≡ get_or xs (index_of taken k) 0) × (index_of taken k < length xs)
 left_is [] xs k are low = (refl, low)
 left_is (i ∷ older) xs k are low =
@@ -35,7 +36,7 @@ left_is (i ∷ older) xs k are low =
     let rest = left_is older xs (cond (nat_le i k) (k + 1) k) are.1 one.1 in
     (one.0 ∙ rest.0, rest.1)
 
--- nothing is drawn of nothing
+-- nothing is drawn from an empty list
 drawn_none : (ws : List ℕ) → drawn ws [] ≡ []
 drawn_none [] = refl
 drawn_none (w ∷ ws) = refl
@@ -44,7 +45,7 @@ pub drawn_end : (names ws left all : List ℕ) → names ++ drawn ws left ≡ al
 drawn_end names ws [] all so_far none = sym (append-nil names) ∙ (ap (λ ns. names ++ ns) (sym (drawn_none ws)) ∙ so_far)
 drawn_end names ws (x ∷ xs) all so_far none = absurd (omega arith)
 
--- as many are left as were not taken out
+-- the rest has as many items as were not removed
 left_within : (taken xs : List ℕ) (k : ℕ) → AreTaken taken xs → k < length xs - length taken → k < length (left_of taken xs)
 left_within taken xs k are low = let all = length_left taken xs are in omega arith
 
@@ -58,7 +59,7 @@ first_drawn : (w : ℕ) (ws left : List ℕ) → 0 < length left → drawn (w �
 first_drawn w ws [] some = absurd (omega arith)
 first_drawn w ws (x ∷ xs) some = refl
 
--- what is drawn so far, one word on
+-- the items drawn so far, with one more word
 pub drawn_more : (names new all words : List ℕ) (n w k x : ℕ) (taken after xs : List ℕ) → AreTaken taken xs
     → names ++ drawn (drop n words) (left_of taken xs) ≡ all → n < length words → w ≡ slice_index words n
     → k ≡ pick w (length xs - length taken) → k < length xs - length taken → x ≡ slice_index xs (index_of taken k) → new ≡ names ++ x ∷ [] → after ≡ k ∷ taken

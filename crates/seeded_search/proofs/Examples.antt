@@ -1,4 +1,4 @@
--- What the definitions give for published vectors.
+-- Published test vectors, computed by the definitions.
 use Rattle.std.proofs.Common.{◌≡◌, ◌+◌, ◌^◌, [], ◌∷◌, refl}
 use Rattle.seeded_search.specs.ChaCha20.{quarter_round, quarter_round_at, inner_block, inner_blocks, add_states, chacha20_block, words_of_bytes}
 use Rattle.seeded_search.specs.Words.{block, word, step_words, pick}
@@ -29,14 +29,14 @@ step_1 : step_words 0 1
 unfolding quarter_round quarter_round_at inner_block inner_blocks add_states chacha20_block words_of_bytes block word step_words
 step_1 = refl
 
--- a block whose number has a high half, of a seed with eight different bytes, as another program gives it: ChaCha20 of
--- Python's package `cryptography`, whose nonce of 16 bytes begins with the block's number in 8
+-- a block whose number has a high half, of a seed with eight different bytes, as another program computes it:
+-- ChaCha20 of Python's package `cryptography`, whose nonce of 16 bytes begins with the block's number in 8
 late_step : step_words 0x0123456789abcdef (2 ^ 32 + 5)
     ≡ 0x7442b8f8 ∷ 0x5ba394b1 ∷ 0x16838905 ∷ 0xc8db901a ∷ 0x3ff31e08 ∷ 0xf15737d0 ∷ 0x4ac058d2 ∷ 0xfff8b785
     ∷ 0x5255bc22 ∷ 0x7ccab750 ∷ 0xa7937aa5 ∷ 0x0f68ee0f ∷ 0x183cfe51 ∷ 0xab6ab535 ∷ 0x280ed136 ∷ 0x2a1386be ∷ []
 unfolding quarter_round quarter_round_at inner_block inner_blocks add_states chacha20_block words_of_bytes block word step_words
 late_step = refl
 
--- what the first five words of seed 0 pick
+-- the numbers that the first five words of seed 0 pick
 picks : pick 0xade0b876 4 ∷ pick 0x903df1a0 3 ∷ pick 0xe56a5d40 3 ∷ pick 0x28bd8653 3 ∷ pick 0xb819d2bd 2 ∷ [] ≡ 2 ∷ 1 ∷ 2 ∷ 0 ∷ 1 ∷ []
 picks = refl

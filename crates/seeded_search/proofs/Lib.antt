@@ -1,12 +1,12 @@
--- The lemma files; upper crates may cite those that are `pub`.
+-- The lemma files. Crates that use this one may cite those that are `pub`.
 mod BlockLemmas
 mod DrawLemmas
 mod Examples
 pub mod NameLemmas
-mod NearbyLemmas
+mod SpatialIndexLemmas
 mod PickLemmas
 pub mod PlacingLemmas
 mod RouteLemmas
 mod StepExamples
 mod StepLemmas
-pub mod WalkLemmas
+pub mod SearchLemmas

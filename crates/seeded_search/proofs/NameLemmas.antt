@@ -43,15 +43,15 @@ use Rattle.std.proofs.lemmas.Option.{slice_get_cases}
 use Rattle.plan_types.specs.Instance.{Instance}
 use Rattle.plan_types.specs.declared.requests.Request.{Request}
 use Rattle.route_sched.specs.Cost.{is_planned, unplanned_count}
-use Rattle.move_ops.specs.Insertion.{of_vehicle}
-use Rattle.move_ops.specs.Drafts.{AreIdleBehind}
+use Rattle.move_ops.specs.Insertion.{route_of}
+use Rattle.move_ops.specs.Drafts.{AreIdleAfter}
 use Rattle.move_ops.specs.Moves.{is_movable}
 use Rattle.move_ops.proofs.Times.{none_some, some_same}
 use Rattle.seeded_search.specs.Names.{name_where, names_where}
 use Rattle.seeded_search.specs.Steps.{movable_names, unplanned_names}
 
 module _ (test : Request → Bool) where
-  -- the names of a list, by its first request
+  -- the names of a list: that of its first request if the request passes the test, then those of the others
   first_name : (e : ℕ × Request) (es : List (ℕ × Request)) → names_where test (e ∷ es) ≡ cond (test e.1) (e.0 ∷ names_where test es) (names_where test es)
   first_name e es = elim (cases_Bool (test e.1)) [ inl t ↦ rw t refl | inr f ↦ rw f refl ]
 
@@ -67,7 +67,7 @@ module _ (test : Request → Bool) where
     | inr f ↦ f
   ]
 
-  -- the names from an index on
+  -- if the request at index k passes the test, its name is the first of the names from index k on
   pub name_here : (es : List (ℕ × Request)) (k n : ℕ) → option_and_then (name_where test) (slice_get es k) ≡ Some n → names_where test (drop k es) ≡ n ∷ names_where test (drop (k + 1) es)
   name_here es k n is = elim (slice_get_cases es k).1 [
     | inl t ↦ (
@@ -90,7 +90,8 @@ module _ (test : Request → Bool) where
     | inr past ↦ (let less = past.0 in ap (names_where test) (drop_all k es past.0 ∙ sym (drop_all (k + 1) es (omega arith))))
   ]
 
-  -- the names so far, one index on
+  -- the names collected so far, followed by the name of a request that passes the test and by those of the
+  -- requests after it
   pub name_pushed : (names new : List ℕ) (es : List (ℕ × Request)) (k n : ℕ) (all : List ℕ) → names ++ names_where test (drop k es) ≡ all
       → option_and_then (name_where test) (slice_get es k) ≡ Some n → new ≡ names ++ n ∷ [] → new ++ names_where test (drop (k + 1) es) ≡ all
   name_pushed names new es k n all so_far is made =
@@ -101,11 +102,11 @@ module _ (test : Request → Bool) where
       → option_and_then (name_where test) (slice_get es k) ≡ None → new ≡ names → new ++ names_where test (drop (k + 1) es) ≡ all
   name_passed names new es k all so_far is made = ap (λ l. l ++ names_where test (drop (k + 1) es)) made ∙ (ap (λ l. names ++ l) (sym (name_later es k is)) ∙ so_far)
 
-  -- behind the last request there is no name
+  -- after the last request there are no names
   pub name_end : (names : List ℕ) (es : List (ℕ × Request)) (k : ℕ) (all : List ℕ) → names ++ names_where test (drop k es) ≡ all → length es ≤ k → names ≡ all
   name_end names es k all so_far past = sym (append-nil names) ∙ (ap (λ l. names ++ names_where test l) (sym (drop_all k es past)) ∙ so_far)
 
--- two tests that agree on all requests of a list
+-- if two tests agree on all requests of a list, the names are the same
 pub names_same : (f g : Request → Bool) (es : List (ℕ × Request)) → ((k name : ℕ) (r : Request) → slice_get es k ≡ Some (name, r) → f r ≡ g r) → names_where f es ≡ names_where g es
 names_same f g [] same = refl
 names_same f g (e ∷ es) same =
@@ -116,7 +117,7 @@ names_same f g (e ∷ es) same =
 cons_none : {X : Type 0} (x : X) (xs : List X) → x ∷ xs ≡ [] → ⊥
 cons_none x xs h = cc
 
--- where no request passes a test, each fails it
+-- if no name is in the list of a test, each request fails the test
 none_named : (test : Request → Bool) (es : List (ℕ × Request)) → names_where test es ≡ [] → (k name : ℕ) (r : Request) → slice_get es k ≡ Some (name, r) → test r ≡ false
 none_named test [] none zero name r at = absurd (none_some (name, r) at)
 none_named test [] none (suc k) name r at = absurd (none_some (name, r) at)
@@ -137,7 +138,7 @@ module _ (p : Instance) where
       (nil_from_length (filter (λ (e : ℕ × Request). not (is_planned routes e.1)) p.requests)
       (length-filter (λ (e : ℕ × Request). not (is_planned routes e.1)) p.requests ∙ none))
 
-  -- two plans without an unplanned request have the same list of movable ones
+  -- two plans without an unplanned request have the same movable requests
   pub movable_stay : (pins old new : List (List ℕ)) → unplanned_names p old ≡ [] → unplanned_names p new ≡ [] → movable_names p pins old ≡ movable_names p pins new
   movable_stay pins old new before after =
       names_same (is_movable pins old) (is_movable pins new) p.requests
@@ -148,10 +149,10 @@ module _ (p : Instance) where
 
 -- the used vehicles from an index on
 abbrev is_used : List (List ℕ) → ℕ → Bool
-is_used routes v = not (length (of_vehicle routes v) == 0)
+is_used routes v = not (length (route_of routes v) == 0)
 
 abbrev used_from : List (List ℕ) → ℕ → List ℕ
-used_from routes k = filter (λ v. not (length (of_vehicle routes v) == 0)) (range_with_len (k + 1) (length routes - k))
+used_from routes k = filter (λ v. not (length (route_of routes v) == 0)) (range_with_len (k + 1) (length routes - k))
 
 used_more : (routes : List (List ℕ)) (k : ℕ) → k < length routes → used_from routes k ≡ cond (is_used routes (k + 1)) ((k + 1) ∷ used_from routes (k + 1)) (used_from routes (k + 1))
 used_more routes k within =
@@ -171,13 +172,13 @@ used_passed routes used new all k so_far within is made =
     ap (λ l. l ++ used_from routes (k + 1)) made
     ∙ (ap (λ l. used ++ l) (sym (used_more routes k within ∙ ap (λ b. cond b ((k + 1) ∷ used_from routes (k + 1)) (used_from routes (k + 1))) is)) ∙ so_far)
 
--- behind the front no vehicle is used
-unused : (routes : List (List ℕ)) (front a n : ℕ) → front < a → AreIdleBehind front routes → filter (is_used routes) (range_with_len a n) ≡ []
+-- after the used part no vehicle is used
+unused : (routes : List (List ℕ)) (front a n : ℕ) → front < a → AreIdleAfter front routes → filter (is_used routes) (range_with_len a n) ≡ []
 unused routes front a zero above idle = refl
 unused routes front a (suc n) above idle =
     let not_here : is_used routes a ≡ false = ap (λ k. not (k == 0)) (idle a above) in
     ap (λ b. cond b (a ∷ filter (is_used routes) (range_with_len (a + 1) n)) (filter (is_used routes) (range_with_len (a + 1) n))) not_here ∙ unused routes front (a + 1) n (omega arith) idle
 
-pub used_end : (routes : List (List ℕ)) (used all : List ℕ) (front : ℕ) → used ++ used_from routes front ≡ all → AreIdleBehind front routes → used ≡ all
+pub used_end : (routes : List (List ℕ)) (used all : List ℕ) (front : ℕ) → used ++ used_from routes front ≡ all → AreIdleAfter front routes → used ≡ all
 used_end routes used all front so_far idle =
     sym (append-nil used) ∙ (ap (λ l. used ++ l) (sym (unused routes front (front + 1) (length routes - front) (omega arith) idle)) ∙ so_far)

@@ -1,4 +1,4 @@
--- How many words pick each of m things.
+-- The number of words that pick each of m things.
 use Rattle.std.proofs.Common.{◌≡◌, ℕ, ◌+◌, ◌*◌, ◌/◌, ◌<◌, ◌≤◌, ◌^◌, ◌⊎◌, inl, inr, ⊎_elim, arith}
 use Rattle.std.specs.Int.{div_ceil}
 use Rattle.std.proofs.Math.Nat.{div-eq_of_lt-le, div-mul-le_self, lt-div-mul-add}
@@ -12,7 +12,7 @@ use Rattle.seeded_search.specs.Laws.{IsRunOfPicks}
 first : ℕ → ℕ → ℕ
 first m k = div_ceil (k * 2 ^ 32) m
 
--- where the words that pick k or more begin
+-- w is the first word that picks k or more
 record IsFirst (m k w : ℕ) : Type 0 where
   reaches : k * 2 ^ 32 ≤ w * m
   least : w * m < k * 2 ^ 32 + m
@@ -21,7 +21,7 @@ is_first : (m k : ℕ) → 0 < m → IsFirst m k (first m k)
 unfolding first
 is_first m k h = let bounds = div_ceil_times (k * 2 ^ 32) m h in record { reaches = bounds.0; least = bounds.1 }
 
--- times m keeps the order, and what is less is less by m
+-- multiplication by m keeps the order: if v is smaller than w, v m is smaller than w m by at least m
 times_le : (m v w : ℕ) → v ≤ w → v * m ≤ w * m
 times_le m v w h = mul-le v m w m h (omega arith)
 

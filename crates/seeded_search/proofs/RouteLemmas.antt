@@ -1,18 +1,18 @@
--- Routes that become those of another plan, one after another.
+-- Routes that are replaced by those of another plan, one after another.
 use Rattle.std.proofs.Common.{◌≡◌, ℕ, ◌+◌, ◌<◌, ◌≤◌, List, [], ◌∷◌, length, get_or, set, refl, sym, ap, ◌∙◌, inl, inr, arith, add-one}
 use Rattle.std.proofs.lemmas.Bool.{cases_order, cases_lt}
 use Rattle.std.proofs.lemmas.List.{get_or-set_same, get_or-set_other, ext_get_or}
 use Rattle.std.proofs.lemmas.Option.{unwrap_or-slice_get}
-use Rattle.move_ops.specs.Drafts.{AreIdleBehind}
-use Rattle.move_ops.specs.Insertion.{of_vehicle}
+use Rattle.move_ops.specs.Drafts.{AreIdleAfter}
+use Rattle.move_ops.specs.Insertion.{route_of}
 
 abbrev pub SameBelow : List (List ℕ) → List (List ℕ) → ℕ → Type 0
 SameBelow routes plan n = (k : ℕ) → k < n → get_or routes k [] ≡ get_or plan k []
 
-route_at : (plan : List (List ℕ)) (k : ℕ) → of_vehicle plan (k + 1) ≡ get_or plan k []
+route_at : (plan : List (List ℕ)) (k : ℕ) → route_of plan (k + 1) ≡ get_or plan k []
 route_at plan k = rw (add-one k) (unwrap_or-slice_get plan k [])
 
-pub same_more : (routes plan : List (List ℕ)) (n : ℕ) → SameBelow routes plan n → get_or routes n [] ≡ of_vehicle plan (n + 1) → SameBelow routes plan (n + 1)
+pub same_more : (routes plan : List (List ℕ)) (n : ℕ) → SameBelow routes plan n → get_or routes n [] ≡ route_of plan (n + 1) → SameBelow routes plan (n + 1)
 same_more routes plan n same here k low = elim (cases_order k n) [
   | inl is ↦ ap (λ k. get_or routes k []) is ∙ (here ∙ (route_at plan n ∙ ap (λ k. get_or plan k []) (sym is)))
   | inr apart ↦ elim apart [
@@ -21,7 +21,7 @@ same_more routes plan n same here k low = elim (cases_order k n) [
   ]
 ]
 
-pub same_set : (routes plan : List (List ℕ)) (n : ℕ) (route : List ℕ) → SameBelow routes plan n → n < length routes → route ≡ of_vehicle plan (n + 1) → SameBelow (set routes n route) plan (n + 1)
+pub same_set : (routes plan : List (List ℕ)) (n : ℕ) (route : List ℕ) → SameBelow routes plan n → n < length routes → route ≡ route_of plan (n + 1) → SameBelow (set routes n route) plan (n + 1)
 same_set routes plan n route same within is =
     same_more (set routes n route) plan n
     (λ k low. get_or-set_other routes n k route [] (λ e. omega arith) ∙ same k low) (get_or-set_same routes n route [] within ∙ is)
@@ -31,20 +31,20 @@ no_stops [] [] none also = refl
 no_stops [] (y ∷ ys) none some = absurd (omega arith)
 no_stops (x ∷ xs) ys some none = absurd (omega arith)
 
--- routes behind the place that stayed, and are empty in both plans
+-- later routes are unchanged, and are empty in both plans
 pub same_all : (old routes plan : List (List ℕ)) (n front other : ℕ) → length routes ≡ length plan → length old ≡ length plan → SameBelow routes plan n
     → ((k : ℕ) → n ≤ k → get_or routes k [] ≡ get_or old k []) → ((v : ℕ) → n < v → v ≤ length old → (front < v) × (other < v))
-    → AreIdleBehind front old → AreIdleBehind other plan → routes ≡ plan
+    → AreIdleAfter front old → AreIdleAfter other plan → routes ≡ plan
 same_all old routes plan n front other long before same stays enough idle also = ext_get_or [] routes plan long
     (λ k low. elim (cases_lt k n) [
       | inl below ↦ same k below
       | inr above ↦ (
-          let behind = enough (k + 1) (omega arith) (omega arith) in
-          no_stops (get_or routes k []) (get_or plan k []) (ap length (stays k above) ∙ (sym (ap length (route_at old k)) ∙ idle (k + 1) behind.0))
-          (sym (ap length (route_at plan k)) ∙ also (k + 1) behind.1))
+          let following = enough (k + 1) (omega arith) (omega arith) in
+          no_stops (get_or routes k []) (get_or plan k []) (ap length (stays k above) ∙ (sym (ap length (route_at old k)) ∙ idle (k + 1) following.0))
+          (sym (ap length (route_at plan k)) ∙ also (k + 1) following.1))
     ])
 
--- what stays behind the next place
+-- the routes from the next index on are unchanged
 pub stays_more : (old routes : List (List ℕ)) (n : ℕ) → ((k : ℕ) → n ≤ k → get_or routes k [] ≡ get_or old k []) → (k : ℕ) → n + 1 ≤ k → get_or routes k [] ≡ get_or old k []
 stays_more old routes n stays k above = stays k (omega arith)
 

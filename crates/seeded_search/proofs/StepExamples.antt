@@ -1,4 +1,4 @@
--- A step of a search on a plan of four customers, computed.
+-- A step of a search, computed on a plan of four customers.
 use Rattle.std.proofs.Common.{◌≡◌, ℕ, pos, List, [], ◌∷◌, refl}
 use Rattle.plan_types.specs.Instance.{Instance}
 use Rattle.plan_types.specs.declared.requests.Stop.{Stop}
@@ -11,7 +11,7 @@ use Rattle.route_sched.specs.Schedule.{start, load, route_length}
 use Rattle.plan_audit.specs.Passes.{feasible_alone, passes}
 use Rattle.seeded_search.specs.ChaCha20.{quarter_round, quarter_round_at, inner_block, inner_blocks, add_states, chacha20_block, words_of_bytes}
 use Rattle.seeded_search.specs.Words.{block, word, step_words}
-use Rattle.seeded_search.specs.Steps.{candidate, Walked, step}
+use Rattle.seeded_search.specs.Steps.{candidate, SearchPlans, step}
 
 stop_at : ℕ → ℕ → ℕ → ℕ → Stop
 stop_at n x y q = record { number = n; x = pos x; y = pos y; demand = pos q; earliest = 0; latest = 100; service = 0 }
@@ -30,17 +30,18 @@ four_customers = record {
 no_pins : List (List ℕ)
 no_pins = [] ∷ [] ∷ [] ∷ [] ∷ []
 
-walked : List (List ℕ) → Walked
-walked routes = record { incumbent = routes; working = routes }
+search_plans : List (List ℕ) → SearchPlans
+search_plans routes = record { incumbent = routes; working = routes }
 
--- 2-opt* of the second and the third route, cut before their first and behind their first stop: the plan of 54 becomes one of 44
-first_step : step four_customers no_pins 0 0 0 (walked ((1 ∷ []) ∷ (2 ∷ 3 ∷ []) ∷ (4 ∷ []) ∷ [] ∷ [])) ≡ walked ((1 ∷ []) ∷ [] ∷ (4 ∷ 2 ∷ 3 ∷ []) ∷ [] ∷ [])
-unfolding stop_at four_customers no_pins walked step candidate step_words word block chacha20_block add_states inner_blocks inner_block
+-- 2-opt* of the second and the third route, cut before their first and after their first stop: the plan's cost
+-- falls from 54 to 44
+first_step : step four_customers no_pins 0 0 0 (search_plans ((1 ∷ []) ∷ (2 ∷ 3 ∷ []) ∷ (4 ∷ []) ∷ [] ∷ [])) ≡ search_plans ((1 ∷ []) ∷ [] ∷ (4 ∷ 2 ∷ 3 ∷ []) ∷ [] ∷ [])
+unfolding stop_at four_customers no_pins search_plans step candidate step_words word block chacha20_block add_states inner_blocks inner_block
     quarter_round_at quarter_round words_of_bytes passes feasible_alone start load route_length place distance nearest_root whole_root
 first_step = refl
 
 -- with two used vehicles the same words pick the second one twice, and nothing changes
-no_candidate : step four_customers no_pins 0 0 0 (walked ((1 ∷ []) ∷ [] ∷ (4 ∷ 2 ∷ 3 ∷ []) ∷ [] ∷ [])) ≡ walked ((1 ∷ []) ∷ [] ∷ (4 ∷ 2 ∷ 3 ∷ []) ∷ [] ∷ [])
-unfolding stop_at four_customers no_pins walked step candidate step_words word block chacha20_block add_states inner_blocks inner_block
+no_candidate : step four_customers no_pins 0 0 0 (search_plans ((1 ∷ []) ∷ [] ∷ (4 ∷ 2 ∷ 3 ∷ []) ∷ [] ∷ [])) ≡ search_plans ((1 ∷ []) ∷ [] ∷ (4 ∷ 2 ∷ 3 ∷ []) ∷ [] ∷ [])
+unfolding stop_at four_customers no_pins search_plans step candidate step_words word block chacha20_block add_states inner_blocks inner_block
     quarter_round_at quarter_round words_of_bytes passes feasible_alone start load route_length place distance nearest_root whole_root
 no_candidate = refl

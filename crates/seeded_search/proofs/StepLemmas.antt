@@ -1,4 +1,4 @@
--- What the generator gives before a step is the step's words.
+-- The generator's words before a step are the step's words.
 use Rattle.std.proofs.Common.{◌≡◌, ℕ, ◌+◌, ◌*◌, ◌/◌, ◌%◌, ◌<◌, ◌^◌, List, map, refl, sym, ap, ◌∙◌, length, get_or, arith}
 use Rattle.std.specs.Prelude.{slice_index}
 use Rattle.std.specs.List.{range_with_len}
@@ -11,7 +11,7 @@ use Rattle.seeded_search.specs.Words.{block, word, step_words}
 use Rattle.seeded_search.specs.Generator.{NextStep, before_step, next_step_of, IsBeforeStep, next_words}
 use Rattle.seeded_search.proofs.BlockLemmas.{length-block, word_same}
 
--- a list whose items are those of a function along n numbers
+-- a list whose items are those of a function at n consecutive numbers
 pub listed : (f : ℕ → ℕ) (a n : ℕ) (xs : List ℕ) → length xs ≡ n → ((k : ℕ) → k < n → get_or xs k 0 ≡ f (a + k)) → xs ≡ map f (range_with_len a n)
 listed f a n xs long h =
     ext_get_or 0 xs _ (long ∙ sym (length-map-range_with_len f a n)) (λ k lt. let below : k < n = omega arith in h k below ∙ sym (get_or-map-range_with_len f a n k (a + k) 0 below refl))
@@ -20,7 +20,7 @@ pub next_words_same : (s : NextStep) → next_words (before_step s) 16 ≡ step_
 unfolding next_words step_words
 next_words_same s = ap (λ (f : ℕ → ℕ). map f (range_with_len (16 * s.step) 16)) (λ i p. sym (word_same s.seed p) i)
 
--- the generator's key tells the seed
+-- the generator's key determines the seed
 step_there : (s : NextStep) → s.seed < 2 ^ 64 → next_step_of (before_step s) ≡ s
 unfolding u32_at
 step_there s h =

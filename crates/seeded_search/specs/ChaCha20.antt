@@ -1,5 +1,5 @@
--- ChaCha20's block function, line by line as RFC 8439 has it in sections 2.1 to 2.3. A word is a number below 2 ^ 32, a
--- state a list of sixteen words.
+-- ChaCha20's block function, line by line as in sections 2.1 to 2.3 of RFC 8439. A word is a number below 2 ^
+-- 32, a state a list of sixteen words.
 use Rattle.std.specs.Prelude.{ℕ, zero, suc, ◌+◌, ◌*◌, ◌%◌, ◌^◌, List, [], ◌∷◌, ◌++◌, bit_xor, slice_index, slice_set}
 use Rattle.std.specs.Int.{w32, rotate_left}
 
@@ -38,7 +38,7 @@ inner_block state =
     let state = quarter_round_at 2 7 8 13 state in
     quarter_round_at 3 4 9 14 state
 
--- n of them, one after another
+-- n inner blocks, one after another
 unfoldable pub inner_blocks : ℕ → List ℕ → List ℕ
 inner_blocks zero state = state
 inner_blocks (suc n) state = inner_block (inner_blocks n state)
@@ -52,8 +52,8 @@ add_states _ _ = []
 abbrev pub constants : List ℕ
 constants = 0x61707865 ∷ 0x3320646e ∷ 0x79622d32 ∷ 0x6b206574 ∷ []
 
--- `chacha20_block`: the block of a key of eight words, a counter of one and a nonce of three (2.3.1). The result is the
--- state; the RFC writes it as bytes, each word with its low byte first
+-- `chacha20_block`: the block of a key of eight words, a counter of one and a nonce of three (2.3.1). The result
+-- is the state; the RFC writes it as bytes, each word with its low byte first
 unfoldable pub chacha20_block : List ℕ → ℕ → List ℕ → List ℕ
 chacha20_block key counter nonce =
     let initial_state = constants ++ key ++ counter ∷ nonce in

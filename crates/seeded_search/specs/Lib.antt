@@ -1,12 +1,12 @@
--- what public contracts reach
+-- definitions that public contracts use
 pub mod ChaCha20
 pub mod Words
 pub mod Laws
 pub mod Steps
 pub mod StepLaws
--- of private functions alone
+-- definitions that only private contracts use
 pub mod Draws
 pub mod Generator
 pub mod Names
-pub mod Nearby
-pub mod Working
+pub mod SpatialIndex
+pub mod SearchStates

@@ -1,4 +1,4 @@
-//! What the words of a step draw.
+//! Draws from lists by the words of a step.
 ghost use Rattle.std.specs.Prelude.{◌≡◌, ◌+◌, ◌<◌, ◌^◌, IfOk, length};
 ghost use Rattle.seeded_search.specs.Words.{pick};
 ghost use Rattle.seeded_search.specs.Steps.{picked, drawn};
@@ -7,7 +7,7 @@ ghost use Rattle.seeded_search.specs.Draws.{index_of};
 use plan_types::OutOfMemory;
 use std::alloc::Global;
 
-/// Which of so many things the word picks, counted from 0, however many there are.
+/// Returns the index of the thing that the word picks, for any number of things.
 pub(crate) fn place(word: u32, things: usize) -> usize
     ensures value { result ≡ pick word things }
     ensures bound { 0 < things → result < things }
@@ -15,22 +15,23 @@ pub(crate) fn place(word: u32, things: usize) -> usize
     ((u128::from(word) * things as u128) >> 32) as usize
 }
 
-/// The one of the numbers that the word picks.
+/// Returns the number that the word picks from the list.
 pub(crate) fn picked(word: u32, numbers: &[u32]) -> Option<u32>
     ensures { result ≡ picked word numbers.now }
 {
     numbers.get(place(word, numbers.len())).copied()
 }
 
-/// The same of vehicles.
+/// Returns the vehicle that the word picks from the list.
 pub(crate) fn picked_vehicle(word: u32, vehicles: &[u64]) -> Option<u64>
     ensures { result ≡ picked word vehicles.now }
 {
     vehicles.get(place(word, vehicles.len())).copied()
 }
 
-/// What the words draw of these numbers, one after another and none twice; fewer where the numbers are fewer. The numbers may be many
-/// and the words are few, so the indices drawn are kept, and no copy of the numbers is made.
+/// Returns the numbers that the words draw, one after another and none twice. If there are more words than
+/// numbers, it returns all numbers. There may be many numbers but there are few words, so the indices drawn are
+/// kept instead of a copy of the numbers.
 pub(crate) fn drawn(alloc: Global, words: &[u32], numbers: &[u32]) -> Result<Vec<u32>, OutOfMemory>
     ensures { IfOk result (λ names. names.items ≡ drawn words.now numbers.now) }
 {
@@ -47,8 +48,8 @@ pub(crate) fn drawn(alloc: Global, words: &[u32], numbers: &[u32]) -> Result<Vec
     Ok(names)
 }
 
-// The index among all numbers of the one that has this index among those left. The indices drawn before are the newest first, each
-// among the numbers that were left then.
+// Converts an index among the remaining numbers to the index among all numbers. `taken` has the indices drawn
+// before, the newest first. Each is an index among the numbers that remained then.
 fn index_of(taken: &[usize], index: usize) -> usize
     requires { index + length taken.now < 2 ^ 64 }
     ensures { result ≡ index_of taken.now index }

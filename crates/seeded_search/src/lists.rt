@@ -1,4 +1,4 @@
-//! The lists that a step draws from: names of movable and of unplanned requests, and vehicles in use.
+//! The lists that a step draws from: the names of movable and of unplanned requests, and the used vehicles.
 ghost use Rattle.std.specs.Prelude.{◌≡◌, ◌≤◌, not, IfOk, OnOk, length, slice_get};
 ghost use Rattle.std.specs.Option.{option_and_then};
 ghost use Rattle.route_sched.specs.Cost.{is_planned};
@@ -6,34 +6,34 @@ ghost use Rattle.move_ops.specs.Moves.{is_movable};
 ghost use Rattle.move_ops.specs.Drafts.{draft_of, IsDraftOf};
 ghost use Rattle.seeded_search.specs.Names.{name_where};
 ghost use Rattle.seeded_search.specs.Steps.{movable_names, unplanned_names, used_vehicles};
-ghost use Rattle.seeded_search.specs.Working.{AreListsOf};
+ghost use Rattle.seeded_search.specs.SearchStates.{AreListsOf};
 
 use move_ops::Draft;
 use plan_types::{OutOfMemory, Pins, Problem};
 use std::alloc::Global;
 
-/// Names of requests, rising.
+/// Names of requests, in ascending order.
 #[derive(Debug, Drop)]
-pub struct Lists {
-    /// Those that are planned, and of which no stop is pinned.
+pub struct RequestLists {
+    /// The planned requests without a pinned stop.
     pub movable: Vec<u32>,
-    /// Those without a stop in any route.
+    /// The requests without a stop in any route.
     pub unplanned: Vec<u32>,
 }
 
-impl Lists {
-    /// The lists of a plan.
+impl RequestLists {
+    /// Builds the lists of a plan.
     pub fn build(
         alloc: Global,
         problem: &Problem,
         pins: &Pins,
         draft: &Draft,
-    ) -> Result<Lists, OutOfMemory>
+    ) -> Result<RequestLists, OutOfMemory>
         requires { IsDraftOf problem.now pins.now.routes draft.now }
         ensures { IfOk result (λ lists.
             AreListsOf problem.now pins.now.routes (draft_of draft.now) lists) }
     {
-        let mut lists = Lists {
+        let mut lists = RequestLists {
             movable: Vec::new(alloc),
             unplanned: Vec::new(alloc),
         };
@@ -41,7 +41,7 @@ impl Lists {
         Ok(lists)
     }
 
-    /// Lets them become the lists of a plan.
+    /// Refills the lists for a plan.
     pub fn fill(&mut self, problem: &Problem, pins: &Pins, draft: &Draft) -> Result<(), OutOfMemory>
         requires { IsDraftOf problem.now pins.now.routes draft.now }
         ensures { OnOk result (AreListsOf problem.now pins.now.routes
@@ -52,7 +52,7 @@ impl Lists {
     }
 }
 
-// The planned requests without a pinned stop.
+// Lists the planned requests without a pinned stop.
 fn list_movable(
     problem: &Problem,
     pins: &Pins,
@@ -72,7 +72,7 @@ fn list_movable(
     Ok(())
 }
 
-// The name of the request at this index, where it is one of those.
+// Returns the name of the request at this index if it is movable.
 fn movable_name(problem: &Problem, pins: &Pins, draft: &Draft, index: usize) -> Option<u32>
     requires { IsDraftOf problem.now pins.now.routes draft.now }
     ensures { result ≡ option_and_then
@@ -87,7 +87,7 @@ fn movable_name(problem: &Problem, pins: &Pins, draft: &Draft, index: usize) -> 
     }
 }
 
-// The requests without a stop in any route.
+// Lists the requests without a stop in any route.
 fn list_unplanned(problem: &Problem, draft: &Draft, names: &mut Vec<u32>) -> Result<(), OutOfMemory>
     ensures { OnOk result (names.new.items ≡ unplanned_names problem.now (draft_of draft.now)) }
 {
@@ -112,12 +112,12 @@ fn unplanned_name(problem: &Problem, draft: &Draft, index: usize) -> Option<u32>
     }
 }
 
-/// The vehicles whose routes are not empty, in order. Vehicles count from 1.
+/// Returns the vehicles whose routes are not empty, in ascending order. Vehicles count from 1.
 pub(crate) fn used_vehicles(alloc: Global, draft: &Draft) -> Result<Vec<u64>, OutOfMemory>
     ensures { IfOk result (λ used. used.items ≡ used_vehicles (draft_of draft.now)) }
 {
-    let mut used = Vec::with_capacity(alloc, draft.front() as usize)?;
-    for index in 0..draft.front() {
+    let mut used = Vec::with_capacity(alloc, draft.used_len() as usize)?;
+    for index in 0..draft.used_len() {
         let vehicle = index + 1;
         if !draft.route(vehicle).is_empty() {
             used.push(vehicle)?;

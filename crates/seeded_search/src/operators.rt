@@ -1,34 +1,34 @@
-//! The candidates that the words of a step make of a plan: the first word picks one of four operators.
+//! The candidates that a step's words make from a plan. The first word picks one of four operators.
 //!
-//! By the definition a request that is removed and has no insertion stays unplanned. Where one request alone
-//! is taken out, its old place is always one, so that a relocated request is put in again, and the plan costs
-//! no more (`relocated_never_cost_more`).
+//! By the definition, a removed request without an insertion stays unplanned. If only one request is removed,
+//! its old place is always an insertion. So a relocated request is inserted again, and the plan costs no more
+//! (`relocated_never_cost_more`).
 ghost use Rattle.std.specs.Prelude.{◌≡◌, ◌+◌, IfOk, OnOk, take, drop, slice_index};
 ghost use Rattle.seeded_search.specs.Words.{pick};
 ghost use Rattle.move_ops.specs.Drafts.{base_of, draft_of, IsDraftOf};
-ghost use Rattle.seeded_search.specs.Working.{AreListsOf, IsMadeIfNear};
+ghost use Rattle.seeded_search.specs.SearchStates.{AreListsOf, IsMadeIfNear};
 ghost use Rattle.seeded_search.specs.Steps.{candidate, drawn, movable_names, relocated, exchanged_by, crossed_by, cut_by, recreated_by};
 
+use crate::candidate_threshold::Threshold;
 use crate::draws::{drawn, picked, picked_vehicle, place};
-use crate::lists::{Lists, used_vehicles};
-use crate::near::Threshold;
+use crate::lists::{RequestLists, used_vehicles};
 use crate::pick;
-use crate::placing::place_all_near;
-use move_ops::{Draft, of_vehicle};
-use plan_audit::passes_are_local;
+use crate::placing::place_all_if_near;
+use move_ops::{Draft, route_of};
+use plan_audit::passing_is_local;
 use plan_types::{OutOfMemory, Pins, Problem};
 use std::alloc::Global;
 
-/// Makes of the draft what the words of a step make of it, if anything: a request is relocated, two are exchanged, two routes exchange
-/// their ends, or up to eight requests are removed and put in again. An exchange or a crossing that is seen to be far from the incumbent
-/// before it is judged is not made.
-#[tactic(auto, unfolding(crate::specs::Steps::candidate), using(crate::proofs::WalkLemmas::made_near))]
+/// Turns the draft into the candidate of a step's words, if there is one: one request is relocated, two are
+/// exchanged, two routes exchange their ends, or up to eight requests are removed and inserted again. A
+/// candidate that is known to be far from the incumbent is not made. Returns whether the draft is the candidate.
+#[tactic(auto, unfolding(crate::specs::Steps::candidate), using(crate::proofs::SearchLemmas::made_near))]
 pub(crate) fn make(
     alloc: Global,
     problem: &Problem,
     pins: &Pins,
     draft: &mut Draft,
-    lists: &Lists,
+    lists: &RequestLists,
     words: &[u32; 16],
     near: &Threshold,
 ) -> Result<bool, OutOfMemory>
@@ -50,8 +50,8 @@ pub(crate) fn make(
     }
 }
 
-// A request is removed, and put in again where it is best, unless the draft is far from the incumbent then.
-#[tactic(auto, using(crate::proofs::WalkLemmas::made_near))]
+// Removes a request and inserts it at its best place, unless the draft is then far from the incumbent.
+#[tactic(auto, using(crate::proofs::SearchLemmas::made_near))]
 fn relocate(
     problem: &Problem,
     pins: &Pins,
@@ -77,11 +77,11 @@ fn relocate(
     if !draft.remove(problem, pins, &[name])? {
         return Ok(false);
     }
-    place_all_near(problem, pins, draft, &[name], near)
+    place_all_if_near(problem, pins, draft, &[name], near)
 }
 
-// Two requests take one another's places, unless the draft is seen to be far from the incumbent then.
-#[tactic(auto, using(crate::proofs::WalkLemmas::made_near, crate::proofs::WalkLemmas::foreseen_far))]
+// Exchanges two requests, unless the draft is known to be far from the incumbent then.
+#[tactic(auto, using(crate::proofs::SearchLemmas::made_near, crate::proofs::SearchLemmas::foreseen_far))]
 fn exchange(
     problem: &Problem,
     pins: &Pins,
@@ -106,14 +106,14 @@ fn exchange(
     let Some(b) = picked(words[2], movable) else {
         return Ok(false);
     };
-    if near.is_far(draft.cost_exchanged(problem, pins, a, b)) {
+    if near.is_far(draft.exchange_cost(problem, pins, a, b)) {
         return Ok(false);
     }
     draft.exchange(problem, pins, a, b)
 }
 
-// Two routes exchange what stands behind their cuts, unless the draft is seen to be far from the incumbent then.
-#[tactic(auto, using(crate::proofs::WalkLemmas::made_near, crate::proofs::WalkLemmas::foreseen_far))]
+// Exchanges the ends of two routes, unless the draft is known to be far from the incumbent then.
+#[tactic(auto, using(crate::proofs::SearchLemmas::made_near, crate::proofs::SearchLemmas::foreseen_far))]
 fn cross(
     alloc: Global,
     problem: &Problem,
@@ -130,7 +130,7 @@ fn cross(
         (crossed_by problem.now pins.now.routes (draft_of draft.old) words.now) made
         draft.old draft.new) }
 {
-    passes_are_local();
+    passing_is_local();
     let used = used_vehicles(alloc, draft)?;
     let Some(a) = picked_vehicle(words[1], &used) else {
         return Ok(false);
@@ -140,30 +140,30 @@ fn cross(
     };
     let a_cut = cut(pins, draft, a, words[3]);
     let b_cut = cut(pins, draft, b, words[4]);
-    if near.is_far(draft.cost_crossed(problem, pins, a, a_cut, b, b_cut)) {
+    if near.is_far(draft.cross_cost(problem, pins, a, a_cut, b, b_cut)) {
         return Ok(false);
     }
     draft.cross(problem, pins, a, a_cut, b, b_cut)
 }
 
-// Behind how many stops the word cuts the route of a vehicle; never within its pin.
+// Returns after how many stops the word cuts the route of a vehicle; never within its pin.
 fn cut(pins: &Pins, draft: &Draft, vehicle: u64, word: u32) -> u64
     ensures { result ≡ cut_by pins.now.routes (draft_of draft.now) vehicle word }
 {
-    let kept = of_vehicle(pins.routes.as_slice(), vehicle).len();
+    let kept = route_of(pins.routes.as_slice(), vehicle).len();
     let free = draft.route(vehicle).len().saturating_sub(kept);
     (kept + place(word, free + 1)) as u64
 }
 
-// Requests are removed, and each of them, and then each that was unplanned before, is put in again where it is best, unless the draft is
-// far from the incumbent then.
-#[tactic(auto, using(crate::proofs::WalkLemmas::made_near))]
+// Removes requests, then inserts each of them and each that was unplanned before at its best place, unless the
+// draft is far from the incumbent then.
+#[tactic(auto, using(crate::proofs::SearchLemmas::made_near))]
 fn recreate(
     alloc: Global,
     problem: &Problem,
     pins: &Pins,
     draft: &mut Draft,
-    lists: &Lists,
+    lists: &RequestLists,
     words: &[u32; 16],
     near: &Threshold,
 ) -> Result<bool, OutOfMemory>
@@ -185,10 +185,10 @@ fn recreate(
         return Ok(false);
     }
     names.extend_from_slice(&lists.unplanned)?;
-    place_all_near(problem, pins, draft, &names, near)
+    place_all_if_near(problem, pins, draft, &names, near)
 }
 
-// The requests that are removed, one to eight, in the order drawn.
+// Returns the names of the requests to remove, one to eight, in the order drawn.
 fn ruined_names(alloc: Global, movable: &[u32], words: &[u32; 16]) -> Result<Vec<u32>, OutOfMemory>
     ensures { IfOk result (λ names. names.items
         ≡ drawn (take (1 + pick (slice_index words.now 1) 8) (drop 2 words.now)) movable.now) }

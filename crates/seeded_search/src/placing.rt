@@ -1,20 +1,24 @@
-//! Requests put into a draft, one after another, each where it is best then.
+//! Requests inserted into a draft one after another, each at its best place at that time.
 //!
-//! Where the draft has to be near a plan, it is given up as soon as it can't come to be so: it leaves too many out, it uses too many
-//! vehicles, or it drives too far. A request that is put in takes one from those left out at most, no vehicle, and 1 of the distance for
-//! each of its stops (`placements_save_little`). So where one more left out is one too many, the next request has to add less than a
-//! bound, by which most routes are passed over.
+//! If the draft has to be near a plan, inserting stops as soon as that is impossible: the draft leaves too many
+//! requests unplanned, uses too many vehicles, or has too long a distance.
+//!
+//! An inserted request lowers the number of unplanned requests by at most one, the number of vehicles not at
+//! all, and the distance by at most 1 for each of its stops (`placements_save_little`). So if one more
+//! unplanned request would be too many, the next request has to add less than a bound, and this bound rules out
+//! most routes.
 ghost use Rattle.std.specs.Prelude.{◌≡◌, sum_by, IfOk, OnOk};
 ghost use Rattle.move_ops.specs.Drafts.{base_of, draft_of, IsDraftOf};
-ghost use Rattle.move_ops.specs.Savings.{most_saved as most_saved_of};
+ghost use Rattle.move_ops.specs.Savings.{max_saving as max_saving_of};
 ghost use Rattle.seeded_search.specs.Steps.{placed_all};
-ghost use Rattle.seeded_search.specs.Working.{AreAllPlacedOrFar, IsPlacedOrFar};
+ghost use Rattle.seeded_search.specs.SearchStates.{AreAllPlacedOrFar, IsPlacedOrFar};
 
-use crate::near::{Outlook, Threshold};
-use move_ops::{Draft, most_saved, placements_save_little};
+use crate::candidate_threshold::{Outlook, Threshold};
+use move_ops::{Draft, max_saving, placements_save_little};
 use plan_types::{OutOfMemory, Pins, Problem};
 
-/// Puts the requests in, one after another, each where it is best then; a request without a place stays unplanned.
+/// Inserts the requests one after another, each at its best place at that time. A request without a place stays
+/// unplanned.
 pub fn place_all(
     problem: &Problem,
     pins: &Pins,
@@ -33,9 +37,9 @@ pub fn place_all(
     Ok(())
 }
 
-/// The same where the draft has to be near a plan: as soon as it is seen that it is not near with all of them, it is dropped. Answers
-/// whether all were put in.
-pub fn place_all_near(
+/// Like `place_all`, but discards the draft as soon as it is known not to be near a plan with all of the
+/// requests. Returns whether all were inserted.
+pub fn place_all_if_near(
     problem: &Problem,
     pins: &Pins,
     draft: &mut Draft,
@@ -50,39 +54,40 @@ pub fn place_all_near(
         names.now made draft.old draft.new) }
 {
     placements_save_little();
-    let mut behind = names.len() as u64;
-    let mut rest = saved_by_all(problem, names);
+    let mut following = names.len() as u64;
+    let mut rest = total_saving(problem, names);
     for name in names {
-        behind -= 1;
-        rest -= u128::from(most_saved(problem, *name));
-        if !place_near(problem, pins, draft, *name, near, behind, rest)? {
-            draft.drop_draft();
+        following -= 1;
+        rest -= u128::from(max_saving(problem, *name));
+        if !place_if_near(problem, pins, draft, *name, near, following, rest)? {
+            draft.discard();
             return Ok(false);
         }
     }
     Ok(true)
 }
 
-// Puts a request in where it is best, unless the draft is far then, whatever becomes of so many `behind` it, which save `rest` at most.
-fn place_near(
+// Inserts a request at its best place, unless the draft is then far, wherever the `following` requests after it are
+// inserted, which save at most `rest`.
+fn place_if_near(
     problem: &Problem,
     pins: &Pins,
     draft: &mut Draft,
     name: u32,
     near: &Threshold,
-    behind: u64,
+    following: u64,
     rest: u128,
 ) -> Result<bool, OutOfMemory>
     requires { IsDraftOf problem.now pins.now.routes draft.old }
     ensures is { OnOk result (IsDraftOf problem.now pins.now.routes draft.new) }
     ensures base { OnOk result (base_of draft.new ≡ base_of draft.old) }
     ensures made { IfOk result (λ made.
-        IsPlacedOrFar problem.now pins.now.routes near.now.deviation near.now.best.now name behind
+        IsPlacedOrFar problem.now pins.now.routes near.now.deviation near.now.best.now name following
         rest made (draft_of draft.old) (draft_of draft.new)) }
 {
     placements_save_little();
     let cost = draft.cost(problem, pins);
-    match near.outlook(&cost, behind, rest) {
+    match near.outlook(&cost, following, rest) {
         Outlook::Far => Ok(false),
         Outlook::Open => {
             draft.place(problem, pins, name)?;
@@ -92,13 +97,13 @@ fn place_near(
     }
 }
 
-// What these requests save of the distance at most.
-fn saved_by_all(problem: &Problem, names: &[u32]) -> u128
-    ensures { result ≡ sum_by (most_saved_of problem.now) names.now }
+// Returns the greatest distance that these requests can save.
+fn total_saving(problem: &Problem, names: &[u32]) -> u128
+    ensures { result ≡ sum_by (max_saving_of problem.now) names.now }
 {
     let mut saved = 0;
     for name in names {
-        saved += u128::from(most_saved(problem, *name));
+        saved += u128::from(max_saving(problem, *name));
     }
     saved
 }

@@ -1,28 +1,32 @@
-//! One step of a search, and many: the words of each step in turn, and the walk.
+//! One step of a search, and many: each step takes its words and changes the search state.
 ghost use Rattle.std.specs.Prelude.{◌≡◌, ◌+◌, ◌<◌, ◌≤◌, ◌^◌, true, IfOk};
 ghost use Rattle.plan_audit.specs.Passes.{passes};
-ghost use Rattle.seeded_search.specs.Steps.{walked, step as one_step, steps};
+ghost use Rattle.seeded_search.specs.Steps.{search_plans, step as one_step, steps};
 ghost use Rattle.seeded_search.specs.StepLaws.{BothPass};
-ghost use Rattle.seeded_search.specs.Working.{IsWalk, walked_by};
+ghost use Rattle.seeded_search.specs.SearchStates.{IsSearchState, search_plans_of};
 
+use crate::search_state::SearchState;
 use crate::stream::StepWords;
-use crate::walk::Walk;
 use plan_types::{OutOfMemory, Pins, Plan, Problem};
 use std::alloc::Global;
 
-/// What a search has found.
+/// The result of a search.
 #[derive(Debug, Drop)]
 pub struct Found {
     /// The incumbent: the best plan so far.
     pub plan: Plan,
-    /// The plan that the search walks on from.
+    /// The working plan, from which the search continues.
     pub work: Plan,
 }
 
-/// One step of a search, from an incumbent and a working plan. The words of the step make a candidate of the working plan. It becomes
-/// the working plan where it leaves fewer requests out than the incumbent, or as many and uses fewer vehicles, or as many of both and
-/// drives at most `deviation` more, in the unit of distance. It becomes the incumbent too where it costs no more. Without a candidate
-/// nothing changes. Both plans pass with these pins; steps count from 0 and are below 2^60. This is record-to-record travel (Dueck 1993).
+/// Makes one step of a search, from an incumbent and a working plan: record-to-record travel (Dueck 1993). The
+/// words of the step make a candidate from the working plan.
+///
+/// The candidate becomes the working plan if it leaves fewer requests unplanned than the incumbent; or as many,
+/// and uses fewer vehicles; or as many of both, and its distance is at most `deviation` greater. It also becomes
+/// the incumbent if it costs no more. Without a candidate nothing changes.
+///
+/// Both plans must pass with these pins. Steps count from 0 and are below 2^60.
 pub fn search_step(
     alloc: Global,
     problem: &Problem,
@@ -36,17 +40,18 @@ pub fn search_step(
     requires plan { passes problem.now pins.now.routes plan.now.routes ≡ true }
     requires work { passes problem.now pins.now.routes work.now.routes ≡ true }
     requires step { step < 2 ^ 60 }
-    ensures found { IfOk result (λ found. walked found.plan.routes found.work.routes
+    ensures found { IfOk result (λ found. search_plans found.plan.routes found.work.routes
         ≡ one_step problem.now pins.now.routes deviation seed step
-        (walked plan.now.routes work.now.routes)) }
+        (search_plans plan.now.routes work.now.routes)) }
     ensures passing { IfOk result
         (λ found. BothPass problem.now pins.now.routes
-        (walked found.plan.routes found.work.routes)) }
+        (search_plans found.plan.routes found.work.routes)) }
 {
     search_steps(alloc, problem, pins, plan, work, deviation, seed, step, 1)
 }
 
-/// `count` steps of a search, one after another, from step number `step` on, each as `search_step` makes it; the last is below 2^60.
+/// Makes `count` steps of a search, from step number `step` on, each as `search_step` makes it. The number of
+/// the last step is below 2^60.
 pub fn search_steps(
     alloc: Global,
     problem: &Problem,
@@ -62,40 +67,51 @@ pub fn search_steps(
     requires work { passes problem.now pins.now.routes work.now.routes ≡ true }
     requires first { step < 2 ^ 60 }
     requires last { step + count ≤ 2 ^ 60 }
-    ensures found { IfOk result (λ found. walked found.plan.routes found.work.routes
+    ensures found { IfOk result (λ found. search_plans found.plan.routes found.work.routes
         ≡ steps problem.now pins.now.routes deviation seed step count
-        (walked plan.now.routes work.now.routes)) }
+        (search_plans plan.now.routes work.now.routes)) }
     ensures passing { IfOk result
         (λ found. BothPass problem.now pins.now.routes
-        (walked found.plan.routes found.work.routes)) }
+        (search_plans found.plan.routes found.work.routes)) }
 {
-    let walk = Walk::begin(alloc, problem, pins, plan, work)?;
-    walk_on(alloc, problem, pins, walk, deviation, seed, step, count)?.end(alloc)
+    let search_state = SearchState::begin(alloc, problem, pins, plan, work)?;
+    continue_search(
+        alloc,
+        problem,
+        pins,
+        search_state,
+        deviation,
+        seed,
+        step,
+        count,
+    )?
+    .end(alloc)
 }
 
-/// So many steps of a walk that goes on, from step number `step` on. It is lost where memory is refused.
+/// Makes `count` steps from a search state, from step number `step` on. If an allocation fails, the state is
+/// lost.
 #[tactic(auto, unfolding(crate::specs::Steps::step, crate::specs::Steps::steps))]
-pub fn walk_on(
+pub fn continue_search(
     alloc: Global,
     problem: &Problem,
     pins: &Pins,
-    walk: Walk,
+    search_state: SearchState,
     deviation: u32,
     seed: u64,
     step: u64,
     count: u64,
-) -> Result<Walk, OutOfMemory>
-    requires walk { IsWalk problem.now pins.now.routes walk }
+) -> Result<SearchState, OutOfMemory>
+    requires search_state { IsSearchState problem.now pins.now.routes search_state }
     requires first { step < 2 ^ 60 }
     requires last { step + count ≤ 2 ^ 60 }
-    ensures walked { IfOk result (λ on. walked_by on
-        ≡ steps problem.now pins.now.routes deviation seed step count (walked_by walk)) }
-    ensures walk { IfOk result (λ on. IsWalk problem.now pins.now.routes on) }
+    ensures search_plans { IfOk result (λ on. search_plans_of on
+        ≡ steps problem.now pins.now.routes deviation seed step count (search_plans_of search_state)) }
+    ensures search_state { IfOk result (λ on. IsSearchState problem.now pins.now.routes on) }
 {
-    let mut walk = walk;
+    let mut search_state = search_state;
     let mut words = StepWords::from_step(seed, step);
     for done in 0..count {
-        walk.step(alloc, problem, pins, deviation, &words.next_step())?;
+        search_state.step(alloc, problem, pins, deviation, &words.next_step())?;
     }
-    Ok(walk)
+    Ok(search_state)
 }

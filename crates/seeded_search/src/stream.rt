@@ -1,8 +1,8 @@
 //! The words of a search's steps: the key stream of ChaCha20 (RFC 8439) under the seed.
 //!
-//! The definition follows the RFC line by line, and is not that of `rand_chacha`; that both give the same
-//! word at each place is proved. The RFC's counter has 32 bits and a block's number 64: its high half stands
-//! in the nonce's first word. Words come from `next_word`, whose contract says where the generator stands
+//! The definition follows the RFC line by line and is independent of `rand_chacha`. It is proved that both have
+//! the same word at each place. The RFC's counter has 32 bits and a block's number has 64: the high half is in
+//! the nonce's first word. The words come from `next_word`, whose contract says where the generator is
 //! afterwards.
 ghost use Rattle.std.specs.Prelude.{◌≡◌, ◌+◌, ◌*◌, ◌<◌, ◌^◌};
 ghost use Rattle.rand_chacha.specs.ChaCha.{ChaCha};
@@ -14,8 +14,8 @@ use rand_core::SeedableRng;
 use rand_core::utils::NextWord;
 use std::marker::Model;
 
-/// The words of search steps, one step after another. It is kept for a run of steps, since the generator
-/// makes four blocks at once, of which a jump to another step would leave three unused.
+/// The words of search steps, one step after another. A run of steps keeps one `StepWords`, since the generator
+/// makes four blocks at a time, and a jump to another step would waste three of them.
 #[derive(Drop)]
 pub struct StepWords {
     rng: ChaCha20Rng,
@@ -30,7 +30,7 @@ impl Model for StepWords {
 }
 
 impl StepWords {
-    /// The words of the steps from `step` on.
+    /// Returns the words of the steps from `step` on.
     pub fn from_step(seed: u64, step: u64) -> Self
         requires { step < 2 ^ 60 }
         ensures { result ≡ record { seed = seed; step = step } }
@@ -40,7 +40,7 @@ impl StepWords {
         }
     }
 
-    /// The words of the next step.
+    /// Returns the words of the next step.
     pub fn next_step(&mut self) -> [u32; 16]
         requires { self.old.step < 2 ^ 60 }
         ensures words { result ≡ step_words self.old.seed self.old.step }
@@ -50,10 +50,10 @@ impl StepWords {
     }
 }
 
-/// The sixteen words of a step of a search: words `16 * step` to `16 * step + 15` of ChaCha20's key
-/// stream (RFC 8439), whose key is the seed in 8 bytes, the low byte first, and 24 zero bytes. The last
-/// four words of the block function's state are the low and the high half of the block's number, 0 and 0. For one who asks for a single
-/// step: searches take their words from a `StepWords`.
+/// Returns the sixteen words of a search step: words `16 * step` to `16 * step + 15` of ChaCha20's key stream
+/// (RFC 8439). The key is the seed in 8 bytes, the low byte first, and 24 zero bytes. The last four words of the
+/// block function's state are the low and the high half of the block's number, 0 and 0. Use this for a single
+/// step; a search takes its words from a `StepWords`.
 pub fn words(seed: u64, step: u64) -> [u32; 16]
     requires { step < 2 ^ 60 }
     ensures { result ≡ step_words seed step }
@@ -61,7 +61,7 @@ pub fn words(seed: u64, step: u64) -> [u32; 16]
     StepWords::from_step(seed, step).next_step()
 }
 
-// The generator of a seed, before the words of a step.
+// Returns the generator of a seed before the words of a step.
 fn generator(seed: u64, step: u64) -> ChaCha20Rng
     requires { step < 2 ^ 60 }
     ensures { result ≡ before_step (record { seed = seed; step = step }) }
@@ -71,7 +71,7 @@ fn generator(seed: u64, step: u64) -> ChaCha20Rng
     rng
 }
 
-// The key of a seed.
+// Returns the key of a seed.
 fn key(seed: u64) -> [u8; 32]
     ensures { result ≡ key_bytes seed }
 {
@@ -80,7 +80,7 @@ fn key(seed: u64) -> [u8; 32]
     key
 }
 
-// The next sixteen words of a generator.
+// Returns the next sixteen words of a generator.
 fn sixteen_words(rng: &mut ChaCha20Rng) -> [u32; 16]
     requires { rng.old.word_pos + 16 < 2 ^ 68 }
     ensures words { result ≡ next_words rng.old 16 }

@@ -1,5 +1,5 @@
--- Starts, loads and lengths along stops that are given by place: from one place to the next, and where two routes have the same
--- stops from some place on.
+-- Starts, loads and lengths along stops given by place: from one place to the next, and for two routes with the
+-- same stops from some place on.
 use Rattle.std.proofs.Common.{◌≡◌, ℕ, zero, suc, ◌+◌, ◌≤◌, max, false, cond, eqb, ℤ, pos, ◌+ℤ◌, map, fold, refl, sym, ap, ◌∙◌, arith, add-one, subst}
 use Rattle.std.specs.List.{range_with_len}
 use Rattle.std.proofs.lemmas.Bool.{ne_eqb, eq-eqb}
@@ -59,8 +59,8 @@ module _ (a b : ℕ → Stop) (n : ℕ) (same : (k : ℕ) → k ≤ n → b k �
   same-length zero h = rw (length-first b, length-first a) refl
   same-length (suc k) h = rw (← add-one k, length-next b k, length-next a k, same-length k (omega arith), same k (omega arith), same (k + 1) (omega arith)) refl
 
--- ---- two routes that have the same stops from places m and s on: The splice. What is behind depends on the start, the load and
--- the length at the place where they join, and on nothing else.
+-- ---- two routes with the same stops from places m and s on: the splice. All later values depend only on the
+-- start, the load and the length at the place where they join.
 module _ (a b : ℕ → Stop) (m s : ℕ) (same : (k : ℕ) → b (s + k) ≡ a (m + k)) where
   pub spliced-start : (k : ℕ) → start_along b (s + k) ≡ moved_along a m (start_along b s) (m + k)
   spliced-start zero =

@@ -1,4 +1,4 @@
--- What `start`, `load` and the like say of a route is what is said of its stops by place.
+-- The `start`, `load` and the like of a route are those of its stops by place.
 use Rattle.std.proofs.Common.{◌≡◌, ℕ, zero, suc, ◌+◌, ◌<◌, ◌≤◌, ◌⊎◌, pos, ◌≤ℤ◌, List, length, refl, sym, ap, ◌∙◌, arith, subst, inl, inr}
 use Rattle.std.proofs.Math.ListN.{get_or-map, length-map}
 use Rattle.std.proofs.lemmas.Bool.{cases_lt}
@@ -8,13 +8,13 @@ use Rattle.plan_types.specs.declared.requests.Kind.TheVariants.{LiLim}
 use Rattle.route_sched.specs.Route.{place, stop_numbered}
 use Rattle.route_sched.specs.Schedule.{start, load, route_length}
 use Rattle.route_sched.specs.Chain.{sum_between, chain}
-use Rattle.route_sched.proofs.LiveStops.{place-return}
+use Rattle.route_sched.proofs.KnownStops.{place-return}
 use Rattle.route_sched.proofs.Steps.{start-chain}
 use Rattle.slack_tables.specs.Course.{Course, course_of}
 use Rattle.slack_tables.specs.Along.{stop_on, start_along, moved_along, load_along, length_along}
 use Rattle.slack_tables.specs.Insertion.{KeepsLimits}
 use Rattle.slack_tables.specs.Latest.{moved_start}
-use Rattle.slack_tables.specs.Inside.{IsInLimits}
+use Rattle.slack_tables.specs.TableFields.{IsInLimits}
 use Rattle.slack_tables.proofs.AlongLemmas.{load-first, load-next}
 
 -- ---- by place

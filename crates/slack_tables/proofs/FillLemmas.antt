@@ -2,10 +2,10 @@
 use Rattle.std.proofs.Common.{◌≡◌, ℕ, ◌+◌, ◌-◌, ◌≤◌, ◌<◌, List, get_or, length}
 use Rattle.plan_types.specs.declared.requests.Kind.{Kind}
 use Rattle.plan_types.specs.declared.requests.Kind.TheVariants.{LiLim}
-use Rattle.slack_tables.specs.Filled.{row_before}
+use Rattle.slack_tables.specs.BackwardPass.{row_before}
 use Rattle.slack_tables.specs.declared.progress.PlaceSlack.{PlaceSlack}
 
--- the places from k on are filled, those before are as they were
+-- the places from k on are filled, and those before are unchanged
 pub record IsFilledFrom (kind : Kind) (old new : List PlaceSlack) (k : ℕ) : Type 0 where
   pub within : k + 1 ≤ length old
   pub long : length new ≡ length old

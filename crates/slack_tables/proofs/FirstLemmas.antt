@@ -1,12 +1,12 @@
--- The first of many by distance, found one key after another.
+-- The first of many insertions by distance, found one key after another.
 use Rattle.std.proofs.Common.{◌≡◌, ℕ, ◌+◌, ◌<◌, ◌≤◌, ◌⊎◌, ℤ, ◌≤ℤ◌, ◌<ℤ◌, int_lt, true, false, T, Option, Some, None, refl, sym, ap, ◌∙◌, arith, subst, inl, inr}
 use Rattle.std.specs.Prelude.{MatchOption}
 use Rattle.std.proofs.lemmas.Bool.{cases_lt, cond_both}
 use Rattle.std.proofs.lemmas.Option.{none-some, same_Some}
 use Rattle.std.proofs.lemmas.Int.{ints, by_lt_z}
 use Rattle.slack_tables.specs.Best.{ComesFirst, IsFirstOf}
-use Rattle.slack_tables.specs.Scan.{Under, offered}
-use Rattle.slack_tables.specs.declared.scan.Addition.{Addition}
+use Rattle.slack_tables.specs.Scan.{CostsLess, offered}
+use Rattle.slack_tables.specs.declared.scan.PricedInsertion.{PricedInsertion}
 use Rattle.slack_tables.specs.declared.scan.Best.{Best}
 
 pub int_lt-true : (x y : ℤ) → int_lt x y ≡ true → x <ℤ y
@@ -15,57 +15,57 @@ int_lt-true x y h = record { lt = subst T (sym h) tt }
 int_lt-false : (x y : ℤ) → int_lt x y ≡ false → x <ℤ y → ⊥
 int_lt-false x y h less = subst T h (less.lt)
 
-pub first-less : (a b : Addition) → a.distance <ℤ b.distance → ComesFirst a b
+pub first-less : (a b : PricedInsertion) → a.distance <ℤ b.distance → ComesFirst a b
 first-less a b less = record {
   distance = omega (arith, ints);
   pickup = λ same. absurd (omega (arith, ints));
   delivery = λ same _. absurd (omega (arith, ints));
 }
 
-pub first-pickup : (a b : Addition) → a.distance ≤ℤ b.distance → a.pickup < b.pickup → ComesFirst a b
+pub first-pickup : (a b : PricedInsertion) → a.distance ≤ℤ b.distance → a.pickup < b.pickup → ComesFirst a b
 first-pickup a b le before = record { distance = le; pickup = λ _. omega arith; delivery = λ _ same. absurd (omega arith) }
 
-pub first-delivery : (a b : Addition) → a.distance ≤ℤ b.distance → a.pickup ≡ b.pickup → a.delivery ≤ b.delivery → ComesFirst a b
+pub first-delivery : (a b : PricedInsertion) → a.distance ≤ℤ b.distance → a.pickup ≡ b.pickup → a.delivery ≤ b.delivery → ComesFirst a b
 first-delivery a b le same before = record { distance = le; pickup = λ _. omega arith; delivery = λ _ _. before }
 
-module _ (Is : Addition → Type 0) (key : Addition → ℕ)
-    (order : (a b : Addition) → Is a → Is b → a.distance ≤ℤ b.distance → key a < key b → ComesFirst a b) where
-  -- the first of those whose key is below n, and the distance that the next ones have to be under
-  unfoldable pub SoFar : ℤ → ℕ → ℤ → Option Addition → Type 0
+module _ (Is : PricedInsertion → Type 0) (key : PricedInsertion → ℕ)
+    (order : (a b : PricedInsertion) → Is a → Is b → a.distance ≤ℤ b.distance → key a < key b → ComesFirst a b) where
+  -- the first insertion with a key below n, and the distance that the next ones must be below
+  unfoldable pub SoFar : ℤ → ℕ → ℤ → Option PricedInsertion → Type 0
   SoFar below n bound best =
-      MatchOption best ((bound ≡ below) × ((a : Addition) → Is a → key a < n → a.distance <ℤ below → ⊥))
+      MatchOption best ((bound ≡ below) × ((a : PricedInsertion) → Is a → key a < n → a.distance <ℤ below → ⊥))
       (λ b. (bound ≡ b.distance) × Is b × (key b < n) × (b.distance <ℤ below)
-      × ((a : Addition) → Is a → key a < n → a.distance <ℤ below → ComesFirst b a))
+      × ((a : PricedInsertion) → Is a → key a < n → a.distance <ℤ below → ComesFirst b a))
 
-  pub none-yet : (below : ℤ) (n : ℕ) → ((a : Addition) → Is a → key a < n → ⊥) → SoFar below n below None
+  pub none-yet : (below : ℤ) (n : ℕ) → ((a : PricedInsertion) → Is a → key a < n → ⊥) → SoFar below n below None
   unfolding SoFar
   none-yet below n never = (refl, λ a is lt _. never a is lt)
 
-  at : (n : ℕ) (a : Addition) → n ≤ key a → key a < n + 1 → key a ≡ n
+  at : (n : ℕ) (a : PricedInsertion) → n ≤ key a → key a < n + 1 → key a ≡ n
   at n a h l = omega arith
 
-  pub none-here : (below bound : ℤ) (n : ℕ) (best : Option Addition) → SoFar below n bound best
-      → ((a : Addition) → Is a → key a ≡ n → a.distance <ℤ bound → ⊥) → SoFar below (n + 1) bound best
+  pub none-here : (below bound : ℤ) (n : ℕ) (best : Option PricedInsertion) → SoFar below n bound best
+      → ((a : PricedInsertion) → Is a → key a ≡ n → a.distance <ℤ bound → ⊥) → SoFar below (n + 1) bound best
   unfolding SoFar
   none-here below bound n None so never = (so.0, λ a is lt under. by a is lt under (cases_lt (key a) n))
     where
-      by : (a : Addition) → Is a → key a < n + 1 → a.distance <ℤ below → (key a < n) ⊎ (n ≤ key a) → ⊥
+      by : (a : PricedInsertion) → Is a → key a < n + 1 → a.distance <ℤ below → (key a < n) ⊎ (n ≤ key a) → ⊥
       by a is lt under (inl before) = so.1 a is before under
       by a is lt under (inr here) = never a is (at n a here lt) (subst (λ x. a.distance <ℤ x) (sym so.0) under)
   none-here below bound n (Some b) so never = (so.0, so.1, let lt = so.2 in omega arith, so.3, λ a is lt under. by a is lt under (cases_lt (key a) n))
     where
-      by : (a : Addition) → Is a → key a < n + 1 → a.distance <ℤ below → (key a < n) ⊎ (n ≤ key a) → ComesFirst b a
+      by : (a : PricedInsertion) → Is a → key a < n + 1 → a.distance <ℤ below → (key a < n) ⊎ (n ≤ key a) → ComesFirst b a
       by a is lt under (inl before) = so.4 a is before under
       by a is lt under (inr here) =
           by_lt_z {P = ComesFirst b a} a.distance bound (λ less. absurd (never a is (at n a here lt) less))
           (λ le. let lt = so.2 in order b a so.1 is (subst (λ x. x ≤ℤ a.distance) so.0 le) (omega arith))
 
-  under-all : (below bound : ℤ) (n : ℕ) (best : Option Addition) (x : ℤ) → SoFar below n bound best → x <ℤ bound → x <ℤ below
+  under-all : (below bound : ℤ) (n : ℕ) (best : Option PricedInsertion) (x : ℤ) → SoFar below n bound best → x <ℤ bound → x <ℤ below
   unfolding SoFar
   under-all below bound n None x so less = subst (λ y. x <ℤ y) so.0 less
   under-all below bound n (Some b) x so less = let same = so.0 in let under = so.3 in omega (arith, ints)
 
-  before-first : (below bound : ℤ) (n : ℕ) (best : Option Addition) (found a : Addition) → SoFar below n bound best
+  before-first : (below bound : ℤ) (n : ℕ) (best : Option PricedInsertion) (found a : PricedInsertion) → SoFar below n bound best
       → found.distance <ℤ bound → Is a → key a < n → a.distance <ℤ below → ComesFirst found a
   unfolding SoFar
   before-first below bound n None found a so less is lt under = absurd (so.1 a is lt under)
@@ -73,48 +73,48 @@ module _ (Is : Addition → Type 0) (key : Addition → ℕ)
       let first = so.4 a is lt under in
       first-less found a (omega (arith, ints))
 
-  pub better-here : (below bound : ℤ) (n : ℕ) (best : Option Addition) (found : Addition) → SoFar below n bound best → Is found
-      → key found ≡ n → found.distance <ℤ bound → ((a : Addition) → Is a → key a ≡ n → a.distance <ℤ bound → ComesFirst found a)
+  pub better-here : (below bound : ℤ) (n : ℕ) (best : Option PricedInsertion) (found : PricedInsertion) → SoFar below n bound best → Is found
+      → key found ≡ n → found.distance <ℤ bound → ((a : PricedInsertion) → Is a → key a ≡ n → a.distance <ℤ bound → ComesFirst found a)
       → SoFar below (n + 1) found.distance (Some found)
   unfolding SoFar
   better-here below bound n best found so it here less first =
       (refl, it, omega arith, under-all below bound n best found.distance so less, λ a is lt under. by a is lt under (cases_lt (key a) n))
     where
-      by : (a : Addition) → Is a → key a < n + 1 → a.distance <ℤ below → (key a < n) ⊎ (n ≤ key a) → ComesFirst found a
+      by : (a : PricedInsertion) → Is a → key a < n + 1 → a.distance <ℤ below → (key a < n) ⊎ (n ≤ key a) → ComesFirst found a
       by a is lt under (inl before) = before-first below bound n best found a so less is before under
       by a is lt under (inr there) =
           by_lt_z {P = ComesFirst found a} a.distance bound (λ under. first a is (at n a there lt) under) (λ le. first-less found a (omega (arith, ints)))
 
-  pub all-seen : (below bound : ℤ) (n : ℕ) (best : Option Addition) → SoFar below n bound best → ((a : Addition) → Is a → key a < n)
-      → IsFirstOf (Under Is below) best
+  pub all-cursor : (below bound : ℤ) (n : ℕ) (best : Option PricedInsertion) → SoFar below n bound best → ((a : PricedInsertion) → Is a → key a < n)
+      → IsFirstOf (CostsLess Is below) best
   unfolding SoFar
-  all-seen below bound n None so all = λ a is. so.1 a is.0 (all a is.0) is.1
-  all-seen below bound n (Some b) so all = ((so.1, so.3), λ a is. so.4 a is.0 (all a is.0) is.1)
+  all-cursor below bound n None so all = λ a is. so.1 a is.0 (all a is.0) is.1
+  all-cursor below bound n (Some b) so all = ((so.1, so.3), λ a is. so.4 a is.0 (all a is.0) is.1)
 
-  -- or where all the rest comes to the bound
-  pub rest-dear : (below bound : ℤ) (n : ℕ) (best : Option Addition) → SoFar below n bound best
-      → ((a : Addition) → Is a → n ≤ key a → a.distance <ℤ bound → ⊥) → IsFirstOf (Under Is below) best
+  -- the best is final if all other insertions add the bound or more
+  pub rest-dear : (below bound : ℤ) (n : ℕ) (best : Option PricedInsertion) → SoFar below n bound best
+      → ((a : PricedInsertion) → Is a → n ≤ key a → a.distance <ℤ bound → ⊥) → IsFirstOf (CostsLess Is below) best
   unfolding SoFar
   rest-dear below bound n None so dear = λ a is. by a is (cases_lt (key a) n)
     where
-      by : (a : Addition) → Under Is below a → (key a < n) ⊎ (n ≤ key a) → ⊥
+      by : (a : PricedInsertion) → CostsLess Is below a → (key a < n) ⊎ (n ≤ key a) → ⊥
       by a is (inl before) = so.1 a is.0 before is.1
-      by a is (inr behind) = dear a is.0 behind (subst (λ x. a.distance <ℤ x) (sym so.0) is.1)
+      by a is (inr following) = dear a is.0 following (subst (λ x. a.distance <ℤ x) (sym so.0) is.1)
   rest-dear below bound n (Some b) so dear = ((so.1, so.3), λ a is. by a is (cases_lt (key a) n))
     where
-      by : (a : Addition) → Under Is below a → (key a < n) ⊎ (n ≤ key a) → ComesFirst b a
+      by : (a : PricedInsertion) → CostsLess Is below a → (key a < n) ⊎ (n ≤ key a) → ComesFirst b a
       by a is (inl before) = so.4 a is.0 before is.1
-      by a is (inr behind) =
-          by_lt_z {P = ComesFirst b a} a.distance bound (λ less. absurd (dear a is.0 behind less))
+      by a is (inr following) =
+          by_lt_z {P = ComesFirst b a} a.distance bound (λ less. absurd (dear a is.0 following less))
           (λ le. let lt = so.2 in order b a so.1 is.0 (subst (λ x. x ≤ℤ a.distance) so.0 le) (omega arith))
 
-  -- one key more, where its addition is offered
-  module _ (added : ℕ → Option ℤ) (tells : (a : Addition) → Is a → added (key a) ≡ Some a.distance) (below : ℤ) (n i j : ℕ)
+  -- the insertion with the next key is offered
+  module _ (added : ℕ → Option ℤ) (tells : (a : PricedInsertion) → Is a → added (key a) ≡ Some a.distance) (below : ℤ) (n i j : ℕ)
       (best : Best) (so : SoFar below n best.bound best.found)
-      (least : (a : Addition) → Is a → key a ≡ n → (a.pickup ≡ i) × (j ≤ a.delivery))
+      (least : (a : PricedInsertion) → Is a → key a ≡ n → (a.pickup ≡ i) × (j ≤ a.delivery))
       (keyed : (x : ℤ) → key (record { distance = x; pickup = i; delivery = j }) ≡ n)
       (puts : (x : ℤ) → added n ≡ Some x → Is (record { distance = x; pickup = i; delivery = j })) where
-    here : (a : Addition) → Is a → key a ≡ n → added n ≡ Some a.distance
+    here : (a : PricedInsertion) → Is a → key a ≡ n → added n ≡ Some a.distance
     here a is at = ap added (sym at) ∙ tells a is
 
     pub offered-more : (next : Best) → next ≡ offered best (added n) i j → SoFar below (n + 1) next.bound next.found

@@ -1,13 +1,13 @@
--- The latest start of a place, from that of the next one.
+-- The latest start at a place, from the latest start at the next one.
 use Rattle.std.proofs.Common.{◌≡◌, ℕ, zero, suc, ◌+◌, ◌-◌, ◌^◌, ◌<◌, ◌≤◌, ◌↔◌, max, min, sym, ap, ◌∙◌, arith, subst, inl, inr}
 use Rattle.std.proofs.lemmas.Bool.{cases_lt}
 use Rattle.plan_types.specs.declared.requests.Stop.{Stop}
 use Rattle.plan_types.specs.declared.requests.Kind.{Kind}
 use Rattle.plan_types.specs.declared.requests.Kind.TheVariants.{LiLim}
-use Rattle.slack_tables.specs.Along.{stay, moved_along, GoesOnAlong}
+use Rattle.slack_tables.specs.Along.{stay, moved_along, MeetsLaterWindowsAlong}
 use Rattle.slack_tables.proofs.AlongLemmas.{moved-first, moved-next}
 
--- when service starts at the next place
+-- the start of service at the next place
 pub arrival : (ℕ → Stop) → ℕ → ℕ → ℕ
 arrival at i t = max (at (i + 1)).earliest (t + stay at i)
 
@@ -15,19 +15,19 @@ pub moved-arrival : (at : ℕ → Stop) (i t : ℕ) → moved_along at i t (i + 
 unfolding arrival
 moved-arrival at i t = let first = moved-first at i t in moved-next at i t i (omega arith) ∙ ap (λ u. max (at (i + 1)).earliest (u + stay at i)) first
 
--- nobody is at the next place before
+-- service at the next place starts no earlier than at this one
 pub arrival-late : (at : ℕ → Stop) (i t : ℕ) → t ≤ moved_along at i t (i + 1)
 unfolding arrival
 arrival-late at i t = let is : moved_along at i t (i + 1) ≡ max (at (i + 1)).earliest (t + stay at i) = moved-arrival at i t in omega arith
 
--- what a start at place i brings about is what the start at the next place does
-pub moved-behind : (at : ℕ → Stop) (i t n : ℕ) → moved_along at i t (i + 1 + n) ≡ moved_along at (i + 1) (arrival at i t) (i + 1 + n)
-moved-behind at i t zero =
+-- later starts depend on the start at place i only through the start at the next place
+pub moved-following : (at : ℕ → Stop) (i t n : ℕ) → moved_along at i t (i + 1 + n) ≡ moved_along at (i + 1) (arrival at i t) (i + 1 + n)
+moved-following at i t zero =
     let none : i + 1 + 0 ≡ i + 1 = omega arith in
     rw none (moved-arrival at i t ∙ sym (moved-first at (i + 1) (arrival at i t)))
-moved-behind at i t (suc n) =
+moved-following at i t (suc n) =
     let more : i + 1 + suc n ≡ i + 1 + n + 1 = omega arith in
-    let before : moved_along at i t (i + 1 + n) ≡ moved_along at (i + 1) (arrival at i t) (i + 1 + n) = moved-behind at i t n in
+    let before : moved_along at i t (i + 1 + n) ≡ moved_along at (i + 1) (arrival at i t) (i + 1 + n) = moved-following at i t n in
     let step : moved_along at i t (i + 1 + n + 1) ≡ moved_along at (i + 1) (arrival at i t) (i + 1 + n + 1) =
     moved-next at i t (i + 1 + n) (omega arith)
     ∙ (ap (λ u. max (at (i + 1 + n + 1)).earliest (u + stay at (i + 1 + n))) before
@@ -36,19 +36,19 @@ moved-behind at i t (suc n) =
 
 pub moved-from : (at : ℕ → Stop) (i t k : ℕ) → i < k → moved_along at i t k ≡ moved_along at (i + 1) (arrival at i t) k
 moved-from at i t k h =
-    subst (λ m. moved_along at i t m ≡ moved_along at (i + 1) (arrival at i t) m) (sym (omega arith)) (moved-behind at i t (k - (i + 1)))
+    subst (λ m. moved_along at i t m ≡ moved_along at (i + 1) (arrival at i t) m) (sym (omega arith)) (moved-following at i t (k - (i + 1)))
 
 module _ (kind : Kind) (at : ℕ → Stop) (last : ℕ) where
-  -- a start goes on where the next one is in time and goes on
-  pub goes_on-next : (i t : ℕ) → kind ≡ LiLim → i < last → GoesOnAlong kind at last i t
-      → (arrival at i t ≤ (at (i + 1)).latest) × GoesOnAlong kind at last (i + 1) (arrival at i t)
-  goes_on-next i t lilim h goes =
+  -- a start misses no later window exactly if the start at the next place is in time and misses none
+  pub continues_within_limits-next : (i t : ℕ) → kind ≡ LiLim → i < last → MeetsLaterWindowsAlong kind at last i t
+      → (arrival at i t ≤ (at (i + 1)).latest) × MeetsLaterWindowsAlong kind at last (i + 1) (arrival at i t)
+  continues_within_limits-next i t lilim h goes =
       let here = goes lilim (i + 1) (omega arith) (omega arith) in
       let is = moved-arrival at i t in
       (omega arith, λ _ k j l. let there = goes lilim k (omega arith) l in let same = moved-from at i t k (omega arith) in omega arith)
 
-  pub goes_on-before : (i t : ℕ) → arrival at i t ≤ (at (i + 1)).latest → GoesOnAlong kind at last (i + 1) (arrival at i t) → GoesOnAlong kind at last i t
-  goes_on-before i t here goes = λ lilim k h l.
+  pub continues_within_limits-before : (i t : ℕ) → arrival at i t ≤ (at (i + 1)).latest → MeetsLaterWindowsAlong kind at last (i + 1) (arrival at i t) → MeetsLaterWindowsAlong kind at last i t
+  continues_within_limits-before i t here goes = λ lilim k h l.
       let same = moved-from at i t k h in
       elim (cases_lt (i + 1) k) [
         | inl j ↦ (let there = goes lilim k j l in omega arith)
@@ -57,20 +57,20 @@ module _ (kind : Kind) (at : ℕ → Stop) (last : ℕ) where
             subst (λ k. moved_along at i t k ≤ (at k).latest) (sym end) (omega arith))
       ]
 
-  -- what one place lets be the latest start
+  -- the bound that one place sets on the latest start
   unfoldable pub IsBound : ℕ → ℕ → Type 0
-  IsBound i limit = (t : ℕ) → t ≤ 2 ^ 60 → GoesOnAlong kind at last i t ↔ (t ≤ limit)
+  IsBound i limit = (t : ℕ) → t ≤ 2 ^ 60 → MeetsLaterWindowsAlong kind at last i t ↔ (t ≤ limit)
 
-  -- behind the last place nothing is missed
+  -- after the last place nothing is missed
   pub bound-before : (i limit start : ℕ) → kind ≡ LiLim → i < last → IsBound (i + 1) limit → (at (i + 1)).earliest ≤ start
       → start ≤ limit → start ≤ (at (i + 1)).latest → (at (i + 1)).latest ≤ 100000000 → stay at i ≤ start
       → IsBound i (min limit (at (i + 1)).latest - stay at i)
   unfolding IsBound arrival
   bound-before i limit start lilim h next early fits window late long = λ t few. (
     (λ goes.
-        let both = goes_on-next i t lilim h goes in
+        let both = continues_within_limits-next i t lilim h goes in
         let there : arrival at i t ≤ limit = (next (arrival at i t) (omega arith)).0 both.1 in
         omega arith),
     (λ less.
-        goes_on-before i t (omega arith) ((next (arrival at i t) (omega arith)).1 (omega arith))),
+        continues_within_limits-before i t (omega arith) ((next (arrival at i t) (omega arith)).1 (omega arith))),
   )

@@ -17,7 +17,7 @@ pub record AreLeastFrom (places : List PlaceSlack) (s : Stop) (k : ℕ) (least :
   pub lower : (i m : ℕ) (d : PlaceSlack) → k ≤ i → i < length least → i ≤ m → m + 1 < length places → get_or least i (pos 0) ≤ℤ detour_of places s m d
   pub small : (i : ℕ) → k ≤ i → i < length least → unsigned_abs (get_or least i (pos 0)) ≤ 2 ^ 60
 
--- ways from below give a detour from below
+-- lower bounds on both distances yield a lower bound on the detour
 pub detour-below : (places : List PlaceSlack) (s : Stop) (m : ℕ) (d : PlaceSlack) (here next : PlaceSlack) (to from : ℕ) → here ≡ get_or places m d
     → next ≡ get_or places (m + 1) d → to ≤ distance (get_or places m d).at.stop s → from ≤ distance (get_or places (m + 1) d).at.stop s
     → (pos (here.at.distance + to + from) -ℤ pos next.at.distance) ≤ℤ detour_of places s m d

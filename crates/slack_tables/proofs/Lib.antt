@@ -1,11 +1,11 @@
--- The lemma files, which upper crates may cite.
+-- Lemma files that other crates may cite.
 pub mod AlongLemmas
 pub mod BestLemmas
 pub mod CourseLemmas
 pub mod DetourLemmas
 pub mod FillLemmas
 pub mod FirstLemmas
-pub mod FrontLemmas
+pub mod PrefixLemmas
 pub mod InsertLemmas
 pub mod KnownLemmas
 pub mod LateLemmas
@@ -19,4 +19,4 @@ pub mod SpliceLemmas
 pub mod TableLemmas
 pub mod TightLemmas
 pub mod WalkLemmas
-pub mod WayLemmas
+pub mod KnownLegLemmas

@@ -1,4 +1,4 @@
--- What a table holds is what the definitions say of any route that has its course.
+-- The values in a table are those of each route with its course.
 use Rattle.std.proofs.Common.{◌≡◌, ℕ, ◌+◌, ◌-◌, ◌^◌, ◌<◌, ◌≤◌, ◌⊎◌, List, get_or, length, sym, ap, ◌∙◌, arith, subst, inl, inr}
 use Rattle.std.proofs.lemmas.Bool.{cases_lt}
 use Rattle.plan_types.specs.Instance.{Instance}
@@ -6,10 +6,10 @@ use Rattle.plan_types.specs.declared.requests.Kind.TheVariants.{LiLim}
 use Rattle.route_sched.specs.Route.{place}
 use Rattle.route_sched.specs.Schedule.{start, load, route_length}
 use Rattle.slack_tables.specs.Course.{Course, course_of}
-use Rattle.slack_tables.specs.Along.{stop_on, start_along, moved_along, load_along, length_along, GoesOnAlong}
-use Rattle.slack_tables.specs.Inside.{AreKnown}
+use Rattle.slack_tables.specs.Along.{stop_on, start_along, moved_along, load_along, length_along, MeetsLaterWindowsAlong}
+use Rattle.slack_tables.specs.TableFields.{AreKnown}
 use Rattle.slack_tables.specs.Places.{IsKnown}
-use Rattle.slack_tables.specs.Latest.{GoesOn, IsLatestStart}
+use Rattle.slack_tables.specs.Latest.{MeetsLaterWindows, IsLatestStart}
 use Rattle.slack_tables.specs.declared.progress.PlaceSlack.{PlaceSlack}
 use Rattle.slack_tables.proofs.CourseLemmas.{places-on, long-on, start-is, moved-is, load-is, length-is}
 use Rattle.slack_tables.proofs.LatestLemmas.{arrival-late}
@@ -36,13 +36,13 @@ module _ (c : Course) (places : List PlaceSlack) (table : AreKnown c places) (p 
       (table.known (length places - 1) d (omega arith)).at.distance
       ∙ (ap (λ f. length_along f (length places - 1)) on ∙ (ap (length_along (place p route)) end ∙ sym (length-is p route)))
 
-  goes-to : (i t : ℕ) → GoesOnAlong c.kind (stop_on c) (length c.stops + 1) i t → GoesOn p route i t
+  goes-to : (i t : ℕ) → MeetsLaterWindowsAlong c.kind (stop_on c) (length c.stops + 1) i t → MeetsLaterWindows p route i t
   goes-to i t goes = λ lilim k h l.
       let kind : c.kind ≡ LiLim = sym (ap (λ q. q.kind) is) ∙ lilim in
       subst (λ x. x ≤ (place p route k).latest) (sym (moved-is p route i t k))
       (subst (λ f. moved_along f i t k ≤ (f k).latest) on (goes kind k h (omega (arith, long))))
 
-  goes-from : (i t : ℕ) → GoesOn p route i t → GoesOnAlong c.kind (stop_on c) (length c.stops + 1) i t
+  goes-from : (i t : ℕ) → MeetsLaterWindows p route i t → MeetsLaterWindowsAlong c.kind (stop_on c) (length c.stops + 1) i t
   goes-from i t goes = λ lilim k h l.
       let kind : p.kind ≡ LiLim = ap (λ q. q.kind) is ∙ lilim in
       subst (λ f. moved_along f i t k ≤ (f k).latest) (sym on)
@@ -50,7 +50,7 @@ module _ (c : Course) (places : List PlaceSlack) (table : AreKnown c places) (p 
 
   pub latest-read : (k : ℕ) (d : PlaceSlack) → c.kind ≡ LiLim → k < length c.stops + 1 → IsLatestStart p route k (get_or places k d).latest_start
   latest-read k d lilim h = record {
-    goes_on =
+    continues_within_limits =
         goes-to k (get_or places k d).latest_start
         (let small = limit in (known.latest_start lilim (get_or places k d).latest_start (omega arith)).1 (omega arith));
     greatest = λ u goes. by u (goes-from k u goes) (cases_lt (2 ^ 60) u);
@@ -62,7 +62,7 @@ module _ (c : Course) (places : List PlaceSlack) (table : AreKnown c places) (p 
       limit : (get_or places k d).latest_start ≤ 100000000
       limit = known.limit lilim h
 
-      by : (u : ℕ) → GoesOnAlong c.kind (stop_on c) (length c.stops + 1) k u → (2 ^ 60 < u) ⊎ (u ≤ 2 ^ 60) → u ≤ (get_or places k d).latest_start
+      by : (u : ℕ) → MeetsLaterWindowsAlong c.kind (stop_on c) (length c.stops + 1) k u → (2 ^ 60 < u) ⊎ (u ≤ 2 ^ 60) → u ≤ (get_or places k d).latest_start
       by u goes (inr few) = (known.latest_start lilim u few).0 goes
       by u goes (inl much) =
           let there = (table.known (k + 1) d (omega arith)).at.stop in

@@ -1,4 +1,4 @@
--- What a request adds to a route at least.
+-- Lower bounds on the distance that a request adds to a route.
 use Rattle.std.proofs.Common.{◌≡◌, ℕ, ◌+◌, ◌-◌, ◌*◌, ◌/◌, ◌^◌, ◌<◌, ◌≤◌, ◌⊎◌, int_le, ℤ, pos, ◌+ℤ◌, ◌-ℤ◌}
 use Rattle.std.proofs.Common.{◌≤ℤ◌, ◌<ℤ◌, List, ◌∷◌, get_or, length, Some, None, sym, ap, ◌∙◌, arith, subst, inl, inr}
 use Rattle.std.specs.Prelude.{unsigned_abs}
@@ -14,24 +14,24 @@ use Rattle.nint_dist.proofs.Triangle.{product-le}
 use Rattle.slack_tables.specs.Along.{stop_on}
 use Rattle.slack_tables.specs.Best.{IsFirstOf}
 use Rattle.slack_tables.specs.Course.{Course}
-use Rattle.slack_tables.specs.Driven.{with_single, with_pair}
-use Rattle.slack_tables.specs.Inside.{AreKnown}
+use Rattle.slack_tables.specs.DriveSteps.{with_single, with_pair}
+use Rattle.slack_tables.specs.TableFields.{AreKnown}
 use Rattle.slack_tables.specs.Legs.{AreLinked, detour_of}
-use Rattle.slack_tables.specs.Ride.{ride_of, driven, is_kept, is_borne, goes_on, served}
+use Rattle.slack_tables.specs.Ride.{ride_of, driven, is_within_limits, tail_is_within_limits, continues_within_limits, price_if_feasible}
 use Rattle.slack_tables.specs.Scan.{AddsSingle, AddsPair}
-use Rattle.slack_tables.specs.Span.{IsInside, IsSmallSpan, IsSpanTo, AreEnds, IsSpan, IsNearest}
-use Rattle.slack_tables.specs.Span.{IsFloor, IsFloorOfPair, IsFarSingle, IsFarPair, AreHome, AreLaden, edge_of}
+use Rattle.slack_tables.specs.Span.{IsInside, IsSmallSpan, IsSpanTo, AreEnds, IsSpan, AreDistanceFloors}
+use Rattle.slack_tables.specs.Span.{IsFloor, IsFloorOfPair, IsFarSingle, IsFarPair, AreHome, AreLaden, table_leg}
 use Rattle.slack_tables.specs.declared.progress.Limits.{Limits}
 use Rattle.slack_tables.specs.declared.progress.PlaceSlack.{PlaceSlack}
 use Rattle.slack_tables.specs.declared.ride.Ride.{Ride}
 use Rattle.slack_tables.specs.declared.span.Span.{Span}
-use Rattle.slack_tables.specs.declared.span.Nearest.{Nearest}
+use Rattle.slack_tables.specs.declared.span.DistanceFloors.{DistanceFloors}
 use Rattle.slack_tables.proofs.AlongLemmas.{load-next}
-use Rattle.slack_tables.proofs.DetourLemmas.{near-is, apart-is, served-price}
+use Rattle.slack_tables.proofs.DetourLemmas.{near-is, apart-is, price_if_feasible-price}
 use Rattle.slack_tables.proofs.SpliceLemmas.{int_le-true}
 use Rattle.slack_tables.proofs.WalkLemmas.{distance-back}
 
--- the part of a way along a direction (a, b) of length 256 or less
+-- the component of a distance along a direction (a, b) of length at most 256 is at most the distance
 pub along-le : (a b x y c e : ℕ) → a * a + b * b ≤ 65536 → c * 256 ≤ a * x + b * y → x * x + y * y ≤ e * (e + 1) → c ≤ e
 along-le a b x y c e short part reach = by (cases_lt e c)
   where
@@ -44,7 +44,7 @@ along-le a b x y c e short part reach = by (cases_lt e c)
         let over = mul-le (e + 1) (e + 1) c c (omega arith) (omega arith) in
         absurd (omega arith)
 
--- the two directions
+-- the components of a distance along the two directions are at most the distance
 pub ways-le : (x y e : ℕ) → x * x + y * y ≤ e * (e + 1) → ((x * 251 + y * 50) / 256 ≤ e) × ((x * 213 + y * 142) / 256 ≤ e)
 ways-le x y e reach =
     let steep = div-mul-le_self (x * 213 + y * 142) 256 in (
@@ -52,16 +52,16 @@ ways-le x y e reach =
       along-le 213 142 x y ((x * 213 + y * 142) / 256) e (omega arith) (omega arith) reach,
     )
 
--- the longer side first
+-- the bound along both directions, with the longer side first
 pub sides-le : (x y long short e : ℕ) → (x < y → (long ≡ y) × (short ≡ x)) → (y ≤ x → (long ≡ x) × (short ≡ y))
     → x * x + y * y ≤ e * (e + 1) → long * long + short * short ≤ e * (e + 1)
-sides-le x y long short e up across reach = by (cases_lt x y)
+sides-le x y long short e up between_stops reach = by (cases_lt x y)
   where
     by : (x < y) ⊎ (y ≤ x) → long * long + short * short ≤ e * (e + 1)
     by (inl less) = let same = up less in rw (same.0, same.1) (omega arith)
-    by (inr more) = let same = across more in rw (same.0, same.1) reach
+    by (inr more) = let same = between_stops more in rw (same.0, same.1) reach
 
--- two stops are no nearer than along one axis
+-- two stops are at least as far apart as along one axis
 pub side-le : (x y e : ℕ) → x * x + y * y ≤ e * (e + 1) → x ≤ e
 side-le x y e reach = by (cases_lt e x)
   where
@@ -69,7 +69,7 @@ side-le x y e reach = by (cases_lt e x)
     by (inr le) = le
     by (inl less) = let square = mul-le (e + 1) (e + 1) x x (omega arith) (omega arith) in absurd (omega arith)
 
--- no stop inside is nearer than the gaps to the span
+-- a stop in the box is at least as far as the gaps to the box
 pub apart-le : DistancesAreNearestRoots → (a b : Stop) (x y w : ℕ) → ((e : ℕ) → x * x + y * y ≤ e * (e + 1) → w ≤ e)
     → x ≤ unsigned_abs (a.x -ℤ b.x) → y ≤ unsigned_abs (a.y -ℤ b.y) → w ≤ distance a b
 apart-le law a b x y w least gap_x gap_y =
@@ -81,11 +81,11 @@ apart-le law a b x y w least gap_x gap_y =
 -- ---- the span, place after place
 pub span-more : (places : List PlaceSlack) (k : ℕ) (old new : Span) (before here : PlaceSlack) → 1 ≤ k → IsSpanTo old places k
     → ((d : PlaceSlack) → before ≡ get_or places (k - 1) d) → ((d : PlaceSlack) → here ≡ get_or places k d) → IsInside new here.at.stop
-    → ((s : Stop) → IsInside old s → IsInside new s) → edge_of before here ≤ℤ new.longest → old.longest ≤ℤ new.longest → IsSmallSpan new
+    → ((s : Stop) → IsInside old s → IsInside new s) → table_leg before here ≤ℤ new.longest_leg → old.longest_leg ≤ℤ new.longest_leg → IsSmallSpan new
     → IsSpanTo new places (k + 1)
-span-more places k old new before here some is is_before is_here inside wider edge longer small = record {
+span-more places k old new before here some is is_before is_here inside wider leg longer small = record {
   inside = λ m d h l. inside-by m d h l (cases_lt m k);
-  longest = λ m d h l. longest-by m d h l (cases_lt (m + 1) k);
+  longest_leg = λ m d h l. longest_leg-by m d h l (cases_lt (m + 1) k);
   small = small;
 }
   where
@@ -94,22 +94,22 @@ span-more places k old new before here some is is_before is_here inside wider ed
     inside-by m d h l (inr more) =
         let same : k ≡ m = omega arith in subst (λ (e : PlaceSlack). IsInside new e.at.stop) (is_here d ∙ ap (λ n. get_or places n d) same) inside
 
-    longest-by : (m : ℕ) (d : PlaceSlack) → 1 ≤ m → m + 1 < k + 1 → (m + 1 < k) ⊎ (k ≤ m + 1) → edge_of (get_or places m d) (get_or places (m + 1) d) ≤ℤ new.longest
-    longest-by m d h l (inl less) = let le = is.longest m d h less in omega (arith, ints)
-    longest-by m d h l (inr more) =
-        subst (λ (e : PlaceSlack). edge_of e (get_or places (m + 1) d) ≤ℤ new.longest) (is_before d ∙ ap (λ n. get_or places n d) (omega arith))
-        (subst (λ (e : PlaceSlack). edge_of before e ≤ℤ new.longest) (is_here d ∙ ap (λ n. get_or places n d) (omega arith)) edge)
+    longest_leg-by : (m : ℕ) (d : PlaceSlack) → 1 ≤ m → m + 1 < k + 1 → (m + 1 < k) ⊎ (k ≤ m + 1) → table_leg (get_or places m d) (get_or places (m + 1) d) ≤ℤ new.longest_leg
+    longest_leg-by m d h l (inl less) = let le = is.longest_leg m d h less in omega (arith, ints)
+    longest_leg-by m d h l (inr more) =
+        subst (λ (e : PlaceSlack). table_leg e (get_or places (m + 1) d) ≤ℤ new.longest_leg) (is_before d ∙ ap (λ n. get_or places n d) (omega arith))
+        (subst (λ (e : PlaceSlack). table_leg before e ≤ℤ new.longest_leg) (is_here d ∙ ap (λ n. get_or places n d) (omega arith)) leg)
 
-pub ends-same : (old new : Span) (places : List PlaceSlack) → new.tips ≡ old.tips → new.load ≡ old.load → AreEnds old places → AreEnds new places
-ends-same old new places tips load ends = record {
-  first = λ d. subst (λ x. edge_of (get_or places 0 d) (get_or places 1 d) ≤ℤ x) (sym tips) (ends.first d);
-  last = λ d. subst (λ x. edge_of (get_or places (length places - 2) d) (get_or places (length places - 1) d) ≤ℤ x) (sym tips) (ends.last d);
+pub ends-same : (old new : Span) (places : List PlaceSlack) → new.longest_depot_leg ≡ old.longest_depot_leg → new.load ≡ old.load → AreEnds old places → AreEnds new places
+ends-same old new places longest_depot_leg load ends = record {
+  first = λ d. subst (λ x. table_leg (get_or places 0 d) (get_or places 1 d) ≤ℤ x) (sym longest_depot_leg) (ends.first d);
+  last = λ d. subst (λ x. table_leg (get_or places (length places - 2) d) (get_or places (length places - 1) d) ≤ℤ x) (sym longest_depot_leg) (ends.last d);
   load = λ d. load ∙ ends.load d;
 }
 
 -- ---- the depot and the loads of a table
-pub home : (c : Course) (places : List PlaceSlack) → AreKnown c places → AreHome c.depot places
-home c places table = let long = table.long in record {
+pub to_depot : (c : Course) (places : List PlaceSlack) → AreKnown c places → AreHome c.depot places
+to_depot c places table = let long = table.long in record {
   first = λ d. (table.known 0 d (omega arith)).at.stop;
   last = λ d. (table.known (length places - 1) d (omega arith)).at.stop ∙ get_or_past (c.depot ∷ c.stops) (length places - 1) c.depot (omega arith);
 }
@@ -125,24 +125,25 @@ laden c places table = let long = table.long in record {
   most = λ k d h.
       (let here = table.known k d h in
       let last = (table.known (length places - 1) d (omega arith)).at.load in
-      let end = (here.most_load (get_or places k d).most_load).0 (omega (arith, ints)) (length places - 1) (omega arith) (omega arith) in
-      subst (λ x. x ≤ℤ (get_or places k d).most_load) (sym last) end);
+      let end = (here.max_load (get_or places k d).max_load).0 (omega (arith, ints)) (length places - 1) (omega arith) (omega arith) in
+      subst (λ x. x ≤ℤ (get_or places k d).max_load) (sym last) end);
 }
 
--- ---- what a stop adds
+-- ---- the distance that a stop adds
 module _ (places : List PlaceSlack) (depot : Stop) (span : Span) (is : IsSpan span places) (at_home : AreHome depot places) where
-  -- a stop p comes behind place m and a stop q before the next one, and so much in between
-  between-le : (p q : Stop) (to_p to_q : Nearest) → IsNearest span depot p to_p → IsNearest span depot q to_q → (across : ℕ) (x : ℤ)
-      → IsFloorOfPair span to_p to_q across x → (m : ℕ) (d : PlaceSlack) → m + 1 < length places
+  -- a lower bound on the distance that stops p and q add between place m and the next one, with this distance
+  -- between p and q
+  between-le : (p q : Stop) (to_p to_q : DistanceFloors) → AreDistanceFloors span depot p to_p → AreDistanceFloors span depot q to_q → (between_stops : ℕ) (x : ℤ)
+      → IsFloorOfPair span to_p to_q between_stops x → (m : ℕ) (d : PlaceSlack) → m + 1 < length places
       → x ≤ℤ (pos
-      ((get_or places m d).at.distance + distance (get_or places m d).at.stop p + across + distance (get_or places (m + 1) d).at.stop q)
+      ((get_or places m d).at.distance + distance (get_or places m d).at.stop p + between_stops + distance (get_or places (m + 1) d).at.stop q)
       -ℤ pos (get_or places (m + 1) d).at.distance)
-  between-le p q to_p to_q near_p near_q across x floor m d within = by (cases_lt 0 m) (cases_lt (m + 2) (length places))
+  between-le p q to_p to_q near_p near_q between_stops x floor m d within = by (cases_lt 0 m) (cases_lt (m + 2) (length places))
     where
       Goal : ℕ → Type 0
       Goal k =
           x ≤ℤ (pos
-          ((get_or places k d).at.distance + distance (get_or places k d).at.stop p + across + distance (get_or places (k + 1) d).at.stop q)
+          ((get_or places k d).at.distance + distance (get_or places k d).at.stop p + between_stops + distance (get_or places (k + 1) d).at.stop q)
           -ℤ pos (get_or places (k + 1) d).at.distance)
 
       count : 2 ≤ is.count
@@ -151,14 +152,14 @@ module _ (places : List PlaceSlack) (depot : Stop) (span : Span) (is : IsSpan sp
       all : length places ≤ is.count + 1
       all = is.all
 
-      far : (s : Stop) (near : Nearest) → IsNearest span depot s near → (k : ℕ) → 1 ≤ k → k < is.count → near.inside ≤ distance (get_or places k d).at.stop s
+      far : (s : Stop) (near : DistanceFloors) → AreDistanceFloors span depot s near → (k : ℕ) → 1 ≤ k → k < is.count → near.inside ≤ distance (get_or places k d).at.stop s
       far s near nearest k h l = nearest.inside (get_or places k d).at.stop (is.within.inside k d h l)
 
       by : (0 < m) ⊎ (m ≤ 0) → (m + 2 < length places) ⊎ (length places ≤ m + 2) → Goal m
       by (inl some) (inl more) =
           let to = far p to_p near_p m (omega arith) (omega arith) in
           let from = far q to_q near_q (m + 1) (omega arith) (omega arith) in
-          let edge = is.within.longest m d (omega arith) (omega arith) in
+          let leg = is.within.longest_leg m d (omega arith) (omega arith) in
           let le = floor.inside in
           omega (arith, ints)
       by (inl some) (inr last) =
@@ -166,43 +167,43 @@ module _ (places : List PlaceSlack) (depot : Stop) (span : Span) (is : IsSpan sp
           let end : length places - 1 ≡ m + 1 = omega arith in
           let before : length places - 2 ≡ m = omega arith in
           let there : (get_or places (m + 1) d).at.stop ≡ depot = rw end at at_home.last d in
-          let from : to_q.home ≤ distance (get_or places (m + 1) d).at.stop q = rw there near_q.home in
-          let edge = rw (before, end) at is.ends.last d in
+          let from : to_q.to_depot ≤ distance (get_or places (m + 1) d).at.stop q = rw there near_q.to_depot in
+          let leg = rw (before, end) at is.ends.last d in
           let le = floor.last in
           omega (arith, ints)
       by (inr none) _ =
           let zero_m : 0 ≡ m = omega arith in
           let from = far q to_q near_q 1 (omega arith) (omega arith) in
-          let to : to_p.home ≤ distance (get_or places 0 d).at.stop p = rw (at_home.first d) near_p.home in
-          let edge = is.ends.first d in
+          let to : to_p.to_depot ≤ distance (get_or places 0 d).at.stop p = rw (at_home.first d) near_p.to_depot in
+          let leg = is.ends.first d in
           let le = floor.first in
           subst Goal zero_m (let first : Goal 0 = omega (arith, ints) in first)
 
-  -- what a stop adds behind place m
-  pub detour-le : (s : Stop) (near : Nearest) → IsNearest span depot s near → (x : ℤ) → IsFloor span near x → (m : ℕ) (d : PlaceSlack)
+  -- a lower bound on the distance that a stop adds after place m
+  pub detour-le : (s : Stop) (near : DistanceFloors) → AreDistanceFloors span depot s near → (x : ℤ) → IsFloor span near x → (m : ℕ) (d : PlaceSlack)
       → m + 1 < length places → x ≤ℤ detour_of places s m d
   detour-le s near nearest x floor m d within =
       let inside = floor.inside in
-      let tips = floor.tips in
+      let longest_depot_leg = floor.longest_depot_leg in
       let le = between-le s s near near nearest nearest 0 x
       (record { inside = omega (arith, ints); first = omega (arith, ints); last = omega (arith, ints) }) m d within in
       omega (arith, ints)
 
-  -- what a pair adds whose stops come side by side behind place m
-  pub beside-le : (p q : Stop) (to_p to_q : Nearest) → IsNearest span depot p to_p → IsNearest span depot q to_q → (across : ℕ)
-      → across ≤ distance p q → (x : ℤ) → IsFloorOfPair span to_p to_q across x → (m : ℕ) (d : PlaceSlack) → m + 1 < length places
+  -- a lower bound on the distance that a pair adds if its stops are consecutive after place m
+  pub beside-le : (p q : Stop) (to_p to_q : DistanceFloors) → AreDistanceFloors span depot p to_p → AreDistanceFloors span depot q to_q → (between_stops : ℕ)
+      → between_stops ≤ distance p q → (x : ℤ) → IsFloorOfPair span to_p to_q between_stops x → (m : ℕ) (d : PlaceSlack) → m + 1 < length places
       → x ≤ℤ (pos ((get_or places m d).at.distance + distance (get_or places m d).at.stop p + distance p q
       + distance (get_or places (m + 1) d).at.stop q)
       -ℤ pos (get_or places (m + 1) d).at.distance)
-  beside-le p q to_p to_q near_p near_q across between x floor m d within =
-      let le = between-le p q to_p to_q near_p near_q across x floor m d within in omega (arith, ints)
+  beside-le p q to_p to_q near_p near_q between_stops between x floor m d within =
+      let le = between-le p q to_p to_q near_p near_q between_stops x floor m d within in omega (arith, ints)
 
 -- ---- a single
 singles-none : (limits : Limits) (places : List PlaceSlack) (s : Stop) (kept : ℕ) (below : ℤ) (d : PlaceSlack)
     → ((i : ℕ) (x : ℤ) → 1 ≤ i → i < length places → with_single limits places s i d ≡ Some x → below ≤ℤ x)
     → IsFirstOf (AddsSingle limits places s kept below d) None
 singles-none limits places s kept below d dear = λ a is.
-    (let behind = is.0.behind in
+    (let following = is.0.following in
     let le = dear a.pickup a.distance (omega arith) is.0.within is.0.added in
     let less = is.1 in
     absurd (omega (arith, ints)))
@@ -212,7 +213,7 @@ pub far-single : (limits : Limits) (places : List PlaceSlack) (depot s : Stop) (
 far-single limits places depot s kept below d span is at_home dear =
     singles-none limits places s kept below d
     (λ i x one within some.
-    (let cost = served-price limits (ride_of (get_or places (i - 1) d).at) (get_or places (i - 1) d).at.stop.service
+    (let cost = price_if_feasible-price limits (ride_of (get_or places (i - 1) d).at) (get_or places (i - 1) d).at.stop.service
     (distance (get_or places (i - 1) d).at.stop s) s (distance s (get_or places i d).at.stop) (get_or places i d) x some in
     let next : i - 1 + 1 ≡ i = omega arith in
     let least =
@@ -224,15 +225,15 @@ far-single limits places depot s kept below d span is at_home dear =
     let back = distance-back s (get_or places i d).at.stop in
     omega (arith, ints)))
 
--- what a served stop brings on board fits
+-- the load of a served stop fits
 borne : (limits : Limits) (r : Ride) (service to : ℕ) (s : Stop) (from : ℕ) (tail : PlaceSlack) (x : ℤ)
-    → served limits r service to s from tail ≡ Some x
-    → (r.load +ℤ s.demand +ℤ tail.at.stop.demand -ℤ tail.at.load +ℤ tail.most_load) ≤ℤ pos limits.capacity
+    → price_if_feasible limits r service to s from tail ≡ Some x
+    → (r.load +ℤ s.demand +ℤ tail.at.stop.demand -ℤ tail.at.load +ℤ tail.max_load) ≤ℤ pos limits.capacity
 borne limits r service to s from tail x is =
-    let on = (and_parts (is_kept limits (driven r service to s) s) (goes_on limits (driven r service to s) s.service from tail) (cond_some _ _ x is).0).1 in
-    let there = (and_parts (is_kept limits (driven (driven r service to s) s.service from tail.at.stop) tail.at.stop)
-    (is_borne limits (driven (driven r service to s) s.service from tail.at.stop) tail) on).1 in
-    int_le-true _ _ (and_parts (int_le (r.load +ℤ s.demand +ℤ tail.at.stop.demand -ℤ tail.at.load +ℤ tail.most_load) (pos limits.capacity)) _ there).0
+    let on = (and_parts (is_within_limits limits (driven r service to s) s) (continues_within_limits limits (driven r service to s) s.service from tail) (cond_some _ _ x is).0).1 in
+    let there = (and_parts (is_within_limits limits (driven (driven r service to s) s.service from tail.at.stop) tail.at.stop)
+    (tail_is_within_limits limits (driven (driven r service to s) s.service from tail.at.stop) tail) on).1 in
+    int_le-true _ _ (and_parts (int_le (r.load +ℤ s.demand +ℤ tail.at.stop.demand -ℤ tail.at.load +ℤ tail.max_load) (pos limits.capacity)) _ there).0
 
 pub full-single : (limits : Limits) (places : List PlaceSlack) (s : Stop) (kept : ℕ) (below : ℤ) (d : PlaceSlack) (span : Span) → IsSpan span places
     → AreLaden places → pos limits.capacity <ℤ (span.load +ℤ s.demand) → IsFirstOf (AddsSingle limits places s kept below d) None
@@ -253,7 +254,7 @@ pub far-pair : (limits : Limits) (places : List PlaceSlack) (depot p q : Stop) (
     → AreLinked places → IsSpan span places → AreHome depot places → IsFarPair span depot p q below
     → IsFirstOf (AddsPair limits places p q kept below d) None
 far-pair limits places depot p q kept below d span linked is at_home dear = λ a adds.
-    (let behind = adds.0.behind in
+    (let following = adds.0.following in
     let order = adds.0.order in
     let le = at-places a.pickup a.delivery a.distance (omega arith) order adds.0.within adds.0.added in
     let less = adds.1 in
@@ -273,7 +274,7 @@ far-pair limits places depot p q kept below d span linked is at_home dear = λ a
             ≤ℤ (pos ((get_or places (i - 1) d).at.distance + distance (get_or places (i - 1) d).at.stop p + distance p q
             + distance (get_or places k d).at.stop q)
             -ℤ pos (get_or places k d).at.distance)) next
-            (beside-le places depot span is at_home p q dear.to_p dear.to_q dear.nearest_p dear.nearest_q dear.across dear.between
+            (beside-le places depot span is at_home p q dear.to_p dear.to_q dear.nearest_p dear.nearest_q dear.between_stops dear.between
             dear.beside dear.lowest
             (i - 1) d (omega arith)) in
             let le = dear.near in
@@ -291,8 +292,8 @@ far-pair limits places depot p q kept below d span linked is at_home dear = λ a
             let way = distance-back p (get_or places i d).at.stop in
             omega (arith, ints)
 
--- ---- the span of the first stop alone
-pub span-begun : (places : List PlaceSlack) (first : PlaceSlack) (t o : ℤ) → ((d : PlaceSlack) → first ≡ get_or places 1 d) → unsigned_abs t ≤ 2 ^ 52
+-- ---- the span of only the first stop
+pub span-of_first_stop : (places : List PlaceSlack) (first : PlaceSlack) (t o : ℤ) → ((d : PlaceSlack) → first ≡ get_or places 1 d) → unsigned_abs t ≤ 2 ^ 52
     → unsigned_abs o ≤ 2 ^ 52
     → IsSpanTo
     (record {
@@ -300,11 +301,11 @@ pub span-begun : (places : List PlaceSlack) (first : PlaceSlack) (t o : ℤ) →
       east = first.at.stop.x;
       south = first.at.stop.y;
       north = first.at.stop.y;
-      longest = pos 0;
-      tips = t;
+      longest_leg = pos 0;
+      longest_depot_leg = t;
       load = o;
     }) places 2
-span-begun places first t o is_first tips load = record {
+span-of_first_stop places first t o is_first longest_depot_leg load = record {
   inside = λ k d h l.
       (let one : 1 ≡ k = omega arith in
       subst (λ (e : PlaceSlack). IsInside
@@ -313,12 +314,12 @@ span-begun places first t o is_first tips load = record {
         east = first.at.stop.x;
         south = first.at.stop.y;
         north = first.at.stop.y;
-        longest = pos 0;
-        tips = t;
+        longest_leg = pos 0;
+        longest_depot_leg = t;
         load = o;
       }) e.at.stop)
       (is_first d ∙ ap (λ n. get_or places n d) one)
       (record { west = omega (arith, ints); east = omega (arith, ints); south = omega (arith, ints); north = omega (arith, ints) }));
-  longest = λ k d h l. absurd (omega arith);
-  small = record { longest = omega (arith, ints); tips = tips; load = load };
+  longest_leg = λ k d h l. absurd (omega arith);
+  small = record { longest_leg = omega (arith, ints); longest_depot_leg = longest_depot_leg; load = load };
 }

@@ -1,4 +1,4 @@
--- The table that the two passes make is one of the route's course.
+-- The table that the two passes compute is that of the route's course.
 use Rattle.std.proofs.Common.{◌≡◌, ℕ, suc, ◌+◌, ◌-◌, ◌<◌, ◌≤◌, Bool, true, false, cond, eqb, List, []}
 use Rattle.std.proofs.Common.{◌∷◌, Option, Some, None, map, take, drop, get_or, length, refl, sym, ap, ◌∙◌, arith, subst}
 use Rattle.std.specs.Prelude.{IsSome, unwrap_or}
@@ -14,20 +14,20 @@ use Rattle.plan_types.specs.Request.{stop_in}
 use Rattle.plan_types.specs.declared.requests.Request.{Request}
 use Rattle.plan_types.specs.declared.requests.Request.TheVariants.{Single, Pair}
 use Rattle.plan_types.specs.declared.requests.Stop.{Stop}
-use Rattle.route_sched.specs.Route.{AreLiveOnce, IsLive, place, stop_numbered}
-use Rattle.slack_tables.specs.Course.{Course, course_of, route_of}
+use Rattle.route_sched.specs.Route.{AreDistinctStops, IsKnownStop, place, stop_numbered}
+use Rattle.slack_tables.specs.Course.{Course, course_of, course_route}
 use Rattle.slack_tables.specs.Along.{stop_on}
-use Rattle.slack_tables.specs.Filled.{EachIsTimely, IsFilled}
+use Rattle.slack_tables.specs.BackwardPass.{EachIsTimely, IsFilled}
 use Rattle.slack_tables.specs.Insertion.{KeepsLimits}
-use Rattle.slack_tables.specs.Inside.{stops_within, IsInLimits, AreKnown}
-use Rattle.slack_tables.specs.Opened.{AreOpen}
+use Rattle.slack_tables.specs.TableFields.{stops_within, IsInLimits, AreKnown}
+use Rattle.slack_tables.specs.ForwardPass.{AreForwardRows}
 use Rattle.slack_tables.specs.Places.{IsKnown}
 use Rattle.slack_tables.specs.declared.progress.PlaceSlack.{PlaceSlack}
 use Rattle.slack_tables.proofs.CourseLemmas.{place-on, places-on, limits-to}
 use Rattle.slack_tables.proofs.KnownLemmas.{timely, known, small, within}
 
 module _ (p : Instance) (route : List ℕ) (valid : IsInstance p) (keeps : KeepsLimits p route) (old : List PlaceSlack)
-    (opened : AreOpen (place p route) old) (long : length old ≡ length route + 2) where
+    (opened : AreForwardRows (place p route) old) (long : length old ≡ length route + 2) where
   limits : IsInLimits p.kind p.capacity (place p route) (length route + 1)
   limits = limits-to p route valid.depot.demand keeps
 
@@ -57,7 +57,7 @@ module _ (p : Instance) (route : List ℕ) (valid : IsInstance p) (keeps : Keeps
         ext_get_or p.depot (stops_within new) (map (stop_numbered p) route) (short ∙ sym (length-map route (stop_numbered p)))
         (λ i h. stops-at d i (omega arith))
 
-    -- what contracts see is the route's course
+    -- the value of the table in contracts is the route's course
     pub course-is : (d : PlaceSlack)
         → ◌≡◌ {A = Course} (record { kind = p.kind; capacity = p.capacity; depot = p.depot; stops = stops_within new }) (course_of p route)
     course-is d = ap (λ (ss : List Stop). record { kind = p.kind; capacity = p.capacity; depot = p.depot; stops = ss }) (stops-are d)
@@ -79,11 +79,11 @@ module _ (p : Instance) (route : List ℕ) (valid : IsInstance p) (keeps : Keeps
               (subst (λ f. IsInLimits p.kind p.capacity f (length route + 1)) on limits);
         }
 
-    -- whatever contracts see it as
+    -- the places are also those of any course that equals the route's course
     pub known-as : (c : Course) → c ≡ course_of p route → AreKnown c new
     known-as c is = subst (λ c. AreKnown c new) (sym is) are-known
 
--- ---- the stop under a live number has it
+-- ---- the stop of a current request has its number
 chosen : (t : Stop) (n : ℕ) (o : Option Stop) (s : Stop) → (o ≡ Some s → s.number ≡ n) → cond (eqb t.number n) (Some t) o ≡ Some s → s.number ≡ n
 chosen t n o s other is = by (eqb t.number n) refl is
   where
@@ -107,7 +107,7 @@ number-among n (e ∷ es) s is = by (stop_in n e.1) (number-in n e.1 s) (number-
     by None here later h = later h
     by (Some t) here later h = here h
 
-live-number : (p : Instance) (n : ℕ) → IsInstance p → IsLive p n → (stop_numbered p n).number ≡ n
+live-number : (p : Instance) (n : ℕ) → IsInstance p → IsKnownStop p n → (stop_numbered p n).number ≡ n
 live-number p n valid live = by (stop_at p n) refl live (eqb n 0) refl
   where
     by : (o : Option Stop) → stop_at p n ≡ o → IsSome o → (b : Bool) → eqb n 0 ≡ b → (cond b p.depot (unwrap_or o p.depot)).number ≡ n
@@ -115,7 +115,7 @@ live-number p n valid live = by (stop_at p n) refl live (eqb n 0) refl
     by (Some s) is some true h = valid.depot.number ∙ sym (eqb-true n 0 h)
     by (Some s) is some false h = number-among n p.requests s is
 
-numbers-by : (p : Instance) (route : List ℕ) → IsInstance p → AllByRecursion (IsLive p) route
+numbers-by : (p : Instance) (route : List ℕ) → IsInstance p → AllByRecursion (IsKnownStop p) route
     → map (λ (s : Stop). s.number) (map (stop_numbered p) route) ≡ route
 numbers-by p [] valid live = refl
 numbers-by p (n ∷ route) valid live =
@@ -123,5 +123,5 @@ numbers-by p (n ∷ route) valid live =
     ∙ ap (λ ns. n ∷ ns) (numbers-by p route valid live.1)
 
 -- the numbers of a route's course are the route
-pub numbers-are : (p : Instance) (route : List ℕ) → IsInstance p → AreLiveOnce p route → route_of (course_of p route) ≡ route
-numbers-are p route valid once = numbers-by p route valid (recursion_from_All (IsLive p) route once.live)
+pub numbers-are : (p : Instance) (route : List ℕ) → IsInstance p → AreDistinctStops p route → course_route (course_of p route) ≡ route
+numbers-are p route valid once = numbers-by p route valid (recursion_from_All (IsKnownStop p) route once.live)

@@ -1,4 +1,5 @@
--- Who is too late for a place of a table by more than 1 is too late for what is behind it, whatever stop comes in between.
+-- A vehicle that is too late for a place of a table by more than 1 is too late for later places, whatever stop
+-- comes in between.
 use Rattle.std.proofs.Common.{◌≡◌, ℕ, zero, suc, ◌+◌, ◌-◌, ◌<◌, ◌≤◌, ◌⊎◌, min, max, true, false, cond, int_le, ℤ}
 use Rattle.std.proofs.Common.{pos, ◌-ℤ◌, ◌+ℤ◌, List, get_or, length, Option, Some, None, refl, sym, ap, ◌∙◌, arith, subst, inl, inr}
 use Rattle.std.specs.Prelude.{nat_lt}
@@ -8,23 +9,23 @@ use Rattle.plan_types.specs.declared.requests.Stop.{Stop}
 use Rattle.plan_types.specs.declared.requests.Kind.{Kind}
 use Rattle.plan_types.specs.declared.requests.Kind.TheVariants.{LiLim, Vrp}
 use Rattle.nint_dist.specs.Distance.{distance, DetoursSaveAtMostOne}
-use Rattle.slack_tables.specs.Along.{stay, stop_on, start_along, GoesOnAlong}
+use Rattle.slack_tables.specs.Along.{stay, stop_on, start_along, MeetsLaterWindowsAlong}
 use Rattle.slack_tables.specs.Best.{IsFirstOf}
-use Rattle.slack_tables.specs.Closed.{due_of, is_due_before, comes_late, AreTight, IsClosed, AreClosed}
+use Rattle.slack_tables.specs.ClosedPlaces.{deadline_of, has_deadline_before, makes_late, AreTight, IsClosed, AreClosed}
 use Rattle.slack_tables.specs.Course.{Course}
-use Rattle.slack_tables.specs.Driven.{driven_on, stepped, with_stop, with_pair}
-use Rattle.slack_tables.specs.Inside.{AreKnown}
-use Rattle.slack_tables.specs.Legs.{AreRising}
-use Rattle.slack_tables.specs.Ride.{ride_of, is_in_time, is_kept, is_served, price}
+use Rattle.slack_tables.specs.DriveSteps.{driven_on, stepped, with_stop, with_pair}
+use Rattle.slack_tables.specs.TableFields.{AreKnown}
+use Rattle.slack_tables.specs.Legs.{AreAscending}
+use Rattle.slack_tables.specs.Ride.{ride_of, is_in_time, is_within_limits, can_visit, price}
 use Rattle.slack_tables.specs.Scan.{AddsPair}
 use Rattle.slack_tables.specs.Walk.{walk_to}
 use Rattle.slack_tables.specs.declared.progress.Limits.{Limits}
 use Rattle.slack_tables.specs.declared.progress.Progress.{Progress}
 use Rattle.slack_tables.specs.declared.progress.PlaceSlack.{PlaceSlack}
-use Rattle.slack_tables.specs.declared.scan.Addition.{Addition}
+use Rattle.slack_tables.specs.declared.scan.PricedInsertion.{PricedInsertion}
 use Rattle.slack_tables.proofs.AlongLemmas.{start-next}
 use Rattle.slack_tables.proofs.BestLemmas.{first-same}
-use Rattle.slack_tables.proofs.KnownLemmas.{goes_on}
+use Rattle.slack_tables.proofs.KnownLemmas.{continues_within_limits}
 use Rattle.slack_tables.proofs.LateLemmas.{step-start, step-after, late-pickup}
 use Rattle.slack_tables.proofs.LatestLemmas.{IsBound, bound-before}
 use Rattle.slack_tables.proofs.WalkLemmas.{and_then-none, walk-first, walk-more, distance-back}
@@ -42,11 +43,11 @@ tight c places table = λ lilim k d h.
     let window = table.limits.window lilim (k + 1) (omega arith) (omega arith) in
     let fits : start_along (stop_on c) (k + 1) ≤ (get_or places (k + 1) d).latest_start =
     (next.latest_start lilim (start_along (stop_on c) (k + 1)) (omega arith)).0
-    (goes_on c.kind c.capacity (stop_on c) (length c.stops + 1) table.limits (k + 1)) in
+    (continues_within_limits c.kind c.capacity (stop_on c) (length c.stops + 1) table.limits (k + 1)) in
     let bound = bound-before c.kind (stop_on c) (length c.stops + 1) k (get_or places (k + 1) d).latest_start
     (start_along (stop_on c) (k + 1)) lilim (omega arith) (λ u v. next.latest_start lilim u v) (omega arith) fits window latest
     (omega arith) in
-    let goes : GoesOnAlong c.kind (stop_on c) (length c.stops + 1) k
+    let goes : MeetsLaterWindowsAlong c.kind (stop_on c) (length c.stops + 1) k
     (min (get_or places (k + 1) d).latest_start (stop_on c (k + 1)).latest - stay (stop_on c) k) =
     (bound (min (get_or places (k + 1) d).latest_start (stop_on c (k + 1)).latest - stay (stop_on c) k) (omega arith)).1
     (omega arith) in
@@ -57,9 +58,9 @@ tight c places table = λ lilim k d h.
     omega arith
 
 module _ (limits : Limits) (places : List PlaceSlack) (d : PlaceSlack) (lilim : limits.kind ≡ LiLim) (are : AreTight limits.kind places) (law : DetoursSaveAtMostOne) where
-  -- too late for place k by more than 1
+  -- the vehicle is too late for place k by more than 1
   abbrev pub IsLateFor : Progress → ℕ → Type 0
-  IsLateFor a k = due_of (get_or places k d) + 1 < a.start + a.stop.service + distance a.stop (get_or places k d).at.stop
+  IsLateFor a k = deadline_of (get_or places k d) + 1 < a.start + a.stop.service + distance a.stop (get_or places k d).at.stop
 
   late-on : (a b : Progress) (k : ℕ) → k + 1 < length places → IsLateFor a k → stepped limits a (get_or places k d).at.stop ≡ Some b → IsLateFor b (k + 1)
   late-on a b k within late is =
@@ -77,17 +78,17 @@ module _ (limits : Limits) (places : List PlaceSlack) (d : PlaceSlack) (lilim : 
       let tail = get_or places k d in
       let b = driven_on a q in
       let c = driven_on (driven_on a q) tail.at.stop in
-      cond-false (is_served limits (ride_of a) a.stop.service (distance a.stop q) q (distance q tail.at.stop) tail)
+      cond-false (can_visit limits (ride_of a) a.stop.service (distance a.stop q) q (distance q tail.at.stop) tail)
       (Some (price (ride_of a) (distance a.stop q) (distance q tail.at.stop) tail)) None (false_from_ne_true _
       (λ all.
-      (let first = and_parts (is_kept limits (ride_of b) q) _ all in
-      let second = and_parts (is_kept limits (ride_of c) tail.at.stop) _ first.1 in
+      (let first = and_parts (is_within_limits limits (ride_of b) q) _ all in
+      let second = and_parts (is_within_limits limits (ride_of c) tail.at.stop) _ first.1 in
       let after = step-after limits b c tail.at.stop lilim (ap (λ k. cond k (Some c) None) second.0) in
       let saved = law a.stop tail.at.stop q in
       let le =
       leb-true _ _
       (subst (λ k. is_in_time k c.start tail.latest_start ≡ true) lilim
-      (and_parts (int_le (c.load -ℤ tail.at.load +ℤ tail.most_load) (pos limits.capacity))
+      (and_parts (int_le (c.load -ℤ tail.at.load +ℤ tail.max_load) (pos limits.capacity))
       (is_in_time limits.kind c.start tail.latest_start) second.1).1) in
       absurd (omega arith))))
 
@@ -106,7 +107,7 @@ module _ (limits : Limits) (places : List PlaceSlack) (d : PlaceSlack) (lilim : 
         subst (IsLateFor a) (omega arith)
         (late-on b a (i + n) (omega arith) late (sym (ap (λ k. stepped limits b (get_or places k d).at.stop) (omega arith)) ∙ step))))
 
-    -- no delivery behind keeps the limits
+    -- no later delivery keeps the limits
     pub closed-by : (q : Stop) (j : ℕ) → i < j → j ≤ length places → with_pair limits places p q i j d ≡ None
     closed-by q j order within =
         and_then-none _ _
@@ -115,38 +116,39 @@ module _ (limits : Limits) (places : List PlaceSlack) (d : PlaceSlack) (lilim : 
         let here : i + (j - (i + 1)) ≡ j - 1 = omega arith in
         late-between a (j - 1) q (subst (IsLateFor a) here (walk-late (j - (i + 1)) a (omega arith) (ap (walk_to limits places p i d) far ∙ there)))))
 
--- ---- what the code asks
+-- ---- the checks in the code
 module _ (limits : Limits) (places : List PlaceSlack) (p : Stop) (i : ℕ) (are : AreTight limits.kind places) (law : DetoursSaveAtMostOne) where
-  -- a place that has to be started before the pickup's window opens
-  pub closed-due : (e : PlaceSlack) → ((d : PlaceSlack) → e ≡ get_or places i d) → is_due_before limits.kind e p.earliest ≡ true → IsClosed limits places p i
+  -- no pair fits with its pickup before a place that must start before the pickup's window opens
+  pub closed-due : (e : PlaceSlack) → ((d : PlaceSlack) → e ≡ get_or places i d) → has_deadline_before limits.kind e p.earliest ≡ true → IsClosed limits places p i
   closed-due e is early = by limits.kind refl
     where
       by : (k : Kind) → limits.kind ≡ k → IsClosed limits places p i
       by LiLim lilim = λ q j d. closed-by limits places d lilim are law p i
           (λ a step.
-          (let due = ltb-true _ _ (subst (λ k. is_due_before k e p.earliest ≡ true) lilim early) in
-          let same : due_of e ≡ due_of (get_or places i d) = ap due_of (is d) in
+          (let due = ltb-true _ _ (subst (λ k. has_deadline_before k e p.earliest ≡ true) lilim early) in
+          let same : deadline_of e ≡ deadline_of (get_or places i d) = ap deadline_of (is d) in
           let start = (step-start limits (get_or places (i - 1) d).at a p step).0 in
           omega arith)) q j
-      by Vrp vrp = absurd (let no : false ≡ true = subst (λ k. is_due_before k e p.earliest ≡ true) vrp early in cc)
+      by Vrp vrp = absurd (let no : false ≡ true = subst (λ k. has_deadline_before k e p.earliest ≡ true) vrp early in cc)
 
-  -- a pickup that is late by ways from below, or makes the place behind it late
+  -- no pair fits with its pickup at place i if the pickup is late by lower bounds on distances, or makes the
+  -- next place late
   pub closed-late : limits.kind ≡ LiLim → (before next : PlaceSlack) (to from : ℕ) → ((d : PlaceSlack) → before ≡ get_or places (i - 1) d)
       → ((d : PlaceSlack) → next ≡ get_or places i d) → ((d : PlaceSlack) → to ≤ distance (get_or places (i - 1) d).at.stop p)
-      → ((d : PlaceSlack) → from ≤ distance (get_or places i d).at.stop p) → comes_late before next p to from ≡ true → IsClosed limits places p i
+      → ((d : PlaceSlack) → from ≤ distance (get_or places i d).at.stop p) → makes_late before next p to from ≡ true → IsClosed limits places p i
   closed-late lilim before next to from is_before is_next is_to is_from late = λ q j d. closed-by limits places d lilim are law p i (first d) q j
     where
       start : ℕ
       start = max (before.at.start + before.at.stop.service + to) p.earliest
 
       first : (d : PlaceSlack) (a : Progress) → stepped limits (get_or places (i - 1) d).at p ≡ Some a
-          → due_of (get_or places i d) + 1 < a.start + a.stop.service + distance a.stop (get_or places i d).at.stop
-      first d a step = elim (or_cases (nat_lt p.latest start) (nat_lt (due_of next + 1) (start + p.service + from)) late) [
+          → deadline_of (get_or places i d) + 1 < a.start + a.stop.service + distance a.stop (get_or places i d).at.stop
+      first d a step = elim (or_cases (nat_lt p.latest start) (nat_lt (deadline_of next + 1) (start + p.service + from)) late) [
         | inl over ↦ (let less = ltb-true p.latest start over in let le = there in let in_time = after.2 in absurd (omega arith))
         | inr over ↦
-            (let less = ltb-true (due_of next + 1) (start + p.service + from) over in
+            (let less = ltb-true (deadline_of next + 1) (start + p.service + from) over in
             let le = there in
-            let same : due_of next ≡ due_of (get_or places i d) = ap due_of (is_next d) in
+            let same : deadline_of next ≡ deadline_of (get_or places i d) = ap deadline_of (is_next d) in
             let service : a.stop.service ≡ p.service = ap (λ (s : Stop). s.service) after.0 in
             let way : distance a.stop (get_or places i d).at.stop ≡ distance (get_or places i d).at.stop p =
             ap (λ s. distance s (get_or places i d).at.stop) after.0 ∙ distance-back p (get_or places i d).at.stop in
@@ -171,43 +173,43 @@ module _ (limits : Limits) (places : List PlaceSlack) (p : Stop) (i : ℕ) (are 
 -- ---- one place after another
 pub closed-more : (limits : Limits) (places : List PlaceSlack) (p : Stop) (m n : ℕ) → AreClosed limits places p m n
     → IsClosed limits places p n → AreClosed limits places p m (n + 1)
-closed-more limits places p m n are is = λ i behind before. by i behind before (cases_lt i n)
+closed-more limits places p m n are is = λ i following before. by i following before (cases_lt i n)
   where
     by : (i : ℕ) → m < i → i < n + 1 → (i < n) ⊎ (n ≤ i) → IsClosed limits places p i
-    by i behind before (inl less) = are i behind less
-    by i behind before (inr last) = let same : n ≡ i = omega arith in subst (IsClosed limits places p) same is
+    by i following before (inl less) = are i following less
+    by i following before (inr last) = let same : n ≡ i = omega arith in subst (IsClosed limits places p) same is
 
--- behind a place that is started after the pickup's latest time
-pub closed-past : (limits : Limits) (places : List PlaceSlack) (p : Stop) (i : ℕ) (e : PlaceSlack) → AreRising places → 1 ≤ i
+-- no pair fits with its pickup after a place that starts after the pickup's latest time
+pub closed-past : (limits : Limits) (places : List PlaceSlack) (p : Stop) (i : ℕ) (e : PlaceSlack) → AreAscending places → 1 ≤ i
     → ((d : PlaceSlack) → e ≡ get_or places (i - 1) d) → is_in_time limits.kind e.at.start p.latest ≡ false
     → AreClosed limits places p (i - 1) (length places)
-closed-past limits places p i e rising one is late = λ k behind before q j d order last.
-    late-pickup limits places p q d rising i k j one (omega arith) order last
+closed-past limits places p i e ascending one is late = λ k following before q j d order last.
+    late-pickup limits places p q d ascending i k j one (omega arith) order last
     (subst (λ (e : PlaceSlack). is_in_time limits.kind e.at.start p.latest ≡ false) (is d) late)
 
--- ---- what is closed adds nothing
-pub open-only : (limits : Limits) (places : List PlaceSlack) (p q : Stop) (kept first : ℕ) (below : ℤ) (d : PlaceSlack) (o : Option Addition)
+-- ---- a closed place adds nothing
+pub open-only : (limits : Limits) (places : List PlaceSlack) (p q : Stop) (kept first : ℕ) (below : ℤ) (d : PlaceSlack) (o : Option PricedInsertion)
     → kept < first → AreClosed limits places p kept first → IsFirstOf (AddsPair limits places p q (first - 1) below d) o
     → IsFirstOf (AddsPair limits places p q kept below d) o
 open-only limits places p q kept first below d o later closed is =
     first-same _ _
     (λ a adds. (
-      record { behind = let behind = adds.0.behind in omega arith; order = adds.0.order; within = adds.0.within; added = adds.0.added },
+      record { following = let following = adds.0.following in omega arith; order = adds.0.order; within = adds.0.within; added = adds.0.added },
       adds.1,
     ))
     (λ a adds. (
-      record { behind = by a adds (cases_lt a.pickup first); order = adds.0.order; within = adds.0.within; added = adds.0.added },
+      record { following = by a adds (cases_lt a.pickup first); order = adds.0.order; within = adds.0.within; added = adds.0.added },
       adds.1,
     )) o is
   where
-    by : (a : Addition) → AddsPair limits places p q kept below d a → (a.pickup < first) ⊎ (first ≤ a.pickup) → first - 1 < a.pickup
-    by a adds (inl before) = absurd (none-some a.distance (sym (closed a.pickup adds.0.behind before q a.delivery d adds.0.order adds.0.within) ∙ adds.0.added))
-    by a adds (inr behind) = omega arith
+    by : (a : PricedInsertion) → AddsPair limits places p q kept below d a → (a.pickup < first) ⊎ (first ≤ a.pickup) → first - 1 < a.pickup
+    by a adds (inl before) = absurd (none-some a.distance (sym (closed a.pickup adds.0.following before q a.delivery d adds.0.order adds.0.within) ∙ adds.0.added))
+    by a adds (inr following) = omega arith
 
 pub none-open : (limits : Limits) (places : List PlaceSlack) (p q : Stop) (kept : ℕ) (below : ℤ) (d : PlaceSlack)
     → AreClosed limits places p kept (length places) → IsFirstOf (AddsPair limits places p q kept below d) None
 none-open limits places p q kept below d closed = λ a adds.
     none-some a.distance
-    (sym (closed a.pickup adds.0.behind
+    (sym (closed a.pickup adds.0.following
     (let order = adds.0.order in let within = adds.0.within in omega arith) q a.delivery d adds.0.order adds.0.within)
     ∙ adds.0.added)

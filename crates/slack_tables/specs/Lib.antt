@@ -1,22 +1,22 @@
--- what public contracts say
+-- the definitions in public contracts
 pub mod Best
 pub mod Course
 pub mod FitsNowhere
 pub mod Insertion
 pub mod Latest
 pub mod RequestFloors
--- what private functions do
+-- the definitions in private contracts
 pub mod Along
-pub mod Closed
-pub mod Driven
-pub mod Filled
-pub mod Front
-pub mod Inside
+pub mod ClosedPlaces
+pub mod DriveSteps
+pub mod BackwardPass
+pub mod SharedPrefix
+pub mod TableFields
 pub mod Legs
-pub mod Opened
+pub mod ForwardPass
 pub mod Places
 pub mod Ride
 pub mod Scan
-pub mod Seen
+pub mod TableCursor
 pub mod Span
 pub mod Walk

@@ -1,22 +1,23 @@
--- What a table knows of a place.
+-- The values of a place in a table.
 use Rattle.std.specs.Prelude.{◌≡◌, ℕ, ◌^◌, ◌<◌, ◌≤◌, ◌↔◌, ℤ, ◌≤ℤ◌}
 use Rattle.plan_types.specs.declared.requests.Stop.{Stop}
 use Rattle.plan_types.specs.declared.requests.Kind.{Kind}
 use Rattle.plan_types.specs.declared.requests.Kind.TheVariants.{LiLim}
-use Rattle.slack_tables.specs.Along.{start_along, load_along, length_along, GoesOnAlong}
+use Rattle.slack_tables.specs.Along.{start_along, load_along, length_along, MeetsLaterWindowsAlong}
 use Rattle.slack_tables.specs.declared.progress.Progress.{Progress}
 use Rattle.slack_tables.specs.declared.progress.PlaceSlack.{PlaceSlack}
 
--- the vehicle is at place k of these stops
+-- a is the state at place k of these stops
 pub record IsAt (stops : ℕ → Stop) (k : ℕ) (a : Progress) : Type 0 where
   pub stop : a.stop ≡ stops k
   pub start : a.start ≡ start_along stops k
   pub load : a.load ≡ load_along stops k
   pub distance : a.distance ≡ length_along stops k
 
--- Place k, where `last` is the place of the return. The greatest number stands for any start, and other starts are far below 2^60.
+-- place k, if `last` is the place of the return; the greatest number stands for any start, and other starts are
+-- far below 2^60
 pub record IsKnown (kind : Kind) (stops : ℕ → Stop) (last k : ℕ) (e : PlaceSlack) : Type 0 where
   pub at : IsAt stops k e.at
-  pub latest_start : kind ≡ LiLim → (t : ℕ) → t ≤ 2 ^ 60 → GoesOnAlong kind stops last k t ↔ (t ≤ e.latest_start)
+  pub latest_start : kind ≡ LiLim → (t : ℕ) → t ≤ 2 ^ 60 → MeetsLaterWindowsAlong kind stops last k t ↔ (t ≤ e.latest_start)
   pub limit : kind ≡ LiLim → k < last → e.latest_start ≤ 100000000
-  pub most_load : (c : ℤ) → (e.most_load ≤ℤ c) ↔ ((m : ℕ) → k ≤ m → m ≤ last → load_along stops m ≤ℤ c)
+  pub max_load : (c : ℤ) → (e.max_load ≤ℤ c) ↔ ((m : ℕ) → k ≤ m → m ≤ last → load_along stops m ≤ℤ c)

@@ -1,41 +1,41 @@
--- The ways of a request that are the same whichever route it is put into.
+-- The distances of a request that are the same for every route.
 use Rattle.std.specs.Prelude.{◌≡◌, ◌≤◌, ◌^◌}
 use Rattle.plan_types.specs.declared.requests.Request.{Request}
 use Rattle.plan_types.specs.declared.requests.Request.TheVariants.{Single, Pair}
 use Rattle.plan_types.specs.declared.requests.Stop.{Stop}
 use Rattle.nint_dist.specs.Distance.{distance}
-use Rattle.slack_tables.specs.declared.request.RequestWays.{RequestWays}
+use Rattle.slack_tables.specs.declared.request.RequestDistances.{RequestDistances}
 
--- far from where sums would wrap
-pub record AreSmallWays (w : RequestWays) : Type 0 where
-  pub home : w.home ≤ 2 ^ 33
-  pub last_home : w.last_home ≤ 2 ^ 33
-  pub across : w.across ≤ 2 ^ 33
+-- small enough that sums do not overflow
+pub record AreSmallDistances (w : RequestDistances) : Type 0 where
+  pub to_depot : w.to_depot ≤ 2 ^ 33
+  pub delivery_to_depot : w.delivery_to_depot ≤ 2 ^ 33
+  pub between_stops : w.between_stops ≤ 2 ^ 33
 
--- a single isn't nearer to the depot
-abbrev pub AreFloorsOfSingle : Stop → Stop → RequestWays → Type 0
-AreFloorsOfSingle depot s w = w.home ≤ distance depot s
+-- a lower bound on the distance from the depot to a single
+abbrev pub AreFloorsOfSingle : Stop → Stop → RequestDistances → Type 0
+AreFloorsOfSingle depot s w = w.to_depot ≤ distance depot s
 
--- nor are a pair's stops, and they are no nearer to one another
-pub record AreFloorsOfPair (depot p q : Stop) (w : RequestWays) : Type 0 where
-  pub home : w.home ≤ distance depot p
-  pub last_home : w.last_home ≤ distance depot q
-  pub across : w.across ≤ distance p q
+-- lower bounds on the distances from the depot to both stops of a pair, and between them
+pub record AreFloorsOfPair (depot p q : Stop) (w : RequestDistances) : Type 0 where
+  pub to_depot : w.to_depot ≤ distance depot p
+  pub delivery_to_depot : w.delivery_to_depot ≤ distance depot q
+  pub between_stops : w.between_stops ≤ distance p q
 
-abbrev pub AreBelow : Stop → Request → RequestWays → Type 0
+abbrev pub AreBelow : Stop → Request → RequestDistances → Type 0
 AreBelow depot (Single s) w = AreFloorsOfSingle depot s w
 AreBelow depot (Pair p q) w = AreFloorsOfPair depot p q w
 
--- the ways of the request are no shorter
-pub record AreFloors (depot : Stop) (r : Request) (w : RequestWays) : Type 0 where
-  pub small : AreSmallWays w
+-- lower bounds on the distances of the request
+pub record AreFloors (depot : Stop) (r : Request) (w : RequestDistances) : Type 0 where
+  pub small : AreSmallDistances w
   pub below : AreBelow depot r w
 
--- and so long is the way from pickup to delivery
-abbrev pub IsAcross : Request → RequestWays → Type 0
-IsAcross (Single s) w = Unit {0}
-IsAcross (Pair p q) w = (w.across ≡ distance p q) × (w.across ≤ 2 ^ 32)
+-- the exact distance from pickup to delivery
+abbrev pub IsBetweenStops : Request → RequestDistances → Type 0
+IsBetweenStops (Single s) w = Unit {0}
+IsBetweenStops (Pair p q) w = (w.between_stops ≡ distance p q) × (w.between_stops ≤ 2 ^ 32)
 
-pub record AreWays (depot : Stop) (r : Request) (w : RequestWays) : Type 0 where
+pub record AreDistances (depot : Stop) (r : Request) (w : RequestDistances) : Type 0 where
   pub floors : AreFloors depot r w
-  pub across : IsAcross r w
+  pub between_stops : IsBetweenStops r w

@@ -1,5 +1,5 @@
--- How a vehicle goes on to a stop along a way whose length is given, and what a stop adds before a place of a table: each step of the
--- code, for the scan, for one insertion and for the building of tables.
+-- The step of a vehicle to a stop along a leg of a given length, and the distance that a stop adds before a
+-- place of a table. These are the steps of the code, for the scan, for one insertion and for building tables.
 use Rattle.std.specs.Prelude.{ℕ, ◌+◌, ◌^◌, ◌≤◌, max, nat_le, ℤ, pos, ◌+ℤ◌, ◌-ℤ◌}
 use Rattle.std.specs.Prelude.{int_le, int_lt, unsigned_abs, Bool, true, ◌&&◌, Option, Some, None, if◌then◌else◌}
 use Rattle.plan_types.specs.declared.requests.Stop.{Stop}
@@ -10,14 +10,14 @@ use Rattle.slack_tables.specs.declared.progress.Progress.{Progress}
 use Rattle.slack_tables.specs.declared.progress.PlaceSlack.{PlaceSlack}
 use Rattle.slack_tables.specs.declared.ride.Ride.{Ride}
 
--- at this stop
+-- the state at this stop
 abbrev pub ride_at : Ride → Stop → Progress
 ride_at r s = record { stop = s; start = r.start; load = r.load; distance = r.distance }
 
 abbrev pub ride_of : Progress → Ride
 ride_of a = record { start = a.start; load = a.load; distance = a.distance }
 
--- after the service where the vehicle is and the way to another stop: who arrives early waits
+-- the state after the service and the leg to another stop; a vehicle that arrives early waits
 abbrev pub driven : Ride → ℕ → ℕ → Stop → Ride
 driven r service leg s = record { start = max (r.start + service + leg) s.earliest; load = r.load +ℤ s.demand; distance = r.distance + leg }
 
@@ -25,43 +25,43 @@ abbrev pub is_in_time : Kind → ℕ → ℕ → Bool
 is_in_time LiLim start latest = nat_le start latest
 is_in_time Vrp start latest = true
 
--- the load and the start keep their limits at this stop
-abbrev pub is_kept : Limits → Ride → Stop → Bool
-is_kept limits r s = int_le r.load (pos limits.capacity) && is_in_time limits.kind r.start s.latest
+-- whether the load and the start are within the limits at this stop
+abbrev pub is_within_limits : Limits → Ride → Stop → Bool
+is_within_limits limits r s = int_le r.load (pos limits.capacity) && is_in_time limits.kind r.start s.latest
 
--- one stop more, if it keeps the limits
+-- the state at the next stop if it is within the limits
 abbrev pub ridden : Limits → Ride → ℕ → ℕ → Stop → Option Ride
-ridden limits r service leg s = if is_kept limits (driven r service leg s) s then Some (driven r service leg s) else None
+ridden limits r service leg s = if is_within_limits limits (driven r service leg s) s then Some (driven r service leg s) else None
 
--- a place of the old route and what is behind it keep the limits
-abbrev pub is_borne : Limits → Ride → PlaceSlack → Bool
-is_borne limits r tail = int_le (r.load -ℤ tail.at.load +ℤ tail.most_load) (pos limits.capacity) && is_in_time limits.kind r.start tail.latest_start
+-- whether the load and the start leave all later places of the old route within the limits
+abbrev pub tail_is_within_limits : Limits → Ride → PlaceSlack → Bool
+tail_is_within_limits limits r tail = int_le (r.load -ℤ tail.at.load +ℤ tail.max_load) (pos limits.capacity) && is_in_time limits.kind r.start tail.latest_start
 
-abbrev pub goes_on : Limits → Ride → ℕ → ℕ → PlaceSlack → Bool
-goes_on limits r service leg tail = is_kept limits (driven r service leg tail.at.stop) tail.at.stop && is_borne limits (driven r service leg tail.at.stop) tail
+abbrev pub continues_within_limits : Limits → Ride → ℕ → ℕ → PlaceSlack → Bool
+continues_within_limits limits r service leg tail = is_within_limits limits (driven r service leg tail.at.stop) tail.at.stop && tail_is_within_limits limits (driven r service leg tail.at.stop) tail
 
--- a stop comes next, and then a place of the old route and all behind it
-abbrev pub is_served : Limits → Ride → ℕ → ℕ → Stop → ℕ → PlaceSlack → Bool
-is_served limits r service to s from tail = is_kept limits (driven r service to s) s && goes_on limits (driven r service to s) s.service from tail
+-- whether a stop that comes next is within the limits, and then a place of the old route and all later ones
+abbrev pub can_visit : Limits → Ride → ℕ → ℕ → Stop → ℕ → PlaceSlack → Bool
+can_visit limits r service to s from tail = is_within_limits limits (driven r service to s) s && continues_within_limits limits (driven r service to s) s.service from tail
 
--- the distance that this adds
+-- the distance that a stop before a place of the old route adds
 abbrev pub price : Ride → ℕ → ℕ → PlaceSlack → ℤ
 price r to from tail = pos (r.distance + to + from) -ℤ pos tail.at.distance
 
--- where it is less than the bound and the limits are kept
-abbrev pub served : Limits → Ride → ℕ → ℕ → Stop → ℕ → PlaceSlack → Option ℤ
-served limits r service to s from tail = if is_served limits r service to s from tail then Some (price r to from tail) else None
+-- the distance added if the limits are kept; `price_below` requires it to be below a bound, too
+abbrev pub price_if_feasible : Limits → Ride → ℕ → ℕ → Stop → ℕ → PlaceSlack → Option ℤ
+price_if_feasible limits r service to s from tail = if can_visit limits r service to s from tail then Some (price r to from tail) else None
 
-abbrev pub served_below : ℤ → Limits → Ride → ℕ → ℕ → Stop → ℕ → PlaceSlack → Option ℤ
-served_below below limits r service to s from tail = if int_lt (price r to from tail) below then served limits r service to s from tail else None
+abbrev pub price_below : ℤ → Limits → Ride → ℕ → ℕ → Stop → ℕ → PlaceSlack → Option ℤ
+price_below below limits r service to s from tail = if int_lt (price r to from tail) below then price_if_feasible limits r service to s from tail else None
 
--- far from where sums would wrap
+-- small enough that sums do not overflow
 pub record IsSmallRide (bound : ℕ) (r : Ride) : Type 0 where
   pub start : r.start ≤ bound
   pub load : unsigned_abs r.load ≤ bound
   pub distance : r.distance ≤ bound
 
--- after one stop more
+-- bounds on the state at the next stop
 pub record IsNearRide (a : Ride) (leg : ℕ) (b : Ride) : Type 0 where
   pub start : b.start ≤ a.start + leg + 2 ^ 33
   pub load : unsigned_abs b.load ≤ unsigned_abs a.load + 2 ^ 31

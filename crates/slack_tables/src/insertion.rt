@@ -1,21 +1,21 @@
-//! What putting the stops of a request at given places of a route adds to it.
+//! The distance that a request adds at given places of a route.
 
 ghost use Rattle.std.specs.Prelude.{◌≡◌, ◌+◌, ◌-◌, ◌^◌, ◌<◌, ◌≤◌, All, length};
 ghost use Rattle.plan_types.specs.Limits.{IsVisit};
 ghost use Rattle.slack_tables.specs.declared.progress.PlaceSlack.{PlaceSlack};
-ghost use Rattle.slack_tables.specs.Driven.{with_single, with_pair, IsSmallRow};
+ghost use Rattle.slack_tables.specs.DriveSteps.{with_single, with_pair, IsSmallRow};
 
 use crate::legs::{leg_at, small_row};
 use crate::progress::{Limits, PlaceSlack};
-use crate::ride::{Detour, ride_of, ride_on, serve_below};
+use crate::ride::{Detour, price_below, ride_of, ride_on};
 use nint_dist::dist;
 use plan_types::Stop;
 
-// No price is as high.
-const ANY_PRICE: i64 = i64::MAX;
+// An upper bound: no price is this high.
+const MAX_PRICE: i64 = i64::MAX;
 
-/// The distance added by one stop, put behind place `i - 1`.
-pub(crate) fn single_added(
+/// Returns the distance that a single adds if it is inserted after place `i - 1`.
+pub(crate) fn added_by_single(
     limits: Limits,
     places: &[PlaceSlack],
     stop: &Stop,
@@ -34,8 +34,8 @@ pub(crate) fn single_added(
         from: leg_at(places, i, stop),
     };
     let service = before.at.stop.service;
-    serve_below(
-        ANY_PRICE,
+    price_below(
+        MAX_PRICE,
         limits,
         &ride_of(&before.at),
         service,
@@ -45,8 +45,9 @@ pub(crate) fn single_added(
     )
 }
 
-/// The distance added by a pickup behind place `i - 1` and its delivery at place `j` of the new route.
-pub(crate) fn pair_added(
+/// Returns the distance that a pair adds if its pickup is inserted after place `i - 1` and its delivery is at
+/// place `j` of the new route.
+pub(crate) fn added_by_pair(
     limits: Limits,
     places: &[PlaceSlack],
     pickup: &Stop,
@@ -78,8 +79,8 @@ pub(crate) fn pair_added(
         from: leg_at(places, j - 1, delivery),
     };
     let tail = small_row(places, j - 1);
-    serve_below(
-        ANY_PRICE,
+    price_below(
+        MAX_PRICE,
         limits,
         &ride,
         stop.service,

@@ -1,5 +1,5 @@
-//! The ways between the places of a table and a stop, exact and from below, and the least detours from each
-//! place on.
+//! The distances between the places of a table and a stop, exact or as lower bounds, and the least detours from
+//! each place on.
 
 ghost use Rattle.std.specs.Prelude.{◌≡◌, ◌+◌, ◌^◌, ◌≤◌, ◌<◌, All, IsTrue, ℕ, length};
 ghost use Rattle.std.specs.Int.{int_min};
@@ -7,25 +7,26 @@ ghost use Rattle.plan_types.specs.Limits.{IsVisit};
 ghost use Rattle.nint_dist.specs.Distance.{distance};
 ghost use Rattle.std.specs.Prelude.{slice_index_or, ℤ, pos, ◌+ℤ◌, ◌-ℤ◌, ◌≤ℤ◌, unsigned_abs};
 ghost use Rattle.slack_tables.specs.declared.progress.PlaceSlack.{PlaceSlack};
-ghost use Rattle.slack_tables.specs.Driven.{IsSmallRow};
-ghost use Rattle.slack_tables.specs.Legs.{AreLeast};
+ghost use Rattle.slack_tables.specs.DriveSteps.{IsSmallRow};
+ghost use Rattle.slack_tables.specs.Legs.{AreLeastDetours};
 
 use crate::progress::{PlaceSlack, difference};
-use crate::span::{least_between, side_between};
+use crate::span::{distance_lower_bound, longer_side_between};
 use crate::table::row_at;
 use nint_dist::dist;
 use plan_types::Stop;
 
-/// Of so many places the least detours are kept, since that takes no memory from the allocator.
-pub(crate) const ROOM: usize = 128;
+/// The greatest number of places for which the least detours are stored. They are on the stack, so nothing is
+/// allocated.
+pub(crate) const BUFFER_LEN: usize = 128;
 
-/// Of fewer places in less memory, which is cleared in less time.
-pub(crate) const SHORT: usize = 32;
+/// The number of places up to which a smaller buffer is used, since it takes less time to clear.
+pub(crate) const SHORT_BUFFER_LEN: usize = 32;
 
-// No detour is as long.
-const FAR: i64 = 1 << 60;
+// An upper bound: no detour is this long.
+const MAX_DETOUR: i64 = 1 << 60;
 
-/// The way between a place and the stop.
+/// Returns the distance between a place and the stop.
 #[inline(always)]
 pub(crate) fn leg_at(places: &[PlaceSlack], k: usize, stop: &Stop) -> u64
     requires places { All IsSmallRow places.now }
@@ -39,30 +40,31 @@ pub(crate) fn leg_at(places: &[PlaceSlack], k: usize, stop: &Stop) -> u64
     u64::from(dist(&place.at.stop, stop))
 }
 
-/// The way between a place and the stop is no shorter. This takes no root.
-pub(crate) fn least_leg_at(places: &[PlaceSlack], k: usize, stop: &Stop) -> u64
+/// Returns a lower bound on the distance between a place and the stop, without a square root.
+pub(crate) fn leg_lower_bound(places: &[PlaceSlack], k: usize, stop: &Stop) -> u64
     requires within { k < length places.now }
     ensures value { (d : PlaceSlack) → result
         ≤ distance (slice_index_or places.now k d).at.stop stop.now }
     ensures bound { result ≤ 2 ^ 33 }
 {
     let place = row_at(places, k);
-    least_between(&place.at.stop, stop)
+    distance_lower_bound(&place.at.stop, stop)
 }
 
-/// The same by the longer side alone, which is quicker to know and not as near.
+/// Returns a lower bound on the distance between a place and the stop: the greater difference of their
+/// coordinates. It is faster than `leg_lower_bound` and less exact.
 #[inline(always)]
-pub(crate) fn side_at(places: &[PlaceSlack], k: usize, stop: &Stop) -> u64
+pub(crate) fn leg_longer_side(places: &[PlaceSlack], k: usize, stop: &Stop) -> u64
     requires within { k < length places.now }
     ensures value { (d : PlaceSlack) → result
         ≤ distance (slice_index_or places.now k d).at.stop stop.now }
     ensures bound { result ≤ 2 ^ 33 }
 {
     let place = row_at(places, k);
-    side_between(&place.at.stop, stop)
+    longer_side_between(&place.at.stop, stop)
 }
 
-// By how much the way from a place to the next gets longer over a stop so far from both.
+// Returns how much longer the leg from a place to the next becomes through a stop at these distances from both.
 fn detour(here: &PlaceSlack, to: u64, from: u64, next: &PlaceSlack) -> i64
     requires here { IsSmallRow here.now }
     requires to { to ≤ 2 ^ 33 }
@@ -75,46 +77,51 @@ fn detour(here: &PlaceSlack, to: u64, from: u64, next: &PlaceSlack) -> i64
     difference(here.at.distance + to + from, next.at.distance)
 }
 
-/// What no detour from each place on is less than, from place `first` on.
-pub(crate) fn fill_least(least: &mut [i64], places: &[PlaceSlack], stop: &Stop, first: usize)
+/// Fills in, for each place from `first` on, a lower bound on all detours from that place on.
+pub(crate) fn fill_least_detours(
+    least: &mut [i64],
+    places: &[PlaceSlack],
+    stop: &Stop,
+    first: usize,
+)
     requires places { All IsSmallRow places.now }
     requires count { length least.old ≡ length places.now }
     requires within { first < length least.old }
-    ensures { AreLeast first least.new places.now stop.now }
+    ensures { AreLeastDetours first least.new places.now stop.now }
 {
     let last = least.len() - 1;
-    least[last] = FAR;
-    let mut from = least_leg_at(places, last, stop);
+    least[last] = MAX_DETOUR;
+    let mut from = leg_lower_bound(places, last, stop);
     for k in (first..last).rev() {
         let here = small_row(places, k);
         let next = small_row(places, k + 1);
-        let to = least_leg_at(places, k, stop);
-        least[k] = lesser(detour(here, to, from, next), least[k + 1]);
+        let to = leg_lower_bound(places, k, stop);
+        least[k] = min_of(detour(here, to, from, next), least[k + 1]);
         from = to;
     }
 }
 
-fn lesser(a: i64, b: i64) -> i64
+fn min_of(a: i64, b: i64) -> i64
     ensures { result ≡ int_min a b }
 {
     a.min(b)
 }
 
-/// Whether it is known that from place `k` on each detour comes to the bound, where the way before
-/// grew from `base` to `reach`.
-pub(crate) fn is_hopeless(least: &[i64], k: usize, reach: u64, base: u64, bound: i64) -> bool
+/// Returns whether each insertion from place `k` on is known to add `bound` or more, if the distance up to
+/// place `k` has already grown from `base` to `reach`.
+pub(crate) fn cannot_improve(least: &[i64], k: usize, reach: u64, base: u64, bound: i64) -> bool
     requires reach { reach ≤ 2 ^ 59 }
     requires base { base ≤ 2 ^ 59 }
     requires least { k < length least.now
         → unsigned_abs (slice_index_or least.now k (pos 0)) ≤ 2 ^ 60 }
     ensures within { IsTrue result → k < length least.now }
-    ensures dear { IsTrue result → bound ≤ℤ
+    ensures expensive { IsTrue result → bound ≤ℤ
         ((pos reach -ℤ pos base) +ℤ slice_index_or least.now k (pos 0)) }
 {
     k < least.len() && difference(reach, base) + least[k] >= bound
 }
 
-/// A place of a table, whose numbers are far from where sums would wrap.
+/// Returns a place of a table. Its numbers are small enough that sums do not overflow.
 pub(crate) fn small_row(places: &[PlaceSlack], k: usize) -> &PlaceSlack
     requires places { All IsSmallRow places.now }
     requires within { k < length places.now }

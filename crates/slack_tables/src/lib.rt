@@ -1,53 +1,45 @@
-//! Tables of a route that tell, without driving it again, whether a request fits into it and how much longer
-//! it gets.
+//! Tables of a route. They show whether a request fits into the route and how much distance it adds, without a
+//! new pass along the route.
 //!
-//! `RouteTable::build` makes the table of a route, `try_insert` prices one pair of places, `best_places`
-//! finds the best of all places. The moves (`move_ops`) keep a table for each vehicle, and ask `rules_out_by` and
-//! then `best_places_by` for each request that they put in, whose `RequestWays` they compute once.
+//! `RouteTable::build` makes the table of a route. `try_insert` prices one pair of places, and `best_places`
+//! finds the cheapest of all places. The moves (`move_ops`) keep a table for each vehicle. For a request they
+//! compute its `RequestDistances` once and then call `rules_out_with` and `best_places_with` for each route.
 //!
 //! Modules, in reading order:
 //! - `table`: the table, and the passes that fill it.
-//! - `progress`, `ride`: where a vehicle is and what it must keep there, and how it goes on, for all below.
-//! - `slack`: the backward pass, which gives each place its latest start and its greatest load.
-//! - `insertion`: what one insertion adds (`try_insert`).
-//! - `scan`: the best of all insertions (`best_places`), with `closed` and `legs`, which leave out places by
-//!   times and by prices from below.
-//! - `request`, `span`: the ways of a request that no route has a part in, and bounds by which a whole scan is left out.
-//! - `front`, `ways`: what is taken from a table of a route that differs little.
+//! - `progress`, `ride`: the state of a vehicle at a place, its limits, and the step to the next stop.
+//! - `slack`: the backward pass, which computes the latest start and the greatest load from each place on.
+//! - `insertion`: the distance that one insertion adds (`try_insert`).
+//! - `scan`: the best of all insertions (`best_places`). `closed` and `legs` let it skip places, by bounds on
+//!   times and prices.
+//! - `request`, `span`: the distances of a request that do not depend on the route, and bounds that rule out a
+//!   whole scan.
+//! - `front`, `known_legs`: reuse of the table of a similar route.
 //!
-//! Specs: `Course` (what the schedule of a route depends on), `Latest`, `Insertion`, `RequestFloors`, `Best` and
-//! `FitsNowhere` say what public functions take and answer; the others follow the modules.
-//!
-//! Source: the forward time slack of routing with time windows (Savelsbergh), in whole numbers and with
+//! Source: the forward time slack of routing with time windows (Savelsbergh), here in whole numbers and with
 //! rounded distances, which break the triangle inequality.
 //!
-//! How it works: each place has its start, load, distance from the depot, latest start, and greatest load
-//! from there on. A front of the route and a tail of it fit where the vehicle comes to the tail no later than
-//! its latest start and with room for its greatest load; distances from the depot make the price one
-//! difference. So a single costs a step at each place, a pair a walk from pickup to delivery.
+//! Each place has its start, its load, its distance from the depot, its latest start, and the greatest load
+//! from there on. A prefix and a tail of the route fit together if the vehicle reaches the tail by the tail's
+//! latest start and its load leaves room for the tail's greatest load. The price of an insertion is a
+//! difference of distances from the depot. So a single takes one step at each place, and a pair takes a pass
+//! from its pickup place to its delivery place.
 //!
-//! A table keeps its stops itself, so it does not go stale where a problem changes elsewhere. What contracts
-//! see of it is its course; the problem that it was made with is no part of it, and `start`, `load`,
-//! `latest_start` and `distance` hold for every problem and route of this course.
+//! A table holds copies of its stops, so it stays valid if other parts of the problem change. In contracts its
+//! value is its course: the kind, the capacity, the depot and the stops. Its `start`, `load`, `latest_start`
+//! and `distance` hold for every problem and route with this course.
 //!
-//! Proved:
-//! - `build`, `rebuild` and `remade` give the table of the route's course; a refused `rebuild` leaves the old
-//!   one; `remade` gives none, and `keeps_limits` is false, exactly where the route breaks the capacity or a
-//!   window;
-//! - `stop` is the stop at a place; `is_beyond` is true only where each stop of the route is farther away than asked;
-//! - `start`, `load` and `distance` are `route_sched`'s; `latest_start` is the greatest start from which no
-//!   later window and no return is missed;
-//! - `try_insert`: exactly by how much the new route is longer, or none exactly where it breaks a limit;
-//! - `best_places`: of all places behind the pin where the new route keeps the limits and gets longer by less
-//!   than a bound, the first by distance, pickup place and delivery place; none exactly where there is none;
-//!   without memory. `best_places_are_one`: there is one such answer;
-//! - `rules_out`: true only where `best_places` finds none below that bound, wherever the pin ends;
-//! - `rules_out_by` and `best_places_by`: the same, by ways that `RequestWays::of` gives.
+//! Proved: `build`, `rebuild` and `into_rebuilt` return the table of the given route, and `keeps_limits` is true
+//! exactly if the route keeps the capacity and the windows. `try_insert` returns exactly the added distance, or
+//! `None` exactly if the new route breaks a limit; `best_places` returns the first insertion by distance,
+//! pickup place and delivery place among all that keep the limits and add less than a bound, or `None` exactly
+//! if there is none. If `rules_out` is true, `best_places` finds nothing below that bound.
 #![tactic(auto)]
 
 mod closed;
 mod front;
 mod insertion;
+mod known_legs;
 mod legs;
 mod progress;
 mod request;
@@ -56,8 +48,7 @@ mod scan;
 mod slack;
 mod span;
 mod table;
-mod ways;
 
-pub use request::RequestWays;
-pub use scan::{Addition, best_places_are_one};
+pub use request::RequestDistances;
+pub use scan::{PricedInsertion, best_places_are_unique};
 pub use table::RouteTable;

@@ -1,42 +1,43 @@
-//! How far a vehicle has come on its route, and what it must keep at each place.
+//! The state of a vehicle on its route, and the limits at each place.
 
 ghost use Rattle.std.specs.Prelude.{◌≡◌, ◌≤◌, ◌+◌, ◌^◌, pos, ◌+ℤ◌, ◌-ℤ◌, unsigned_abs};
 ghost use Rattle.slack_tables.specs.Ride.{is_in_time};
 
 use plan_types::{Kind, Stop};
 
-/// What a vehicle must keep at each place: its capacity, and in a problem of kind `LiLim` the windows.
+/// The limits of a vehicle at each place: its capacity, and the windows for a problem of kind `LiLim`.
 #[derive(Clone, Copy, Debug)]
 pub(crate) struct Limits {
     pub kind: Kind,
     pub capacity: u32,
 }
 
-/// How far a vehicle has come on its route.
+/// The state of a vehicle at a place of its route.
 #[derive(Clone, Copy, Debug)]
 pub(crate) struct Progress {
-    /// The stop where it is, or the depot.
+    /// The stop at the place, or the depot.
     pub stop: Stop,
-    /// When service starts there.
+    /// The start of service at the place.
     pub start: u64,
-    /// What the vehicle carries after it.
+    /// The load after it.
     pub load: i64,
     /// The distance from the depot.
     pub distance: u64,
 }
 
-/// A place of a route, and what is known of all that is behind it.
+/// A place of a route, with what is known about all later places.
 #[derive(Clone, Copy, Debug)]
 pub(crate) struct PlaceSlack {
     pub at: Progress,
-    /// The latest start of service here from which no later window and no return is missed; the
-    /// greatest number where any start will do.
+    /// The latest start of service here from which neither a later window nor the return is missed, or the
+    /// greatest number if any start will do.
     pub latest_start: u64,
     /// The greatest load from here on.
-    pub most_load: i64,
+    pub max_load: i64,
 }
 
-/// Whether service may start so, where it may start so late; in a problem of kind `Vrp` it always may.
+/// Returns whether a start of service is not after the latest one. It is always true for a problem of kind
+/// `Vrp`.
 pub(crate) fn is_in_time(kind: Kind, start: u64, latest: u64) -> bool
     ensures { result ≡ is_in_time kind start latest }
 {
@@ -46,7 +47,7 @@ pub(crate) fn is_in_time(kind: Kind, start: u64, latest: u64) -> bool
     }
 }
 
-/// A load of a route where the vehicle comes to an earlier place with another load.
+/// Returns a later load of a route if the load at an earlier place changes from `before` to `after`.
 pub(crate) fn moved_load(load: i64, before: i64, after: i64) -> i64
     requires load { unsigned_abs load ≤ 2 ^ 60 }
     requires before { unsigned_abs before ≤ 2 ^ 60 }
@@ -56,7 +57,7 @@ pub(crate) fn moved_load(load: i64, before: i64, after: i64) -> i64
     after - before + load
 }
 
-/// How much more the first is than the second, which may be less.
+/// Returns `to - from`, which may be negative.
 pub(crate) fn difference(to: u64, from: u64) -> i64
     requires to { to ≤ 2 ^ 60 }
     requires from { from ≤ 2 ^ 60 }

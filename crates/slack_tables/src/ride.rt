@@ -1,20 +1,20 @@
-//! How a vehicle goes on, from stop to stop and between the places of a table: for the building of tables, for
-//! one insertion and for the scan.
+//! The step of a vehicle to the next stop, and between the places of a table. Used to build tables, for one
+//! insertion and for the scan.
 //!
-//! A ride is a vehicle's progress without the stop where it is, so who knows the ways computes no distance.
-//! Prices are compared before limits.
+//! A `Ride` is the state of a vehicle without its stop, so no distance is computed if the leg is known. Prices
+//! are compared before limits.
 
 ghost use Rattle.std.specs.Prelude.{◌≡◌, ◌≤◌, ◌+◌, ◌^◌, unsigned_abs, IfSome};
 ghost use Rattle.plan_types.specs.Limits.{IsVisit};
-ghost use Rattle.slack_tables.specs.Driven.{driven_on, IsNear, IsSmall, IsSmallRow};
+ghost use Rattle.slack_tables.specs.DriveSteps.{driven_on, IsNear, IsSmall, IsSmallRow};
 ghost use Rattle.nint_dist.specs.Distance.{distance};
-ghost use Rattle.slack_tables.specs.Ride.{ride_of, ride_at, driven, is_kept, ridden, is_borne, goes_on, is_served, price, served_below, IsSmallRide, IsNearRide};
+ghost use Rattle.slack_tables.specs.Ride.{ride_of, ride_at, driven, is_within_limits, ridden, tail_is_within_limits, continues_within_limits, can_visit, price, price_below, IsSmallRide, IsNearRide};
 
 use crate::progress::{Limits, PlaceSlack, Progress, difference, is_in_time, moved_load};
 use plan_types::Stop;
-use route_sched::load_behind;
+use route_sched::load_after;
 
-/// When and with what a vehicle is somewhere, and how far it has come.
+/// The time and load of a vehicle at a place, and its distance so far.
 #[derive(Clone, Copy)]
 pub(crate) struct Ride {
     pub start: u64,
@@ -22,7 +22,7 @@ pub(crate) struct Ride {
     pub distance: u64,
 }
 
-/// The same without the stop.
+/// Returns the state without the stop.
 pub(crate) fn ride_of(at: &Progress) -> Ride
     ensures { result ≡ ride_of at.now }
 {
@@ -33,7 +33,7 @@ pub(crate) fn ride_of(at: &Progress) -> Ride
     }
 }
 
-/// After the service and the way to another stop: who arrives early waits.
+/// Returns the state after the service and the leg to another stop. A vehicle that arrives early waits.
 pub(crate) fn drive(from: &Ride, service: u32, leg: u64, to: &Stop) -> Ride
     requires from { IsSmallRide (2 ^ 58) from.now }
     requires leg { leg ≤ 2 ^ 58 }
@@ -44,12 +44,12 @@ pub(crate) fn drive(from: &Ride, service: u32, leg: u64, to: &Stop) -> Ride
     let arrival = from.start + u64::from(service) + leg;
     Ride {
         start: arrival.max(u64::from(to.earliest)),
-        load: load_behind(from.load, to.demand),
+        load: load_after(from.load, to.demand),
         distance: from.distance + leg,
     }
 }
 
-/// The same along the way between two stops.
+/// Returns the state after the leg between two stops.
 #[inline(always)]
 pub(crate) fn driven_on(ride: &Ride, from: &Stop, way: u64, stop: &Stop) -> Ride
     requires from { IsSmall (2 ^ 58) (ride_at ride.now from.now) }
@@ -62,7 +62,7 @@ pub(crate) fn driven_on(ride: &Ride, from: &Stop, way: u64, stop: &Stop) -> Ride
     drive(ride, from.service, way, stop)
 }
 
-/// At this stop.
+/// Returns the state at this stop.
 #[inline(always)]
 pub(crate) fn ride_at(ride: &Ride, stop: &Stop) -> Progress
     ensures { result ≡ ride_at ride.now stop.now }
@@ -75,15 +75,15 @@ pub(crate) fn ride_at(ride: &Ride, stop: &Stop) -> Progress
     }
 }
 
-/// Whether the load and the start keep their limits at this stop.
-pub(crate) fn is_kept(limits: Limits, ride: &Ride, stop: &Stop) -> bool
-    ensures { result ≡ is_kept limits ride.now stop.now }
+/// Returns whether the load and the start are within the limits at this stop.
+pub(crate) fn is_within_limits(limits: Limits, ride: &Ride, stop: &Stop) -> bool
+    ensures { result ≡ is_within_limits limits ride.now stop.now }
 {
     ride.load <= i64::from(limits.capacity)
         && is_in_time(limits.kind, ride.start, u64::from(stop.latest))
 }
 
-/// The stop behind, if it keeps the limits.
+/// Returns the state at the next stop if it is within the limits.
 pub(crate) fn ride_on(
     limits: Limits,
     from: &Ride,
@@ -97,43 +97,50 @@ pub(crate) fn ride_on(
     ensures near { IfSome result (λ ride. IsNearRide from.now leg ride) }
 {
     let ride = drive(from, service, leg, to);
-    if is_kept(limits, &ride, to) {
+    if is_within_limits(limits, &ride, to) {
         Some(ride)
     } else {
         None
     }
 }
 
-// Whether all behind this place of another route keeps the limits, where the vehicle comes to it so.
-fn is_borne(limits: Limits, ride: &Ride, tail: &PlaceSlack) -> bool
+// Returns whether all places after this one of the old route keep the limits if the vehicle reaches it in this
+// state.
+fn tail_is_within_limits(limits: Limits, ride: &Ride, tail: &PlaceSlack) -> bool
     requires ride { IsSmallRide (2 ^ 60) ride.now }
     requires tail { IsSmallRow tail.now }
-    ensures { result ≡ is_borne limits ride.now tail.now }
+    ensures { result ≡ tail_is_within_limits limits ride.now tail.now }
 {
-    moved_load(tail.most_load, tail.at.load, ride.load) <= i64::from(limits.capacity)
+    moved_load(tail.max_load, tail.at.load, ride.load) <= i64::from(limits.capacity)
         && is_in_time(limits.kind, ride.start, tail.latest_start)
 }
 
-// Whether the place and all behind it keep the limits.
-fn goes_on(limits: Limits, from: &Ride, service: u32, leg: u64, tail: &PlaceSlack) -> bool
+// Returns whether the place and all later ones keep the limits if the vehicle continues to it.
+fn continues_within_limits(
+    limits: Limits,
+    from: &Ride,
+    service: u32,
+    leg: u64,
+    tail: &PlaceSlack,
+) -> bool
     requires from { IsSmallRide (2 ^ 58) from.now }
     requires leg { leg ≤ 2 ^ 58 }
     requires tail { IsSmallRow tail.now }
-    ensures { result ≡ goes_on limits from.now service leg tail.now }
+    ensures { result ≡ continues_within_limits limits from.now service leg tail.now }
 {
     let ride = drive(from, service, leg, &tail.at.stop);
-    is_kept(limits, &ride, &tail.at.stop) && is_borne(limits, &ride, tail)
+    is_within_limits(limits, &ride, &tail.at.stop) && tail_is_within_limits(limits, &ride, tail)
 }
 
-/// The way to a stop between two places, and from it.
+/// The distances from a place to a stop, and from the stop to the next place.
 #[derive(Clone, Copy)]
 pub(crate) struct Detour {
     pub to: u64,
     pub from: u64,
 }
 
-// Whether the stop keeps the limits, and then the place and all behind it.
-fn is_served(
+// Returns whether the limits are kept at the stop, at the next place and at all later places.
+fn can_visit(
     limits: Limits,
     at: &Ride,
     service: u32,
@@ -145,15 +152,16 @@ fn is_served(
     requires to { detour.to ≤ 2 ^ 56 }
     requires from { detour.from ≤ 2 ^ 56 }
     requires tail { IsSmallRow tail.now }
-    ensures { result ≡ is_served limits at.now service detour.to stop.now detour.from tail.now }
+    ensures { result ≡ can_visit limits at.now service detour.to stop.now detour.from tail.now }
 {
     let ride = drive(at, service, detour.to, stop);
-    is_kept(limits, &ride, stop) && goes_on(limits, &ride, stop.service, detour.from, tail)
+    is_within_limits(limits, &ride, stop)
+        && continues_within_limits(limits, &ride, stop.service, detour.from, tail)
 }
 
-/// The distance that a stop before a place adds, where it is less than `below` and all limits are
-/// kept. The price is compared first, since it costs less to know.
-pub(crate) fn serve_below(
+/// Returns the distance that a stop before a place adds if it is less than `below` and all limits are kept. The
+/// price is compared first, since it is cheaper to compute.
+pub(crate) fn price_below(
     below: i64,
     limits: Limits,
     at: &Ride,
@@ -166,18 +174,18 @@ pub(crate) fn serve_below(
     requires to { detour.to ≤ 2 ^ 56 }
     requires from { detour.from ≤ 2 ^ 56 }
     requires tail { IsSmallRow tail.now }
-    ensures { result ≡ served_below below limits at.now service detour.to stop.now detour.from
+    ensures { result ≡ price_below below limits at.now service detour.to stop.now detour.from
         tail.now }
 {
     let price = price(at, detour, tail);
-    if price < below && is_served(limits, at, service, detour, stop, tail) {
+    if price < below && can_visit(limits, at, service, detour, stop, tail) {
         Some(price)
     } else {
         None
     }
 }
 
-/// The distance that a detour to a stop adds to the way to a place.
+/// Returns the distance that a detour to a stop adds before a place.
 pub(crate) fn price(at: &Ride, detour: Detour, tail: &PlaceSlack) -> i64
     requires at { at.now.distance ≤ 2 ^ 58 }
     requires to { detour.to ≤ 2 ^ 58 }

@@ -1,17 +1,16 @@
-//! The backward pass: what each place of a route lets be behind it (Savelsbergh's forward time slack, kept as
-//! a latest start).
+//! The backward pass, which computes the slack of each place: Savelsbergh's forward time slack, kept as a
+//! latest start.
 //!
-//! It needs nothing of the schedule: the way forward keeps stops and distances at each place, and the pass
-//! reads them there.
+//! The forward pass stores stops and distances at each place, so this pass needs nothing else of the schedule.
 
 ghost use Rattle.std.specs.Prelude.{◌≡◌, ◌≤◌, ◌<◌, length};
 ghost use Rattle.plan_types.specs.declared.requests.Kind.TheVariants.{LiLim};
-ghost use Rattle.slack_tables.specs.Filled.{latest_before, row_before, IsTimely, EachIsTimely, LastMayStart, IsFilled};
+ghost use Rattle.slack_tables.specs.BackwardPass.{latest_before, row_before, IsTimely, EachIsTimely, LastMayStart, IsFilled};
 
 use crate::progress::PlaceSlack;
 use plan_types::Kind;
 
-/// Gives each place but the last its latest start and its greatest load, from the place behind it.
+/// Computes the latest start and the greatest load of each place except the last, from the next place.
 pub(crate) fn fill_slack(kind: Kind, places: &mut [PlaceSlack])
     requires some { 0 < length places.old }
     requires timely { EachIsTimely kind places.old }
@@ -23,7 +22,7 @@ pub(crate) fn fill_slack(kind: Kind, places: &mut [PlaceSlack])
     }
 }
 
-// The place with what the one behind it tells.
+// Returns the place with the latest start and greatest load that follow from the next place.
 fn row_before(kind: Kind, place: &PlaceSlack, next: &PlaceSlack) -> PlaceSlack
     requires timely { IsTimely kind place.now next.now }
     requires limit { kind ≡ LiLim → next.now.at.start ≤ next.now.latest_start }
@@ -32,11 +31,11 @@ fn row_before(kind: Kind, place: &PlaceSlack, next: &PlaceSlack) -> PlaceSlack
     PlaceSlack {
         at: place.at,
         latest_start: latest_before(kind, place, next),
-        most_load: place.at.load.max(next.most_load),
+        max_load: place.at.load.max(next.max_load),
     }
 }
 
-// The latest start from which neither the next window nor one behind it is missed.
+// Returns the latest start from which neither the next window nor a later one is missed.
 fn latest_before(kind: Kind, place: &PlaceSlack, next: &PlaceSlack) -> u64
     requires timely { IsTimely kind place.now next.now }
     requires limit { kind ≡ LiLim → next.now.at.start ≤ next.now.latest_start }

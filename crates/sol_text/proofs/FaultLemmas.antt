@@ -1,4 +1,4 @@
--- What reading tells is the first fault, or the solution that the lines spell.
+-- Reading returns the first fault, or the solution that the lines spell.
 use Rattle.std.proofs.Common.{◌≡◌, ℕ, Bool, true, false, not, ◌&&◌, ◌||◌, cond, eqb, List, [], ◌∷◌, map, Option, Some, None, Result, Ok, Err, inl, inr, refl, sym, ap}
 use Rattle.std.specs.Prelude.{is_some, is_none, unwrap_or, codes}
 use Rattle.std.specs.Char.{to_ascii_lowercase}
@@ -9,14 +9,14 @@ use Rattle.std.proofs.lemmas.Bool.Decides.{eqb_tells}
 use Rattle.text_lines.specs.Words.{is_blank, is_blank_line, words_of}
 use Rattle.sol_text.specs.LineShapes.{after_key, route_tail, cost_tail, cost_word}
 use Rattle.sol_text.specs.Values.{customer_of, cost_of}
-use Rattle.sol_text.specs.Reading.{customers_of, or_bad_number, shown_line, line_of}
+use Rattle.sol_text.specs.Reading.{customers_of, or_bad_number, nonblank_line, line_of}
 use Rattle.sol_text.specs.declared.faults.SolFault.{SolFault}
 use Rattle.sol_text.specs.declared.faults.SolFaultKind.{SolFaultKind}
 use Rattle.sol_text.specs.declared.faults.SolFaultKind.TheVariants.{BadLine, BadNumber, NoCost, OutOfMemory}
 use Rattle.sol_text.specs.declared.lines.Line.{Line}
 use Rattle.sol_text.specs.declared.lines.Line.TheVariants.{Blank, Route, Cost}
 
--- ---- a line is of one shape
+-- ---- a line has only one shape
 -- a text that begins with this letter, in either case
 lower_apart : (b c d : ℕ) → eqb c d ≡ false → eqb (to_ascii_lowercase b) c ≡ true → eqb (to_ascii_lowercase b) d ≡ false
 lower_apart b c d apart is = rw (eqb-true _ _ is) apart
@@ -77,7 +77,7 @@ customers_say (w ∷ ws) = one (customer_of w) _ _ (customers_of ws) (customers_
     one (Some n) any ns None say = say
     one (Some n) any ns (Some ms) say = (say.0, ap (λ ks. n ∷ ks) say.1)
 
--- ---- what a line says, by its shape
+-- ---- the meaning of a line, by its shape
 abbrev pub bad : Bool → Option (List ℕ) → Option (List ℕ) → Bool
 bad blank tail word = not blank && not (is_some tail) && not (is_some word)
 
@@ -95,7 +95,7 @@ IsOfKind blank tail word BadNumber = bad_number tail word ≡ true
 IsOfKind blank tail word NoCost = ⊥
 IsOfKind blank tail word OutOfMemory = ⊥
 
--- no fault, and this route or none
+-- a line without a fault, and its route if it is a route line
 pub record Harmless (blank : Bool) (tail word : Option (List ℕ)) (route : Option (List ℕ)) : Type 0 where
   pub no_cost : is_some word ≡ false
   pub shape : bad blank tail word ≡ false
@@ -115,7 +115,7 @@ LineSays n blank tail word (Ok (Cost c)) = Ending blank tail word c
 LineSays n blank tail word (Err f) = (f.line ≡ n) × IsOfKind blank tail word f.kind
 
 line_says : (n : ℕ) (blank : Bool) (tail word : Option (List ℕ)) → (blank ≡ true → (tail ≡ None) × (word ≡ None)) → (is_some tail ≡ true → word ≡ None)
-    → LineSays n blank tail word (cond blank (Ok Blank) (shown_line n tail word))
+    → LineSays n blank tail word (cond blank (Ok Blank) (nonblank_line n tail word))
 line_says n true tail word empty apart = rw ((empty refl).0, (empty refl).1) (record { no_cost = refl; shape = refl; numbers = refl; route_is = refl })
 line_says n false None None empty apart = (refl, refl)
 line_says n false None (Some w) empty apart = by_cost (cost_of w) refl

@@ -1,6 +1,6 @@
--- The lemma files, which upper crates may cite.
+-- The lemma files, which other crates may cite.
 pub mod FaultLemmas
 pub mod ReadLemmas
 pub mod ShapeLemmas
 pub mod TextLemmas
-pub mod WrittenRead
+pub mod ReadBackLemmas

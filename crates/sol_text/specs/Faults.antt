@@ -5,23 +5,23 @@ use Rattle.std.specs.Option.{option_map_or}
 use Rattle.text_lines.specs.Lines.{lines_of}
 use Rattle.text_lines.specs.Words.{is_blank_line}
 use Rattle.sol_text.specs.LineShapes.{customer_words, cost_word, is_route_line, is_cost_line}
-use Rattle.sol_text.specs.Values.{customer_of, cost_of, solution_among}
+use Rattle.sol_text.specs.Values.{customer_of, cost_of, solution_in_lines}
 use Rattle.sol_text.specs.declared.faults.SolFault.{SolFault}
 use Rattle.sol_text.specs.declared.faults.SolFaultKind.{SolFaultKind}
 use Rattle.sol_text.specs.declared.faults.SolFaultKind.TheVariants.{BadLine, BadNumber, NoCost, OutOfMemory}
 use Rattle.sol_text.specs.declared.read.Solution.{Solution}
 
--- neither blank nor a route line, nor a cost line with exactly one word
+-- not blank, not a route line, and not a cost line with exactly one word
 abbrev pub is_bad_line : List ℕ → Bool
 is_bad_line line = not (is_blank_line line) && not (is_route_line line) && not (is_cost_line line)
 
--- a route line with a word that is no customer, or a cost line whose word is no cost
+-- a route line with a word that is not a customer, or a cost line whose word is not a cost
 abbrev pub has_bad_number : List ℕ → Bool
 has_bad_number line =
     if is_route_line line then option_map_or (list_any (λ word. is_none (customer_of word))) (customer_words line) false
     else option_map_or (λ word. is_none (cost_of word)) (cost_word line) false
 
--- The line at this place, counted from 0, counts: no line before it is the cost line.
+-- the line at this place, counted from 0, counts: no line before it is a cost line
 abbrev pub LineCounts : List (List ℕ) → ℕ → Type 0
 LineCounts lines k = (k < length lines) × AllByRecursion (λ line. is_cost_line line ≡ false) (take k lines)
 
@@ -29,33 +29,33 @@ LineCounts lines k = (k < length lines) × AllByRecursion (λ line. is_cost_line
 abbrev pub line_at : List (List ℕ) → ℕ → List ℕ
 line_at lines k = slice_index_or lines k []
 
--- The faults of lines. A place is counted from 0, and `NoCost` stands behind the last line.
-abbrev pub FaultAmong : List (List ℕ) → ℕ → SolFaultKind → Type 0
-FaultAmong lines k BadLine = LineCounts lines k × (is_bad_line (line_at lines k) ≡ true)
-FaultAmong lines k BadNumber = LineCounts lines k × (has_bad_number (line_at lines k) ≡ true)
-FaultAmong lines k NoCost = (k ≡ length lines) × AllByRecursion (λ line. is_cost_line line ≡ false) lines
-FaultAmong lines k OutOfMemory = ⊥
+-- the faults of lines; places are counted from 0, and `NoCost` is at the place after the last line
+abbrev pub FaultInLines : List (List ℕ) → ℕ → SolFaultKind → Type 0
+FaultInLines lines k BadLine = LineCounts lines k × (is_bad_line (line_at lines k) ≡ true)
+FaultInLines lines k BadNumber = LineCounts lines k × (has_bad_number (line_at lines k) ≡ true)
+FaultInLines lines k NoCost = (k ≡ length lines) × AllByRecursion (λ line. is_cost_line line ≡ false) lines
+FaultInLines lines k OutOfMemory = ⊥
 
 -- a fault of a text, with its line, counted from 1
 abbrev pub Fault : List ℕ → ℕ → SolFaultKind → Type 0
-Fault text line kind = (k : ℕ) × (line ≡ k + 1) × FaultAmong (lines_of text) k kind
+Fault text line kind = (k : ℕ) × (line ≡ k + 1) × FaultInLines (lines_of text) k kind
 
 abbrev pub HasNoFault : List ℕ → Type 0
 HasNoFault text = (line : ℕ) (kind : SolFaultKind) → Fault text line kind → ⊥
 
--- A text spells a solution where it has no fault, and the solution is what its lines say.
+-- a text spells a solution if the text has no fault and the solution is that of its lines
 abbrev pub Spells : List ℕ → Solution → Type 0
-Spells text s = HasNoFault text × (s ≡ solution_among (lines_of text))
+Spells text s = HasNoFault text × (s ≡ solution_in_lines (lines_of text))
 
--- a fault of a line that no other fault's line is before
+-- a fault in a line such that no earlier line has a fault
 abbrev pub IsFirstFault : List ℕ → SolFault → Type 0
 IsFirstFault text f = Fault text f.line f.kind × ((line : ℕ) (kind : SolFaultKind) → Fault text line kind → f.line ≤ line)
 
--- want of memory, which has no line
-abbrev pub no_memory : SolFault
-no_memory = record { line = 0; kind = OutOfMemory }
+-- out of memory, which has no line
+abbrev pub out_of_memory : SolFault
+out_of_memory = record { line = 0; kind = OutOfMemory }
 
 -- the solution was read, unless memory ran out
-abbrev pub IsUnlessMemory : Result Solution SolFault → Solution → Type 0
-IsUnlessMemory (Ok read) s = read ≡ s
-IsUnlessMemory (Err f) s = f ≡ no_memory
+abbrev pub IsUnlessOutOfMemory : Result Solution SolFault → Solution → Type 0
+IsUnlessOutOfMemory (Ok read) s = read ≡ s
+IsUnlessOutOfMemory (Err f) s = f ≡ out_of_memory

@@ -1,9 +1,9 @@
--- what public contracts say
+-- definitions that public contracts use
 pub mod Faults
 pub mod Laws
 pub mod LineShapes
 pub mod Names
 pub mod Values
 pub mod Written
--- of private functions alone
+-- definitions that only private contracts use
 pub mod Reading

@@ -10,18 +10,19 @@ use Rattle.sol_text.specs.declared.read.Solution.{Solution}
 unfoldable pub customer_of : List ℕ → Option ℕ
 customer_of word = below (2 ^ 32) (digits_of word)
 
--- the cost that a NUMBER is, if it lies in 0..2^64 - 1
+-- the cost that a word spells, if the word is a number in 0..2^64 - 1
 unfoldable pub cost_of : List ℕ → Option ℕ
 cost_of word = below (2 ^ 64) (option_and_then magnitude (number_of word))
 
 -- the customers of a route line
-abbrev pub route_of : List ℕ → Option (List ℕ)
-route_of line = option_map (map (λ word. unwrap_or (customer_of word) 0)) (customer_words line)
+abbrev pub route_in_line : List ℕ → Option (List ℕ)
+route_in_line line = option_map (map (λ word. unwrap_or (customer_of word) 0)) (customer_words line)
 
 -- the cost of the first cost line
 abbrev pub first_cost : List (List ℕ) → ℕ
 first_cost lines = unwrap_or (option_and_then cost_of (option_and_then cost_word (find is_cost_line lines))) 0
 
--- What a text without faults spells: the routes of the lines before the first cost line, in order, and its cost.
-abbrev pub solution_among : List (List ℕ) → Solution
-solution_among lines = record { routes = filter_map route_of (before_first is_cost_line lines); cost = first_cost lines }
+-- the solution that a text without faults spells: the routes of the lines before the first cost line, in order,
+-- and its cost
+abbrev pub solution_in_lines : List (List ℕ) → Solution
+solution_in_lines lines = record { routes = filter_map route_in_line (before_first is_cost_line lines); cost = first_cost lines }

@@ -1,10 +1,10 @@
-//! Why a solution text is refused, and why a plan is not written.
+//! The reasons why a solution text is refused, and why a plan is not written.
 ghost use Rattle.std.specs.Prelude.{◌≡◌, codes};
 
 use std::alloc::{AllocError, AllocFailed};
 use thiserror::Error;
 
-/// What is wrong with a solution text.
+/// The kind of a fault of a solution text.
 #[derive(Clone, Copy, Debug, PartialEq, Eq, Error)]
 pub enum SolFaultKind {
     #[error("this is no route line, and no cost line with one word")]
@@ -17,11 +17,11 @@ pub enum SolFaultKind {
     OutOfMemory,
 }
 
-/// Why a solution text is refused.
+/// The reason why a solution text is refused.
 #[derive(Clone, Copy, Debug, PartialEq, Eq, Error)]
 #[error("line {line}: {kind}")]
 pub struct SolFault {
-    /// The line, from 1; one above the number of lines for `NoCost`, and 0 for `OutOfMemory`.
+    /// The line, from 1. It is one above the number of lines for `NoCost`, and 0 for `OutOfMemory`.
     pub line: u64,
     pub kind: SolFaultKind,
 }
@@ -29,7 +29,7 @@ pub struct SolFault {
 impl SolFault {
     ghost use Rattle.sol_text.specs.Names.{kind_name};
 
-    /// The name of its kind, as answers print it.
+    /// Returns the name of the fault's kind, as answers print it.
     pub fn name(&self) -> &'static str
         ensures { result.now ≡ kind_name self.now.kind }
     {
@@ -70,10 +70,10 @@ impl<T: Drop> From<AllocFailed<T>> for SolFault {
     }
 }
 
-/// Why a plan is not written.
+/// The reason why a plan is not written.
 #[derive(Clone, Copy, Debug, PartialEq, Eq, Error)]
 pub enum WriteSolFault {
-    /// This many requests are in no route.
+    /// The number of requests that are in no route.
     #[error("{0} requests are in no route")]
     Unplanned(u64),
     #[error("out of memory")]
@@ -83,7 +83,7 @@ pub enum WriteSolFault {
 impl WriteSolFault {
     ghost use Rattle.sol_text.specs.Names.{write_fault_name};
 
-    /// Its name, as answers print it.
+    /// Returns the name of the fault, as answers print it.
     pub fn name(&self) -> &'static str
         ensures { result.now ≡ write_fault_name self.now }
     {

@@ -1,16 +1,17 @@
-//! What route lines and cost lines are, each law for every line.
-ghost use Rattle.sol_text.specs.Laws.{AreCostLines, AreRouteLines};
+//! The grammar of route lines and of cost lines, as laws about every line.
+ghost use Rattle.sol_text.specs.Laws.{CostLinesFollowGrammar, RouteLinesFollowGrammar};
 
-use text_lines::words_make_the_line;
+use text_lines::lines_split_into_words;
 
-/// A route line is `Route`, a number and a colon, with what may stand between them, and then the customers.
-pub fn route_lines_are_made()
-    ensures { AreRouteLines }
+/// States that a route line is `Route`, a number and a colon, with optional blanks and `#` between them, and
+/// then the customers.
+pub fn route_lines_follow_grammar()
+    ensures { RouteLinesFollowGrammar }
 {}
 
-/// A cost line is `Cost`, a colon, blanks or both, and one word.
-pub fn cost_lines_are_made()
-    ensures { AreCostLines }
+/// States that a cost line is `Cost`, a separator (a colon, blanks or both), and one word.
+pub fn cost_lines_follow_grammar()
+    ensures { CostLinesFollowGrammar }
 {
-    words_make_the_line();
+    lines_split_into_words();
 }

@@ -1,29 +1,26 @@
-//! Solutions as texts: the `.sol` files of CVRPLIB, for both kinds of problem.
+//! Reads and writes solutions as `.sol` files of CVRPLIB, for both kinds of problem.
 //!
-//! Entry functions: `read_sol` gives what a text spells (a `Solution`, which `plan_audit` takes) and is called by
-//! `auditor_cli`; `write_sol` gives the text of a plan and is called by `command_text` (the line `print`). `write_routes`
-//! gives the route lines alone, of a plan that leaves requests out; `cost_tail` and `cost_word` give what a cost line
-//! says, for who tells a fault of one.
+//! The entry points are `read_sol`, which returns the `Solution` that a text spells, and `write_sol`, which
+//! returns the text of a plan. `write_routes` writes only the route lines, for a plan that leaves requests out.
+//! `cost_tail` and `cost_word` return parts of a cost line, for callers that explain a fault in it.
 //!
-//! Source: the `.sol` files of CVRPLIB. What is a blank line, a number and a fault is this project's own.
+//! Source: the `.sol` files of CVRPLIB. What counts as a blank line, a number and a fault is this project's own
+//! definition.
 //!
-//! How it works: each line is a route line, a cost line or blank; reading ends at the first cost line or the first
-//! fault. Numbers are printed by `itoa` straight into the text, where `format!` would take memory for each of them.
+//! Each line is a route line, a cost line or blank. Reading ends at the first cost line or the first fault.
+//! `itoa` prints numbers straight into the text, while `format!` would allocate for each of them.
 //!
 //! Modules, in reading order:
-//! - `faults`: why a text is refused, and why a plan is not written
-//! - `lines`: what one line says
+//! - `faults`: the reasons why a text is refused, and why a plan is not written
+//! - `lines`: the meaning of one line
 //! - `read`: the reader
 //! - `write`: the writer
-//! - `laws`: route lines and cost lines as their parts put together
+//! - `laws`: the grammar of route lines and cost lines
 //!
-//! Said by `specs/LineShapes.antt`, `Values.antt`, `Faults.antt` and `Written.antt`. Proved:
-//! - `read_sol`: `found` and `only`, the solution that the text spells and no other; `fault`, else the fault of the
-//!   least line, or want of memory
-//! - `write_sol`: `text`, each byte; `spells`, `read_sol` takes it as the nonempty routes with the distance that they
-//!   drive; `unplanned`, a plan that leaves requests out is refused with their number
-//! - `write_routes`: each byte
-//! - `route_lines_are_made`, `cost_lines_are_made`: such a line is exactly its parts put together
+//! Proved: `read_sol` returns exactly the solution that the text spells, or else the fault of the first faulty
+//! line, unless memory runs out. `write_sol` writes exactly the bytes of its definition, which read back as the
+//! nonempty routes with their distance; it refuses a plan that leaves requests out, with their number. Two laws
+//! state the grammar of route lines and of cost lines.
 #![tactic(auto)]
 
 mod faults;
@@ -33,7 +30,7 @@ mod read;
 mod write;
 
 pub use faults::{SolFault, SolFaultKind, WriteSolFault};
-pub use laws::{cost_lines_are_made, route_lines_are_made};
+pub use laws::{cost_lines_follow_grammar, route_lines_follow_grammar};
 pub use lines::{cost_tail, cost_word};
 pub use read::{Solution, read_sol};
 pub use write::{write_routes, write_sol};

@@ -5,32 +5,32 @@ ghost use Rattle.std.specs.Char.{to_ascii_lowercase};
 ghost use Rattle.std.specs.List.{prefix_len};
 ghost use Rattle.std.specs.Option.{option_copied};
 ghost use Rattle.text_lines.specs.Words.{words_of};
-ghost use Rattle.sol_text.specs.LineShapes.{after_key, after_one, after_digits, after_colon, after_separator, route_tail, cost_tail, cost_word, only_word};
+ghost use Rattle.sol_text.specs.LineShapes.{after_key, after_optional_mark, after_digits, after_colon, after_separator, route_tail, cost_tail, cost_word, only_word};
 ghost use Rattle.sol_text.specs.Values.{customer_of, cost_of};
-ghost use Rattle.sol_text.specs.Reading.{Gives, customers_of, or_bad_number, line_of, cost_line};
+ghost use Rattle.sol_text.specs.Reading.{Returns, customers_of, or_bad_number, line_of, cost_line};
 ghost use Rattle.sol_text.specs.declared.lines.Line.TheVariants.{Route as Routed};
 
 use crate::faults::{SolFault, SolFaultKind};
 use plan_types::Route;
 use std::alloc::Global;
 use text_lines::{
-    Words, digits_len, digits_to_u32, is_blank_line, number_to_u64, trim_blanks_start,
+    Words, digits_to_u32, is_blank_line, leading_digits_len, number_to_u64, trim_blanks_start,
 };
 
-/// What a line says.
+/// The meaning of a line.
 #[derive(Drop)]
 pub(crate) enum Line {
     Blank,
     /// The customers in order.
     Route(Route),
-    /// The distance that the author claims.
+    /// The distance that the author of the solution claims.
     Cost(u64),
 }
 
-/// Reads the line with this number.
+/// Parses the line with this number. A fault names the number.
 #[tactic(auto, unfolding(crate::specs::Reading::line_of))]
 pub(crate) fn parse_line(alloc: Global, number: u64, line: &[u8]) -> Result<Line, SolFault>
-    ensures { Gives result (line_of number line.now) }
+    ensures { Returns result (line_of number line.now) }
 {
     if is_blank_line(line) {
         return Ok(Line::Blank);
@@ -41,9 +41,9 @@ pub(crate) fn parse_line(alloc: Global, number: u64, line: &[u8]) -> Result<Line
     }
 }
 
-// Reads the customers of a route line, which follow its colon.
+// Parses the customers of a route line, which follow its colon.
 fn read_route(alloc: Global, number: u64, tail: &[u8]) -> Result<Line, SolFault>
-    ensures { Gives result (or_bad_number Routed number (customers_of (words_of tail.now))) }
+    ensures { Returns result (or_bad_number Routed number (customers_of (words_of tail.now))) }
 {
     let mut customers = Vec::new(alloc);
     for word in Words::new(tail) {
@@ -56,9 +56,9 @@ fn read_route(alloc: Global, number: u64, tail: &[u8]) -> Result<Line, SolFault>
     Ok(Line::Route(Route::from(customers)))
 }
 
-// Reads a line that can only be a cost line.
+// Parses a line that can only be a cost line.
 fn read_cost(number: u64, line: &[u8]) -> Result<Line, SolFault>
-    ensures { Gives result (cost_line number (cost_word line.now)) }
+    ensures { Returns result (cost_line number (cost_word line.now)) }
 {
     let word = cost_word(line).ok_or(SolFault {
         line: number,
@@ -85,19 +85,19 @@ fn cost_of(word: &[u8]) -> Option<u64>
     number_to_u64(word)
 }
 
-// What follows the colon of a route line.
+// Returns the part after the colon of a route line.
 #[tactic(auto, unfolding(crate::specs::LineShapes::route_tail))]
 fn route_tail(line: &[u8]) -> Option<&[u8]>
     ensures { option_copied result ≡ route_tail line.now }
 {
     let rest = strip_key(line, b"route")?;
-    let rest = strip_one(trim_blanks_start(rest), b'#');
+    let rest = strip_optional_mark(trim_blanks_start(rest), b'#');
     let rest = strip_digits(trim_blanks_start(rest))?;
     strip_colon(trim_blanks_start(rest))
 }
 
-/// The word of a cost line, by the format of CVRPLIB's `.sol` files; none where the line is no cost line, or has another
-/// number of words behind `Cost` and its separator.
+/// Returns the word of a cost line in the format of CVRPLIB's `.sol` files. Returns `None` if the line is not a
+/// cost line, or does not have exactly one word after `Cost` and its separator.
 pub fn cost_word(line: &[u8]) -> Option<&[u8]>
     ensures { option_copied result ≡ cost_word line.now }
 {
@@ -109,20 +109,20 @@ pub fn cost_word(line: &[u8]) -> Option<&[u8]>
     }
 }
 
-/// What follows `Cost`, in any letter case, and its separator: a colon, blanks or both. None where a line doesn't begin
-/// so.
+/// Returns the part after `Cost`, in any letter case, and its separator: a colon, blanks or both. Returns
+/// `None` if the line does not begin like this.
 #[tactic(auto, unfolding(crate::specs::LineShapes::cost_tail))]
 pub fn cost_tail(line: &[u8]) -> Option<&[u8]>
     ensures { option_copied result ≡ cost_tail line.now }
 {
     let rest = strip_key(line, b"cost")?;
     match rest {
-        [b' ' | b'\t' | b':', ..] => Some(strip_one(trim_blanks_start(rest), b':')),
+        [b' ' | b'\t' | b':', ..] => Some(strip_optional_mark(trim_blanks_start(rest), b':')),
         _ => None,
     }
 }
 
-// What follows the key, which stands there in any letter case.
+// Returns the part after the key, which may be in any letter case.
 fn strip_key<'a>(text: &'a [u8], key: &[u8]) -> Option<&'a [u8]>
     ensures { option_copied result ≡ after_key (map to_ascii_lowercase key.now) text.now }
 {
@@ -133,9 +133,9 @@ fn strip_key<'a>(text: &'a [u8], key: &[u8]) -> Option<&'a [u8]>
     Some(rest)
 }
 
-// What follows the mark, if it is there.
-fn strip_one(text: &[u8], mark: u8) -> &[u8]
-    ensures { result.now ≡ after_one mark text.now }
+// Returns the part after the mark, or the whole text if it does not begin with the mark.
+fn strip_optional_mark(text: &[u8], mark: u8) -> &[u8]
+    ensures { result.now ≡ after_optional_mark mark text.now }
 {
     text.strip_prefix([mark].as_slice()).unwrap_or(text)
 }
@@ -146,11 +146,11 @@ fn strip_colon(text: &[u8]) -> Option<&[u8]>
     text.strip_prefix(b":")
 }
 
-// What follows one or more digits.
+// Returns the part after one or more digits.
 fn strip_digits(text: &[u8]) -> Option<&[u8]>
     ensures { option_copied result ≡ after_digits text.now }
 {
-    let digits = digits_len(text);
+    let digits = leading_digits_len(text);
     if digits == 0 {
         return None;
     }

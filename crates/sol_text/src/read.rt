@@ -1,10 +1,10 @@
-//! Reading a solution.
+//! The reader of solutions.
 
 ghost use Rattle.std.specs.Prelude.{◌≡◌, ◌⊎◌, IfOk, IfErr};
 ghost use Rattle.text_lines.specs.Lines.{lines_of};
-ghost use Rattle.sol_text.specs.Reading.{Gives, reading};
+ghost use Rattle.sol_text.specs.Reading.{Returns, reading};
 ghost use Rattle.sol_text.specs.declared.read.Solution.{Solution};
-ghost use Rattle.sol_text.specs.Faults.{IsFirstFault, IsUnlessMemory, Spells, no_memory};
+ghost use Rattle.sol_text.specs.Faults.{IsFirstFault, IsUnlessOutOfMemory, Spells, out_of_memory};
 
 use crate::faults::{SolFault, SolFaultKind};
 use crate::lines::{Line, parse_line};
@@ -12,35 +12,35 @@ use plan_types::Routes;
 use std::alloc::Global;
 use text_lines::Lines;
 
-/// Somebody's solution of a routing problem.
+/// A solution of a routing problem, by any author.
 #[derive(Debug, Drop)]
 pub struct Solution {
-    /// The customers of each route line.
+    /// The customers of each route line, in order.
     pub routes: Routes,
-    /// The distance of the cost line.
+    /// The distance in the cost line.
     pub cost: u64,
 }
 
-/// Reads a solution in the format of CVRPLIB's `.sol` files: lines as `Route #1: 21 31 19`, then one as `Cost 784`.
-/// What follows the cost line is ignored.
+/// Reads a solution in the format of CVRPLIB's `.sol` files: lines like `Route #1: 21 31 19`, then one like
+/// `Cost 784`. The text after the cost line is ignored.
 ///
 /// # Errors
 ///
-/// The fault of the least line, or `OutOfMemory`, with line 0.
+/// Returns the fault of the first faulty line, or `OutOfMemory` with line 0.
 pub fn read_sol(alloc: Global, text: &[u8]) -> Result<Solution, SolFault>
-    // What is read is spelled so.
+    // The text spells the solution returned.
     ensures found { IfOk result (Spells text.now) }
-    // What is spelled so is read, unless memory runs out.
-    ensures only { (s : Solution) → Spells text.now s → IsUnlessMemory result s }
-    // Else the first fault is told.
-    ensures fault { IfErr result (λ f. (f ≡ no_memory) ⊎ IsFirstFault text.now f) }
+    // A solution that the text spells is returned, unless memory runs out.
+    ensures only { (s : Solution) → Spells text.now s → IsUnlessOutOfMemory result s }
+    // Otherwise the first fault is returned.
+    ensures fault { IfErr result (λ f. (f ≡ out_of_memory) ⊎ IsFirstFault text.now f) }
 {
     read_lines(alloc, text)
 }
 
 // Reads line by line, up to the first fault or the cost line.
 fn read_lines(alloc: Global, text: &[u8]) -> Result<Solution, SolFault>
-    ensures { Gives result (reading 0 (lines_of text.now)) }
+    ensures { Returns result (reading 0 (lines_of text.now)) }
 {
     let mut routes = Vec::new(alloc);
     let mut number = 0;

@@ -1,4 +1,4 @@
-//! Writing a solution.
+//! The writer of solutions.
 
 ghost use Rattle.std.specs.Prelude.{◌≡◌, ◌≢◌, ◌<◌, ◌++◌, ◌∷◌, [], ◌+◌, ◌^◌, length, IfOk, OnOk, OnErr, IsErrOf, IsOkUnless};
 ghost use Rattle.std.specs.Fmt.{decimal};
@@ -13,14 +13,14 @@ use itoa::Buffer;
 use plan_types::{Plan, Problem, Route};
 use route_sched::plan_cost;
 use std::alloc::{AllocError, Global};
-use text_lines::{decimals_are_read, lines_follow, words_make_the_line};
+use text_lines::{decimals_parse_back, lines_end_at_line_feeds, lines_split_into_words};
 
-/// The text of a plan in the format of CVRPLIB's `.sol` files: each nonempty route as `Route #1: 21 31 19`, numbered
-/// from 1, and then its distance as `Cost 784`, each with a line feed.
+/// Writes a plan in the format of CVRPLIB's `.sol` files: each nonempty route like `Route #1: 21 31 19`,
+/// numbered from 1, and then the total distance like `Cost 784`, each on a line of its own.
 ///
 /// # Errors
 ///
-/// `Unplanned` where a request is in no route, then `OutOfMemory`.
+/// Returns `Unplanned` if a request is in no route, then `OutOfMemory`.
 pub fn write_sol(alloc: Global, problem: &Problem, plan: &Plan) -> Result<Vec<u8>, WriteSolFault>
     requires { IsPlan problem.now plan.now.routes }
     ensures text { IfOk result (λ text. text.items
@@ -41,14 +41,14 @@ pub fn write_sol(alloc: Global, problem: &Problem, plan: &Plan) -> Result<Vec<u8
     }
     let mut text = write_routes(alloc, plan.routes.as_slice())?;
     write_cost(&mut text, cost.distance)?;
-    // By these laws the text is read as what was written.
-    lines_follow();
-    words_make_the_line();
-    decimals_are_read();
+    // By these laws, the text reads back as the routes and their distance.
+    lines_end_at_line_feeds();
+    lines_split_into_words();
+    decimals_parse_back();
     Ok(text)
 }
 
-/// The route lines of a plan alone: each nonempty route as `write_sol` writes it, numbered from 1.
+/// Writes only the route lines of a plan: each nonempty route as `write_sol` writes it, numbered from 1.
 pub fn write_routes(alloc: Global, routes: &[Route]) -> Result<Vec<u8>, AllocError>
     ensures { IfOk result (λ text. text.items ≡ routes_text 1 (used_routes routes.now)) }
 {

@@ -1,12 +1,12 @@
--- Whether a sector is a record, and of which command.
+-- A sector is the record of some command, or of none
 use Rattle.std.proofs.Common.{◌≡◌, ◌≢◌, ◌⊎◌, ℕ, ◌<◌, ◌≤◌, ◌^◌, Bool, true, false, List, [], ◌∷◌, drop, Ok, Err, refl, sym, ap, subst, ◌∙◌, arith, inl, inr}
 use Rattle.std.specs.Prelude.{◌&&◌}
 use Rattle.std.proofs.lemmas.Bool.{cases_lt}
 use Rattle.std.proofs.lemmas.Bool.Decides.{eqb_tells}
-use Rattle.plan_types.specs.Limits.{most_deviation}
-use Rattle.command_core.specs.Wishes.{is_spot, is_demand}
-use Rattle.command_core.specs.declared.commands.Command.{Command}
-use Rattle.command_core.specs.declared.commands.Command.TheVariants.{Add, Add1, Withdraw, Pin, Unpin, Build, Search, Deviation}
+use Rattle.plan_types.specs.Limits.{max_deviation}
+use Rattle.command_types.specs.AddedRequests.{is_spot, is_demand}
+use Rattle.command_types.specs.declared.commands.Command.{Command}
+use Rattle.command_types.specs.declared.commands.Command.TheVariants.{Add, Add1, Withdraw, Pin, Unpin, Build, Search, Deviation}
 use Rattle.state_codec.specs.declared.version.Version.{Version}
 use Rattle.state_codec.specs.declared.version.Version.TheVariants.{One, Two}
 use Rattle.state_codec.specs.Bytes.{record_bytes, width}
@@ -17,7 +17,7 @@ use Rattle.state_codec.specs.Records.{command_at}
 use Rattle.state_codec.proofs.FieldLaws.{ok_is}
 use Rattle.state_codec.proofs.RecordLaws.{record_again}
 
--- it holds, or it doesn't
+-- A property is decided: it holds, or it does not
 abbrev pub Settled : Type 0 → Type 0
 Settled P = P ⊎ (P → ⊥)
 
@@ -47,7 +47,7 @@ holds b = by_test b (λ h. h) (λ h. h)
 
 deviation : (v : Version) (d : ℕ) → Settled (IsDeviationOf v d)
 deviation One d = inr (λ h. h)
-deviation Two d = at_most d most_deviation
+deviation Two d = at_most d max_deviation
 
 recorded : (v : Version) (c : Command) → Settled (IsRecorded v c)
 recorded v (Add demand pickup delivery) = holds (is_demand demand && (is_spot pickup && is_spot delivery))

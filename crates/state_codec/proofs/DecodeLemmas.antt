@@ -1,4 +1,4 @@
--- What decoding answers, by what was read and how it was judged.
+-- The result of decoding follows from what was read and from the checks of it
 use Rattle.std.proofs.Common.{◌≡◌, ◌⊎◌, ℕ, ◌<◌, ◌≤◌, arith, List, [], ◌∷◌, ◌++◌, Option, Some, None, Result, Ok, Err, refl, sym, ap, subst, ◌∙◌, true, inl, inr}
 use Rattle.std.specs.List.{list_all}
 use Rattle.std.proofs.lemmas.Bool.{and_parts}
@@ -8,12 +8,12 @@ use Rattle.route_sched.specs.Cost.{cost_of}
 use Rattle.plan_audit.specs.Alone.{IsFeasibleAlone, IsFaultAlone}
 use Rattle.plan_audit.specs.Passes.{feasible_alone, passes}
 use Rattle.plan_audit.specs.Verdict.{planned, rule_number}
-use Rattle.plan_audit.specs.Locality.{VerdictsAreUnique, TestsSayPass, TestsSayFeasible}
+use Rattle.plan_audit.specs.Locality.{VerdictsAreUnique, PassesDecidesTheVerdict, FeasibleAloneDecidesFeasibility}
 use Rattle.plan_audit.specs.declared.rules.Verdict.TheVariants.{Pass, Broken}
-use Rattle.command_core.specs.Job.{JobValue, IsJob}
-use Rattle.command_core.specs.Runs.{IsState}
-use Rattle.command_core.specs.declared.states.State.{State}
-use Rattle.command_core.specs.declared.states.State.TheVariants.{Empty, Loaded}
+use Rattle.command_types.specs.Job.{JobValue, IsJob}
+use Rattle.command_types.specs.States.{IsState}
+use Rattle.command_types.specs.declared.states.State.{State}
+use Rattle.command_types.specs.declared.states.State.TheVariants.{Empty, Loaded}
 use Rattle.state_codec.specs.declared.version.Version.{Version}
 use Rattle.state_codec.specs.declared.fault.CodecFault.{CodecFault}
 use Rattle.state_codec.specs.declared.fault.CodecFault.TheVariants.{Truncated, BadField, PlanRefused, OutOfMemory}
@@ -21,34 +21,34 @@ use Rattle.state_codec.specs.Bytes.{state_bytes}
 use Rattle.state_codec.specs.Limits.{IsStateOf}
 use Rattle.state_codec.specs.Fields.{Fails}
 use Rattle.state_codec.specs.Parts.{IsWithin}
-use Rattle.state_codec.specs.Reading.{whole_at}
-use Rattle.state_codec.specs.Laws.{StatesDiffer, StatesHaveNoFault, FaultsAreOne, IsOfWhole, BadFieldsStay, BytesBehindAreBad, FrontsAreTruncated}
-use Rattle.state_codec.specs.Refused.{Decodes, IsDecoded, option_of, IsUnlessMemory, IsRefused, IsPlanRefused, IsPinRefused, TellsRule}
+use Rattle.state_codec.specs.Reading.{whole_state_at}
+use Rattle.state_codec.specs.Laws.{StateEncodingIsInjective, StatesHaveNoFault, FaultsAreOne, IsWholeResult, BadFieldsPersist, ExtraBytesAreBad, PrefixesAreTruncated}
+use Rattle.state_codec.specs.DecodeResults.{Decodes, IsDecoded, option_of, IsUnlessOutOfMemory, IsRefused, IsPlanRefused, IsPinRefused, ReportsRule}
 use Rattle.state_codec.proofs.FieldLaws.{IsBytes}
-use Rattle.state_codec.proofs.AgainLaws.{whole_again, empty_again}
+use Rattle.state_codec.proofs.RoundTripLaws.{whole_again, empty_again}
 use Rattle.state_codec.proofs.JobLaws.{whole_takes}
-use Rattle.state_codec.proofs.GrowLaws.{whole_is_plain, whole_stays, whole_and_more, front_is_cut}
+use Rattle.state_codec.proofs.ExtraByteLaws.{whole_is_plain, whole_stays, whole_and_more, front_is_cut}
 
-pub by_fault : (v : Version) (bytes : List ℕ) (e : CodecFault) → Fails e (whole_at v bytes) → IsDecoded v bytes (Err e)
+pub by_fault : (v : Version) (bytes : List ℕ) (e : CodecFault) → Fails e (whole_state_at v bytes) → IsDecoded v bytes (Err e)
 by_fault v bytes Truncated h = h
 by_fault v bytes BadField h = h
 by_fault v bytes (PlanRefused rule) h = absurd (whole_is_plain v bytes rule h)
 by_fault v bytes OutOfMemory h = tt
 
-module _ (v : Version) (bytes : List ℕ) (j : JobValue) (read : whole_at v bytes ≡ Ok (Some j)) where
+module _ (v : Version) (bytes : List ℕ) (j : JobValue) (read : whole_state_at v bytes ≡ Ok (Some j)) where
   pub within : IsBytes bytes → IsWithin j
   within fits = let known = (whole_takes v bytes fits (Some j) read).1 in record { fleet = known.fleet; deviation = known.deviation; seed = known.seed; steps = known.steps }
 
   pub by_job : (k : JobValue) → k ≡ j → IsDecoded v bytes (Ok (Loaded k))
   by_job k same = rw same read
 
-  pub by_rule : (e : CodecFault) → TellsRule (IsRefused j) e → IsDecoded v bytes (Err e)
+  pub by_rule : (e : CodecFault) → ReportsRule (IsRefused j) e → IsDecoded v bytes (Err e)
   by_rule Truncated h = absurd h
   by_rule BadField h = absurd h
   by_rule (PlanRefused rule) h = (j, read, h)
   by_rule OutOfMemory h = tt
 
--- in words of the bytes
+-- The result of decoding in terms of the bytes
 pub decodes : (v : Version) (bytes : List ℕ) → IsBytes bytes → (r : Result State CodecFault) → IsDecoded v bytes r → Decodes v bytes r
 decodes v bytes fits (Ok Empty) h = whole_takes v bytes fits None h
 decodes v bytes fits (Ok (Loaded j)) h = let k = whole_takes v bytes fits (Some j) h in (k.0, k.1.of)
@@ -57,7 +57,7 @@ decodes v bytes fits (Err BadField) h = h
 decodes v bytes fits (Err (PlanRefused rule)) h = let k = whole_takes v bytes fits (Some h.0) h.1 in (h.0, h.1, k.0, k.1.of, h.2)
 decodes v bytes fits (Err OutOfMemory) h = tt
 
--- ---- two least ones
+-- ---- two first faults are the same
 
 first_no_later : {A : Type 0} {m n : ℕ} → (m < n) ⊎ ((m ≡ n) × A) → m ≤ n
 first_no_later (inl lt) = omega (arith, lt)
@@ -66,7 +66,7 @@ first_no_later (inr e) = omega (arith, e.0)
 least_same : (m n : ℕ) → m ≤ n → n ≤ m → m ≡ n
 least_same m n a b = omega (arith, a, b)
 
--- ---- states by what is read
+-- ---- a state is determined by what is read
 
 pub same_state : (s t : State) → option_of s ≡ option_of t → s ≡ t
 same_state Empty Empty e = refl
@@ -74,36 +74,36 @@ same_state Empty (Loaded k) e = absurd cc
 same_state (Loaded j) Empty e = absurd cc
 same_state (Loaded j) (Loaded k) e = cc
 
-pub reads : StopsAreBelowNext → (v : Version) (bytes : List ℕ) (s : State) → IsState s → IsStateOf v s → bytes ≡ state_bytes v s → whole_at v bytes ≡ Ok (option_of s)
-reads law v bytes Empty is of e = ap (whole_at v) e ∙ empty_again v
-reads law v bytes (Loaded j) is of e = ap (whole_at v) e ∙ whole_again law v j is of
+pub reads : StopsAreBelowNext → (v : Version) (bytes : List ℕ) (s : State) → IsState s → IsStateOf v s → bytes ≡ state_bytes v s → whole_state_at v bytes ≡ Ok (option_of s)
+reads law v bytes Empty is of e = ap (whole_state_at v) e ∙ empty_again v
+reads law v bytes (Loaded j) is of e = ap (whole_state_at v) e ∙ whole_again law v j is of
 
-pub states_differ : StopsAreBelowNext → StatesDiffer
+pub states_differ : StopsAreBelowNext → StateEncodingIsInjective
 states_differ law v s t is-s is-t of-s of-t e =
     let both = sym (reads law v (state_bytes v s) s is-s of-s refl) ∙ reads law v (state_bytes v s) t is-t of-t e in
     same_state s t cc
 
--- ---- bytes with more behind them, or less
+-- ---- longer bytes, and prefixes of bytes
 
-pub bad_stays : BadFieldsStay
+pub bad_stays : BadFieldsPersist
 bad_stays v bytes more h = whole_stays v bytes more h
 
-read_whole : StopsAreBelowNext → (v : Version) (bytes : List ℕ) (r : Result State CodecFault) → IsOfWhole r → Decodes v bytes r → (o : Option JobValue) × (whole_at v bytes ≡ Ok o)
+read_whole : StopsAreBelowNext → (v : Version) (bytes : List ℕ) (r : Result State CodecFault) → IsWholeResult r → Decodes v bytes r → (o : Option JobValue) × (whole_state_at v bytes ≡ Ok o)
 read_whole law v bytes (Ok s) is h = (option_of s, reads law v bytes s is h.1 h.0)
 read_whole law v bytes (Err (PlanRefused rule)) is h = (Some h.0, h.1)
 read_whole law v bytes (Err Truncated) is h = absurd is
 read_whole law v bytes (Err BadField) is h = absurd is
 read_whole law v bytes (Err OutOfMemory) is h = absurd is
 
-pub behind_is_bad : StopsAreBelowNext → BytesBehindAreBad
-behind_is_bad law v bytes b more r is h = let w = read_whole law v bytes r is h in whole_and_more v bytes b more w.0 w.1
+pub extra_byte_is_bad : StopsAreBelowNext → ExtraBytesAreBad
+extra_byte_is_bad law v bytes b more r is h = let w = read_whole law v bytes r is h in whole_and_more v bytes b more w.0 w.1
 
-pub fronts_are_cut : StopsAreBelowNext → FrontsAreTruncated
-fronts_are_cut law v front b rest r is h = let w = read_whole law v (front ++ b ∷ rest) r is h in front_is_cut v front b rest w.0 w.1
+pub prefixes_are_truncated : StopsAreBelowNext → PrefixesAreTruncated
+prefixes_are_truncated law v front b rest r is h = let w = read_whole law v (front ++ b ∷ rest) r is h in front_is_cut v front b rest w.0 w.1
 
--- ---- a state that keeps its facts is not refused
+-- ---- a state that satisfies its invariants is not refused
 
-module _ (unique : VerdictsAreUnique) (pass : TestsSayPass) (feasible : TestsSayFeasible) where
+module _ (unique : VerdictsAreUnique) (pass : PassesDecidesTheVerdict) (feasible : FeasibleAloneDecidesFeasibility) where
   plan_kept : (p : Instance) (pins routes : List (List ℕ)) (rule : ℕ) → passes p pins routes ≡ true → IsPlanRefused p pins routes rule → ⊥
   plan_kept p pins routes rule h r =
       let same = unique p (planned routes pins) (Pass (cost_of p routes)) (Broken rule r.0 r.1 r.2) ((pass p pins routes).0 h) r.3 in
@@ -133,14 +133,14 @@ module _ (unique : VerdictsAreUnique) (pass : TestsSayPass) (feasible : TestsSay
   some_job (Loaded k) j rule is e r = let same : k ≡ j = cc in not_refused j rule (subst IsJob same is) r
 
   module _ (law : StopsAreBelowNext) (v : Version) (bytes : List ℕ) where
-    pub only_this : (r : Result State CodecFault) → IsDecoded v bytes r → (s : State) → IsState s → IsStateOf v s → bytes ≡ state_bytes v s → IsUnlessMemory s r
+    pub only_this : (r : Result State CodecFault) → IsDecoded v bytes r → (s : State) → IsState s → IsStateOf v s → bytes ≡ state_bytes v s → IsUnlessOutOfMemory s r
     only_this (Ok t) h s is of e = let both = sym h ∙ reads law v bytes s is of e in same_state t s cc
     only_this (Err Truncated) h s is of e = let both = sym h ∙ reads law v bytes s is of e in absurd cc
     only_this (Err BadField) h s is of e = let both = sym h ∙ reads law v bytes s is of e in absurd cc
     only_this (Err (PlanRefused rule)) h s is of e = let both = sym (reads law v bytes s is of e) ∙ h.1 in let is-job : option_of s ≡ Some h.0 = cc in absurd (some_job s h.0 rule is is-job h.2)
     only_this (Err OutOfMemory) h s is of e = refl
 
-  -- an answer by the bytes is one by what was read
+  -- A result in terms of the bytes determines the result in terms of what was read
   is_decoded : (v : Version) (bytes : List ℕ) (f : CodecFault) → Decodes v bytes (Err f) → IsDecoded v bytes (Err f)
   is_decoded v bytes Truncated h = h
   is_decoded v bytes BadField h = h
@@ -150,7 +150,7 @@ module _ (unique : VerdictsAreUnique) (pass : TestsSayPass) (feasible : TestsSay
   pub no_fault : StopsAreBelowNext → StatesHaveNoFault
   no_fault law v s fault is of h = only_this law v (state_bytes v s) (Err fault) (is_decoded v (state_bytes v s) fault h) s is of refl
 
-  -- ---- one rule is told at most
+  -- ---- at most one rule is reported
 
   one_plan : (p : Instance) (pins routes : List (List ℕ)) (a b : ℕ) → IsPlanRefused p pins routes a → IsPlanRefused p pins routes b → a ≡ b
   one_plan p pins routes a b x y =

@@ -1,16 +1,16 @@
--- The worked examples compute.
+-- Worked examples, by computation
 use Rattle.std.proofs.Common.{◌≡◌, ℕ, refl, List, [], ◌∷◌, pos}
 use Rattle.std.specs.Prelude.{replicate}
 use Rattle.plan_types.specs.declared.requests.Stop.{Stop}
 use Rattle.plan_types.specs.declared.requests.Kind.TheVariants.{Vrp}
 use Rattle.plan_types.specs.declared.requests.Request.TheVariants.{Single}
-use Rattle.command_core.specs.Job.{JobValue}
-use Rattle.command_core.specs.declared.states.State.TheVariants.{Loaded}
-use Rattle.command_core.specs.declared.commands.Command.TheVariants.{Search}
+use Rattle.command_types.specs.Job.{JobValue}
+use Rattle.command_types.specs.declared.states.State.TheVariants.{Loaded}
+use Rattle.command_types.specs.declared.commands.Command.TheVariants.{Search}
 use Rattle.state_codec.specs.declared.version.Version.TheVariants.{One, Two}
 use Rattle.state_codec.specs.Bytes.{number_bytes, signed_bytes, state_bytes, record_bytes}
 
--- one customer, 1 at (3, 4) with demand 6, a capacity of 10, one vehicle; nothing planned yet
+-- One customer, 1 at (3, 4) with demand 6, a capacity of 10, and one vehicle; nothing is planned yet
 abbrev customer : Stop
 customer = record { number = 1; x = pos 3; y = pos 4; demand = pos 6; earliest = 0; latest = 100000000; service = 0 }
 
@@ -28,7 +28,7 @@ just_loaded = record {
   steps = 0;
 }
 
--- the 95 bytes of version 2
+-- The example in version 2: 95 bytes
 abbrev written : List ℕ
 written = 1 ∷ 2 ∷ 0 ∷ 0 ∷ 0 ∷ 0 ∷ 0 ∷ 0 ∷ 0 ∷ 0 ∷ 0 ∷ 0 ∷ 0 ∷ 0 ∷ 0 ∷ 0 ∷ 0 ∷ 0 ∷ 0 ∷ 0 ∷ 0 ∷ 10 ∷ 0 ∷ 0 ∷ 0 ∷ 1 ∷ 0 ∷ 0 ∷ 0 ∷ 2 ∷ 0 ∷ 0 ∷ 0 ∷ 0 ∷ 0 ∷ 0 ∷ 0 ∷ 0
     ∷ 0 ∷ 0 ∷ 0 ∷ 0 ∷ 5 ∷ 245 ∷ 225 ∷ 0 ∷ 0 ∷ 0 ∷ 0 ∷ 0 ∷ 0 ∷ 0 ∷ 0 ∷ 1 ∷ 1 ∷ 0 ∷ 0 ∷ 0 ∷ 1 ∷ 0 ∷ 0 ∷ 0 ∷ 3 ∷ 0 ∷ 0 ∷ 0 ∷ 4 ∷ 0 ∷ 0 ∷ 0 ∷ 6 ∷ 0 ∷ 0 ∷ 0 ∷ 0 ∷ 5
@@ -38,7 +38,7 @@ state_is_written : state_bytes Two (Loaded just_loaded) ≡ written
 unfolding number_bytes signed_bytes
 state_is_written = refl
 
--- the 75 bytes of version 1
+-- The example in version 1: 75 bytes
 abbrev written_before : List ℕ
 written_before = 1 ∷ 2 ∷ 0 ∷ 0 ∷ 0 ∷ 0 ∷ 0 ∷ 0 ∷ 0 ∷ 0 ∷ 0 ∷ 0 ∷ 0 ∷ 0 ∷ 0 ∷ 0 ∷ 0 ∷ 0 ∷ 0 ∷ 0 ∷ 0 ∷ 10 ∷ 0 ∷ 1 ∷ 0 ∷ 2 ∷ 0 ∷ 0 ∷ 0 ∷ 0 ∷ 0 ∷ 0 ∷ 0 ∷ 0 ∷ 0 ∷ 0
     ∷ 0 ∷ 0 ∷ 5 ∷ 245 ∷ 225 ∷ 0 ∷ 0 ∷ 1 ∷ 1 ∷ 0 ∷ 1 ∷ 0 ∷ 0 ∷ 0 ∷ 3 ∷ 0 ∷ 0 ∷ 0 ∷ 4 ∷ 0 ∷ 0 ∷ 0 ∷ 6 ∷ 0 ∷ 0 ∷ 0 ∷ 0 ∷ 5 ∷ 245 ∷ 225 ∷ 0 ∷ 0 ∷ 0 ∷ 0 ∷ 0 ∷ 0 ∷ 0
@@ -48,7 +48,7 @@ state_was_written : state_bytes One (Loaded just_loaded) ≡ written_before
 unfolding number_bytes signed_bytes
 state_was_written = refl
 
--- the record of 256 search steps, the first of sequence 1
+-- The record of 256 search steps, the first one of sequence 1
 record_is_written : record_bytes Two 1 0 (Search 256) ≡ 0 ∷ 0 ∷ 0 ∷ 0 ∷ 0 ∷ 0 ∷ 0 ∷ 1 ∷ 0 ∷ 0 ∷ 0 ∷ 0 ∷ 7 ∷ 1 ∷ 0 ∷ replicate 497 0
 unfolding number_bytes signed_bytes
 record_is_written = refl

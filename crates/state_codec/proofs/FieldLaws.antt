@@ -1,4 +1,4 @@
--- A field that is read is the field that was written, and what was written is read again.
+-- A field that is read is the one that was written, and a field that was written is read back
 use Rattle.std.proofs.Common.{
   ◌≡◌,
   ℕ,
@@ -64,12 +64,12 @@ IsBytes-take n bytes h i =
       | inr le ↦ rw (get_or_past (take n bytes) i 0 (omega (arith, length-take n bytes))) (omega arith)
     ]
 
--- the value of a step that did not fail
+-- If two steps in sequence succeed, the first has returned a value and the second has returned the result
 pub bind_ok : {A B : Type 0} (r : Result A CodecFault) (f : A → Result B CodecFault) (y : B) → (r >>= f) ≡ Ok y → (x : A) × (r ≡ Ok x) × (f x ≡ Ok y)
 bind_ok (Ok x) f y e = (x, refl, e)
 bind_ok (Err d) f y e = absurd cc
 
--- a test that did not fail
+-- If a guarded value was returned, the guard did not fail
 guard_ok : {A : Type 0} (b : Bool) (d : CodecFault) (x y : A) → cond b (Err d) (Ok x) ≡ Ok y → (b ≡ false) × (x ≡ y)
 guard_ok true d x y e = absurd cc
 guard_ok false d x y e = (refl, cc)
@@ -78,7 +78,7 @@ kept_ok : {A : Type 0} (b : Bool) (d : CodecFault) (x y : A) → cond b (Ok x) (
 kept_ok true d x y e = (refl, cc)
 kept_ok false d x y e = absurd cc
 
--- a value that its rule takes
+-- If a field was accepted, it was read and its rule accepts the value
 pub only_ok : {X : Type 0} (rule : X → Bool) (field : Field X) (y : X × List ℕ) → only rule field ≡ Ok y → (field ≡ Ok y) × (rule y.0 ≡ true)
 only_ok rule (Err d) y e = absurd cc
 only_ok rule (Ok x) y e = let k = kept_ok (rule x.0) BadField x y e in (ap Ok k.1, ap (λ z. rule z.0) (sym k.1) ∙ k.0)
@@ -92,7 +92,7 @@ done x = Ok x
 pub ok_is : {A : Type 0} (x y : A) → done x ≡ done y → x ≡ y
 ok_is x y e = cc
 
--- what a reader took from the front
+-- The bytes that a reader consumed
 pub record Takes (bytes text rest : List ℕ) : Type 0 where
   pub parts : bytes ≡ text ++ rest
   pub rest_fits : IsBytes rest
@@ -126,7 +126,7 @@ back8 (a ∷ b ∷ []) fits le = absurd (omega arith)
 back8 (a ∷ []) fits le = absurd (omega arith)
 back8 [] fits le = absurd (omega arith)
 
--- so many bytes are those of the number in them
+-- Reading a number and writing it again yields the same bytes, for numbers of this size
 abbrev pub IsSize : ℕ → Type 0
 IsSize size = (bytes : List ℕ) → IsBytes bytes → size ≤ length bytes → big_bytes size (big_number size bytes) ≡ take size bytes
 
@@ -193,7 +193,7 @@ signed_again z rest fits =
 pub small : (z : ℤ) → negsuc 999999 ≤ℤ z → z ≤ℤ pos 1000000 → SFits w32 z
 small z low high = record { sfits = grind (arith, ints, low, high) }
 
--- one field, and then the others
+-- If reading a field and then more succeeded, the field was read and its bytes were consumed
 pub step : {A B G : Type 0} (field : Field A) (f : A × List ℕ → Result B CodecFault) (y : B) (bytes : List ℕ) (text : A → List ℕ) (P : A → Type 0)
     → ((a : A × List ℕ) → field ≡ Ok a → Takes bytes (text a.0) a.1 × P a.0)
     → (field >>= f) ≡ Ok y → ((a : A × List ℕ) → Takes bytes (text a.0) a.1 → P a.0 → f a ≡ Ok y → G) → G

@@ -1,8 +1,8 @@
--- What stands before the requests is read as it was written.
+-- The part before the requests is read back as it was written
 use Rattle.std.proofs.Common.{◌≡◌, ℕ, ◌+◌, ◌^◌, ◌<◌, ◌≤◌, ℤ, pos, Bool, true, false, cond, List, [], ◌∷◌, ◌++◌, Ok, Err, refl, sym, ap, subst, ◌∙◌, append_assoc, arith}
 use Rattle.std.specs.Prelude.{nat_le, ◌==◌}
 use Rattle.std.proofs.lemmas.Bool.{eqb-true, leb-true, le-leb, and_parts, and_from}
-use Rattle.plan_types.specs.Limits.{most_deviation, IsDepot, IsVisit}
+use Rattle.plan_types.specs.Limits.{max_deviation, IsDepot, IsVisit}
 use Rattle.plan_types.specs.declared.requests.Stop.{Stop}
 use Rattle.plan_types.specs.declared.requests.Kind.{Kind}
 use Rattle.plan_types.specs.declared.requests.Kind.TheVariants.{LiLim, Vrp}
@@ -13,7 +13,7 @@ use Rattle.state_codec.specs.declared.fault.CodecFault.TheVariants.{BadField}
 use Rattle.state_codec.specs.Bytes.{number_bytes, count_bytes, kind_code, depot_bytes, deviation_bytes, width}
 use Rattle.state_codec.specs.Limits.{most}
 use Rattle.state_codec.specs.Fields.{only, byte_at, number_at, point_at, window_at}
-use Rattle.state_codec.specs.Reading.{kind_at, is_steps, is_capacity, is_fleet, is_next, is_deviation, depot_at, allowance_at, head_at}
+use Rattle.state_codec.specs.Reading.{kind_at, is_steps, is_capacity, is_fleet, is_next, is_deviation, depot_at, job_deviation_at, head_at}
 use Rattle.state_codec.specs.Parts.{IsHead}
 use Rattle.state_codec.proofs.FieldLaws.{IsBytes, Takes, takes_then, step, ok_is, number_takes, number_again, of_4, of_8, of_width, only_again}
 use Rattle.state_codec.proofs.RequestLaws.{number_only, byte_takes, point_bytes, IsPoint, point_takes, point_again, window_bytes, IsWindow, window_takes, window_again}
@@ -73,17 +73,17 @@ depot_again s rest is =
 
 abbrev pub IsAllowance : Version → ℕ → Type 0
 IsAllowance One d = d ≡ 0
-IsAllowance Two d = d ≤ most_deviation
+IsAllowance Two d = d ≤ max_deviation
 
-allowance_takes : (v : Version) (bytes : List ℕ) → IsBytes bytes → (y : ℕ × List ℕ) → allowance_at v bytes ≡ Ok y → Takes bytes (deviation_bytes v y.0) y.1 × IsAllowance v y.0
+allowance_takes : (v : Version) (bytes : List ℕ) → IsBytes bytes → (y : ℕ × List ℕ) → job_deviation_at v bytes ≡ Ok y → Takes bytes (deviation_bytes v y.0) y.1 × IsAllowance v y.0
 allowance_takes One bytes fits y e = subst (λ (z : ℕ × List ℕ). Takes bytes [] z.1 × (z.0 ≡ 0)) (ok_is (0, bytes) y e) (record { parts = refl; rest_fits = fits }, refl)
-allowance_takes Two bytes fits y e = let t = number_only is_deviation 4 (number_takes 4 of_4) bytes fits y e in (t.0, leb-true y.0 most_deviation t.1)
+allowance_takes Two bytes fits y e = let t = number_only is_deviation 4 (number_takes 4 of_4) bytes fits y e in (t.0, leb-true y.0 max_deviation t.1)
 
-allowance_again : (v : Version) (d : ℕ) (rest : List ℕ) → IsAllowance v d → allowance_at v (deviation_bytes v d ++ rest) ≡ Ok (d, rest)
+allowance_again : (v : Version) (d : ℕ) (rest : List ℕ) → IsAllowance v d → job_deviation_at v (deviation_bytes v d ++ rest) ≡ Ok (d, rest)
 allowance_again One d rest is = rw is refl
-allowance_again Two d rest is = only_again is_deviation (number_at 4 (number_bytes 4 d ++ rest)) (d, rest) (number_again 4 d rest (omega (arith, is))) (le-leb d most_deviation is)
+allowance_again Two d rest is = only_again is_deviation (number_at 4 (number_bytes 4 d ++ rest)) (d, rest) (number_again 4 d rest (omega (arith, is))) (le-leb d max_deviation is)
 
--- ---- all of it
+-- ---- the whole head
 
 abbrev pub head_text : Version → Head → List ℕ
 head_text v h = kind_code h.kind ∷ number_bytes 8 h.seed
@@ -114,7 +114,7 @@ head_takes v bytes fits y e =
     step (only (is_next v) (number_at (width v) f.1)) _ y f.1 (count_bytes v) (λ n. is_next v n ≡ true)
     (number_only (is_next v) (width v) (number_takes (width v) (of_width v)) f.1 tf.rest_fits) ef (λ n tn pn en.
     step (depot_at n.1) _ y n.1 depot_bytes IsDepot (depot_takes n.1 tn.rest_fits) en (λ d td pd ed.
-    step (allowance_at v d.1) _ y d.1 (deviation_bytes v) (IsAllowance v) (allowance_takes v d.1 td.rest_fits) ed (λ a ta pa ea.
+    step (job_deviation_at v d.1) _ y d.1 (deviation_bytes v) (IsAllowance v) (allowance_takes v d.1 td.rest_fits) ed (λ a ta pa ea.
     let made : Head = record { kind = k.0; seed = s.0; steps = t.0; capacity = q.0; fleet = f.0; next_number = n.0; depot = d.0; deviation = a.0 } in
     let fleet = and_parts (nat_le 1 f.0) (nat_le f.0 (most v)) pf in
     let next = and_parts (nat_le 1 n.0) (nat_le n.0 (most v + 1)) pn in
@@ -134,8 +134,8 @@ head_takes v bytes fits y e =
       depot = pd;
       capacity = leb-true q.0 1000000 pq;
       fleet = (leb-true 1 f.0 fleet.0, omega (arith, small-fleet, most_is v));
-      next_from_one = leb-true 1 n.0 next.0;
-      next_to_most = omega (arith, small-next, most_is v);
+      next_number_min = leb-true 1 n.0 next.0;
+      next_number_max = omega (arith, small-next, most_is v);
     } in
     let of : IsHeadOf v made = record { head = head; fleet = small-fleet; next_number = small-next; deviation = pa; seed = ps; steps = leb-true t.0 (2 ^ 60) pt } in
     subst (λ (z : Head × List ℕ). Takes bytes (head_text v z.0) z.1 × IsHeadOf v z.0) (ok_is (made, a.1) y ea) (t1, of)))))))))
@@ -154,9 +154,9 @@ head_again v h rest is =
     let capacity = number_bytes 4 h.capacity ++ fleet in
     let steps = number_bytes 8 h.steps ++ capacity in
     let seed = number_bytes 8 h.seed ++ steps in
-    let behind = number_bytes 8 h.seed ++ (number_bytes 8 h.steps
+    let following = number_bytes 8 h.seed ++ (number_bytes 8 h.steps
     ++ (number_bytes 4 h.capacity ++ (count_bytes v h.fleet ++ (count_bytes v h.next_number ++ (depot_bytes h.depot ++ deviation_bytes v h.deviation))))) in
-    let moved : behind ++ rest ≡ seed = simp append_assoc in
+    let moved : following ++ rest ≡ seed = simp append_assoc in
     let regrouped : head_text v h ++ rest ≡ kind_code h.kind ∷ seed = ap (λ t. kind_code h.kind ∷ t) moved in
     ap (head_at v) regrouped
     ∙ rw (kind_again h.kind seed)
@@ -168,6 +168,6 @@ head_again v h rest is =
     (and_from _ _ (le-leb 1 h.fleet is.head.fleet.0) (le-leb h.fleet (most v) is.fleet)))
     (rw (only_again (is_next v) (number_at (width v) next) (h.next_number, depot)
     (number_again (width v) h.next_number depot (fleet_below v h.next_number is.next_number))
-    (and_from _ _ (le-leb 1 h.next_number is.head.next_from_one) (le-leb h.next_number (most v + 1) is.next_number)))
+    (and_from _ _ (le-leb 1 h.next_number is.head.next_number_min) (le-leb h.next_number (most v + 1) is.next_number)))
     (rw (depot_again h.depot deviation is.head.depot)
     (rw (allowance_again v h.deviation rest is.deviation) refl)))))))

@@ -1,4 +1,4 @@
--- A state that is read is the one that was written.
+-- A state that is read is the one that was written
 use Rattle.std.proofs.Common.{◌≡◌, ℕ, ◌^◌, ◌<◌, ◌≤◌, Bool, true, false, cond, List, [], ◌∷◌, ◌++◌, length, Option, Some, None, Ok, Err, refl, sym, ap, subst, ◌∙◌, append_assoc, arith, length-append}
 use Rattle.std.specs.Prelude.{◌==◌}
 use Rattle.std.proofs.lemmas.Bool.{eqb-true}
@@ -6,8 +6,8 @@ use Rattle.std.proofs.lemmas.List.{append-nil, nil_from_length}
 use Rattle.plan_types.specs.Instance.{Instance}
 use Rattle.plan_types.specs.Request.{request_name}
 use Rattle.plan_types.specs.declared.requests.Request.{Request}
-use Rattle.plan_types.specs.Limits.{most_deviation}
-use Rattle.command_core.specs.Job.{JobValue}
+use Rattle.plan_types.specs.Limits.{max_deviation}
+use Rattle.command_types.specs.Job.{JobValue}
 use Rattle.state_codec.specs.declared.head.Head.{Head}
 use Rattle.state_codec.specs.declared.version.Version.{Version}
 use Rattle.state_codec.specs.declared.version.Version.TheVariants.{One, Two}
@@ -15,7 +15,7 @@ use Rattle.state_codec.specs.declared.fault.CodecFault.TheVariants.{BadField}
 use Rattle.state_codec.specs.Bytes.{number_bytes, count_bytes, kind_code, depot_bytes, deviation_bytes, width, request_bytes, requests_bytes, vehicles_bytes, work_bytes, job_bytes}
 use Rattle.state_codec.specs.Limits.{IsJobOf}
 use Rattle.state_codec.specs.Fields.{◌>>=◌, byte_at, number_at}
-use Rattle.state_codec.specs.Reading.{times, request_at, next_request, next_vehicle, work_at, head_at, problem_from, problem_at, job_at, state_at, whole_at}
+use Rattle.state_codec.specs.Reading.{times, request_at, next_request, next_vehicle, work_at, head_at, problem_from, problem_at, job_at, state_at, whole_state_at}
 use Rattle.state_codec.proofs.FieldLaws.{IsBytes, Takes, takes_then, step, bind_ok, ok_is, number_takes, of_width}
 use Rattle.state_codec.proofs.RequestLaws.{request_takes, byte_takes}
 use Rattle.state_codec.proofs.TimesLaws.{Adds, times_take, flat_map_one}
@@ -69,15 +69,15 @@ work_takes Two fleet plan bytes fits y e = ((routes_take Two fleet bytes fits y 
 
 -- ---- a job
 
--- what is known of a job that was read
+-- Facts about a job that was read
 pub record IsReadJob (v : Version) (j : JobValue) : Type 0 where
   pub of : IsJobOf v j
   pub fleet : length j.pins ≡ j.problem.fleet
-  pub deviation : j.deviation ≤ most_deviation
+  pub deviation : j.deviation ≤ max_deviation
   pub seed : j.seed < 2 ^ 64
   pub steps : j.steps ≤ 2 ^ 60
 
-allowed : (v : Version) (d : ℕ) → IsAllowance v d → d ≤ most_deviation
+allowed : (v : Version) (d : ℕ) → IsAllowance v d → d ≤ max_deviation
 allowed One d h = omega (arith, h)
 allowed Two d h = h
 
@@ -87,7 +87,7 @@ of_version One h j is fleet next deviation work = record
     { fleet = omega (arith, fleet, is.fleet); next_number = omega (arith, next, is.next_number); deviation = deviation ∙ is.deviation; work = work }
 of_version Two h j is fleet next deviation work = tt
 
--- the head's bytes, with what stands in a problem
+-- The bytes of the head, for the fields of this problem
 abbrev problem_head : Version → Head → Instance → List ℕ
 problem_head v h p = kind_code p.kind ∷ number_bytes 8 h.seed
     ++ (number_bytes 8 h.steps ++ (number_bytes 4 p.capacity
@@ -97,7 +97,7 @@ pub job_takes : (v : Version) (bytes : List ℕ) → IsBytes bytes → (y : JobV
 unfolding job_at
 job_takes v bytes fits y e =
     step (head_at v bytes) _ y bytes (head_text v) (IsHeadOf v) (head_takes v bytes fits) e (λ h th ph eh.
-    step (problem_at v h.0 h.1) _ y h.1 (problem_text v) (λ p. p ≡ problem_from h.0 p.requests) (problem_takes v h.0 h.1 ph.head.next_to_most th.rest_fits) eh (λ p tp pp ep.
+    step (problem_at v h.0 h.1) _ y h.1 (problem_text v) (λ p. p ≡ problem_from h.0 p.requests) (problem_takes v h.0 h.1 ph.head.next_number_max th.rest_fits) eh (λ p tp pp ep.
     step (times (next_vehicle v) h.0.fleet ([], []) p.1) _ y p.1 (λ (s : List (List ℕ) × List (List ℕ)). vehicles_bytes v s.0 s.1)
     (λ (s : List (List ℕ) × List (List ℕ)). length s.0 ≡ h.0.fleet) (λ a g. (let t = vehicles_take v h.0.fleet p.1 tp.rest_fits a g in (t.0, t.2))) ep
     (λ r tr pr er.
@@ -120,7 +120,7 @@ job_takes v bytes fits y e =
     } in
     subst (λ (z : JobValue × List ℕ). Takes bytes (job_bytes v z.0) z.1 × IsReadJob v z.0) (ok_is (made, w.1) y ew) (t1, known)))))
 
--- ---- all of the bytes
+-- ---- all of the bytes of a state
 
 abbrev pub option_bytes : Version → Option JobValue → List ℕ
 option_bytes v None = 0 ∷ []
@@ -151,8 +151,8 @@ end_ok : {A : Type 0} (b : Bool) (x y : A) → cond b (Ok x) (Err BadField) ≡ 
 end_ok true x y e = (refl, ok_is x y e)
 end_ok false x y e = absurd cc
 
-pub whole_takes : (v : Version) (bytes : List ℕ) → IsBytes bytes → (o : Option JobValue) → whole_at v bytes ≡ Ok o → (bytes ≡ option_bytes v o) × IsReadOption v o
-unfolding whole_at
+pub whole_takes : (v : Version) (bytes : List ℕ) → IsBytes bytes → (o : Option JobValue) → whole_state_at v bytes ≡ Ok o → (bytes ≡ option_bytes v o) × IsReadOption v o
+unfolding whole_state_at
 whole_takes v bytes fits o e =
     let b = bind_ok (state_at v bytes) (λ s. cond (length s.1 == 0) (Ok s.0) (Err BadField)) o e in
     let t = state_takes v bytes fits b.0 b.1 in

@@ -1,16 +1,16 @@
--- The lengths of encodings.
+-- The length of each part of an encoding
 use Rattle.std.proofs.Common.{◌≡◌, ℕ, ◌+◌, ◌*◌, List, [], ◌∷◌, ◌++◌, length, refl, arith, length-append}
 use Rattle.std.specs.List.{concat}
 use Rattle.plan_types.specs.Laws.{StopsAreBelowNext}
 use Rattle.plan_types.specs.Instance.{numbers_among}
 use Rattle.plan_types.specs.declared.requests.Request.{Request}
 use Rattle.plan_types.specs.declared.requests.Request.TheVariants.{Single, Pair}
-use Rattle.command_core.specs.Job.{JobValue}
-use Rattle.command_core.specs.declared.states.State.TheVariants.{Empty, Loaded}
+use Rattle.command_types.specs.Job.{JobValue}
+use Rattle.command_types.specs.declared.states.State.TheVariants.{Empty, Loaded}
 use Rattle.state_codec.specs.declared.version.Version.TheVariants.{Two}
 use Rattle.state_codec.specs.Bytes.{number_bytes, signed_bytes, requests_bytes, stops_bytes, vehicles_bytes, routes_bytes, head_bytes}
 use Rattle.state_codec.specs.Lengths.{EncodingsFit}
-use Rattle.anneal_search.proofs.RequestCounts.{few_numbers, requests_below}
+use Rattle.plan_types.proofs.RequestCounts.{few_numbers, requests_below}
 use Rattle.state_codec.proofs.SizeLemmas.{sizes}
 
 len_stops : (ns : List ℕ) → length (stops_bytes Two ns) ≡ 4 * length ns
@@ -75,5 +75,5 @@ encodings_fit law (Loaded j) is =
         length-append requests (vehicles ++ routes),
         length-append vehicles routes,
       ),
-      omega (arith, few_numbers j.problem is.problem, requests_below j.problem is.problem, s.plan.total, s.work.total, s.plan.fleet, s.work.fleet, is.problem.fleet.1, is.problem.next_to_most),
+      omega (arith, few_numbers j.problem is.problem, requests_below j.problem is.problem, s.plan.total, s.work.total, s.plan.fleet, s.work.fleet, is.problem.fleet.1, is.problem.next_number_max),
     )

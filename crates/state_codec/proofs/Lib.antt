@@ -1,4 +1,4 @@
--- The lemma files, which upper crates may cite.
+-- The lemma files. Crates above may use them.
 pub mod Examples
 pub mod FieldLaws
 pub mod SectorLemmas
@@ -14,10 +14,10 @@ pub mod SizeLemmas
 pub mod HeadLaws
 pub mod JobLaws
 pub mod PinLemmas
-pub mod GrowLaws
+pub mod ExtraByteLaws
 pub mod DecodeLemmas
-pub mod AgainLaws
+pub mod RoundTripLaws
 pub mod LengthLemmas
 pub mod ChoiceLemmas
 pub mod ProblemLaws
-pub mod AnswerLaws
+pub mod DecodeLaws

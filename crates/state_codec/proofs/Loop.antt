@@ -1,11 +1,11 @@
--- Reading one thing after the other, as a loop does.
+-- A loop that reads one item after the other has the result of reading n items
 use Rattle.std.proofs.Common.{◌≡◌, ℕ, suc, ◌-◌, ◌+◌, ◌≤◌, ◌<◌, List, Result, Ok, Err, refl, sym, ap, ◌∙◌, arith}
 use Rattle.state_codec.specs.declared.fault.CodecFault.{CodecFault}
 use Rattle.state_codec.specs.declared.fault.CodecFault.TheVariants.{Truncated, BadField, PlanRefused, OutOfMemory}
 use Rattle.state_codec.specs.Fields.{◌>>=◌, Field, Fails}
 use Rattle.state_codec.specs.Reading.{times}
 
--- what failed with this fault
+-- If reading fails with this fault, so does the function
 pub fails : {Y : Type 0} (e : CodecFault) (read : Result Y CodecFault) → read ≡ Err e → Fails e read
 fails Truncated read h = h
 fails BadField read h = h

@@ -1,4 +1,4 @@
--- Names that rise.
+-- Names are in ascending order
 use Rattle.std.proofs.Common.{◌≡◌, ℕ, ◌-◌, ◌<◌, ◌≤◌, Bool, true, false, List, length, get_or, Some, refl, sym, ap, ◌∙◌, arith, nat_lt, slice_get}
 use Rattle.std.specs.List.{list_all}
 use Rattle.std.specs.List.Sorted.{IsStrictlySortedBy}
@@ -12,14 +12,14 @@ use Rattle.std.proofs.lemmas.Map.Keys.{non_decreasing_from_sorted}
 use Rattle.std.proofs.lemmas.Option.{slice_get_within, get_or_from_slice_get}
 use Rattle.plan_types.specs.declared.requests.Request.{Request}
 
--- the last of rising names is below a number where all are
-module _ (n : ℕ) (es : List (ℕ × Request)) (e : ℕ × Request) (rising : IsStrictlySortedBy nat_cmp (keys_of es)) (at : slice_get es (length es - 1) ≡ Some e) where
+-- All ascending names are below a number if the last one is
+module _ (n : ℕ) (es : List (ℕ × Request)) (e : ℕ × Request) (ascending : IsStrictlySortedBy nat_cmp (keys_of es)) (at : slice_get es (length es - 1) ≡ Some e) where
   last-within : length es - 1 < length es
   last-within = slice_get_within es (length es - 1) e at
 
   no-more : (k : ℕ) (d : ℕ × Request) → k < length es → (get_or es k d).0 ≤ e.0
   no-more k d b =
-      let ordered = non_decreasing_from_sorted (keys_of es) rising k (length es - 1) 0 (omega arith) (rw length-map last-within) in
+      let ordered = non_decreasing_from_sorted (keys_of es) ascending k (length es - 1) 0 (omega arith) (rw length-map last-within) in
       let here = get_or-map (λ (f : ℕ × Request). f.0) es k d 0 b in
       let there = get_or-map (λ (f : ℕ × Request). f.0) es (length es - 1) e 0 last-within ∙ ap (λ (f : ℕ × Request). f.0) (get_or_from_slice_get es (length es - 1) e e at) in
       omega (arith, ordered, here, there)

@@ -1,11 +1,11 @@
--- The first pin that is refused.
+-- The first refused pin, and the rule that it breaks
 use Rattle.std.proofs.Common.{◌≡◌, ℕ, zero, suc, ◌+◌, ◌<◌, true, List, [], ◌∷◌, length, get_or, take, drop, refl, subst, ◌∙◌, arith, inl, inr}
 use Rattle.std.specs.List.{list_all}
 use Rattle.std.proofs.lemmas.List.Folds.{list_all_more}
 use Rattle.plan_types.specs.Instance.{Instance}
 use Rattle.plan_audit.specs.Alone.{IsFeasibleAlone, IsFaultAlone}
 use Rattle.plan_audit.specs.Passes.{feasible_alone}
-use Rattle.state_codec.specs.Refused.{IsPinRefused}
+use Rattle.state_codec.specs.DecodeResults.{IsPinRefused}
 
 pub refused_here : (p : Instance) (pins : List (List ℕ)) (i rule : ℕ) → i < length pins → IsFaultAlone p (get_or pins i []) rule → IsPinRefused p (drop i pins) rule
 refused_here p [] i rule lt f = absurd (omega (arith, lt))

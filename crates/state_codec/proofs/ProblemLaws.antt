@@ -1,21 +1,21 @@
--- The problem that was read is one.
+-- The problem that was read is valid
 use Rattle.std.proofs.Common.{◌≡◌, ℕ, ◌+◌, ◌-◌, ◌<◌, ◌≤◌, List, [], ◌∷◌, ◌++◌, length, Bool, true, false, cond, Option, Some, None, Ok, Err, refl, ap, subst, ◌∙◌, arith, max, length-append}
 use Rattle.std.specs.Prelude.{◌==◌}
 use Rattle.std.specs.List.{AllByRecursion, IsDistinct}
 use Rattle.std.proofs.Math.Nat.{max-eq_left, max-le}
 use Rattle.std.specs.List.Sorted.{IsStrictlySortedBy}
 use Rattle.plan_types.specs.Instance.{Instance, IsInstance, with_request}
-use Rattle.plan_types.specs.Laws.{PutGivesProblem}
+use Rattle.plan_types.specs.Laws.{PutKeepsProblemValid}
 use Rattle.plan_types.specs.Request.{request_name, stops_of, number_after}
 use Rattle.plan_types.specs.declared.requests.Request.{Request}
 use Rattle.plan_types.specs.declared.requests.Request.TheVariants.{Single, Pair}
-use Rattle.command_core.specs.Job.{JobValue}
+use Rattle.command_types.specs.Job.{JobValue}
 use Rattle.state_codec.specs.declared.head.Head.{Head}
 use Rattle.state_codec.specs.declared.version.Version.{Version}
 use Rattle.state_codec.specs.declared.fault.CodecFault.TheVariants.{BadField}
 use Rattle.state_codec.specs.Bytes.{request_bytes, requests_bytes, width}
 use Rattle.state_codec.specs.Fields.{◌>>=◌, Field, byte_at, number_at}
-use Rattle.state_codec.specs.Reading.{times, request_at, next_request, problem_from, problem_at, next_vehicle, work_at, head_at, job_at, state_at, whole_at}
+use Rattle.state_codec.specs.Reading.{times, request_at, next_request, problem_from, problem_at, next_vehicle, work_at, head_at, job_at, state_at, whole_state_at}
 use Rattle.state_codec.proofs.FieldLaws.{IsBytes, bind_ok, ok_is, number_takes, of_width}
 use Rattle.state_codec.proofs.HeadLaws.{head_takes, IsHeadOf}
 use Rattle.state_codec.proofs.PutLemmas.{goes_last, not_taken}
@@ -29,7 +29,7 @@ most_kept next (Pair a b) below = max-eq_left (let h = below.0 in let k = below.
     greatest : (x y n : ℕ) → x < n → y < n → max x y + 1 ≤ n
     greatest x y n h k = let m = max-le {a = x} {b = y} {k = n - 1} (omega (arith, h)) (omega (arith, k)) in omega (arith, m, h)
 
-module _ (puts : PutGivesProblem) (v : Version) (h : Head) (of : IsHeadOf v h) where
+module _ (puts : PutKeepsProblemValid) (v : Version) (h : Head) (of : IsHeadOf v h) where
   abbrev Filled : List (ℕ × Request) → Type 0
   Filled es = IsInstance (problem_from h es)
 
@@ -41,11 +41,11 @@ module _ (puts : PutGivesProblem) (v : Version) (h : Head) (of : IsHeadOf v h) w
     fleet = of.head.fleet;
     named = tt;
     valid = tt;
-    rising = tt;
+    ascending = tt;
     distinct = tt;
     above = tt;
-    next_from_one = of.head.next_from_one;
-    next_to_most = of.head.next_to_most;
+    next_number_min = of.head.next_number_min;
+    next_number_max = of.head.next_number_max;
   }
 
   one_more : (es : List (ℕ × Request)) (r : Request) → Filled es → IsNew h.next_number es r → Filled (es ++ (request_name r, r) ∷ [])
@@ -60,7 +60,7 @@ module _ (puts : PutGivesProblem) (v : Version) (h : Head) (of : IsHeadOf v h) w
       → next_request v h.next_number a bytes ≡ Ok y → Adds (requests_bytes v) length Filled 1 a bytes y
   next_takes a bytes filled fits y e =
       let b = bind_ok (request_at v h.next_number a bytes) (λ r. Ok (a ++ (request_name r.0, r.0) ∷ [], r.1)) y e in
-      let t = request_takes v h.next_number a bytes of.head.next_to_most fits b.0 b.1 in
+      let t = request_takes v h.next_number a bytes of.head.next_number_max fits b.0 b.1 in
       subst (λ (z : List (ℕ × Request) × List ℕ). Adds (requests_bytes v) length Filled 1 a bytes z) (ok_is (a ++ (request_name b.0.0, b.0.0) ∷ [], b.0.1) y b.2)
       (record {
         added = request_bytes v b.0.0;
@@ -83,7 +83,7 @@ end_ok : {A : Type 0} (b : Bool) (x y : A) → cond b (Ok x) (Err BadField) ≡ 
 end_ok true x y e = (refl, ok_is x y e)
 end_ok false x y e = absurd cc
 
-module _ (puts : PutGivesProblem) (v : Version) where
+module _ (puts : PutKeepsProblemValid) (v : Version) where
   job_problem : (bytes : List ℕ) → IsBytes bytes → (y : JobValue × List ℕ) → job_at v bytes ≡ Ok y → IsInstance y.0.problem
   unfolding job_at
   job_problem bytes fits y e =
@@ -123,8 +123,8 @@ module _ (puts : PutGivesProblem) (v : Version) where
       subst (λ (z : JobValue). IsInstance z.problem) j-is (job_problem bytes fits k.0 k.1)
   loaded_problem bytes fits b false false o more j e is = absurd cc
 
-  pub whole_problem : (bytes : List ℕ) → IsBytes bytes → (j : JobValue) → whole_at v bytes ≡ Ok (Some j) → IsInstance j.problem
-  unfolding whole_at state_at
+  pub whole_problem : (bytes : List ℕ) → IsBytes bytes → (j : JobValue) → whole_state_at v bytes ≡ Ok (Some j) → IsInstance j.problem
+  unfolding whole_state_at state_at
   whole_problem bytes fits j e =
       let s = bind_ok (state_at v bytes) (λ s. cond (length s.1 == 0) (Ok s.0) (Err BadField)) (Some j) e in
       let g = end_ok (length s.0.1 == 0) s.0.0 (Some j) s.2 in

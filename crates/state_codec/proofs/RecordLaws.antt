@@ -1,28 +1,28 @@
--- A command that is written is read again.
+-- A command that is written is read back
 use Rattle.std.proofs.Common.{◌≡◌, ℕ, ◌-◌, ◌^◌, ◌<◌, List, ◌++◌, length, drop, Ok, refl, sym, ap, ◌∙◌, append_assoc, arith, length-append}
 use Rattle.std.specs.Prelude.{◌&&◌, true, pos, replicate}
 use Rattle.std.proofs.lemmas.Bool.{and_parts, le-leb, leb-true}
 use Rattle.std.proofs.lemmas.List.{drop_at}
-use Rattle.plan_types.specs.Limits.{most_deviation, IsVisit}
-use Rattle.command_core.specs.Commands.{is_recorded, fits_record}
-use Rattle.command_core.specs.Wishes.{is_demand, is_spot, stop_on}
-use Rattle.command_core.specs.declared.commands.Spot.{Spot}
-use Rattle.command_core.specs.declared.commands.Command.{Command}
-use Rattle.command_core.specs.declared.commands.Command.TheVariants.{Add, Add1, Withdraw, Pin, Unpin, Build, Search, Deviation}
-use Rattle.command_core.proofs.AddLemmas.{visit}
+use Rattle.plan_types.specs.Limits.{max_deviation, IsVisit}
+use Rattle.command_types.specs.Commands.{is_recorded, fits_record}
+use Rattle.command_types.specs.AddedRequests.{is_demand, is_spot, stop_at_spot}
+use Rattle.command_types.specs.declared.commands.Spot.{Spot}
+use Rattle.command_types.specs.declared.commands.Command.{Command}
+use Rattle.command_types.specs.declared.commands.Command.TheVariants.{Add, Add1, Withdraw, Pin, Unpin, Build, Search, Deviation}
+use Rattle.command_types.proofs.AddLemmas.{visit}
 use Rattle.state_codec.specs.declared.version.Version.{Version}
 use Rattle.state_codec.specs.declared.version.Version.TheVariants.{One, Two}
 use Rattle.state_codec.specs.Bytes.{number_bytes, signed_bytes, count_bytes, spot_bytes, command_bytes, fields_bytes, record_bytes, width}
 use Rattle.state_codec.specs.Limits.{IsRecorded}
 use Rattle.state_codec.specs.Fields.{byte_at, number_at}
-use Rattle.state_codec.specs.Laws.{RecordsDiffer}
+use Rattle.state_codec.specs.Laws.{RecordEncodingIsInjective}
 use Rattle.state_codec.specs.Records.{spot_at, add_at, add1_at, withdraw_at, pin_at, unpin_at, search_at, deviation_at, command_at}
 use Rattle.state_codec.proofs.FieldLaws.{done, ok_is, number_again, signed_again, small, length-number_bytes}
 
 spot_again : (s : Spot) (rest : List ℕ) → is_spot s ≡ true → spot_at (spot_bytes s ++ rest) ≡ Ok (s, rest)
 unfolding spot_at
 spot_again s rest test =
-    let is : IsVisit (stop_on s 0 (pos 0)) = visit s 0 (pos 0) test in
+    let is : IsVisit (stop_at_spot s 0 (pos 0)) = visit s 0 (pos 0) test in
     let service = number_bytes 4 s.service ++ rest in
     let latest = number_bytes 4 s.latest ++ service in
     let earliest = number_bytes 4 s.earliest ++ latest in
@@ -77,7 +77,7 @@ command_again One (Deviation deviation) rest is = absurd is
 command_again Two (Deviation deviation) rest is = rw (number_again 4 deviation rest (omega (arith, is))) refl
 command_again v c rest is = absurd is
 
--- a command that has a record is one that a store writes down as it is, and its fields fit
+-- A command that has a record is one that a store writes as a record, and its fields fit
 pub recorded_fits : (v : Version) (c : Command) → IsRecorded v c → (is_recorded c ≡ true) × (fits_record c ≡ true)
 recorded_fits v (Add demand pickup delivery) is = (refl, is)
 recorded_fits v (Add1 demand spot) is = (refl, is)
@@ -87,10 +87,10 @@ recorded_fits v (Unpin vehicle) is = (refl, refl)
 recorded_fits v Build is = (refl, refl)
 recorded_fits v (Search count) is = (refl, rw (le-leb 1 count is.0, le-leb count 256 is.1) refl)
 recorded_fits One (Deviation deviation) is = absurd is
-recorded_fits Two (Deviation deviation) is = (refl, le-leb deviation most_deviation is)
+recorded_fits Two (Deviation deviation) is = (refl, le-leb deviation max_deviation is)
 recorded_fits v c is = absurd is
 
--- the command of a record, behind its sequence and index
+-- The fields of a record after its sequence and index are read back as its command
 pub record_again : (v : Version) (sector : List ℕ) (sequence index : ℕ) (c : Command) → IsRecorded v c → sector ≡ record_bytes v sequence index c
     → (rest : List ℕ) × (command_at v (drop 12 sector) ≡ Ok (c, rest))
 record_again v sector sequence index c is e =
@@ -102,7 +102,7 @@ record_again v sector sequence index c is e =
     ∙ append_assoc front (command_bytes v c) zeros in
     (zeros, ap (λ s. command_at v (drop 12 s)) (e ∙ regrouped) ∙ ap (command_at v) (drop_at front (command_bytes v c ++ zeros) 12 long) ∙ command_again v c zeros is)
 
--- sequence and index are read again
+-- The sequence and the index are read back
 front_again : (q i : ℕ) (command zeros : List ℕ) → q < 256 ^ 8 → number_at 8 ((number_bytes 8 q ++ (number_bytes 4 i ++ command)) ++ zeros) ≡ Ok (q, number_bytes 4 i ++ (command ++ zeros))
 front_again q i command zeros lt =
     let regrouped : (number_bytes 8 q ++ (number_bytes 4 i ++ command)) ++ zeros ≡ number_bytes 8 q
@@ -120,7 +120,7 @@ fronts_differ p q i k c d x y lp lq li lk e =
     let second = read_same i k (c ++ x) (d ++ y) (sym (number_again 4 i (c ++ x) li) ∙ ap (number_at 4) first.1 ∙ number_again 4 k (d ++ y) lk) in
     (first.0, second.0)
 
-pub records_differ : RecordsDiffer
+pub records_differ : RecordEncodingIsInjective
 records_differ v p q i k c d lp lq li lk rc rd e =
     let a = record_again v (record_bytes v p i c) p i c rc refl in
     let b = record_again v (record_bytes v p i c) q k d rd e in

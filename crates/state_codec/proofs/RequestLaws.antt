@@ -1,4 +1,4 @@
--- The requests that are read are those that were written.
+-- The requests that are read are those that were written
 use Rattle.std.proofs.Common.{◌≡◌, ◌≢◌, ℕ, suc, ◌^◌, ◌<◌, ◌≤◌, ℤ, pos, Bool, true, false, cond, List, [], ◌∷◌, ◌++◌, Option, Some, None, Ok, Err, refl, sym, ap, subst, ◌∙◌, append_assoc, arith}
 use Rattle.std.specs.Prelude.{negsuc, neg_ℤ, int_le, nat_le, nat_lt, not, ◌&&◌, ◌==◌}
 use Rattle.std.specs.List.{list_all, AllByRecursion}
@@ -14,13 +14,13 @@ use Rattle.plan_types.specs.declared.requests.Request.TheVariants.{Single, Pair}
 use Rattle.state_codec.specs.declared.version.Version.{Version}
 use Rattle.state_codec.specs.declared.fault.CodecFault.TheVariants.{BadField}
 use Rattle.state_codec.specs.Bytes.{number_bytes, signed_bytes, visit_bytes, stop_bytes, request_bytes, width}
-use Rattle.command_core.specs.Wishes.{is_coordinate}
-use Rattle.command_core.proofs.AddLemmas.{coordinate}
+use Rattle.command_types.specs.AddedRequests.{is_coordinate}
+use Rattle.command_types.proofs.AddLemmas.{coordinate}
 use Rattle.state_codec.specs.Fields.{only, byte_at, number_at, signed_at, point_at, window_at, is_demand, is_time, is_service, int_eq}
-use Rattle.state_codec.specs.Reading.{is_free, is_name, is_delivery, is_wanted, visit_at, first_at, delivery_at, single_at, pair_at, request_at}
+use Rattle.state_codec.specs.Reading.{is_free, is_name, is_delivery, is_expected_demand, visit_at, first_at, delivery_at, single_at, pair_at, request_at}
 use Rattle.state_codec.proofs.FieldLaws.{IsBytes, Takes, takes_then, step, only_ok, number_takes, signed_takes, of_4, of_width, ok_is, only_again, number_again, signed_again, small}
 
--- ---- what the rules of fields say
+-- ---- the rules of fields as limits
 
 pub demand_is : (q : ℤ) → is_demand q ≡ true → IsDemand q
 demand_is q h = let p = and_parts (int_le (pos 0) q) (int_le q (pos 1000000)) h in (grind (arith, ints, p.0), grind (arith, ints, p.1))
@@ -37,17 +37,17 @@ is_demand-holds q h = and_from (int_le (pos 0) q) (int_le q (pos 1000000)) (grin
 pub int_eq-same : (x : ℤ) → int_eq x x ≡ true
 int_eq-same x = and_from (int_le x x) (int_le x x) (grind (arith, ints)) (grind (arith, ints))
 
--- ---- what follows a stop's number
+-- ---- the fields after the number of a stop
 
 coordinate_takes : (bytes : List ℕ) → IsBytes bytes → (x : ℤ × List ℕ) → only is_coordinate (signed_at bytes) ≡ Ok x → Takes bytes (signed_bytes x.0) x.1 × IsCoordinate x.0
 coordinate_takes bytes fits x e =
     let o = only_ok is_coordinate (signed_at bytes) x e in
     (signed_takes bytes x fits o.0, coordinate x.0 o.1)
 
-demand_takes : (wanted : Option ℤ) (bytes : List ℕ) → IsBytes bytes → (x : ℤ × List ℕ) → only (is_wanted wanted) (signed_at bytes) ≡ Ok x
-    → Takes bytes (signed_bytes x.0) x.1 × (is_wanted wanted x.0 ≡ true)
+demand_takes : (wanted : Option ℤ) (bytes : List ℕ) → IsBytes bytes → (x : ℤ × List ℕ) → only (is_expected_demand wanted) (signed_at bytes) ≡ Ok x
+    → Takes bytes (signed_bytes x.0) x.1 × (is_expected_demand wanted x.0 ≡ true)
 demand_takes wanted bytes fits x e =
-    let o = only_ok (is_wanted wanted) (signed_at bytes) x e in
+    let o = only_ok (is_expected_demand wanted) (signed_at bytes) x e in
     (signed_takes bytes x fits o.0, o.1)
 
 pub number_only : (rule : ℕ → Bool) (size : ℕ) → ((bytes : List ℕ) (x : ℕ × List ℕ) → IsBytes bytes → number_at size bytes ≡ Ok x
@@ -104,17 +104,17 @@ window_again w rest is =
     (rw (only_again (λ t. nat_le w.0 t && is_time t) (number_at 4 latest) (w.1, rest) (number_again 4 w.1 rest (omega (arith, is.1)))
     (and_from _ _ (le-leb w.0 w.1 is.0) (le-leb w.1 100000000 is.1))) refl)
 
--- what is known of a stop that was read
+-- Facts about a stop that was read
 pub record IsRead (wanted : Option ℤ) (s : Stop) : Type 0 where
   pub visit : IsVisit s
-  pub demand : is_wanted wanted s.demand ≡ true
+  pub demand : is_expected_demand wanted s.demand ≡ true
 
 pub visit_takes : (number : ℕ) (wanted : Option ℤ) (bytes : List ℕ) → IsBytes bytes → (y : Stop × List ℕ) → visit_at number wanted bytes ≡ Ok y
     → Takes bytes (visit_bytes y.0) y.1 × IsRead wanted y.0 × (y.0.number ≡ number)
 unfolding visit_at
 visit_takes number wanted bytes fits y e =
     step (point_at bytes) _ y bytes point_bytes IsPoint (point_takes bytes fits) e (λ p tp pp ep.
-    step (only (is_wanted wanted) (signed_at p.1)) _ y p.1 signed_bytes (λ q. is_wanted wanted q ≡ true) (demand_takes wanted p.1 tp.rest_fits) ep (λ q tq pq eq.
+    step (only (is_expected_demand wanted) (signed_at p.1)) _ y p.1 signed_bytes (λ q. is_expected_demand wanted q ≡ true) (demand_takes wanted p.1 tp.rest_fits) ep (λ q tq pq eq.
     step (window_at q.1) _ y q.1 window_bytes IsWindow (window_takes q.1 tq.rest_fits) eq (λ w tw pw ew.
     step (only is_service (number_at 4 w.1)) _ y w.1 (number_bytes 4) (λ t. is_service t ≡ true) (number_only is_service 4 (number_takes 4 of_4) w.1 tw.rest_fits) ew (λ d td pd ed.
     let made : Stop = record { number = number; x = p.0.0; y = p.0.1; demand = q.0; earliest = w.0.0; latest = w.0.1; service = d.0 } in
@@ -126,8 +126,8 @@ visit_takes number wanted bytes fits y e =
     subst (λ (z : Stop × List ℕ). Takes bytes (visit_bytes z.0) z.1 × IsRead wanted z.0 × (z.0.number ≡ number)) (ok_is (made, d.1) y ed)
     (subst (λ t. Takes bytes t d.1) regrouped all, record { visit = visit; demand = pq }, refl)))))
 
--- what a stop that may be read is
-pub visit_again : (s : Stop) (wanted : Option ℤ) (rest : List ℕ) → IsVisit s → is_wanted wanted s.demand ≡ true → SFits w32 s.demand → visit_at s.number wanted (visit_bytes s ++ rest) ≡ Ok (s, rest)
+-- A stop within the limits is read back
+pub visit_again : (s : Stop) (wanted : Option ℤ) (rest : List ℕ) → IsVisit s → is_expected_demand wanted s.demand ≡ true → SFits w32 s.demand → visit_at s.number wanted (visit_bytes s ++ rest) ≡ Ok (s, rest)
 unfolding visit_at
 visit_again s wanted rest visit goods fits =
     let service = number_bytes 4 s.service ++ rest in
@@ -136,7 +136,7 @@ visit_again s wanted rest visit goods fits =
     let regrouped : visit_bytes s ++ rest ≡ point_bytes (s.x, s.y) ++ demand = simp append_assoc in
     ap (visit_at s.number wanted) regrouped
     ∙ rw (point_again (s.x, s.y) demand (visit.x, visit.y))
-    (rw (only_again (is_wanted wanted) (signed_at demand) (s.demand, window) (signed_again s.demand window fits) goods)
+    (rw (only_again (is_expected_demand wanted) (signed_at demand) (s.demand, window) (signed_again s.demand window fits) goods)
     (rw (window_again (s.earliest, s.latest) service (visit.window, visit.latest))
     (rw (only_again is_service (number_at 4 service) (s.service, rest) (number_again 4 s.service rest (omega (arith, visit.service))) (le-leb s.service 1000000 visit.service))
     refl)))
@@ -167,13 +167,13 @@ delivery_takes v next before pickup bytes fits y e =
       (t.1, subst (λ k. is_delivery next before pickup.number k ≡ true) (sym t.2) pn),
     ))
 
--- the goods of a stop that names a request
+-- The stop that names a request has a demand within its limits
 pub first_goods : (v : Version) (next : ℕ) (before : List (ℕ × Request)) (bytes : List ℕ) → IsBytes bytes → (y : Stop × List ℕ) → first_at v next before bytes ≡ Ok y → IsDemand y.0.demand
 first_goods v next before bytes fits y e = let t = first_takes v next before bytes fits y e in demand_is y.0.demand t.1.0.demand
 
 -- ---- requests
 
--- what is known of a request that was read behind others
+-- Facts about a request that was read after others
 pub record IsNew (next : ℕ) (before : List (ℕ × Request)) (r : Request) : Type 0 where
   pub request : IsRequest r
   pub names : list_all (λ e. nat_lt e.0 (request_name r)) before ≡ true
@@ -216,7 +216,7 @@ single_takes v next before bytes most fits y e =
     step (first_at v next before bytes) _ y bytes (stop_bytes v) (λ s. IsRead None s × (is_name next before s.number ≡ true)) (first_takes v next before bytes fits) e (λ s ts ps es.
     let n = name_parts next before s.0.number ps.1 in
     let goods = demand_is s.0.demand ps.0.demand in
-    let stop : IsStop s.0 = record { from_one = n.from_one; to_most = omega (arith, n.below, most); visit = ps.0.visit } in
+    let stop : IsStop s.0 = record { from_one = n.from_one; to_max = omega (arith, n.below, most); visit = ps.0.visit } in
     let new : IsNew next before (Single s.0) = record { request = (stop, goods); names = n.names; free = (n.free, tt); below = (n.below, tt) } in
     subst (λ (z : Request × List ℕ). Takes (1 ∷ bytes) (request_bytes v z.0) z.1 × IsNew next before z.0) (ok_is (Single s.0, s.1) y es)
     (record { parts = ap (λ t. 1 ∷ t) ts.parts; rest_fits = ts.rest_fits }, new))
@@ -231,8 +231,8 @@ pair_takes v next before bytes most fits y e =
     (λ d td pd ed.
     let n = name_parts next before p.0.number pp.1 in
     let m = delivery_parts next before p.0.number d.0.number pd.1 in
-    let pickup : IsStop p.0 = record { from_one = n.from_one; to_most = omega (arith, n.below, most); visit = pp.0.visit } in
-    let delivery : IsStop d.0 = record { from_one = m.from_one; to_most = omega (arith, m.below, most); visit = pd.0.visit } in
+    let pickup : IsStop p.0 = record { from_one = n.from_one; to_max = omega (arith, n.below, most); visit = pp.0.visit } in
+    let delivery : IsStop d.0 = record { from_one = m.from_one; to_max = omega (arith, m.below, most); visit = pd.0.visit } in
     let goods = demand_is p.0.demand pp.0.demand in
     let opposite = int_eq_is d.0.demand (neg_ℤ p.0.demand) pd.0.demand in
     let new : IsNew next before (Pair p.0 d.0) = record { request = (pickup, delivery, m.other, goods, opposite); names = n.names; free = (n.free, (m.free, tt)); below = (n.below, (m.below, tt)) } in
@@ -240,7 +240,7 @@ pair_takes v next before bytes most fits y e =
     subst (λ (z : Request × List ℕ). Takes (2 ∷ bytes) (request_bytes v z.0) z.1 × IsNew next before z.0) (ok_is (Pair p.0 d.0, d.1) y ed)
     (record { parts = ap (λ t. 2 ∷ t) both.parts; rest_fits = both.rest_fits }, new)))
 
--- the first byte of what is not empty
+-- Reading a byte consumes the first of the bytes
 pub byte_takes : (bytes : List ℕ) → IsBytes bytes → (y : ℕ × List ℕ) → byte_at bytes ≡ Ok y → Takes bytes (y.0 ∷ []) y.1 × (bytes ≡ y.0 ∷ y.1)
 unfolding byte_at
 byte_takes [] fits y e = absurd cc

@@ -1,4 +1,4 @@
--- The pins and routes that are read are those that were written.
+-- The pins and routes that are read are those that were written
 use Rattle.std.proofs.Common.{true, ◌≡◌, ℕ, zero, suc, ◌+◌, ◌^◌, ◌<◌, ◌≤◌, List, [], ◌∷◌, ◌++◌, length, take, Ok, refl, sym, ap, subst, ◌∙◌, append_assoc, arith, length-append, length-take}
 use Rattle.std.specs.Prelude.{nat_le}
 use Rattle.std.specs.List.{AllByRecursion}
@@ -10,7 +10,7 @@ use Rattle.state_codec.specs.Fields.{only, number_at}
 use Rattle.state_codec.specs.Reading.{times, next_stop, vehicle_at, next_vehicle, route_at, next_route}
 use Rattle.state_codec.proofs.FieldLaws.{IsBytes, Takes, takes_then, step, bind_ok, ok_is, number_takes, number_again, of_width, only_again, only_ok}
 use Rattle.state_codec.proofs.RequestLaws.{number_only}
-use Rattle.state_codec.proofs.TimesLaws.{Adds, times_take, AreNext, times_again, added_behind, flat_map_one}
+use Rattle.state_codec.proofs.TimesLaws.{Adds, times_take, AreNext, times_again, added_after, flat_map_one}
 
 -- ---- stops
 
@@ -30,7 +30,7 @@ stops_len v (suc n) a bytes y e =
     let one : length b.0.0 ≡ length a + 1 = ap (λ (z : List ℕ × List ℕ). length z.0) (sym (ok_is (a ++ d.0.0 ∷ [], d.0.1) b.0 d.2)) ∙ length-append a (d.0.0 ∷ []) in
     omega (arith, one, stops_len v n b.0.0 b.0.1 y b.2)
 
--- a pin is no longer than its route
+-- A pin that was read is no longer than its route
 pub pin_fits : (v : Version) (pin len : ℕ) (bytes rest after : List ℕ) (stops : List ℕ) → only (nat_le pin) (number_at (width v) bytes) ≡ Ok (len, rest)
     → times (next_stop v) len [] rest ≡ Ok (stops, after) → pin ≤ length stops
 pin_fits v pin len bytes rest after stops e f =
@@ -38,7 +38,7 @@ pin_fits v pin len bytes rest after stops e f =
     let n = stops_len v len [] rest (stops, after) f in
     omega (arith, n, leb-true pin len o.1)
 
--- so many stops
+-- Reading n stops consumes exactly their bytes
 pub stops_take : (v : Version) (n : ℕ) (bytes : List ℕ) → IsBytes bytes → (y : List ℕ × List ℕ) → times (next_stop v) n [] bytes ≡ Ok y → Takes bytes (stops_bytes v y.0) y.1 × (length y.0 ≡ n)
 stops_take v n bytes fits y e =
     let t = times_take (next_stop v) (stops_bytes v) length (λ _. Unit {0}) (stop_takes v) n [] bytes tt fits y e in
@@ -52,7 +52,7 @@ stops_again v stops rest room =
     let IsNext : List ℕ → ℕ → Type 0 = λ before n. n < 256 ^ width v in
     let all = times_again (λ (before : List ℕ) (n : ℕ). before ++ n ∷ []) (count_bytes v) IsNext (next_stop v)
     (λ a n more lt. rw (number_again (width v) n more lt) refl) stops [] rest (next stops [] room) in
-    all ∙ ap (λ (s : List ℕ). Ok (s, rest)) (added_behind (count_bytes v) IsNext stops [])
+    all ∙ ap (λ (s : List ℕ). Ok (s, rest)) (added_after (count_bytes v) IsNext stops [])
   where
     next : (ns before : List ℕ) → HaveRoom v ns → AreNext (λ (b : List ℕ) (n : ℕ). b ++ n ∷ []) (count_bytes v) (λ (b : List ℕ) (n : ℕ). n < 256 ^ width v) before ns
     next [] before h = tt
@@ -91,7 +91,7 @@ routes_take v n bytes fits y e =
     let t = times_take (next_route v) (routes_bytes v) length (λ _. Unit {0}) (next_route_takes v) n [] bytes tt fits y e in
     (subst (λ w. Takes bytes w y.1) (sym t.whole) t.taken, omega (arith, t.count))
 
--- a route that can be written
+-- A route that can be written
 pub record IsWritable (v : Version) (route : List ℕ) : Type 0 where
   pub stops : HaveRoom v route
   pub short : length route < 256 ^ width v
@@ -102,7 +102,7 @@ routes_again v routes rest fit =
     let IsNext : List (List ℕ) → List ℕ → Type 0 = λ before r. IsWritable v r in
     let all = times_again (λ (before : List (List ℕ)) (r : List ℕ). before ++ r ∷ []) (route_word v) IsNext (next_route v)
     (λ a r more w. rw (route_again v r more w.stops w.short) refl) routes [] rest (next routes [] fit) in
-    all ∙ ap (λ (s : List (List ℕ)). Ok (s, rest)) (added_behind (route_word v) IsNext routes [])
+    all ∙ ap (λ (s : List (List ℕ)). Ok (s, rest)) (added_after (route_word v) IsNext routes [])
   where
     next : (rs before : List (List ℕ)) → AllByRecursion (IsWritable v) rs
         → AreNext (λ (b : List (List ℕ)) (r : List ℕ). b ++ r ∷ []) (route_word v) (λ (b : List (List ℕ)) (r : List ℕ). IsWritable v r) before rs
@@ -177,7 +177,7 @@ vehicles_take v n bytes fits y e =
     let t = times_take (next_vehicle v) (pairs_bytes v) (λ e. length e.1) (λ e. length e.0 ≡ length e.1) (next_vehicle_takes v) n ([], []) bytes refl fits y e in
     (subst (λ w. Takes bytes w y.1) (sym t.whole) t.taken, omega (arith, t.count), omega (arith, t.kept, t.count))
 
--- each pin begins its route
+-- Each route begins with its pin
 abbrev pub AreFronts : List (List ℕ) → List (List ℕ) → Type 0
 AreFronts [] [] = Unit {0}
 AreFronts [] (route ∷ routes) = ⊥

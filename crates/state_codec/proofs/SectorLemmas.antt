@@ -1,4 +1,4 @@
--- Writing behind what is written of a sector.
+-- Appending bytes to the written part of a sector
 use Rattle.std.proofs.Common.{◌≡◌, ℕ, ◌+◌, ◌-◌, ◌≤◌, List, ◌++◌, length, take, drop, refl, sym, ap, ◌∙◌, arith, length-append}
 use Rattle.std.specs.Prelude.{replicate}
 use Rattle.std.proofs.lemmas.List.{drop_at, take-append-drop, length-take, drop-replicate, drop-drop}
@@ -6,15 +6,15 @@ use Rattle.std.proofs.lemmas.Slice.{take-put_mid, drop-put_mid}
 use borrow.Rule.Slice.PartMut.{put_mid}
 use Rattle.state_codec.specs.Bytes.{padded}
 
--- what stands behind the written part
+-- Zeros follow the written part
 zeros_left : (bytes : List ℕ) (used k : ℕ) → used + k ≤ 512 → length bytes ≡ 512 → bytes ≡ padded (take used bytes) → drop (used + k) bytes ≡ replicate (512 - (used + k)) 0
 zeros_left bytes used k short len is =
     let front : length (take used bytes) ≡ used = omega (arith, length-take used bytes) in
-    let behind : drop used bytes ≡ replicate (512 - used) 0 = ap (drop used) is ∙ ap (λ n. drop used (take used bytes ++ replicate (512 - n) 0)) front
+    let following : drop used bytes ≡ replicate (512 - used) 0 = ap (drop used) is ∙ ap (λ n. drop used (take used bytes ++ replicate (512 - n) 0)) front
     ∙ drop_at (take used bytes) (replicate (512 - used) 0) used front in
-    sym (drop-drop k used bytes) ∙ ap (drop k) behind ∙ drop-replicate k (512 - used) 0 ∙ ap (λ n. replicate n 0) (omega arith)
+    sym (drop-drop k used bytes) ∙ ap (drop k) following ∙ drop-replicate k (512 - used) 0 ∙ ap (λ n. replicate n 0) (omega arith)
 
--- the text behind what was written, and the rest as it was
+-- The new text follows the written part, and the rest is unchanged
 module _ (bytes text : List ℕ) (used k : ℕ) (whole : k ≡ length text) (short : used + length text ≤ 512) (len : length bytes ≡ 512) (is : bytes ≡ padded (take used bytes)) where
   pub written_is : take (used + length text) (put_mid used k bytes text) ≡ take used bytes ++ text
   written_is = take-put_mid used k bytes text (used + length text) refl (omega arith)

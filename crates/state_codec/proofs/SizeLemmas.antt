@@ -1,4 +1,4 @@
--- How long the lists of a state can be.
+-- The lists of a state are short enough for the fields of their lengths
 use Rattle.std.proofs.Common.{
   ◌≡◌,
   ℕ,
@@ -39,14 +39,14 @@ use Rattle.plan_types.specs.Instance.{Instance, IsInstance, stop_at, first_some,
 use Rattle.plan_types.specs.Laws.{StopsAreBelowNext}
 use Rattle.plan_types.specs.declared.requests.Request.{Request}
 use Rattle.plan_types.specs.declared.requests.Request.TheVariants.{Single, Pair}
-use Rattle.plan_audit.specs.Passes.{has, are_distinct, are_live_once, feasible_alone, begin_with_pins, passes}
+use Rattle.plan_audit.specs.Passes.{has, are_distinct, are_distinct_stops, feasible_alone, begin_with_pins, passes}
 use Rattle.std.specs.Prelude.{nat_eq}
 use Rattle.std.proofs.lemmas.Slice.Eq.{bytes_eq-Decides}
-use Rattle.anneal_search.proofs.RequestCounts.{AreBelow, few, few_numbers, few_requests, not_zero}
-use Rattle.command_core.specs.Job.{JobValue, IsJob}
+use Rattle.plan_types.proofs.RequestCounts.{AreBelow, few, few_numbers, few_requests, not_zero}
+use Rattle.command_types.specs.Job.{JobValue, IsJob}
 use Rattle.state_codec.proofs.RouteLaws.{BeginsRoute, AreFronts}
 
--- no stop has the depot's number
+-- No stop has the depot's number
 zero_in : (es : List (ℕ × Request)) → AllByRecursion (λ e. IsRequest e.1) es → first_some (stop_in 0) es ≡ None
 zero_in [] h = refl
 zero_in ((n, Single s) ∷ es) h = rw (not_zero s.number h.0.0.from_one) (zero_in es h.1)
@@ -84,12 +84,12 @@ module _ (law : StopsAreBelowNext) (p : Instance) (is : IsInstance p) where
       some None e = absurd cc
       some (Some x) e = refl
 
-  -- the stops of a plan
-  pub few_live : (ns : List ℕ) → are_live_once p ns ≡ true → (length ns < p.next_number) × AreBelow p.next_number ns
+  -- A plan has fewer stops than `next_number`, and each has a number below it
+  pub few_live : (ns : List ℕ) → are_distinct_stops p ns ≡ true → (length ns < p.next_number) × AreBelow p.next_number ns
   few_live ns h =
       let q = and_parts (list_all (λ n. is_some (stop_at p n)) ns) (are_distinct ns) h in
       let below = live_below ns q.0 in
-      (few p.next_number ns (distinct_is ns q.1) below is.next_from_one, below)
+      (few p.next_number ns (distinct_is ns q.1) below is.next_number_min, below)
 
 -- ---- routes and pins
 
@@ -125,7 +125,7 @@ parts_below next (r ∷ routes) h = let q = split_below next r (concat routes) h
     split_below next [] ys h = (tt, h)
     split_below next (x ∷ xs) ys h = let q = split_below next xs ys h.1 in ((h.0, q.0), q.1)
 
--- what is known of a plan that passes
+-- Facts about a plan that passes
 pub record IsSized (p : Instance) (routes pins : List (List ℕ)) : Type 0 where
   pub total : length (concat routes) < p.next_number
   pub each : AllByRecursion (λ r. length r ≤ 40000) routes
@@ -136,19 +136,19 @@ pub record IsSized (p : Instance) (routes pins : List (List ℕ)) : Type 0 where
 pub sized : StopsAreBelowNext → (p : Instance) → IsInstance p → (routes pins : List (List ℕ)) → passes p pins routes ≡ true → IsSized p routes pins
 unfolding passes
 sized law p is routes pins h =
-    let a = and_parts (are_live_once p (concat routes)) ((length routes == p.fleet) && (list_all (feasible_alone p) routes && begin_with_pins routes pins)) h in
+    let a = and_parts (are_distinct_stops p (concat routes)) ((length routes == p.fleet) && (list_all (feasible_alone p) routes && begin_with_pins routes pins)) h in
     let b = and_parts (length routes == p.fleet) (list_all (feasible_alone p) routes && begin_with_pins routes pins) a.1 in
     let d = and_parts (list_all (feasible_alone p) routes) (begin_with_pins routes pins) b.1 in
     let live = few_live law p is (concat routes) a.0 in
     record {
       total = live.0;
-      each = short_routes routes 40000 (omega (arith, live.0, is.next_to_most));
+      each = short_routes routes 40000 (omega (arith, live.0, is.next_number_max));
       below = parts_below p.next_number routes live.1;
       fleet = eqb-true (length routes) p.fleet b.0;
       begins = d.1;
     }
 
--- what is known of a job
+-- Facts about a job
 pub record Sizes (j : JobValue) : Type 0 where
   pub plan : IsSized j.problem j.plan j.pins
   pub work : IsSized j.problem j.work j.pins
@@ -171,7 +171,7 @@ sizes law j is =
       requests = few_requests j.problem is.problem;
     }
 
--- lengths that four bytes hold
+-- Routes of at most 40,000 stops have lengths that fit into four bytes
 pub fit : (routes : List (List ℕ)) → AllByRecursion (λ r. length r ≤ 40000) routes → All (λ r. length r < 2 ^ 32) routes
 fit routes h = All-from_recursion (λ r. length r < 2 ^ 32) routes (by routes h)
   where

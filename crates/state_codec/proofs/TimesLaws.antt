@@ -1,4 +1,4 @@
--- What is read so many times.
+-- Reading n items is the inverse of writing them
 use Rattle.std.proofs.Common.{◌≡◌, ℕ, zero, suc, ◌+◌, List, [], ◌∷◌, ◌++◌, length, Ok, refl, sym, ap, subst, ◌∙◌, append_assoc, arith}
 use Rattle.std.specs.List.{flat_map}
 use Rattle.std.proofs.lemmas.List.{append-nil}
@@ -6,7 +6,8 @@ use Rattle.state_codec.specs.Fields.{Field}
 use Rattle.state_codec.specs.Reading.{times}
 use Rattle.state_codec.proofs.FieldLaws.{IsBytes, Takes, takes_then, bind_ok, ok_is}
 
--- what was added, as bytes: `text` writes what was read so far, `size` counts it
+-- The items that were added, as bytes: `text` encodes what was read so far, and `size` is the number of its
+-- items
 pub record Adds {A : Type 0} (text : A → List ℕ) (size : A → ℕ) (Inv : A → Type 0) (n : ℕ) (a : A) (bytes : List ℕ) (y : A × List ℕ) : Type 0 where
   pub added : List ℕ
   pub taken : Takes bytes added y.1
@@ -33,7 +34,7 @@ module _ {A : Type 0} (more : A → List ℕ → Field A) (text : A → List ℕ
         kept = others.kept;
       }
 
--- things that may be read one after the other, behind what was read so far
+-- Items that may be read in sequence, after those read so far
 module _ {A X : Type 0} (add : A → X → A) (word : X → List ℕ) (IsNext : A → X → Type 0) where
   abbrev pub AreNext : A → List X → Type 0
   AreNext a [] = Unit {0}
@@ -51,10 +52,10 @@ module _ {A X : Type 0} (add : A → X → A) (word : X → List ℕ) (IsNext : 
       let regrouped : flat_map word (x ∷ xs) ++ rest ≡ word x ++ (flat_map word xs ++ rest) = append_assoc (word x) (flat_map word xs) rest in
       ap (times more (suc (length xs)) a) regrouped ∙ rw (again a x (flat_map word xs ++ rest) next.0) (times_again more again xs (add a x) rest next.1)
 
--- items that go behind the others
-pub added_behind : {X : Type 0} (word : X → List ℕ) (IsNext : List X → X → Type 0) (xs before : List X) → added (λ (ys : List X) (x : X). ys ++ x ∷ []) word IsNext before xs ≡ before ++ xs
-added_behind word IsNext [] before = sym (append-nil before)
-added_behind word IsNext (x ∷ xs) before = added_behind word IsNext xs (before ++ x ∷ []) ∙ append_assoc before (x ∷ []) xs
+-- Adding items one by one appends them to those before
+pub added_after : {X : Type 0} (word : X → List ℕ) (IsNext : List X → X → Type 0) (xs before : List X) → added (λ (ys : List X) (x : X). ys ++ x ∷ []) word IsNext before xs ≡ before ++ xs
+added_after word IsNext [] before = sym (append-nil before)
+added_after word IsNext (x ∷ xs) before = added_after word IsNext xs (before ++ x ∷ []) ∙ append_assoc before (x ∷ []) xs
 
 pub flat_map_one : {X : Type 0} (word : X → List ℕ) (xs : List X) (x : X) → flat_map word (xs ++ x ∷ []) ≡ flat_map word xs ++ word x
 flat_map_one word [] x = append-nil (word x)

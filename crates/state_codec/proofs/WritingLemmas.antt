@@ -1,4 +1,4 @@
--- Vehicles that are written one after the other.
+-- Writing the vehicles one after the other
 use Rattle.std.proofs.Common.{◌≡◌, ℕ, ◌+◌, ◌<◌, List, [], ◌++◌, length, get_or, take, sym, ap, ◌∙◌, append_assoc, arith, length-take}
 use Rattle.std.proofs.lemmas.List.{take_more}
 use Rattle.state_codec.specs.declared.version.Version.TheVariants.{Two}
@@ -24,11 +24,11 @@ one_written pins routes k out old new pin route same below is p r e =
     ∙ ap (λ q. out ++ (count_bytes Two (length (get_or pins k [])) ++ (count_bytes Two (length q) ++ stops_bytes Two q))) r
     ∙ one_more pins routes k out old same below is
 
--- the fields of a stop, written one behind the other
+-- The fields of a stop, written one after the other, are the bytes of the stop
 pub in_six : (out n x y d e l s : List ℕ) → (((((out ++ n) ++ (x ++ y)) ++ d) ++ e) ++ l) ++ s ≡ out ++ (n ++ (x ++ (y ++ (d ++ (e ++ (l ++ s))))))
 in_six out n x y d e l s = simp append_assoc
 
--- the parts of a job, written in five calls
+-- The parts of a job, written by five calls, are the bytes of the job
 pub in_five : (out h n r v w one two three four five : List ℕ) → one ≡ out ++ h → two ≡ one ++ n → three ≡ two ++ r → four ≡ three ++ v → five ≡ four ++ w → five ≡ out ++ (h ++ (n ++ (r ++ (v ++ w))))
 in_five out h n r v w one two three four five a b c d e =
     e ∙ ap (λ z. z ++ w) (d ∙ ap (λ z. z ++ v) (c ∙ ap (λ z. z ++ r) (b ∙ ap (λ z. z ++ n) a))) ∙ simp append_assoc

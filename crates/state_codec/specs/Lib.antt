@@ -1,13 +1,13 @@
--- what public contracts reach
+-- Definitions that public contracts use
 pub mod Bytes
 pub mod Fields
 pub mod Laws
 pub mod Lengths
 pub mod Limits
 pub mod Reading
-pub mod Refused
--- of private functions alone
-pub mod Filled
+pub mod DecodeResults
+-- Definitions that only private functions use
+pub mod FilledProblem
 pub mod Parts
 pub mod Records
 pub mod Sector

@@ -1,24 +1,24 @@
--- The parts of a state that were read and not judged yet.
+-- The parts of a state that were read and not yet checked
 use Rattle.std.specs.Prelude.{◌≡◌, ◌<◌, ◌≤◌, ◌^◌, length}
-use Rattle.plan_types.specs.Limits.{most_deviation, IsCapacity, IsDepot, IsFleet}
-use Rattle.command_core.specs.Job.{JobValue}
+use Rattle.plan_types.specs.Limits.{max_deviation, IsCapacity, IsDepot, IsFleet}
+use Rattle.command_types.specs.Job.{JobValue}
 use Rattle.state_codec.specs.declared.head.Head.{Head}
 use Rattle.state_codec.specs.declared.parts.Parts.{Parts}
 
 abbrev pub job_in : Parts → JobValue
 job_in a = record { problem = a.problem; pins = a.pins.routes; plan = a.plan.routes; work = a.work.routes; deviation = a.deviation; seed = a.seed; steps = a.steps }
 
--- within the limits of a problem
+-- A head within the limits of a problem
 pub record IsHead (h : Head) : Type 0 where
   pub depot : IsDepot h.depot
   pub capacity : IsCapacity h.capacity
   pub fleet : IsFleet h.fleet
-  pub next_from_one : 1 ≤ h.next_number
-  pub next_to_most : h.next_number ≤ 40001
+  pub next_number_min : 1 ≤ h.next_number
+  pub next_number_max : h.next_number ≤ 40001
 
--- within the limits of a state
+-- A job within the limits of a state
 pub record IsWithin (j : JobValue) : Type 0 where
   pub fleet : length j.pins ≡ j.problem.fleet
-  pub deviation : j.deviation ≤ most_deviation
+  pub deviation : j.deviation ≤ max_deviation
   pub seed : j.seed < 2 ^ 64
   pub steps : j.steps ≤ 2 ^ 60

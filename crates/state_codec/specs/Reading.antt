@@ -1,4 +1,5 @@
--- Reading the tables of a state, each the inverse of what `Bytes` writes. Each rule is judged at the field that it names.
+-- Reading the parts of a state: each definition is the inverse of one in `Bytes`. Each field is checked by its
+-- own rule.
 use Rattle.std.specs.Prelude.{
   ℕ,
   zero,
@@ -38,8 +39,8 @@ use Rattle.plan_types.specs.declared.requests.Request.{Request}
 use Rattle.plan_types.specs.declared.requests.Request.TheVariants.{Single, Pair}
 use Rattle.plan_types.specs.declared.requests.Kind.{Kind}
 use Rattle.plan_types.specs.declared.requests.Kind.TheVariants.{LiLim, Vrp}
-use Rattle.plan_types.specs.Limits.{most_deviation}
-use Rattle.command_core.specs.Job.{JobValue}
+use Rattle.plan_types.specs.Limits.{max_deviation}
+use Rattle.command_types.specs.Job.{JobValue}
 use Rattle.state_codec.specs.declared.version.Version.{Version}
 use Rattle.state_codec.specs.declared.version.Version.TheVariants.{One, Two}
 use Rattle.state_codec.specs.declared.fault.CodecFault.{CodecFault}
@@ -49,39 +50,40 @@ use Rattle.state_codec.specs.Bytes.{width}
 use Rattle.state_codec.specs.Limits.{most}
 use Rattle.state_codec.specs.Fields.{◌>>=◌, Field, Gives, only, byte_at, number_at, signed_at, point_at, window_at, is_demand, is_service, int_eq}
 
--- no request so far has a stop with this number
+-- No request so far has a stop with this number
 abbrev pub is_free : List (ℕ × Request) → ℕ → Bool
 is_free before n = not (is_some (first_some (stop_in n) before))
 
--- a request's name: below `next_number`, above each name so far, and no stop's number yet
+-- A valid name of a request: below `next_number`, above each name so far, and not yet the number of a stop
 abbrev pub is_name : ℕ → List (ℕ × Request) → ℕ → Bool
 is_name next before n = nat_le 1 n && (nat_lt n next && (list_all (λ e. nat_lt e.0 n) before && is_free before n))
 
--- the number of a pair's delivery
+-- A valid number for the delivery of a pair
 abbrev pub is_delivery : ℕ → List (ℕ × Request) → ℕ → ℕ → Bool
 is_delivery next before pickup n = nat_le 1 n && (nat_lt n next && (not (n == pickup) && is_free before n))
 
--- the goods of a pickup or a single; those of a delivery are given
-abbrev pub is_wanted : Option ℤ → ℤ → Bool
-is_wanted None q = is_demand q
-is_wanted (Some wanted) q = int_eq q wanted
+-- A valid demand. For a delivery it must be the given one; otherwise any demand of a pickup or a single is
+-- valid
+abbrev pub is_expected_demand : Option ℤ → ℤ → Bool
+is_expected_demand None q = is_demand q
+is_expected_demand (Some wanted) q = int_eq q wanted
 
--- what follows the number of a stop
+-- The fields after the number of a stop
 unfoldable pub visit_at : ℕ → Option ℤ → List ℕ → Field Stop
 visit_at number wanted bytes = do
   point ← point_at bytes
-  demand ← only (is_wanted wanted) (signed_at point.1)
+  demand ← only (is_expected_demand wanted) (signed_at point.1)
   window ← window_at demand.1
   service ← only is_service (number_at 4 window.1)
   Ok (record { number = number; x = point.0.0; y = point.0.1; demand = demand.0; earliest = window.0.0; latest = window.0.1; service = service.0 }, service.1)
 
--- the stop that names a request
+-- The stop that names a request
 unfoldable pub first_at : Version → ℕ → List (ℕ × Request) → List ℕ → Field Stop
 first_at v next before bytes = do
   number ← only (is_name next before) (number_at (width v) bytes)
   visit_at number.0 None number.1
 
--- the delivery of the pickup
+-- The delivery that belongs to this pickup
 unfoldable pub delivery_at : Version → ℕ → List (ℕ × Request) → Stop → List ℕ → Field Stop
 delivery_at v next before pickup bytes = do
   number ← only (is_delivery next before pickup.number) (number_at (width v) bytes)
@@ -98,36 +100,37 @@ pair_at v next before bytes = do
   delivery ← delivery_at v next before pickup.0 pickup.1
   Ok (Pair pickup.0 delivery.0, delivery.1)
 
--- a form, and one stop or two
+-- The form, and one stop or two
 unfoldable pub request_at : Version → ℕ → List (ℕ × Request) → List ℕ → Field Request
 request_at v next before bytes = do
   form ← byte_at bytes
   if form.0 == 1 then single_at v next before form.1 else if form.0 == 2 then pair_at v next before form.1 else Err BadField
 
--- so many times: each time something is read and added to what was read before
+-- Reading n items, each added to those read before
 unfoldable pub times : {A : Type 0} → (A → List ℕ → Field A) → ℕ → A → List ℕ → Field A
 times more zero before bytes = Ok (before, bytes)
 times more (suc count) before bytes = do
   one ← more before bytes
   times more count one.0 one.1
 
--- what a function answers is what `more` reads, unless memory ran out
+-- The result of a function is what `more` reads, unless memory ran out
 abbrev pub ReadsMore : {A : Type 0} → (A → Bor (List ℕ) → Result (A × Bor (List ℕ)) CodecFault → Type 0) → (A → List ℕ → Field A) → Type 0
 ReadsMore {A} answers more = (before : A) (bytes : Bor (List ℕ)) (read : Result (A × Bor (List ℕ)) CodecFault) → answers before bytes read → Gives (λ x. (x.0, x.1.now)) read (more before bytes.now)
 
--- one request more
+-- Reading one more request
 abbrev pub next_request : Version → ℕ → List (ℕ × Request) → List ℕ → Field (List (ℕ × Request))
 next_request v next before bytes = do
   request ← request_at v next before bytes
   Ok (before ++ (request_name request.0, request.0) ∷ [], request.1)
 
--- one stop number more
+-- Reading one more stop number
 abbrev pub next_stop : Version → List ℕ → List ℕ → Field (List ℕ)
 next_stop v before bytes = do
   stop ← number_at (width v) bytes
   Ok (before ++ stop.0 ∷ [], stop.1)
 
--- the pin and the route of a vehicle: the pin's length, the route's, and the route's stops, with which the pin begins
+-- The pin and the route of a vehicle: the length of the pin, the length of the route, and the stops of the
+-- route, with which the pin begins
 unfoldable pub vehicle_at : Version → List ℕ → Field (List ℕ × List ℕ)
 vehicle_at v bytes = do
   pin ← number_at (width v) bytes
@@ -135,30 +138,30 @@ vehicle_at v bytes = do
   route ← times (next_stop v) len.0 [] len.1
   Ok ((take pin.0 route.0, route.0), route.1)
 
--- one vehicle more: its pin and its route
+-- Reading one more vehicle: its pin and its route
 abbrev pub next_vehicle : Version → List (List ℕ) × List (List ℕ) → List ℕ → Field (List (List ℕ) × List (List ℕ))
 next_vehicle v before bytes = do
   vehicle ← vehicle_at v bytes
   Ok ((before.0 ++ vehicle.0.0 ∷ [], before.1 ++ vehicle.0.1 ∷ []), vehicle.1)
 
--- a route without a pin
+-- A route without a pin
 unfoldable pub route_at : Version → List ℕ → Field (List ℕ)
 route_at v bytes = do
   len ← number_at (width v) bytes
   times (next_stop v) len.0 [] len.1
 
--- one route more
+-- Reading one more route
 abbrev pub next_route : Version → List (List ℕ) → List ℕ → Field (List (List ℕ))
 next_route v before bytes = do
   route ← route_at v bytes
   Ok (before ++ route.0 ∷ [], route.1)
 
--- the working routes: version 1 has none, and the plan's stand for them
+-- The working routes. Version 1 has none; the routes of the plan take their place.
 abbrev pub work_at : Version → ℕ → List (List ℕ) → List ℕ → Field (List (List ℕ))
 work_at One fleet plan bytes = Ok (plan, bytes)
 work_at Two fleet plan bytes = times (next_route Two) fleet [] bytes
 
--- ---- what stands before the requests
+-- ---- the part before the requests
 
 abbrev pub kind_at : List ℕ → Field Kind
 kind_at bytes = byte_at bytes >>= λ b. if b.0 == 1 then Ok (LiLim, b.1) else if b.0 == 2 then Ok (Vrp, b.1) else Err BadField
@@ -176,7 +179,7 @@ abbrev pub is_next : Version → ℕ → Bool
 is_next v n = nat_le 1 n && nat_le n (most v + 1)
 
 abbrev pub is_deviation : ℕ → Bool
-is_deviation d = nat_le d most_deviation
+is_deviation d = nat_le d max_deviation
 
 unfoldable pub depot_at : List ℕ → Field Stop
 depot_at bytes = do
@@ -184,10 +187,10 @@ depot_at bytes = do
   window ← window_at point.1
   Ok (record { number = 0; x = point.0.0; y = point.0.1; demand = pos 0; earliest = window.0.0; latest = window.0.1; service = 0 }, window.1)
 
--- version 1 has no deviation: it is 0
-abbrev pub allowance_at : Version → List ℕ → Field ℕ
-allowance_at One bytes = Ok (0, bytes)
-allowance_at Two bytes = only is_deviation (number_at 4 bytes)
+-- The deviation. Version 1 has none, so it is 0
+abbrev pub job_deviation_at : Version → List ℕ → Field ℕ
+job_deviation_at One bytes = Ok (0, bytes)
+job_deviation_at Two bytes = only is_deviation (number_at 4 bytes)
 
 unfoldable pub head_at : Version → List ℕ → Field Head
 head_at v bytes = do
@@ -198,7 +201,7 @@ head_at v bytes = do
   fleet ← only (is_fleet v) (number_at (width v) capacity.1)
   next ← only (is_next v) (number_at (width v) fleet.1)
   depot ← depot_at next.1
-  deviation ← allowance_at v depot.1
+  deviation ← job_deviation_at v depot.1
   Ok (record { kind = kind.0; seed = seed.0; steps = steps.0; capacity = capacity.0; fleet = fleet.0; next_number = next.0; depot = depot.0; deviation = deviation.0 }, deviation.1)
 
 -- ---- a whole state
@@ -206,7 +209,7 @@ head_at v bytes = do
 abbrev pub problem_from : Head → List (ℕ × Request) → Instance
 problem_from h requests = record { kind = h.kind; depot = h.depot; capacity = h.capacity; fleet = h.fleet; requests = requests; next_number = h.next_number }
 
--- the requests behind their count
+-- The requests after their count
 unfoldable pub problem_at : Version → Head → List ℕ → Field Instance
 problem_at v head bytes = do
   count ← number_at (width v) bytes
@@ -221,14 +224,14 @@ job_at v bytes = do
   work ← work_at v head.0.fleet vehicles.0.1 vehicles.1
   Ok (record { problem = problem.0; pins = vehicles.0.0; plan = vehicles.0.1; work = work.0; deviation = head.0.deviation; seed = head.0.seed; steps = head.0.steps }, work.1)
 
--- a byte that tells whether a job follows
+-- A byte that says whether a job follows, and then the job
 unfoldable pub state_at : Version → List ℕ → Field (Option JobValue)
 state_at v bytes = do
   loaded ← byte_at bytes
   if loaded.0 == 0 then Ok (None, loaded.1) else if loaded.0 == 1 then (job_at v loaded.1 >>= λ job. Ok (Some job.0, job.1)) else Err BadField
 
--- and nothing behind it
-unfoldable pub whole_at : Version → List ℕ → Result (Option JobValue) CodecFault
-whole_at v bytes = do
+-- The state, and nothing after it
+unfoldable pub whole_state_at : Version → List ℕ → Result (Option JobValue) CodecFault
+whole_state_at v bytes = do
   state ← state_at v bytes
   if length state.1 == 0 then Ok state.0 else Err BadField

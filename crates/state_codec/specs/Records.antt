@@ -1,8 +1,8 @@
--- Reading a command from the front of bytes. Its limits are judged of the whole command.
+-- Reading a command from the start of bytes. Its limits are checked after the whole command is read.
 use Rattle.std.specs.Prelude.{ℕ, ◌==◌, List, Ok, Err, if◌then◌else◌}
-use Rattle.command_core.specs.declared.commands.Spot.{Spot}
-use Rattle.command_core.specs.declared.commands.Command.{Command}
-use Rattle.command_core.specs.declared.commands.Command.TheVariants.{Add, Add1, Withdraw, Pin, Unpin, Build, Search, Deviation}
+use Rattle.command_types.specs.declared.commands.Spot.{Spot}
+use Rattle.command_types.specs.declared.commands.Command.{Command}
+use Rattle.command_types.specs.declared.commands.Command.TheVariants.{Add, Add1, Withdraw, Pin, Unpin, Build, Search, Deviation}
 use Rattle.state_codec.specs.declared.version.Version.{Version}
 use Rattle.state_codec.specs.declared.fault.CodecFault.TheVariants.{BadField}
 use Rattle.state_codec.specs.Bytes.{width}
@@ -56,7 +56,7 @@ deviation_at bytes = do
   deviation ← number_at 4 bytes
   Ok (Deviation deviation.0, deviation.1)
 
--- the fields behind a kind
+-- The fields after the kind of a command
 abbrev pub fields_at : Version → ℕ → List ℕ → Field Command
 fields_at v kind bytes =
     if kind == 1 then add_at bytes else

@@ -1,4 +1,4 @@
--- What is written of a sector.
+-- The written part of a sector
 use Rattle.std.specs.Prelude.{◌≡◌, ◌≤◌, ℕ, List, take}
 use Rattle.state_codec.specs.Bytes.{padded}
 use Rattle.state_codec.specs.declared.sector.Sector.TheInside.{Inside}

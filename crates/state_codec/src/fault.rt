@@ -1,19 +1,20 @@
-//! Why bytes are no state.
+//! The reasons why bytes are not a state.
 //!
-//! Truncated is not "where some continuation is an encoding": a count of 4 billion requests is read as far as the bytes go,
-//! though no continuation has so many. What holds is the law of fronts, and that a bad field is final.
+//! `Truncated` does not mean that some continuation is an encoding: a count of 4 billion requests is read as
+//! far as the bytes go, though no encoding has that many. Two laws hold instead: a proper prefix of an encoding
+//! is `Truncated`, and a `BadField` stays one whatever follows.
 
 use std::alloc::AllocError;
 use thiserror::Error;
 
-/// Why bytes are no state.
+/// A reason why bytes are not a state.
 #[derive(Clone, Copy, Debug, PartialEq, Eq, Error)]
 pub enum CodecFault {
     #[error("the bytes end where a field is due")]
     Truncated,
     #[error("a field breaks its rule")]
     BadField,
-    /// The number of the auditor's rule.
+    /// A plan or a pin breaks the auditor's rule with this number.
     #[error("a plan or a pin breaks rule {0}")]
     PlanRefused(u32),
     #[error("out of memory")]

@@ -1,6 +1,6 @@
-//! Fields at the front of bytes.
+//! Fields at the start of bytes.
 ghost use Rattle.std.specs.Prelude.{◌≡◌, ◌&&◌, List, ℕ, nat_le, Ok, Err, if◌then◌else◌};
-ghost use Rattle.command_core.specs.Wishes.{is_coordinate};
+ghost use Rattle.command_types.specs.AddedRequests.{is_coordinate};
 ghost use Rattle.state_codec.specs.Bytes.{width};
 ghost use Rattle.state_codec.specs.declared.fault.CodecFault.TheVariants.{BadField};
 ghost use Rattle.state_codec.specs.Reading.{ReadsMore, times};
@@ -8,10 +8,10 @@ ghost use Rattle.state_codec.specs.Fields.{Field, Reads, Gives, only, byte_at, n
 
 use crate::fault::CodecFault;
 use crate::version::Version;
-use command_core::is_coordinate;
+use command_types::is_coordinate;
 use plan_types::limits::MAX_TIME;
 
-/// A field's value and the bytes behind it, or why there is none.
+/// The value of a field and the bytes after it, or why there is none.
 pub(crate) type Field<'a, X> = Result<(X, &'a [u8]), CodecFault>;
 
 #[tactic(auto, unfolding(crate::specs::Fields::byte_at))]
@@ -70,7 +70,7 @@ pub(crate) fn i32_at(bytes: &[u8]) -> Field<'_, i32>
     Ok((number, &bytes[4..]))
 }
 
-/// A stop number, a count or a length.
+/// Reads a stop number, a count or a length.
 pub(crate) fn number_at(version: Version, bytes: &[u8]) -> Field<'_, u32>
     ensures { Reads (λ x. (x.0, x.1.now)) result (number_at (width version) bytes.now) }
 {
@@ -83,7 +83,7 @@ pub(crate) fn number_at(version: Version, bytes: &[u8]) -> Field<'_, u32>
     }
 }
 
-/// A value that was read, where its rule takes it, and what stands behind it.
+/// Returns the value and the bytes after it if the value satisfies its rule, otherwise `BadField`.
 pub(crate) fn only<T: Drop>(is_taken: bool, value: T, rest: &[u8]) -> Field<'_, T>
     ensures { let read : T × List ℕ = (value, rest.now) in
         Reads (λ x. (x.0, x.1.now)) result (if is_taken then Ok read else Err BadField) }
@@ -102,7 +102,7 @@ fn coordinate_at(bytes: &[u8]) -> Field<'_, i32>
     only(is_coordinate(x), x, rest)
 }
 
-/// An x and a y.
+/// Reads an x and a y.
 #[tactic(auto, unfolding(crate::specs::Fields::point_at))]
 pub(crate) fn point_at(bytes: &[u8]) -> Field<'_, (i32, i32)>
     ensures { Reads (λ x. (x.0, x.1.now)) result (point_at bytes.now) }
@@ -127,7 +127,7 @@ fn latest_at(earliest: u32, bytes: &[u8]) -> Field<'_, u32>
     only(earliest <= latest && latest <= MAX_TIME, latest, rest)
 }
 
-/// When a window begins and ends.
+/// Reads the begin and the end of a time window.
 #[tactic(auto, unfolding(crate::specs::Fields::window_at))]
 pub(crate) fn window_at(bytes: &[u8]) -> Field<'_, (u32, u32)>
     ensures { Reads (λ x. (x.0, x.1.now)) result (window_at bytes.now) }
@@ -137,7 +137,7 @@ pub(crate) fn window_at(bytes: &[u8]) -> Field<'_, (u32, u32)>
     Ok(((earliest, latest), rest))
 }
 
-/// So many times: each time something is read and added to what was read before. No room is made for it by the count alone.
+/// Reads `count` times, adding each item to those read before. The count alone reserves no memory.
 pub(crate) fn times<'a, A: Drop, F: Fn(A, &'a [u8]) -> Field<'a, A>>(
     count: u32,
     before: A,

@@ -1,14 +1,14 @@
-//! What stands before the requests of a state.
+//! The part of a state before its requests.
 ghost use Rattle.std.specs.Prelude.{◌≡◌};
 ghost use Rattle.state_codec.specs.Bytes.{width};
 ghost use Rattle.state_codec.specs.Fields.{Reads, only, number_at};
 ghost use Rattle.state_codec.specs.Limits.{most};
-ghost use Rattle.state_codec.specs.Reading.{kind_at, is_steps, is_capacity, is_fleet, is_next, depot_at, allowance_at, head_at};
+ghost use Rattle.state_codec.specs.Reading.{kind_at, is_steps, is_capacity, is_fleet, is_next, depot_at, job_deviation_at, head_at};
 
 use crate::fault::CodecFault;
 use crate::fields::{Field, number_at, only, point_at, u8_at, u32_at, u64_at, window_at};
 use crate::version::Version;
-use command_core::MAX_STEPS;
+use command_types::MAX_STEPS;
 use plan_types::limits::{MAX_CAPACITY, MAX_DEVIATION};
 use plan_types::{Kind, Stop};
 
@@ -24,7 +24,7 @@ pub(crate) struct Head {
     pub(crate) deviation: u32,
 }
 
-// The greatest stop number and the largest fleet.
+// Returns the greatest stop number of a version, which is also its largest fleet.
 fn most(version: Version) -> u32
     ensures { result ≡ most version }
 {
@@ -75,7 +75,7 @@ fn next_number_at(version: Version, bytes: &[u8]) -> Field<'_, u32>
     only(1 <= next && next <= most(version) + 1, next, rest)
 }
 
-// The depot's place and window.
+// Reads the coordinates and the time window of the depot.
 #[tactic(auto, unfolding(crate::specs::Reading::depot_at))]
 fn depot_at(bytes: &[u8]) -> Field<'_, Stop>
     ensures { Reads (λ x. (x.0, x.1.now)) result (depot_at bytes.now) }
@@ -94,9 +94,9 @@ fn depot_at(bytes: &[u8]) -> Field<'_, Stop>
     Ok((depot, rest))
 }
 
-// How much longer the working plan may be.
-fn allowance_at(version: Version, bytes: &[u8]) -> Field<'_, u32>
-    ensures { Reads (λ x. (x.0, x.1.now)) result (allowance_at version bytes.now) }
+// Reads the deviation: by how much the working plan may be longer.
+fn job_deviation_at(version: Version, bytes: &[u8]) -> Field<'_, u32>
+    ensures { Reads (λ x. (x.0, x.1.now)) result (job_deviation_at version bytes.now) }
 {
     match version {
         Version::One => return Ok((0, bytes)),
@@ -117,7 +117,7 @@ pub(crate) fn head_at(version: Version, bytes: &[u8]) -> Field<'_, Head>
     let (fleet, rest) = fleet_at(version, rest)?;
     let (next_number, rest) = next_number_at(version, rest)?;
     let (depot, rest) = depot_at(rest)?;
-    let (deviation, rest) = allowance_at(version, rest)?;
+    let (deviation, rest) = job_deviation_at(version, rest)?;
     let head = Head {
         kind,
         seed,

@@ -1,51 +1,54 @@
-//! What holds of every encoding.
-ghost use Rattle.state_codec.specs.Laws.{StatesDiffer, RecordsDiffer, StatesHaveNoFault, FaultsAreOne, BytesAreDecided, RecordsAreDecided, BadFieldsStay, BytesBehindAreBad, FrontsAreTruncated};
+//! Laws of encodings.
+ghost use Rattle.state_codec.specs.Laws.{StateEncodingIsInjective, RecordEncodingIsInjective, StatesHaveNoFault, FaultsAreOne, BytesAreDecided, RecordsAreDecided, BadFieldsPersist, ExtraBytesAreBad, PrefixesAreTruncated};
 ghost use Rattle.state_codec.specs.Lengths.{EncodingsFit};
 
 use plan_audit::{
-    each_plan_has_a_verdict, pins_are_live_once, tests_say_feasible, tests_say_pass,
-    verdicts_are_unique,
+    each_plan_has_a_verdict, feasible_alone_decides_feasibility, passes_decides_the_verdict,
+    pins_are_distinct_stops, verdicts_are_unique,
 };
-use plan_types::{numbers_are_below_the_next, put_adds_one_request};
+use plan_types::{numbers_are_below_next_number, put_adds_one_request};
 
-/// How long the encoding of a state is: never above 1,960,054 bytes.
+/// Proves the length of a state's encoding, which is at most 1,960,054.
 pub fn encodings_fit()
     ensures { EncodingsFit }
 {
-    numbers_are_below_the_next();
+    numbers_are_below_next_number();
 }
 
-/// States that keep their facts and have the same bytes are one, and so are sequence, index and command of records.
-pub fn encodings_tell_values_apart()
-    ensures states { StatesDiffer }
-    ensures records { RecordsDiffer }
+/// Proves that two states with the same encoding are equal, if they satisfy their invariants, and that two
+/// records with the same bytes have the same sequence, index and command.
+pub fn encodings_are_injective()
+    ensures states { StateEncodingIsInjective }
+    ensures records { RecordEncodingIsInjective }
 {
-    numbers_are_below_the_next();
+    numbers_are_below_next_number();
 }
 
-/// Bytes have one answer: they are those of a state that keeps its facts, and have no fault, or they have one fault. A sector is the record
-/// of a command or of none.
+/// Proves that bytes have exactly one answer. Either they are the encoding of a state that satisfies its
+/// invariants, and have no fault, or they have exactly one fault. A sector is the record of one command or of
+/// none.
 pub fn bytes_have_one_answer()
     ensures states { StatesHaveNoFault }
     ensures faults { FaultsAreOne }
     ensures decided { BytesAreDecided }
     ensures records { RecordsAreDecided }
 {
-    numbers_are_below_the_next();
+    numbers_are_below_next_number();
     verdicts_are_unique();
     each_plan_has_a_verdict();
-    tests_say_pass();
-    tests_say_feasible();
-    pins_are_live_once();
+    passes_decides_the_verdict();
+    feasible_alone_decides_feasibility();
+    pins_are_distinct_stops();
     put_adds_one_request();
 }
 
-/// What a fault is, by the encodings alone: a bad field stays one whatever follows, a byte behind an encoding is a bad field, and each
-/// proper front of an encoding is truncated. The same goes for bytes that an auditor's rule refuses.
-pub fn faults_go_by_encodings()
-    ensures stay { BadFieldsStay }
-    ensures behind { BytesBehindAreBad }
-    ensures fronts { FrontsAreTruncated }
+/// Proves what faults mean in terms of encodings: a bad field stays one whatever follows, a byte after an
+/// encoding is a bad field, and each proper prefix of an encoding is truncated. The last two also hold for bytes
+/// that only a rule of the auditor refuses.
+pub fn faults_follow_from_encodings()
+    ensures stay { BadFieldsPersist }
+    ensures following { ExtraBytesAreBad }
+    ensures prefixes { PrefixesAreTruncated }
 {
-    numbers_are_below_the_next();
+    numbers_are_below_next_number();
 }

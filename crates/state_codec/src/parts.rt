@@ -1,11 +1,11 @@
-//! A state as it is read, before it is judged: field by field in the order of the format's table, as `specs/Reading.antt` has
-//! it. That what it reads is what was written is proved both ways.
+//! Reads the parts of a state before they are checked, field by field in the order of the format, as in
+//! `specs/Reading.antt`. Reading is proved to be the inverse of writing.
 ghost use Rattle.std.specs.Prelude.{◌≡◌, ◌≤◌, [], Ok, IsOk, IfOk, IfErr, length};
 ghost use Rattle.std.specs.Option.{option_map};
 ghost use Rattle.plan_types.specs.Instance.{new_instance};
 ghost use Rattle.state_codec.specs.Fields.{Gives};
 ghost use Rattle.state_codec.specs.Parts.{job_in, IsHead};
-ghost use Rattle.state_codec.specs.Reading.{problem_at, work_at, job_at, state_at, whole_at};
+ghost use Rattle.state_codec.specs.Reading.{problem_at, work_at, job_at, state_at, whole_state_at};
 
 use crate::fault::CodecFault;
 use crate::fields::{Field, number_at, u8_at};
@@ -35,7 +35,7 @@ fn empty_problem(alloc: Global, head: &Head) -> Result<Problem, CodecFault>
 {
     match Problem::new(alloc, head.kind, head.depot, head.capacity, head.fleet) {
         Ok(problem) => Ok(problem),
-        // The head keeps the limits.
+        // The head is within its limits, so this cannot happen.
         Err(_) => Err(CodecFault::BadField),
     }
 }
@@ -58,7 +58,7 @@ fn problem_at<'a>(
     Ok((problem, rest))
 }
 
-// The working plan: for version 1 a second plan like the first.
+// Reads the working plan. Version 1 has none, so it is a copy of the plan.
 fn work_at<'a>(
     alloc: Global,
     version: Version,
@@ -109,14 +109,14 @@ fn state_at(alloc: Global, version: Version, bytes: &[u8]) -> Field<'_, Option<P
     }
 }
 
-/// What all of the bytes tell: nothing is loaded, or these parts.
-#[tactic(auto, unfolding(crate::specs::Reading::whole_at))]
-pub(crate) fn whole_at(
+/// Reads all of the bytes as a state: an empty one, or the parts of a job.
+#[tactic(auto, unfolding(crate::specs::Reading::whole_state_at))]
+pub(crate) fn whole_state_at(
     alloc: Global,
     version: Version,
     bytes: &[u8],
 ) -> Result<Option<Parts>, CodecFault>
-    ensures { Gives (option_map job_in) result (whole_at version bytes.now) }
+    ensures { Gives (option_map job_in) result (whole_state_at version bytes.now) }
 {
     let (state, rest) = state_at(alloc, version, bytes)?;
     if !rest.is_empty() {

@@ -1,9 +1,9 @@
 //! Commands as the sectors of a store's journal.
 //!
-//! A record is decoded by reading a command, testing its limits, and comparing its record with the sector: so the bytes
-//! behind the fields need no rule of their own.
+//! To decode a record, a command is read, its limits are checked, and its record is compared with the sector.
+//! So the bytes after the fields need no rule of their own.
 ghost use Rattle.std.specs.Prelude.{◌≡◌, ◌≢◌, ◌≤◌, ◌+◌, ◌++◌, ◌∷◌, ◌↔◌, true, IsTrue, length, MatchOption};
-ghost use Rattle.command_core.specs.Commands.{is_recorded, fits_record};
+ghost use Rattle.command_types.specs.Commands.{is_recorded, fits_record};
 ghost use Rattle.state_codec.specs.declared.version.Version.TheVariants.{One, Two};
 ghost use Rattle.state_codec.specs.Bytes.{spot_bytes, command_bytes, record_bytes};
 ghost use Rattle.state_codec.specs.Fields.{Reads};
@@ -14,11 +14,11 @@ use crate::fault::CodecFault;
 use crate::fields::{Field, i32_at, number_at, u8_at, u16_at, u32_at};
 use crate::sector::Sector;
 use crate::version::Version;
-use command_core::{Command, MAX_COUNT, Spot, is_demand, is_spot};
+use command_types::{Command, MAX_SEARCH_STEPS, Spot, is_demand, is_spot};
 use plan_types::limits::MAX_DEVIATION;
 
-/// The sector of a record: the command as the one of this index in the journal of this sequence. The command is one that has
-/// a record, and its fields keep their limits. Takes no memory.
+/// Returns the record of a command, with this index in the journal of this sequence. The command must have a
+/// record, and its fields must be within their limits. Allocates nothing.
 pub fn encode_record(sequence: u64, index: u32, command: &Command) -> [u8; 512]
     requires { IsRecorded Two command.now }
     ensures { result ≡ record_bytes Two sequence index command.now }
@@ -26,7 +26,8 @@ pub fn encode_record(sequence: u64, index: u32, command: &Command) -> [u8; 512]
     record(Version::Two, sequence, index, command)
 }
 
-/// The command whose record of this sequence and index the sector is, if it is one. Takes no memory.
+/// Decodes a record: returns the command if the sector is its record with this sequence and index. Allocates
+/// nothing.
 pub fn decode_record(sector: &[u8; 512], sequence: u64, index: u32) -> Option<Command>
     ensures { MatchOption result ((c : Command) → IsRecorded Two c
         → sector.now ≢ record_bytes Two sequence index c)
@@ -35,7 +36,7 @@ pub fn decode_record(sector: &[u8; 512], sequence: u64, index: u32) -> Option<Co
     decode(Version::Two, sector, sequence, index)
 }
 
-/// The same for the records of version 1, which have no deviation and shorter numbers. Takes no memory.
+/// Decodes a record of version 1, which has no deviation and shorter numbers. Allocates nothing.
 pub fn decode_record_v1(sector: &[u8; 512], sequence: u64, index: u32) -> Option<Command>
     ensures { MatchOption result ((c : Command) → IsRecorded One c
         → sector.now ≢ record_bytes One sequence index c)
@@ -44,7 +45,7 @@ pub fn decode_record_v1(sector: &[u8; 512], sequence: u64, index: u32) -> Option
     decode(Version::One, sector, sequence, index)
 }
 
-// What is read from the sector is its command where its record is the sector.
+// Reads a command from the sector, and returns it if its record is this sector.
 fn decode(version: Version, sector: &[u8; 512], sequence: u64, index: u32) -> Option<Command>
     ensures { MatchOption result ((c : Command) → IsRecorded version c
         → sector.now ≢ record_bytes version sequence index c)
@@ -118,7 +119,7 @@ fn put_command(version: Version, sector: &mut Sector, command: &Command)
             sector.put_u8(8);
             sector.put_u32(*deviation);
         }
-        // These have no record.
+        // These commands have no record.
         Command::Load(..)
         | Command::Checkpoint
         | Command::Anneal(_)
@@ -157,7 +158,7 @@ fn is_deviation(version: Version, deviation: u32) -> bool
     }
 }
 
-// Whether the command has a record.
+// Returns whether the command has a record.
 fn is_recorded(version: Version, command: &Command) -> bool
     ensures { IsTrue result ↔ IsRecorded version command.now }
 {
@@ -172,14 +173,14 @@ fn is_recorded(version: Version, command: &Command) -> bool
         Command::Withdraw(name) => has_room(version, *name),
         Command::Pin(vehicle, k) => has_room(version, *vehicle) && has_room(version, *k),
         Command::Unpin(vehicle) => has_room(version, *vehicle),
-        Command::Search(count) => 1 <= *count && *count <= MAX_COUNT,
+        Command::Search(count) => 1 <= *count && *count <= MAX_SEARCH_STEPS,
         Command::Deviation(deviation) => is_deviation(version, *deviation),
         _ => false,
     }
 }
 
-/// A command that a store writes down as it is, with fields that keep the limits of a record, has a record: its numbers have
-/// room in their bytes.
+/// Proves that the numbers of a command that a store writes as a record fit into their bytes, if its fields are
+/// within the limits of a record.
 pub fn recorded_fields_have_room(command: &Command)
     ensures { is_recorded command.now ≡ true → fits_record command.now ≡ true
         → IsRecorded Two command.now }

@@ -2,11 +2,11 @@
 ghost use Rattle.std.specs.Prelude.{◌≡◌, ◌≤◌, [], nat_lt, OnOk, IfOk, IfErr};
 ghost use Rattle.plan_types.specs.Instance.{with_request, IsTaken};
 ghost use Rattle.plan_types.specs.Request.{IsRequest};
-ghost use Rattle.state_codec.specs.Filled.{IsFilledBelow};
+ghost use Rattle.state_codec.specs.FilledProblem.{IsFilledBelow};
 ghost use Rattle.plan_types.specs.Limits.{IsDemand};
 ghost use Rattle.std.specs.List.{list_all};
 ghost use Rattle.state_codec.specs.Fields.{Reads, Gives, only, number_at, signed_at, is_service};
-ghost use Rattle.state_codec.specs.Reading.{is_free, is_name, is_delivery, is_wanted, visit_at, first_at, delivery_at, request_at, times, next_request};
+ghost use Rattle.state_codec.specs.Reading.{is_free, is_name, is_delivery, is_expected_demand, visit_at, first_at, delivery_at, request_at, times, next_request};
 
 use crate::fault::CodecFault;
 use crate::fields::{Field, i32_at, number_at, only, point_at, u8_at, u32_at, window_at};
@@ -14,14 +14,14 @@ use crate::version::Version;
 use plan_types::limits::{MAX_DEMAND, MAX_SERVICE};
 use plan_types::{Problem, Request, Stop};
 
-// Whether the number may name the next request.
+// Returns whether the number may name the next request.
 fn is_name(problem: &Problem, next: u32, number: u32) -> bool
     ensures { result ≡ is_name next problem.now.requests number }
 {
     1 <= number && number < next && is_above_names(problem, number) && is_free(problem, number)
 }
 
-// Whether each request has a lesser name. The last one's is the greatest.
+// Returns whether the number is above the names of all requests. The last name is the greatest.
 fn is_above_names(problem: &Problem, number: u32) -> bool
     ensures { result ≡ list_all (λ e. nat_lt e.0 number) problem.now.requests }
 {
@@ -43,8 +43,8 @@ fn is_delivery(problem: &Problem, next: u32, pickup: u32, number: u32) -> bool
     1 <= number && number < next && number != pickup && is_free(problem, number)
 }
 
-fn is_wanted(wanted: Option<i32>, demand: i32) -> bool
-    ensures { result ≡ is_wanted wanted demand }
+fn is_expected_demand(wanted: Option<i32>, demand: i32) -> bool
+    ensures { result ≡ is_expected_demand wanted demand }
 {
     match wanted {
         None => 0 <= demand && demand <= MAX_DEMAND,
@@ -53,10 +53,10 @@ fn is_wanted(wanted: Option<i32>, demand: i32) -> bool
 }
 
 fn demand_at(wanted: Option<i32>, bytes: &[u8]) -> Field<'_, i32>
-    ensures { Reads (λ x. (x.0, x.1.now)) result (only (is_wanted wanted) (signed_at bytes.now)) }
+    ensures { Reads (λ x. (x.0, x.1.now)) result (only (is_expected_demand wanted) (signed_at bytes.now)) }
 {
     let (demand, rest) = i32_at(bytes)?;
-    only(is_wanted(wanted, demand), demand, rest)
+    only(is_expected_demand(wanted, demand), demand, rest)
 }
 
 fn service_at(bytes: &[u8]) -> Field<'_, u32>
@@ -139,7 +139,7 @@ fn request_at<'a>(
     }
 }
 
-// Puts a request that a problem can take.
+// Adds a request whose stop numbers are not in use yet.
 fn put_new(problem: &mut Problem, request: Request) -> Result<(), CodecFault>
     requires request { IsRequest request }
     requires free { ¬ IsTaken problem.old request }
@@ -148,13 +148,13 @@ fn put_new(problem: &mut Problem, request: Request) -> Result<(), CodecFault>
 {
     match problem.put(request) {
         Ok(()) => Ok(()),
-        // No other fault is left.
+        // The request is valid, so only the allocation can have failed.
         Err(_) => Err(CodecFault::OutOfMemory),
     }
 }
 
-/// So many requests, put into a problem that has none. Each number is below the next one. No room is made for them by their count
-/// alone.
+/// Reads `count` requests into a problem that has none. Each number is below the next one. The count alone
+/// reserves no memory.
 pub(crate) fn requests_at<'a>(
     version: Version,
     problem: Problem,

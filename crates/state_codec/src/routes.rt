@@ -9,7 +9,7 @@ use crate::version::Version;
 use plan_types::{OutOfMemory, Route, Routes};
 use std::alloc::Global;
 
-// One stop number more.
+// Reads one more stop number.
 fn next_stop<'a>(version: Version, stops: Route, bytes: &'a [u8]) -> Field<'a, Route>
     ensures { Gives (λ x. (x.0, x.1.now)) result (next_stop version stops bytes.now) }
 {
@@ -31,7 +31,7 @@ fn stops_at(alloc: Global, version: Version, count: u32, bytes: &[u8]) -> Field<
     )
 }
 
-// A length that is no less than that of the pin.
+// Reads a length that is at least that of the pin.
 fn route_len_at(version: Version, pin: u32, bytes: &[u8]) -> Field<'_, u32>
     ensures { Reads (λ x. (x.0, x.1.now)) result
         (only (nat_le pin) (number_at (width version) bytes.now)) }
@@ -40,13 +40,13 @@ fn route_len_at(version: Version, pin: u32, bytes: &[u8]) -> Field<'_, u32>
     only(pin <= len, len, rest)
 }
 
-// The first stops of a route.
-fn front(alloc: Global, stops: &[u32], len: u32) -> Result<Route, OutOfMemory>
+// Returns the first `len` stops of a route.
+fn first_stops(alloc: Global, stops: &[u32], len: u32) -> Result<Route, OutOfMemory>
     requires { len ≤ length stops.now }
-    ensures { IfOk result (λ front. front ≡ take len stops.now) }
+    ensures { IfOk result (λ first_stops. first_stops ≡ take len stops.now) }
 {
-    let front = Vec::from_slice(alloc, &stops[..len as usize])?;
-    Ok(Route::from(front))
+    let first_stops = Vec::from_slice(alloc, &stops[..len as usize])?;
+    Ok(Route::from(first_stops))
 }
 
 #[tactic(auto, unfolding(crate::specs::Reading::vehicle_at))]
@@ -56,8 +56,8 @@ fn vehicle_at(alloc: Global, version: Version, bytes: &[u8]) -> Field<'_, (Route
     let (pin, rest) = number_at(version, bytes)?;
     let (len, rest) = route_len_at(version, pin, rest)?;
     let (stops, rest) = stops_at(alloc, version, len, rest)?;
-    let front = front(alloc, stops.as_slice(), pin)?;
-    Ok(((front, stops), rest))
+    let first_stops = first_stops(alloc, stops.as_slice(), pin)?;
+    Ok(((first_stops, stops), rest))
 }
 
 #[tactic(auto, unfolding(crate::specs::Reading::route_at))]
@@ -68,7 +68,7 @@ fn route_at(alloc: Global, version: Version, bytes: &[u8]) -> Field<'_, Route>
     stops_at(alloc, version, len, rest)
 }
 
-// One vehicle more: its pin and its route.
+// Reads one more vehicle: its pin and its route.
 fn next_vehicle<'a>(
     alloc: Global,
     version: Version,
@@ -84,7 +84,7 @@ fn next_vehicle<'a>(
     Ok(((pins, routes), rest))
 }
 
-/// The pins and the routes of so many vehicles.
+/// Reads the pins and the routes of this many vehicles.
 pub(crate) fn vehicles_at(
     alloc: Global,
     version: Version,
@@ -103,7 +103,7 @@ pub(crate) fn vehicles_at(
     )
 }
 
-// One route more.
+// Reads one more route.
 fn next_route<'a>(
     alloc: Global,
     version: Version,
@@ -118,7 +118,7 @@ fn next_route<'a>(
     Ok((routes, rest))
 }
 
-/// So many routes without pins.
+/// Reads this many routes without pins.
 pub(crate) fn routes_at(
     alloc: Global,
     version: Version,

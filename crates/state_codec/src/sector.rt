@@ -1,4 +1,4 @@
-//! A sector that is written from its front.
+//! A sector that is filled from its start.
 ghost use Rattle.std.specs.Prelude.{◌≡◌, ◌≤◌, ◌+◌, [], ◌∷◌, ◌++◌, length};
 ghost use Rattle.state_codec.specs.Bytes.{number_bytes, signed_bytes, count_bytes, padded, width};
 ghost use Rattle.state_codec.specs.Limits.{HasRoom};
@@ -6,7 +6,7 @@ ghost use Rattle.state_codec.specs.Limits.{HasRoom};
 use crate::version::Version;
 use std::marker::Model;
 
-/// Contracts see what is written so far. Zeros follow it.
+/// A sector. Its value in contracts is the written part; zeros follow it.
 #[derive(Drop)]
 pub(crate) struct Sector {
     bytes: [u8; 512],
@@ -96,7 +96,7 @@ impl Sector {
         self.put(&n.to_be_bytes());
     }
 
-    /// A number that the version has room for.
+    /// Writes a number that fits into the bytes of the version.
     pub(crate) fn put_count(&mut self, version: Version, n: u32)
         requires space { length self.old + width version ≤ 512 }
         requires fits { HasRoom version n }

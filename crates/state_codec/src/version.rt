@@ -1,6 +1,6 @@
-//! The two forms of a store's bytes.
+//! The two versions of the store format.
 
-/// Which of the two forms of a store the bytes are of.
+/// A version of the store format.
 #[derive(Clone, Copy, Debug, PartialEq, Eq)]
 pub enum Version {
     One,

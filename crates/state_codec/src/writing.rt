@@ -1,11 +1,11 @@
-//! A state as bytes.
+//! Encoding states.
 ghost use Rattle.std.specs.Prelude.{◌≡◌, ◌≤◌, ◌<◌, ◌^◌, ◌++◌, ◌∷◌, [], All, length, OnOk, IfOk};
 ghost use Rattle.state_codec.specs.declared.version.Version.TheVariants.{Two};
 ghost use Rattle.state_codec.specs.Bytes.{number_bytes, signed_bytes, stop_bytes, request_bytes, requests_bytes, stops_bytes, vehicles_bytes, routes_bytes, depot_bytes, kind_code, head_bytes, job_bytes, state_bytes};
 
-use command_core::{Job, State};
+use command_types::{Job, State};
 use indexmap::IndexMap;
-use plan_types::{Kind, OutOfMemory, Problem, Request, Route, Stop, numbers_are_below_the_next};
+use plan_types::{Kind, OutOfMemory, Problem, Request, Route, Stop, numbers_are_below_next_number};
 use std::alloc::Global;
 
 #[tactic(auto, unfolding(crate::specs::Bytes::number_bytes))]
@@ -171,7 +171,7 @@ fn put_limits(out: &mut Vec<u8>, problem: &Problem) -> Result<(), OutOfMemory>
     put_u32(out, problem.next_number)
 }
 
-// What stands before the requests.
+// Writes the part of a state before its requests: the head.
 fn put_head(out: &mut Vec<u8>, job: &Job) -> Result<(), OutOfMemory>
     ensures { OnOk result (out.new.items ≡ out.old.items ++ head_bytes Two job.now) }
 {
@@ -187,8 +187,9 @@ fn put_head(out: &mut Vec<u8>, job: &Job) -> Result<(), OutOfMemory>
 fn put_job(out: &mut Vec<u8>, job: &Job) -> Result<(), OutOfMemory>
     ensures { OnOk result (out.new.items ≡ out.old.items ++ job_bytes Two job.now) }
 {
-    // No number stands in two places of a plan or of its requests, and each is below the next one, so lengths are small.
-    numbers_are_below_the_next();
+    // No number occurs twice in a plan or in its requests, and each is below the next one, so all lengths are
+    // small.
+    numbers_are_below_next_number();
     let problem = &job.problem;
     put_head(out, job)?;
     put_u32(out, problem.requests.len() as u32)?;
@@ -198,7 +199,7 @@ fn put_job(out: &mut Vec<u8>, job: &Job) -> Result<(), OutOfMemory>
     Ok(())
 }
 
-/// The bytes of a state.
+/// Encodes a state.
 pub fn encode_state(alloc: Global, state: &State) -> Result<Vec<u8>, OutOfMemory>
     ensures bytes { IfOk result (λ bytes. bytes.items ≡ state_bytes Two state.now) }
 {

@@ -1,10 +1,10 @@
-//! What several crates of tests and programs share: the text of an instance, and routes as one list.
+//! Examples that several crates of tests and programs share: the text of an instance, and routes as one list.
 #![tactic(auto)]
 
 use plan_types::{OutOfMemory, Route, Routes};
 use std::alloc::Global;
 
-/// Three customers, of which a vehicle can serve two. The least distance of a plan is 30.
+/// Three customers, two of whom one vehicle can serve. The least distance of a plan is 30.
 pub const THREE_CUSTOMERS: &[u8] = b"NAME : t3
 TYPE : CVRP
 DIMENSION : 4
@@ -26,7 +26,7 @@ DEPOT_SECTION
 EOF
 ";
 
-/// The routes of these stops, each ended by a 0.
+/// Returns the routes of these stops, each ended by a 0.
 pub fn routes_of(alloc: Global, stops: &[u32]) -> Result<Routes, OutOfMemory> {
     let mut routes = Routes::new(alloc);
     let mut route = Route::new(alloc);

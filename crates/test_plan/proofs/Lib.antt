@@ -1,4 +1,4 @@
 -- The lemma files, which other crates may cite.
 pub mod LiveLemmas
-pub mod RiseLemmas
+pub mod AscendingLemmas
 pub mod TableLemmas

@@ -1,13 +1,13 @@
--- Stops that a loop finds to be live and to stand once each.
+-- If a loop finds all stops known and distinct, they are.
 use Rattle.std.proofs.Common.{◌≡◌, ℕ, ◌<◌, Bool, true, false, List, [], ◌∷◌, length, refl, arith}
 use Rattle.std.specs.Prelude.{◌&&◌, ◌||◌, is_some, nat_eq, not}
 use Rattle.std.specs.List.{AllByRecursion, IsDistinct, list_any}
 use Rattle.std.proofs.lemmas.Bool.{and_parts}
 use Rattle.std.proofs.lemmas.List.Elements.{All-from_recursion}
 use Rattle.plan_types.specs.Instance.{Instance, stop_at}
-use Rattle.route_sched.specs.Route.{AreLiveOnce, IsLive}
+use Rattle.route_sched.specs.Route.{AreDistinctStops, IsKnownStop}
 
--- each of the numbers is live, and none behind it is the same
+-- each of the numbers belongs to a stop, and none after it is the same
 abbrev pub live_once : Instance → List ℕ → Bool
 live_once p [] = true
 live_once p (n ∷ ns) = is_some (stop_at p n) && (not (list_any (nat_eq n) ns) && live_once p ns)
@@ -23,7 +23,7 @@ others n (k ∷ ns) none = by (nat_eq n k) refl none (others n ns)
     by false is rest more = (is, more rest)
 
 record Holds (p : Instance) (ns : List ℕ) : Type 0 where
-  live : AllByRecursion (IsLive p) ns
+  live : AllByRecursion (IsKnownStop p) ns
   distinct : IsDistinct nat_eq ns
 
 holds : (p : Instance) (ns : List ℕ) → live_once p ns ≡ true → Holds p ns
@@ -35,10 +35,10 @@ holds p (n ∷ ns) is =
     let more = holds p ns rest.1 in
     record { live = (both.0, more.live); distinct = (others n ns rest.0, more.distinct) }
 
-pub is_live_once : (p : Instance) (ns : List ℕ) → live_once p ns ≡ true → AreLiveOnce p ns
-is_live_once p ns is = let found = holds p ns is in record { live = All-from_recursion (IsLive p) ns found.live; distinct = found.distinct }
+pub is_live_once : (p : Instance) (ns : List ℕ) → live_once p ns ≡ true → AreDistinctStops p ns
+is_live_once p ns is = let found = holds p ns is in record { live = All-from_recursion (IsKnownStop p) ns found.live; distinct = found.distinct }
 
--- at the end none is left
+-- if no numbers are left, all have passed
 pub none_left : (p : Instance) (ns : List ℕ) → length ns < 1 → live_once p ns ≡ true
 none_left p [] h = refl
 none_left p (n ∷ ns) h = absurd (omega arith)

@@ -1,4 +1,4 @@
--- What the examples ask of a route before they make its table.
+-- The conditions on a route that the examples check before they build its table.
 use Rattle.std.proofs.Common.{◌≡◌, ℕ, ◌+◌, ◌-◌, ◌<◌, ◌≤◌, ◌≤ℤ◌, ◌⊎◌, pos, List, get_or, length, sym, ap, ◌∙◌, arith, subst, inl, inr}
 use Rattle.std.proofs.lemmas.Bool.{cases_lt}
 use Rattle.std.proofs.lemmas.List.{get_or_default}
@@ -8,17 +8,17 @@ use Rattle.plan_types.specs.declared.requests.Kind.{Kind}
 use Rattle.plan_types.specs.declared.requests.Kind.TheVariants.{LiLim}
 use Rattle.route_sched.specs.Route.{place}
 use Rattle.route_sched.specs.Schedule.{start, load}
-use Rattle.route_sched.specs.Visiting.{visits_from, visit_after}
+use Rattle.route_sched.specs.VisitList.{visits_from, visit_after}
 use Rattle.route_sched.specs.declared.visits.Visit.{Visit}
-use Rattle.route_sched.proofs.LiveStops.{place-return}
-use Rattle.slack_tables.specs.Course.{Course, course_of, route_of, IsCourseIn}
+use Rattle.route_sched.proofs.KnownStops.{place-return}
+use Rattle.slack_tables.specs.Course.{Course, course_of, course_route, IsCourseIn}
 use Rattle.slack_tables.specs.Insertion.{KeepsLimits}
 
 -- the load and the start keep their limits at this place
 abbrev pub Keeps : Kind → ℕ → Visit → Type 0
 Keeps kind capacity v = (v.load ≤ℤ pos capacity) × (kind ≡ LiLim → v.start ≤ v.stop.latest)
 
--- so at the first n places
+-- the load and the start keep their limits at the first n places
 abbrev pub KeepTo : Kind → ℕ → List Visit → ℕ → Type 0
 KeepTo kind capacity visits n = (k : ℕ) (d : Visit) → k < n → Keeps kind capacity (get_or visits k d)
 
@@ -32,7 +32,7 @@ keep-more kind capacity visits n e before within here k d h = by (cases_lt k n)
         let same : n ≡ k = omega arith in
         subst (λ i. Keeps kind capacity (get_or visits i d)) same (subst (Keeps kind capacity) (get_or_default visits n e d within) here)
 
--- where each visit keeps the limits, the route does
+-- if each visit keeps the limits, the route does
 module _ (p : Instance) (route : List ℕ) (visits : List Visit) (is : visits ≡ visits_from p route 0) (keep : KeepTo p.kind p.capacity visits (length visits)) where
   seen : (i : ℕ) → i ≤ length route → Keeps p.kind p.capacity (visit_after p route i)
   seen i h =
@@ -53,6 +53,6 @@ module _ (p : Instance) (route : List ℕ) (visits : List Visit) (is : visits �
         subst (λ s. start p route (length route + 1) ≤ s.latest) (place-return p route (length route) (omega arith)) ((seen (length route) (omega arith)).1 lilim);
   }
 
--- a table that `build` gives is one of this problem
-pub built-is : (p : Instance) (route : List ℕ) (c : Course) → c ≡ course_of p route → route_of c ≡ route → IsCourseIn p c
+-- a table that `build` returns belongs to this problem
+pub built-is : (p : Instance) (route : List ℕ) (c : Course) → c ≡ course_of p route → course_route c ≡ route → IsCourseIn p c
 built-is p route c course numbers = ap (course_of p) numbers ∙ sym course

@@ -1,12 +1,13 @@
-//! In reading order: `builders` (what the examples share), `problems`, `plans`, `distances`, `schedules`, `audits`,
-//! `tables`; `slow`, a plain slow auditor that is run beside the real one, over the plans of `words`.
+//! The test modules, in reading order: `builders` (shared by the examples), `problems`, `plans`, `distances`,
+//! `schedules`, `audits`, `tables`. `slow` is a plain and slow auditor that runs beside the real one, on the
+//! plans of `random_cases`.
 
 mod audits;
 mod builders;
 mod distances;
 mod plans;
 mod problems;
+mod random_cases;
 mod schedules;
 mod slow;
 mod tables;
-mod words;

@@ -1,17 +1,17 @@
-//! Tests alone: worked examples over the public functions of `best_known`, `command_text` and `command_serving`,
-//! which have no tests of their own, where the program can't be asked from outside.
+//! Tests only: worked examples for public functions of `auditor_cli`, `command_text` and `command_server`, in
+//! cases that can't be tested through the program. These crates have no tests of their own.
 //!
-//! Values come from outside. Proved is nothing beyond that no step fails. What the program answers to words, files and
-//! lines is asked of the built program by `tests/program.py`, and by `run_words`.
+//! The expected values come from outside the project. Nothing is proved except that no step panics.
+//! `tests/program.py` and `cli_tests` test the built program: its answers to arguments, files and commands.
 //!
-//! In reading order: `lines`, `strict`, `ends`, `gaps`.
+//! Modules, in reading order: `lines`, `strict`, `terminal`, `comparisons`.
 #![tactic(auto)]
 
 #[cfg(test)]
-mod ends;
-#[cfg(test)]
-mod gaps;
+mod comparisons;
 #[cfg(test)]
 mod lines;
 #[cfg(test)]
 mod strict;
+#[cfg(test)]
+mod terminal;

@@ -1,19 +1,20 @@
-//! Lines of `run` and answers of `command_text` that can't be had from outside: numbers at the limits of what is read, above
-//! those that the program carries out, and answers to faults that no small input has.
+//! Commands of `run` and answers of `command_text` that can't be tested through the program: numbers at the
+//! limits of the parser, above those that the program can execute, and answers to faults that no small input
+//! has.
 
 use command_core::Command;
-use command_text::{Answer, Asked, Goal, read_line};
+use command_text::{Answer, ParsedCommand, StepRequest, read_line};
 use instance_read::{ReadFault, ReadFaultKind};
 use std::process::Abort;
 use std::test::Fail;
 
-fn goal_of(line: &[u8]) -> Option<Goal> {
-    let asked = read_line(line);
-    let goal = match &asked {
-        Asked::Steps(goal) => Some(*goal),
+fn goal_of(line: &[u8]) -> Option<StepRequest> {
+    let read_calls = read_line(line);
+    let goal = match &read_calls {
+        ParsedCommand::Steps(goal) => Some(*goal),
         _ => None,
     };
-    drop(asked);
+    drop(read_calls);
     goal
 }
 
@@ -21,13 +22,13 @@ const GREATEST_STEP: u64 = 1_152_921_504_606_846_976;
 
 #[test]
 fn reads_as_many_steps_as_there_are(rt: HostRuntime) {
-    assert!(rt; goal_of(b"search 1000000000") == Some(Goal::Search(1_000_000_000)));
-    assert!(rt; goal_of(b"anneal 1000000000") == Some(Goal::Anneal(1_000_000_000)));
-    assert!(rt; goal_of(b"reduce 1000000000") == Some(Goal::Reduce(1_000_000_000)));
-    assert!(rt; goal_of(b"reach 1152921504606846976") == Some(Goal::Reach(GREATEST_STEP)));
+    assert!(rt; goal_of(b"search 1000000000") == Some(StepRequest::Search(1_000_000_000)));
+    assert!(rt; goal_of(b"anneal 1000000000") == Some(StepRequest::Anneal(1_000_000_000)));
+    assert!(rt; goal_of(b"reduce 1000000000") == Some(StepRequest::Reduce(1_000_000_000)));
+    assert!(rt; goal_of(b"reach 1152921504606846976") == Some(StepRequest::Reach(GREATEST_STEP)));
     assert!(rt;
         goal_of(b"anneal 0 1152921504606846976")
-            == Some(Goal::Stages {
+            == Some(StepRequest::Stages {
                 from: 0,
                 to: GREATEST_STEP
             })
@@ -35,16 +36,17 @@ fn reads_as_many_steps_as_there_are(rt: HostRuntime) {
 }
 
 fn deviation_of(line: &[u8]) -> Option<u32> {
-    let asked = read_line(line);
-    let deviation = match &asked {
-        Asked::Plain(Command::Deviation(deviation)) => Some(*deviation),
+    let read_calls = read_line(line);
+    let deviation = match &read_calls {
+        ParsedCommand::Plain(Command::Deviation(deviation)) => Some(*deviation),
         _ => None,
     };
-    drop(asked);
+    drop(read_calls);
     deviation
 }
 
-// What is too far for the state is refused by its command, not by the line.
+// A deviation that is too large for the state is refused when the command is executed, not when its line is
+// parsed.
 #[test]
 fn reads_a_deviation_that_is_too_far(rt: HostRuntime) {
     assert!(rt; deviation_of(b"deviation 1000000001") == Some(1_000_000_001));

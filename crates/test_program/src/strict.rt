@@ -1,22 +1,22 @@
-//! What goes through a strict writer, in parts that no program writes, and a session over a device in memory that fails:
-//! `Strict` of `command_serving`.
+//! Bytes that pass through a strict writer, in parts that the program never writes, and a session over a
+//! failing device in memory: `StrictWriter` of `command_server`.
 
 use checkpoint::{SECTORS, format};
-use command_serving::{ServeFault, Sink, Stopped, Strict, Watched, serve_source};
+use command_server::{FailedAnswer, FailureTracking, ServeFault, Sink, StrictWriter, serve_source};
 use log::sink::Discard;
 use recover::Session;
 use sector_disk::MemDevice;
 use std::alloc::Global;
 use std::test::Fail;
 
-/// What is put and handed on, and what the last whole line tells then.
-type Put = (&'static [u8], Option<Stopped>);
+/// A text that is written and flushed, and the failure that the last complete line then reports, if any.
+type WriteStep = (&'static [u8], Option<FailedAnswer>);
 
-const REFUSED: Option<Stopped> = Some(Stopped::Refused);
+const REFUSED: Option<FailedAnswer> = Some(FailedAnswer::Refused);
 
-const DEVICE_FAULT: Option<Stopped> = Some(Stopped::DeviceFault);
+const DEVICE_FAULT: Option<FailedAnswer> = Some(FailedAnswer::DeviceFault);
 
-const PUTS: [Put; 14] = [
+const WRITE_STEPS: [WriteStep; 14] = [
     (b"", None),
     (b"ok\n", None),
     (b"no Range\n", REFUSED),
@@ -33,38 +33,42 @@ const PUTS: [Put; 14] = [
     (b"fault device", REFUSED),
 ];
 
-// Whether the text is taken, and the writer tells what its last whole line says.
-fn tells(writer: &mut Strict<Vec<u8>>, session: &Session<MemDevice>, put: &Put) -> bool {
+// Returns whether the text is accepted, and the writer then reports this failure.
+fn reports(
+    writer: &mut StrictWriter<Vec<u8>>,
+    session: &Session<MemDevice>,
+    put: &WriteStep,
+) -> bool {
     let (text, stopped) = *put;
     let is_taken = writer.put(session, text).is_ok();
     let is_flushed = Sink::flush(writer, session).is_ok();
     is_taken
         && is_flushed == stopped.is_none()
-        && writer.stopped() == stopped
+        && writer.failed_answer() == stopped
         && !writer.has_failed()
 }
 
-// The place of the first text behind which something else is told.
-fn first_wrong(alloc: Global, session: &Session<MemDevice>, puts: &[Put]) -> Option<usize> {
-    let mut writer = Strict::new(Watched::new(Vec::new(alloc)));
+// Returns the index of the first text after which the writer does not report the expected failure.
+fn first_wrong(alloc: Global, session: &Session<MemDevice>, puts: &[WriteStep]) -> Option<usize> {
+    let mut writer = StrictWriter::new(FailureTracking::new(Vec::new(alloc)));
     for index in 0..puts.len() {
-        if !tells(&mut writer, session, &puts[index]) {
+        if !reports(&mut writer, session, &puts[index]) {
             return Some(index);
         }
     }
     None
 }
 
-fn first_wrong_put(alloc: Global) -> Result<Option<usize>, Fail> {
+fn first_wrong_step(alloc: Global) -> Result<Option<usize>, Fail> {
     let session = opened(alloc, new_device(alloc)?).ok_or("a session")?;
-    let wrong = first_wrong(alloc, &session, &PUTS);
+    let wrong = first_wrong(alloc, &session, &WRITE_STEPS);
     drop(session);
     Ok(wrong)
 }
 
 #[test]
-fn tells_the_last_line(rt: HostRuntime) -> Result<(), Fail> {
-    assert!(rt; first_wrong_put(rt.alloc())?.is_none());
+fn reports_the_last_line(rt: HostRuntime) -> Result<(), Fail> {
+    assert!(rt; first_wrong_step(rt.alloc())?.is_none());
     Ok(())
 }
 
@@ -78,20 +82,20 @@ pub(crate) fn opened(alloc: Global, device: MemDevice) -> Option<Session<MemDevi
     Some(Session::open(alloc, device).ok()?.session)
 }
 
-/// What came of an input.
+/// The result of serving an input.
 #[derive(Drop)]
-struct Served {
+struct ServeResult {
     text: Vec<u8>,
     fault: Option<ServeFault>,
-    stopped: Option<Stopped>,
+    stopped: Option<FailedAnswer>,
 }
 
-fn serve_strictly(alloc: Global, session: &mut Session<MemDevice>, input: &[u8]) -> Served {
+fn serve_strictly(alloc: Global, session: &mut Session<MemDevice>, input: &[u8]) -> ServeResult {
     let mut reader: &[u8] = input;
-    let mut writer = Strict::new(Watched::new(Vec::new(alloc)));
+    let mut writer = StrictWriter::new(FailureTracking::new(Vec::new(alloc)));
     let fault = serve_source(&Discard, alloc, session, &mut reader, &mut writer).err();
-    let stopped = writer.stopped();
-    Served {
+    let stopped = writer.failed_answer();
+    ServeResult {
         text: writer.into_inner().into_inner(),
         fault,
         stopped,
@@ -101,8 +105,8 @@ fn serve_strictly(alloc: Global, session: &mut Session<MemDevice>, input: &[u8])
 const ONE_PAIR: &[u8] =
     b"load lilim 0 66\n1 10 1\n0 0 0 0 0 100 0 0 0\n1 1 1 1 0 50 0 0 2\n2 1 1 -1 0 50 0 1 0\nbuild\nnext\n";
 
-// What comes of the pair over a store whose device fails at the first call behind the opening.
-fn served_by_a_faulty_device(alloc: Global) -> Result<Served, Fail> {
+// Returns the result of serving `ONE_PAIR` over a store whose device fails at the first call after the opening.
+fn serve_on_faulty_device(alloc: Global) -> Result<ServeResult, Fail> {
     let mut device = new_device(alloc)?;
     for calls in 0..64 {
         device.fail_once(calls);
@@ -120,8 +124,8 @@ fn served_by_a_faulty_device(alloc: Global) -> Result<Served, Fail> {
 }
 
 #[test]
-fn ends_behind_a_failed_device(rt: HostRuntime) -> Result<(), Fail> {
-    let served = served_by_a_faulty_device(rt.alloc())?;
+fn ends_after_a_device_fault(rt: HostRuntime) -> Result<(), Fail> {
+    let served = serve_on_faulty_device(rt.alloc())?;
     assert!(rt; served.text.as_slice() == b"fault device\n".as_slice());
     assert!(rt; served.fault == Some(ServeFault::WriteFault) && served.stopped == DEVICE_FAULT);
     Ok(())

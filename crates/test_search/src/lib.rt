@@ -1,10 +1,12 @@
-//! Tests alone: worked examples over the public functions of `move_ops`, `seeded_search`, `anneal_search`, `anneal_stages`
-//! and `command_core`, which have no tests of their own.
+//! Tests: worked examples for the public functions of `move_ops`, `seeded_search`, `anneal_search`,
+//! `annealing_schedule` and `command_core`, which have no tests of their own.
 //!
-//! They are the words of first and late steps, by RFC 8439 and by another program, picks, and what steps find; each
-//! move, where it gives a plan and where none; refusals that no line of the program meets; and moves and commands at the
-//! largest size. Proved is nothing beyond that no step fails. States after commands, and the other refusals, are asked of
-//! the built program by `tests/program.py`.
+//! They check the random words of the first and of late steps against RFC 8439 and another program, and the
+//! choices and plans that follow from them. They check each move, with a resulting plan and without one,
+//! refusals that no command of the program meets, and moves and commands at the largest size.
+//! `tests/program.py` checks states after commands, and the other refusals, with the built program.
+//!
+//! Proved: only that no step fails.
 #![tactic(auto)]
 
 #[cfg(test)]

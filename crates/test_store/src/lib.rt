@@ -1,7 +1,7 @@
-//! Tests of `sector_disk`, `state_codec`, `checkpoint` and `recover`, which have none of their own: worked examples of their
-//! public functions, with bytes, counts and faults that are written by hand.
+//! Tests of `sector_disk`, `state_codec`, `checkpoint` and `recover`: worked examples over their public
+//! functions, with bytes, counts and faults that are written by hand. These crates have no tests of their own.
 //!
-//! Proved is that no step of them fails and no `requires` is broken.
+//! About the tests themselves it is only proved that no step fails and no `requires` is broken.
 #![tactic(auto)]
 
 #[cfg(test)]

@@ -1,12 +1,12 @@
-//! What is tested:
-//! - `builders`: sectors, states as bytes and stores, for all that follow
+//! The test modules, in reading order:
+//! - `builders`: sectors, states as bytes and stores, for all other modules
 //! - `devices`, `files`: a device in memory, and one over a file
 //! - `codecs`: states and records as bytes
-//! - `checkpoints`: what a device holds
-//! - `recoveries`: sessions, stops and opening
-//! - `rounds`: a store that is stopped and opened again and again
-//! - `restarts`: the same with kills, and with openings that fail
-//! - `upgrades`: stores of version 1, taken over
+//! - `checkpoints`: the contents of a device
+//! - `recoveries`: sessions, crashes and recovery
+//! - `rounds`: a store that crashes and is opened again and again
+//! - `restarts`: rounds with kills, and with openings that fail
+//! - `upgrades`: upgrades of stores of version 1
 
 mod builders;
 mod checkpoints;

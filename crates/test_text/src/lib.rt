@@ -1,9 +1,10 @@
-//! Tests alone: worked examples over the public functions of `text_lines`, `instance_read`, `instance_text`, `sol_text`,
-//! `told_text`, `plan_explain`, `plan_timetable` and `plan_picture`, which have no tests of their own. Most of what is said to a user is
-//! compared by tests/texts.py, since such long texts are slow to prove.
+//! Tests of `text_lines`, `instance_read`, `instance_text`, `sol_text`, `text_buffer`, `plan_explain`,
+//! `plan_timetable` and `plan_picture`: worked examples over their public functions. These crates have no tests
+//! of their own. `tests/texts.py` compares most of the printed texts, since such long texts are slow to prove.
 //!
-//! Answers were worked out by hand; faults are told with their lines; some texts have the most stops, 40,000. Proved is
-//! nothing beyond that no step fails.
+//! The expected answers were worked out by hand. Faults are checked with the numbers of their lines. Some
+//! inputs have 40,000 stops, the greatest number. About the tests themselves it is only proved that no step
+//! fails.
 #![tactic(auto)]
 
 #[cfg(test)]

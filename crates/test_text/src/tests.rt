@@ -1,6 +1,7 @@
-//! In reading order: `builders` (what the examples share), `lines`, `instances`, `solutions`, `explanations`,
-//! `told`, `timetables`, `pictures`, `written`.
+//! The test modules, in reading order: `builders` (shared by the examples), `lines`, `instances`, `solutions`,
+//! `explanations`, `buffers`, `timetables`, `pictures`, `writing`.
 
+mod buffers;
 mod builders;
 mod explanations;
 mod instances;
@@ -8,5 +9,4 @@ mod lines;
 mod pictures;
 mod solutions;
 mod timetables;
-mod told;
-mod written;
+mod writing;

@@ -1,4 +1,4 @@
--- A number from its parts, and its parts from it.
+-- The value of a number from its parts, and the parts from the number.
 use Rattle.std.proofs.Common.{◌≡◌, ℕ, zero, suc, true, false, inl, inr, List, [], ◌∷◌, ◌++◌, length, take, drop, Option, Some, None, ℤ, refl, sym, ap, ◌∙◌, arith, eqb, option_map}
 use Rattle.std.specs.Prelude.{◌&&◌, nat_lt, replicate}
 use Rattle.std.specs.Char.{is_ascii_digit}
@@ -9,14 +9,14 @@ use Rattle.std.proofs.lemmas.Bool.Decides.{eqb_tells}
 use Rattle.std.proofs.lemmas.List.{drop_at, length-take, take-append-drop, take_at}
 use Rattle.std.proofs.lemmas.List.Sums.{prefix_len-le-length}
 use Rattle.std.proofs.lemmas.Option.{cond_some}
-use Rattle.text_lines.specs.Numbers.{AreNumbers, IsNumber, IsSign, IsZeroFraction, is_digits, is_zero, is_zero_fraction, number_of, signed, whole_of}
+use Rattle.text_lines.specs.Numbers.{NumbersFollowGrammar, IsNumber, IsSign, IsZeroFraction, is_digits, is_zero, is_zero_fraction, number_of, signed, whole_of}
 use Rattle.text_lines.proofs.NumberLemmas.{digit_bounds, digits_some, is_digits-front, whole_of-some}
 
 mapped_some : {X Y : Type 0} (f : X → Y) (o : Option X) (y : Y) → option_map f o ≡ Some y → (x : X) × (o ≡ Some x) × (f x ≡ y)
 mapped_some f None y is = absurd (cc)
 mapped_some f (Some x) y is = (x, refl, cc)
 
--- ---- zeros behind a point
+-- ---- zeros after a point
 all_zeros : (zeros : List ℕ) → list_all is_zero zeros ≡ true → zeros ≡ replicate (length zeros) 48
 all_zeros [] is = refl
 all_zeros (b ∷ zeros) is =
@@ -97,7 +97,7 @@ whole_from_parts digits fraction are is =
     ∙ ap (λ k. Some (digits_value 10 (take k body))) len
     ∙ ap (λ ds. Some (digits_value 10 ds)) (take_at digits fraction (length digits) refl)
 
--- digits begin with no sign
+-- digits do not begin with a sign
 bare : (digits rest : List ℕ) → is_digits digits ≡ true
     → (starts_with_minus (digits ++ rest) ≡ false) × (without_leading_sign (digits ++ rest) ≡ digits ++ rest)
 unfolding is_digits
@@ -126,5 +126,5 @@ word_from_number word number is =
     ∙ ap (option_map (signed (starts_with_minus is.sign))) (whole_from_parts is.digits is.fraction is.are_digits is.is_fraction)
     ∙ ap (λ z. Some z) (sym is.value)
 
-pub are_numbers : AreNumbers
+pub are_numbers : NumbersFollowGrammar
 are_numbers word number = (number_from_word word number, word_from_number word number)

@@ -1,4 +1,4 @@
--- The laws of lines, words and numbers.
+-- Proofs of the laws about lines, words and numbers.
 use Rattle.std.proofs.Common.{
   ◌≡◌,
   ℕ,
@@ -45,9 +45,9 @@ use Rattle.std.proofs.lemmas.List.Sums.{prefix_len-le-length, fails_before_first
 use Rattle.std.proofs.lemmas.Str.Parse.{digit_at}
 use Rattle.std.proofs.lemmas.Bool.{and_from, and_parts, cases_lt, le-leb}
 use Rattle.text_lines.proofs.NumberLemmas.{front_passes, is_digits-all, digits_of-yes, number_of-digits}
-use Rattle.text_lines.specs.Lines.{lines_of, pieces_of, ended, AreCutAtLineFeeds, HasNoFeed, EndAtFeeds, EndWithText, IsCutAtLineFeeds}
-use Rattle.text_lines.specs.Words.{is_blank, is_blank_line, words_of, IsWord, EndsWord, IsMadeOf}
-use Rattle.text_lines.specs.Numbers.{digits_of, is_digits, number_of, AreRead}
+use Rattle.text_lines.specs.Lines.{lines_of, pieces_of, with_line_feed, TextSplitsIntoLines, HasNoLineFeed, LinesEndAtFeeds, LastLineEndsWithText, IsCutAtLineFeeds}
+use Rattle.text_lines.specs.Words.{is_blank, is_blank_line, words_of, IsWord, EndsWord, ConsistsOfWords}
+use Rattle.text_lines.specs.Numbers.{digits_of, is_digits, number_of, DecimalsParseBack}
 use Rattle.text_lines.proofs.PieceLemmas.{nil_feed, pieces_are_cut, pieces_at, pieces_nil, pieces_whole, lines_from_pieces}
 use Rattle.text_lines.proofs.WordLemmas.{words_of-word, words_of-trim, words_of-none, front_no_blank, words_blank, words_nil, words_of-front}
 
@@ -56,12 +56,12 @@ pub drop_after : (xs : List ℕ) (y : ℕ) (ys : List ℕ) → drop (suc (length
 drop_after [] y ys = refl
 drop_after (x ∷ xs) y ys = drop_after xs y ys
 
--- no feed at a place
-no_feed_at : (piece : List ℕ) → HasNoFeed piece → (j : ℕ) → j < length piece → get_or piece j 0 ≡ 10 → ⊥
+-- no place has a line feed
+no_feed_at : (piece : List ℕ) → HasNoLineFeed piece → (j : ℕ) → j < length piece → get_or piece j 0 ≡ 10 → ⊥
 no_feed_at piece none j h here = none (j, h, get_or_default piece j 10 0 h ∙ here)
 
--- the first piece, where a line feed ends it
-cut_first : (piece rest : List ℕ) → HasNoFeed piece → pieces_of (piece ++ 10 ∷ rest) ≡ piece ∷ pieces_of rest
+-- the first piece, if a line feed ends it
+cut_first : (piece rest : List ℕ) → HasNoLineFeed piece → pieces_of (piece ++ 10 ∷ rest) ≡ piece ∷ pieces_of rest
 cut_first piece rest none =
     let text = piece ++ 10 ∷ rest in
     let n = length piece in
@@ -70,49 +70,49 @@ cut_first piece rest none =
     ∙ ap (λ p. p ∷ pieces_of (drop (suc n) text)) (take_at piece (10 ∷ rest) n refl)
     ∙ ap (λ r. piece ∷ pieces_of r) (drop_after piece 10 rest)
 
-pub end_at_feeds : EndAtFeeds
+pub end_at_feeds : LinesEndAtFeeds
 end_at_feeds piece rest none = lines_from_pieces (piece ++ 10 ∷ rest) piece rest (cut_first piece rest none)
 
-pub end_with_text : EndWithText
+pub end_with_text : LastLineEndsWithText
 unfolding lines_of
 end_with_text piece none some = ap (λ ps. map strip_carriage_return ps) (pieces_whole piece some (no_feed_at piece none))
 
 -- pieces that end at line feeds end with one
-ends_with_feed : (p : List ℕ) (ps : List (List ℕ)) → (text : List ℕ) × (flat_map ended (p ∷ ps) ≡ text ++ 10 ∷ [])
+ends_with_feed : (p : List ℕ) (ps : List (List ℕ)) → (text : List ℕ) × (flat_map with_line_feed (p ∷ ps) ≡ text ++ 10 ∷ [])
 ends_with_feed p [] = (p, append-nil (p ++ 10 ∷ []))
 ends_with_feed p (q ∷ ps) = more (ends_with_feed q ps)
   where
-    more : ((text : List ℕ) × (flat_map ended (q ∷ ps) ≡ text ++ 10 ∷ [])) → (text : List ℕ) × (flat_map ended (p ∷ q ∷ ps) ≡ text ++ 10 ∷ [])
+    more : ((text : List ℕ) × (flat_map with_line_feed (q ∷ ps) ≡ text ++ 10 ∷ [])) → (text : List ℕ) × (flat_map with_line_feed (p ∷ q ∷ ps) ≡ text ++ 10 ∷ [])
     more (text, is) = ((p ++ 10 ∷ []) ++ text, ap (λ t. (p ++ 10 ∷ []) ++ t) is ∙ sym (append_assoc (p ++ 10 ∷ []) text (10 ∷ [])))
 
 pieces_from_cut : (pieces : List (List ℕ)) (text : List ℕ) → IsCutAtLineFeeds text pieces → pieces_of text ≡ pieces
 pieces_from_cut [] text (none, inl is) = ap pieces_of (sym is) ∙ pieces_nil
 pieces_from_cut [] text (none, inr (is, last)) = absurd (nil_feed text is)
 pieces_from_cut (p ∷ ps) text (none, inl is) =
-    let rest = flat_map ended ps in
+    let rest = flat_map with_line_feed ps in
     ap pieces_of (sym is ∙ append_assoc p (10 ∷ []) rest)
-    ∙ cut_first p rest (All-head HasNoFeed p ps none)
-    ∙ ap (λ qs. p ∷ qs) (pieces_from_cut ps rest (All-tail HasNoFeed p ps none, inl refl))
+    ∙ cut_first p rest (All-head HasNoLineFeed p ps none)
+    ∙ ap (λ qs. p ∷ qs) (pieces_from_cut ps rest (All-tail HasNoLineFeed p ps none, inl refl))
 pieces_from_cut (p ∷ []) text (none, inr (is, last)) =
     let same : p ≡ text = append_cancel_right p text (10 ∷ []) (sym (append-nil (p ++ 10 ∷ [])) ∙ is) in
-    ap pieces_of (sym same) ∙ pieces_whole p last (no_feed_at p (All-head HasNoFeed p [] none))
+    ap pieces_of (sym same) ∙ pieces_whole p last (no_feed_at p (All-head HasNoLineFeed p [] none))
 pieces_from_cut (p ∷ q ∷ ps) text (none, inr (is, last)) = by_rest (ends_with_feed q ps) (λ rest. pieces_from_cut (q ∷ ps) rest)
   where
-    by_rest : ((rest : List ℕ) × (flat_map ended (q ∷ ps) ≡ rest ++ 10 ∷ [])) → ((rest : List ℕ) → IsCutAtLineFeeds rest (q ∷ ps) → pieces_of rest ≡ q ∷ ps)
+    by_rest : ((rest : List ℕ) × (flat_map with_line_feed (q ∷ ps) ≡ rest ++ 10 ∷ [])) → ((rest : List ℕ) → IsCutAtLineFeeds rest (q ∷ ps) → pieces_of rest ≡ q ∷ ps)
         → pieces_of text ≡ p ∷ q ∷ ps
     by_rest (rest, ends) others =
         let whole : (p ++ 10 ∷ []) ++ rest ≡ text =
         append_cancel_right ((p ++ 10 ∷ []) ++ rest) text (10 ∷ [])
         (append_assoc (p ++ 10 ∷ []) rest (10 ∷ []) ∙ ap (λ t. (p ++ 10 ∷ []) ++ t) (sym ends) ∙ is) in
         ap pieces_of (sym whole ∙ append_assoc p (10 ∷ []) rest)
-        ∙ cut_first p rest (All-head HasNoFeed p (q ∷ ps) none)
-        ∙ ap (λ qs. p ∷ qs) (others rest (All-tail HasNoFeed p (q ∷ ps) none, inr (ends, last)))
+        ∙ cut_first p rest (All-head HasNoLineFeed p (q ∷ ps) none)
+        ∙ ap (λ qs. p ∷ qs) (others rest (All-tail HasNoLineFeed p (q ∷ ps) none, inr (ends, last)))
 
-pub cut_at_line_feeds : AreCutAtLineFeeds
+pub cut_at_line_feeds : TextSplitsIntoLines
 cut_at_line_feeds text pieces = (λ is. subst (IsCutAtLineFeeds text) is (pieces_are_cut text), pieces_from_cut pieces text)
 
 -- ---- words
--- blanks at the front make no word
+-- leading blanks add no word
 words_of-gap : (gap rest : List ℕ) → is_blank_line gap ≡ true → words_of (gap ++ rest) ≡ words_of rest
 words_of-gap [] rest blank = refl
 words_of-gap (b ∷ gap) rest blank =
@@ -123,8 +123,8 @@ words_of-blanks [] blank = words_nil
 words_of-blanks (b ∷ line) blank =
     let parts = and_parts (is_blank b) (list_all is_blank line) blank in words_blank b line parts.0 ∙ words_of-blanks line parts.1
 
--- what a line is made of are its words
-pub words_from_made : (words : List (List ℕ)) (line : List ℕ) → IsMadeOf line words → words_of line ≡ words
+-- the words that a line consists of are its words
+pub words_from_made : (words : List (List ℕ)) (line : List ℕ) → ConsistsOfWords line words → words_of line ≡ words
 words_from_made [] line made = words_of-blanks line made
 words_from_made (word ∷ words) line (gap, rest, whole, blank, is, ends, made) =
     ap words_of whole
@@ -132,7 +132,7 @@ words_from_made (word ∷ words) line (gap, rest, whole, blank, is, ends, made) 
     ∙ words_of-front word rest is ends
     ∙ ap (λ ws. word ∷ ws) (words_from_made words rest made)
 
--- the blanks at the front of a line, what follows them, and the length of its first word
+-- the leading blanks of a line, the rest, and the length of its first word
 abbrev gap_of : List ℕ → List ℕ
 gap_of line = take (prefix_len is_blank line) line
 
@@ -142,7 +142,7 @@ body_of line = drop (prefix_len is_blank line) line
 abbrev first_len : List ℕ → ℕ
 first_len body = position_or_len is_blank body
 
--- no word, so nothing but blanks
+-- if there is no word, there are only blanks
 all_blank : (line : List ℕ) → first_len (body_of line) ≡ 0 → is_blank_line line ≡ true
 all_blank line e =
     let n = prefix_len is_blank line in
@@ -175,8 +175,8 @@ same_head e = (cc, cc)
 nil_cons : {X : Type 0} {x : X} {xs : List X} → [] ≡ x ∷ xs → ⊥
 nil_cons e = cc
 
--- a line is made of its words
-pub made_from_words : (words : List (List ℕ)) (line : List ℕ) → words_of line ≡ words → IsMadeOf line words
+-- a line consists of its words
+pub made_from_words : (words : List (List ℕ)) (line : List ℕ) → words_of line ≡ words → ConsistsOfWords line words
 made_from_words [] line is =
     let body = body_of line in
     ⊎_elim
@@ -197,7 +197,7 @@ made_from_words (word ∷ words) line is =
     (λ none. absurd (nil_cons (sym (words_of-none line (omega arith)) ∙ is)))
     (cases_lt 0 n)
 
--- ---- the digits that print a number
+-- ---- the decimal digits of a number
 module _ (n : ℕ) (small : n < 2 ^ 64) where
   numeral : IsNumeral 10 (decimal n) × (digits_value 10 (decimal n) ≡ n)
   numeral = decimal_is_IsNumeral n small
@@ -216,5 +216,5 @@ module _ (n : ℕ) (small : n < 2 ^ 64) where
   number_of-decimal : number_of (decimal n) ≡ Some (pos n)
   number_of-decimal = number_of-digits (decimal n) is_digits-decimal ∙ ap (λ v. Some (pos v)) numeral.1
 
-pub are_read : AreRead
+pub are_read : DecimalsParseBack
 are_read n small = (is_digits-decimal n small, digits_of-decimal n small, number_of-decimal n small)

@@ -1,8 +1,8 @@
--- The lemma files, which upper crates may cite.
+-- The lemma files, which other crates may cite.
 pub mod PieceLemmas
 pub mod PlaceLemmas
 pub mod WordLemmas
 pub mod NumberLemmas
-pub mod FrontLemmas
+pub mod PrefixLemmas
 pub mod LawProofs
 pub mod GrammarProofs

@@ -1,4 +1,4 @@
--- Digits, their values, and where a number ends.
+-- Digits, their values, and the end of a number.
 use Rattle.std.proofs.Common.{
   ◌≡◌,
   ℕ,
@@ -67,7 +67,7 @@ unfolding is_digits
 digit_at [] e i l = absurd (omega arith)
 digit_at (b ∷ bs) e i l = AllPass-from_list_all is_ascii_digit (b ∷ bs) e i 0 l
 
--- more digits write no smaller number
+-- appending digits does not make the number smaller
 value_front : (xs ys : List ℕ) → digits_value 10 xs ≤ digits_value 10 (xs ++ ys)
 value_front xs ys =
     let n = number_from_digits 10 (map digit_value xs) in
@@ -81,7 +81,7 @@ value-take-le ds i =
     let P : List ℕ → Type 0 = λ xs. digits_value 10 (take i ds) ≤ digits_value 10 xs in
     subst P (take-append-drop i ds) (value_front (take i ds) (drop i ds))
 
--- all pass where the passing front is as long as the list
+-- all elements pass exactly if the longest prefix of elements that pass is the whole list
 pub list_all-prefix_len : (p : ℕ → Bool) (xs : List ℕ) → list_all p xs ≡ (prefix_len p xs == length xs)
 list_all-prefix_len p xs =
     ⊎_elim
@@ -105,7 +105,7 @@ is_digits-all (b ∷ bs) e = refl
 pub is_digits-len : (word : List ℕ) → (length word ≡ 0 → ⊥) → is_digits word ≡ (prefix_len is_ascii_digit word == length word)
 is_digits-len word e = is_digits-all word e ∙ list_all-prefix_len is_ascii_digit word
 
--- digits at the front alone make no word of digits
+-- a word that has another byte after its leading digits is not a word of digits
 pub is_digits-short : (word : List ℕ) → prefix_len is_ascii_digit word < length word → is_digits word ≡ false
 is_digits-short word less = is_digits-len word (λ e. omega (arith, e)) ∙ ne_eqb (prefix_len is_ascii_digit word) (length word) (λ e. omega (arith, e))
 
@@ -118,7 +118,7 @@ is_digits-full word some all =
     let fits = prefix_len-le-length is_ascii_digit word in
     is_digits-len word (λ e. omega (arith, e)) ∙ eq-eqb (prefix_len is_ascii_digit word) (length word) (omega arith)
 
--- the front that passes passes
+-- in the longest prefix of elements that pass, all elements pass
 pub front_passes : (p : ℕ → Bool) (text : List ℕ) → list_all p (take (prefix_len p text) text) ≡ true
 front_passes p text =
     let n = prefix_len p text in
@@ -126,7 +126,7 @@ front_passes p text =
     let before : k < n = omega (arith, length-take n text) in
     rw get_or-take (prefix_len_passes p text k d before))
 
--- the digits at the front are digits
+-- the leading digits, if there are any, are a word of digits
 pub is_digits-front : (body : List ℕ) (n : ℕ) → n ≡ prefix_len is_ascii_digit body → (length (take n body) ≡ 0 → ⊥) → is_digits (take n body) ≡ true
 is_digits-front body n same l =
     is_digits-all (take n body) l ∙ ap (λ k. list_all is_ascii_digit (take k body)) same ∙ front_passes is_ascii_digit body
@@ -142,7 +142,7 @@ pub whole_of-some : (body : List ℕ) → 0 < prefix_len is_ascii_digit body →
 unfolding whole_of
 whole_of-some body l e = cond-true _ _ _ (and_from _ _ (lt-ltb 0 (prefix_len is_ascii_digit body) l) e)
 
--- What split_at gives at n: front, the digits, and back, the others.
+-- the parts before and after place n: the digits, and the rest
 module _ (body front back : List ℕ) (n : ℕ) (len : n ≡ prefix_len is_ascii_digit body) (fronts : front ≡ take n body) (backs : back ≡ drop n body) where
   front_length : length front ≡ n
   front_length =
@@ -168,7 +168,7 @@ pub digits_of-no : (word : List ℕ) → is_digits word ≡ false → digits_of 
 unfolding digits_of
 digits_of-no word e = cond-false _ _ _ e
 
--- a number that is below a limit, and one that is not
+-- a number below the limit, and one that is not below it
 below-some : (limit n : ℕ) → n < limit → below limit (Some n) ≡ Some n
 below-some limit n h = rw (lt-ltb n limit h) refl
 
@@ -178,12 +178,12 @@ below-none limit n h = rw (le-ltb n limit h) refl
 not_below : (n limit : ℕ) → (n < limit → ⊥) → limit ≤ n
 not_below n limit never = ⊎_elim (λ (h : n < limit). absurd (never h)) (λ (h : limit ≤ n). h) (cases_lt n limit)
 
--- what `try_from` and `ok` make of a value
+-- the values that `try_from` and `ok` return
 pub below-from_OkIff : {E : Type 0} (v : ℕ) (o : Option ℕ) (r : Result ℕ E) → o ≡ result_ok r → OkIff r (v < 2 ^ 32) v → o ≡ below (2 ^ 32) (Some v)
 below-from_OkIff v o (Ok x) is h = is ∙ (ap Some h.1 ∙ sym (below-some (2 ^ 32) v h.0))
 below-from_OkIff v o (Err e) is h = is ∙ sym (below-none (2 ^ 32) v (not_below v (2 ^ 32) h))
 
--- a number that is asked to lie in 0..limit - 1
+-- a number that is checked to be in 0..limit - 1
 pub below-from_SomeIff : (limit : ℕ) (z : ℤ) (r : Option ℕ) → SomeIff r ((pos 0 ≤ℤ z) × (z <ℤ pos limit)) (unsigned_abs z) → r ≡ below limit (magnitude z)
 below-from_SomeIff limit (pos n) None never = sym (below-none limit n (not_below n limit (λ h. never (omega (arith, ints), omega (arith, ints)))))
 below-from_SomeIff limit (pos n) (Some v) is = ap Some is.1 ∙ sym (below-some limit n (omega (arith, ints)))
@@ -205,7 +205,7 @@ whole_of-digits ds e =
     whole_of-some ds (omega (arith, digits_front ds e, digits_some ds e)) (ap is_zero_fraction (drop_all n ds (omega (arith, digits_front ds e))))
     ∙ ap (λ xs. Some (digits_value 10 xs)) (take_all n ds (omega (arith, digits_front ds e)))
 
--- a word of digits is the number that they write
+-- a word of digits parses as the number that the digits write
 pub number_of-digits : (ds : List ℕ) → is_digits ds ≡ true → number_of ds ≡ Some (pos (digits_value 10 ds))
 unfolding number_of
 number_of-digits ds e =
@@ -218,7 +218,7 @@ number_of-digits ds e =
     ∙ ap (λ w. option_map (signed false) (whole_of w)) bare
     ∙ ap (option_map (signed false)) (whole_of-digits ds e)
 
--- digits with a minus before them, or without
+-- digits with or without a minus before them
 abbrev pub with_sign : Bool → List ℕ → List ℕ
 with_sign true ds = 45 ∷ ds
 with_sign false ds = ds
@@ -232,7 +232,7 @@ split_cases : (b : ℕ) (bs : List ℕ) (t : Bool) → eqb b 45 ≡ t → with_s
 split_cases b bs true e = ap (λ x. x ∷ bs) (sym (eqb-true b 45 e))
 split_cases b bs false e = refl
 
--- a text is its minus, if it begins with one, and the others
+-- a text is its leading minus, if there is one, and the rest
 pub sign_and_rest : (text : List ℕ) → with_sign (starts_with_minus text) (without_minus text) ≡ text
 sign_and_rest [] = refl
 sign_and_rest (b ∷ bs) = split_cases b bs (eqb b 45) refl
@@ -246,7 +246,7 @@ le_from a b e = grind (arith, ints)
 not_le_from : (a b : ℤ) → int_le a b ≡ false → a ≤ℤ b → ⊥
 not_le_from a b e l = grind (arith, ints)
 
--- a number that is asked to lie within limits
+-- a number that is checked to be within limits
 pub within-from_SomeIff : (least most z : ℤ) (o : Option ℤ) → SomeIff o ((least ≤ℤ z) × (z ≤ℤ most)) z → o ≡ within least most (Some z)
 within-from_SomeIff least most z o h = within_cases (int_le least z) (int_le z most) refl refl o h
   where

@@ -1,4 +1,4 @@
--- The first word of a line and the others.
+-- The first word of a line and the other words.
 use Rattle.std.proofs.Common.{
   ◌≡◌,
   ℕ,
@@ -37,11 +37,11 @@ use Rattle.std.proofs.lemmas.List.{drop_more, drop_all, take_all, length-take, g
 use Rattle.std.proofs.lemmas.List.Splits.{slice_split-cons_yes, slice_split_none, slice_split_first}
 use Rattle.std.proofs.lemmas.List.Sums.{fails_before_first, passes_at_first, prefix_len-le-length, prefix_len_stops, position_or_len_is}
 use Rattle.std.proofs.lemmas.List.Elements.{All-from_recursion}
-use Rattle.text_lines.specs.Words.{is_blank, has_a_byte, words_of, IsWord, EndsWord}
+use Rattle.text_lines.specs.Words.{is_blank, is_not_empty, words_of, IsWord, EndsWord}
 
 pub words_blank : (b : ℕ) (bs : List ℕ) → is_blank b ≡ true → words_of (b ∷ bs) ≡ words_of bs
 unfolding words_of
-words_blank b bs e = ap (filter has_a_byte) (slice_split-cons_yes is_blank b bs e)
+words_blank b bs e = ap (filter is_not_empty) (slice_split-cons_yes is_blank b bs e)
 
 pub words_nil : words_of [] ≡ []
 unfolding words_of
@@ -52,18 +52,18 @@ trim_step : (b : ℕ) (bs : List ℕ) (t : Bool) → is_blank b ≡ t → words_
 trim_step b bs true e h = rw one-add (h ∙ sym (words_blank b bs e))
 trim_step b bs false e h = refl
 
--- blanks at the front make no word
+-- leading blanks add no word
 pub words_of-trim : (xs : List ℕ) → words_of (drop (prefix_len is_blank xs) xs) ≡ words_of xs
 words_of-trim [] = refl
 words_of-trim (b ∷ bs) = trim_step b bs (is_blank b) refl (words_of-trim bs)
 
-has_first : (n : ℕ) (xs : List ℕ) → 0 < n → n ≤ length xs → has_a_byte (take n xs) ≡ true
+has_first : (n : ℕ) (xs : List ℕ) → 0 < n → n ≤ length xs → is_not_empty (take n xs) ≡ true
 has_first n xs l fits = lt-ltb 0 (length (take n xs)) (omega (arith, length-take n xs))
 
-keeps : (w : List ℕ) (ws : List (List ℕ)) → has_a_byte w ≡ true → filter has_a_byte (w ∷ ws) ≡ w ∷ filter has_a_byte ws
-keeps w ws e = ap (λ t. cond t (w ∷ filter has_a_byte ws) (filter has_a_byte ws)) e
+keeps : (w : List ℕ) (ws : List (List ℕ)) → is_not_empty w ≡ true → filter is_not_empty (w ∷ ws) ≡ w ∷ filter is_not_empty ws
+keeps w ws e = ap (λ t. cond t (w ∷ filter is_not_empty ws) (filter is_not_empty ws)) e
 
--- the word ends at a blank
+-- the case in which the word ends at a blank
 word_then_blank : (xs : List ℕ) → 0 < position_or_len is_blank xs → position_or_len is_blank xs < length xs
     → words_of xs ≡ take (position_or_len is_blank xs) xs ∷ words_of (drop (position_or_len is_blank xs) xs)
 unfolding words_of
@@ -71,18 +71,18 @@ word_then_blank xs l more =
     let n = position_or_len is_blank xs in
     let after : words_of (drop n xs) ≡ words_of (drop (n + 1) xs) =
     ap words_of (drop_more xs n 0 more) ∙ words_blank (get_or xs n 0) (drop (n + 1) xs) (passes_at_first is_blank xs 0 more) in
-    ap (filter has_a_byte) (slice_split_first is_blank xs 0 more)
+    ap (filter is_not_empty) (slice_split_first is_blank xs 0 more)
     ∙ keeps (take n xs) (slice_split is_blank (after_first is_blank xs)) (has_first n xs l (omega arith))
     ∙ ap (λ ws. take n xs ∷ ws) (sym after)
 
--- the word ends with the line
+-- the case in which the word ends with the line
 word_to_end : (xs : List ℕ) → 0 < length xs → length xs ≤ position_or_len is_blank xs → words_of xs ≡ xs ∷ []
 unfolding words_of
 word_to_end xs l all =
     let none : All (λ b. is_blank b ≡ false) xs = λ k d h. fails_before_first is_blank xs k d (omega arith) in
-    ap (filter has_a_byte) (slice_split_none is_blank xs none) ∙ keeps xs [] (lt-ltb 0 (length xs) l)
+    ap (filter is_not_empty) (slice_split_none is_blank xs none) ∙ keeps xs [] (lt-ltb 0 (length xs) l)
 
--- the first word, where the line doesn't begin with a blank
+-- the first word, if the line does not begin with a blank
 pub words_of-word : (xs : List ℕ) → 0 < position_or_len is_blank xs
     → words_of xs ≡ take (position_or_len is_blank xs) xs ∷ words_of (drop (position_or_len is_blank xs) xs)
 words_of-word xs l =
@@ -96,7 +96,7 @@ words_of-word xs l =
     ∙ ap (λ ws. take n xs ∷ ws) (sym (ap words_of (drop_all n xs all) ∙ words_nil)))
     (cases_lt n (length xs))
 
--- what is left after the blanks at the front begins with no blank
+-- the rest after the leading blanks does not begin with a blank
 pub front_no_blank : (xs : List ℕ) → prefix_len is_blank xs < length xs → position_or_len is_blank (drop (prefix_len is_blank xs) xs) ≡ 0 → ⊥
 front_no_blank xs more e =
     let n = prefix_len is_blank xs in
@@ -106,7 +106,7 @@ front_no_blank xs more e =
     ap (λ t. cond (not t) (1 + position_or_len is_blank (drop (n + 1) xs)) 0) stops in
     omega (arith, front, counted, e)
 
--- after the blanks at the front there is a word or nothing
+-- if no word follows the leading blanks, the line has no words
 pub words_of-none : (xs : List ℕ) → position_or_len is_blank (drop (prefix_len is_blank xs) xs) ≡ 0 → words_of xs ≡ []
 words_of-none xs e =
     let n = prefix_len is_blank xs in
@@ -115,7 +115,8 @@ words_of-none xs e =
     (λ all. sym (words_of-trim xs) ∙ ap words_of (drop_all n xs all) ∙ words_nil)
     (cases_lt n (length xs))
 
--- One step: ys is xs without the blanks at its front, w has its bytes before the next blank, and rest the others.
+-- one step: ys is xs without its leading blanks, w has the bytes of ys before the next blank, and rest the
+-- others
 module _ (xs ys w rest : List ℕ) (n : ℕ) (trims : ys ≡ drop (prefix_len is_blank xs) xs) (ends : n ≡ position_or_len is_blank ys) (front : w ≡ take n ys)
     (back : rest ≡ drop n ys) where
   word_length : length w ≡ n
@@ -140,19 +141,19 @@ module _ (xs ys w rest : List ℕ) (n : ℕ) (trims : ys ≡ drop (prefix_len is
       subst P (sym ends) (words_of-word ys (omega (arith, ends))) in
       same_words ∙ cut ∙ ap (λ v. v ∷ words_of (drop n ys)) (sym front) ∙ ap (λ r. w ∷ words_of r) (sym back)
 
--- a line has no more words than bytes
-filter-cons-le : (w : List ℕ) (ws : List (List ℕ)) → length (filter has_a_byte ws) ≤ length (filter has_a_byte (w ∷ ws))
+-- a line has at most as many words as bytes
+filter-cons-le : (w : List ℕ) (ws : List (List ℕ)) → length (filter is_not_empty ws) ≤ length (filter is_not_empty (w ∷ ws))
 filter-cons-le w ws =
-    cond_both (has_a_byte w) (w ∷ filter has_a_byte ws) (filter has_a_byte ws) (λ vs. length (filter has_a_byte ws) ≤ length vs) (λ _. omega arith)
+    cond_both (is_not_empty w) (w ∷ filter is_not_empty ws) (filter is_not_empty ws) (λ vs. length (filter is_not_empty ws) ≤ length vs) (λ _. omega arith)
     (λ _. omega arith)
 
-onto_first-le : (b : ℕ) (ps : List (List ℕ)) → length (filter has_a_byte (onto_first b ps)) ≤ length (filter has_a_byte ps) + 1
+onto_first-le : (b : ℕ) (ps : List (List ℕ)) → length (filter is_not_empty (onto_first b ps)) ≤ length (filter is_not_empty ps) + 1
 onto_first-le b [] = omega (arith, ap length (keeps (b ∷ []) [] (lt-ltb 0 1 (omega arith))))
 onto_first-le b (p ∷ ps) = omega (arith, ap length (keeps (b ∷ p) ps (lt-ltb 0 (length (b ∷ p)) (omega arith))), filter-cons-le p ps)
 
 split-le : (b : ℕ) (bs : List ℕ) (t : Bool)
-    → length (filter has_a_byte (cond t ([] ∷ slice_split is_blank bs) (onto_first b (slice_split is_blank bs))))
-    ≤ length (filter has_a_byte (slice_split is_blank bs)) + 1
+    → length (filter is_not_empty (cond t ([] ∷ slice_split is_blank bs) (onto_first b (slice_split is_blank bs))))
+    ≤ length (filter is_not_empty (slice_split is_blank bs)) + 1
 split-le b bs true = omega arith
 split-le b bs false = onto_first-le b (slice_split is_blank bs)
 
@@ -161,7 +162,7 @@ unfolding words_of
 length-words_of-le [] = omega arith
 length-words_of-le (b ∷ bs) = omega (arith, split-le b bs (is_blank b), length-words_of-le bs)
 
--- ---- a word at the front of a text
+-- ---- a word at the beginning of a text
 word_at : (word : List ℕ) → IsWord word → (j : ℕ) → j < length word → is_blank (get_or word j 0) ≡ false
 word_at word is j h = All-from_recursion (λ b. is_blank b ≡ false) word is.1 j 0 h
 

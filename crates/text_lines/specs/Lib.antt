@@ -1,6 +1,6 @@
--- what public contracts say
+-- definitions that public contracts use
 pub mod Lines
 pub mod Words
 pub mod Numbers
--- of private functions alone
-pub mod Fronts
+-- definitions that only private contracts use
+pub mod NumberPrefix

@@ -3,42 +3,42 @@ use Rattle.std.specs.Prelude.{◌≡◌, ℕ, ◌<◌, ◌==◌, if◌then◌els
 use Rattle.std.specs.List.{onto_first, flat_map, last_or}
 use Rattle.std.specs.Str.Lines.{strip_carriage_return}
 
--- what each line feed ends, and what follows the last one, if that has a byte
+-- the parts that end at line feeds, and the part after the last line feed if it is not empty
 unfoldable pub pieces_of : List ℕ → List (List ℕ)
 pieces_of [] = []
 pieces_of (b ∷ bs) = if b == 10 then [] ∷ pieces_of bs else onto_first b (pieces_of bs)
 
--- the lines in order, each without the one carriage return at its end, if it has one
+-- the lines in order, each without a carriage return at its end
 unfoldable pub lines_of : List ℕ → List (List ℕ)
 lines_of text = map strip_carriage_return (pieces_of text)
 
--- a piece and the line feed that ends it
-abbrev pub ended : List ℕ → List ℕ
-ended piece = piece ++ 10 ∷ []
+-- a piece, and the line feed that ends it
+abbrev pub with_line_feed : List ℕ → List ℕ
+with_line_feed piece = piece ++ 10 ∷ []
 
--- no line feed is there
-abbrev pub HasNoFeed : List ℕ → Type 0
-HasNoFeed piece = ¬ Contains piece 10
+-- the piece has no line feed
+abbrev pub HasNoLineFeed : List ℕ → Type 0
+HasNoLineFeed piece = ¬ Contains piece 10
 
--- the last piece has a byte
-abbrev pub LastHasAByte : List (List ℕ) → Type 0
-LastHasAByte pieces = IfSome (last_or None pieces) (λ piece. 0 < length piece)
+-- the last piece is not empty
+abbrev pub LastIsNotEmpty : List (List ℕ) → Type 0
+LastIsNotEmpty pieces = IfSome (last_or None pieces) (λ piece. 0 < length piece)
 
--- No piece has a line feed, and the pieces, each with a line feed at its end, are the text, but for a last line feed
--- that the text may lack where its last piece has a byte.
+-- no piece has a line feed; the pieces, each followed by a line feed, are the text, except that the text may
+-- lack the last line feed if its last piece is not empty
 abbrev pub IsCutAtLineFeeds : List ℕ → List (List ℕ) → Type 0
 IsCutAtLineFeeds text pieces =
-    All HasNoFeed pieces
-    × ((flat_map ended pieces ≡ text) ⊎ ((flat_map ended pieces ≡ text ++ 10 ∷ []) × LastHasAByte pieces))
+    All HasNoLineFeed pieces
+    × ((flat_map with_line_feed pieces ≡ text) ⊎ ((flat_map with_line_feed pieces ≡ text ++ 10 ∷ []) × LastIsNotEmpty pieces))
 
--- That is so of one list of pieces alone.
-abbrev pub AreCutAtLineFeeds : Type 0
-AreCutAtLineFeeds = (text : List ℕ) (pieces : List (List ℕ)) → (pieces_of text ≡ pieces) ↔ IsCutAtLineFeeds text pieces
+-- exactly one list of pieces is cut from a text at its line feeds
+abbrev pub TextSplitsIntoLines : Type 0
+TextSplitsIntoLines = (text : List ℕ) (pieces : List (List ℕ)) → (pieces_of text ≡ pieces) ↔ IsCutAtLineFeeds text pieces
 
--- What a line feed ends is the first line, and what follows it has the others.
-abbrev pub EndAtFeeds : Type 0
-EndAtFeeds = (piece rest : List ℕ) → HasNoFeed piece → lines_of (piece ++ 10 ∷ rest) ≡ strip_carriage_return piece ∷ lines_of rest
+-- a line feed ends the first line, and the other lines follow it
+abbrev pub LinesEndAtFeeds : Type 0
+LinesEndAtFeeds = (piece rest : List ℕ) → HasNoLineFeed piece → lines_of (piece ++ 10 ∷ rest) ≡ strip_carriage_return piece ∷ lines_of rest
 
--- What no line feed ends is a line if it has a byte.
-abbrev pub EndWithText : Type 0
-EndWithText = (piece : List ℕ) → HasNoFeed piece → 0 < length piece → lines_of piece ≡ strip_carriage_return piece ∷ []
+-- the part after the last line feed is a line if it is not empty
+abbrev pub LastLineEndsWithText : Type 0
+LastLineEndsWithText = (piece : List ℕ) → HasNoLineFeed piece → 0 < length piece → lines_of piece ≡ strip_carriage_return piece ∷ []

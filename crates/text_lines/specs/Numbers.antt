@@ -39,7 +39,7 @@ use Rattle.std.specs.List.{list_all, prefix_len}
 use Rattle.std.specs.Option.{SomeIff, option_and_then, option_map}
 use Rattle.std.specs.Str.Parse.{digits_value, starts_with_minus, without_leading_sign}
 
--- one digit or more, and nothing else
+-- one or more digits, and nothing else
 unfoldable pub is_digits : List ℕ → Bool
 is_digits [] = false
 is_digits (b ∷ bs) = list_all is_ascii_digit (b ∷ bs)
@@ -48,11 +48,11 @@ is_digits (b ∷ bs) = list_all is_ascii_digit (b ∷ bs)
 unfoldable pub digits_of : List ℕ → Option ℕ
 digits_of word = if is_digits word then Some (digits_value 10 word) else None
 
--- the value of these digits, where a `u64` can hold it
+-- the value of these digits, if it fits a `u64`
 abbrev pub IsFittingValue : List ℕ → Option ℕ → Type 0
 IsFittingValue digits value = SomeIff value (digits_value 10 digits < 2 ^ 64) (digits_value 10 digits)
 
--- a number, if it is below a limit
+-- a number, if it is below the limit
 abbrev pub below : ℕ → Option ℕ → Option ℕ
 below limit None = None
 below limit (Some n) = if nat_lt n limit then Some n else None
@@ -60,12 +60,12 @@ below limit (Some n) = if nat_lt n limit then Some n else None
 abbrev pub is_zero : ℕ → Bool
 is_zero b = b == 48
 
--- nothing, or a point with nothing but zeros after it
+-- nothing, or a point with only zeros after it
 abbrev pub is_zero_fraction : List ℕ → Bool
 is_zero_fraction [] = true
 is_zero_fraction (b ∷ zeros) = b == 46 && list_all is_zero zeros
 
--- the value of the digits at the front, if there is one and a fraction of zeros or nothing follows them
+-- the value of the leading digits, if there are some and only a fraction of zeros, or nothing, follows
 unfoldable pub whole_of : List ℕ → Option ℕ
 whole_of body =
     let n = prefix_len is_ascii_digit body in
@@ -76,11 +76,12 @@ abbrev pub signed : Bool → ℕ → ℤ
 signed true n = neg_ℤ (pos n)
 signed false n = pos n
 
--- The value of a NUMBER: a plus, a minus or no sign, digits, and perhaps a point with zeros or nothing after it.
+-- the value of a word that is a number: a plus, a minus or no sign, digits, and optionally a point with only
+-- zeros, or nothing, after it
 unfoldable pub number_of : List ℕ → Option ℤ
 number_of word = option_map (signed (starts_with_minus word)) (whole_of (without_leading_sign word))
 
--- a number that is not below zero
+-- the number as a natural number, if it is not negative
 abbrev pub magnitude : ℤ → Option ℕ
 magnitude (pos n) = Some n
 magnitude (negsuc n) = None
@@ -89,12 +90,12 @@ magnitude (negsuc n) = None
 abbrev pub IsSign : List ℕ → Type 0
 IsSign sign = (sign ≡ []) ⊎ ((sign ≡ codes "+") ⊎ (sign ≡ codes "-"))
 
--- nothing, or a point and zeros, of which there may be none
+-- nothing, or a point and any number of zeros
 abbrev pub IsZeroFraction : List ℕ → Type 0
 IsZeroFraction fraction = (fraction ≡ []) ⊎ ((zeros : ℕ) × (fraction ≡ codes "." ++ replicate zeros 48))
 
--- A word is a sign or none, one digit or more, and perhaps a point and zeros; the number is what the digits write, with
--- that sign.
+-- a word that is a number: a sign or none, one or more digits, and optionally a point and zeros; its value is
+-- that of the digits, with this sign
 pub record IsNumber (word : List ℕ) (number : ℤ) : Type 0 where
   pub sign : List ℕ
   pub digits : List ℕ
@@ -105,28 +106,28 @@ pub record IsNumber (word : List ℕ) (number : ℤ) : Type 0 where
   pub is_fraction : IsZeroFraction fraction
   pub value : number ≡ signed (starts_with_minus sign) (digits_value 10 digits)
 
--- A word has a number exactly where it is made so.
-abbrev pub AreNumbers : Type 0
-AreNumbers = (word : List ℕ) (number : ℤ) → (number_of word ≡ Some number) ↔ IsNumber word number
+-- a word has a value as a number exactly if it follows the grammar of `IsNumber`
+abbrev pub NumbersFollowGrammar : Type 0
+NumbersFollowGrammar = (word : List ℕ) (number : ℤ) → (number_of word ≡ Some number) ↔ IsNumber word number
 
--- the number that the first word is, if there is one and it is a number
+-- the first word as a number, if there is a word and it is a number
 abbrev pub first_number : List (List ℕ) → Option ℤ
 first_number words = option_and_then number_of (slice_get words 0)
 
--- a number, if it lies within these limits
+-- a number, if it is within these limits
 abbrev pub within : ℤ → ℤ → Option ℤ → Option ℤ
 within least most None = None
 within least most (Some z) = if int_le least z && int_le z most then Some z else None
 
--- word without the minus that it may begin with
+-- the word without a leading minus
 abbrev pub without_minus : List ℕ → List ℕ
 without_minus word = if starts_with_minus word then drop 1 word else word
 
--- The value of an integer of at most 20 digits, with a minus or no sign.
+-- the value of an integer with at most 20 digits and a minus or no sign
 unfoldable pub integer_of : List ℕ → Option ℤ
 integer_of word =
     if nat_le (length (without_minus word)) 20 then option_map (signed (starts_with_minus word)) (digits_of (without_minus word)) else None
 
--- The decimal digits that print a number are a word of digits with its value, and that number.
-abbrev pub AreRead : Type 0
-AreRead = (n : ℕ) → n < 2 ^ 64 → (is_digits (decimal n) ≡ true) × (digits_of (decimal n) ≡ Some n) × (number_of (decimal n) ≡ Some (pos n))
+-- the decimal digits of a number are a word of digits with its value, and parse as that number
+abbrev pub DecimalsParseBack : Type 0
+DecimalsParseBack = (n : ℕ) → n < 2 ^ 64 → (is_digits (decimal n) ≡ true) × (digits_of (decimal n) ≡ Some n) × (number_of (decimal n) ≡ Some (pos n))

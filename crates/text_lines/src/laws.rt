@@ -1,32 +1,33 @@
-//! What lines, words and numbers mean, each law for every text.
+//! The meaning of lines, words and numbers, as laws about every text.
 ghost use Rattle.std.specs.Prelude.{◌≡◌, []};
-ghost use Rattle.text_lines.specs.Lines.{AreCutAtLineFeeds, EndAtFeeds, EndWithText, lines_of};
-ghost use Rattle.text_lines.specs.Words.{AreMadeOfWords};
-ghost use Rattle.text_lines.specs.Numbers.{AreNumbers, AreRead};
+ghost use Rattle.text_lines.specs.Lines.{TextSplitsIntoLines, LinesEndAtFeeds, LastLineEndsWithText, lines_of};
+ghost use Rattle.text_lines.specs.Words.{LinesSplitIntoWords};
+ghost use Rattle.text_lines.specs.Numbers.{NumbersFollowGrammar, DecimalsParseBack};
 
-/// The lines of a text are what its line feeds cut it into, none lost and none made.
-pub fn lines_join()
-    ensures { AreCutAtLineFeeds }
+/// States that the lines of a text are what its line feeds split it into, without loss or addition.
+pub fn text_splits_into_lines()
+    ensures { TextSplitsIntoLines }
 {}
 
-/// The lines of a text, from the first on: each ends at a line feed, or with the text.
-pub fn lines_follow()
-    ensures ended { EndAtFeeds }
-    ensures last { EndWithText }
+/// States that each line of a text, from the first on, ends at a line feed or at the end of the text.
+pub fn lines_end_at_line_feeds()
+    ensures ended { LinesEndAtFeeds }
+    ensures last { LastLineEndsWithText }
     ensures none { lines_of [] ≡ [] }
 {}
 
-/// The words of a line are those that it is made of with blanks, and no others.
-pub fn words_make_the_line()
-    ensures { AreMadeOfWords }
+/// States that the words of a line are exactly those that make up the line together with blanks.
+pub fn lines_split_into_words()
+    ensures { LinesSplitIntoWords }
 {}
 
-/// A number is a plus, a minus or no sign, one digit or more, and perhaps a point with nothing but zeros after it.
-pub fn numbers_are_made()
-    ensures { AreNumbers }
+/// States the grammar of numbers: a plus, a minus or no sign, one or more digits, and optionally a point with
+/// only zeros after it.
+pub fn numbers_follow_grammar()
+    ensures { NumbersFollowGrammar }
 {}
 
-/// A number that is printed in decimal digits is read as that number.
-pub fn decimals_are_read()
-    ensures { AreRead }
+/// States that a number printed in decimal digits parses back to that number.
+pub fn decimals_parse_back()
+    ensures { DecimalsParseBack }
 {}

@@ -7,8 +7,10 @@ ghost use Rattle.text_lines.specs.Lines.{lines_of, pieces_of};
 use memchr::memchr;
 use std::marker::Model;
 
-/// The lines of a text, in order. Each ends at a line feed, or at the end of the text if a byte is
-/// left there. A line does not have its line feed, nor a carriage return just before that or at the end.
+/// An iterator over the lines of a text.
+///
+/// A line ends at a line feed, or at the end of the text if at least one byte is left. It does not include the
+/// line feed, nor a carriage return at its end.
 #[derive(Drop)]
 pub struct Lines<'a> {
     rest: &'a [u8],
@@ -24,7 +26,7 @@ impl<'a> Model for Lines<'a> {
 }
 
 impl<'a> Lines<'a> {
-    /// The lines of `text`, of which there are no more than it has bytes.
+    /// Returns the lines of `text`. There are at most as many lines as bytes.
     #[inline]
     pub fn new(text: &'a [u8]) -> Lines<'a>
         ensures lines { result ≡ lines_of text.now }
@@ -52,7 +54,8 @@ impl<'a> Iterator for Lines<'a> {
     }
 }
 
-// What the first line feed ends, or all where there is none, and what follows it.
+// Splits a text after its first line feed. Returns the part before the line feed, or the whole text if there is
+// none, and the rest.
 fn first_piece(text: &[u8]) -> (&[u8], &[u8])
     requires { 0 < length text.now }
     ensures { pieces_of text.now ≡ result.0.now ∷ pieces_of result.1.now }

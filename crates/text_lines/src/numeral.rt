@@ -1,25 +1,25 @@
-//! Words that are numbers, of any length.
+//! Words that are numbers of any length.
 ghost use Rattle.std.specs.Prelude.{◌≡◌, ◌+◌, ◌*◌, ◌^◌, ◌<◌, ◌≤◌, ◌↔◌, ℕ, true, Some, None, pos, ◌≤ℤ◌, ◌<ℤ◌, IsTrue, IfSome, is_some, length, take};
 ghost use Rattle.std.specs.Char.{digit_value, is_ascii_digit};
 ghost use Rattle.std.specs.List.{list_all, prefix_len};
 ghost use Rattle.std.specs.Int.RustNames.{unsigned_abs};
 ghost use Rattle.std.specs.Option.{SomeIff, option_and_then, option_map};
 ghost use Rattle.std.specs.Str.Parse.{digits_value, starts_with_minus, without_leading_sign};
-ghost use Rattle.text_lines.specs.Fronts.{BeginsWithNumber};
+ghost use Rattle.text_lines.specs.NumberPrefix.{BeginsWithNumber};
 ghost use Rattle.text_lines.specs.Numbers.{IsFittingValue, below, digits_of, integer_of, is_digits, is_zero, is_zero_fraction, magnitude, number_of, signed, whole_of, without_minus};
 
 use crate::word_iter::ends_word;
 use std::marker::Model;
 
-// Each number of so many digits fits a `u64`.
-const LONGEST_FITTING: usize = 19;
+// The greatest number of digits that always fit a `u64`.
+const MAX_FITTING_DIGITS: usize = 19;
 
-/// A word that is a number, of any length.
+/// The numeric value of a word. It may have any number of digits.
 #[derive(Drop)]
 pub struct Number<'a> {
     negative: bool,
     digits: &'a [u8],
-    // The digits' value, if a `u64` can hold it: known from the scan that found the digits.
+    // The value of the digits if it fits a `u64`. The scan that finds the digits computes it.
     value: Option<u64>,
 }
 
@@ -36,8 +36,8 @@ impl<'a> Model for Number<'a> {
 }
 
 impl<'a> Number<'a> {
-    /// The number that a word is: a plus, a minus or no sign, digits, and perhaps a point with
-    /// nothing but zeros after it.
+    /// Parses a word as a number: a plus, a minus or no sign, digits, and optionally a point with only zeros
+    /// after it.
     #[inline]
     pub fn parse(word: &'a [u8]) -> Option<Number<'a>>
         ensures { result ≡ number_of word.now }
@@ -51,10 +51,12 @@ impl<'a> Number<'a> {
         })
     }
 
-    /// The number that the first word of a text is, and what follows that word, where the text begins with it and the
-    /// word has at most 19 digits, a minus or no sign, and nothing else: the form of nearly every number.
+    /// Parses the first word of a text on a fast path and returns the number and the rest of the text.
+    ///
+    /// The fast path covers nearly every number: the text begins with the word, and the word is at most 19
+    /// digits with a minus or no sign. In other cases the result is `None`.
     #[inline(always)]
-    pub(crate) fn parse_front(text: &'a [u8]) -> Option<(Number<'a>, &'a [u8])>
+    pub(crate) fn parse_prefix(text: &'a [u8]) -> Option<(Number<'a>, &'a [u8])>
         ensures { IfSome result (λ found. BeginsWithNumber text.now found.0 found.1.now) }
     {
         let (negative, body) = split_minus(text);
@@ -71,7 +73,7 @@ impl<'a> Number<'a> {
         Some((number, rest))
     }
 
-    /// The integer that a word of the command text is: a minus or no sign, and 1 to 20 digits.
+    /// Parses a word of a command as an integer: a minus or no sign, and 1 to 20 digits.
     #[inline]
     pub fn parse_integer(word: &'a [u8]) -> Option<Number<'a>>
         ensures { result ≡ integer_of word.now }
@@ -88,7 +90,7 @@ impl<'a> Number<'a> {
         })
     }
 
-    /// The number, if it lies in these limits, both inclusive.
+    /// Returns the number if it is within these limits, both inclusive.
     #[inline]
     pub fn within(&self, least: i32, most: i32) -> Option<i32>
         ensures { SomeIff result ((least ≤ℤ self.now) × (self.now ≤ℤ most)) self.now }
@@ -101,7 +103,7 @@ impl<'a> Number<'a> {
         Some(value)
     }
 
-    /// The number, if a `u64` can hold it.
+    /// Returns the number if it fits a `u64`.
     #[inline]
     pub fn to_u64(&self) -> Option<u64>
         ensures { SomeIff result
@@ -115,7 +117,7 @@ impl<'a> Number<'a> {
         Some(value)
     }
 
-    /// Whether the number lies above a limit.
+    /// Returns whether the number is greater than `limit`.
     #[inline]
     pub fn is_above(&self, limit: u32) -> bool
         ensures { IsTrue result ↔ (pos limit <ℤ self.now) }
@@ -130,7 +132,7 @@ impl<'a> Number<'a> {
     }
 }
 
-/// The value of a word that is digits and nothing else, if a `u32` can hold it.
+/// Returns the value of a word that consists of digits only, if it fits a `u32`.
 #[inline]
 pub fn digits_to_u32(word: &[u8]) -> Option<u32>
     ensures { result ≡ below (2 ^ 32) (digits_of word.now) }
@@ -139,7 +141,7 @@ pub fn digits_to_u32(word: &[u8]) -> Option<u32>
     u32::try_from(value?).ok()
 }
 
-/// The value of a word that is a number, if a `u64` can hold it.
+/// Returns the value of a word that is a number, if it fits a `u64`.
 #[inline]
 pub fn number_to_u64(word: &[u8]) -> Option<u64>
     ensures { result ≡ below (2 ^ 64) (option_and_then magnitude (number_of word.now)) }
@@ -154,12 +156,13 @@ fn signed_value(negative: bool, magnitude: u32) -> i64
     if negative { -value } else { value }
 }
 
-// The value of a word of digits, and in it `None` where a `u64` can't hold it.
+// Returns `None` if the word is not all digits, otherwise its value, which is `None` again if it does not fit a
+// `u64`.
 fn word_value(word: &[u8]) -> Option<Option<u64>>
     ensures digits { is_some result ≡ is_digits word.now }
     ensures value { IfSome result (IsFittingValue word.now) }
 {
-    let (len, value) = front_digits(word);
+    let (len, value) = leading_digits(word);
     if len == 0 {
         return None;
     }
@@ -169,21 +172,22 @@ fn word_value(word: &[u8]) -> Option<Option<u64>>
     Some(value)
 }
 
-// How many digits stand at the front, and their value, if a `u64` can hold it.
-fn front_digits(text: &[u8]) -> (usize, Option<u64>)
+// Returns the number of leading digits, and their value if it fits a `u64`.
+fn leading_digits(text: &[u8]) -> (usize, Option<u64>)
     ensures len { result.0 ≡ prefix_len is_ascii_digit text.now }
     ensures value { IsFittingValue (take (prefix_len is_ascii_digit text.now) text.now) result.1 }
 {
-    if text.len() <= LONGEST_FITTING {
-        let (len, value) = short_front_digits(text);
+    if text.len() <= MAX_FITTING_DIGITS {
+        let (len, value) = short_leading_digits(text);
         return (len, Some(value));
     }
-    let len = digits_len(text);
+    let len = leading_digits_len(text);
     (len, value_of(&text[..len]))
 }
 
-// The same of a text that is so short that its value fits: one pass, as nearly every word takes.
-fn short_front_digits(text: &[u8]) -> (usize, u64)
+// Like `leading_digits`, for a text that is short enough for its value to fit. It takes one pass and covers
+// nearly every word.
+fn short_leading_digits(text: &[u8]) -> (usize, u64)
     requires { length text.now ≤ 19 }
     ensures len { result.0 ≡ prefix_len is_ascii_digit text.now }
     ensures value { result.1
@@ -199,18 +203,18 @@ fn short_front_digits(text: &[u8]) -> (usize, u64)
     (text.len(), value)
 }
 
-// How many of the first 19 bytes are digits before any other byte, and their value.
+// Returns the number of leading digits, at most 19, and their value.
 #[inline(always)]
 fn first_digits(text: &[u8]) -> (usize, u64)
     ensures fits { result.0 ≤ length text.now }
     ensures digits { list_all is_ascii_digit (take result.0 text.now) ≡ true }
     ensures value { result.1 ≡ digits_value 10 (take result.0 text.now) }
 {
-    short_front_digits(&text[..text.len().min(LONGEST_FITTING)])
+    short_leading_digits(&text[..text.len().min(MAX_FITTING_DIGITS)])
 }
 
-/// How many digits stand at the front.
-pub fn digits_len(text: &[u8]) -> usize
+/// Returns the number of leading digits.
+pub fn leading_digits_len(text: &[u8]) -> usize
     ensures value { result ≡ prefix_len is_ascii_digit text.now }
     ensures bound { result ≤ length text.now }
 {
@@ -219,12 +223,12 @@ pub fn digits_len(text: &[u8]) -> usize
         .unwrap_or(text.len())
 }
 
-// The digits of a number without its sign, and their value, if a `u64` can hold it.
+// Returns the digits of a number without its sign, and their value if it fits a `u64`.
 fn whole_digits(body: &[u8]) -> Option<(&[u8], Option<u64>)>
     ensures whole { whole_of body.now ≡ option_map (λ found. digits_value 10 found.0.now) result }
     ensures value { IfSome result (λ found. IsFittingValue found.0.now found.1) }
 {
-    let (len, value) = front_digits(body);
+    let (len, value) = leading_digits(body);
     let (digits, rest) = body.split_at(len);
     if digits.is_empty() {
         return None;
@@ -251,7 +255,7 @@ fn is_zero_fraction_text(text: &[u8]) -> bool
     }
 }
 
-// The value of digits, if a `u64` can hold it.
+// Returns the value of the digits if it fits a `u64`.
 fn value_of(digits: &[u8]) -> Option<u64>
     requires { list_all is_ascii_digit digits.now ≡ true }
     ensures { IsFittingValue digits.now result }
@@ -277,7 +281,7 @@ fn split_minus(word: &[u8]) -> (bool, &[u8])
     ensures rest { result.1.now ≡ without_minus word.now }
 {
     let negative = matches!(word, [b'-', ..]);
-    // Signs come in no order, so that a branch on one would often be predicted wrong.
+    // Signs come in no predictable order, so a branch on the sign would often be mispredicted.
     (negative, &word[usize::from(negative)..])
 }
 

@@ -8,7 +8,7 @@ ghost use Rattle.text_lines.specs.Words.{EndsWord, is_blank, is_blank_line, word
 use crate::numeral::Number;
 use std::marker::Model;
 
-/// The words of a line, in order: what stands between blanks and tabs.
+/// An iterator over the words of a line. Words are separated by spaces and tabs.
 #[derive(Drop)]
 pub struct Words<'a> {
     rest: &'a [u8],
@@ -24,7 +24,7 @@ impl<'a> Model for Words<'a> {
 }
 
 impl<'a> Words<'a> {
-    /// The words of `line`, of which there are no more than it has bytes.
+    /// Returns the words of `line`. There are at most as many words as bytes.
     #[inline]
     pub fn new(line: &'a [u8]) -> Words<'a>
         ensures words { result ≡ words_of line.now }
@@ -33,14 +33,14 @@ impl<'a> Words<'a> {
         Words { rest: line }
     }
 
-    /// The number that the next word is, if there is a word, it is a number and lies in these limits, both inclusive.
-    /// The word is taken in any case.
+    /// Returns the next word as a number, if there is a word, it is a number, and it is within these limits,
+    /// both inclusive. Consumes the word in every case.
     #[inline(always)]
     pub fn next_number(&mut self, least: i32, most: i32) -> Option<i32>
         ensures rest { self.new ≡ drop 1 self.old }
         ensures number { result ≡ within least most (first_number self.old) }
     {
-        let Some((number, rest)) = Number::parse_front(trim_blanks_start(self.rest)) else {
+        let Some((number, rest)) = Number::parse_prefix(trim_blanks_start(self.rest)) else {
             return Number::parse(self.next()?)?.within(least, most);
         };
         self.rest = rest;
@@ -67,7 +67,8 @@ impl<'a> Iterator for Words<'a> {
     }
 }
 
-/// Whether a word that stands before this text is over there.
+/// Returns whether a word that is directly before this text ends at the text: the text is empty or begins with
+/// a blank.
 #[inline(always)]
 pub(crate) fn ends_word(text: &[u8]) -> bool
     ensures { IsTrue result ↔ EndsWord text.now }
@@ -84,7 +85,7 @@ fn is_blank_byte(byte: u8) -> bool
     byte == b' ' || byte == b'\t'
 }
 
-// How many bytes stand before the first blank.
+// Returns the number of bytes before the first blank.
 fn word_len(text: &[u8]) -> usize
     ensures { result ≡ position_or_len is_blank text.now }
 {
@@ -93,13 +94,13 @@ fn word_len(text: &[u8]) -> usize
         .unwrap_or(text.len())
 }
 
-/// What follows the blanks and tabs at the front.
+/// Returns the text without its leading spaces and tabs.
 #[inline(always)]
 pub fn trim_blanks_start(text: &[u8]) -> &[u8]
     ensures { result.now ≡ drop (prefix_len is_blank text.now) text.now }
 {
     match text {
-        // Nearly every gap between words is one blank.
+        // Nearly all gaps between words are a single space.
         [b' ', rest @ ..] if !ends_word(rest) => rest,
         _ => without_blanks(text),
     }
@@ -115,14 +116,14 @@ fn without_blanks(text: &[u8]) -> &[u8]
     &text[blanks..]
 }
 
-/// How many words a line has.
+/// Returns the number of words of a line.
 pub fn word_count(line: &[u8]) -> usize
     ensures { result ≡ length (words_of line.now) }
 {
     Words::new(line).count()
 }
 
-/// Whether a line has nothing but blanks and tabs.
+/// Returns whether a line has only spaces and tabs.
 #[inline]
 pub fn is_blank_line(line: &[u8]) -> bool
     ensures { result ≡ is_blank_line line.now }

@@ -1,12 +1,12 @@
-//! Other routes for vehicles of a draft, in memory that others left; the cost goes with them.
+//! New routes for vehicles of a draft, in reused memory. The cost is updated with them.
 ghost use Rattle.std.specs.Prelude.{◌≡◌, ◌≤◌, ◌^◌, true, All, IfSome, IfOk, OnOk, OnErr, length};
 ghost use Rattle.move_ops.specs.Pairing.{are_paired};
 ghost use Rattle.move_ops.specs.Refreshing.{AreWithin};
-ghost use Rattle.slack_tables.specs.Course.{course_of, route_of};
+ghost use Rattle.slack_tables.specs.Course.{course_of, course_route};
 ghost use Rattle.route_sched.specs.Cost.{total_length, vehicle_count};
-ghost use Rattle.route_sched.specs.Route.{AreLiveOnce};
+ghost use Rattle.route_sched.specs.Route.{AreDistinctStops};
 ghost use Rattle.route_sched.specs.Schedule.{route_length};
-ghost use Rattle.move_ops.specs.Insertion.{of_vehicle, with_route};
+ghost use Rattle.move_ops.specs.Insertion.{route_of, with_route};
 ghost use Rattle.slack_tables.specs.Insertion.{KeepsLimits};
 ghost use Rattle.move_ops.specs.Changes.{used, changes_of, with_routes, AreCourses, AreToursOf, IsChange, IsTourIfFeasible};
 ghost use Rattle.std.specs.Option.{option_map};
@@ -16,11 +16,11 @@ ghost use Rattle.move_ops.specs.Drafts.{undone, draft_of, base_of, IsDraftOf, Is
 use super::Draft;
 use crate::changes::Change;
 use crate::tour::{Tour, tour_of};
-use plan_audit::passes_are_local;
-use plan_types::{Cost, Kind, OutOfMemory, Pins, Problem, numbers_are_below_the_next};
+use plan_audit::passing_is_local;
+use plan_types::{Cost, Kind, OutOfMemory, Pins, Problem, numbers_are_below_next_number};
 
 impl Draft {
-    /// Makes these changes, where there are some; answers whether it did.
+    /// Applies these changes, if there are any. Returns whether there were.
     pub(crate) fn apply(
         &mut self,
         problem: &Problem,
@@ -48,7 +48,7 @@ impl Draft {
         }
     }
 
-    /// Gives some vehicles other tours. Takes no memory.
+    /// Replaces the tours of some vehicles. Does not allocate.
     pub(crate) fn install(
         &mut self,
         problem: &Problem,
@@ -65,8 +65,8 @@ impl Draft {
         ensures draft { draft_of self.new
             ≡ with_routes (draft_of self.old) (changes_of tours.items) }
     {
-        passes_are_local();
-        numbers_are_below_the_next();
+        passing_is_local();
+        numbers_are_below_next_number();
         let (vehicles, distance) = self.set_tours(problem, tours);
         self.cost = Cost {
             unplanned,
@@ -75,7 +75,7 @@ impl Draft {
         };
     }
 
-    // Answers how many vehicles count then, and how far all drive.
+    // Replaces the tours of these vehicles. Returns the new number of used vehicles and the new total distance.
     fn set_tours(&mut self, problem: &Problem, tours: Vec<(u32, Tour)>) -> (u64, u64)
         requires tables { AreTablesIn problem.now self.old.tours }
         requires within { AreWithin (length self.old.tours) tours.items }
@@ -97,7 +97,7 @@ impl Draft {
         let mut vehicles = self.cost.vehicles;
         let mut driven = u128::from(self.cost.distance);
         for (vehicle, tour) in tours {
-            vehicles = self.vehicles_with(problem, vehicle, &tour, vehicles);
+            vehicles = self.vehicle_count_with(problem, vehicle, &tour, vehicles);
             driven += u128::from(tour.table().distance());
             driven -= u128::from(self.distance_of(problem, vehicle));
             self.set_tour(vehicle, tour);
@@ -105,8 +105,9 @@ impl Draft {
         (vehicles, driven as u64)
     }
 
-    /// How many vehicles count with another tour for this vehicle, where so many do now.
-    pub(crate) fn vehicles_with(
+    /// Returns the number of vehicles in the cost when this vehicle has another tour. `now` is that number with
+    /// its present tour.
+    pub(crate) fn vehicle_count_with(
         &self,
         problem: &Problem,
         vehicle: u32,
@@ -117,7 +118,7 @@ impl Draft {
         requires within { vehicle ≤ length self.now.tours }
         requires now { now ≡ vehicle_count problem.now.kind (draft_of self.now) }
         ensures { result ≡ vehicle_count problem.now.kind
-            (with_route (draft_of self.now) vehicle (route_of tour.now)) }
+            (with_route (draft_of self.now) vehicle (course_route tour.now)) }
     {
         let old = &self.tours[(vehicle - 1) as usize];
         match problem.kind {
@@ -126,7 +127,7 @@ impl Draft {
         }
     }
 
-    // The tours of changes, all of which keep the limits.
+    // Builds the tours of changes, all of which keep the limits.
     fn new_tours(
         &mut self,
         problem: &Problem,
@@ -135,7 +136,7 @@ impl Draft {
         requires tables { AreTablesIn problem.now self.old.tours }
         requires within { All (λ c. (1 ≤ c.vehicle)
             × (c.vehicle ≤ length self.old.tours)) changes.now }
-        requires once { All (λ c. AreLiveOnce problem.now c.route) changes.now }
+        requires once { All (λ c. AreDistinctStops problem.now c.route) changes.now }
         requires keeps { All (λ c. KeepsLimits problem.now c.route) changes.now }
         ensures tours { IfOk result (λ tours. AreToursOf problem.now changes.now tours.items) }
         ensures same { self.new ≡ self.old }
@@ -148,7 +149,8 @@ impl Draft {
         Ok(tours)
     }
 
-    /// The tour of another route for a vehicle, whose pairs are known to be whole, in memory that is left of others where there is some.
+    /// Builds the tour of a new route for this vehicle, in a spare buffer if there is one. The caller guarantees
+    /// that the pairs of the route are whole.
     pub(crate) fn feasible_tour(
         &mut self,
         problem: &Problem,
@@ -158,7 +160,7 @@ impl Draft {
         requires tables { AreTablesIn problem.now self.old.tours }
         requires from_one { 1 ≤ vehicle }
         requires within { vehicle ≤ length self.old.tours }
-        requires once { AreLiveOnce problem.now route.now }
+        requires once { AreDistinctStops problem.now route.now }
         requires pairs { are_paired problem.now route.now ≡ true }
         ensures tour { IfOk result (λ o. IsTourIfFeasible problem.now route.now o) }
         ensures same { self.new ≡ self.old }
@@ -166,22 +168,22 @@ impl Draft {
         let spare = self.spare.pop();
         let near = tour_of(&self.tours, u64::from(vehicle));
         match spare {
-            Some(tour) => tour.remade_if_feasible(problem, near, route),
+            Some(tour) => tour.into_rebuilt_if_feasible(problem, near, route),
             None => Tour::build_if_feasible(*self.tours.allocator(), problem, near, route),
         }
     }
 
-    /// How far a vehicle drives.
+    /// Returns the distance of a vehicle's route.
     pub(super) fn distance_of(&self, problem: &Problem, vehicle: u32) -> u64
         requires tables { AreTablesIn problem.now self.now.tours }
         requires from_one { 1 ≤ vehicle }
         requires within { vehicle ≤ length self.now.tours }
-        ensures { result ≡ route_length problem.now (of_vehicle (draft_of self.now) vehicle) }
+        ensures { result ≡ route_length problem.now (route_of (draft_of self.now) vehicle) }
     {
         self.tours[(vehicle - 1) as usize].table().distance()
     }
 
-    /// The tour of another route for a vehicle, in memory that is left of others where there is some.
+    /// Builds the tour of a new route for this vehicle, in a spare buffer if there is one.
     pub(crate) fn new_tour(
         &mut self,
         problem: &Problem,
@@ -191,22 +193,24 @@ impl Draft {
         requires tables { AreTablesIn problem.now self.old.tours }
         requires from_one { 1 ≤ vehicle }
         requires within { vehicle ≤ length self.old.tours }
-        requires route { AreLiveOnce problem.now route.now }
+        requires route { AreDistinctStops problem.now route.now }
         requires limits { KeepsLimits problem.now route.now }
         ensures course { IfOk result (λ tour. tour ≡ course_of problem.now route.now) }
-        ensures route { IfOk result (λ tour. route_of tour ≡ route.now) }
+        ensures route { IfOk result (λ tour. course_route tour ≡ route.now) }
         ensures same { self.new ≡ self.old }
     {
         match self.spare.pop() {
-            Some(tour) => { tour.remade(problem, tour_of(&self.tours, u64::from(vehicle)), route) }
+            Some(tour) => {
+                tour.into_rebuilt(problem, tour_of(&self.tours, u64::from(vehicle)), route)
+            }
             None => Tour::build(*self.tours.allocator(), problem, route),
         }
     }
 }
 
-// How many vehicles a tour uses, one or none.
+// Returns how many vehicles a tour uses, one or none.
 fn used(tour: &Tour) -> u64
-    ensures { result ≡ used (route_of tour.now) }
+    ensures { result ≡ used (course_route tour.now) }
 {
     u64::from(!tour.stops().is_empty())
 }

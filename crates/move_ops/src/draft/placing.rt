@@ -1,44 +1,45 @@
-//! Requests put into a draft.
+//! Inserting requests into a draft.
 //!
-//! The route that is tried stands in one list that the draft keeps, and its table in spare memory, so once
-//! these are large enough a request that is put in takes none. Where its vehicle then has its route of the
-//! base again, as when the request is put back where it was, the route and table in the log are put back, and
+//! The draft keeps one list for the new route and spare memory for its table. Once these are large enough,
+//! inserting a request does not allocate. Often the vehicle then has its route of the base again, for example
+//! when a request goes back to its old place. In this case the route and table are taken from the log, and
 //! nothing is computed.
 ghost use Rattle.std.specs.Prelude.{◌≡◌, ◌≤◌, ◌^◌, length, true, false, Some, None, IfSome, IfOk, OnOk, OnErr};
 ghost use Rattle.route_sched.specs.Cost.{cost_of, total_length, unplanned_count};
-ghost use Rattle.slack_tables.specs.Course.{course_of, route_of};
+ghost use Rattle.slack_tables.specs.Course.{course_of, course_route};
 ghost use Rattle.move_ops.specs.Tables.{AreTablesIn};
-ghost use Rattle.move_ops.specs.Changes.{IsPut};
+ghost use Rattle.move_ops.specs.Changes.{IsInsertable};
 ghost use Rattle.move_ops.specs.Choosing.{IsBestWithin};
 ghost use Rattle.plan_types.specs.Request.{request_name};
-ghost use Rattle.move_ops.specs.Insertion.{best_insertion, is_place_of, put_in, request_named, with_request_at, with_route};
-ghost use Rattle.route_sched.specs.Route.{AreLiveOnce};
+ghost use Rattle.move_ops.specs.Insertion.{best_insertion, is_place_of, inserted_at, request_named, with_request_at, with_route};
+ghost use Rattle.route_sched.specs.Route.{AreDistinctStops};
 ghost use Rattle.slack_tables.specs.Insertion.{KeepsLimits};
-ghost use Rattle.move_ops.specs.Logged.{HasRoute};
+ghost use Rattle.move_ops.specs.UndoLog.{HasRoute};
 ghost use Rattle.move_ops.specs.Refreshing.{AreWithin};
-ghost use Rattle.move_ops.specs.Bounded.{IsPlacedBelow};
+ghost use Rattle.move_ops.specs.BoundedPlacing.{IsPlacedBelow};
 ghost use Rattle.move_ops.specs.Drafts.{undone, draft_of, base_of, IsDraftOf, IsMade, placed};
 
 use super::Draft;
-use crate::insert::{are_places, put_into};
+use crate::insert::{are_places, insert_into};
 use crate::laws::{best_insertions_are_least, insertion_laws};
-use crate::lists::of_vehicle;
+use crate::lists::route_of;
 use crate::naming::request_named;
-use crate::tables::{Limit, NO_LIMIT, Terms, Vehicles, best_within};
+use crate::tables::{InsertionContext, Limit, NO_LIMIT, Vehicles, best_within};
 use crate::tour::{Tour, tour_of};
-use plan_audit::{passes_are_local, tests_say_feasible};
+use plan_audit::{feasible_alone_decides_feasibility, passing_is_local};
 use plan_types::{
-    Cost, OutOfMemory, Pins, Problem, Request, Route, numbers_are_below_the_next,
-    requests_are_found_by_stop, requests_stand_by_name,
+    Cost, OutOfMemory, Pins, Problem, Request, Route, numbers_are_below_next_number,
+    requests_are_found_by_stop, requests_are_stored_by_name,
 };
 use std::mem;
 
-// A plan that is built changes every vehicle: then none goes before the others.
-const MOST_FIRST: usize = 16;
+// A plan that is built from nothing changes every vehicle. With more than this many changes no vehicle is looked
+// at first.
+const MAX_FIRST: usize = 16;
 
 impl Draft {
-    /// Puts a request into the draft where it is best. Without such a place, or where the name is of no live and unplanned request, the
-    /// draft stays.
+    /// Inserts a request at its best place. The draft is unchanged if there is no such place, or if the name is
+    /// not of a current, unplanned request.
     pub fn place(&mut self, problem: &Problem, pins: &Pins, name: u32) -> Result<(), OutOfMemory>
         requires { IsDraftOf problem.now pins.now.routes self.old }
         ensures is { OnOk result (IsDraftOf problem.now pins.now.routes self.new) }
@@ -56,8 +57,8 @@ impl Draft {
         }
     }
 
-    /// Puts a request into the draft where it is best, where that adds less than `below` to the distance and opens no vehicle. Answers
-    /// whether it did; else the draft stays.
+    /// Inserts a request at its best place if that opens no vehicle and adds less than `below` to the distance.
+    /// Otherwise the draft is unchanged. Returns whether the request was inserted.
     pub fn place_below(
         &mut self,
         problem: &Problem,
@@ -87,7 +88,7 @@ impl Draft {
         Ok(true)
     }
 
-    /// Puts a request into the draft at this place, as `insert_at` does; answers whether it did.
+    /// Inserts a request into the draft at this place, as `insert_at` does. Returns whether it was inserted.
     pub(crate) fn insert(
         &mut self,
         problem: &Problem,
@@ -97,20 +98,20 @@ impl Draft {
     ) -> Result<bool, OutOfMemory>
         requires { IsDraftOf problem.now pins.now.routes self.old }
         ensures { IfOk result (λ made.
-            IsMade (put_in problem.now pins.now.routes (draft_of self.old) name place) made
+            IsMade (inserted_at problem.now pins.now.routes (draft_of self.old) name place) made
             self.old self.new) }
     {
         let Some(request) = request_named(problem, name) else {
             return Ok(false);
         };
-        if !self.can_be_put(problem, pins, &request, place)? {
+        if !self.can_insert(problem, pins, &request, place)? {
             return Ok(false);
         }
         self.put(problem, pins, &request, place)?;
         Ok(true)
     }
 
-    /// Where a live request is put into the draft best, as `best_insertion` has it.
+    /// Returns the best insertion of a current request into the draft, as `best_insertion` defines it.
     pub(crate) fn best(
         &self,
         problem: &Problem,
@@ -122,13 +123,13 @@ impl Draft {
         ensures best { result ≡ best_insertion problem.now pins.now.routes (draft_of self.now)
             (request_name request.now) }
         ensures put { IfSome result
-            (IsPut problem.now pins.now.routes (draft_of self.now) request.now) }
+            (IsInsertable problem.now pins.now.routes (draft_of self.now) request.now) }
     {
         insertion_laws();
         self.best_within(problem, pins, request, &NO_LIMIT)
     }
 
-    // The same, where that costs less than the limit.
+    // Like `best`, but returns `None` unless the insertion costs less than `limit`.
     fn best_within(
         &self,
         problem: &Problem,
@@ -141,43 +142,44 @@ impl Draft {
         ensures best { IsBestWithin problem.now pins.now.routes (draft_of self.now) request.now
             limit.now result }
         ensures put { IfSome result
-            (IsPut problem.now pins.now.routes (draft_of self.now) request.now) }
+            (IsInsertable problem.now pins.now.routes (draft_of self.now) request.now) }
     {
-        passes_are_local();
-        tests_say_feasible();
+        passing_is_local();
+        feasible_alone_decides_feasibility();
         best_insertions_are_least();
         requests_are_found_by_stop();
-        requests_stand_by_name();
-        numbers_are_below_the_next();
+        requests_are_stored_by_name();
+        numbers_are_below_next_number();
         if self.is_planned(request) {
             return None;
         }
-        let terms = Terms {
+        let terms = InsertionContext {
             problem,
             pins: pins.routes.as_slice(),
             limit,
         };
         let vehicles = Vehicles {
             tables: &self.tours,
-            rooms: &self.rooms,
-            end: self.reach(),
-            first: self.first_asked(),
+            max_demands: &self.max_demands,
+            end: self.scan_len(),
+            first: self.changed_vehicles(),
         };
         best_within(&terms, &vehicles, request)
     }
 
-    // The vehicles that a best insertion asks first: those that were changed, as long as they are few.
-    fn first_asked(&self) -> &[(u32, Tour)]
+    // Returns the vehicles that a best insertion looks at first: those that were changed, if they are few.
+    fn changed_vehicles(&self) -> &[(u32, Tour)]
         ensures { AreWithin (length self.now.tours) result.now }
     {
-        if self.log.len() > MOST_FIRST {
+        if self.log.len() > MAX_FIRST {
             return &[];
         }
         self.log.as_slice()
     }
 
-    // Whether a live request can be put in there: it is unplanned, the place is one behind the pin, and the result passes.
-    fn can_be_put(
+    // Returns whether a current request can be inserted at this place: it is unplanned, the place is after the
+    // pin, and the result passes.
+    fn can_insert(
         &self,
         problem: &Problem,
         pins: &Pins,
@@ -187,15 +189,15 @@ impl Draft {
         requires is { IsDraftOf problem.now pins.now.routes self.now }
         requires request { request_named problem.now (request_name request.now) ≡ Some request.now }
         ensures put { IfOk result (λ can. can ≡ true
-            → IsPut problem.now pins.now.routes (draft_of self.now) request.now place) }
-        ensures none { IfOk result (λ can. can ≡ false → put_in problem.now pins.now.routes
+            → IsInsertable problem.now pins.now.routes (draft_of self.now) request.now place) }
+        ensures none { IfOk result (λ can. can ≡ false → inserted_at problem.now pins.now.routes
             (draft_of self.now) (request_name request.now) place ≡ None) }
     {
-        passes_are_local();
-        tests_say_feasible();
+        passing_is_local();
+        feasible_alone_decides_feasibility();
         requests_are_found_by_stop();
-        requests_stand_by_name();
-        numbers_are_below_the_next();
+        requests_are_stored_by_name();
+        numbers_are_below_next_number();
         if self.is_planned(request) {
             return Ok(false);
         }
@@ -204,11 +206,11 @@ impl Draft {
         }
         let (vehicle, pickup, delivery) = place;
         let mut route = Vec::new(*self.tours.allocator());
-        put_into(&mut route, request, pickup, delivery, self.route(vehicle))?;
+        insert_into(&mut route, request, pickup, delivery, self.route(vehicle))?;
         Ok(tour_of(&self.tours, vehicle).is_feasible(problem, &route))
     }
 
-    // Whether the request can have these places behind the pins.
+    // Returns whether this is a place of the request after the pins.
     fn is_place_of(&self, pins: &[Route], request: &Request, place: (u64, u64, u64)) -> bool
         ensures { result ≡ is_place_of pins.now (draft_of self.now) request.now place }
     {
@@ -216,12 +218,12 @@ impl Draft {
         if vehicle < 1 || (self.tours.len() as u64) < vehicle {
             return false;
         }
-        let kept = of_vehicle(pins, vehicle).len() as u64;
+        let kept = route_of(pins, vehicle).len() as u64;
         let stops = self.route(vehicle).len() as u64;
         are_places(request, kept, stops, pickup, delivery)
     }
 
-    // Puts the request into the draft at a place where it can be put.
+    // Inserts the request into the draft at a place where it can be inserted.
     fn put(
         &mut self,
         problem: &Problem,
@@ -230,7 +232,7 @@ impl Draft {
         place: (u64, u64, u64),
     ) -> Result<(), OutOfMemory>
         requires is { IsDraftOf problem.now pins.now.routes self.old }
-        requires put { IsPut problem.now pins.now.routes (draft_of self.old) request.now place }
+        requires put { IsInsertable problem.now pins.now.routes (draft_of self.old) request.now place }
         ensures is { OnOk result (IsDraftOf problem.now pins.now.routes self.new) }
         ensures base { OnOk result (base_of self.new ≡ base_of self.old) }
         ensures draft { OnOk result (draft_of self.new
@@ -239,15 +241,15 @@ impl Draft {
     {
         let (vehicle, pickup, delivery) = place;
         let mut route = mem::replace(&mut self.room, Vec::new(*self.tours.allocator()));
-        put_into(&mut route, request, pickup, delivery, self.route(vehicle))?;
+        insert_into(&mut route, request, pickup, delivery, self.route(vehicle))?;
         let unplanned = self.cost.unplanned - 1;
         self.cost = self.set_route(problem, vehicle as u32, &route, unplanned)?;
         self.room = route;
         Ok(())
     }
 
-    // Gives a vehicle another route; answers what the draft costs then, where it leaves so many requests out. The route that the vehicle has
-    // in the base, which a move often gives back, takes its tour with it.
+    // Replaces the route of a vehicle. Returns the cost of the draft, with `unplanned` as the number of
+    // unplanned requests. A move often restores the route of the base: then its tour is taken from the log.
     fn set_route(
         &mut self,
         problem: &Problem,
@@ -260,7 +262,7 @@ impl Draft {
         requires cost { self.old.cost ≡ cost_of problem.now (draft_of self.old) }
         requires from_one { 1 ≤ vehicle }
         requires within { vehicle ≤ length self.old.tours }
-        requires route { AreLiveOnce problem.now route.now }
+        requires route { AreDistinctStops problem.now route.now }
         requires limits { KeepsLimits problem.now route.now }
         requires small { total_length problem.now
             (with_route (draft_of self.old) vehicle route.now) ≤ 2 ^ 63 }
@@ -286,24 +288,24 @@ impl Draft {
         Ok(cost)
     }
 
-    // What the draft costs with another tour for this vehicle, where it then leaves so many requests out.
+    // Returns the cost of the draft when this vehicle has another tour and `unplanned` requests are left out.
     fn cost_with(&self, problem: &Problem, vehicle: u32, tour: &Tour, unplanned: u64) -> Cost
         requires tables { AreTablesIn problem.now self.now.tours }
         requires cost { self.now.cost ≡ cost_of problem.now (draft_of self.now) }
         requires from_one { 1 ≤ vehicle }
         requires within { vehicle ≤ length self.now.tours }
-        requires course { course_of problem.now (route_of tour.now) ≡ tour.now }
+        requires course { course_of problem.now (course_route tour.now) ≡ tour.now }
         requires small { total_length problem.now
-            (with_route (draft_of self.now) vehicle (route_of tour.now)) ≤ 2 ^ 63 }
+            (with_route (draft_of self.now) vehicle (course_route tour.now)) ≤ 2 ^ 63 }
         requires unplanned { unplanned ≡ unplanned_count problem.now
-            (with_route (draft_of self.now) vehicle (route_of tour.now)) }
+            (with_route (draft_of self.now) vehicle (course_route tour.now)) }
         ensures { result ≡ cost_of problem.now
-            (with_route (draft_of self.now) vehicle (route_of tour.now)) }
+            (with_route (draft_of self.now) vehicle (course_route tour.now)) }
     {
         let old = self.distance_of(problem, vehicle);
         Cost {
             unplanned,
-            vehicles: self.vehicles_with(problem, vehicle, tour, self.cost.vehicles),
+            vehicles: self.vehicle_count_with(problem, vehicle, tour, self.cost.vehicles),
             distance: self.cost.distance - old + tour.table().distance(),
         }
     }

@@ -1,13 +1,12 @@
-//! Stops of a draft that take one another's places: two requests are exchanged, or the ends of two routes
-//! (2-opt*).
+//! Moves that exchange stops of a draft: two requests swap places, or two routes swap their ends (2-opt*).
 //!
-//! Such moves are refused often, so their routes are judged before any table is made: the limits first, since
+//! Such moves are refused often, so their routes are checked before any table is built: first the limits, since
 //! they are broken more often, and then the pairs.
 ghost use Rattle.std.specs.Prelude.{◌≡◌, ◌==◌, ◌&&◌, ◌≤◌, ◌⊎◌, not, nat_eq, map, length, IsSome, IfSome, IfOk, OnOk, OnErr};
 ghost use Rattle.std.specs.List.{concat, IsDistinct};
 ghost use Rattle.plan_types.specs.Request.{stop_in};
-ghost use Rattle.move_ops.specs.Insertion.{of_vehicle};
-ghost use Rattle.move_ops.specs.Ways.{cuts_of, IsCutOf};
+ghost use Rattle.move_ops.specs.Insertion.{route_of};
+ghost use Rattle.move_ops.specs.Legs.{cuts_of, IsCutOf};
 ghost use Rattle.move_ops.specs.Changes.{with_routes, AreChanges, AreIn, AreVehiclesOf, IsChange};
 ghost use Rattle.move_ops.specs.Moves.{counterpart, exchanged, crossed, joined, is_cut, are_exchangeable};
 ghost use Rattle.std.specs.Option.{option_map};
@@ -15,16 +14,17 @@ ghost use Rattle.move_ops.specs.Drafts.{draft_of, base_of, IsDraftOf, IsMade};
 
 use super::Draft;
 use crate::changes::{Change, are_all_feasible};
-use crate::lists::of_vehicle;
+use crate::lists::route_of;
 use crate::naming::request_named;
 use crate::swap::{counterparts, have_same_form};
 use crate::tour::tour_of;
-use plan_audit::{passes_are_local, plans_are_local, tests_say_feasible};
+use plan_audit::{feasible_alone_decides_feasibility, passing_is_local, plans_are_disjoint_routes};
 use plan_types::{
-    OutOfMemory, Pins, Problem, Request, Route, requests_are_found_by_stop, requests_stand_by_name,
+    OutOfMemory, Pins, Problem, Request, Route, requests_are_found_by_stop,
+    requests_are_stored_by_name,
 };
 
-/// A vehicle, and behind how many stops its route is cut.
+/// A cut of a vehicle's route, after its first `stops` stops.
 #[derive(Clone, Copy)]
 pub(super) struct Cut {
     pub(super) vehicle: u64,
@@ -56,7 +56,8 @@ impl Cuts {
 }
 
 impl Draft {
-    /// Lets two requests of the draft take one another's places, as `exchange` does; answers whether it did.
+    /// Exchanges two requests of the draft, as `exchange` in `plan_moves` does. Returns whether the move was
+    /// made.
     pub fn exchange(
         &mut self,
         problem: &Problem,
@@ -73,12 +74,12 @@ impl Draft {
         ensures err { OnErr result (self.new ≡ self.old) }
     {
         let unplanned = self.cost.unplanned;
-        let changes = self.exchanging(problem, pins, a, b)?;
+        let changes = self.exchange_changes(problem, pins, a, b)?;
         self.apply(problem, pins, changes, unplanned)
     }
 
-    // The routes with the two requests exchanged, where the plan with them passes.
-    fn exchanging(
+    // Returns the routes with the two requests exchanged, if the plan with them passes.
+    fn exchange_changes(
         &self,
         problem: &Problem,
         pins: &Pins,
@@ -93,11 +94,11 @@ impl Draft {
             (λ o. IfSome o (λ cs. IsChange problem.now pins.now.routes
             (draft_of self.now) cs.items self.now.cost.unplanned)) }
     {
-        passes_are_local();
-        plans_are_local();
-        tests_say_feasible();
+        passing_is_local();
+        plans_are_disjoint_routes();
+        feasible_alone_decides_feasibility();
         requests_are_found_by_stop();
-        requests_stand_by_name();
+        requests_are_stored_by_name();
         if a == b {
             return Ok(None);
         }
@@ -117,7 +118,8 @@ impl Draft {
         Ok(Some(changes))
     }
 
-    // The routes with the stops of either request where those of the other were, of the vehicles that have some.
+    // Returns the changed routes of an exchange: each stop of one request takes the place of the other's. Only
+    // vehicles with such a stop are in the list.
     fn exchanges(&self, first: &Request, second: &Request) -> Result<Vec<Change>, OutOfMemory>
         requires few { length (draft_of self.now) ≤ 40000 }
         requires once { IsDistinct nat_eq (concat (draft_of self.now)) }
@@ -125,8 +127,8 @@ impl Draft {
             (map (map (counterpart first.now second.now)) (draft_of self.now)) changes.items) }
     {
         let mut vehicles = Vec::with_capacity(*self.tours.allocator(), 4)?;
-        self.note_request(first, &mut vehicles)?;
-        self.note_request(second, &mut vehicles)?;
+        self.collect_vehicles(first, &mut vehicles)?;
+        self.collect_vehicles(second, &mut vehicles)?;
         self.exchanges_at(first, second, &vehicles)
     }
 
@@ -155,7 +157,7 @@ impl Draft {
         Ok(changes)
     }
 
-    // Whether both requests can be moved, and each to the places of the other.
+    // Returns whether both requests can be moved and each fits the places of the other.
     fn are_exchangeable(
         &self,
         problem: &Problem,
@@ -172,7 +174,7 @@ impl Draft {
             && have_same_form(first, second)
     }
 
-    /// Lets two vehicles of the draft exchange the ends of their routes, as `two_opt_star` does; answers whether it did.
+    /// Exchanges the ends of two routes of the draft, as `two_opt_star` does. Returns whether the move was made.
     pub fn cross(
         &mut self,
         problem: &Problem,
@@ -191,12 +193,12 @@ impl Draft {
         ensures err { OnErr result (self.new ≡ self.old) }
     {
         let unplanned = self.cost.unplanned;
-        let changes = self.crossing(problem, pins, Cuts::of(a, a_cut, b, b_cut))?;
+        let changes = self.cross_changes(problem, pins, Cuts::of(a, a_cut, b, b_cut))?;
         self.apply(problem, pins, changes, unplanned)
     }
 
-    // The two routes with their ends exchanged, where the plan with them passes.
-    fn crossing(
+    // Returns the two routes with their ends exchanged, if the plan with them passes.
+    fn cross_changes(
         &self,
         problem: &Problem,
         pins: &Pins,
@@ -211,8 +213,8 @@ impl Draft {
             (λ o. IfSome o (λ cs. IsChange problem.now pins.now.routes
             (draft_of self.now) cs.items self.now.cost.unplanned)) }
     {
-        passes_are_local();
-        tests_say_feasible();
+        passing_is_local();
+        feasible_alone_decides_feasibility();
         if !self.are_crossable(pins, cuts) {
             return Ok(None);
         }
@@ -237,7 +239,7 @@ impl Draft {
         Ok(Some(changes))
     }
 
-    /// Whether these are cuts of two routes.
+    /// Returns whether these are valid cuts of two different routes.
     pub(super) fn are_crossable(&self, pins: &Pins, cuts: Cuts) -> bool
         ensures { result ≡ (not (cuts.first.vehicle == cuts.second.vehicle)
             && (is_cut pins.now.routes (draft_of self.now) cuts.first.vehicle cuts.first.stops
@@ -248,25 +250,26 @@ impl Draft {
         first.vehicle != second.vehicle && self.is_cut(kept, first) && self.is_cut(kept, second)
     }
 
-    // Whether the route can be cut there, behind what is pinned.
+    // Returns whether this is a valid cut: the vehicle exists, its route has at least as many stops, and its
+    // pin at most as many.
     fn is_cut(&self, pins: &[Route], cut: Cut) -> bool
         ensures { result ≡ is_cut pins.now (draft_of self.now) cut.vehicle cut.stops }
     {
         if cut.vehicle < 1 || (self.tours.len() as u64) < cut.vehicle {
             return false;
         }
-        let kept = of_vehicle(pins, cut.vehicle).len() as u64;
+        let kept = route_of(pins, cut.vehicle).len() as u64;
         let stops = self.route(cut.vehicle).len() as u64;
         kept <= cut.stops && cut.stops <= stops
     }
 
-    // The stops of one route before its cut, and then those of the other behind its cut.
+    // Returns the stops of one route before its cut, followed by those of the other after its cut.
     fn joined(&self, front: Cut, back: Cut) -> Result<Route, OutOfMemory>
         requires front { IsCutOf (draft_of self.now) front }
         requires back { IsCutOf (draft_of self.now) back }
         ensures { IfOk result
-            (λ new. new ≡ joined (of_vehicle (draft_of self.now) front.vehicle) front.stops
-            (of_vehicle (draft_of self.now) back.vehicle) back.stops) }
+            (λ new. new ≡ joined (route_of (draft_of self.now) front.vehicle) front.stops
+            (route_of (draft_of self.now) back.vehicle) back.stops) }
     {
         let front = &self.route(front.vehicle)[..front.stops as usize];
         let back = &self.route(back.vehicle)[back.stops as usize..];

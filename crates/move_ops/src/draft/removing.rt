@@ -1,18 +1,18 @@
-//! Requests taken out of a draft.
+//! Removing requests from a draft.
 //!
-//! A removal looks at the routes where the requests' stops are seated: since a stop stands once, no other
-//! route has it. A request's stops leave together, so the pairs that stay are whole and the limits alone are
-//! asked. Hardly any removal breaks one, so a route is judged as its table is made in spare memory
-//! (`Tour::remade_if_feasible`), which drives it once; the memory of a table whose route is refused goes back
-//! to the allocator.
+//! A removal looks only at the routes in which the requests' stops are: a stop is in one route at most. All
+//! stops of a request leave together, so the other pairs stay whole and only the limits are checked. Hardly any
+//! removal breaks a limit, so a route is checked while its table is built in spare memory
+//! (`Tour::into_rebuilt_if_feasible`). This drives the route once. If the route is refused, the memory of the table is
+//! freed.
 ghost use Rattle.std.specs.Prelude.{◌≡◌, ◌≤◌, ◌+◌, ◌∷◌, [], length, nat_eq, true, false, ℕ, All, IsSome, IfSome, IfOk, OnOk, OnErr, MatchOption};
 ghost use Rattle.route_sched.specs.Cost.{has_stop, is_planned};
-ghost use Rattle.move_ops.specs.Changes.{changes_of, distinct_count, removals, with_routes, AreCourses, AreIn, AreToursOf, AreVehiclesToChange, IsChange, IsRemoval, Notes};
+ghost use Rattle.move_ops.specs.Changes.{changes_of, distinct_count, removals, with_routes, AreCourses, AreIn, AreToursOf, AreVehiclesToChange, IsChange, IsRemoval, Collects};
 ghost use Rattle.move_ops.specs.Moves.{removed, without_named, is_of_named, is_movable_name};
 ghost use Rattle.std.specs.List.{concat, list_all, IsDistinct};
 ghost use Rattle.plan_types.specs.Request.{stop_in};
 ghost use Rattle.plan_audit.specs.Passes.{feasible_alone, has};
-ghost use Rattle.route_sched.specs.Route.{AreLiveOnce};
+ghost use Rattle.route_sched.specs.Route.{AreDistinctStops};
 ghost use Rattle.move_ops.specs.Pairing.{are_paired};
 ghost use Rattle.move_ops.specs.Tables.{AreTablesIn};
 ghost use Rattle.std.specs.Option.{option_map};
@@ -23,16 +23,16 @@ use crate::facts::problem_keeps_limits;
 use crate::lists::is_in;
 use crate::naming::request_named;
 use crate::removal::keep_others;
-use crate::seats::unseat;
 use crate::tour::Tour;
-use plan_audit::{passes_are_local, plans_are_local, tests_say_feasible};
+use crate::vehicle_hints::clear_hint;
+use plan_audit::{feasible_alone_decides_feasibility, passing_is_local, plans_are_disjoint_routes};
 use plan_types::{
-    OutOfMemory, Pins, Problem, Request, requests_are_found_by_stop, requests_stand_by_name,
+    OutOfMemory, Pins, Problem, Request, requests_are_found_by_stop, requests_are_stored_by_name,
 };
 use std::mem;
 
 impl Draft {
-    /// Takes the requests out of the draft, as `remove` does of a plan; answers whether it did.
+    /// Removes the requests from the draft, as `remove` in `plan_moves` does. Returns whether they were removed.
     pub fn remove(
         &mut self,
         problem: &Problem,
@@ -49,15 +49,21 @@ impl Draft {
     {
         match self.removing(problem, pins, names)? {
             Some(tours) => {
-                self.take_out(problem, pins, names, tours);
+                self.install_removal(problem, pins, names, tours);
                 Ok(true)
             }
             None => Ok(false),
         }
     }
 
-    // Gives some vehicles the tours without these requests.
-    fn take_out(&mut self, problem: &Problem, pins: &Pins, names: &[u32], tours: Vec<(u32, Tour)>)
+    // Replaces the tours of some vehicles by tours without the stops of these requests.
+    fn install_removal(
+        &mut self,
+        problem: &Problem,
+        pins: &Pins,
+        names: &[u32],
+        tours: Vec<(u32, Tour)>,
+    )
         requires is { IsDraftOf problem.now pins.now.routes self.old }
         requires courses { AreCourses problem.now tours.items }
         requires change { IsChange problem.now pins.now.routes
@@ -75,7 +81,7 @@ impl Draft {
         self.clear_named(problem, names);
     }
 
-    // Notes that no stop of these requests is in the draft.
+    // Clears the hints of the stops of these requests. No route has these stops.
     fn clear_named(&mut self, problem: &Problem, names: &[u32])
         requires { (n : ℕ) → is_of_named problem.now names.now n ≡ true
             → has_stop (draft_of self.old) n ≡ false }
@@ -108,11 +114,12 @@ impl Draft {
         requires { has_stop (draft_of self.old) stop ≡ false }
         ensures { self.new ≡ self.old }
     {
-        unseat(&mut self.seats, stop);
+        clear_hint(&mut self.vehicle_hints, stop);
     }
 
-    // The tours without these requests, where the plan with them passes. Its pairs are whole, since a request's stops leave together. Routes
-    // are judged as their tables are made, since hardly any removal breaks a limit.
+    // Returns the tours without these requests, if the plan with them passes. The pairs of these tours are
+    // whole, since all stops of a request leave together. A route is checked while its table is built, since
+    // hardly any removal breaks a limit.
     fn removing(
         &mut self,
         problem: &Problem,
@@ -127,10 +134,10 @@ impl Draft {
             (draft_of self.old) names.now self.old.cost.unplanned ts.items)) }
         ensures same { self.new ≡ self.old }
     {
-        passes_are_local();
-        plans_are_local();
-        tests_say_feasible();
-        requests_stand_by_name();
+        passing_is_local();
+        plans_are_disjoint_routes();
+        feasible_alone_decides_feasibility();
+        requests_are_stored_by_name();
         requests_are_found_by_stop();
         let Some(vehicles) = self.vehicles_of(problem, pins, names)? else {
             return Ok(None);
@@ -138,8 +145,8 @@ impl Draft {
         self.tours_without(problem, names, &vehicles)
     }
 
-    // The tours of these vehicles without the stops of the named requests, where pairs are known to stay whole; none where a route is not
-    // feasible alone then.
+    // Returns the tours of these vehicles without the stops of the named requests, or `None` if one of the
+    // routes is not feasible by itself. The caller guarantees that pairs stay whole.
     fn tours_without(
         &mut self,
         problem: &Problem,
@@ -149,7 +156,7 @@ impl Draft {
         requires tables { AreTablesIn problem.now self.old.tours }
         requires few { length self.old.tours ≤ 40000 }
         requires within { AreIn (draft_of self.old) vehicles.now }
-        requires once { All (λ c. AreLiveOnce problem.now c.route)
+        requires once { All (λ c. AreDistinctStops problem.now c.route)
             (removals problem.now names.now (draft_of self.old) vehicles.now) }
         requires pairs { All (λ c. are_paired problem.now c.route ≡ true)
             (removals problem.now names.now (draft_of self.old) vehicles.now) }
@@ -176,7 +183,7 @@ impl Draft {
         Ok(Some(tours))
     }
 
-    // The vehicles of the named requests' stops, where each of these requests can be moved.
+    // Returns the vehicles of the named requests' stops, if each of these requests can be moved.
     fn vehicles_of(
         &self,
         problem: &Problem,
@@ -193,15 +200,15 @@ impl Draft {
     {
         let mut vehicles = Vec::with_capacity(*self.tours.allocator(), names.len())?;
         for name in names {
-            if !self.note_named(problem, pins, *name, &mut vehicles)? {
+            if !self.collect_vehicles_of(problem, pins, *name, &mut vehicles)? {
                 return Ok(None);
             }
         }
         Ok(Some(vehicles))
     }
 
-    // Adds the vehicles of its stops, where the request can be moved; answers whether it can.
-    fn note_named(
+    // Adds the vehicles of the request's stops if the request can be moved. Returns whether it can.
+    fn collect_vehicles_of(
         &self,
         problem: &Problem,
         pins: &Pins,
@@ -212,46 +219,47 @@ impl Draft {
         requires once { IsDistinct nat_eq (concat (draft_of self.now)) }
         ensures movable { IfOk result (λ is. is
             ≡ is_movable_name problem.now pins.now.routes (draft_of self.now) name) }
-        ensures noted { IfOk result (λ is. is ≡ true → Notes (draft_of self.now)
+        ensures noted { IfOk result (λ is. is ≡ true → Collects (draft_of self.now)
             (λ n. is_of_named problem.now (name ∷ []) n ≡ true)
             vehicles.old.items vehicles.new.items) }
     {
-        requests_stand_by_name();
+        requests_are_stored_by_name();
         let Some(request) = request_named(problem, name) else {
             return Ok(false);
         };
         if self.is_pinned(problem, pins, &request) {
             return Ok(false);
         }
-        self.note_request(&request, vehicles)
+        self.collect_vehicles(&request, vehicles)
     }
 
-    /// Adds the vehicles of the request's stops; answers whether it has any, so whether it is planned.
-    pub(crate) fn note_request(
+    /// Adds the vehicles of the request's stops to the list. Returns whether a route has a stop of the request,
+    /// that is, whether the request is planned.
+    pub(crate) fn collect_vehicles(
         &self,
         request: &Request,
         vehicles: &mut Vec<u64>,
     ) -> Result<bool, OutOfMemory>
         requires { IsDistinct nat_eq (concat (draft_of self.now)) }
         ensures planned { IfOk result (λ is. is ≡ is_planned (draft_of self.now) request.now) }
-        ensures noted { OnOk result (Notes (draft_of self.now)
+        ensures noted { OnOk result (Collects (draft_of self.now)
             (λ n. IsSome (stop_in n request.now)) vehicles.old.items vehicles.new.items) }
     {
         match request {
-            Request::Single(stop) => self.note(stop.number, vehicles),
+            Request::Single(stop) => self.collect_vehicle(stop.number, vehicles),
             Request::Pair(pickup, delivery) => {
-                let is_picked_up = self.note(pickup.number, vehicles)?;
-                let is_delivered = self.note(delivery.number, vehicles)?;
+                let is_picked_up = self.collect_vehicle(pickup.number, vehicles)?;
+                let is_delivered = self.collect_vehicle(delivery.number, vehicles)?;
                 Ok(is_picked_up || is_delivered)
             }
         }
     }
 
-    // Adds the vehicle of the stop; answers whether it has one.
-    fn note(&self, stop: u32, vehicles: &mut Vec<u64>) -> Result<bool, OutOfMemory>
+    // Adds the vehicle of the stop to the list. Returns whether the stop is in a route.
+    fn collect_vehicle(&self, stop: u32, vehicles: &mut Vec<u64>) -> Result<bool, OutOfMemory>
         requires { IsDistinct nat_eq (concat (draft_of self.now)) }
         ensures planned { IfOk result (λ is. is ≡ has_stop (draft_of self.now) stop) }
-        ensures noted { OnOk result (Notes (draft_of self.now) (λ n. n ≡ stop)
+        ensures noted { OnOk result (Collects (draft_of self.now) (λ n. n ≡ stop)
             vehicles.old.items vehicles.new.items) }
     {
         let vehicle = self.vehicle_of(stop);
@@ -266,7 +274,7 @@ impl Draft {
     }
 }
 
-// How many names there are, where one that stands twice counts once.
+// Returns how many different names there are.
 fn distinct_count(names: &[u32]) -> u64
     ensures count { result ≡ distinct_count names.now }
     ensures few { result ≤ length names.now }

@@ -1,4 +1,5 @@
--- Two coordinates are at most 2,000,000 apart, so the sum of the squares does not overflow, and its nearest root is at most 2,828,427.
+-- Two coordinates differ by at most 2,000,000, so the sum of the squares does not overflow, and its nearest
+-- root is at most 2,828,427.
 use Rattle.std.proofs.Common.{arith}
 use Rattle.nint_dist.proofs.Distances.{squares_le, root_le}
 use Rattle.nint_dist.proofs.dist.Goals as goal

@@ -1,13 +1,13 @@
 //! Stops, problems and routes that the examples share.
 ghost use Rattle.std.specs.Prelude.{◌≡◌, true, IsTrue};
-ghost use Rattle.route_sched.specs.Route.{AreLiveOnce};
+ghost use Rattle.route_sched.specs.Route.{AreDistinctStops};
 
 use plan_types::limits::{MAX_FLEET, MAX_STOP_NUMBER};
 use plan_types::{Kind, Plan, Problem, Request, Route, Routes, Stop};
 use std::alloc::Global;
 use std::test::Fail;
 
-/// A stop that may be served from time 0 on.
+/// Returns a stop that may be served from time 0 on.
 pub(crate) fn stop_at(
     number: u32,
     place: (i32, i32),
@@ -26,23 +26,23 @@ pub(crate) fn stop_at(
     }
 }
 
-/// A request of one stop that takes no time.
+/// Returns a request of one stop with no service time.
 pub(crate) fn single(number: u32, place: (i32, i32), demand: i32, latest: u32) -> Request {
     Request::Single(stop_at(number, place, demand, latest, 0))
 }
 
-/// A pickup of one good that has to be served at the latest then, and its delivery at the same place.
+/// Returns a pickup with demand 1 and this latest start, and its delivery at the same place.
 pub(crate) fn pair_at(number: u32, place: (i32, i32), latest: u32) -> Request {
     let pickup = stop_at(number, place, 1, latest, 0);
     Request::Pair(pickup, stop_at(number.saturating_add(1), place, -1, 50, 0))
 }
 
-/// The depot at (0, 0), where each vehicle has to be back at the latest then.
+/// Returns the depot at (0, 0) with this latest return.
 pub(crate) fn depot_until(back: u32) -> Stop {
     stop_at(0, (0, 0), 0, back, 0)
 }
 
-/// A problem of these requests.
+/// Returns a problem of these requests.
 pub(crate) fn problem_of(
     alloc: Global,
     kind: Kind,
@@ -58,7 +58,7 @@ pub(crate) fn problem_of(
     Ok(problem)
 }
 
-/// One pickup and its delivery, with a fleet of two.
+/// Returns a problem of one pickup and its delivery, with a fleet of two.
 pub(crate) fn one_pair(
     alloc: Global,
     kind: Kind,
@@ -72,13 +72,13 @@ pub(crate) fn one_pair(
     problem_of(alloc, kind, depot_until(back), capacity, 2, &requests)
 }
 
-/// Two pairs on two places, with a fleet of one. The second pickup may have to be served soon.
+/// Returns a problem of two pairs at two places, with a fleet of one. The second pickup has this latest start.
 pub(crate) fn two_pairs(alloc: Global, kind: Kind, latest: u32) -> Result<Problem, Fail> {
     let requests = [pair_at(1, (1, 1), 50), pair_at(3, (2, 2), latest)];
     problem_of(alloc, kind, depot_until(100), 10, 1, &requests)
 }
 
-/// As many pairs as a problem can have, all at the depot, and as many vehicles.
+/// Returns a problem with as many pairs as possible, all at the depot, and as many vehicles.
 pub(crate) fn most_pairs(alloc: Global) -> Result<Problem, Fail> {
     let mut problem = Problem::new(alloc, Kind::LiLim, depot_until(100), 1, MAX_FLEET)?;
     for pair in 0..MAX_STOP_NUMBER / 2 {
@@ -87,7 +87,7 @@ pub(crate) fn most_pairs(alloc: Global) -> Result<Problem, Fail> {
     Ok(problem)
 }
 
-/// A route of the stops from the first number to the last.
+/// Returns a route of the stops from the first number to the last.
 pub(crate) fn route_between(alloc: Global, first: u32, last: u32) -> Result<Route, Fail> {
     let mut route = Route::new(alloc);
     for number in first..=last {
@@ -96,7 +96,7 @@ pub(crate) fn route_between(alloc: Global, first: u32, last: u32) -> Result<Rout
     Ok(route)
 }
 
-/// All stops in routes of so many, by number, and idle vehicles behind them.
+/// Returns all stops in ascending order in routes of this length, followed by idle vehicles.
 pub(crate) fn most_routes(alloc: Global, length: u32) -> Result<Routes, Fail> {
     let mut routes = Routes::with_capacity(alloc, MAX_FLEET as usize)?;
     for vehicle in 0..MAX_FLEET {
@@ -125,9 +125,9 @@ pub(crate) fn one_route(alloc: Global, stops: &[u32]) -> Result<Plan, Fail> {
     Ok(Plan { routes })
 }
 
-// Whether each of these numbers is a stop's and greater than the one before it.
-fn rise_and_live(problem: &Problem, numbers: &[u32]) -> bool
-    ensures { result ≡ true → AreLiveOnce problem.now numbers.now }
+// Returns whether each of these numbers is the number of a stop, and greater than the one before it.
+fn are_ascending_stops(problem: &Problem, numbers: &[u32]) -> bool
+    ensures { result ≡ true → AreDistinctStops problem.now numbers.now }
 {
     let mut last = 0;
     for number in numbers {
@@ -139,9 +139,9 @@ fn rise_and_live(problem: &Problem, numbers: &[u32]) -> bool
     true
 }
 
-// The same in any order: each of the numbers is a stop's and none behind it is the same, in quadratic time.
-fn differ_and_live(problem: &Problem, stops: &[u32]) -> bool
-    ensures { result ≡ true → AreLiveOnce problem.now stops.now }
+// Returns whether each of these numbers is the number of a stop and occurs only once. Takes quadratic time.
+fn are_distinct_in_any_order(problem: &Problem, stops: &[u32]) -> bool
+    ensures { result ≡ true → AreDistinctStops problem.now stops.now }
 {
     let mut left = stops;
     while let [stop, rest @ ..] = left {
@@ -153,12 +153,12 @@ fn differ_and_live(problem: &Problem, stops: &[u32]) -> bool
     true
 }
 
-/// Whether the stops are live and stand once each. The long routes of the examples rise.
-pub(crate) fn are_live_once(problem: &Problem, stops: &[u32]) -> bool
-    ensures { IsTrue result → AreLiveOnce problem.now stops.now }
+/// Returns whether the stops are known and distinct. The long routes of the examples are in ascending order.
+pub(crate) fn are_distinct_stops(problem: &Problem, stops: &[u32]) -> bool
+    ensures { IsTrue result → AreDistinctStops problem.now stops.now }
 {
-    if rise_and_live(problem, stops) {
+    if are_ascending_stops(problem, stops) {
         return true;
     }
-    differ_and_live(problem, stops)
+    are_distinct_in_any_order(problem, stops)
 }

@@ -1,13 +1,13 @@
 //! Rounded roots and distances.
 ghost use Rattle.plan_types.specs.Limits.{IsCoordinate};
-ghost use Rattle.nint_dist.specs.Distance.{IsPlaced};
+ghost use Rattle.nint_dist.specs.Distance.{HasValidCoordinates};
 
 use nint_dist::{dist, nint_root};
 use plan_types::Stop;
 
 fn stop_at(x: i32, y: i32) -> Stop
     requires { IsCoordinate x × IsCoordinate y }
-    ensures { IsPlaced result }
+    ensures { HasValidCoordinates result }
 {
     Stop {
         number: 1,
@@ -20,7 +20,7 @@ fn stop_at(x: i32, y: i32) -> Stop
     }
 }
 
-/// The nearest roots of numbers: of the least ones, and where roots pass 2,048, up to which short numbers go.
+/// Numbers and their nearest roots: the smallest numbers, and those around the square of 2,048.
 const ROOTS: [(u64, u64); 15] = [
     (0, 0),
     (1, 1),

@@ -5,7 +5,7 @@ use plan_types::{Cost, Pins, Plan, Route, Routes};
 use std::alloc::Global;
 use std::test::Fail;
 
-// Whether the copy of a plan is one route of these stops.
+// Returns whether the copy of a plan is one route of these stops.
 fn is_copied(plan: &Plan, stops: &[u32]) -> Result<bool, Fail> {
     match plan.copy()?.routes.into_vec().as_slice() {
         [route] => Ok(route.as_slice() == stops),
@@ -23,7 +23,7 @@ fn copies_a_plan(rt: HostRuntime) -> Result<(), Fail> {
     Ok(())
 }
 
-// How many pins the copy of two has.
+// Returns how many pins the copy of two pins has.
 fn copied_pins(alloc: Global) -> Result<usize, Fail> {
     let pins = Pins {
         routes: routes_of(alloc, &[3], &[])?,
@@ -46,14 +46,14 @@ fn builds_a_route(rt: HostRuntime) -> Result<(), Fail> {
 }
 
 #[test]
-fn puts_a_stop_in(rt: HostRuntime) -> Result<(), Fail> {
+fn inserts_a_stop(rt: HostRuntime) -> Result<(), Fail> {
     let mut route = route_of(rt.alloc(), &[4])?;
     route.insert(0, 5)?;
     assert!(rt; route.as_slice() == [5, 4].as_slice());
     Ok(())
 }
 
-// Puts 6 in place of the second stop and takes the first one out, which it tells.
+// Replaces the second stop by 6, removes the first one and returns it.
 fn edit_stops(route: &mut Route) -> u32 {
     if route.as_slice().len() < 2 {
         return 0;
@@ -70,7 +70,7 @@ fn edits_stops_in_place(rt: HostRuntime) -> Result<(), Fail> {
     Ok(())
 }
 
-// Whether these are two routes with these stops.
+// Returns whether these are two routes with these stops.
 fn are_two(routes: &Routes, first: &[u32], second: &[u32]) -> bool {
     match routes.as_slice() {
         [a, b] => a.as_slice() == first && b.as_slice() == second,
@@ -78,7 +78,7 @@ fn are_two(routes: &Routes, first: &[u32], second: &[u32]) -> bool {
     }
 }
 
-// The routes of two vehicles, the first of which stays at the depot.
+// Returns the routes of two vehicles, the first of which stays at the depot.
 fn second_alone(alloc: Global) -> Result<Routes, Fail> {
     let mut routes = Routes::with_capacity(alloc, 2)?;
     for stops in [[].as_slice(), [2, 1].as_slice()] {
@@ -94,7 +94,7 @@ fn builds_routes(rt: HostRuntime) -> Result<(), Fail> {
     Ok(())
 }
 
-// Puts the route in place of the first one, and a stop more in front of it.
+// Replaces the first route, and inserts one more stop before it.
 fn set_first(routes: &mut Routes, route: Route, stop: u32) -> Result<(), Fail> {
     if !routes.as_slice().is_empty() {
         routes.set(0, route);
@@ -111,7 +111,7 @@ fn edits_routes(rt: HostRuntime) -> Result<(), Fail> {
     Ok(())
 }
 
-// Takes the first route out, in whose place the vehicle stays at the depot. Whether it had these stops.
+// Takes the first route out, so that its vehicle stays at the depot, and returns whether it had these stops.
 fn takes_first(alloc: Global, routes: &mut Routes, stops: &[u32]) -> bool {
     if routes.as_slice().is_empty() {
         return false;
@@ -120,7 +120,7 @@ fn takes_first(alloc: Global, routes: &mut Routes, stops: &[u32]) -> bool {
 }
 
 #[test]
-fn takes_a_route_out(rt: HostRuntime) -> Result<(), Fail> {
+fn removes_a_route(rt: HostRuntime) -> Result<(), Fail> {
     let mut routes = routes_of(rt.alloc(), &[2, 1], &[3])?;
     assert!(rt; takes_first(rt.alloc(), &mut routes, &[2, 1]));
     assert!(rt; are_two(&routes, &[], &[3]));
@@ -135,7 +135,7 @@ fn copies_the_largest_route(rt: HostRuntime) -> Result<(), Fail> {
     Ok(())
 }
 
-// Whether each route has one stop, of its number.
+// Returns whether each route has only the stop of its own number.
 fn are_singles(routes: &[Route]) -> bool {
     let mut number = 0u32;
     for route in routes {

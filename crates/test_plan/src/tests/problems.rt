@@ -1,24 +1,25 @@
-//! Problems: what stands in them, what is put in and taken out.
+//! Problems: their contents, insertions and removals.
 use crate::tests::builders::{depot_until, most_pairs, pair_at, problem_of, single, two_pairs};
 use plan_types::limits::MAX_STOP_NUMBER;
 use plan_types::{Kind, Problem, PutFault};
 use std::alloc::Global;
 use std::test::Fail;
 
-// A pair with the numbers 3 and 4, and then a stop with the number 1.
+// Returns a problem with a pair of stops 3 and 4, and a request of one stop, 1.
 fn pair_and_single(alloc: Global) -> Result<Problem, Fail> {
     let requests = [pair_at(3, (3, 4), 100), single(1, (1, 1), 2, 100)];
     problem_of(alloc, Kind::LiLim, depot_until(100), 10, 2, &requests)
 }
 
-// The name, the partner and the pickup at a number, 0 for none.
+// Returns the request's name, the partner and the pickup that are found for a stop number, each 0 if there is
+// none.
 fn found(problem: &Problem, number: u32) -> [u32; 3] {
     let name = problem.name_of(number).unwrap_or(0);
     let partner = problem.partner_of(number).unwrap_or(0);
     [name, partner, problem.pickup_of(number).unwrap_or(0)]
 }
 
-/// A number, and the name, the partner and the pickup there.
+/// A stop number, and the name, the partner and the pickup that are found for it.
 const FOUND: [(u32, [u32; 3]); 5] = [
     (1, [1, 0, 0]),
     (2, [0, 0, 0]),
@@ -27,7 +28,7 @@ const FOUND: [(u32, [u32; 3]); 5] = [
     (5, [0, 0, 0]),
 ];
 
-// Whether these are found at these numbers.
+// Returns whether these values are found for these stop numbers.
 fn are_found(problem: &Problem, rows: &[(u32, [u32; 3])]) -> bool {
     for (number, want) in rows {
         if found(problem, *number) != *want {
@@ -37,12 +38,12 @@ fn are_found(problem: &Problem, rows: &[(u32, [u32; 3])]) -> bool {
     true
 }
 
-// The demand at a number.
+// Returns the demand of the stop with this number.
 fn demand(problem: &Problem, number: u32) -> Option<i32> {
     Some(problem.stop(number)?.demand)
 }
 
-/// A number, and the demand there.
+/// A stop number, and the demand of the stop.
 const DEMANDS: [(u32, Option<i32>); 5] = [
     (1, Some(2)),
     (2, None),
@@ -60,13 +61,13 @@ fn have_demands(problem: &Problem) -> bool {
     true
 }
 
-// The name of the first request.
+// Returns the name of the first request.
 fn first_name(problem: &Problem) -> Option<u32> {
     let (name, _) = problem.requests.get_index(0)?;
     Some(*name)
 }
 
-// Whether the pair and the single stop are found by number, kept by name and counted.
+// Returns whether the pair and the single stop are found by number, kept by name and counted.
 fn is_pair_and_single(problem: &Problem) -> bool {
     are_found(problem, &FOUND)
         && have_demands(problem)
@@ -95,7 +96,7 @@ fn copies_a_problem(rt: HostRuntime) -> Result<(), Fail> {
     Ok(())
 }
 
-// Whether a number that is taken and one that is too great are refused.
+// Returns whether inserting is refused for a number that is in use, and for one that is too great.
 fn refuses(problem: &mut Problem) -> bool {
     let taken = problem.put(single(4, (0, 0), 1, 100));
     let range = problem.put(single(40_001, (0, 0), 1, 100));
@@ -112,7 +113,7 @@ fn refuses_requests(rt: HostRuntime) -> Result<(), Fail> {
     Ok(())
 }
 
-// Whether the second pair is taken out by its name alone, and once.
+// Returns whether the second pair is removed only by its name, and only once.
 fn takes_second(problem: &mut Problem) -> bool {
     let by_delivery = problem.take(4);
     let by_name = problem.take(3);
@@ -124,19 +125,19 @@ fn is_taken(alloc: Global) -> Result<bool, Fail> {
 }
 
 #[test]
-fn takes_out_a_request_by_its_name(rt: HostRuntime) -> Result<(), Fail> {
+fn removes_a_request_by_name(rt: HostRuntime) -> Result<(), Fail> {
     assert!(rt; is_taken(rt.alloc())?);
     Ok(())
 }
 
-// The first of two pairs, where the second was taken out.
+// Returns the first of two pairs, after the second was removed.
 fn first_pair(alloc: Global) -> Result<Problem, Fail> {
     let mut problem = two_pairs(alloc, Kind::LiLim, 50)?;
     problem.take(3);
     Ok(problem)
 }
 
-/// A number of the first of two pairs, and what is there, where the second was taken out.
+/// A stop number of the first of two pairs, and the values found for it after the second pair was removed.
 const LEFT: [(u32, [u32; 3]); 4] = [
     (1, [1, 2, 0]),
     (2, [1, 1, 1]),
@@ -153,29 +154,29 @@ fn is_left(alloc: Global) -> Result<bool, Fail> {
 }
 
 #[test]
-fn takes_out_no_other_request(rt: HostRuntime) -> Result<(), Fail> {
+fn removes_no_other_request(rt: HostRuntime) -> Result<(), Fail> {
     assert!(rt; is_left(rt.alloc())?);
     Ok(())
 }
 
-// What is at number 4 where a stop is put there.
-fn found_anew(problem: &mut Problem) -> Result<[u32; 3], PutFault> {
+// Returns the values found for number 4 after a stop was inserted with this number again.
+fn found_after_reuse(problem: &mut Problem) -> Result<[u32; 3], PutFault> {
     problem.put(single(4, (0, 0), 1, 100))?;
     Ok(found(problem, 4))
 }
 
 fn found_again(alloc: Global) -> Result<[u32; 3], Fail> {
     let mut problem = first_pair(alloc)?;
-    Ok(found_anew(&mut problem)?)
+    Ok(found_after_reuse(&mut problem)?)
 }
 
 #[test]
-fn takes_a_number_that_is_free_again(rt: HostRuntime) -> Result<(), Fail> {
+fn reuses_a_free_number(rt: HostRuntime) -> Result<(), Fail> {
     assert!(rt; found_again(rt.alloc())? == [4, 0, 0]);
     Ok(())
 }
 
-// Whether each number has its neighbor as its partner.
+// Returns whether the partner of each stop has the neighboring number.
 fn stand_in_pairs(problem: &Problem) -> bool {
     for number in 1..=MAX_STOP_NUMBER {
         let partner = if number % 2 == 1 {
@@ -204,7 +205,7 @@ fn keeps_as_many_stops_as_there_are_numbers(rt: HostRuntime) -> Result<(), Fail>
     Ok(())
 }
 
-// How many numbers have a stop.
+// Returns how many numbers belong to a stop.
 fn stop_count(problem: &Problem) -> u32 {
     let mut count = 0u32;
     for number in 1..=MAX_STOP_NUMBER {
@@ -215,7 +216,8 @@ fn stop_count(problem: &Problem) -> u32 {
     count
 }
 
-// How many numbers have a stop when these requests are taken out; 0 where one is not there.
+// Returns how many numbers belong to a stop after these requests are removed, or 0 if one of the requests is
+// missing.
 fn count_without(problem: &mut Problem, names: &[u32]) -> u32 {
     for name in names {
         if problem.take(*name).is_none() {
@@ -230,7 +232,7 @@ fn most_but_three(alloc: Global) -> Result<u32, Fail> {
 }
 
 #[test]
-fn takes_requests_out_of_the_largest_problem(rt: HostRuntime) -> Result<(), Fail> {
+fn removes_requests_from_the_largest_problem(rt: HostRuntime) -> Result<(), Fail> {
     assert!(rt; most_but_three(rt.alloc())? == 39_994);
     Ok(())
 }

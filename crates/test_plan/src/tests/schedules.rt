@@ -1,15 +1,15 @@
 //! Starts, loads, distances and costs.
 ghost use Rattle.std.specs.Prelude.{◌∷◌, []};
-ghost use Rattle.route_sched.specs.Route.{AreLiveOnce};
+ghost use Rattle.route_sched.specs.Route.{AreDistinctStops};
 
-use crate::tests::builders::{are_live_once, one_pair};
+use crate::tests::builders::{are_distinct_stops, one_pair};
 use plan_types::{Cost, Kind, Plan, Problem, Route, Routes};
 use route_sched::{Visits, loads, plan_cost, route_distance, starts};
 use std::alloc::Global;
 use std::test::Fail;
 
 fn is_scheduled(alloc: Global, problem: &Problem) -> Result<bool, Fail>
-    requires { AreLiveOnce problem.now (1 ∷ 2 ∷ []) }
+    requires { AreDistinctStops problem.now (1 ∷ 2 ∷ []) }
 {
     let starts = starts(alloc, problem, &[1, 2])?;
     let loads = loads(alloc, problem, &[1, 2])?;
@@ -17,15 +17,15 @@ fn is_scheduled(alloc: Global, problem: &Problem) -> Result<bool, Fail>
 }
 
 fn is_measured(problem: &Problem) -> bool
-    requires { AreLiveOnce problem.now (1 ∷ 2 ∷ []) }
+    requires { AreDistinctStops problem.now (1 ∷ 2 ∷ []) }
 {
     let visits = Visits::new(problem, &[1, 2]).size_hint();
     route_distance(problem, &[1, 2]) == 20 && visits.0 == 3 && visits.1 == Some(3)
 }
 
-// What it costs that the first of two vehicles serves the pair.
+// Returns the cost if the first of two vehicles serves the pair.
 fn cost_of(alloc: Global, problem: &Problem) -> Result<Cost, Fail>
-    requires { AreLiveOnce problem.now (1 ∷ 2 ∷ []) }
+    requires { AreDistinctStops problem.now (1 ∷ 2 ∷ []) }
 {
     let route = Route::from(vec![in alloc; 1, 2]?);
     let routes = Routes::from(vec![in alloc; route, Route::from(Vec::new(alloc))]?);
@@ -36,9 +36,9 @@ fn is_priced(cost: Cost) -> bool {
     cost.unplanned == 0 && cost.vehicles == 1 && cost.distance == 20
 }
 
-// Whether starts and loads, lengths, and the cost of a pair are told.
-fn told(alloc: Global, problem: &Problem) -> Result<[bool; 3], Fail> {
-    if !are_live_once(problem, &[1, 2]) {
+// Returns whether the starts and loads, the lengths, and the cost of a pair are right.
+fn schedule_checks(alloc: Global, problem: &Problem) -> Result<[bool; 3], Fail> {
+    if !are_distinct_stops(problem, &[1, 2]) {
         return Ok([false; 3]);
     }
     Ok([
@@ -48,13 +48,13 @@ fn told(alloc: Global, problem: &Problem) -> Result<[bool; 3], Fail> {
     ])
 }
 
-fn told_of_a_pair(alloc: Global) -> Result<[bool; 3], Fail> {
+fn pair_schedule_checks(alloc: Global) -> Result<[bool; 3], Fail> {
     let problem = one_pair(alloc, Kind::LiLim, 10, 60, 100)?;
-    told(alloc, &problem)
+    schedule_checks(alloc, &problem)
 }
 
 #[test]
 fn schedules_a_pair(rt: HostRuntime) -> Result<(), Fail> {
-    assert!(rt; told_of_a_pair(rt.alloc())? == [true; 3]);
+    assert!(rt; pair_schedule_checks(rt.alloc())? == [true; 3]);
     Ok(())
 }

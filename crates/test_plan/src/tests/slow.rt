@@ -1,12 +1,12 @@
-//! A plain and slow auditor, to be run beside the real one: it asks every rule of every route and place, as the
-//! rules are written, and keeps the least of what is broken.
-use crate::tests::words::{Case, Task};
+//! A plain and slow auditor, to run beside the real one. It checks every rule at every route and place, as the
+//! rules are written, and keeps the first violation.
+use crate::tests::random_cases::{Case, Task};
 use plan_audit::Verdict;
 use plan_types::{Cost, Kind, Problem, Route, Stop};
 
-/// What is audited beside the routes.
+/// The other input of an audit, beside the routes.
 #[derive(Clone, Copy)]
-pub(crate) enum Asked<'a> {
+pub(crate) enum AuditInput<'a> {
     /// The pins of a plan.
     Pins(&'a [Route]),
     /// The printed cost of a solution.
@@ -23,7 +23,7 @@ struct Broken {
 }
 
 impl Broken {
-    // Whether this one is told rather than the other.
+    // Returns whether this violation is reported rather than the other.
     fn precedes(&self, other: &Broken) -> bool {
         if self.rule != other.rule {
             return self.rule < other.rule;
@@ -40,13 +40,13 @@ impl Broken {
 
 /// A place of the routes; routes and places count from 0.
 #[derive(Clone, Copy)]
-struct Seat {
+struct Position {
     route: usize,
     place: usize,
 }
 
-/// The verdict by the definition.
-pub(crate) fn slow_audit(case: &Case, routes: &[Route], asked: Asked) -> Verdict {
+/// Returns the verdict by the definition.
+pub(crate) fn slow_audit(case: &Case, routes: &[Route], asked: AuditInput) -> Verdict {
     let mut slow = Slow {
         problem: &case.problem,
         tasks: &case.tasks,
@@ -54,11 +54,11 @@ pub(crate) fn slow_audit(case: &Case, routes: &[Route], asked: Asked) -> Verdict
         least: None,
     };
     for (number, route) in routes.iter().enumerate() {
-        slow.ask_route(number, route.as_slice());
+        slow.check_route(number, route.as_slice());
     }
     match asked {
-        Asked::Pins(pins) => slow.ask_plan(pins),
-        Asked::Cost(cost) => slow.ask_solution(cost),
+        AuditInput::Pins(pins) => slow.check_pins(pins),
+        AuditInput::Cost(cost) => slow.check_solution(cost),
     }
     slow.verdict()
 }
@@ -84,8 +84,8 @@ impl Slow<'_> {
         }
     }
 
-    // Keeps the lesser one.
-    fn tell(&mut self, rule: u32, route: usize, place: usize, stop: u32) {
+    // Keeps this violation if it comes before the one found so far.
+    fn keep_least(&mut self, rule: u32, route: usize, place: usize, stop: u32) {
         let broken = Broken {
             rule,
             route: route as u64,
@@ -100,7 +100,7 @@ impl Slow<'_> {
         });
     }
 
-    // Whether the stop stands in one of the routes from this number to before that one.
+    // Returns whether the stop is in one of the routes `from..to`.
     fn is_in(&self, from: usize, to: usize, stop: u32) -> bool {
         for (number, route) in self.routes.iter().enumerate() {
             if from <= number && number < to && route.as_slice().contains(&stop) {
@@ -110,79 +110,79 @@ impl Slow<'_> {
         false
     }
 
-    // The rules on one route, told of the places counted from 1.
-    fn ask_route(&mut self, number: usize, stops: &[u32]) {
+    // Checks the rules on one route. Violations count places from 1.
+    fn check_route(&mut self, number: usize, stops: &[u32]) {
         for (place, stop) in stops.iter().enumerate() {
-            let seat = Seat {
+            let seat = Position {
                 route: number,
                 place,
             };
-            self.ask_seat(seat, *stop, stops);
-            self.ask_visit(seat, *stop, stops);
+            self.check_stop(seat, *stop, stops);
+            self.check_limits(seat, *stop, stops);
         }
         if !stops.is_empty() {
-            self.ask_use(number, stops);
+            self.check_used_route(number, stops);
         }
     }
 
-    // The rules on a route that is used.
-    fn ask_use(&mut self, number: usize, stops: &[u32]) {
+    // Checks the rules on a used route.
+    fn check_used_route(&mut self, number: usize, stops: &[u32]) {
         let problem = self.problem;
         let back = stops.len().saturating_add(1);
         let late = start(problem, self.tasks, stops, back) > u64::from(problem.depot.latest);
         if problem.kind == Kind::LiLim && late {
-            self.tell(8, number.saturating_add(1), back, 0);
+            self.keep_least(8, number.saturating_add(1), back, 0);
         }
         let used = used_among(self.routes, number.saturating_add(1));
         if used == u64::from(problem.fleet).saturating_add(1) {
-            self.tell(9, number.saturating_add(1), 0, 0);
+            self.keep_least(9, number.saturating_add(1), 0, 0);
         }
     }
 
-    // The rules on where stops stand, at one place.
-    fn ask_seat(&mut self, seat: Seat, stop: u32, stops: &[u32]) {
+    // Checks the rules on the order of stops, at one place.
+    fn check_stop(&mut self, seat: Position, stop: u32, stops: &[u32]) {
         let route = seat.route.saturating_add(1);
         let place = seat.place.saturating_add(1);
-        if self.is_in(0, seat.route, stop) || stands_before(stops, seat.place, stop) {
-            self.tell(2, route, place, stop);
+        if self.is_in(0, seat.route, stop) || occurs_before(stops, seat.place, stop) {
+            self.keep_least(2, route, place, stop);
         }
         let Some(task) = task_of(self.tasks, stop) else {
-            self.tell(1, route, place, stop);
+            self.keep_least(1, route, place, stop);
             return;
         };
         if task.partner == stop {
             return;
         }
         if self.is_in(0, seat.route, task.partner) || self.is_in(route, usize::MAX, task.partner) {
-            self.tell(4, route, place, stop);
+            self.keep_least(4, route, place, stop);
         } else if !stops.contains(&task.partner) {
-            self.tell(3, route, place, task.partner);
+            self.keep_least(3, route, place, task.partner);
         }
-        if task.name != stop && stands_behind(stops, seat.place, task.partner) {
-            self.tell(5, route, place, stop);
+        if task.name != stop && occurs_after(stops, seat.place, task.partner) {
+            self.keep_least(5, route, place, stop);
         }
     }
 
-    // The rules on loads and times, at one place.
-    fn ask_visit(&mut self, seat: Seat, stop: u32, stops: &[u32]) {
+    // Checks the rules on loads and times, at one place.
+    fn check_limits(&mut self, seat: Position, stop: u32, stops: &[u32]) {
         let problem = self.problem;
         let route = seat.route.saturating_add(1);
         let place = seat.place.saturating_add(1);
         if load(self.tasks, stops, place) > i64::from(problem.capacity) {
-            self.tell(6, route, place, stop);
+            self.keep_least(6, route, place, stop);
         }
         let latest = place_of(problem, self.tasks, stops, place).latest;
         let begun = start(problem, self.tasks, stops, place);
         if problem.kind == Kind::LiLim && begun > u64::from(latest) {
-            self.tell(7, route, place, stop);
+            self.keep_least(7, route, place, stop);
         }
     }
 
-    // The rules on a plan alone.
-    fn ask_plan(&mut self, pins: &[Route]) {
+    // Checks the rules that hold only for a plan.
+    fn check_pins(&mut self, pins: &[Route]) {
         let problem = self.problem;
         if self.routes.len() != problem.fleet as usize {
-            self.tell(9, 0, 0, 0);
+            self.keep_least(9, 0, 0, 0);
         }
         for (number, pin) in pins.iter().enumerate() {
             let route = match self.routes.get(number) {
@@ -190,24 +190,24 @@ impl Slow<'_> {
                 None => &[],
             };
             if let Some((place, stop)) = first_off(route, pin.as_slice()) {
-                self.tell(10, number.saturating_add(1), place.saturating_add(1), stop);
+                self.keep_least(10, number.saturating_add(1), place.saturating_add(1), stop);
             }
         }
     }
 
-    // The rules on a printed solution alone.
-    fn ask_solution(&mut self, cost: u64) {
+    // Checks the rules that hold only for a printed solution.
+    fn check_solution(&mut self, cost: u64) {
         for task in self.tasks {
             if self.is_unserved(task) {
-                self.tell(3, 0, 0, task.name);
+                self.keep_least(3, 0, 0, task.name);
             }
         }
         if cost != self.cost().distance {
-            self.tell(11, 0, 0, 0);
+            self.keep_least(11, 0, 0, 0);
         }
     }
 
-    // Whether this is the first stop of a request that has none in any route.
+    // Returns whether this is the first stop of a request that is in no route.
     fn is_unserved(&self, task: &Task) -> bool {
         task.name == task.stop.number
             && !self.is_in(0, usize::MAX, task.name)
@@ -234,7 +234,7 @@ impl Slow<'_> {
     }
 }
 
-fn stands_before(stops: &[u32], place: usize, stop: u32) -> bool {
+fn occurs_before(stops: &[u32], place: usize, stop: u32) -> bool {
     for other in stops.iter().take(place) {
         if *other == stop {
             return true;
@@ -243,7 +243,7 @@ fn stands_before(stops: &[u32], place: usize, stop: u32) -> bool {
     false
 }
 
-fn stands_behind(stops: &[u32], place: usize, stop: u32) -> bool {
+fn occurs_after(stops: &[u32], place: usize, stop: u32) -> bool {
     for (at, other) in stops.iter().enumerate() {
         if place < at && *other == stop {
             return true;
@@ -252,7 +252,7 @@ fn stands_behind(stops: &[u32], place: usize, stop: u32) -> bool {
     false
 }
 
-// How many of the first so many routes are used.
+// Returns how many of the first `number` routes are used.
 fn used_among(routes: &[Route], number: usize) -> u64 {
     let mut used = 0u64;
     for route in routes.iter().take(number) {
@@ -263,7 +263,7 @@ fn used_among(routes: &[Route], number: usize) -> u64 {
     used
 }
 
-// The first place at which a route is not as its pin, with the pin's stop.
+// Returns the first place at which a route differs from its pin, with the pin's stop.
 fn first_off(route: &[u32], pin: &[u32]) -> Option<(usize, u32)> {
     for (place, stop) in pin.iter().enumerate() {
         let Some(other) = route.get(place) else {
@@ -285,7 +285,7 @@ fn task_of(tasks: &[Task], stop: u32) -> Option<Task> {
     None
 }
 
-// The stop at a place; the depot stands at place 0, and behind the last stop.
+// Returns the stop at a place; the depot is at place 0, and after the last stop.
 fn place_of(problem: &Problem, tasks: &[Task], route: &[u32], place: usize) -> Stop {
     let Some(number) = route.get(place.wrapping_sub(1)) else {
         return problem.depot;
@@ -296,7 +296,8 @@ fn place_of(problem: &Problem, tasks: &[Task], route: &[u32], place: usize) -> S
     }
 }
 
-// When service starts at a place: the greatest, over all places up to it, of the earliest time there and the time from there.
+// Returns the start of service at a place: the maximum, over all places up to it, of the earliest time there
+// plus the time from there.
 fn start(problem: &Problem, tasks: &[Task], route: &[u32], place: usize) -> u64 {
     let mut greatest = 0;
     for from in 0..place.saturating_add(1) {
@@ -307,7 +308,7 @@ fn start(problem: &Problem, tasks: &[Task], route: &[u32], place: usize) -> u64 
     greatest
 }
 
-// The services and ways between two places, if nobody waits.
+// Returns the sum of services and legs between two places, without waiting.
 fn time_between(problem: &Problem, tasks: &[Task], route: &[u32], from: usize, to: usize) -> u64 {
     let mut time = 0u64;
     for place in from..to {
@@ -319,7 +320,7 @@ fn time_between(problem: &Problem, tasks: &[Task], route: &[u32], from: usize, t
     time
 }
 
-// The sum of the demands of the first so many stops.
+// Returns the sum of the demands of the first `count` stops.
 fn load(tasks: &[Task], route: &[u32], count: usize) -> i64 {
     let mut load = 0i64;
     for number in route.iter().take(count) {
@@ -330,7 +331,7 @@ fn load(tasks: &[Task], route: &[u32], count: usize) -> i64 {
     load
 }
 
-/// The sum of the routes' lengths.
+/// Returns the sum of the routes' lengths.
 pub(crate) fn total_length(problem: &Problem, tasks: &[Task], routes: &[Route]) -> u64 {
     let mut sum = 0u64;
     for route in routes {
@@ -339,7 +340,7 @@ pub(crate) fn total_length(problem: &Problem, tasks: &[Task], routes: &[Route]) 
     sum
 }
 
-// The sum of the ways between neighboring places.
+// Returns the sum of the legs of a route.
 fn length(problem: &Problem, tasks: &[Task], route: &[u32]) -> u64 {
     let mut sum = 0u64;
     for place in 0..route.len().saturating_add(1) {
@@ -348,7 +349,8 @@ fn length(problem: &Problem, tasks: &[Task], route: &[u32]) -> u64 {
     sum
 }
 
-// The way from a place to the next one: the least d with s <= d (d + 1), by trying each.
+// Returns the leg from a place to the next one: the least d with s <= d (d + 1), where s is the squared
+// distance. It is found by testing each d.
 fn leg(problem: &Problem, tasks: &[Task], route: &[u32], place: usize) -> u64 {
     let from = place_of(problem, tasks, route, place);
     let to = place_of(problem, tasks, route, place.saturating_add(1));

@@ -1,22 +1,22 @@
-//! Insertion tables: what a request adds to a route, and its best places.
+//! Insertion tables: the distance that a request adds to a route, and its best places.
 ghost use Rattle.std.specs.Prelude.{◌≡◌, ℕ, ◌<◌, ◌≤◌, ◌≤ℤ◌, pos, IfOk, IfSome, IsTrue, length, slice_index_or};
 ghost use Rattle.plan_types.specs.declared.requests.Kind.TheVariants.{LiLim};
-ghost use Rattle.route_sched.specs.Route.{AreLiveOnce};
-ghost use Rattle.route_sched.specs.Visiting.{visits_from};
+ghost use Rattle.route_sched.specs.Route.{AreDistinctStops};
+ghost use Rattle.route_sched.specs.VisitList.{visits_from};
 ghost use Rattle.route_sched.specs.declared.visits.Visit.{Visit};
 ghost use Rattle.slack_tables.specs.Course.{IsCourseIn};
 ghost use Rattle.slack_tables.specs.Insertion.{KeepsLimits};
 
 use crate::tests::builders::{
-    are_live_once, depot_until, problem_of, route_between, single, stop_at, two_pairs,
+    are_distinct_stops, depot_until, problem_of, route_between, single, stop_at, two_pairs,
 };
 use plan_types::{Kind, OutOfMemory, Problem, Request};
 use route_sched::{Visit, Visits};
-use slack_tables::{Addition, RouteTable};
+use slack_tables::{PricedInsertion, RouteTable};
 use std::alloc::Global;
 use std::test::Fail;
 
-// Whether the load and the start keep their limits at this place.
+// Returns whether the load and the start keep their limits at this place.
 fn keeps(kind: Kind, capacity: u32, visit: &Visit) -> bool
     ensures { IsTrue result → (visit.now.load ≤ℤ pos capacity)
         × (kind ≡ LiLim → visit.now.start ≤ visit.now.stop.latest) }
@@ -45,35 +45,35 @@ fn all_keep(kind: Kind, capacity: u32, visits: &[Visit]) -> bool
     true
 }
 
-// The visits of a route and the return.
+// Returns the visits of a route and the return.
 fn visits_of(alloc: Global, problem: &Problem, route: &[u32]) -> Result<Vec<Visit>, OutOfMemory>
-    requires { AreLiveOnce problem.now route.now }
+    requires { AreDistinctStops problem.now route.now }
     ensures { IfOk result (λ visits. visits.items ≡ visits_from problem.now route.now 0) }
 {
     Visits::new(problem, route).collect(alloc)
 }
 
-// Whether the route keeps the capacity and the windows.
+// Returns whether the route keeps the capacity and the windows.
 fn keeps_limits(alloc: Global, problem: &Problem, route: &[u32]) -> Result<bool, OutOfMemory>
-    requires { AreLiveOnce problem.now route.now }
+    requires { AreDistinctStops problem.now route.now }
     ensures { IfOk result (λ b. IsTrue b → KeepsLimits problem.now route.now) }
 {
     let visits = visits_of(alloc, problem, route)?;
     Ok(all_keep(problem.kind, problem.capacity, visits.as_slice()))
 }
 
-// Whether these stops are live, stand once and keep the limits.
+// Returns whether these stops are known and distinct and keep the limits.
 fn is_fitting(alloc: Global, problem: &Problem, stops: &[u32]) -> Result<bool, Fail>
-    ensures once { IfOk result (λ b. IsTrue b → AreLiveOnce problem.now stops.now) }
+    ensures once { IfOk result (λ b. IsTrue b → AreDistinctStops problem.now stops.now) }
     ensures limits { IfOk result (λ b. IsTrue b → KeepsLimits problem.now stops.now) }
 {
-    if !are_live_once(problem, stops) {
+    if !are_distinct_stops(problem, stops) {
         return Ok(false);
     }
     Ok(keeps_limits(alloc, problem, stops)?)
 }
 
-// The table of a route that fits.
+// Returns the table of a route that fits.
 fn table_of(alloc: Global, problem: &Problem, stops: &[u32]) -> Result<RouteTable, Fail>
     ensures { IfOk result (λ table. IsCourseIn problem.now table) }
 {
@@ -84,8 +84,14 @@ fn table_of(alloc: Global, problem: &Problem, stops: &[u32]) -> Result<RouteTabl
     Ok(table)
 }
 
-// What `try_insert` answers, where these are places.
-fn asked(problem: &Problem, table: &RouteTable, name: u32, i: u64, j: u64) -> Option<Option<i64>>
+// Returns the answer of `try_insert`, or `None` if these are not places of the route.
+fn insertion_result(
+    problem: &Problem,
+    table: &RouteTable,
+    name: u32,
+    i: u64,
+    j: u64,
+) -> Option<Option<i64>>
     requires { IsCourseIn problem.now table.now }
 {
     let count = table.stop_count() as u64;
@@ -104,14 +110,14 @@ fn asked(problem: &Problem, table: &RouteTable, name: u32, i: u64, j: u64) -> Op
     Some(table.try_insert(problem, name, i, j))
 }
 
-// What `best_places` answers, where there is such a request.
+// Returns the answer of `best_places`, or `None` if there is no such request.
 fn best_in(
     problem: &Problem,
     table: &RouteTable,
     name: u32,
     kept: u64,
     below: i64,
-) -> Option<Option<Addition>>
+) -> Option<Option<PricedInsertion>>
     requires { kept ≤ length table.now.stops }
 {
     let request = problem.requests.get(&name)?;
@@ -120,34 +126,36 @@ fn best_in(
 
 /// The problems of the examples.
 #[derive(Clone, Copy)]
-enum Posed {
-    /// The direct way to stop 3 takes 3, and its latest time is 2.
+enum Fixture {
+    /// The direct leg to stop 3 takes 3, and its latest time is 2.
     TwoPairs,
-    /// Without windows the way to stop 3 may be as long as it likes.
+    /// Without windows, the leg to stop 3 may take any time.
     TwoPairsInVrp,
     StopOnTheWay,
     LongLine,
     HeavyPairs,
 }
 
-fn pose(alloc: Global, which: Posed) -> Result<Problem, Fail> {
+fn build_fixture(alloc: Global, which: Fixture) -> Result<Problem, Fail> {
     match which {
-        Posed::TwoPairs => two_pairs(alloc, Kind::LiLim, 2),
-        Posed::TwoPairsInVrp => two_pairs(alloc, Kind::Vrp, 2),
-        Posed::StopOnTheWay => stop_on_the_way(alloc),
-        Posed::LongLine => long_line(alloc),
-        Posed::HeavyPairs => heavy_pairs(alloc),
+        Fixture::TwoPairs => two_pairs(alloc, Kind::LiLim, 2),
+        Fixture::TwoPairsInVrp => two_pairs(alloc, Kind::Vrp, 2),
+        Fixture::StopOnTheWay => stop_on_the_way(alloc),
+        Fixture::LongLine => long_line(alloc),
+        Fixture::HeavyPairs => heavy_pairs(alloc),
     }
 }
 
-// Stop 2 lies on the way to stop 1, and the rounded way over it is shorter than the direct one.
+// Returns a problem in which stop 2 lies between the depot and stop 1, and the rounded distance over it is
+// shorter than the direct one.
 fn stop_on_the_way(alloc: Global) -> Result<Problem, Fail> {
     let requests = [single(1, (2, 2), 1, 100), single(2, (1, 1), 1, 100)];
     problem_of(alloc, Kind::Vrp, depot_until(100), 10, 1, &requests)
 }
 
-// Stops 1, 2 and 3 on a line, ten apart; in the pair 4 and 5 the delivery lies between 2 and 3. Of four customers more one has as
-// much as the vehicle has room for, and one lies far off the line, as does a pair.
+// Returns a problem with stops 1, 2 and 3 on a line, ten apart. The delivery of the pair 4 and 5 lies between 2
+// and 3. There are four other customers: the demand of one exceeds the free capacity of the vehicle, and one
+// lies far off the line, as does a pair.
 fn long_line(alloc: Global) -> Result<Problem, Fail> {
     let near = stop_at(4, (5, 0), 1, 100, 0);
     let far = stop_at(10, (20, 1000), 1, 100, 0);
@@ -165,7 +173,7 @@ fn long_line(alloc: Global) -> Result<Problem, Fail> {
     problem_of(alloc, Kind::Vrp, depot_until(100), 10, 1, &requests)
 }
 
-// Two pairs on a line; with both on board the vehicle would carry too much.
+// Returns a problem of two pairs on a line. With both on board the vehicle would be overloaded.
 fn heavy_pairs(alloc: Global) -> Result<Problem, Fail> {
     let first = stop_at(1, (10, 0), 6, 100, 0);
     let second = stop_at(3, (12, 0), 6, 100, 0);
@@ -176,7 +184,7 @@ fn heavy_pairs(alloc: Global) -> Result<Problem, Fail> {
     problem_of(alloc, Kind::LiLim, depot_until(100), 10, 1, &requests)
 }
 
-// Whether `try_insert` answers this, where these are places.
+// Returns whether `try_insert` has this answer, if these are places of the route.
 fn answers(
     problem: &Problem,
     table: &RouteTable,
@@ -186,13 +194,13 @@ fn answers(
 ) -> bool
     requires { IsCourseIn problem.now table.now }
 {
-    match asked(problem, table, name, places.0, places.1) {
+    match insertion_result(problem, table, name, places.0, places.1) {
         Some(added) => added == want,
         None => false,
     }
 }
 
-// Whether a request that is put into a route there adds this distance.
+// Returns whether a request adds this distance at these places.
 fn adds(
     alloc: Global,
     problem: &Problem,
@@ -205,35 +213,44 @@ fn adds(
     Ok(answers(problem, &table, name, places, want))
 }
 
-/// A request that is put into a route at these places, and the distance that it adds; `None` where it does not fit.
-type Added = (Posed, &'static [u32], u32, (u64, u64), Option<i64>);
+/// A request, the route and the places where it is inserted, and the distance that it adds; `None` if it does
+/// not fit.
+type Added = (Fixture, &'static [u32], u32, (u64, u64), Option<i64>);
 
 const ADDED: [Added; 8] = [
-    (Posed::TwoPairs, &[1, 2], 3, (2, 3), Some(2)),
-    (Posed::TwoPairs, &[1, 2], 3, (3, 4), Some(3)),
-    (Posed::TwoPairs, &[1, 2], 3, (2, 4), Some(5)),
-    (Posed::TwoPairs, &[1, 2], 3, (1, 2), None),
-    (Posed::TwoPairs, &[1, 2], 3, (1, 4), None),
-    (Posed::TwoPairsInVrp, &[1, 2], 3, (1, 2), Some(3)),
-    (Posed::TwoPairsInVrp, &[], 3, (1, 2), Some(6)),
-    (Posed::StopOnTheWay, &[1], 2, (1, 1), Some(-1)),
+    (Fixture::TwoPairs, &[1, 2], 3, (2, 3), Some(2)),
+    (Fixture::TwoPairs, &[1, 2], 3, (3, 4), Some(3)),
+    (Fixture::TwoPairs, &[1, 2], 3, (2, 4), Some(5)),
+    (Fixture::TwoPairs, &[1, 2], 3, (1, 2), None),
+    (Fixture::TwoPairs, &[1, 2], 3, (1, 4), None),
+    (Fixture::TwoPairsInVrp, &[1, 2], 3, (1, 2), Some(3)),
+    (Fixture::TwoPairsInVrp, &[], 3, (1, 2), Some(6)),
+    (Fixture::StopOnTheWay, &[1], 2, (1, 1), Some(-1)),
 ];
 
 fn adds_as(alloc: Global, row: &Added) -> Result<bool, Fail> {
     let (which, route, name, places, want) = *row;
-    adds(alloc, &pose(alloc, which)?, route, name, places, want)
+    adds(
+        alloc,
+        &build_fixture(alloc, which)?,
+        route,
+        name,
+        places,
+        want,
+    )
 }
 
 #[test]
-fn puts_requests_in(rt: HostRuntime) -> Result<(), Fail> {
+fn inserts_requests(rt: HostRuntime) -> Result<(), Fail> {
     for row in &ADDED {
         assert!(rt; adds_as(rt.alloc(), row)?);
     }
     Ok(())
 }
 
-// The distance and the places that `best_places` answers for a request behind so many stops and below this distance; of none 0.
-fn best_told(
+// Returns the distance and the places of `best_places` for a request after the first `kept` stops and below
+// this distance; the places are 0 if there are none.
+fn best_answer(
     problem: &Problem,
     table: &RouteTable,
     name: u32,
@@ -249,47 +266,48 @@ fn best_told(
     }
 }
 
-// Whether they are these.
-fn are_best(told: Option<(i64, [u64; 2])>, distance: i64, places: [u64; 2]) -> bool {
-    match told {
+// Returns whether the answer of `best_places` has this distance and these places.
+fn are_best(reported: Option<(i64, [u64; 2])>, distance: i64, places: [u64; 2]) -> bool {
+    match reported {
         Some(best) => best.0 == distance && best.1 == places,
         None => false,
     }
 }
 
-type BestPlaces = (Posed, &'static [u32], u32, u64, i64, i64, [u64; 2]);
+type BestPlaces = (Fixture, &'static [u32], u32, u64, i64, i64, [u64; 2]);
 
-/// A request that is put behind so many stops of a route for less than this distance, what it adds, and its places, 0 where it
-/// fits nowhere. On the line it fits on the way out and on the way back: of both the earlier one behind what is kept counts.
+/// A request that is inserted after the first stops of a route for less than a given distance, the distance
+/// that it adds, and its places, 0 if it fits nowhere. On the line it fits on the way out and on the way back;
+/// the first fit after the kept stops counts.
 const BEST_PLACES: [BestPlaces; 17] = [
-    (Posed::TwoPairs, &[1, 2], 3, 0, 1000, 2, [2, 3]),
-    (Posed::TwoPairs, &[1, 2], 3, 0, 3, 2, [2, 3]),
-    (Posed::TwoPairs, &[1, 2], 3, 0, 2, 0, [0, 0]),
-    (Posed::TwoPairs, &[1, 2], 3, 1, 1000, 2, [2, 3]),
-    (Posed::TwoPairs, &[1, 2], 3, 2, 1000, 3, [3, 4]),
-    (Posed::TwoPairs, &[], 1, 0, 1000, 2, [1, 2]),
-    (Posed::StopOnTheWay, &[1], 2, 0, 0, -1, [1, 1]),
-    (Posed::StopOnTheWay, &[1], 2, 0, -1, 0, [0, 0]),
-    (Posed::LongLine, &[1, 2, 3], 4, 0, 100, 0, [1, 4]),
-    (Posed::LongLine, &[1, 2, 3], 6, 0, 100, 0, [1, 1]),
-    (Posed::LongLine, &[1, 2, 3], 6, 1, 100, 0, [4, 4]),
-    (Posed::LongLine, &[1, 2, 3], 6, 3, 100, 0, [4, 4]),
-    (Posed::LongLine, &[1, 2, 3], 7, 0, 100, 0, [2, 2]),
-    (Posed::LongLine, &[1, 2, 3], 7, 1, 100, 0, [2, 2]),
-    (Posed::LongLine, &[1, 2, 3], 7, 2, 100, 0, [4, 4]),
-    (Posed::LongLine, &[1, 2, 3], 8, 0, 100, 0, [0, 0]),
-    (Posed::HeavyPairs, &[1, 2], 3, 0, 100, 12, [3, 4]),
+    (Fixture::TwoPairs, &[1, 2], 3, 0, 1000, 2, [2, 3]),
+    (Fixture::TwoPairs, &[1, 2], 3, 0, 3, 2, [2, 3]),
+    (Fixture::TwoPairs, &[1, 2], 3, 0, 2, 0, [0, 0]),
+    (Fixture::TwoPairs, &[1, 2], 3, 1, 1000, 2, [2, 3]),
+    (Fixture::TwoPairs, &[1, 2], 3, 2, 1000, 3, [3, 4]),
+    (Fixture::TwoPairs, &[], 1, 0, 1000, 2, [1, 2]),
+    (Fixture::StopOnTheWay, &[1], 2, 0, 0, -1, [1, 1]),
+    (Fixture::StopOnTheWay, &[1], 2, 0, -1, 0, [0, 0]),
+    (Fixture::LongLine, &[1, 2, 3], 4, 0, 100, 0, [1, 4]),
+    (Fixture::LongLine, &[1, 2, 3], 6, 0, 100, 0, [1, 1]),
+    (Fixture::LongLine, &[1, 2, 3], 6, 1, 100, 0, [4, 4]),
+    (Fixture::LongLine, &[1, 2, 3], 6, 3, 100, 0, [4, 4]),
+    (Fixture::LongLine, &[1, 2, 3], 7, 0, 100, 0, [2, 2]),
+    (Fixture::LongLine, &[1, 2, 3], 7, 1, 100, 0, [2, 2]),
+    (Fixture::LongLine, &[1, 2, 3], 7, 2, 100, 0, [4, 4]),
+    (Fixture::LongLine, &[1, 2, 3], 8, 0, 100, 0, [0, 0]),
+    (Fixture::HeavyPairs, &[1, 2], 3, 0, 100, 12, [3, 4]),
 ];
 
 fn is_best_in(alloc: Global, problem: &Problem, row: &BestPlaces) -> Result<bool, Fail> {
     let (_, route, name, kept, below, distance, places) = *row;
     let table = table_of(alloc, problem, route)?;
-    let told = best_told(problem, &table, name, kept, below);
-    Ok(are_best(told, distance, places))
+    let reported = best_answer(problem, &table, name, kept, below);
+    Ok(are_best(reported, distance, places))
 }
 
 fn is_best(alloc: Global, row: &BestPlaces) -> Result<bool, Fail> {
-    is_best_in(alloc, &pose(alloc, row.0)?, row)
+    is_best_in(alloc, &build_fixture(alloc, row.0)?, row)
 }
 
 #[test]
@@ -300,7 +318,7 @@ fn finds_the_best_places(rt: HostRuntime) -> Result<(), Fail> {
     Ok(())
 }
 
-// As many customers as a problem can have, all at one place.
+// Returns a problem with as many customers as possible, all at one place.
 fn most_customers(alloc: Global) -> Result<Problem, Fail> {
     let mut problem = Problem::new(alloc, Kind::Vrp, depot_until(100), 10, 1)?;
     for number in 1..=40_000 {
@@ -309,7 +327,7 @@ fn most_customers(alloc: Global) -> Result<Problem, Fail> {
     Ok(problem)
 }
 
-// Whether the last customer is put in among all others.
+// Returns whether the last customer can be inserted among all others.
 fn adds_the_last(alloc: Global) -> Result<bool, Fail> {
     let route = route_between(alloc, 1, 39_999)?;
     let places = (20_000, 20_000);
@@ -323,14 +341,15 @@ fn takes_the_largest_route(rt: HostRuntime) -> Result<(), Fail> {
     Ok(())
 }
 
-// What `rules_out` answers, `None` where no request has the name.
+// Returns the answer of `rules_out`, or `None` if no request has the name.
 fn ruled_out(problem: &Problem, table: &RouteTable, name: u32, below: i64) -> Option<bool> {
     let request = problem.requests.get(&name)?;
     Some(table.rules_out(request, below))
 }
 
-/// A request, a distance, and whether the route over the line rules it out below that. The way over stop 9 adds 1,970 at least, and
-/// so does that over stops 10 and 11; stop 8 brings too much wherever it stands.
+/// A request, a distance, and whether the route over the line rules the request out below that distance. The
+/// detour to stop 9 adds at least 1,970, and so does that to stops 10 and 11. Stop 8 causes an overload
+/// everywhere.
 const RULED_OUT: [(u32, i64, bool); 7] = [
     (9, 1_000, true),
     (9, 1_971, false),
@@ -350,12 +369,12 @@ fn are_ruled_out(problem: &Problem, table: &RouteTable) -> bool {
     true
 }
 
-// How many stops the route has and how long it is.
+// Returns the number of stops and the length of the route.
 fn size(table: &RouteTable) -> [u64; 2] {
     [table.stop_count() as u64, table.distance()]
 }
 
-// The size of a table that is made for a route anew.
+// Returns the size of a table that is rebuilt for another route.
 fn rebuild(
     alloc: Global,
     problem: &Problem,
@@ -372,7 +391,7 @@ fn rebuild(
     Ok(size(table))
 }
 
-// The size of the second route's table, which was made for the first one.
+// Returns the size of the second route's table, rebuilt from that of the first one.
 fn rebuilt(
     alloc: Global,
     problem: &Problem,
@@ -384,7 +403,7 @@ fn rebuilt(
     rebuild(alloc, problem, &mut table, &near, second)
 }
 
-// The size of a table that is made of this one's memory, where the route keeps the limits.
+// Returns the size of a table that is made from this one's memory, if the route keeps the limits.
 fn remake(
     problem: &Problem,
     table: RouteTable,
@@ -393,17 +412,17 @@ fn remake(
 ) -> Result<[u64; 2], Fail>
     requires { IsCourseIn problem.now near.now }
 {
-    if !are_live_once(problem, route) {
+    if !are_distinct_stops(problem, route) {
         return Err(Fail::from("a stop is unknown or stands twice"));
     }
-    match table.remade(problem, near, route)? {
+    match table.into_rebuilt(problem, near, route)? {
         Some(table) => Ok(size(&table)),
         None => Err(Fail::from("the second route does not fit")),
     }
 }
 
-// The same as `rebuilt` by a table that is made of the first one's memory.
-fn remade(
+// Returns the size of the second route's table, made from the memory of the first one.
+fn into_rebuilt(
     alloc: Global,
     problem: &Problem,
     first: &[u32],
@@ -413,7 +432,8 @@ fn remade(
     remake(problem, table_of(alloc, problem, first)?, &near, second)
 }
 
-// Whether a table that was made for the first route and then for the second one tells so many stops and this length.
+// Returns whether a table that was built for the first route and then for the second one has this number of
+// stops and this length.
 fn takes(
     alloc: Global,
     problem: &Problem,
@@ -422,10 +442,10 @@ fn takes(
     want: [u64; 2],
 ) -> Result<bool, Fail> {
     let rebuilt = rebuilt(alloc, problem, first, second)?;
-    Ok(rebuilt == want && remade(alloc, problem, first, second)? == want)
+    Ok(rebuilt == want && into_rebuilt(alloc, problem, first, second)? == want)
 }
 
-/// A longer route, then a shorter one and none.
+/// A longer route, then a shorter one and an empty one.
 const OTHER_ROUTES: [(&[u32], &[u32], [u64; 2]); 3] = [
     (&[1, 2], &[1, 2, 3, 4], [4, 5]),
     (&[1, 2, 3, 4], &[3, 4], [2, 6]),
@@ -451,7 +471,8 @@ fn takes_another_route(rt: HostRuntime) -> Result<(), Fail> {
     Ok(())
 }
 
-// To the customers and back, by a table that was made for no stop.
+// Returns whether a table that was built for no stop can be rebuilt for the largest route, to all customers and
+// back.
 fn becomes_largest(alloc: Global) -> Result<bool, Fail> {
     let route = route_between(alloc, 1, 40_000)?;
     let problem = most_customers(alloc)?;
@@ -464,7 +485,7 @@ fn becomes_the_largest_table(rt: HostRuntime) -> Result<(), Fail> {
     Ok(())
 }
 
-// Whether start, load and latest start at a place are these.
+// Returns whether start, load and latest start at a place are these.
 fn is_known(
     table: &RouteTable,
     place: usize,
@@ -503,12 +524,12 @@ fn first_pair_is_known(alloc: Global) -> Result<bool, Fail> {
 }
 
 #[test]
-fn tells_what_is_known_of_a_place(rt: HostRuntime) -> Result<(), Fail> {
+fn returns_the_values_of_a_place(rt: HostRuntime) -> Result<(), Fail> {
     assert!(rt; first_pair_is_known(rt.alloc())?);
     Ok(())
 }
 
-// The number of the stop at a place.
+// Returns the number of the stop at a place.
 fn number_at(table: &RouteTable, place: usize) -> Option<u32> {
     if place > table.stop_count() + 1 {
         return None;
@@ -528,7 +549,8 @@ fn has_stops(table: &RouteTable) -> bool {
     true
 }
 
-/// A place, a reach, and whether the route over the line is seen to be beyond it: its stops lie from (10, 0) to (30, 0).
+/// A place, a reach, and whether the route over the line is recognized to be beyond it. The stops of the route
+/// lie from (10, 0) to (30, 0).
 const BEYOND: [((i32, i32), u32, bool); 4] = [
     ((100, 0), 69, true),
     ((100, 0), 70, false),
@@ -546,13 +568,14 @@ fn sees_beyond(table: &RouteTable) -> bool {
     true
 }
 
-// The vehicle carries 10, and one of each of its stops.
+// Returns whether 7 units of capacity are free: the vehicle carries 10, and 1 for each of its stops.
 fn has_room(table: &RouteTable) -> bool {
-    table.room() == 7
+    table.max_demand() == 7
 }
 
-// Whether the table of the line rules out requests, tells its stops, sees that it lies beyond a reach, and has room.
-fn told_by(problem: &Problem, table: &RouteTable) -> [bool; 4] {
+// Returns whether the table of the line rules out requests, returns its stops, is beyond a reach, and has free
+// capacity.
+fn table_checks(problem: &Problem, table: &RouteTable) -> [bool; 4] {
     [
         are_ruled_out(problem, table),
         has_stops(table),
@@ -561,14 +584,14 @@ fn told_by(problem: &Problem, table: &RouteTable) -> [bool; 4] {
     ]
 }
 
-fn told_by_the_line(alloc: Global) -> Result<[bool; 4], Fail> {
+fn line_table_checks(alloc: Global) -> Result<[bool; 4], Fail> {
     let problem = long_line(alloc)?;
     let table = table_of(alloc, &problem, &[1, 2, 3])?;
-    Ok(told_by(&problem, &table))
+    Ok(table_checks(&problem, &table))
 }
 
 #[test]
-fn tells_what_a_line_rules_out(rt: HostRuntime) -> Result<(), Fail> {
-    assert!(rt; told_by_the_line(rt.alloc())? == [true; 4]);
+fn rules_out_requests_off_the_line(rt: HostRuntime) -> Result<(), Fail> {
+    assert!(rt; line_table_checks(rt.alloc())? == [true; 4]);
     Ok(())
 }

@@ -1,10 +1,10 @@
-//! What annealing steps find: the traces of another program, which says each step by the letter of its definition, and
-//! small cases by hand.
+//! The plans that annealing steps find, against the traces of another program, which implements each step
+//! literally by its definition, and in small cases by hand.
 ghost use Rattle.std.specs.Prelude.{◌≡◌, ◌+◌, ◌<◌, ◌^◌, true};
 ghost use Rattle.plan_audit.specs.Passes.{passes};
 
-use crate::tests::builders::{Case, FOUR, Given, case_of, problem_of};
-use crate::tests::walks::{Example, Walk, both, found, is_found};
+use crate::tests::builders::{Case, FOUR, TestProblem, case_of, problem_of};
+use crate::tests::step_ranges::{Example, StepRange, both, found, is_found};
 use anneal_search::{anneal_step, draw, ordered};
 use plan_types::Problem;
 use std::alloc::Global;
@@ -28,8 +28,8 @@ fn draws(rt: HostRuntime) {
     }
 }
 
-/// Twelve customers; their places and goods.
-const CUSTOMERS: Given = Given::Customers(
+/// Twelve customers with their coordinates and demands.
+const CUSTOMERS: TestProblem = TestProblem::Customers(
     10,
     12,
     &[
@@ -49,7 +49,7 @@ const CUSTOMERS: Given = Given::Customers(
 );
 
 /// Fifteen customers, each of whom fills a vehicle, so that twelve routes of one stop are cut.
-const ALONE: Given = Given::Customers(
+const ALONE: TestProblem = TestProblem::Customers(
     1,
     15,
     &[
@@ -78,12 +78,13 @@ const BUILT: &[u32] = &[
 const BUILT_PAIRS: &[u32] = &[1, 2, 3, 4, 9, 10, 0, 5, 11, 12, 6, 7, 8, 0, 0, 0, 0, 0];
 
 const TRACES: [Example; 8] = [
-    // Of its first five routes 2 1 3, 6 5 4, 8 7 11, 10 9 and 12 the strings take 3, 6 and 4 around the kept 5, 8 7, the whole 10 9 and 12.
+    // The first five routes are 2 1 3, 6 5 4, 8 7 11, 10 9 and 12. The strings remove 3; 6 and 4, around 5,
+    // which stays; 8 7; all of 10 9; and 12.
     (
         CUSTOMERS,
         &[],
         BUILT,
-        Walk::Anneal(40, 1, (0, 1)),
+        StepRange::Anneal(40, 1, (0, 1)),
         &[
             2, 1, 3, 0, 6, 5, 4, 0, 8, 7, 11, 0, 10, 9, 0, 12, 0, 0, 0, 0, 0, 0, 0, 0, 10, 2, 1, 0,
             4, 5, 6, 0, 9, 11, 0, 8, 7, 12, 3, 0, 0, 0, 0, 0, 0, 0, 0, 0,
@@ -93,7 +94,7 @@ const TRACES: [Example; 8] = [
         CUSTOMERS,
         &[],
         BUILT,
-        Walk::Anneal(40, 1, (0, 100)),
+        StepRange::Anneal(40, 1, (0, 100)),
         &[
             2, 1, 3, 0, 8, 7, 12, 10, 0, 6, 5, 4, 0, 9, 11, 0, 0, 0, 0, 0, 0, 0, 0, 0, 12, 9, 8, 0,
             6, 5, 4, 0, 11, 2, 3, 0, 7, 10, 1, 0, 0, 0, 0, 0, 0, 0, 0, 0,
@@ -103,45 +104,45 @@ const TRACES: [Example; 8] = [
         CUSTOMERS,
         &[],
         BUILT,
-        Walk::Anneal(40, 2, (0, 100)),
+        StepRange::Anneal(40, 2, (0, 100)),
         &[
             2, 1, 3, 0, 6, 5, 4, 0, 8, 7, 0, 9, 0, 11, 10, 12, 0, 0, 0, 0, 0, 0, 0, 0, 7, 2, 1, 0,
             9, 8, 3, 0, 6, 5, 4, 0, 11, 10, 12, 0, 0, 0, 0, 0, 0, 0, 0, 0,
         ],
     ),
     (
-        Given::SixPairs(6),
+        TestProblem::SixPairs(6),
         &[],
         BUILT_PAIRS,
-        Walk::Anneal(40, 1, (0, 100)),
+        StepRange::Anneal(40, 1, (0, 100)),
         &[
             5, 6, 1, 2, 11, 12, 0, 9, 10, 3, 4, 7, 8, 0, 0, 0, 0, 0, 5, 3, 4, 11, 12, 6, 0, 1, 2,
             9, 10, 7, 8, 0, 0, 0, 0, 0,
         ],
     ),
     (
-        Given::SixPairs(6),
+        TestProblem::SixPairs(6),
         &[],
         BUILT_PAIRS,
-        Walk::Anneal(40, 2, (0, 100)),
+        StepRange::Anneal(40, 2, (0, 100)),
         &[
             9, 10, 3, 4, 7, 8, 0, 5, 6, 1, 2, 11, 12, 0, 0, 0, 0, 0, 9, 10, 3, 1, 2, 11, 12, 4, 0,
             5, 6, 7, 8, 0, 0, 0, 0, 0,
         ],
     ),
-    // One vehicle; some requests find no place.
+    // One vehicle; some requests have no place.
     (
-        Given::SixPairs(1),
+        TestProblem::SixPairs(1),
         &[],
         &[1, 2, 3, 4, 7, 8, 0],
-        Walk::Anneal(30, 1, (0, 3)),
+        StepRange::Anneal(30, 1, (0, 3)),
         &[5, 6, 11, 1, 2, 9, 10, 12, 0, 5, 6, 11, 1, 2, 9, 10, 12, 0],
     ),
     (
-        Given::SixPairs(1),
+        TestProblem::SixPairs(1),
         &[],
         &[1, 2, 3, 4, 7, 8, 0],
-        Walk::Anneal(30, 1, (0, 100)),
+        StepRange::Anneal(30, 1, (0, 100)),
         &[3, 4, 9, 1, 2, 11, 12, 10, 0, 5, 6, 11, 1, 2, 9, 10, 12, 0],
     ),
     (
@@ -151,7 +152,7 @@ const TRACES: [Example; 8] = [
             1, 0, 2, 0, 3, 0, 4, 0, 5, 0, 6, 0, 7, 0, 8, 0, 9, 0, 10, 0, 11, 0, 12, 0, 13, 0, 14,
             0, 15, 0,
         ],
-        Walk::Anneal(10, 1, (0, 30)),
+        StepRange::Anneal(10, 1, (0, 30)),
         &[
             9, 0, 1, 0, 2, 0, 4, 0, 5, 0, 3, 0, 13, 0, 6, 0, 7, 0, 8, 0, 10, 0, 11, 0, 12, 0, 14,
             0, 15, 0, 9, 0, 1, 0, 2, 0, 4, 0, 5, 0, 3, 0, 13, 0, 6, 0, 7, 0, 8, 0, 10, 0, 11, 0,
@@ -168,63 +169,63 @@ fn traces(rt: HostRuntime) -> Result<(), Fail> {
     Ok(())
 }
 
-const LINE: Given = Given::Customers(10, 1, &[(1, 0, 1), (2, 0, 1), (3, 0, 1)]);
+const LINE: TestProblem = TestProblem::Customers(10, 1, &[(1, 0, 1), (2, 0, 1), (3, 0, 1)]);
 
-const BY_TWO: Given = Given::Customers(10, 2, &[(0, 10, 1), (6, 8, 1), (6, 0, 1)]);
+const BY_TWO: TestProblem = TestProblem::Customers(10, 2, &[(0, 10, 1), (6, 8, 1), (6, 0, 1)]);
 
 const BY_HAND: [Example; 7] = [
-    // Behind a pinned neighbour the others are put in where they are best.
+    // After a pinned stop the others are inserted at their best places.
     (
         LINE,
         &[3, 0],
         &[3, 1, 2, 0],
-        Walk::Anneal(0, 0, (0, 1)),
+        StepRange::Anneal(0, 0, (0, 1)),
         &[3, 2, 1, 0, 3, 2, 1, 0],
     ),
     (
         LINE,
         &[3, 0],
         &[3, 1, 2, 0],
-        Walk::Anneal(100, 5, (7, 40)),
+        StepRange::Anneal(100, 5, (7, 40)),
         &[3, 2, 1, 0, 3, 2, 1, 0],
     ),
-    // Pins of whole routes leave no request that can be moved.
+    // Pins of whole routes leave no movable request.
     (
         BY_TWO,
         &[1, 3, 0, 2, 0],
         &[1, 3, 0, 2, 0],
-        Walk::Anneal(100, 0, (0, 20)),
+        StepRange::Anneal(100, 0, (0, 20)),
         &[1, 3, 0, 2, 0, 1, 3, 0, 2, 0],
     ),
-    // Nor does a plan that plans none, though one waits; nor a problem without requests.
+    // An empty plan has no movable request, though one is unplanned; nor has a problem without requests.
     (
-        Given::Customers(10, 1, &[(0, 10, 1)]),
+        TestProblem::Customers(10, 1, &[(0, 10, 1)]),
         &[],
         &[0],
-        Walk::Anneal(0, 0, (0, 20)),
+        StepRange::Anneal(0, 0, (0, 20)),
         &[0, 0],
     ),
     (
-        Given::Customers(10, 1, &[]),
+        TestProblem::Customers(10, 1, &[]),
         &[],
         &[0],
-        Walk::Anneal(0, 0, (0, 20)),
+        StepRange::Anneal(0, 0, (0, 20)),
         &[0, 0],
     ),
-    // One vehicle with one stop: it goes back to its place.
+    // One vehicle with one stop: it returns to its place.
     (
-        Given::Customers(10, 1, &[(0, 10, 1)]),
+        TestProblem::Customers(10, 1, &[(0, 10, 1)]),
         &[],
         &[1, 0],
-        Walk::Anneal(0, 0, (0, 20)),
+        StepRange::Anneal(0, 0, (0, 20)),
         &[1, 0, 1, 0],
     ),
-    // No step changes nothing.
+    // Zero steps change nothing.
     (
         LINE,
         &[],
         &[3, 1, 2, 0],
-        Walk::Anneal(100, 0, (9, 0)),
+        StepRange::Anneal(100, 0, (9, 0)),
         &[3, 1, 2, 0, 3, 1, 2, 0],
     ),
 ];
@@ -237,23 +238,25 @@ fn steps_by_hand(rt: HostRuntime) -> Result<(), Fail> {
     Ok(())
 }
 
-/// What is planned, a word, and the order of all names that it picks. The highest four bits pick the key.
-type Order = (Given, u32, &'static [u32], &'static [u32]);
+/// A problem, a word, names, and the order of the names that the word picks. The highest four bits of the word
+/// pick the key.
+type Order = (TestProblem, u32, &'static [u32], &'static [u32]);
 
 const FOUR_NAMES: &[u32] = &[1, 2, 3, 4];
 
-const PAIRS: Given = Given::SixPairs(6);
+const PAIRS: TestProblem = TestProblem::SixPairs(6);
 
 const PAIR_NAMES: &[u32] = &[1, 3, 5, 7, 9, 11];
 
 const ORDERS: [Order; 9] = [
     (FOUR, 0, FOUR_NAMES, &[1, 2, 3, 4]),
-    // The salt alone, by which greater names come first.
+    // The key is only the salt, by which greater names come first.
     (FOUR, 0x0fff_ffff, FOUR_NAMES, &[4, 3, 2, 1]),
-    // The farthest first, whose first two are as far: by salt, and by another one.
+    // The farthest first. The first two are equally far, so two different salts order them.
     (FOUR, 0x8000_0000, FOUR_NAMES, &[1, 2, 3, 4]),
     (FOUR, 0x8fff_ffff, FOUR_NAMES, &[2, 1, 3, 4]),
-    // The nearest, the most goods, the narrowest windows, the earliest pickup, the latest delivery.
+    // The other keys: first the nearest, the greatest demand, the narrowest window, the earliest pickup, the
+    // latest delivery.
     (FOUR, 0xa000_0000, FOUR_NAMES, &[4, 3, 1, 2]),
     (PAIRS, 0x4000_0000, PAIR_NAMES, &[7, 3, 9, 1, 5, 11]),
     (PAIRS, 0xb000_0000, PAIR_NAMES, &[5, 3, 1, 7, 11, 9]),
@@ -261,7 +264,7 @@ const ORDERS: [Order; 9] = [
     (PAIRS, 0xf000_0000, PAIR_NAMES, &[11, 9, 3, 1, 7, 5]),
 ];
 
-// Whether the word picks the order; it is none where the problem has no first stop.
+// Returns whether the word picks the order; false if the problem has no stop 1.
 fn is_ordered(alloc: Global, order: &Order) -> Result<bool, Fail> {
     let problem = problem_of(alloc, order.0)?;
     is_order_of(alloc, &problem, order)
@@ -283,7 +286,7 @@ fn orders(rt: HostRuntime) -> Result<(), Fail> {
     Ok(())
 }
 
-// The routes of both plans that two steps from this one on find, one by one.
+// Makes two steps one by one, beginning with this one, and returns the routes of both plans.
 fn step_by_step(alloc: Global, case: &Case, step: u64) -> Result<Vec<u32>, Fail>
     requires passing { passes case.now.problem case.now.pins.routes case.now.plan.routes ≡ true }
     requires step { step + 1 < 2 ^ 60 }
@@ -308,27 +311,27 @@ fn step_by_step(alloc: Global, case: &Case, step: u64) -> Result<Vec<u32>, Fail>
     both(alloc, &second?)
 }
 
-// Whether two steps from this one on find what one does and then the next.
-fn goes_on(alloc: Global, case: &Case, step: u64) -> Result<bool, Fail> {
+// Returns whether two steps in one call find the same as two calls of one step.
+fn steps_continue(alloc: Global, case: &Case, step: u64) -> Result<bool, Fail> {
     if step >= (1 << 60) - 1 || !case.is_passing(alloc)? {
         return Ok(false);
     }
     let one_by_one = step_by_step(alloc, case, step)?;
-    let at_once = found(alloc, case, Walk::Anneal(40, 1, (step, 2)))?;
+    let at_once = found(alloc, case, StepRange::Anneal(40, 1, (step, 2)))?;
     Ok(one_by_one == at_once)
 }
 
-fn goes_on_from(alloc: Global, step: u64) -> Result<bool, Fail> {
+fn continues_from(alloc: Global, step: u64) -> Result<bool, Fail> {
     let case = case_of(alloc, CUSTOMERS, &[], BUILT)?;
-    let goes_on = goes_on(alloc, &case, step);
+    let steps_continue = steps_continue(alloc, &case, step);
     drop(case);
-    goes_on
+    steps_continue
 }
 
 #[test]
-fn steps_go_on_where_others_end(rt: HostRuntime) -> Result<(), Fail> {
-    assert!(rt; goes_on_from(rt.alloc(), 0)?);
-    assert!(rt; goes_on_from(rt.alloc(), (1 << 32) - 1)?);
-    assert!(rt; goes_on_from(rt.alloc(), (1 << 60) - 2)?);
+fn steps_continue_where_others_end(rt: HostRuntime) -> Result<(), Fail> {
+    assert!(rt; continues_from(rt.alloc(), 0)?);
+    assert!(rt; continues_from(rt.alloc(), (1 << 32) - 1)?);
+    assert!(rt; continues_from(rt.alloc(), (1 << 60) - 2)?);
     Ok(())
 }

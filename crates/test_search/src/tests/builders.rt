@@ -2,13 +2,13 @@
 ghost use Rattle.std.specs.Prelude.{◌≡◌, true, IfOk, IsTrue};
 ghost use Rattle.plan_audit.specs.Passes.{passes};
 
-use plan_audit::{Verdict, audit, tests_say_pass};
+use plan_audit::{Verdict, audit, passes_decides_the_verdict};
 use plan_types::{Kind, Pins, Plan, Problem, Request, Route, Routes, Stop};
 use std::alloc::Global;
 use std::test::Fail;
 use test_examples::routes_of;
 
-/// The latest time that a window may have.
+/// The latest time of any window.
 const ANY_TIME: u32 = 100_000_000;
 
 fn stop_at(number: u32, place: (i32, i32), demand: i32, latest: u32) -> Stop {
@@ -23,7 +23,8 @@ fn stop_at(number: u32, place: (i32, i32), demand: i32, latest: u32) -> Stop {
     }
 }
 
-// Customers of these coordinates and demands, numbered from 1, without windows. The depot stands at (0, 0).
+// Returns customers with these coordinates and demands, numbered from 1, without windows. The depot is at (0,
+// 0).
 fn customers(
     alloc: Global,
     capacity: u32,
@@ -40,7 +41,7 @@ fn customers(
     Ok(problem)
 }
 
-// A problem of these requests, with a capacity of 10.
+// Returns a problem of these requests, with a capacity of 10.
 fn problem_with(
     alloc: Global,
     kind: Kind,
@@ -55,19 +56,20 @@ fn problem_with(
     Ok(problem)
 }
 
-// A pickup of one good and its delivery at the same place.
+// Returns a pickup of demand 1 and its delivery at the same place.
 fn pair_at(number: u32, place: (i32, i32), latest: u32) -> Request {
     let pickup = stop_at(number, place, 1, latest);
     Request::Pair(pickup, stop_at(number.saturating_add(1), place, -1, 50))
 }
 
-// Two pairs on two places, with a fleet of one. The second pickup is reached in time only by way of the first place.
+// Returns two pairs at two places, with a fleet of one. The second pickup can be reached in time only via the
+// first place.
 fn pairs(alloc: Global) -> Result<Problem, Fail> {
     let requests = [pair_at(1, (1, 1), 50), pair_at(3, (2, 2), 2)];
     problem_with(alloc, Kind::LiLim, 1, &requests)
 }
 
-// The two pairs, and one like the first, of stops 5 and 6.
+// Returns a problem with the two pairs of `pairs`, and a third pair like the first one, with stops 5 and 6.
 fn three_pairs(alloc: Global) -> Result<Problem, Fail> {
     let requests = [
         pair_at(1, (1, 1), 50),
@@ -77,7 +79,8 @@ fn three_pairs(alloc: Global) -> Result<Problem, Fail> {
     problem_with(alloc, Kind::LiLim, 1, &requests)
 }
 
-// The depot between two customers. From one to the other it is farther than over the depot, by rounded distances.
+// Returns two customers with the depot between them. By rounded distances, the direct leg between them is longer
+// than the one via the depot.
 fn opposite(alloc: Global, kind: Kind) -> Result<Problem, Fail> {
     let requests = [
         Request::Single(stop_at(1, (1, 1), 1, 100)),
@@ -86,7 +89,7 @@ fn opposite(alloc: Global, kind: Kind) -> Result<Problem, Fail> {
     problem_with(alloc, kind, 3, &requests)
 }
 
-/// Six pairs, the pickup first: place, goods and window.
+/// Six pairs, the pickup first: coordinates, demand and window.
 const PAIRS: [(i32, i32, i32, u32, u32); 12] = [
     (10, 10, 4, 0, 100),
     (20, 12, -4, 10, 200),
@@ -102,7 +105,7 @@ const PAIRS: [(i32, i32, i32, u32, u32); 12] = [
     (31, -6, -2, 50, 300),
 ];
 
-// The stop of this index among the pairs; it takes a time of 5.
+// Returns the stop with this index of the pairs, with a service time of 5.
 fn paired(index: usize) -> Stop {
     match PAIRS.get(index) {
         Some((x, y, demand, earliest, latest)) => Stop {
@@ -118,7 +121,7 @@ fn paired(index: usize) -> Stop {
     }
 }
 
-// The six pairs, with a fleet of so many.
+// Returns the six pairs, with this fleet.
 fn six_pairs(alloc: Global, fleet: u32) -> Result<Problem, Fail> {
     let depot = stop_at(0, (0, 0), 0, 400);
     let mut problem = Problem::new(alloc, Kind::LiLim, depot, 10, fleet)?;
@@ -129,7 +132,8 @@ fn six_pairs(alloc: Global, fleet: u32) -> Result<Problem, Fail> {
     Ok(problem)
 }
 
-// 65 pairs, 64 at the depot and one at (3, 4), in one route, and one more at (3, 4), with a fleet of one that carries one of them.
+// Returns a problem with 66 pairs, 64 at the depot and two at (3, 4), and a fleet of one, which can carry one
+// pair at a time.
 fn pairs_at_the_depot(alloc: Global) -> Result<Problem, Fail> {
     let depot = stop_at(0, (0, 0), 0, 1_000);
     let mut problem = Problem::new(alloc, Kind::LiLim, depot, 1, 1)?;
@@ -143,53 +147,55 @@ fn pairs_at_the_depot(alloc: Global) -> Result<Problem, Fail> {
 
 /// The problem of an example.
 #[derive(Clone, Copy)]
-pub(crate) enum Given {
-    /// A capacity, a fleet, and what `customers` makes customers of.
+pub(crate) enum TestProblem {
+    /// A capacity, a fleet, and the coordinates and demands of customers.
     Customers(u32, u32, &'static [(i32, i32, i32)]),
     Pairs,
     ThreePairs,
     Opposite(Kind),
-    /// Six pairs, with a fleet of so many.
+    /// Six pairs, with this fleet.
     SixPairs(u32),
-    /// So many customers on a grid, with a fleet of one.
+    /// This many customers on a grid, with a fleet of one.
     Grid(u32),
     /// Pairs at the depot, and two at (3, 4).
     PairsAtTheDepot,
 }
 
 /// Four customers, with a fleet of four.
-pub(crate) const FOUR: Given = Given::Customers(
+pub(crate) const FOUR: TestProblem = TestProblem::Customers(
     1_000,
     4,
     &[(0, 10, 1), (6, 8, 1), (6, 0, 1), (3, 4, 1)],
 );
 
-/// The same, with vehicles that carry one or two of them.
-pub(crate) const FOUR_BY_ONE: Given = Given::Customers(
+/// The four customers, with vehicles that carry one or two of them.
+pub(crate) const FOUR_BY_ONE: TestProblem = TestProblem::Customers(
     1,
     4,
     &[(0, 10, 1), (6, 8, 1), (6, 0, 1), (3, 4, 1)],
 );
 
-pub(crate) const FOUR_BY_TWO: Given = Given::Customers(
+pub(crate) const FOUR_BY_TWO: TestProblem = TestProblem::Customers(
     2,
     4,
     &[(0, 10, 1), (6, 8, 1), (6, 0, 1), (3, 4, 1)],
 );
 
-pub(crate) fn problem_of(alloc: Global, given: Given) -> Result<Problem, Fail> {
+pub(crate) fn problem_of(alloc: Global, given: TestProblem) -> Result<Problem, Fail> {
     match given {
-        Given::Customers(capacity, fleet, places) => customers(alloc, capacity, fleet, places),
-        Given::Pairs => pairs(alloc),
-        Given::ThreePairs => three_pairs(alloc),
-        Given::Opposite(kind) => opposite(alloc, kind),
-        Given::SixPairs(fleet) => six_pairs(alloc, fleet),
-        Given::Grid(customers) => grid(alloc, customers, 1_000_000, 1),
-        Given::PairsAtTheDepot => pairs_at_the_depot(alloc),
+        TestProblem::Customers(capacity, fleet, places) => customers(
+            alloc, capacity, fleet, places,
+        ),
+        TestProblem::Pairs => pairs(alloc),
+        TestProblem::ThreePairs => three_pairs(alloc),
+        TestProblem::Opposite(kind) => opposite(alloc, kind),
+        TestProblem::SixPairs(fleet) => six_pairs(alloc, fleet),
+        TestProblem::Grid(customers) => grid(alloc, customers, 1_000_000, 1),
+        TestProblem::PairsAtTheDepot => pairs_at_the_depot(alloc),
     }
 }
 
-/// So many customers on a grid, 200 in a row.
+/// Returns customers on a grid, 200 in a row.
 pub(crate) fn grid(
     alloc: Global,
     customers: u32,
@@ -206,7 +212,7 @@ pub(crate) fn grid(
     Ok(problem)
 }
 
-/// A plan whose first vehicle visits stops 1 to `stops`, and the others of the fleet none.
+/// Returns a plan whose first vehicle visits stops 1 to `stops`; the others visit none.
 pub(crate) fn one_route(alloc: Global, stops: u32, fleet: u32) -> Result<Plan, Fail> {
     let mut route = Route::new(alloc);
     for before in 0..stops {
@@ -220,7 +226,7 @@ pub(crate) fn one_route(alloc: Global, stops: u32, fleet: u32) -> Result<Plan, F
     Ok(Plan { routes })
 }
 
-/// The plan of these routes, each ended by a 0.
+/// Returns the plan of these routes, each ended by a 0.
 pub(crate) fn plan_of(alloc: Global, stops: &[u32]) -> Result<Plan, Fail> {
     let routes = routes_of(alloc, stops)?;
     Ok(Plan { routes })
@@ -243,10 +249,10 @@ impl Case {
     }
 }
 
-/// The case of these pins and routes, each ended by a 0.
+/// Returns the case of these pins and routes, each ended by a 0.
 pub(crate) fn case_of(
     alloc: Global,
-    given: Given,
+    given: TestProblem,
     pins: &[u32],
     plan: &[u32],
 ) -> Result<Case, Fail> {
@@ -260,8 +266,12 @@ pub(crate) fn case_of(
     })
 }
 
-/// The case of a fleet of one, which visits stops 1 to `stops`, and no pins.
-pub(crate) fn case_of_one_route(alloc: Global, given: Given, stops: u32) -> Result<Case, Fail> {
+/// Returns the case of a fleet of one, which visits stops 1 to `stops`, without pins.
+pub(crate) fn case_of_one_route(
+    alloc: Global,
+    given: TestProblem,
+    stops: u32,
+) -> Result<Case, Fail> {
     let plan = one_route(alloc, stops, 1)?;
     let problem = problem_of(alloc, given)?;
     let routes = Routes::new(alloc);
@@ -272,7 +282,7 @@ pub(crate) fn case_of_one_route(alloc: Global, given: Given, stops: u32) -> Resu
     })
 }
 
-/// The stops of the routes, each route ended by a 0.
+/// Returns the stops of the routes, each route ended by a 0.
 pub(crate) fn stops_of(alloc: Global, routes: &Routes) -> Result<Vec<u32>, Fail> {
     let mut stops = Vec::new(alloc);
     for route in routes.as_slice() {
@@ -291,7 +301,7 @@ pub(crate) fn is_passing(
     ensures { IfOk result (λ b. IsTrue b
         → passes problem.now pins.now.routes plan.now.routes ≡ true) }
 {
-    tests_say_pass();
+    passes_decides_the_verdict();
     match audit(alloc, problem, pins, plan)? {
         Verdict::Pass(_) => Ok(true),
         Verdict::Broken { .. } => Ok(false),

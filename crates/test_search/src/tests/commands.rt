@@ -1,18 +1,18 @@
-//! Commands, by what they make of states and how states refuse them.
-use crate::tests::builders::{Given, problem_of};
+//! The effects of commands on states, and their refusals.
+use crate::tests::builders::{TestProblem, problem_of};
 use command_core::{Command, Refusal, Spot, State, apply};
 use plan_types::Problem;
 use std::alloc::Global;
 use std::test::Fail;
 
-mod reducing;
-mod refusing;
+mod reductions;
+mod refusals;
 mod sizes;
 
-/// A command on what is loaded.
+/// A command on a loaded state.
 #[derive(Clone, Copy)]
-enum Step {
-    /// A stop at the depot, served at any time up to 9.
+enum TestCommand {
+    /// A stop at the depot, with a window that ends at 9.
     AddOne,
     Withdraw(u32),
     Pin(u32, u32),
@@ -31,23 +31,23 @@ const AT_THE_DEPOT: Spot = Spot {
     service: 0,
 };
 
-fn command(step: Step) -> Command {
+fn command(step: TestCommand) -> Command {
     match step {
-        Step::AddOne => Command::Add1 {
+        TestCommand::AddOne => Command::Add1 {
             demand: 1,
             spot: AT_THE_DEPOT,
         },
-        Step::Withdraw(name) => Command::Withdraw(name),
-        Step::Pin(vehicle, stops) => Command::Pin(vehicle, stops),
-        Step::Unpin(vehicle) => Command::Unpin(vehicle),
-        Step::Build => Command::Build,
-        Step::Search(count) => Command::Search(count),
-        Step::Anneal(count) => Command::Anneal(count),
-        Step::Reduce(count) => Command::Reduce(count),
+        TestCommand::Withdraw(name) => Command::Withdraw(name),
+        TestCommand::Pin(vehicle, stops) => Command::Pin(vehicle, stops),
+        TestCommand::Unpin(vehicle) => Command::Unpin(vehicle),
+        TestCommand::Build => Command::Build,
+        TestCommand::Search(count) => Command::Search(count),
+        TestCommand::Anneal(count) => Command::Anneal(count),
+        TestCommand::Reduce(count) => Command::Reduce(count),
     }
 }
 
-// The state after one command.
+// Returns the state after one command.
 fn applied(alloc: Global, state: &State, command: Command) -> Result<State, Refusal> {
     apply(alloc, state, &command)
 }
@@ -56,19 +56,19 @@ fn load(alloc: Global, problem: Problem) -> Result<State, Refusal> {
     applied(alloc, &State::Empty, Command::Load(problem, 0))
 }
 
-fn loaded(alloc: Global, given: Given) -> Result<State, Fail> {
+fn loaded(alloc: Global, given: TestProblem) -> Result<State, Fail> {
     Ok(load(alloc, problem_of(alloc, given)?)?)
 }
 
-// The state after one more command.
-fn next(alloc: Global, state: State, step: Step) -> Result<State, Refusal> {
+// Returns the state after one more command.
+fn next(alloc: Global, state: State, step: TestCommand) -> Result<State, Refusal> {
     let next = applied(alloc, &state, command(step));
     drop(state);
     next
 }
 
-// The state after these commands, one after another.
-fn after(alloc: Global, begun: State, steps: &[Step]) -> Result<State, Fail> {
+// Returns the state after these commands, one by one.
+fn after(alloc: Global, begun: State, steps: &[TestCommand]) -> Result<State, Fail> {
     let mut state = begun;
     for step in steps {
         state = next(alloc, state, *step)?;

@@ -3,7 +3,7 @@ ghost use Rattle.std.specs.Prelude.{◌≡◌, true};
 ghost use Rattle.plan_audit.specs.Passes.{passes};
 
 use crate::tests::builders::{
-    Case, FOUR, FOUR_BY_ONE, FOUR_BY_TWO, Given, case_of, problem_of, stops_of,
+    Case, FOUR, FOUR_BY_ONE, FOUR_BY_TWO, TestProblem, case_of, problem_of, stops_of,
 };
 use move_ops::{exchange, insert_at, remove, request_named, two_opt_star};
 use plan_types::{OutOfMemory, Plan, Problem, Request};
@@ -16,16 +16,17 @@ mod tables;
 
 #[derive(Clone, Copy)]
 enum Move {
-    /// The vehicle and the places of pickup and delivery.
+    /// A request, and the vehicle and the places of its pickup and delivery.
     Insert(u32, (u64, u64, u64)),
     Remove(&'static [u32]),
     Exchange(u32, u32),
     Cross(u64, u64, u64, u64),
 }
 
-/// A problem, pins and a plan, and moves, each with the plan after it, or nothing where there is none. Each pin and each route ends by a 0.
+/// A problem, pins and a plan, and moves, each with the resulting plan, or nothing if there is none. Each pin
+/// and each route ends with a 0.
 type Example = (
-    Given,
+    TestProblem,
     &'static [u32],
     &'static [u32],
     &'static [(Move, &'static [u32])],
@@ -39,7 +40,7 @@ const APART: &[u32] = &[1, 0, 2, 0, 4, 0, 0];
 
 const TOGETHER: &[u32] = &[1, 0, 2, 3, 0, 4, 0, 0];
 
-/// The same without request 4.
+/// The routes of `TOGETHER` without request 4.
 const FEWER: &[u32] = &[1, 0, 2, 3, 0, 0, 0];
 
 const INSERTIONS: [Example; 4] = [
@@ -50,7 +51,7 @@ const INSERTIONS: [Example; 4] = [
         &[
             (Move::Insert(3, (2, 1, 1)), &[1, 0, 3, 2, 0, 4, 0, 0]),
             (Move::Insert(3, (4, 1, 1)), &[1, 0, 2, 0, 4, 0, 3, 0]),
-            // No place, a single with two places.
+            // A place that does not exist, and a single with two places.
             (Move::Insert(3, (4, 0, 0)), &[]),
             (Move::Insert(3, (4, 1, 2)), &[]),
         ],
@@ -62,10 +63,10 @@ const INSERTIONS: [Example; 4] = [
         &[],
         APART,
         &[
-            // Unknown, and planned.
+            // An unknown request, and a planned one.
             (Move::Insert(5, (4, 1, 1)), &[]),
             (Move::Insert(4, (4, 1, 1)), &[]),
-            // Too full, behind the end, no vehicle.
+            // An overloaded vehicle, a place after the end of the route, and an unknown vehicle.
             (Move::Insert(3, (1, 1, 1)), &[]),
             (Move::Insert(3, (4, 2, 2)), &[]),
             (Move::Insert(3, (0, 1, 1)), &[]),
@@ -73,12 +74,12 @@ const INSERTIONS: [Example; 4] = [
         ],
     ),
     (
-        Given::Pairs,
+        TestProblem::Pairs,
         &[],
         &[1, 2, 0],
         &[
             (Move::Insert(3, (1, 2, 3)), &[1, 3, 4, 2, 0]),
-            // Stop 3 would start at 3, after its latest time.
+            // Service at stop 3 would start at 3, after its latest time.
             (Move::Insert(3, (1, 1, 2)), &[]),
         ],
     ),
@@ -100,7 +101,7 @@ const REMOVALS: [Example; 6] = [
             (Move::Remove(&[]), TOGETHER),
         ],
     ),
-    // One of them unknown, unplanned, pinned.
+    // One of the requests is unknown, then unplanned, then pinned.
     (
         FOUR,
         &[],
@@ -109,21 +110,21 @@ const REMOVALS: [Example; 6] = [
     ),
     (FOUR, PINNED, FEWER, &[(Move::Remove(&[1, 2]), &[])]),
     (
-        Given::Pairs,
+        TestProblem::Pairs,
         &[],
         &[1, 3, 4, 2, 0],
         &[
             (Move::Remove(&[3]), &[1, 2, 0]),
             (Move::Remove(&[1, 3]), &[0]),
-            // The direct way to stop 3 takes 3, and its latest time is 2.
+            // The direct leg to stop 3 takes 3, and its latest time is 2.
             (Move::Remove(&[1]), &[]),
-            // The delivery's number is no name.
+            // The number of a delivery is not a name.
             (Move::Remove(&[4]), &[]),
         ],
     ),
     // A pair is pinned by its pickup.
     (
-        Given::Pairs,
+        TestProblem::Pairs,
         &[1, 3, 0],
         &[1, 3, 4, 2, 0],
         &[(Move::Remove(&[3]), &[])],
@@ -138,14 +139,14 @@ const CROSSINGS: [Example; 3] = [
         &[
             (Move::Cross(2, 0, 3, 1), &[1, 0, 0, 4, 2, 3, 0, 0]),
             (Move::Cross(2, 1, 4, 0), &[1, 0, 2, 0, 4, 0, 3, 0]),
-            // One vehicle, no vehicle, a cut behind the end.
+            // The same vehicle twice, an unknown vehicle, and a cut after the end of the route.
             (Move::Cross(2, 1, 2, 1), &[]),
             (Move::Cross(0, 0, 2, 1), &[]),
             (Move::Cross(2, 1, 5, 0), &[]),
             (Move::Cross(2, 3, 1, 0), &[]),
         ],
     ),
-    // A cut inside the pin, too full.
+    // A cut inside the pin, and an overloaded vehicle.
     (FOUR, PINNED, TOGETHER, &[(Move::Cross(2, 0, 1, 1), &[])]),
     (
         FOUR_BY_TWO,
@@ -170,7 +171,7 @@ const EXCHANGES: [Example; 5] = [
         &[],
         FEWER,
         &[
-            // One name, unknown, unplanned.
+            // The same name twice, an unknown request, and an unplanned one.
             (Move::Exchange(1, 1), &[]),
             (Move::Exchange(1, 5), &[]),
             (Move::Exchange(5, 1), &[]),
@@ -185,14 +186,14 @@ const EXCHANGES: [Example; 5] = [
         &[(Move::Exchange(1, 2), &[]), (Move::Exchange(2, 1), &[])],
     ),
     (
-        Given::ThreePairs,
+        TestProblem::ThreePairs,
         &[],
         &[1, 5, 2, 6, 0],
         &[(Move::Exchange(1, 5), &[5, 1, 6, 2, 0])],
     ),
-    // Stop 3 would start at 3, and its latest time is 2.
+    // Service at stop 3 would start at 3, and its latest time is 2.
     (
-        Given::Pairs,
+        TestProblem::Pairs,
         &[],
         &[1, 3, 4, 2, 0],
         &[(Move::Exchange(1, 3), &[])],
@@ -217,7 +218,7 @@ fn moved(alloc: Global, case: &Case, made: Move) -> Result<Option<Plan>, OutOfMe
     }
 }
 
-// The plan after the move, or nothing where there is none; a lone 9 where the plan given does not pass.
+// Returns the plan after the move, nothing if there is none, or a single 9 if the given plan does not pass.
 fn after(alloc: Global, case: &Case, made: Move) -> Result<Vec<u32>, Fail> {
     if !case.is_passing(alloc)? {
         return Ok(vec![in alloc; 9]?);
@@ -232,35 +233,35 @@ fn after(alloc: Global, case: &Case, made: Move) -> Result<Vec<u32>, Fail> {
     }
 }
 
-// Whether the move makes this plan of the case.
+// Returns whether the move leads from the case to this plan.
 fn is_made(alloc: Global, case: &Case, made: Move, expected: &[u32]) -> Result<bool, Fail> {
     Ok(after(alloc, case, made)?.as_slice() == expected)
 }
 
-// How many of the moves make another plan of the case.
-fn astray(alloc: Global, case: &Case, moves: &[(Move, &[u32])]) -> Result<usize, Fail> {
-    let mut astray: usize = 0;
+// Returns how many of these moves lead to another plan than expected.
+fn wrong_moves(alloc: Global, case: &Case, moves: &[(Move, &[u32])]) -> Result<usize, Fail> {
+    let mut wrong_moves: usize = 0;
     for (made, expected) in moves {
         if !is_made(alloc, case, *made, expected)? {
-            astray = astray.saturating_add(1);
+            wrong_moves = wrong_moves.saturating_add(1);
         }
     }
-    Ok(astray)
+    Ok(wrong_moves)
 }
 
-// How many of the example's moves make another plan than it says.
-fn astray_of(alloc: Global, example: &Example) -> Result<usize, Fail> {
+// Returns how many of the example's moves lead to another plan than expected.
+fn wrong_moves_of(alloc: Global, example: &Example) -> Result<usize, Fail> {
     let (given, pins, plan, moves) = *example;
     let case = case_of(alloc, given, pins, plan)?;
-    let astray = astray(alloc, &case, moves);
+    let wrong_moves = wrong_moves(alloc, &case, moves);
     drop(case);
-    astray
+    wrong_moves
 }
 
-// Whether each of the examples' moves makes the plan that it says.
+// Returns whether each of the examples' moves leads to the expected plan.
 fn are_made(alloc: Global, examples: &[Example]) -> Result<bool, Fail> {
     for example in examples {
-        if astray_of(alloc, example)? != 0 {
+        if wrong_moves_of(alloc, example)? != 0 {
             return Ok(false);
         }
     }
@@ -291,14 +292,14 @@ fn exchanges_made(rt: HostRuntime) -> Result<(), Fail> {
     Ok(())
 }
 
-/// A problem, a name, and the stops of its request; none where it has none.
-const NAMED: [(Given, u32, &[u32]); 5] = [
+/// A problem, a name, and the stops of its request; none if there is no such request.
+const NAMED_STOPS: [(TestProblem, u32, &[u32]); 5] = [
     (FOUR, 2, &[2]),
     (FOUR, 5, &[]),
-    (Given::Pairs, 3, &[3, 4]),
-    // The delivery's number is no name.
-    (Given::Pairs, 4, &[]),
-    (Given::Pairs, 0, &[]),
+    (TestProblem::Pairs, 3, &[3, 4]),
+    // The number of a delivery is not a name.
+    (TestProblem::Pairs, 4, &[]),
+    (TestProblem::Pairs, 0, &[]),
 ];
 
 fn stops_named(alloc: Global, problem: &Problem, name: u32) -> Result<Vec<u32>, Fail> {
@@ -313,7 +314,7 @@ fn stops_named(alloc: Global, problem: &Problem, name: u32) -> Result<Vec<u32>, 
     Ok(stops)
 }
 
-fn stops_named_in(alloc: Global, given: Given, name: u32) -> Result<Vec<u32>, Fail> {
+fn stops_named_in(alloc: Global, given: TestProblem, name: u32) -> Result<Vec<u32>, Fail> {
     let problem = problem_of(alloc, given)?;
     let stops = stops_named(alloc, &problem, name);
     drop(problem);
@@ -322,7 +323,7 @@ fn stops_named_in(alloc: Global, given: Given, name: u32) -> Result<Vec<u32>, Fa
 
 #[test]
 fn requests_named(rt: HostRuntime) -> Result<(), Fail> {
-    for (given, name, expected) in NAMED {
+    for (given, name, expected) in NAMED_STOPS {
         assert!(rt; stops_named_in(rt.alloc(), given, name)?.as_slice() == expected);
     }
     Ok(())

@@ -1,6 +1,6 @@
-//! The words of the search's steps, and what steps find.
-use crate::tests::builders::{Case, FOUR, Given, case_of};
-use crate::tests::walks::{Example, Walk, both, found_from, is_found};
+//! The words of the search's steps, and the plans that steps find.
+use crate::tests::builders::{Case, FOUR, TestProblem, case_of};
+use crate::tests::step_ranges::{Example, StepRange, both, found_from, is_found};
 use seeded_search::{pick, search_step, words};
 use std::alloc::Global;
 use std::test::Fail;
@@ -8,7 +8,7 @@ use std::test::Fail;
 const SEED: u64 = 0x0123_4567_89ab_cdef;
 
 /// RFC 8439, A.1, test vectors 1 and 2.
-const OF_THE_ZERO_SEED: [[u32; 16]; 2] = [
+const ZERO_SEED_WORDS: [[u32; 16]; 2] = [
     [
         0xade0b876, 0x903df1a0, 0xe56a5d40, 0x28bd8653, 0xb819d2bd, 0x1aed8da0, 0xccef36a8,
         0xc70d778b, 0x7c5941da, 0x8d485751, 0x3fe02477, 0x374ad8b8, 0xf4b8436a, 0x1ca11815,
@@ -21,9 +21,9 @@ const OF_THE_ZERO_SEED: [[u32; 16]; 2] = [
     ],
 ];
 
-/// Steps of `SEED` around 2^32 and the last one, as another program gives them: ChaCha20 of Python's package `cryptography`, whose nonce
-/// of 16 bytes begins with the block's number in 8.
-const LATE: [(u64, [u32; 16]); 3] = [
+/// The words of steps of `SEED` around 2^32 and of the last one, from another program: ChaCha20 of Python's
+/// package `cryptography`, whose 16-byte nonce begins with the block's number in 8 bytes.
+const LATE_WORDS: [(u64, [u32; 16]); 3] = [
     (
         (1 << 32) - 1,
         [
@@ -52,13 +52,13 @@ const LATE: [(u64, [u32; 16]); 3] = [
 
 #[test]
 fn words_of_the_zero_seed(rt: HostRuntime) {
-    assert_eq!(rt; words(0, 0), OF_THE_ZERO_SEED[0]);
-    assert_eq!(rt; words(0, 1), OF_THE_ZERO_SEED[1]);
+    assert_eq!(rt; words(0, 0), ZERO_SEED_WORDS[0]);
+    assert_eq!(rt; words(0, 1), ZERO_SEED_WORDS[1]);
 }
 
 #[test]
 fn words_of_late_steps(rt: HostRuntime) {
-    for (step, late) in LATE {
+    for (step, late) in LATE_WORDS {
         assert!(rt; step < 1 << 60);
         assert_eq!(rt; words(SEED, step), late, "{step}");
     }
@@ -80,7 +80,7 @@ fn picks(rt: HostRuntime) {
     assert!(rt; pick(0, u32::MAX) == 0);
 }
 
-// What the first step finds; nothing where the plan doesn't pass.
+// Returns the plans that the first step finds; nothing if the plan does not pass.
 fn first_found(alloc: Global, case: &Case) -> Result<Vec<u32>, Fail> {
     if !case.is_passing(alloc)? {
         return Ok(Vec::new(alloc));
@@ -96,7 +96,7 @@ fn first_found(alloc: Global, case: &Case) -> Result<Vec<u32>, Fail> {
     stops
 }
 
-// Whether the first step finds the better plan, as incumbent and working plan.
+// Returns whether the first step finds the better plan, as incumbent and working plan.
 fn is_bettered(alloc: Global) -> Result<bool, Fail> {
     let case = case_of(alloc, FOUR, &[], &[1, 0, 2, 3, 0, 4, 0, 0])?;
     let found = first_found(alloc, &case);
@@ -111,47 +111,54 @@ fn one_step(rt: HostRuntime) -> Result<(), Fail> {
     Ok(())
 }
 
-const THREE: Given = Given::Customers(1_000, 3, &[(0, 10, 1), (1, 1, 1), (-1, -1, 1)]);
+const THREE: TestProblem = TestProblem::Customers(1_000, 3, &[(0, 10, 1), (1, 1, 1), (-1, -1, 1)]);
 
-const BY_TWO: Given = Given::Customers(1_000, 2, &[(0, 10, 1), (6, 8, 1), (6, 0, 1)]);
+const BY_TWO: TestProblem = TestProblem::Customers(1_000, 2, &[(0, 10, 1), (6, 8, 1), (6, 0, 1)]);
 
-const ONE: Given = Given::Customers(1_000, 1, &[(0, 10, 1)]);
+const ONE: TestProblem = TestProblem::Customers(1_000, 1, &[(0, 10, 1)]);
 
 const EXAMPLES: [Example; 6] = [
-    // With two routes the words of the first step pick the second twice.
+    // With two routes, the words of the first step pick the second one twice.
     (
         FOUR,
         &[],
         &[1, 0, 0, 4, 2, 3, 0, 0],
-        Walk::Search(0, (0, 1)),
+        StepRange::Search(0, (0, 1)),
         &[1, 0, 0, 4, 2, 3, 0, 0, 1, 0, 0, 4, 2, 3, 0, 0],
     ),
-    // A worse plan is walked on from within the deviation.
+    // A worse plan is accepted within the deviation.
     (
         THREE,
         &[],
         &[1, 0, 2, 0, 3, 0],
-        Walk::Search(0, (0, 1)),
+        StepRange::Search(0, (0, 1)),
         &[1, 0, 2, 0, 3, 0, 1, 0, 2, 0, 3, 0],
     ),
     (
         THREE,
         &[],
         &[1, 0, 2, 0, 3, 0],
-        Walk::Search(1, (0, 1)),
+        StepRange::Search(1, (0, 1)),
         &[1, 0, 2, 0, 3, 0, 1, 0, 0, 3, 2, 0],
     ),
-    // Without a request that can be moved the ends alone are exchanged, and behind pins of whole routes there are none.
+    // Without a movable request only the ends of routes are exchanged; with pins of whole routes there are no
+    // ends.
     (
         BY_TWO,
         &[1, 3, 0, 2, 0],
         &[1, 3, 0, 2, 0],
-        Walk::Search(100, (0, 20)),
+        StepRange::Search(100, (0, 20)),
         &[1, 3, 0, 2, 0, 1, 3, 0, 2, 0],
     ),
-    // A list without requests gives no candidate, though one waits to be planned.
-    (ONE, &[], &[0], Walk::Search(0, (0, 20)), &[0, 0]),
-    (ONE, &[], &[1, 0], Walk::Search(0, (0, 20)), &[1, 0, 1, 0]),
+    // Without a movable request there is no candidate, though one request is unplanned.
+    (ONE, &[], &[0], StepRange::Search(0, (0, 20)), &[0, 0]),
+    (
+        ONE,
+        &[],
+        &[1, 0],
+        StepRange::Search(0, (0, 20)),
+        &[1, 0, 1, 0],
+    ),
 ];
 
 #[test]
@@ -162,28 +169,28 @@ fn steps(rt: HostRuntime) -> Result<(), Fail> {
     Ok(())
 }
 
-// Whether two steps from this one on find what one does and then the next.
-fn goes_on(alloc: Global, first: u64) -> Result<bool, Fail> {
+// Returns whether two steps in one call find the same as two calls of one step.
+fn steps_continue(alloc: Global, first: u64) -> Result<bool, Fail> {
     let plan = [1, 0, 0, 4, 2, 3, 0, 0];
-    let begun = found_from(alloc, FOUR, &[], &plan, Walk::Search(0, (first, 1)))?;
+    let begun = found_from(alloc, FOUR, &[], &plan, StepRange::Search(0, (first, 1)))?;
     let (Some(best), Some(work)) = (begun.get(..8), begun.get(8..)) else {
         return Ok(false);
     };
-    Ok(best == work && goes_on_from(alloc, first, &plan, best)?)
+    Ok(best == work && continues_from(alloc, first, &plan, best)?)
 }
 
-// Whether the second of two steps finds from what the first one found what both find at once.
-fn goes_on_from(alloc: Global, first: u64, plan: &[u32], begun: &[u32]) -> Result<bool, Fail> {
-    let next = Walk::Search(0, (first.saturating_add(1), 1));
+// Returns whether the second step, from the plans that the first one found, finds the same as both in one call.
+fn continues_from(alloc: Global, first: u64, plan: &[u32], begun: &[u32]) -> Result<bool, Fail> {
+    let next = StepRange::Search(0, (first.saturating_add(1), 1));
     let ended = found_from(alloc, FOUR, &[], begun, next)?;
-    let at_once = found_from(alloc, FOUR, &[], plan, Walk::Search(0, (first, 2)))?;
+    let at_once = found_from(alloc, FOUR, &[], plan, StepRange::Search(0, (first, 2)))?;
     Ok(ended == at_once)
 }
 
 #[test]
-fn steps_go_on_where_others_end(rt: HostRuntime) -> Result<(), Fail> {
-    assert!(rt; goes_on(rt.alloc(), 0)?);
-    assert!(rt; goes_on(rt.alloc(), (1 << 32) - 1)?);
-    assert!(rt; goes_on(rt.alloc(), (1 << 60) - 2)?);
+fn steps_continue_where_others_end(rt: HostRuntime) -> Result<(), Fail> {
+    assert!(rt; steps_continue(rt.alloc(), 0)?);
+    assert!(rt; steps_continue(rt.alloc(), (1 << 32) - 1)?);
+    assert!(rt; steps_continue(rt.alloc(), (1 << 60) - 2)?);
     Ok(())
 }

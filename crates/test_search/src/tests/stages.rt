@@ -1,14 +1,14 @@
-//! The stages of annealing, by hand: `anneal_stages`.
+//! The stages of annealing, by hand: `annealing_schedule`.
 
-use crate::tests::builders::{Given, case_of, is_passing};
-use anneal_stages::{boundary, hundredths, share, stage_of};
-use plan_audit::passes_are_local;
+use crate::tests::builders::{TestProblem, case_of, is_passing};
+use annealing_schedule::{boundary, hundredths, mean_leg_share, stage_of};
+use plan_audit::passing_is_local;
 use plan_types::{Pins, Plan, Problem};
 use std::alloc::Global;
 use std::test::Fail;
 
-/// Two customers in one direction, with one vehicle: a way of 5 + 5 + 10, so a mean leg of 10.
-const TWO: Given = Given::Customers(10, 1, &[(3, 4, 1), (6, 8, 1)]);
+/// Two customers in one direction, with one vehicle: a distance of 5 + 5 + 10, so a mean leg of 10.
+const TWO: TestProblem = TestProblem::Customers(10, 1, &[(3, 4, 1), (6, 8, 1)]);
 
 #[test]
 fn stages_begin_at_twentieths(rt: HostRuntime) {
@@ -40,7 +40,7 @@ fn steps_have_their_stage(rt: HostRuntime) {
     assert!(rt; stage_of(0, 7, 0) == Some(2));
 }
 
-// The share of a plan's mean leg; none where the plan doesn't pass.
+// Returns this share of the mean leg of a plan, or `None` if the plan does not pass.
 fn share_of(
     alloc: Global,
     problem: &Problem,
@@ -48,28 +48,28 @@ fn share_of(
     plan: &Plan,
     hundredths: u32,
 ) -> Result<Option<u32>, Fail> {
-    passes_are_local();
+    passing_is_local();
     if !is_passing(alloc, problem, pins, plan)? {
         return Ok(None);
     }
-    Ok(Some(share(problem, plan, hundredths)))
+    Ok(Some(mean_leg_share(problem, plan, hundredths)))
 }
 
-// The share of the mean leg of the one route of both.
+// Returns this share of the mean leg of the plan in which one route serves both customers.
 fn share_of_two(alloc: Global, hundredths: u32) -> Result<Option<u32>, Fail> {
     let case = case_of(alloc, TWO, &[], &[1, 2, 0])?;
-    let share = share_of(alloc, &case.problem, &case.pins, &case.plan, hundredths);
+    let mean_leg_share = share_of(alloc, &case.problem, &case.pins, &case.plan, hundredths);
     drop(case);
-    share
+    mean_leg_share
 }
 
-/// Hundredths, and so many of the mean leg.
+/// A number of hundredths, and that share of the mean leg.
 const SHARES: [(u32, u32); 4] = [(100, 10), (122, 12), (3, 0), (4_000_000_000, 400_000_000)];
 
 #[test]
 fn shares_are_hundredths_of_the_mean_leg(rt: HostRuntime) -> Result<(), Fail> {
-    for (hundredths, share) in SHARES {
-        assert!(rt; share_of_two(rt.alloc(), hundredths)? == Some(share));
+    for (hundredths, mean_leg_share) in SHARES {
+        assert!(rt; share_of_two(rt.alloc(), hundredths)? == Some(mean_leg_share));
     }
     Ok(())
 }

@@ -1,4 +1,4 @@
-//! What the examples share: sectors, states as bytes, and stores.
+//! Sectors, states as bytes, and stores that the examples share.
 
 use checkpoint::{format, format_with};
 use command_core::State;
@@ -9,10 +9,10 @@ use std::alloc::Global;
 use std::process::Abort;
 use std::test::Fail;
 
-/// The sectors of the smallest store.
+/// The number of sectors of the smallest store of the current version.
 pub const SECTORS: u64 = 8450;
 
-/// A state: one customer, 1 at (3, 4) with demand 6, a capacity of 10 and one vehicle, just loaded.
+/// A loaded state without plan: one customer, 1 at (3, 4) with demand 6, a capacity of 10 and one vehicle.
 pub const LOADED: [u8; 95] = [
     1, 2, 0, 0, 0, 0, 0, 0, 0, 0, 0, 0, 0, 0, 0, 0, 0, 0, 0, 0, 0, 10, 0, 0, 0, 1, 0, 0, 0, 2, 0,
     0, 0, 0, 0, 0, 0, 0, 0, 0, 0, 0, 5, 245, 225, 0, 0, 0, 0, 0, 0, 0, 0, 1, 1, 0, 0, 0, 1, 0, 0,
@@ -20,14 +20,14 @@ pub const LOADED: [u8; 95] = [
     0, 0, 0, 0,
 ];
 
-/// The same in version 1. The next number is its bytes 24 and 25.
+/// The state of `LOADED` in version 1. Its bytes 24 and 25 hold the next number.
 pub const LOADED_V1: [u8; 75] = [
     1, 2, 0, 0, 0, 0, 0, 0, 0, 0, 0, 0, 0, 0, 0, 0, 0, 0, 0, 0, 0, 10, 0, 1, 0, 2, 0, 0, 0, 0, 0,
     0, 0, 0, 0, 0, 0, 0, 5, 245, 225, 0, 0, 1, 1, 0, 1, 0, 0, 0, 3, 0, 0, 0, 4, 0, 0, 0, 6, 0, 0,
     0, 0, 5, 245, 225, 0, 0, 0, 0, 0, 0, 0, 0, 0,
 ];
 
-/// A sector of the device, or none where the read fails.
+/// Returns a sector of the device, or `None` if the read fails.
 pub fn read_sector(
     rt: &impl Abort,
     device: &mut impl Sectors,
@@ -50,7 +50,7 @@ pub fn write_sector(
     device.write(sector, bytes)
 }
 
-/// A sector that begins with these bytes, of which 512 count at most, and has zeros behind them.
+/// Returns a sector that begins with these bytes, at most 512 of them, followed by zeros.
 pub fn sector_of(front: &[u8]) -> [u8; SECTOR_SIZE] {
     let mut sector = [0; SECTOR_SIZE];
     let len = front.len().min(SECTOR_SIZE);
@@ -58,7 +58,7 @@ pub fn sector_of(front: &[u8]) -> [u8; SECTOR_SIZE] {
     sector
 }
 
-/// The header of a store: its version, its sequence and the length of its snapshot.
+/// Returns the header of a store with this version, sequence and length of its snapshot.
 pub fn header(version: u32, sequence: u64, length: u64) -> [u8; SECTOR_SIZE] {
     let mut sector = [0; SECTOR_SIZE];
     sector[..8].copy_from_slice(b"PDRSTORE");
@@ -68,14 +68,14 @@ pub fn header(version: u32, sequence: u64, length: u64) -> [u8; SECTOR_SIZE] {
     sector
 }
 
-/// A store of no state.
+/// Returns a store of the empty state.
 pub fn empty_store(alloc: Global) -> Result<MemDevice, Fail> {
     let mut device = MemDevice::new(alloc, SECTORS)?;
     format(alloc, &mut device)?;
     Ok(device)
 }
 
-/// A store of the loaded state.
+/// Returns a store of the loaded state.
 pub fn loaded_store(alloc: Global) -> Result<MemDevice, Fail> {
     let mut device = MemDevice::new(alloc, SECTORS)?;
     format_loaded(alloc, &mut device)?;
@@ -101,7 +101,8 @@ pub fn open(alloc: Global, device: MemDevice) -> Result<Opened<MemDevice>, Fail>
     }
 }
 
-/// Why a device was given back, and how many of its calls had finished; `None` where it was not.
+/// Returns the fault with which a device was refused and the number of its finished calls, or `None` if it was
+/// accepted.
 pub fn refusal<T: Drop, F>(outcome: Result<T, (F, MemDevice)>) -> Option<(F, u64)> {
     match outcome {
         Ok(_) => None,

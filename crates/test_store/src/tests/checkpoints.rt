@@ -1,4 +1,4 @@
-//! Stores on a device: what it holds once it is formatted, committed to, stopped or written by hand.
+//! Stores on a device: the contents after a format, a commit or a crash, or as written by hand.
 
 use crate::tests::builders::{
     LOADED_V1, SECTORS, empty_store, header, read_sector, sector_of, write_sector,
@@ -19,12 +19,13 @@ const BAD_FIELD: Option<StoreFault> = Some(StoreFault::Codec(CodecFault::BadFiel
 
 const NO_STORE: Option<StoreFault> = Some(StoreFault::NotFormatted);
 
-// Why the device holds no store, if it holds none.
+// Returns why the device holds no store, or `None` if it holds one.
 fn fault(alloc: Global, device: &mut MemDevice) -> Option<StoreFault> {
     load_latest(alloc, device).err()
 }
 
-// The place that a format of a device gives which has a sector more than it needs, its calls, and why it holds no store then.
+// Formats a device with one sector more than needed. Returns the place, the number of finished calls, and why
+// the device then holds no store.
 fn formatted(alloc: Global) -> Result<(Place, u64, Option<StoreFault>), Fail> {
     let mut device = MemDevice::new(alloc, SECTORS + 1)?;
     let place = format(alloc, &mut device)?;
@@ -51,8 +52,9 @@ fn a_format_writes_a_header(rt: HostRuntime) -> Result<(), Fail> {
     Ok(())
 }
 
-// Why a device of so many sectors is not formatted, in both ways, why it holds no store, and how many calls have finished.
-fn tried(
+// Returns why `format` and `format_with` refuse a device of this size, why the device holds no store, and how
+// many calls have finished.
+fn format_outcome(
     alloc: Global,
     sectors: u64,
 ) -> Result<([Option<FormatFault>; 2], Option<StoreFault>, u64), Fail> {
@@ -68,7 +70,7 @@ fn tried(
 #[test]
 fn a_small_device_is_not_called(rt: HostRuntime) -> Result<(), Fail> {
     for sectors in [801, 8449] {
-        let (refused, fault, calls) = tried(rt.alloc(), sectors)?;
+        let (refused, fault, calls) = format_outcome(rt.alloc(), sectors)?;
         assert!(rt; refused == [Some(FormatFault::TooSmall); 2]);
         assert!(rt; fault == NO_STORE);
         assert!(rt; calls == 0);
@@ -76,9 +78,9 @@ fn a_small_device_is_not_called(rt: HostRuntime) -> Result<(), Fail> {
     Ok(())
 }
 
-// Why the format of a device failed that was stopped once so many calls had finished, and why it holds no store then. What
-// was not synced is lost with 0, and kept with 1.
-fn stopped_format(
+// Crashes a format after this number of finished calls. Returns why the format failed, and why the device then
+// holds no store. If `kept` is 0, unsynced writes are lost; if it is 1, they are kept.
+fn crashed_format(
     alloc: Global,
     finished: u64,
     kept: u32,
@@ -90,8 +92,8 @@ fn stopped_format(
     Ok((stopped, fault(alloc, &mut device)))
 }
 
-/// After how many calls it is stopped, whether what was not synced is kept, and why there is no store then.
-const STOPPED: [(u64, u32, Option<StoreFault>); 6] = [
+/// The number of calls before the crash, whether unsynced writes are kept, and why there is no store then.
+const CRASHES: [(u64, u32, Option<StoreFault>); 6] = [
     (3, 0, NO_STORE),
     (3, 1, NO_STORE),
     (4, 0, NO_STORE),
@@ -101,9 +103,9 @@ const STOPPED: [(u64, u32, Option<StoreFault>); 6] = [
 ];
 
 #[test]
-fn a_format_that_is_stopped_around_its_header(rt: HostRuntime) -> Result<(), Fail> {
-    for (finished, kept, wanted) in STOPPED {
-        let (stopped, fault) = stopped_format(rt.alloc(), finished, kept)?;
+fn a_format_that_crashes_around_its_header(rt: HostRuntime) -> Result<(), Fail> {
+    for (finished, kept, wanted) in CRASHES {
+        let (stopped, fault) = crashed_format(rt.alloc(), finished, kept)?;
         assert!(rt; stopped == Some(FormatFault::DeviceFault));
         assert!(rt; fault == wanted);
     }
@@ -128,13 +130,13 @@ fn commit_pin(rt: &impl Abort, device: &mut MemDevice, place: Place) -> Result<P
     commit_record(device, place, &Command::Pin(1, 2))
 }
 
-/// The place of a store of no state.
+/// The place of a store of the empty state.
 const FIRST: Place = Place {
     sequence: 1,
     used: 0,
 };
 
-// A store with two records, and where its journal goes on.
+// Returns a store with two records, and the place where its journal continues.
 fn with_records(rt: &(impl Abort + AllocGlobal)) -> Result<(MemDevice, Place), Fail> {
     let mut device = empty_store(rt.alloc())?;
     let place = commit_two(rt, &mut device)?;
@@ -157,7 +159,7 @@ fn records_follow_one_another(rt: HostRuntime) -> Result<(), Fail> {
     Ok(())
 }
 
-// What the device holds.
+// Returns the content of the store on the device.
 fn held_by(alloc: Global, mut device: MemDevice) -> Result<Loaded, Fail> {
     Ok(load_latest(alloc, &mut device)?)
 }
@@ -173,7 +175,7 @@ fn records_are_loaded(rt: HostRuntime) -> Result<(), Fail> {
     Ok(())
 }
 
-// Where the store of a device stands that is read by this version, or why it holds none.
+// Returns the place of the store that this version reads from a device, or why it holds none.
 fn place_in(alloc: Global, mut device: MemDevice, version: Version) -> Result<Place, StoreFault> {
     let loaded = load(alloc, &mut device, version)?;
     let place = loaded.place;
@@ -199,7 +201,8 @@ fn a_new_store_is_loaded_by_its_own_version(rt: HostRuntime) -> Result<(), Fail>
     Ok(())
 }
 
-// A store that stopped in its second record's write: sector 3 is as it was with 0, and as it was to be with 1.
+// Returns a store that crashed while its second record was written. Sector 3 is unchanged if `kept` is 0, and
+// holds the record if it is 1.
 fn torn(rt: &(impl Abort + AllocGlobal), kept: u32) -> Result<MemDevice, Fail> {
     let mut device = empty_store(rt.alloc())?;
     let place = commit_search(rt, &mut device, FIRST)?;
@@ -218,7 +221,7 @@ fn a_torn_record_is_loaded_where_its_sector_was_written(rt: HostRuntime) -> Resu
     Ok(())
 }
 
-// Commits a snapshot of no state.
+// Commits a snapshot of the empty state.
 fn commit_empty(
     rt: &(impl Abort + AllocGlobal),
     device: &mut MemDevice,
@@ -229,7 +232,7 @@ fn commit_empty(
     commit_snapshot(rt.alloc(), device, place, &State::Empty)
 }
 
-// A store with a record, then a snapshot, and where its journal goes on.
+// Returns a store with a record, then a snapshot, and the place where its journal continues.
 fn with_snapshot(rt: &(impl Abort + AllocGlobal)) -> Result<(MemDevice, Place), Fail> {
     let mut device = empty_store(rt.alloc())?;
     let place = commit_both(rt, &mut device)?;
@@ -257,7 +260,7 @@ fn a_record_of_the_old_sequence_is_left(rt: HostRuntime) -> Result<(), Fail> {
     Ok(())
 }
 
-// Why a device is no store that has this header in this sector.
+// Returns why a device with this header in this sector is not a store.
 fn fault_of_header(
     rt: &(impl Abort + AllocGlobal),
     sector: u64,
@@ -274,7 +277,8 @@ fn a_sequence_above_the_last_one_is_not_valid(rt: HostRuntime) -> Result<(), Fai
     Ok(())
 }
 
-// Writes the loaded state, by a header of this version and with this next number, and a record of this kind, of zeros.
+// Writes the loaded state with a header of this version and this next number, and a record of this kind, filled
+// with zeros.
 fn write_v1(
     rt: &impl Abort,
     device: &mut MemDevice,
@@ -290,7 +294,7 @@ fn write_v1(
     write_sector(rt, device, 2, &record)
 }
 
-// Why a device of that is no store.
+// Returns why a device with these contents is not a store.
 fn fault_v1(
     rt: &(impl Abort + AllocGlobal),
     version: u32,

@@ -9,31 +9,31 @@ use state_codec::{
 use std::alloc::Global;
 use std::test::Fail;
 
-// Why the bytes are no state, if they are none.
+// Returns why the bytes are not a state, or `None` if they are.
 fn fault(alloc: Global, bytes: &[u8]) -> Option<CodecFault> {
     decode_state(alloc, bytes).err()
 }
 
-// The same in version 1.
+// Returns why the bytes are not a state of version 1, or `None` if they are.
 fn fault_v1(alloc: Global, bytes: &[u8]) -> Option<CodecFault> {
     decode_state_v1(alloc, bytes).err()
 }
 
-// Whether a state was read, of a job.
+// Returns whether a loaded state was read.
 fn is_loaded(read: Result<State, CodecFault>) -> bool {
     let is_loaded = matches!(&read, Ok(State::Loaded(_)));
     drop(read);
     is_loaded
 }
 
-// Whether a state was read, before the first Load.
+// Returns whether the empty state was read.
 fn is_empty(read: Result<State, CodecFault>) -> bool {
     let is_empty = matches!(&read, Ok(State::Empty));
     drop(read);
     is_empty
 }
 
-// Whether there is no record in this place.
+// Returns whether this sector is not a record with this sequence and index.
 fn is_none(record: &[u8; 512], sequence: u64, index: u32) -> bool {
     let command = decode_record(record, sequence, index);
     let is_none = command.is_none();
@@ -41,7 +41,7 @@ fn is_none(record: &[u8; 512], sequence: u64, index: u32) -> bool {
     is_none
 }
 
-// Whether the state is written as these bytes.
+// Returns whether the state is written as these bytes.
 fn has_bytes(alloc: Global, state: &State, bytes: &[u8]) -> Result<bool, Fail> {
     Ok(encode_state(alloc, state)?.as_slice() == bytes)
 }
@@ -59,7 +59,7 @@ fn a_loaded_state_is_written_as_it_was_read(rt: HostRuntime) -> Result<(), Fail>
     Ok(())
 }
 
-fn is_taken_over(alloc: Global) -> Result<bool, Fail> {
+fn is_upgraded_to(alloc: Global) -> Result<bool, Fail> {
     let state = decode_state_v1(alloc, &LOADED_V1)?;
     let has_bytes = has_bytes(alloc, &state, &LOADED);
     drop(state);
@@ -68,7 +68,7 @@ fn is_taken_over(alloc: Global) -> Result<bool, Fail> {
 
 #[test]
 fn a_state_of_version_1_is_written_as_one_of_version_2(rt: HostRuntime) -> Result<(), Fail> {
-    assert!(rt; is_taken_over(rt.alloc())?);
+    assert!(rt; is_upgraded_to(rt.alloc())?);
     Ok(())
 }
 
@@ -99,7 +99,8 @@ fn a_route_of_four_billion_stops_is_truncated(rt: HostRuntime) {
     assert!(rt; fault(rt.alloc(), &long) == Some(CodecFault::Truncated));
 }
 
-// Why the loaded state is none with this demand, and these bytes of vehicles and working routes in place of the last twelve.
+// Returns why the loaded state is not valid with this demand, and with these bytes of vehicles and working
+// routes instead of the last twelve.
 fn fault_of_plan(alloc: Global, demand: u8, end: &[u8]) -> Option<CodecFault> {
     let mut front = LOADED;
     front[70] = demand;
@@ -109,7 +110,7 @@ fn fault_of_plan(alloc: Global, demand: u8, end: &[u8]) -> Option<CodecFault> {
     fault(alloc, bytes.as_slice())
 }
 
-/// A pin of no stops and a route of one, then a working route of the same.
+/// A pin of no stops and a route of one, then the same route as working route.
 const PLANNED: [u8; 20] = [0, 0, 0, 0, 0, 0, 0, 1, 0, 0, 0, 1, 0, 0, 0, 1, 0, 0, 0, 1];
 
 #[test]
@@ -121,7 +122,7 @@ fn plans_are_judged(rt: HostRuntime) {
     assert!(rt; work_twice == Some(CodecFault::PlanRefused(2)));
 }
 
-// A pair of the same goods, planned, with the pickup pinned.
+// A state with a planned pair whose pickup is pinned.
 const PINNED: [u8; 139] = [
     1, 2, 0, 0, 0, 0, 0, 0, 0, 0, 0, 0, 0, 0, 0, 0, 0, 0, 0, 0, 0, 10, 0, 0, 0, 1, 0, 0, 0, 3, 0,
     0, 0, 0, 0, 0, 0, 0, 0, 0, 0, 0, 5, 245, 225, 0, 0, 0, 0, 0, 0, 0, 0, 1, 2, 0, 0, 0, 1, 0, 0,
@@ -132,14 +133,15 @@ const PINNED: [u8; 139] = [
 
 #[test]
 fn a_pin_is_judged_alone(rt: HostRuntime) {
-    // The pickup alone leaves its delivery out, though the plan serves both.
+    // The pin has only the pickup, so it leaves the delivery out, though the plan serves both.
     assert!(rt; fault(rt.alloc(), &PINNED) == Some(CodecFault::PlanRefused(3)));
     let mut whole = PINNED;
     whole[114] = 2;
     assert!(rt; is_loaded(decode_state(rt.alloc(), &whole)));
 }
 
-// What is read of the loaded state of version 1 with this demand, and these bytes of the vehicle in place of the last four.
+// Reads the loaded state of version 1 with this demand, and with these bytes of the vehicle instead of the last
+// four.
 fn planned_v1(alloc: Global, demand: u8, end: &[u8]) -> Result<State, CodecFault> {
     let mut front = LOADED_V1;
     front[58] = demand;
@@ -151,7 +153,7 @@ fn planned_v1(alloc: Global, demand: u8, end: &[u8]) -> Result<State, CodecFault
 
 #[test]
 fn plans_of_version_1_are_judged(rt: HostRuntime) {
-    // pin, route and its stops
+    // The pin, the route and its stops.
     let planned = [0, 0, 0, 1, 0, 1];
     assert!(rt; is_loaded(planned_v1(rt.alloc(), 6, &planned)));
     let overloaded = planned_v1(rt.alloc(), 11, &planned).err();
@@ -162,9 +164,9 @@ fn plans_of_version_1_are_judged(rt: HostRuntime) {
 
 #[test]
 fn fields_of_version_1_are_judged(rt: HostRuntime) {
-    // a byte behind an empty route; a pin over one
-    let behind = planned_v1(rt.alloc(), 6, &[0, 0, 0, 0, 0]).err();
-    assert!(rt; behind == Some(CodecFault::BadField));
+    // A byte after an empty route; a pin longer than its route.
+    let following = planned_v1(rt.alloc(), 6, &[0, 0, 0, 0, 0]).err();
+    assert!(rt; following == Some(CodecFault::BadField));
     let pinned = planned_v1(rt.alloc(), 6, &[0, 1, 0, 0]).err();
     assert!(rt; pinned == Some(CodecFault::BadField));
 }
@@ -191,14 +193,14 @@ fn a_record_has_its_place(rt: HostRuntime) {
 }
 
 #[test]
-fn a_record_with_more_behind_it_is_none(rt: HostRuntime) {
+fn a_record_with_trailing_bytes_is_none(rt: HostRuntime) {
     let mut record = encode_record(1, 0, &Command::Build);
     record[511] = 1;
     assert!(rt; is_none(&record, 1, 0));
 }
 
 #[test]
-fn counts_outside_their_limits_are_no_records(rt: HostRuntime) {
+fn counts_outside_their_limits_are_refused(rt: HostRuntime) {
     let mut record = encode_record(1, 0, &Command::Search(256));
     record[14] = 1;
     assert!(rt; is_none(&record, 1, 0));

@@ -1,11 +1,11 @@
-//! A device in memory: what a crash leaves, and calls that fail.
+//! A device in memory: its contents after a crash, and calls that fail.
 
 use crate::tests::builders::{read_sector, write_sector};
 use sector_disk::{DeviceFault, MemDevice, Sectors};
 use std::process::Abort;
 use std::test::Fail;
 
-// Writes a sector that is full of this byte.
+// Writes a sector filled with this byte.
 fn write_one(
     rt: &impl Abort,
     device: &mut MemDevice,
@@ -15,7 +15,7 @@ fn write_one(
     write_sector(rt, device, sector, &[byte; 512])
 }
 
-// Writes a sector of the first byte, and one of the second behind it.
+// Writes two consecutive sectors: the first one filled with the first byte, the next one with the second byte.
 fn write_two(
     rt: &impl Abort,
     device: &mut MemDevice,
@@ -28,14 +28,14 @@ fn write_two(
     device.write(sector, &run)
 }
 
-// The byte that a sector is full of, or none where the read fails.
+// Returns the byte that fills a sector, or `None` if the read fails.
 fn read_one(rt: &impl Abort, device: &mut MemDevice, sector: u64) -> Option<u8> {
     let bytes = read_sector(rt, device, sector)?;
     assert!(rt; bytes == [bytes[0]; 512]);
     Some(bytes[0])
 }
 
-// The bytes that the first three sectors are full of.
+// Returns the bytes that fill the first three sectors.
 fn read_three(rt: &impl Abort, device: &mut MemDevice) -> [Option<u8>; 3] {
     [
         read_one(rt, device, 0),
@@ -44,7 +44,8 @@ fn read_three(rt: &impl Abort, device: &mut MemDevice) -> [Option<u8>; 3] {
     ]
 }
 
-// A device of three sectors: 0 was synced with 1 and then written with 2 and 3, 2 was written with 9.
+// Returns a device of three sectors: sector 0 was synced with 1 and then written with 2 and 3; sector 2 was
+// written with 9.
 fn written(rt: &(impl Abort + AllocGlobal)) -> Result<MemDevice, Fail> {
     let mut device = MemDevice::new(rt.alloc(), 3)?;
     write_all(rt, &mut device)?;
@@ -59,7 +60,7 @@ fn write_all(rt: &impl Abort, device: &mut MemDevice) -> Result<(), DeviceFault>
     write_one(rt, device, 2, 9)
 }
 
-// What a crash with these choices leaves of it.
+// Returns the contents of that device after a crash with these choices.
 fn left(rt: &(impl Abort + AllocGlobal), choices: &[u32]) -> Result<[Option<u8>; 3], Fail> {
     let mut device = written(rt)?;
     device.crash(choices);
@@ -67,7 +68,7 @@ fn left(rt: &(impl Abort + AllocGlobal), choices: &[u32]) -> Result<[Option<u8>;
 }
 
 #[test]
-fn reads_give_what_was_written_last(rt: HostRuntime) -> Result<(), Fail> {
+fn reads_return_the_last_write(rt: HostRuntime) -> Result<(), Fail> {
     let mut device = written(&rt)?;
     assert!(rt; read_three(&rt, &mut device) == [Some(3), Some(0), Some(9)]);
     assert!(rt; device.len() == 3);
@@ -76,14 +77,14 @@ fn reads_give_what_was_written_last(rt: HostRuntime) -> Result<(), Fail> {
     Ok(())
 }
 
-/// Choices, and what a crash with them leaves.
+/// Choices, and the contents after a crash with them.
 const CHOSEN: [(&[u32], [Option<u8>; 3]); 8] = [
     (&[], [Some(1), Some(0), Some(0)]),
     (&[0, 0, 0], [Some(1), Some(0), Some(0)]),
     (&[1, 1, 1], [Some(2), Some(0), Some(9)]),
     (&[2], [Some(3), Some(0), Some(0)]),
     (&[1, 0, 0], [Some(2), Some(0), Some(0)]),
-    // They are taken modulo the count of contents.
+    // Choices are taken modulo the number of possible contents.
     (&[3, 7, 2], [Some(1), Some(0), Some(0)]),
     (&[5, 0, 3, 4], [Some(3), Some(0), Some(9)]),
     (&[u32::MAX, 0, u32::MAX], [Some(1), Some(0), Some(9)]),
@@ -108,7 +109,8 @@ fn what_a_crash_left_is_durable(rt: HostRuntime) -> Result<(), Fail> {
     Ok(())
 }
 
-// Writes 1 and 2 to sectors 0 and 1, syncs, writes 3 and 4 to sectors 1 and 2, and syncs. Which of these finish.
+// Writes 1 and 2 to sectors 0 and 1, syncs, writes 3 and 4 to sectors 1 and 2, and syncs. Returns which of
+// these calls finish.
 fn write_and_sync(rt: &impl Abort, device: &mut MemDevice) -> [bool; 4] {
     [
         write_two(rt, device, 0, (1, 2)).is_ok(),
@@ -118,7 +120,7 @@ fn write_and_sync(rt: &impl Abort, device: &mut MemDevice) -> [bool; 4] {
     ]
 }
 
-// A device of three sectors that was to do so with a fuse of `k`, and which calls finished.
+// Returns a device of three sectors on which `write_and_sync` ran with a fuse of `k`, and which calls finished.
 fn fused(rt: &(impl Abort + AllocGlobal), k: u64) -> Result<(MemDevice, [bool; 4]), Fail> {
     let mut device = MemDevice::new(rt.alloc(), 3)?;
     device.fuse(k);
@@ -135,14 +137,14 @@ const FINISHED: [(u64, [bool; 4]); 4] = [
 ];
 
 #[test]
-fn a_fuse_lets_so_many_calls_finish(rt: HostRuntime) -> Result<(), Fail> {
+fn a_fuse_allows_k_calls(rt: HostRuntime) -> Result<(), Fail> {
     for (k, finished) in FINISHED {
         assert!(rt; fused(&rt, k)?.1 == finished);
     }
     Ok(())
 }
 
-// What is left where the choice is 0, 1 and 2 for each sector.
+// Returns the contents after a crash with this choice for each sector.
 fn left_by_fuse(
     rt: &(impl Abort + AllocGlobal),
     k: u64,
@@ -153,8 +155,8 @@ fn left_by_fuse(
     Ok(read_three(rt, &mut device))
 }
 
-/// A fuse, a choice for each sector, and what a crash leaves. Sector 1 is written by both.
-const BEHIND_A_FUSE: [(u64, u32, [Option<u8>; 3]); 10] = [
+/// A fuse, a choice for each sector, and the contents after a crash. Both writes touch sector 1.
+const AFTER_A_FUSE: [(u64, u32, [Option<u8>; 3]); 10] = [
     (0, 0, [Some(0), Some(0), Some(0)]),
     (0, 1, [Some(1), Some(2), Some(0)]),
     (0, 2, [Some(0), Some(0), Some(0)]),
@@ -168,15 +170,15 @@ const BEHIND_A_FUSE: [(u64, u32, [Option<u8>; 3]); 10] = [
 ];
 
 #[test]
-fn a_crash_behind_a_fuse(rt: HostRuntime) -> Result<(), Fail> {
-    for (k, choice, wanted) in BEHIND_A_FUSE {
+fn a_crash_after_a_fuse(rt: HostRuntime) -> Result<(), Fail> {
+    for (k, choice, wanted) in AFTER_A_FUSE {
         assert!(rt; left_by_fuse(&rt, k, choice)? == wanted);
     }
     Ok(())
 }
 
 #[test]
-fn a_crash_takes_the_fuse_out(rt: HostRuntime) -> Result<(), Fail> {
+fn a_crash_removes_the_fuse(rt: HostRuntime) -> Result<(), Fail> {
     let mut device = fused(&rt, 3)?.0;
     assert!(rt; read_three(&rt, &mut device) == [None, None, None]);
     assert!(rt; device.calls() == 3);
@@ -195,13 +197,13 @@ fn the_first_failed_write_of_a_fuse_may_be_kept(rt: HostRuntime) -> Result<(), F
     assert!(rt; device.sync().is_err());
     assert!(rt; write_one(&rt, &mut device, 0, 5).is_err());
     assert!(rt; write_one(&rt, &mut device, 0, 6).is_err());
-    // Of two contents number 3 is the one that was written first.
+    // There are two possible contents, so choice 3 is the one that was written first.
     device.crash(&[3]);
     assert!(rt; read_one(&rt, &mut device, 0) == Some(5));
     Ok(())
 }
 
-// A device of three sectors whose second write of two failed: 1 to sector 0, then 2 and 3 to sectors 0 and 1.
+// Returns a device of three sectors whose second write failed: 1 to sector 0, then 2 and 3 to sectors 0 and 1.
 fn failed_once(rt: &(impl Abort + AllocGlobal)) -> Result<MemDevice, Fail> {
     let mut device = MemDevice::new(rt.alloc(), 3)?;
     device.fail_once(1);
@@ -211,7 +213,7 @@ fn failed_once(rt: &(impl Abort + AllocGlobal)) -> Result<MemDevice, Fail> {
 }
 
 #[test]
-fn reads_go_on_behind_a_failed_write(rt: HostRuntime) -> Result<(), Fail> {
+fn reads_continue_after_a_failed_write(rt: HostRuntime) -> Result<(), Fail> {
     let mut device = failed_once(&rt)?;
     assert!(rt; device.calls() == 1);
     assert!(rt; device.faults() == 1);

@@ -1,7 +1,8 @@
 //! A device over a file.
 
 use crate::tests::builders::{read_sector, write_sector};
-use sector_disk::{FileDevice, FileFault, Sectors, Unknown};
+use file_disk::{FileDevice, FileFault, UnknownFile};
+use sector_disk::Sectors;
 use std::fs;
 use std::fs::{File, Files};
 use std::io::ErrorKind;
@@ -13,9 +14,9 @@ fn file_len(rt: &HostRuntime, path: &str) -> Result<u64, Fail> {
 }
 
 #[test]
-fn a_file_is_made(rt: HostRuntime) -> Result<(), Fail> {
+fn a_file_is_created(rt: HostRuntime) -> Result<(), Fail> {
     let path = "made.disk";
-    let device = FileDevice::create(&rt, path, 802, Unknown)?;
+    let device = FileDevice::create(&rt, path, 802, UnknownFile)?;
     assert!(rt; file_len(&rt, path)? == 410_624);
     assert!(rt; device.len() == 802);
     assert!(rt; device.calls() == 0);
@@ -27,7 +28,7 @@ fn a_file_is_made(rt: HostRuntime) -> Result<(), Fail> {
 #[test]
 fn a_file_is_written(rt: HostRuntime) -> Result<(), Fail> {
     let path = "written.disk";
-    let mut device = FileDevice::create(&rt, path, 2, Unknown)?;
+    let mut device = FileDevice::create(&rt, path, 2, UnknownFile)?;
     device.write(0, &[7; 1024])?;
     device.sync()?;
     assert!(rt; device.calls() == 2);
@@ -36,9 +37,9 @@ fn a_file_is_written(rt: HostRuntime) -> Result<(), Fail> {
     Ok(fs::remove_file(&rt, path)?)
 }
 
-// Makes a file of 802 sectors and fills the last two with sevens.
+// Creates a file of 802 sectors and fills the last two with sevens.
 fn fill_end<R: Files<File = File>>(rt: &R, path: &str) -> Result<(), Fail> {
-    let mut device = FileDevice::create(rt, path, 802, Unknown)?;
+    let mut device = FileDevice::create(rt, path, 802, UnknownFile)?;
     device.write(800, &[7; 1024])?;
     Ok(device.sync()?)
 }
@@ -47,7 +48,7 @@ fn fill_end<R: Files<File = File>>(rt: &R, path: &str) -> Result<(), Fail> {
 fn a_file_is_opened_again(rt: HostRuntime) -> Result<(), Fail> {
     let path = "again.disk";
     fill_end(&rt, path)?;
-    let mut device = FileDevice::at(&rt, path, Unknown)?;
+    let mut device = FileDevice::at(&rt, path, UnknownFile)?;
     assert!(rt; device.len() == 802);
     let mut zeros = [1; 512];
     device.read(799, &mut zeros)?;
@@ -59,7 +60,7 @@ fn a_file_is_opened_again(rt: HostRuntime) -> Result<(), Fail> {
     Ok(fs::remove_file(&rt, path)?)
 }
 
-// The bytes of a file of this many fives that is given this many sectors.
+// Returns the bytes of a file of `len` fives, after a device with this many sectors was created over it.
 fn sized<R: AllocGlobal + Files<File = File>>(
     rt: &R,
     path: &str,
@@ -67,7 +68,7 @@ fn sized<R: AllocGlobal + Files<File = File>>(
     sectors: u64,
 ) -> Result<Vec<u8>, Fail> {
     fs::write(rt, path, vec![in rt.alloc(); 5u8; len]?.as_slice())?;
-    FileDevice::create(rt, path, sectors, Unknown)?;
+    FileDevice::create(rt, path, sectors, UnknownFile)?;
     Ok(fs::read(rt, path)?)
 }
 
@@ -100,57 +101,57 @@ fn an_empty_file_becomes_zeros(rt: HostRuntime) -> Result<(), Fail> {
 #[test]
 fn a_new_file_has_no_hole(rt: HostRuntime) -> Result<(), Fail> {
     let path = "whole.disk";
-    FileDevice::create(&rt, path, 8450, Unknown)?;
+    FileDevice::create(&rt, path, 8450, UnknownFile)?;
     let blocks = fs::metadata(&rt, path)?.blocks();
     assert!(rt; blocks >= 8450);
     Ok(fs::remove_file(&rt, path)?)
 }
 
-// Why there is no device at this path.
+// Returns why there is no device at this path.
 fn fault_at(rt: &HostRuntime, path: &str) -> Option<FileFault> {
-    FileDevice::at(rt, path, Unknown).err()
+    FileDevice::at(rt, path, UnknownFile).err()
 }
 
-// Why a device is not made at this path.
-fn fault_of_making(rt: &HostRuntime, path: &str, sectors: u64) -> Option<FileFault> {
-    FileDevice::create(rt, path, sectors, Unknown).err()
+// Returns why no device is created at this path.
+fn fault_of_create(rt: &HostRuntime, path: &str, sectors: u64) -> Option<FileFault> {
+    FileDevice::create(rt, path, sectors, UnknownFile).err()
 }
 
 #[test]
-fn what_is_no_device_is_told(rt: HostRuntime) {
+fn no_device_is_reported(rt: HostRuntime) {
     assert!(rt; fault_at(&rt, "missing.disk") == Some(FileFault::NoFile));
     assert!(rt; fault_at(&rt, ".") == Some(FileFault::NoFile));
-    assert!(rt; fault_of_making(&rt, "no/folder.disk", 1) == Some(FileFault::NoFile));
+    assert!(rt; fault_of_create(&rt, "no/folder.disk", 1) == Some(FileFault::NoFile));
 }
 
-// The kind of the system's words, where there is no device at this path.
+// Returns the kind of the system error if there is no device at this path.
 fn cause_at(rt: &HostRuntime, path: &str) -> Option<ErrorKind> {
-    let refusal = FileDevice::at_or_cause(rt, path, Unknown).err()?;
+    let refusal = FileDevice::at_or_cause(rt, path, UnknownFile).err()?;
     Some(refusal.cause?.kind())
 }
 
-// The same, where none is made.
-fn cause_of_making(rt: &HostRuntime, path: &str) -> Option<ErrorKind> {
-    let refusal = FileDevice::create_or_cause(rt, path, 1, Unknown).err()?;
+// Returns the kind of the system error if no device is created at this path.
+fn cause_of_create(rt: &HostRuntime, path: &str) -> Option<ErrorKind> {
+    let refusal = FileDevice::create_or_cause(rt, path, 1, UnknownFile).err()?;
     Some(refusal.cause?.kind())
 }
 
 #[test]
-fn the_words_of_the_system_are_kept(rt: HostRuntime) {
+fn system_errors_are_kept(rt: HostRuntime) {
     assert!(rt; cause_at(&rt, "missing.disk") == Some(ErrorKind::NotFound));
     assert!(rt; cause_at(&rt, ".") == Some(ErrorKind::IsADirectory));
-    assert!(rt; cause_of_making(&rt, "no/folder.disk") == Some(ErrorKind::NotFound));
-    // A device of the system opens, and is no plain file.
-    assert!(rt; fault_of_making(&rt, "/dev/null", 1) == Some(FileFault::NoFile));
-    assert!(rt; cause_of_making(&rt, "/dev/null").is_none());
+    assert!(rt; cause_of_create(&rt, "no/folder.disk") == Some(ErrorKind::NotFound));
+    // A device file opens, but it is not a regular file.
+    assert!(rt; fault_of_create(&rt, "/dev/null", 1) == Some(FileFault::NoFile));
+    assert!(rt; cause_of_create(&rt, "/dev/null").is_none());
 }
 
 #[test]
-fn a_length_that_is_no_device_is_told(rt: HostRuntime) -> Result<(), Fail> {
+fn a_bad_length_is_reported(rt: HostRuntime) -> Result<(), Fail> {
     let path = "odd.disk";
     fs::write(&rt, path, [0u8; 513].as_slice())?;
     assert!(rt; fault_at(&rt, path) == Some(FileFault::BadLength));
-    assert!(rt; fault_of_making(&rt, path, 1 << 60) == Some(FileFault::BadLength));
+    assert!(rt; fault_of_create(&rt, path, 1 << 60) == Some(FileFault::BadLength));
     assert!(rt; file_len(&rt, path)? == 513);
     Ok(fs::remove_file(&rt, path)?)
 }
@@ -158,8 +159,8 @@ fn a_length_that_is_no_device_is_told(rt: HostRuntime) -> Result<(), Fail> {
 #[test]
 fn a_failed_read_counts(rt: HostRuntime) -> Result<(), Fail> {
     let path = "cut.disk";
-    let mut device = FileDevice::create(&rt, path, 2, Unknown)?;
-    // Somebody cuts the file, so a read of its end is short.
+    let mut device = FileDevice::create(&rt, path, 2, UnknownFile)?;
+    // Something truncates the file, so a read of its end is short.
     fs::write(&rt, path, [0u8; 700].as_slice())?;
     assert!(rt; device.cause().is_none());
     assert!(rt; read_sector(&rt, &mut device, 1).is_none());

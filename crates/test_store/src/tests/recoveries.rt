@@ -1,4 +1,4 @@
-//! Sessions over a store: commands, stops and recovery.
+//! Sessions over a store: commands, crashes and recovery.
 
 use crate::tests::builders::{LOADED, SECTORS, empty_store, loaded_store, open, refusal};
 use checkpoint::{Place, StoreFault, commit_record};
@@ -9,7 +9,7 @@ use state_codec::{CodecFault, decode_state};
 use std::alloc::Global;
 use std::test::Fail;
 
-// The command that leads to the loaded state.
+// Returns the command that leads to the loaded state.
 fn load(alloc: Global) -> Result<Command, Fail> {
     match decode_state(alloc, &LOADED)? {
         State::Loaded(job) => Ok(load_of(job)),
@@ -22,12 +22,12 @@ fn load_of(job: Job) -> Command {
     Command::Load(problem, 0)
 }
 
-// Why the device is not opened, and how many calls have finished.
+// Returns why the device is not opened, and how many calls have finished.
 fn refused(alloc: Global, device: MemDevice) -> Option<(StoreFault, u64)> {
     refusal(Session::open(alloc, device))
 }
 
-// How many search steps the state has made, and how many requests it has.
+// Returns how many search steps the state has made, and how many requests it has.
 fn counts(state: &State) -> (u64, usize) {
     match state {
         State::Empty => (0, 0),
@@ -35,7 +35,7 @@ fn counts(state: &State) -> (u64, usize) {
     }
 }
 
-// The answer to a command, and the device's count then.
+// Returns the answer to a command, and the device's call count after it.
 fn answer(
     alloc: Global,
     session: &mut Session<MemDevice>,
@@ -54,7 +54,7 @@ fn opening_takes_one_call(rt: HostRuntime) -> Result<(), Fail> {
     Ok(())
 }
 
-// The loaded state, a plan of it and 256 search steps, as commands.
+// Returns commands that load the state, build a plan and search 256 steps.
 fn commands(alloc: Global) -> Result<Vec<Command>, Fail> {
     let mut commands = Vec::new(alloc);
     commands.push(load(alloc)?)?;
@@ -63,7 +63,7 @@ fn commands(alloc: Global) -> Result<Vec<Command>, Fail> {
     Ok(commands)
 }
 
-// What a new store answers to them.
+// Returns the answers of a new store to these commands.
 fn run(alloc: Global) -> Result<Run, Fail> {
     let commands = commands(alloc)?;
     let mut session = open(alloc, empty_store(alloc)?)?.session;
@@ -83,7 +83,7 @@ fn a_run_answers_each_command(rt: HostRuntime) -> Result<(), Fail> {
     Ok(())
 }
 
-// A session after so many searches of one step.
+// Returns a session after this number of searches of one step.
 fn searched(alloc: Global, times: u32) -> Result<Session<MemDevice>, Fail> {
     let mut session = open(alloc, loaded_store(alloc)?)?.session;
     for _ in 0..times {
@@ -92,15 +92,15 @@ fn searched(alloc: Global, times: u32) -> Result<Session<MemDevice>, Fail> {
     Ok(session)
 }
 
-// How many steps opening repeats, and the steps and requests of the state.
+// Returns how many steps opening replays, and the steps and requests of the state.
 fn opened_counts(alloc: Global, device: MemDevice) -> Result<(u64, (u64, usize)), Fail> {
     let opened = open(alloc, device)?;
-    let told = (opened.replayed, counts(opened.session.state()));
+    let reported = (opened.replayed, counts(opened.session.state()));
     drop(opened);
-    Ok(told)
+    Ok(reported)
 }
 
-// What annealing makes of a store goes into it as a snapshot, with four calls, and is not made again.
+// The result of annealing is stored as a snapshot, with four calls, and is not computed again.
 #[test]
 fn annealing_becomes_a_snapshot(rt: HostRuntime) -> Result<(), Fail> {
     let mut session = searched(rt.alloc(), 2)?;
@@ -112,7 +112,7 @@ fn annealing_becomes_a_snapshot(rt: HostRuntime) -> Result<(), Fail> {
     Ok(())
 }
 
-// A session whose device failed in a command, and what it answered.
+// Returns a session whose device failed during a command, and its answer.
 fn broken(alloc: Global) -> Result<(Session<MemDevice>, (Result<(), Denial>, u64)), Fail> {
     let mut device = loaded_store(alloc)?;
     // Opening is a sync and two reads, a command a write and a sync.
@@ -133,13 +133,13 @@ fn a_session_breaks_with_its_device(rt: HostRuntime) -> Result<(), Fail> {
     Ok(())
 }
 
-// Why a device of zeros is not opened, and how many calls have finished.
+// Returns why a device of zeros is not opened, and how many calls have finished.
 fn refused_of(alloc: Global, sectors: u64) -> Result<Option<(StoreFault, u64)>, Fail> {
     Ok(refused(alloc, MemDevice::new(alloc, sectors)?))
 }
 
 #[test]
-fn what_is_no_store_is_refused(rt: HostRuntime) -> Result<(), Fail> {
+fn a_device_without_a_store_is_refused(rt: HostRuntime) -> Result<(), Fail> {
     for (sectors, calls) in [(801, 0), (802, 1), (8449, 1), (8450, 1)] {
         let refused = refused_of(rt.alloc(), sectors)?;
         assert!(rt; refused == Some((StoreFault::NotFormatted, calls)));
@@ -161,7 +161,7 @@ fn a_record_that_the_state_refuses(rt: HostRuntime) -> Result<(), Fail> {
     Ok(())
 }
 
-// What a store that was just made answers to `checkpoint`, and the device's count then.
+// Returns the answer of a new store to `checkpoint`, and the device's call count after it.
 fn answer_of_an_empty_store(alloc: Global) -> Result<(Result<(), Denial>, u64), Fail> {
     let mut session = open(alloc, empty_store(alloc)?)?.session;
     let answer = answer(alloc, &mut session, Command::Checkpoint);

@@ -1,6 +1,6 @@
-//! Restarts: a store that is closed, killed or crashed and opened again, where openings fail.
+//! Restarts: a store that is closed, killed or crashed and opened again, while openings fail.
 //!
-//! An opening is one call, a search of 256 steps or of 44 two: its record is written and then synced.
+//! Opening takes one call. A search of 256 or of 44 steps takes two: its record is written and then synced.
 
 use crate::tests::builders::{SECTORS, empty_store, refusal};
 use crate::tests::rounds::{Step, commands_of};
@@ -11,7 +11,7 @@ use sector_disk::{MemDevice, Sectors};
 use std::alloc::Global;
 use std::test::Fail;
 
-/// How a restart ends. A crash takes of each sector what was first written since the last sync.
+/// The end of a restart. In a crash each sector takes the first content written since the last sync.
 #[derive(Clone, Copy)]
 enum End {
     Closed,
@@ -19,14 +19,14 @@ enum End {
     Crashed(u64),
 }
 
-/// What a restart does, and how it ends.
-type Given = (&'static [Step], End);
+/// The commands of a restart, and its end.
+type Script = (&'static [Step], End);
 
-const BEGIN: Given = (&[Step::Load, Step::Build], End::Closed);
+const BEGIN: Script = (&[Step::Load, Step::Build], End::Closed);
 
 const SEARCHES: &[Step] = &[Step::Search(256), Step::Search(44)];
 
-/// What came of a restart that was not opened.
+/// The outcome of a restart that did not open.
 const NOT_OPENED: i64 = -1;
 
 fn ending_of(alloc: Global, end: End) -> Result<Ending, Fail> {
@@ -40,13 +40,13 @@ fn ending_of(alloc: Global, end: End) -> Result<Ending, Fail> {
     }
 }
 
-fn restart_of(alloc: Global, given: Given) -> Result<Restart, Fail> {
+fn restart_of(alloc: Global, given: Script) -> Result<Restart, Fail> {
     let commands = commands_of(alloc, given.0)?;
     let ending = ending_of(alloc, given.1)?;
     Ok(Restart { commands, ending })
 }
 
-fn restarts_of(alloc: Global, all: &[Given]) -> Result<Vec<Restart>, Fail> {
+fn restarts_of(alloc: Global, all: &[Script]) -> Result<Vec<Restart>, Fail> {
     let mut restarts = Vec::new(alloc);
     for given in all {
         restarts.push(restart_of(alloc, *given)?)?;
@@ -54,7 +54,7 @@ fn restarts_of(alloc: Global, all: &[Given]) -> Result<Vec<Restart>, Fail> {
     Ok(restarts)
 }
 
-fn run_all(alloc: Global, device: MemDevice, all: &[Given]) -> Result<Restarts, Fail> {
+fn run_all(alloc: Global, device: MemDevice, all: &[Script]) -> Result<Restarts, Fail> {
     let restarts = restarts_of(alloc, all)?;
     match run_restarts(alloc, device, restarts) {
         Ok(restarts) => Ok(restarts),
@@ -62,7 +62,7 @@ fn run_all(alloc: Global, device: MemDevice, all: &[Given]) -> Result<Restarts, 
     }
 }
 
-// How many commands were answered Ok.
+// Returns how many commands were acknowledged.
 fn acknowledged(run: &Run) -> i64 {
     let mut count = 0i64;
     for reply in run.replies.iter() {
@@ -73,7 +73,7 @@ fn acknowledged(run: &Run) -> i64 {
     count
 }
 
-// What came of a restart.
+// Returns the outcome of a restart.
 fn outcome(run: &Result<Run, StoreFault>) -> i64 {
     match run {
         Ok(run) => acknowledged(run),
@@ -81,7 +81,7 @@ fn outcome(run: &Result<Run, StoreFault>) -> i64 {
     }
 }
 
-// Whether this came of each restart.
+// Returns whether the restarts had these outcomes.
 fn are_outcomes(restarts: &Restarts, wanted: &[i64]) -> bool {
     if restarts.runs.len() != wanted.len() {
         return false;
@@ -94,7 +94,7 @@ fn are_outcomes(restarts: &Restarts, wanted: &[i64]) -> bool {
     true
 }
 
-// How many search steps the state has made.
+// Returns how many search steps the state has made.
 fn steps(restarts: &Restarts) -> u64 {
     match restarts.session.state() {
         State::Empty => 0,
@@ -102,15 +102,20 @@ fn steps(restarts: &Restarts) -> u64 {
     }
 }
 
-// Whether this came of each restart, and so many search steps stand.
-fn come(restarts: &Restarts, wanted: &[i64], stand: u64) -> bool {
+// Returns whether the restarts had these outcomes, and the state has this number of search steps.
+fn have_outcomes(restarts: &Restarts, wanted: &[i64], stand: u64) -> bool {
     are_outcomes(restarts, wanted) && steps(restarts) == stand
 }
 
-// Whether over an empty store this comes of each restart, and so many search steps stand.
-fn leave(alloc: Global, all: &[Given], wanted: &[i64], stand: u64) -> Result<bool, Fail> {
+// Returns whether restarts of an empty store have these outcomes, and leave this number of search steps.
+fn ends_with_outcomes(
+    alloc: Global,
+    all: &[Script],
+    wanted: &[i64],
+    stand: u64,
+) -> Result<bool, Fail> {
     let restarts = run_all(alloc, empty_store(alloc)?, all)?;
-    let have_come = come(&restarts, wanted, stand);
+    let have_come = have_outcomes(&restarts, wanted, stand);
     drop(restarts);
     Ok(have_come)
 }
@@ -119,19 +124,19 @@ fn leave(alloc: Global, all: &[Given], wanted: &[i64], stand: u64) -> Result<boo
 #[test]
 fn a_kill_before_a_record(rt: HostRuntime) -> Result<(), Fail> {
     let all = [BEGIN, (SEARCHES, End::Killed(3))];
-    assert!(rt; leave(rt.alloc(), &all, &[2, 1], 256)?);
+    assert!(rt; ends_with_outcomes(rt.alloc(), &all, &[2, 1], 256)?);
     Ok(())
 }
 
-// It is written and not synced, so that it was not answered Ok. The next opening reads it all the same.
+// The record is written but not synced, so it was not acknowledged. The next opening reads it nevertheless.
 #[test]
-fn a_kill_behind_a_record(rt: HostRuntime) -> Result<(), Fail> {
+fn a_kill_after_a_record(rt: HostRuntime) -> Result<(), Fail> {
     let all = [BEGIN, (SEARCHES, End::Killed(4))];
-    assert!(rt; leave(rt.alloc(), &all, &[2, 1], 300)?);
+    assert!(rt; ends_with_outcomes(rt.alloc(), &all, &[2, 1], 300)?);
     Ok(())
 }
 
-// What the failed write left is possible yet behind the kill: a crash within the next opening chooses it.
+// The content of the failed write is still possible after the kill: a crash during the next opening chooses it.
 #[test]
 fn a_kill_and_then_a_crash_within_the_opening(rt: HostRuntime) -> Result<(), Fail> {
     let all = [
@@ -139,11 +144,11 @@ fn a_kill_and_then_a_crash_within_the_opening(rt: HostRuntime) -> Result<(), Fai
         (SEARCHES, End::Killed(3)),
         (SEARCHES, End::Crashed(0)),
     ];
-    assert!(rt; leave(rt.alloc(), &all, &[2, 1, NOT_OPENED], 300)?);
+    assert!(rt; ends_with_outcomes(rt.alloc(), &all, &[2, 1, NOT_OPENED], 300)?);
     Ok(())
 }
 
-// Before the sync of the opening, and behind it.
+// One kill is before the sync of the opening, one after it.
 #[test]
 fn kills_within_openings(rt: HostRuntime) -> Result<(), Fail> {
     let all = [
@@ -152,31 +157,31 @@ fn kills_within_openings(rt: HostRuntime) -> Result<(), Fail> {
         (SEARCHES, End::Killed(1)),
         (SEARCHES, End::Closed),
     ];
-    assert!(rt; leave(rt.alloc(), &all, &[2, NOT_OPENED, NOT_OPENED, 2], 300)?);
+    assert!(rt; ends_with_outcomes(rt.alloc(), &all, &[2, NOT_OPENED, NOT_OPENED, 2], 300)?);
     Ok(())
 }
 
-// Whether the list goes on where the device fails in the first opening.
-fn goes_on(alloc: Global) -> Result<bool, Fail> {
+// Returns whether the list continues if the device fails during the first opening.
+fn continues(alloc: Global) -> Result<bool, Fail> {
     let mut device = empty_store(alloc)?;
     device.fail_once(0);
     let restarts = run_all(alloc, device, &[BEGIN, BEGIN])?;
-    let have_come = come(&restarts, &[NOT_OPENED, 2], 0);
+    let have_come = have_outcomes(&restarts, &[NOT_OPENED, 2], 0);
     drop(restarts);
     Ok(have_come)
 }
 
 #[test]
 fn an_opening_that_the_device_refuses(rt: HostRuntime) -> Result<(), Fail> {
-    assert!(rt; goes_on(rt.alloc())?);
+    assert!(rt; continues(rt.alloc())?);
     Ok(())
 }
 
-// Why restarts are refused, and how many calls have finished.
+// Returns why restarts are refused, and how many calls have finished.
 fn refused(
     alloc: Global,
     device: MemDevice,
-    all: &[Given],
+    all: &[Script],
 ) -> Result<Option<(RoundsFault, u64)>, Fail> {
     let restarts = restarts_of(alloc, all)?;
     Ok(refusal(run_restarts(alloc, device, restarts)))

@@ -1,4 +1,4 @@
-//! Rounds: a store that is opened, run, and stopped or closed, again and again.
+//! Rounds: a store that is opened, run, and crashed or closed, again and again.
 
 use crate::tests::builders::{SECTORS, empty_store, refusal};
 use checkpoint::StoreFault;
@@ -11,7 +11,7 @@ use std::alloc::Global;
 use std::test::Fail;
 use test_examples::THREE_CUSTOMERS;
 
-/// What a round does.
+/// A command of a round.
 #[derive(Clone, Copy)]
 pub enum Step {
     Load,
@@ -27,7 +27,7 @@ fn command_of(alloc: Global, step: Step) -> Result<Command, Fail> {
     }
 }
 
-/// The commands of these steps.
+/// Returns the commands of these steps.
 pub fn commands_of(alloc: Global, steps: &[Step]) -> Result<Vec<Command>, Fail> {
     let mut commands = Vec::new(alloc);
     for step in steps {
@@ -36,18 +36,19 @@ pub fn commands_of(alloc: Global, steps: &[Step]) -> Result<Vec<Command>, Fail> 
     Ok(commands)
 }
 
-/// What a round does, and after how many more finished calls every call fails. Each sector takes what is synced then.
-type Given = (&'static [Step], Option<u64>);
+/// The commands of a round, and after how many more finished calls every call fails. Each sector then takes its
+/// synced content.
+type Script = (&'static [Step], Option<u64>);
 
-const BEGIN: Given = (&[Step::Load, Step::Build], None);
+const BEGIN: Script = (&[Step::Load, Step::Build], None);
 
-const IN_ROUNDS: [Given; 3] = [
+const IN_ROUNDS: [Script; 3] = [
     BEGIN,
     (&[Step::Search(256), Step::Search(44)], Some(2)),
     (&[Step::Search(256), Step::Search(88)], None),
 ];
 
-const AT_ONCE: [Step; 5] = [
+const IN_ONE_RUN: [Step; 5] = [
     Step::Load,
     Step::Build,
     Step::Search(256),
@@ -55,7 +56,7 @@ const AT_ONCE: [Step; 5] = [
     Step::Search(88),
 ];
 
-fn round_of(alloc: Global, given: Given) -> Result<Round, Fail> {
+fn round_of(alloc: Global, given: Script) -> Result<Round, Fail> {
     let commands = commands_of(alloc, given.0)?;
     let choices = Vec::new(alloc);
     let stop = match given.1 {
@@ -65,7 +66,7 @@ fn round_of(alloc: Global, given: Given) -> Result<Round, Fail> {
     Ok(Round { commands, stop })
 }
 
-fn rounds_of(alloc: Global, all: &[Given]) -> Result<Vec<Round>, Fail> {
+fn rounds_of(alloc: Global, all: &[Script]) -> Result<Vec<Round>, Fail> {
     let mut rounds = Vec::new(alloc);
     for given in all {
         rounds.push(round_of(alloc, *given)?)?;
@@ -80,8 +81,8 @@ fn run_all(alloc: Global, device: MemDevice, rounds: Vec<Round>) -> Result<Round
     }
 }
 
-// Rounds over an empty store.
-fn run_over_none(alloc: Global, all: &[Given]) -> Result<Rounds, Fail> {
+// Runs rounds over an empty store.
+fn run_over_none(alloc: Global, all: &[Script]) -> Result<Rounds, Fail> {
     let rounds = rounds_of(alloc, all)?;
     run_all(alloc, empty_store(alloc)?, rounds)
 }
@@ -90,22 +91,22 @@ fn bytes_of(alloc: Global, state: &State) -> Result<Vec<u8>, Fail> {
     Ok(encode_state(alloc, state)?)
 }
 
-// The state that the three rounds leave.
-fn cut(alloc: Global) -> Result<Vec<u8>, Fail> {
+// Returns the state that the three rounds leave.
+fn interrupted(alloc: Global) -> Result<Vec<u8>, Fail> {
     let rounds = run_over_none(alloc, &IN_ROUNDS)?;
     let bytes = bytes_of(alloc, rounds.session.state());
     drop(rounds);
     bytes
 }
 
-// The state after one more command.
+// Returns the state after one more command.
 fn next(alloc: Global, state: State, command: &Command) -> Result<State, Refusal> {
     let next = apply(alloc, &state, command);
     drop(state);
     next
 }
 
-// The state after commands, without a store.
+// Returns the state after commands, without a store.
 fn state_after(alloc: Global, commands: &[Command]) -> Result<State, Fail> {
     let mut state = State::Empty;
     for command in commands {
@@ -114,28 +115,28 @@ fn state_after(alloc: Global, commands: &[Command]) -> Result<State, Fail> {
     Ok(state)
 }
 
-// The state after as many steps at once.
-fn uncut(alloc: Global) -> Result<Vec<u8>, Fail> {
-    let commands = commands_of(alloc, &AT_ONCE)?;
+// Returns the state after the same number of steps in one uninterrupted run.
+fn uninterrupted(alloc: Global) -> Result<Vec<u8>, Fail> {
+    let commands = commands_of(alloc, &IN_ONE_RUN)?;
     let state = state_after(alloc, &commands)?;
     let bytes = bytes_of(alloc, &state);
     drop(state);
     bytes
 }
 
-// Whether both are the same.
-fn is_cut_alike(alloc: Global) -> Result<bool, Fail> {
-    let cut = cut(alloc)?;
-    Ok(cut == uncut(alloc)?)
+// Returns whether the interrupted and the uninterrupted run leave the same state.
+fn ends_alike(alloc: Global) -> Result<bool, Fail> {
+    let interrupted = interrupted(alloc)?;
+    Ok(interrupted == uninterrupted(alloc)?)
 }
 
 #[test]
-fn rounds_cut_a_search(rt: HostRuntime) -> Result<(), Fail> {
-    assert!(rt; is_cut_alike(rt.alloc())?);
+fn rounds_interrupt_a_search(rt: HostRuntime) -> Result<(), Fail> {
+    assert!(rt; ends_alike(rt.alloc())?);
     Ok(())
 }
 
-// Whether its two commands were answered so.
+// Returns whether the two commands of a run had these answers.
 fn are_answered(run: &Run, answers: [Result<(), Denial>; 2]) -> bool {
     let [first, second] = run.replies.as_slice() else {
         return false;
@@ -143,8 +144,8 @@ fn are_answered(run: &Run, answers: [Result<(), Denial>; 2]) -> bool {
     first.answer == answers[0] && second.answer == answers[1]
 }
 
-// Whether the second command of the second run, and no other one, was broken off.
-fn is_second_broken_off(runs: &[Run]) -> bool {
+// Returns whether only the second command of the second run was interrupted.
+fn is_second_interrupted(runs: &[Run]) -> bool {
     let [first, second, third] = runs else {
         return false;
     };
@@ -154,9 +155,9 @@ fn is_second_broken_off(runs: &[Run]) -> bool {
 }
 
 #[test]
-fn a_stop_breaks_a_round_off(rt: HostRuntime) -> Result<(), Fail> {
+fn a_crash_interrupts_a_round(rt: HostRuntime) -> Result<(), Fail> {
     let rounds = run_over_none(rt.alloc(), &IN_ROUNDS)?;
-    assert!(rt; is_second_broken_off(&rounds.runs));
+    assert!(rt; is_second_interrupted(&rounds.runs));
     drop(rounds);
     Ok(())
 }
@@ -182,7 +183,7 @@ fn no_rounds_leave_the_state(rt: HostRuntime) -> Result<(), Fail> {
     Ok(())
 }
 
-// Why rounds are refused, and how many calls have finished.
+// Returns why rounds are refused, and how many calls have finished.
 fn refused(alloc: Global, device: MemDevice, rounds: Vec<Round>) -> Option<(RoundsFault, u64)> {
     refusal(run_rounds(alloc, device, rounds))
 }

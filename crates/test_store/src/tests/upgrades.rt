@@ -1,4 +1,4 @@
-//! Stores of version 1 that are taken over.
+//! Upgrades of stores of version 1.
 
 use crate::tests::builders::{LOADED_V1, SECTORS, empty_store, header, sector_of, write_sector};
 use checkpoint::{FormatFault, StoreFault};
@@ -9,7 +9,7 @@ use std::alloc::Global;
 use std::process::Abort;
 use std::test::Fail;
 
-/// The sectors of a store of version 1.
+/// The number of sectors of a store of version 1.
 const SECTORS_V1: u64 = 802;
 
 /// Record 0 of sequence 1: Build.
@@ -18,7 +18,8 @@ const BUILD: [u8; 13] = [0, 0, 0, 0, 0, 0, 0, 1, 0, 0, 0, 0, 6];
 /// Record 1 of sequence 1: Search of 256 steps.
 const SEARCH: [u8; 15] = [0, 0, 0, 0, 0, 0, 0, 1, 0, 0, 0, 1, 7, 1, 0];
 
-// A store of version 1 with the loaded state and two records, as by hand. Its snapshot stands in the half of sequence 1.
+// Returns a store of version 1 with the loaded state and two records, written by hand. Its snapshot is in the
+// half of sequence 1.
 fn store_v1(rt: &(impl Abort + AllocGlobal), second: &[u8]) -> Result<MemDevice, Fail> {
     let mut device = MemDevice::new(rt.alloc(), SECTORS_V1)?;
     write_store_v1(rt, &mut device, second)?;
@@ -36,8 +37,9 @@ fn write_store_v1(
     write_sector(rt, device, 3, &sector_of(second))
 }
 
-// Why a device is not upgraded to one of so many sectors, and the calls that both have finished since.
-fn tried(
+// Returns why the old device is not upgraded to a new one of this size, and the number of calls that both
+// devices have finished since.
+fn upgrade_outcome(
     alloc: Global,
     mut old: MemDevice,
     sectors: u64,
@@ -48,52 +50,52 @@ fn tried(
     Ok((fault, old.calls().saturating_sub(before), new.calls()))
 }
 
-// Whether that is so.
-fn is_tried(
+// Returns whether an upgrade has this outcome.
+fn has_outcome(
     alloc: Global,
     old: MemDevice,
     sectors: u64,
     wanted: (Option<UpgradeFault>, u64, u64),
 ) -> Result<bool, Fail> {
-    Ok(tried(alloc, old, sectors)? == wanted)
+    Ok(upgrade_outcome(alloc, old, sectors)? == wanted)
 }
 
 #[test]
 fn an_upgrade_takes_one_call_and_six(rt: HostRuntime) -> Result<(), Fail> {
     let old = store_v1(&rt, &SEARCH)?;
-    assert!(rt; is_tried(rt.alloc(), old, SECTORS, (None, 1, 6))?);
+    assert!(rt; has_outcome(rt.alloc(), old, SECTORS, (None, 1, 6))?);
     Ok(())
 }
 
 #[test]
-fn a_small_new_device_is_told_first(rt: HostRuntime) -> Result<(), Fail> {
+fn a_small_new_device_is_reported_first(rt: HostRuntime) -> Result<(), Fail> {
     let too_small = Some(UpgradeFault::New(FormatFault::TooSmall));
     let old = store_v1(&rt, &SEARCH)?;
-    assert!(rt; is_tried(rt.alloc(), old, 8449, (too_small, 0, 0))?);
+    assert!(rt; has_outcome(rt.alloc(), old, 8449, (too_small, 0, 0))?);
     let none = MemDevice::new(rt.alloc(), 801)?;
-    assert!(rt; is_tried(rt.alloc(), none, 8449, (too_small, 0, 0))?);
+    assert!(rt; has_outcome(rt.alloc(), none, 8449, (too_small, 0, 0))?);
     Ok(())
 }
 
 #[test]
-fn what_is_no_old_store_is_refused(rt: HostRuntime) -> Result<(), Fail> {
+fn a_device_without_an_old_store_is_refused(rt: HostRuntime) -> Result<(), Fail> {
     let no_store = Some(UpgradeFault::Old(StoreFault::NotFormatted));
     let small = MemDevice::new(rt.alloc(), 801)?;
-    assert!(rt; is_tried(rt.alloc(), small, SECTORS, (no_store, 0, 0))?);
+    assert!(rt; has_outcome(rt.alloc(), small, SECTORS, (no_store, 0, 0))?);
     let zeros = MemDevice::new(rt.alloc(), 802)?;
-    assert!(rt; is_tried(rt.alloc(), zeros, SECTORS, (no_store, 1, 0))?);
+    assert!(rt; has_outcome(rt.alloc(), zeros, SECTORS, (no_store, 1, 0))?);
     let bad_version = Some(UpgradeFault::Old(StoreFault::BadVersion));
     let store = empty_store(rt.alloc())?;
-    assert!(rt; is_tried(rt.alloc(), store, SECTORS, (bad_version, 1, 0))?);
+    assert!(rt; has_outcome(rt.alloc(), store, SECTORS, (bad_version, 1, 0))?);
     Ok(())
 }
 
 #[test]
 fn a_record_of_nothing_to_do_is_refused(rt: HostRuntime) -> Result<(), Fail> {
-    // Withdraw of request 9.
+    // A `Withdraw` of request 9.
     let store = store_v1(&rt, &[0, 0, 0, 0, 0, 0, 0, 1, 0, 0, 0, 1, 3, 0, 9])?;
     let bad_field = UpgradeFault::Old(StoreFault::Codec(CodecFault::BadField));
-    assert!(rt; is_tried(rt.alloc(), store, SECTORS, (Some(bad_field), 1, 0))?);
+    assert!(rt; has_outcome(rt.alloc(), store, SECTORS, (Some(bad_field), 1, 0))?);
     Ok(())
 }
 

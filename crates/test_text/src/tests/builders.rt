@@ -1,4 +1,4 @@
-//! Texts and problems that more than one of the examples has.
+//! Inputs and problems that more than one of the examples uses.
 
 use instance_read::{ReadFault, read_lilim, read_vrp};
 use plan_types::{Kind, Problem};
@@ -8,7 +8,7 @@ use std::alloc::{AllocError, Global};
 pub const ONE_PAIR: &[u8] =
     b"2 10 1\n0 0 0 0 0 100 0 0 0\n1 3 4 4 0 50 2 0 2\n2 6 8 -4 0 60 2 1 0\n";
 
-/// What a text in the format of this kind is read as.
+/// Reads an instance in the format of this kind.
 pub fn read_instance(alloc: Global, kind: Kind, text: &[u8]) -> Result<Problem, ReadFault> {
     match kind {
         Kind::LiLim => read_lilim(alloc, text),
@@ -16,24 +16,24 @@ pub fn read_instance(alloc: Global, kind: Kind, text: &[u8]) -> Result<Problem, 
     }
 }
 
-/// The form of lines that are numbered from 1.
+/// The form of numbered lines, which count from 1.
 #[derive(Clone, Copy)]
 pub enum Form {
-    /// Of pair k: stop 2k is the delivery of stop 2k-1.
+    /// Pair k: stop 2k is the delivery of stop 2k-1.
     Pair,
-    /// Node n stands at (n, -n).
+    /// Node n is at (n, -n).
     Node,
-    /// Node n asks for n.
+    /// Node n has demand n.
     Demand,
     /// Route n visits stop n.
     Route,
-    /// A stop behind others of its route.
+    /// One more stop of a route.
     Stop,
-    /// A digit behind others of its number.
+    /// One more digit of a number.
     Nine,
 }
 
-// The line of a pair with so many before it.
+// Returns the lines of the pair after the first `before` pairs.
 fn pair_line(alloc: Global, before: u32) -> Result<String, AllocError> {
     let pickup = before.saturating_mul(2).saturating_add(1);
     let delivery = pickup.saturating_add(1);
@@ -42,7 +42,7 @@ fn pair_line(alloc: Global, before: u32) -> Result<String, AllocError> {
     )
 }
 
-// The line with so many before it.
+// Returns the line after the first `before` lines.
 fn line_of(alloc: Global, form: Form, before: u32) -> Result<String, AllocError> {
     let number = before.saturating_add(1);
     match form {
@@ -55,11 +55,11 @@ fn line_of(alloc: Global, form: Form, before: u32) -> Result<String, AllocError>
     }
 }
 
-/// A part of a text.
+/// A part of an input.
 #[derive(Clone, Copy)]
 pub enum Part {
     Text(&'static [u8]),
-    /// So many lines of a form.
+    /// This number of lines of a form.
     Lines(Form, u32),
 }
 
@@ -77,7 +77,7 @@ fn put_part(alloc: Global, text: &mut Vec<u8>, part: Part) -> Result<(), AllocEr
     }
 }
 
-/// The text of these parts.
+/// Returns the input of these parts.
 pub fn text_of(alloc: Global, parts: &[Part]) -> Result<Vec<u8>, AllocError> {
     let mut text = Vec::new(alloc);
     for part in parts {

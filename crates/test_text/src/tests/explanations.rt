@@ -1,9 +1,9 @@
-//! What stands behind the cost line of a solution. What is said of verdicts and of faults is compared by tests/texts.py.
+//! The text after the cost line of a solution. `tests/texts.py` compares the texts for verdicts and faults.
 
-use plan_explain::line_behind_cost;
+use plan_explain::line_after_cost;
 
-/// A text, and the first line behind its cost line that is not blank.
-const BEHIND: [(&[u8], Option<u64>); 9] = [
+/// A solution, and the first line after its cost line that is not blank.
+const AFTER_COST: [(&[u8], Option<u64>); 9] = [
     (b"", None),
     (b"Route #1: 1 2\nCost 20\n", None),
     (b"Route #1: 1 2\nCost 20\n\n \t\n", None),
@@ -16,8 +16,8 @@ const BEHIND: [(&[u8], Option<u64>); 9] = [
 ];
 
 #[test]
-fn finds_what_stands_behind_the_cost(rt: HostRuntime) {
-    for (text, line) in &BEHIND {
-        assert!(rt; line_behind_cost(text) == *line);
+fn finds_the_line_after_the_cost(rt: HostRuntime) {
+    for (text, line) in &AFTER_COST {
+        assert!(rt; line_after_cost(text) == *line);
     }
 }

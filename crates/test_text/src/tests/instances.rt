@@ -1,4 +1,4 @@
-//! Instances as texts, of both formats.
+//! Instances in both formats.
 
 use crate::tests::builders::{Form, ONE_PAIR, Part, read_instance, text_of};
 use instance_read::ReadFaultKind::{
@@ -11,14 +11,14 @@ use std::alloc::Global;
 use std::test::Fail;
 use test_examples::THREE_CUSTOMERS;
 
-/// The most stops that a problem can have.
+/// The greatest number of stops of a problem.
 const STOPS: u32 = limits::MAX_STOP_NUMBER;
 
-/// Two pairs, in which stop 2k is the delivery of stop 2k-1, with blanks, signs and line ends of many forms.
+/// Two pairs, in which stop 2k is the delivery of stop 2k-1, with many forms of blanks, signs and line ends.
 const REWRITTEN_PAIRS: &[u8] =
     b" \r\n1\t10.0  +1. \r\n\n0 0 0 7 0 100 9 0 0\r\n1 1 1 1 0 50 0 0 2\n\t2 1 1 -1 0 50 0 1 0\n3 2 2 1 0 2 0 0 4\n4 2 2 -1 0 50 0 3 0";
 
-/// The three customers in other words: blanks, tabs, letter case, line ends, order of sections, no EOF.
+/// The three customers, written differently: blanks, tabs, letter case, line ends, order of sections, no EOF.
 const REWRITTEN_CUSTOMERS: &[u8] = b"name :\tt3\r
 type : cvrp\r
 Depot_Section\r
@@ -38,13 +38,13 @@ NODE_COORD_SECTION : x\r
 3\t6\t8\r
 \t4 -0 5";
 
-/// The fleet, the capacity, the number after the last, and how many requests there are.
-type Figures = [usize; 4];
+/// The fleet, the capacity, the next number, and the number of requests.
+type Counts = [usize; 4];
 
-/// A number, and of the stop there the place, the demand, the end of its window, and the number that names its request.
+/// A stop's number, its coordinates, its demand, the end of its window, and the name of its request.
 type Spot = (u32, [i64; 5]);
 
-fn figures_of(problem: &Problem) -> Figures {
+fn counts_of(problem: &Problem) -> Counts {
     [
         problem.fleet as usize,
         problem.capacity as usize,
@@ -74,22 +74,22 @@ fn has_spots(problem: &Problem, spots: &[Spot]) -> bool {
     true
 }
 
-// Whether it has these figures and stops, and a depot without demand and service.
-fn has_figures(problem: &Problem, kind: Kind, figures: Figures, spots: &[Spot]) -> bool {
+// Returns whether a problem has these values and stops, and a depot without demand and service.
+fn has_counts(problem: &Problem, kind: Kind, figures: Counts, spots: &[Spot]) -> bool {
     problem.kind == kind
         && problem.depot.demand == 0
         && problem.depot.service == 0
-        && figures_of(problem) == figures
+        && counts_of(problem) == figures
         && has_spots(problem, spots)
 }
 
-// Whether a text is read as such a problem.
-fn is_read_as(alloc: Global, kind: Kind, text: &[u8], figures: Figures, spots: &[Spot]) -> bool {
+// Returns whether an instance is read as a problem with these values and stops.
+fn is_read_as(alloc: Global, kind: Kind, text: &[u8], figures: Counts, spots: &[Spot]) -> bool {
     match read_instance(alloc, kind, text) {
         Ok(problem) => {
-            let has_figures = has_figures(&problem, kind, figures, spots);
+            let has_counts = has_counts(&problem, kind, figures, spots);
             drop(problem);
-            has_figures
+            has_counts
         }
         Err(_) => false,
     }
@@ -102,8 +102,9 @@ const CUSTOMERS: [Spot; 3] = [
     (3, [0, 5, 5, 100_000_000, 3]),
 ];
 
-/// Texts, and what they are read as. The depot of the rewritten pairs has a demand and a service, which are not read.
-const READ: [(Kind, &[u8], Figures, &[Spot]); 5] = [
+/// Instances, and the expected problems. The depot of the rewritten pairs has a demand and a service, which are
+/// ignored.
+const READ: [(Kind, &[u8], Counts, &[Spot]); 5] = [
     (
         Kind::LiLim,
         ONE_PAIR,
@@ -133,7 +134,7 @@ fn reads_instances(rt: HostRuntime) {
     }
 }
 
-// Whether a text is refused, at this line and for this.
+// Returns whether an instance is refused at this line with this fault.
 fn is_refused(alloc: Global, kind: Kind, text: &[u8], line: u64, fault: ReadFaultKind) -> bool {
     match read_instance(alloc, kind, text) {
         Ok(_) => false,
@@ -141,7 +142,7 @@ fn is_refused(alloc: Global, kind: Kind, text: &[u8], line: u64, fault: ReadFaul
     }
 }
 
-// The first text that is not refused so.
+// Returns the index of the first instance that is not refused as expected.
 fn first_other(alloc: Global, kind: Kind, rows: &[(&[u8], u64, ReadFaultKind)]) -> Option<usize> {
     for (row, (text, line, fault)) in rows.iter().enumerate() {
         if !is_refused(alloc, kind, text, *line, *fault) {
@@ -151,7 +152,7 @@ fn first_other(alloc: Global, kind: Kind, rows: &[(&[u8], u64, ReadFaultKind)]) 
     None
 }
 
-/// Li-Lim texts, and the line and the kind of the first fault of each.
+/// Li-Lim instances, and the line and the kind of the first fault of each.
 const PAIR_FAULTS: [(&[u8], u64, ReadFaultKind); 22] = [
     (b"", 1, Truncated),
     (b"\n \n", 3, Truncated),
@@ -206,7 +207,7 @@ const PAIR_FAULTS: [(&[u8], u64, ReadFaultKind); 22] = [
 ];
 
 #[test]
-fn tells_the_first_fault_of_pairs(rt: HostRuntime) {
+fn reports_the_first_fault_of_pairs(rt: HostRuntime) {
     let row = first_other(rt.alloc(), Kind::LiLim, &PAIR_FAULTS);
     assert!(rt; row.is_none(), "row {row:?}");
 }
@@ -220,7 +221,7 @@ fn names_faults(rt: HostRuntime) {
     assert!(rt; fault.name() == "Truncated");
 }
 
-/// `.vrp` texts with a fault outside the sections.
+/// `.vrp` instances with a fault outside the sections.
 const KEY_FAULTS: [(&[u8], u64, ReadFaultKind); 23] = [
     (b"", 1, MissingKey),
     (b"DIMENSION : 4\n\n", 3, MissingKey),
@@ -248,12 +249,12 @@ const KEY_FAULTS: [(&[u8], u64, ReadFaultKind); 23] = [
 ];
 
 #[test]
-fn tells_the_first_fault_of_a_key(rt: HostRuntime) {
+fn reports_the_first_fault_of_a_key(rt: HostRuntime) {
     let row = first_other(rt.alloc(), Kind::Vrp, &KEY_FAULTS);
     assert!(rt; row.is_none(), "row {row:?}");
 }
 
-/// `.vrp` texts with a fault in a section.
+/// `.vrp` instances with a fault in a section.
 const SECTION_FAULTS: [(&[u8], u64, ReadFaultKind); 8] = [
     (
         b"DIMENSION : 2\nNODE_COORD_SECTION\n1 30.5 1000001\n",
@@ -278,12 +279,13 @@ const SECTION_FAULTS: [(&[u8], u64, ReadFaultKind); 8] = [
 ];
 
 #[test]
-fn tells_the_first_fault_of_a_section(rt: HostRuntime) {
+fn reports_the_first_fault_of_a_section(rt: HostRuntime) {
     let row = first_other(rt.alloc(), Kind::Vrp, &SECTION_FAULTS);
     assert!(rt; row.is_none(), "row {row:?}");
 }
 
-// Behind the list of depots, with and without its line end, and with a part of EOF.
+// Only these prefixes are instances: up to the end of the list of depots, with and without its line end, and
+// with a part of EOF.
 #[test]
 fn reads_every_prefix(rt: HostRuntime) {
     for end in 0..THREE_CUSTOMERS.len() {
@@ -293,7 +295,7 @@ fn reads_every_prefix(rt: HostRuntime) {
 }
 
 #[test]
-fn tells_a_cut_section(rt: HostRuntime) {
+fn reports_a_truncated_section(rt: HostRuntime) {
     let nine_lines = &THREE_CUSTOMERS[..113];
     let truncated = Truncated;
     assert!(rt; is_refused(rt.alloc(), Kind::Vrp, nine_lines, 10, truncated));
@@ -305,19 +307,19 @@ const LONG_NUMBER: [Part; 2] = [
 ];
 
 #[test]
-fn tells_the_line_of_a_long_number(rt: HostRuntime) -> Result<(), Fail> {
+fn reports_the_line_of_a_long_number(rt: HostRuntime) -> Result<(), Fail> {
     let text = text_of(rt.alloc(), &LONG_NUMBER)?;
     assert!(rt; is_refused(rt.alloc(), Kind::Vrp, &text, 2, Range));
     Ok(())
 }
 
-/// A Li-Lim text of as many pairs as a problem can have, in which stop 2k is the delivery of stop 2k-1.
+/// A Li-Lim instance with as many pairs as possible, in which stop 2k is the delivery of stop 2k-1.
 const MOST_PAIRS: [Part; 2] = [
     Part::Text(b"40000 1000000 1\n0 0 0 0 0 100000000 0 0 0\n"),
     Part::Lines(Form::Pair, STOPS / 2),
 ];
 
-/// A `.vrp` text of as many customers as a problem can have: node n stands at (n, -n) and asks for n.
+/// A `.vrp` instance with as many customers as possible: node n is at (n, -n) and has demand n.
 const MOST_CUSTOMERS: [Part; 5] = [
     Part::Text(
         b"DIMENSION : 40001\nCAPACITY : 1000000\nEDGE_WEIGHT_TYPE : EUC_2D\nNODE_COORD_SECTION\n",
@@ -328,8 +330,8 @@ const MOST_CUSTOMERS: [Part; 5] = [
     Part::Text(b"DEPOT_SECTION\n1\n-1\nEOF\n"),
 ];
 
-/// The largest texts, and what they are read as: the last pair, and the first and the last customer.
-const LARGEST: [(Kind, &[Part], Figures, &[Spot]); 2] = [
+/// The largest instances, and what is expected: the last pair, and the first and the last customer.
+const LARGEST: [(Kind, &[Part], Counts, &[Spot]); 2] = [
     (
         Kind::LiLim,
         &MOST_PAIRS,

@@ -1,11 +1,11 @@
-//! Lines, words and numbers of a text.
+//! Lines, words and numbers of a file.
 
 use text_lines::{
-    Lines, Number, Words, digits_len, digits_to_u32, is_blank_line, number_to_u64,
+    Lines, Number, Words, digits_to_u32, is_blank_line, leading_digits_len, number_to_u64,
     trim_blanks_start,
 };
 
-// Whether the lines of a text are these and no more.
+// Returns whether a file has exactly these lines.
 fn has_lines(text: &[u8], wanted: &[&[u8]]) -> bool {
     let mut lines = Lines::new(text);
     for line in wanted {
@@ -16,7 +16,7 @@ fn has_lines(text: &[u8], wanted: &[&[u8]]) -> bool {
     lines.next().is_none()
 }
 
-// Whether the words of a line are these and no more.
+// Returns whether a line has exactly these words.
 fn has_words(line: &[u8], wanted: &[&[u8]]) -> bool {
     let mut words = Words::new(line);
     for word in wanted {
@@ -27,7 +27,7 @@ fn has_words(line: &[u8], wanted: &[&[u8]]) -> bool {
     words.next().is_none()
 }
 
-/// Texts, and the lines of each.
+/// Files, and the lines of each.
 const LINES: [(&[u8], &[&[u8]]); 3] = [
     (
         b"a\tbc \r\n\r\r\n \t\n\nd\r",
@@ -60,22 +60,22 @@ fn knows_blanks(rt: HostRuntime) {
     assert!(rt; trim_blanks_start(b"\t x ") == b"x ".as_slice());
 }
 
-/// What is asked of a word, and the answer.
+/// A question about a word, with the expected answer.
 #[derive(Clone, Copy)]
 enum Answer {
-    /// No number.
+    /// The word is not a number.
     NoNumber,
-    /// A number, with its value where that is within these limits.
+    /// A number, with its value if that is within these limits.
     Within(i32, i32, Option<i32>),
     /// A number, and whether it is above this limit.
     Above(u32, bool),
-    /// A number, with its value where that is a `u64`.
+    /// A number, with its value if that is a `u64`.
     U64(Option<u64>),
-    /// No integer.
+    /// The word is not an integer.
     NoInteger,
-    /// An integer, with its value where that is within these limits.
+    /// An integer, with its value if that is within these limits.
     IntegerWithin(i32, i32, Option<i32>),
-    /// Digits alone, with their value where that is a `u32`.
+    /// Only digits, with their value if that is a `u32`.
     Digits(Option<u32>),
 }
 
@@ -100,7 +100,7 @@ fn is_u64(number: Option<Number>, value: Option<u64>) -> bool {
     }
 }
 
-// Whether this is the answer of a word.
+// Returns whether this is the answer for a word.
 fn answers(word: &[u8], answer: &Answer) -> bool {
     match answer {
         Answer::NoNumber => Number::parse(word).is_none() && number_to_u64(word).is_none(),
@@ -119,7 +119,7 @@ fn answers(word: &[u8], answer: &Answer) -> bool {
     }
 }
 
-/// Words, and what each is read as.
+/// Words, and the answer for each.
 const ANSWERS: [(&[u8], Answer); 33] = [
     (b"0", Answer::Within(-1_000_000, 100_000_000, Some(0))),
     (b"007", Answer::Within(-1_000_000, 100_000_000, Some(7))),
@@ -179,10 +179,10 @@ fn reads_numbers(rt: HostRuntime) {
     for (word, answer) in &ANSWERS {
         assert!(rt; answers(word, answer));
     }
-    assert!(rt; digits_len(b"12x3") == 2);
+    assert!(rt; leading_digits_len(b"12x3") == 2);
 }
 
-// Whether these are the next numbers of a line, each of -999 to 999, and no word is behind them.
+// Returns whether these are the next numbers of a line, each within -999 to 999, and no word follows them.
 fn has_numbers(line: &[u8], values: &[Option<i32>]) -> bool {
     let mut words = Words::new(line);
     for value in values {

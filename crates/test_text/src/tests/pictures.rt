@@ -18,8 +18,8 @@ fn stop_at(number: u32, x: i32, y: i32, demand: i32, latest: u32) -> Stop {
     }
 }
 
-// A pickup at (3, 4) and its delivery at (6, 8), with the depot at (0, 0). The greater side is 8 long, so the scale is
-// 4000 / 8 = 500, the unit 500 * 8 / 400 = 10, and the room on each side 12 * 10.
+// Returns a problem with a pickup at (3, 4), its delivery at (6, 8), and the depot at (0, 0). The longer side
+// is 8, so the scale is 4000 / 8 = 500, the unit 500 * 8 / 400 = 10, and the margin on each side 12 * 10.
 fn one_pair(alloc: Global) -> Result<Problem, Fail> {
     let depot = Stop {
         service: 0,
@@ -32,7 +32,7 @@ fn one_pair(alloc: Global) -> Result<Problem, Fail> {
     Ok(problem)
 }
 
-// Whether each of the lines stands in the text.
+// Returns whether each of the lines is in the text.
 fn has_all(text: &str, lines: &[&str]) -> bool {
     for line in lines {
         if !text.contains(*line) {
@@ -42,7 +42,7 @@ fn has_all(text: &str, lines: &[&str]) -> bool {
     true
 }
 
-// Whether a picture has these lines.
+// Returns whether a picture has these lines.
 fn shows(picture: &[u8], lines: &[&str]) -> bool {
     match str::from_utf8(picture) {
         Ok(text) => has_all(text, lines),
@@ -67,13 +67,13 @@ fn drawn(
     Ok(shows(picture.as_slice(), lines))
 }
 
-// Whether the picture of a plan of one route has these lines.
+// Returns whether the picture of a plan of one route has these lines.
 fn draws(alloc: Global, stops: &[u32], verdict: Verdict, lines: &[&str]) -> Result<bool, Fail> {
     let routes = one_route(alloc, stops)?;
     drawn(alloc, &one_pair(alloc)?, routes.as_slice(), verdict, lines)
 }
 
-// Whether the picture of one route has this title; none where there is no such route.
+// Returns whether the picture of one route has this title, or `None` if there is no such route.
 fn route_drawn(
     alloc: Global,
     problem: &Problem,
@@ -87,7 +87,7 @@ fn route_drawn(
     }
 }
 
-// The same of the route with this number of the plan [1, 2].
+// Returns whether the picture of the route with this number of the plan [1, 2] has the title.
 fn draws_route(alloc: Global, verdict: Verdict, number: u64) -> Result<Option<bool>, Fail> {
     let routes = one_route(alloc, &[1, 2])?;
     route_drawn(alloc, &one_pair(alloc)?, routes.as_slice(), verdict, number)
@@ -118,7 +118,7 @@ fn draws_a_pair(rt: HostRuntime) -> Result<(), Fail> {
     Ok(())
 }
 
-/// Stop 7 is unknown, stop 1 stands twice, and stop 2 nowhere.
+/// Stop 7 is unknown, stop 1 appears twice, and stop 2 is in no route.
 const BROKEN_LINES: [&str; 5] = [
     ">broken rule 2, visited twice, route 1, place 3, stop 1</text>\n",
     ">unserved stops, ringed: 1</text>\n",
@@ -139,7 +139,7 @@ fn draws_what_is_broken(rt: HostRuntime) -> Result<(), Fail> {
     Ok(())
 }
 
-/// The heading of route 1 alone.
+/// The heading of the picture of route 1.
 const TITLE: &str =
     ">route 1 of 1; the whole plan: broken rule 7, late service, route 1, place 2, stop 2, starts at 12, latest 11</text>\n";
 

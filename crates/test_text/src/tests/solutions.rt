@@ -1,4 +1,4 @@
-//! Solutions as texts.
+//! Solutions.
 ghost use Rattle.std.specs.Prelude.{IfOk, IsTrue};
 ghost use Rattle.route_sched.specs.Route.{IsPlan};
 
@@ -10,10 +10,10 @@ use std::alloc::{AllocError, Global};
 use std::test::Fail;
 use test_examples::routes_of;
 
-/// The most customers that a problem can have.
+/// The greatest number of customers of a problem.
 const CUSTOMERS: u32 = limits::MAX_STOP_NUMBER;
 
-// The stops of the routes, each route ended by a 0.
+// Returns the stops of the routes, each route followed by a 0.
 fn stops_of(alloc: Global, routes: &Routes) -> Result<Vec<u32>, AllocError> {
     let mut stops = Vec::new(alloc);
     for route in routes.as_slice() {
@@ -23,13 +23,13 @@ fn stops_of(alloc: Global, routes: &Routes) -> Result<Vec<u32>, AllocError> {
     Ok(stops)
 }
 
-// Whether a text is read as these routes, each ended by a 0, and this cost.
+// Returns whether a solution is read as these routes, each followed by a 0, and this cost.
 fn is_read_as(alloc: Global, text: &[u8], stops: &[u32], cost: u64) -> Result<bool, Fail> {
     let solution = read_sol(alloc, text)?;
     Ok(solution.cost == cost && stops_of(alloc, &solution.routes)?.as_slice() == stops)
 }
 
-/// Texts, and the routes and the cost that they are read as. Each route ends by a 0. What stands behind the cost line is not read.
+/// Solutions, and their routes and cost. Each route is followed by a 0. Text after the cost line is not read.
 const READ: [(&[u8], &[u32], u64); 10] = [
     (
         b"Route 1 : 2 1\nroute #2:3\r\n\t\nRoute #3:\nCOST 30\nnot read\nCost x",
@@ -59,7 +59,7 @@ fn reads_solutions(rt: HostRuntime) -> Result<(), Fail> {
     Ok(())
 }
 
-/// Texts, and the line and the kind of the first fault of each.
+/// Solutions, and the line and the kind of the first fault of each.
 const FAULTS: [(&[u8], u64, SolFaultKind); 22] = [
     (b"", 1, SolFaultKind::NoCost),
     (b"Route #1: 1\n\r\n", 3, SolFaultKind::NoCost),
@@ -75,20 +75,20 @@ const FAULTS: [(&[u8], u64, SolFaultKind); 22] = [
     (b"Cost 18446744073709551616", 1, SolFaultKind::BadNumber),
     (b"Route #1: 4294967296\nRoute", 1, SolFaultKind::BadNumber),
     (b"Route #1: +1\nCost 1", 1, SolFaultKind::BadNumber),
-    // In one line the words come before their values.
+    // In one line, the number of words is checked before their values.
     (b"Cost x y", 1, SolFaultKind::BadLine),
     (b"Cost", 1, SolFaultKind::BadLine),
-    // The lesser line, whatever its fault is.
+    // The first wrong line counts, whatever its fault is.
     (b"Cost 1 2\nCost x", 1, SolFaultKind::BadLine),
     (b"Cost x\nCost 1 2", 1, SolFaultKind::BadNumber),
     (b"Route #1: x\nRoute 2", 1, SolFaultKind::BadNumber),
     (b"\n \t\r\nRoute 2\nRoute #1: x", 3, SolFaultKind::BadLine),
-    // A fault of a line comes before that of the whole text.
+    // A fault of a line comes before a fault of the whole file.
     (b"Route #1: 1\nRoute 2", 2, SolFaultKind::BadLine),
     (b"Route #1: x\nRoute #2: 1", 1, SolFaultKind::BadNumber),
 ];
 
-// Whether a text is refused, at this line and for this.
+// Returns whether a solution is refused at this line with this fault.
 fn is_refused(alloc: Global, text: &[u8], line: u64, kind: SolFaultKind) -> bool {
     match read_sol(alloc, text) {
         Ok(_) => false,
@@ -97,7 +97,7 @@ fn is_refused(alloc: Global, text: &[u8], line: u64, kind: SolFaultKind) -> bool
 }
 
 #[test]
-fn tells_the_first_fault(rt: HostRuntime) {
+fn reports_the_first_fault(rt: HostRuntime) {
     for (text, line, kind) in &FAULTS {
         assert!(rt; is_refused(rt.alloc(), text, *line, *kind));
     }
@@ -125,18 +125,18 @@ const DEPOT: Stop = Stop {
 
 /// The customers of a problem.
 #[derive(Clone, Copy)]
-enum Posed {
-    /// Three customers of a fleet of three.
+enum Fixture {
+    /// Three customers and a fleet of three.
     Three,
-    /// As many as there can be, all one to the right of the depot, of a fleet of so many.
-    Most(u32),
+    /// As many customers as possible, all at one place to the right of the depot, and a fleet of this size.
+    Largest(u32),
 }
 
-// The place and the demand of the customer of this number.
-fn spot_of(posed: Posed, number: u32) -> (i32, i32, i32) {
+// Returns the place and the demand of the customer of this number.
+fn spot_of(posed: Fixture, number: u32) -> (i32, i32, i32) {
     match posed {
-        Posed::Most(_) => (1, 0, 0),
-        Posed::Three => match number {
+        Fixture::Largest(_) => (1, 0, 0),
+        Fixture::Three => match number {
             1 => (3, 4, 6),
             2 => (6, 8, 4),
             _ => (0, 5, 5),
@@ -144,7 +144,7 @@ fn spot_of(posed: Posed, number: u32) -> (i32, i32, i32) {
     }
 }
 
-fn customer_of(posed: Posed, number: u32) -> Request {
+fn customer_of(posed: Fixture, number: u32) -> Request {
     let (x, y, demand) = spot_of(posed, number);
     Request::Single(Stop {
         number,
@@ -155,15 +155,15 @@ fn customer_of(posed: Posed, number: u32) -> Request {
     })
 }
 
-// The fleet, and how many customers there are.
-fn counts(posed: Posed) -> (u32, u32) {
+// Returns the fleet, and the number of customers.
+fn counts(posed: Fixture) -> (u32, u32) {
     match posed {
-        Posed::Three => (3, 3),
-        Posed::Most(fleet) => (fleet, CUSTOMERS),
+        Fixture::Three => (3, 3),
+        Fixture::Largest(fleet) => (fleet, CUSTOMERS),
     }
 }
 
-fn problem_of(alloc: Global, posed: Posed) -> Result<Problem, Fail> {
+fn problem_of(alloc: Global, posed: Fixture) -> Result<Problem, Fail> {
     let (fleet, count) = counts(posed);
     let mut problem = Problem::new(alloc, Kind::Vrp, DEPOT, 10, fleet)?;
     for number in 1..=count {
@@ -172,7 +172,7 @@ fn problem_of(alloc: Global, posed: Posed) -> Result<Problem, Fail> {
     Ok(problem)
 }
 
-// Whether a plan passes, and so is one that may be written.
+// Returns whether a plan passes, so that it may be written.
 fn is_plan(alloc: Global, problem: &Problem, plan: &Plan) -> Result<bool, Fail>
     ensures { IfOk result (λ b. IsTrue b → IsPlan problem.now plan.now.routes) }
 {
@@ -186,73 +186,79 @@ fn is_plan(alloc: Global, problem: &Problem, plan: &Plan) -> Result<bool, Fail>
     }
 }
 
-/// What comes of writing a plan.
+/// The result of writing a plan.
 #[derive(Clone, Copy)]
-enum Written<'a> {
+enum WriteResult<'a> {
     Text(&'a [u8]),
     Unplanned(u64),
 }
 
-// Whether this comes of writing the plan.
-fn comes_of(alloc: Global, problem: &Problem, plan: &Plan, want: Written) -> bool
+// Returns whether writing the plan has this result.
+fn has_result(alloc: Global, problem: &Problem, plan: &Plan, want: WriteResult) -> bool
     requires { IsPlan problem.now plan.now.routes }
 {
     match write_sol(alloc, problem, plan) {
         Ok(written) => match want {
-            Written::Text(text) => written.as_slice() == text,
-            Written::Unplanned(_) => false,
+            WriteResult::Text(text) => written.as_slice() == text,
+            WriteResult::Unplanned(_) => false,
         },
         Err(fault) => match want {
-            Written::Text(_) => false,
-            Written::Unplanned(count) => fault == WriteSolFault::Unplanned(count),
+            WriteResult::Text(_) => false,
+            WriteResult::Unplanned(count) => fault == WriteSolFault::Unplanned(count),
         },
     }
 }
 
-// Whether this comes of writing a plan, which has to pass.
-fn writes(alloc: Global, problem: &Problem, plan: &Plan, want: Written) -> Result<bool, Fail> {
-    Ok(is_plan(alloc, problem, plan)? && comes_of(alloc, problem, plan, want))
+// Returns whether the plan passes, and writing it has this result.
+fn writes(alloc: Global, problem: &Problem, plan: &Plan, want: WriteResult) -> Result<bool, Fail> {
+    Ok(is_plan(alloc, problem, plan)? && has_result(alloc, problem, plan, want))
 }
 
-// The same of a plan of the customers with these routes, each ended by a 0.
-fn writes_routes(alloc: Global, posed: Posed, stops: &[u32], want: Written) -> Result<bool, Fail> {
+// Returns whether writing the plan with these routes, each followed by a 0, has this result.
+fn writes_routes(
+    alloc: Global,
+    posed: Fixture,
+    stops: &[u32],
+    want: WriteResult,
+) -> Result<bool, Fail> {
     let plan = Plan {
         routes: routes_of(alloc, stops)?,
     };
     writes(alloc, &problem_of(alloc, posed)?, &plan, want)
 }
 
-/// Routes of three customers, each ended by a 0, and what comes of writing them. The third vehicle stays idle.
-const WRITTEN: [(&[u32], Written); 2] = [
+/// Routes of three customers, each followed by a 0, and the result of writing them. The third vehicle stays
+/// idle.
+const WRITTEN: [(&[u32], WriteResult); 2] = [
     (
         &[2, 1, 0, 3, 0, 0],
-        Written::Text(b"Route #1: 2 1\nRoute #2: 3\nCost 30\n"),
+        WriteResult::Text(b"Route #1: 2 1\nRoute #2: 3\nCost 30\n"),
     ),
-    (&[2, 1, 0, 0, 0], Written::Unplanned(1)),
+    (&[2, 1, 0, 0, 0], WriteResult::Unplanned(1)),
 ];
 
 #[test]
 fn writes_used_routes(rt: HostRuntime) -> Result<(), Fail> {
     for (stops, want) in &WRITTEN {
-        assert!(rt; writes_routes(rt.alloc(), Posed::Three, stops, *want)?);
+        assert!(rt; writes_routes(rt.alloc(), Fixture::Three, stops, *want)?);
     }
     Ok(())
 }
 
-/// A solution of the most customers.
+/// A solution with the most customers.
 #[derive(Clone, Copy)]
-struct Most {
-    /// Whether each customer has a route, rather than all one.
-    are_apart: bool,
+struct Largest {
+    /// Whether each customer has a route of its own, rather than all one route.
+    one_route_each: bool,
     fleet: u32,
     text: &'static [Part],
     cost: u64,
 }
 
 /// `Route #1: 1 2 3 ..`, and `Route #1: 1`, `Route #2: 2` and so on, each with the cost.
-const MOST: [Most; 2] = [
-    Most {
-        are_apart: false,
+const MOST: [Largest; 2] = [
+    Largest {
+        one_route_each: false,
         fleet: 1,
         text: &[
             Part::Text(b"Route #1:"),
@@ -261,8 +267,8 @@ const MOST: [Most; 2] = [
         ],
         cost: 2,
     },
-    Most {
-        are_apart: true,
+    Largest {
+        one_route_each: true,
         fleet: CUSTOMERS,
         text: &[
             Part::Lines(Form::Route, CUSTOMERS),
@@ -272,28 +278,33 @@ const MOST: [Most; 2] = [
     },
 ];
 
-// All customers by number, in one route or in routes of their own, each ended by a 0.
-fn all_stops(alloc: Global, are_apart: bool) -> Result<Vec<u32>, AllocError> {
+// Returns all customers by number, in one route or in routes of their own, each followed by a 0.
+fn all_stops(alloc: Global, one_route_each: bool) -> Result<Vec<u32>, AllocError> {
     let mut stops = Vec::new(alloc);
     for number in 1..=CUSTOMERS {
         stops.push(number)?;
-        if are_apart || number == CUSTOMERS {
+        if one_route_each || number == CUSTOMERS {
             stops.push(0)?;
         }
     }
     Ok(stops)
 }
 
-fn reads_most(alloc: Global, most: &Most) -> Result<bool, Fail> {
+fn reads_most(alloc: Global, most: &Largest) -> Result<bool, Fail> {
     let text = text_of(alloc, most.text)?;
-    let stops = all_stops(alloc, most.are_apart)?;
+    let stops = all_stops(alloc, most.one_route_each)?;
     is_read_as(alloc, &text, &stops, most.cost)
 }
 
-fn writes_most(alloc: Global, most: &Most) -> Result<bool, Fail> {
+fn writes_most(alloc: Global, most: &Largest) -> Result<bool, Fail> {
     let text = text_of(alloc, most.text)?;
-    let stops = all_stops(alloc, most.are_apart)?;
-    writes_routes(alloc, Posed::Most(most.fleet), &stops, Written::Text(&text))
+    let stops = all_stops(alloc, most.one_route_each)?;
+    writes_routes(
+        alloc,
+        Fixture::Largest(most.fleet),
+        &stops,
+        WriteResult::Text(&text),
+    )
 }
 
 #[test]
@@ -305,7 +316,7 @@ fn reads_and_writes_the_most_customers(rt: HostRuntime) -> Result<(), Fail> {
     Ok(())
 }
 
-/// Lines, what follows `Cost` and its separator in each, and the word of a cost line.
+/// Lines, the text that follows `Cost` and its separator in each, and the word of a cost line.
 const COST_LINES: [(&[u8], Option<&[u8]>, Option<&[u8]>); 5] = [
     (b"Cost 784", Some(b"784"), Some(b"784")),
     (b"COST\t: 7 ", Some(b" 7 "), Some(b"7")),

@@ -1,9 +1,9 @@
-//! Timetables of plans that leave requests out, worked by hand from the instances' coordinates and windows. Those of other plans are
-//! compared by tests/texts.py.
+//! Timetables of plans that leave requests out, worked out by hand from the coordinates and windows of the
+//! instances. `tests/texts.py` compares those of other plans.
 
 use crate::tests::builders::read_instance;
 use plan_audit::audit_solution;
-use plan_timetable::{Form, judged_timetable};
+use plan_timetable::{Form, solution_timetable};
 use plan_types::{Kind, Problem};
 use sol_text::{Solution, read_sol};
 use std::alloc::Global;
@@ -23,11 +23,11 @@ const ONE_TOO_FAR: &[u8] =
 /// Route 1 serves the pair that is on time.
 const BOTH: &[u8] = b"Route #1: 1 2\nCost 20\n";
 
-/// The vehicle is late by 2 already, and so it is with the other pair behind stop 3.
+/// The vehicle is already late by 2, and stays so if the other pair is inserted after stop 3.
 const LATE: &[u8] = b"Route #1: 3 4\nCost 20\n";
 
-/// An instance, a solution, the request that it leaves out, how the timetable is written, and its text.
-const TOLD: [Row; 4] = [
+/// An instance, a solution, the request that it leaves out, the form of the timetable, and its text.
+const TIMETABLES: [Row; 4] = [
     (
         TWO_PAIRS,
         SECOND_PAIR,
@@ -66,11 +66,11 @@ fn timetable(
     form: Form,
 ) -> Result<String, Fail> {
     let verdict = audit_solution(alloc, problem, solution)?;
-    Ok(judged_timetable(alloc, problem, solution, verdict, &[unplanned], form)?)
+    Ok(solution_timetable(alloc, problem, solution, verdict, &[unplanned], form)?)
 }
 
-// The timetable of a solution that leaves this request out.
-fn told(
+// Returns the timetable of a solution that leaves this request out.
+fn partial_timetable(
     alloc: Global,
     instance: &[u8],
     solution: &Solution,
@@ -83,16 +83,16 @@ fn told(
 
 type Row = (&'static [u8], &'static [u8], u32, Form, &'static str);
 
-fn is_told(alloc: Global, row: &Row) -> Result<bool, Fail> {
+fn is_expected(alloc: Global, row: &Row) -> Result<bool, Fail> {
     let (instance, solution, unplanned, form, want) = *row;
     let solution = read_sol(alloc, solution)?;
-    Ok(told(alloc, instance, &solution, unplanned, form)?.as_str() == want)
+    Ok(partial_timetable(alloc, instance, &solution, unplanned, form)?.as_str() == want)
 }
 
 #[test]
-fn tells_why_requests_are_left_out(rt: HostRuntime) -> Result<(), Fail> {
-    for row in &TOLD {
-        assert!(rt; is_told(rt.alloc(), row)?);
+fn explains_why_requests_are_left_out(rt: HostRuntime) -> Result<(), Fail> {
+    for row in &TIMETABLES {
+        assert!(rt; is_expected(rt.alloc(), row)?);
     }
     Ok(())
 }

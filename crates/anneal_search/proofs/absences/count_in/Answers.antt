@@ -1,9 +1,10 @@
--- One name more raises one count by one, so no count is above what all were at most and the names so far, and none wraps.
+-- One more name raises one counter by one. So no counter exceeds the old maximum plus the number of names so
+-- far, and none overflows.
 use Rattle.std.proofs.Common.{◌≡◌, ◌+◌, arith, sym, subst}
 use Rattle.std.specs.Prelude.{slice_index_or}
 use Rattle.anneal_search.specs.Absences.{AreAtMost}
-use Rattle.anneal_search.specs.Trying.{counted}
-use Rattle.anneal_search.proofs.TryLemmas.{counted_next, one_more}
+use Rattle.anneal_search.specs.AttemptState.{counted}
+use Rattle.anneal_search.proofs.AttemptLemmas.{counted_next, one_more}
 use Rattle.anneal_search.proofs.absences.count_in.Goals as goal
 
 pub count_once-requires : goal.count_once-requires

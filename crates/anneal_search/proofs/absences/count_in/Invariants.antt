@@ -1,7 +1,7 @@
--- The names left count what all names do, and each of those so far raised a count by one at most.
+-- The remaining names lead to the counters after all names, and each name so far raised one counter by one
 use Rattle.std.proofs.Common.{◌≡◌, ℕ, ◌+◌, drop}
 use Rattle.anneal_search.specs.Absences.{AreAtMost}
-use Rattle.anneal_search.specs.Trying.{counted}
+use Rattle.anneal_search.specs.AttemptState.{counted}
 use Rattle.anneal_search.proofs.absences.count_in.Given as goal
 
 abbrev pub invariant-loop-name : goal.invariant-loop-name

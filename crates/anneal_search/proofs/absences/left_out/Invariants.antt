@@ -1,4 +1,5 @@
--- The names so far, and those among the names left that the plan leaves out, are all that it leaves out.
+-- The names collected so far, followed by the remaining names that the plan leaves out, are all names that it
+-- leaves out.
 use Rattle.std.proofs.Common.{◌≡◌, ◌++◌, drop}
 use Rattle.move_ops.specs.Drafts.{draft_of}
 use Rattle.anneal_search.specs.Absences.{left_out}

@@ -1,6 +1,7 @@
--- The sum so far, and what the names left weigh, is what all weigh; and the sum does not wrap.
+-- The sum so far and the weight of the remaining names add up to the weight of all, and the sum does not
+-- overflow
 use Rattle.std.proofs.Common.{◌≡◌, ◌+◌, ◌*◌, ◌^◌, ◌≤◌, drop}
-use Rattle.anneal_search.specs.Trying.{weight}
+use Rattle.anneal_search.specs.AttemptState.{weight}
 use Rattle.anneal_search.proofs.absences.weight.Given as goal
 
 abbrev pub invariant-loop-name : goal.invariant-loop-name

@@ -1,5 +1,5 @@
--- Some annealing steps and then some more are as many annealing steps at once.
-use Rattle.seeded_search.proofs.WalkLemmas.{many_add_up}
+-- Some annealing steps followed by more steps equal all of them in one run
+use Rattle.seeded_search.proofs.SearchLemmas.{many_add_up}
 use Rattle.anneal_search.specs.Annealing.{anneal_step, anneal_steps}
 use Rattle.anneal_search.proofs.laws.anneal_steps_add_up.Goals as goal
 

@@ -1,6 +1,6 @@
--- From plans that pass each annealing step leads to plans that pass, so any number of them does.
+-- Each annealing step leads from plans that pass to plans that pass, so any number of them does
 use Rattle.seeded_search.specs.StepLaws.{BothPass}
-use Rattle.seeded_search.proofs.WalkLemmas.{many_keep}
+use Rattle.seeded_search.proofs.SearchLemmas.{many_keep}
 use Rattle.anneal_search.specs.Annealing.{anneal_step, anneal_steps}
 use Rattle.anneal_search.proofs.AnnealLemmas.{step_passes}
 use Rattle.anneal_search.proofs.laws.anneal_steps_keep_passing.Goals as goal

@@ -1,4 +1,4 @@
--- One annealing step is the first of many.
+-- One annealing step is the result of `anneal_steps` for one step.
 use Rattle.anneal_search.specs.Annealing.{anneal_steps}
 use Rattle.anneal_search.proofs.search.anneal_step.Goals as goal
 

@@ -1,4 +1,4 @@
--- The request of a stop that is planned is planned, so it can be moved where none of its stops is pinned.
+-- The request of a planned stop is planned, so it is movable if none of its stops is pinned
 use Rattle.std.proofs.Common.{false, sym}
 use Rattle.move_ops.specs.Drafts.{draft_of}
 use Rattle.anneal_search.proofs.PlannedLemmas.{planned_at}

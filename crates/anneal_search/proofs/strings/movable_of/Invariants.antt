@@ -1,4 +1,5 @@
--- The names so far, and those of the movable requests with one of the stops left, are those of all stops.
+-- The names collected so far, followed by those of the movable requests of the remaining stops, are the names
+-- for all stops.
 use Rattle.std.proofs.Common.{◌≡◌, ◌++◌, drop}
 use Rattle.move_ops.specs.Drafts.{draft_of}
 use Rattle.anneal_search.specs.Strings.{movable_of}

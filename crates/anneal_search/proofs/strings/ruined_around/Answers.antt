@@ -1,7 +1,7 @@
--- The nearest stops from which strings begin stand in their routes, and so do the stops of these strings.
+-- The nearest stops, around which strings are cut, are in their routes, and so are the stops of these strings
 use Rattle.std.proofs.Common.{All, sym, subst, ◌∙◌}
 use Rattle.move_ops.specs.Drafts.{draft_of}
-use Rattle.anneal_search.specs.Going.{ArePlanned, IsInRoute}
+use Rattle.anneal_search.specs.StepLoops.{ArePlanned, IsInRoute}
 use Rattle.anneal_search.proofs.NearLemmas.{routes_in_route}
 use Rattle.anneal_search.proofs.PlannedLemmas.{strings_planned}
 use Rattle.anneal_search.proofs.strings.ruined_around.Goals as goal

@@ -1,4 +1,4 @@
--- The stops so far, and those of the strings of the routes left, are the stops of all strings.
+-- The stops so far and those of the strings in the remaining routes are the stops of all strings
 use Rattle.std.proofs.Common.{◌≡◌, ◌++◌, drop}
 use Rattle.move_ops.specs.Drafts.{draft_of}
 use Rattle.anneal_search.specs.Strings.{strings_of}

@@ -1,4 +1,5 @@
--- The stops and used routes counted so far, and those left, are all; and no sum wraps.
+-- The stops and used routes counted so far and those of the remaining routes add up to the totals, and no sum
+-- overflows
 use Rattle.std.proofs.Common.{◌≡◌, ◌+◌, ◌*◌, ◌^◌, ◌≤◌, length, drop}
 use Rattle.std.specs.List.{concat}
 use Rattle.route_sched.specs.Cost.{used_count}

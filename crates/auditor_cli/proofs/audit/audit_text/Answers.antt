@@ -1,4 +1,4 @@
--- What is told for the values that were read is told for any values that the texts spell.
+-- The answer for the values that were read is the answer for every pair of values that the texts spell.
 use Rattle.std.proofs.lemmas.Result.{IfOk-weaker}
 use Rattle.auditor_cli.proofs.SpelledLemmas.{judges_spelled, says_sound}
 use Rattle.auditor_cli.proofs.audit.audit_text.Goals as goal
@@ -9,4 +9,4 @@ returns-clause-verdict c =
 
 pub returns-clause-sound : goal.returns-clause-sound
 returns-clause-sound c =
-    IfOk-weaker c.audit_both.result _ _ (λ answer h. says_sound c.solutions_pass_where_they_are_sound.ensures c.args.kind c.args.instance.now c.args.solution.now answer h) c.audit_both.ensures.answer
+    IfOk-weaker c.audit_both.result _ _ (λ answer h. says_sound c.solutions_pass_iff_sound.ensures c.args.kind c.args.instance.now c.args.solution.now answer h) c.audit_both.ensures.answer

@@ -1,4 +1,4 @@
--- The verdict on the routes that were read.
+-- The verdict is that on the routes that were read.
 use Rattle.std.proofs.Common.{rules, subst}
 use Rattle.plan_audit.specs.Verdict.{IsRoutesVerdict}
 use Rattle.auditor_cli.proofs.audit.examine_for_routes.Goals as goal

@@ -1,7 +1,7 @@
--- The text that is read is that of the routes.
+-- The text that was built is the one of the definition.
 use Rattle.std.proofs.Common.{◌∙◌, subst}
 use Rattle.std.specs.Prelude.{IfOk}
-use Rattle.auditor_cli.specs.Examined.{AreExaminedForRoutes}
+use Rattle.auditor_cli.specs.Examination.{AreExaminedForRoutes}
 use Rattle.auditor_cli.proofs.audit.examine_routes.Goals as goal
 
 pub returns : goal.returns

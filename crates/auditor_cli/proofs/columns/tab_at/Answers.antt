@@ -1,4 +1,4 @@
--- Where the first tab stands, or the line's length where there is none.
+-- The result is the place of the first tab, or the length of the line if there is none.
 use Rattle.std.proofs.Common.{◌∙◌, rules, tests}
 use Rattle.std.proofs.lemmas.Iterator.{YieldsList-from_slice}
 use Rattle.std.proofs.lemmas.Iterator.Search.{position_from_yields_List}

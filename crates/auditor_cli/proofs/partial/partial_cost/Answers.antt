@@ -1,4 +1,4 @@
--- Where the rules on stops are kept, the routes are a plan.
+-- If the rules on stops are kept, the routes form a plan.
 use Rattle.std.proofs.Common.{◌≡◌, rules, subst, true, []}
 use Rattle.plan_audit.specs.Verdict.{IsVerdict, planned}
 use Rattle.plan_audit.proofs.StepLemmas.{plan_from}

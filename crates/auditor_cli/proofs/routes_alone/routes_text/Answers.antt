@@ -1,4 +1,4 @@
--- The lines are those of the text that is meant.
+-- The text that was built has the lines of `routes_text`.
 use Rattle.std.proofs.Common.{◌≡◌, ◌∙◌, ap, rules}
 use Rattle.text_lines.specs.Lines.{lines_of}
 use Rattle.auditor_cli.specs.RoutesAlone.{routes_text}

@@ -1,13 +1,13 @@
--- What each image stores is led to what it holds.
+-- The bytes that each image stores determine the content that it holds.
 use Rattle.std.proofs.Common.{List, [], ◌∷◌, ◌++◌, rules}
 use Rattle.sector_disk.specs.Calls.{CommitsFrom}
 use Rattle.sector_disk.specs.CommitLaws.{commits_by}
-use Rattle.command_core.specs.declared.states.State.{State}
-use Rattle.command_core.specs.declared.commands.Command.{Command}
+use Rattle.command_types.specs.declared.states.State.{State}
+use Rattle.command_types.specs.declared.commands.Command.{Command}
 use Rattle.state_codec.specs.Bytes.{state_bytes}
 use Rattle.state_codec.specs.declared.version.Version.TheVariants.{Two}
 use Rattle.checkpoint.specs.Holds.{HoldsAt, journal}
-use Rattle.checkpoint.specs.Places.{behind_record}
+use Rattle.checkpoint.specs.Places.{place_after_record}
 use Rattle.checkpoint.proofs.Journals.{mark, counted, still, more}
 use Rattle.checkpoint.proofs.changes.commit_record.Goals.{After-extend}
 use Rattle.checkpoint.proofs.changes.commit_record.Goals as goal
@@ -15,7 +15,7 @@ use Rattle.checkpoint.proofs.changes.commit_record.Given as given
 
 committed : (g : given.Over) (c : After-extend g) (state : State) (commands : List Command)
     → CommitsFrom g.D.Sectors c.extend.result 2 0 (HoldsAt state commands c.args.place)
-    (HoldsAt state (commands ++ c.args.command.now ∷ []) (behind_record c.args.place)) c.args.device.now c.extend.new.device
+    (HoldsAt state (commands ++ c.args.command.now ∷ []) (place_after_record c.args.place)) c.args.device.now c.extend.new.device
 committed g c state commands honest held =
     let d = g.D.Sectors in
     let start = c.args.device.now in

@@ -1,4 +1,4 @@
--- What each image stores is led to what it holds.
+-- The bytes that each image stores determine the content that it holds.
 use Rattle.std.proofs.Common.{take, refl, rules}
 use Rattle.state_codec.specs.Bytes.{state_bytes}
 use Rattle.state_codec.specs.declared.version.Version.TheVariants.{Two}

@@ -1,4 +1,5 @@
--- Of two valid headers the one of the greater sequence counts, of one that one, and else there is a cause.
+-- If both headers are valid, the one with the greater sequence is current. If one is valid, it is current.
+-- Otherwise there is a fault.
 use Rattle.checkpoint.proofs.Heads.{counts_first, counts_second, counts_zeroth, counts_next, none_valid}
 use Rattle.checkpoint.proofs.fronts.current_header.Goals as goal
 
@@ -10,7 +11,7 @@ returns-in-Some-second-2-clause-found c image whole = counts_next c.args.layout 
 
 pub returns-in-None-second-2-clause-found : goal.returns-in-None-second-2-clause-found
 returns-in-None-second-2-clause-found c image whole =
-    c.no_header.ensures.told c.args.sectors image c.requires.room whole (none_valid c.args.layout image (c.in-None.ensures.valid image whole) (c.in-None-second-2.ensures.valid image whole))
+    c.missing_header_fault.ensures.reported c.args.sectors image c.requires.room whole (none_valid c.args.layout image (c.in-None.ensures.valid image whole) (c.in-None-second-2.ensures.valid image whole))
 
 pub returns-then-first-second-clause-found : goal.returns-then-first-second-clause-found
 returns-then-first-second-clause-found c image whole =

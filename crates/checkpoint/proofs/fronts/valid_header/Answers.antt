@@ -1,4 +1,4 @@
--- The header in a sector is valid in each image with this front where it is allowed there.
+-- The header in a sector is valid in each image with this front if it is allowed there.
 use Rattle.std.proofs.Common.{arith}
 use Rattle.checkpoint.proofs.Heads.{valid_there, none_there, not_there}
 use Rattle.checkpoint.proofs.fronts.valid_header.Goals as goal

@@ -1,4 +1,4 @@
--- Magic, version, sequence and length, written over zeros, are the header's bytes.
+-- A header's sector is a sector of zeros over which magic, version, sequence and length are written.
 use Rattle.std.proofs.Common.{refl}
 use Rattle.checkpoint.proofs.headers.header_sector.Goals as goal
 

@@ -1,7 +1,8 @@
--- The records are the journal of the state unless a sector behind them is stray, or they give a number past the last.
+-- The records are the journal of the state, unless a sector after them is stray, or they add a stop whose
+-- number is too high for the version.
 use Rattle.std.proofs.Common.{inl, inr, List, sym, ◌≡◌, ℕ, length, subst, arith}
-use Rattle.command_core.specs.declared.commands.Command.{Command}
-use Rattle.checkpoint.specs.Numbers.{HaveNumbers}
+use Rattle.command_types.specs.declared.commands.Command.{Command}
+use Rattle.checkpoint.specs.Numbers.{HaveValidNumbers}
 use Rattle.checkpoint.specs.Reads.{IsClearFrom, HasStrayFrom}
 use Rattle.checkpoint.proofs.loads.journal.Goals as goal
 
@@ -14,21 +15,21 @@ returns-in-Some-clause-found c =
       why = inl (subst (λ (n : ℕ). HasStrayFrom n c.args.front.now c.args.sequence) counted c.in-Some.ensures);
     }
 
-pub returns-then-have_numbers-clause-found : goal.returns-then-have_numbers-clause-found
-returns-then-have_numbers-clause-found c =
+pub returns-then-have_valid_numbers-clause-found : goal.returns-then-have_valid_numbers-clause-found
+returns-then-have_valid_numbers-clause-found c =
     let counted : c.len.result ≡ length c.in-Ok.commands.items = omega (arith, c.len.ensures, c.in-Ok.commands.ok.0) in
     record {
       records = c.in-Ok.ensures;
       clear = subst (λ (n : ℕ). IsClearFrom n c.args.front.now c.args.sequence) counted c.in-None.ensures;
-      numbers = subst (λ (l : List Command). HaveNumbers c.args.version c.args.state.now l) c.deref.ensures.value (c.have_numbers.ensures.0 c.if-have_numbers.true);
+      numbers = subst (λ (l : List Command). HaveValidNumbers c.args.version c.args.state.now l) c.deref.ensures.value (c.have_valid_numbers.ensures.0 c.if-have_valid_numbers.true);
     }
 
-pub returns-else-have_numbers-clause-found : goal.returns-else-have_numbers-clause-found
-returns-else-have_numbers-clause-found c = record {
+pub returns-else-have_valid_numbers-clause-found : goal.returns-else-have_valid_numbers-clause-found
+returns-else-have_valid_numbers-clause-found c = record {
   commands = c.in-Ok.commands.items;
   records = c.in-Ok.ensures;
   why = inr
       (λ numbers.
-      let yes = c.have_numbers.ensures.1 (subst (λ (l : List Command). HaveNumbers c.args.version c.args.state.now l) (sym c.deref.ensures.value) numbers) in
-      cc (yes, c.if-have_numbers.false));
+      let yes = c.have_valid_numbers.ensures.1 (subst (λ (l : List Command). HaveValidNumbers c.args.version c.args.state.now l) (sym c.deref.ensures.value) numbers) in
+      cc (yes, c.if-have_valid_numbers.false));
 }

@@ -1,4 +1,4 @@
--- What the parts that were read make is what the image holds, or why it holds nothing.
+-- The parts that were read determine the content of the image, or its fault.
 use Rattle.std.proofs.Common.{ℕ, List, sym, subst, rules}
 use Rattle.checkpoint.specs.Reads.{HasParts}
 use Rattle.checkpoint.proofs.loads.load.Goals as goal
@@ -10,7 +10,7 @@ returns-clause-loaded g c =
       small = search rules;
       fails = search rules;
       standing = search rules;
-      found = λ honest. c.interpreted.ensures.found (d.len start) (d.seen start)
+      found = λ honest. c.interpret.ensures.found (d.len start) (d.seen start)
           (subst (λ (b : List ℕ). HasParts c.args.version (d.len start) (d.seen start) c.in-Ok.parts.opened.header c.in-Ok.parts.opened.front.items b)
           (sym c.deref-2.ensures.value) (c.in-Ok.ensures.found honest));
     }

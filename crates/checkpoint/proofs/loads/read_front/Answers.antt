@@ -1,4 +1,5 @@
--- What reads gave is the image's front, and the header found in it counts in the image.
+-- The bytes that reads returned are the front of the image, and the header found there is the image's current
+-- one.
 use Rattle.std.proofs.Common.{ℕ, List, sym, ◌∙◌, subst, arith}
 use Rattle.checkpoint.specs.Reads.{IsImageFront}
 use Rattle.checkpoint.proofs.Loading.{no_fault_more}

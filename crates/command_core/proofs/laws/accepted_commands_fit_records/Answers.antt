@@ -1,4 +1,4 @@
--- An accepted command that has a record has fields that a record holds.
+-- If an accepted command has a record, its fields fit into the record
 use Rattle.command_core.proofs.NumberLemmas.{accepted_fit_records}
 use Rattle.command_core.proofs.laws.accepted_commands_fit_records.Goals as goal
 

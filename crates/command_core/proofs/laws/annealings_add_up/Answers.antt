@@ -1,4 +1,4 @@
--- Annealings, however they are cut, leave what one annealing of all their steps would.
+-- Several annealings lead to the same state as one annealing with the same number of steps
 use Rattle.command_core.proofs.SearchLemmas.{annealings_add_up, runs_are_one_annealing}
 use Rattle.command_core.proofs.laws.annealings_add_up.Goals as goal
 

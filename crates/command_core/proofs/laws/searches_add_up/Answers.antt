@@ -1,4 +1,4 @@
--- Searches, however they are cut, leave what one search of all their steps would.
+-- Several searches lead to the same state as one search with the same number of steps
 use Rattle.command_core.proofs.SearchLemmas.{searches_add_up, runs_are_one_search}
 use Rattle.command_core.proofs.laws.searches_add_up.Goals as goal
 

@@ -1,4 +1,4 @@
--- The next request's name is pushed where it has no mark, and else passed over.
+-- If the next request has no mark, its name is pushed; otherwise it is skipped
 use Rattle.std.proofs.Common.{rules, ◌≡◌, ◌++◌, ◌∷◌, [], not, Some, None, sym, ◌∙◌}
 use Rattle.seeded_search.specs.Names.{names_where}
 use Rattle.command_core.specs.Marks.{is_marked}

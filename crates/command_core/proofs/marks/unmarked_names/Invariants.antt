@@ -1,4 +1,4 @@
--- The names so far, and those of the requests left, are all.
+-- The names found so far and those of the remaining requests make up the result
 use Rattle.std.proofs.Common.{◌≡◌, ◌++◌, not, drop}
 use Rattle.seeded_search.specs.Names.{names_where}
 use Rattle.command_core.specs.Marks.{is_marked}

@@ -1,4 +1,4 @@
--- The help is no part of what the parser reads.
+-- The help has no effect on parsing.
 use Rattle.std.proofs.Common.{◌∙◌, ap}
 use Rattle.clap.specs.Simple.{app_of_fields}
 use Rattle.command_line.proofs.commands.bare_command.Goals as goal

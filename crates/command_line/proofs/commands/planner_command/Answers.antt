@@ -1,4 +1,4 @@
--- The groups of subcommands are added in turn to a command that tells its version.
+-- The groups of subcommands are added to a command with a version, one after another.
 use Rattle.std.proofs.Common.{◌≡◌, ◌∙◌, ap, codes, Bor, List, true}
 use Rattle.std.proofs.lemmas.Result.{IfOk-weaker}
 use Rattle.clap.specs.Simple.{app_of_fields, on_top}
@@ -17,8 +17,8 @@ returns c =
     let none_is : app_of c.after_help-planner.result ≡ versioned_app (codes "planner") =
     ap app_of_fields c.after_help-planner.ensures ∙ (ap app_of_fields c.version.ensures ∙ ap (on_top (λ (s : Shape). record s { has_version = true })) new_is) in
     let taking = with_solution_apps names (versioned_app (codes "planner")) in
-    let one = c.with_solution_commands-planner.ensures (versioned_app (codes "planner")) none_is in
-    let two = c.with_search_commands-planner.ensures taking one in
-    IfOk-weaker c.with_store_commands.result _ _ (λ (command : Command) (is : app_of command ≡ planner_app names modes). record
+    let one = c.add_solution_commands-planner.ensures (versioned_app (codes "planner")) none_is in
+    let two = c.add_search_commands-planner.ensures taking one in
+    IfOk-weaker c.add_store_commands.result _ _ (λ (command : Command) (is : app_of command ≡ planner_app names modes). record
     { names = names; kinds = kinds; mode_names = modes; modes = named; app = is })
-    (c.with_store_commands.ensures (with_search_apps names taking) two)
+    (c.add_store_commands.ensures (with_search_apps names taking) two)

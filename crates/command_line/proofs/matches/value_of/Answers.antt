@@ -1,4 +1,4 @@
--- The value is the first of its entry.
+-- The value is the first one of the argument's entry.
 use Rattle.std.proofs.Common.{sym}
 use Rattle.clap.specs.Words.{found_of}
 use Rattle.command_line.proofs.CommandLemmas.{value_is}

@@ -1,4 +1,5 @@
--- Words taken one by one give all their numbers, or none where one is no number or one is too many.
+-- Taking the words one by one returns all their numbers. It returns none if a word is not a number, or if there
+-- are too many.
 use Rattle.std.proofs.Common.{rules}
 use Rattle.command_text.proofs.FieldLemmas.{begin, go_on, no_integer, too_many, all_taken}
 use Rattle.command_text.proofs.fields.integers.Goals as goal

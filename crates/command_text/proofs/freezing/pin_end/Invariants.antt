@@ -1,7 +1,7 @@
--- What is found from here on is what is found of all.
+-- Searching the remaining numbers finds the same as searching all numbers.
 use Rattle.std.proofs.Common.{◌≡◌, ◌+◌, length}
-use Rattle.command_core.specs.declared.states.State.TheVariants.{Loaded}
-use Rattle.command_core.specs.Job.{JobValue}
+use Rattle.command_types.specs.declared.states.State.TheVariants.{Loaded}
+use Rattle.command_types.specs.Job.{JobValue}
 use Rattle.command_text.specs.Freezing.{may_be_pinned}
 use Rattle.command_text.proofs.FreezeLemmas.{first_from}
 use Rattle.command_text.proofs.freezing.pin_end.Given as goal

@@ -1,4 +1,4 @@
--- The text is that of the constant.
+-- The text is that of the constant `HELP`.
 use Rattle.command_text.specs.Answers.{help_text}
 use Rattle.command_text.proofs.help.help_lines.Goals as goal
 

@@ -1,4 +1,4 @@
--- A text is read as the one problem or fault that the reading has for it.
+-- A text is read as the problem or the fault that the reading has for it.
 use Rattle.command_text.proofs.ReadLemmas.{read_once}
 use Rattle.command_text.proofs.instances.read_instance.Goals as goal
 

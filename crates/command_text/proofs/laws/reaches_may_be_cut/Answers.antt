@@ -1,4 +1,4 @@
--- A line `reach N`, cut off and asked for again, ends in the state of one that is not cut.
+-- If `reach N` is cut off and repeated, it ends in the same state as an uninterrupted one.
 use Rattle.command_text.proofs.ReachLemmas.{reached_lines_may_be_cut}
 use Rattle.command_text.proofs.laws.reaches_may_be_cut.Goals as goal
 

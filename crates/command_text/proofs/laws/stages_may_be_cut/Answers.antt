@@ -1,5 +1,6 @@
--- Annealing by stages, cut off and asked for again, ends in the same state; so does its line.
-use Rattle.command_text.proofs.AgainLemmas.{lines_may_be_cut}
+-- If annealing in stages is cut off and repeated, it ends in the same state as an uninterrupted one. The same
+-- holds for the command `anneal FROM TO`.
+use Rattle.command_text.proofs.RepeatLemmas.{lines_may_be_cut}
 use Rattle.command_text.proofs.StagingLemmas.{stages_may_be_cut}
 use Rattle.command_text.proofs.laws.stages_may_be_cut.Goals as goal
 

@@ -1,4 +1,4 @@
--- The state that a session is left with is the one after the commands that it has carried out.
+-- The session ends in the state after the operations that it has executed.
 use Rattle.command_text.proofs.StateLemmas.{follow}
 use Rattle.command_text.proofs.laws.states_follow.Goals as goal
 

@@ -1,7 +1,7 @@
--- Of a plan that leaves nothing out only want of memory is told.
+-- If the plan leaves no request out, only out of memory is possible as an error.
 use Rattle.std.proofs.Common.{◌≡◌, subst}
 use Rattle.route_sched.specs.Cost.{unplanned_count}
-use Rattle.command_core.specs.Job.{JobValue}
+use Rattle.command_types.specs.Job.{JobValue}
 use Rattle.sol_text.specs.declared.faults.WriteSolFault.TheVariants.{OutOfMemory}
 use Rattle.command_text.proofs.showing.print.Goals as goal
 

@@ -1,4 +1,4 @@
--- The command that is found, and those behind it.
+-- The next operation is the first of all, and the operations after it follow.
 use Rattle.std.proofs.Common.{rules, ◌≡◌, Some}
 use Rattle.command_text.specs.Staging.{next_steps}
 use Rattle.command_text.proofs.StagingLemmas.{next_made}

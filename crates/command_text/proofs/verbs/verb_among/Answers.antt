@@ -1,4 +1,4 @@
--- A name is the word, or it is passed.
+-- If a name is the word, its command is returned. Otherwise the loop goes on.
 use Rattle.std.proofs.Common.{sym, ◌∙◌}
 use native.Mathlib.Numerals.{unary_clauses}
 use Rattle.command_text.proofs.VerbLemmas.{found, passed, none_left}

@@ -1,7 +1,7 @@
--- The names that are left tell.
+-- The result is what the remaining names determine.
 use Rattle.std.proofs.Common.{◌≡◌}
 use Rattle.std.specs.Prelude.{drop}
-use Rattle.command_text.specs.Asking.{verb_among}
+use Rattle.command_text.specs.Parsing.{verb_among}
 use Rattle.command_text.proofs.VerbLemmas.{names_of}
 use Rattle.command_text.proofs.verbs.verb_among.Given as goal
 

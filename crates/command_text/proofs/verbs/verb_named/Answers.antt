@@ -1,5 +1,5 @@
--- The commands are those of the table.
-use Rattle.command_text.specs.Asking.{verb_named}
+-- The table has all commands.
+use Rattle.command_text.specs.Parsing.{verb_named}
 use Rattle.command_text.proofs.verbs.verb_named.Goals as goal
 
 pub returns : goal.returns

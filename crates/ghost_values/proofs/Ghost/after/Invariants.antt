@@ -1,4 +1,4 @@
--- What is asked for.
+-- The value that the caller's proof chooses.
 use Rattle.ghost_values.proofs.Ghost.after.Given as goal
 
 abbrev pub ghost-of : goal.ghost-of

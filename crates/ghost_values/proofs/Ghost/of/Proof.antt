@@ -1,4 +1,4 @@
--- `of` makes a value of no bytes, at the ghost value that it is given. It has no bytes, so this is proved by hand.
+-- `of` makes a value of no bytes with the given ghost value. Since it has no bytes, this is proved by hand.
 use mathlib.Core.Path.{refl}
 use mathlib.Core.List.{[], ◌∷◌}
 use seplogic.Ra.Ura.{Ura}

@@ -1,4 +1,4 @@
--- The next word gives the next field's value, and leaves the words behind it.
+-- The next word has the value of the next field, and the words after it are left.
 use Rattle.std.proofs.Common.{drop, arith, ◌∙◌, ap, w32, rules}
 use Rattle.std.proofs.lemmas.List.{drop-drop, length-set}
 use Rattle.std.proofs.lemmas.Int.{to_z-of_z}

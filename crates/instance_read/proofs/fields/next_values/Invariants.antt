@@ -1,4 +1,4 @@
--- The fields so far have the values of their words, and the words behind them are left.
+-- The fields so far have the values of their words, and the words after them are left.
 use Rattle.std.proofs.Common.{◌≡◌, ℕ, ◌<◌, drop, length}
 use Rattle.instance_read.specs.FieldValues.{HasValue}
 use Rattle.instance_read.proofs.fields.next_values.Given as goal

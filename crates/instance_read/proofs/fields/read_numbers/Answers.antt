@@ -1,9 +1,9 @@
--- A line whose numbers can't be read is told by their first fault.
+-- If the numbers of a line can't be read, their first fault is reported.
 use Rattle.std.proofs.Common.{subst, sym}
 use Rattle.text_lines.specs.Words.{words_of}
 use Rattle.instance_read.specs.declared.faults.ReadFaultKind.{ReadFaultKind}
 use Rattle.instance_read.specs.FieldValues.{numbers_fault}
-use Rattle.instance_read.specs.Walk.{IsFirstKind}
+use Rattle.instance_read.specs.TaskFaults.{IsFirstKind}
 use Rattle.instance_read.proofs.NumberLemmas.{numbers_first}
 use Rattle.instance_read.proofs.fields.read_numbers.Goals as goal
 

@@ -1,4 +1,4 @@
--- The list of depots is over with its second word.
+-- The list of depots ends with its second word.
 use Rattle.instance_read.proofs.VrpLawProofs.{depots}
 use Rattle.instance_read.proofs.laws.depots_are_two_words.Goals as goal
 

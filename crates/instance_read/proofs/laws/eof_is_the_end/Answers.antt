@@ -1,4 +1,4 @@
--- Each line behind that of EOF stands behind the end, where none counts.
+-- Each line after EOF is after the end, where no line counts.
 use Rattle.instance_read.proofs.VrpLawProofs.{end}
 use Rattle.instance_read.proofs.laws.eof_is_the_end.Goals as goal
 

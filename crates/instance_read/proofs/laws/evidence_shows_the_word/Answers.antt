@@ -1,4 +1,4 @@
--- The evidence of a wrong word is the first one of its line.
+-- The evidence for a bad number is the first bad number in its line.
 use Rattle.instance_read.proofs.EvidenceLemmas.{evidence_shows_the_word, numbers_show_the_word}
 use Rattle.instance_read.proofs.laws.evidence_shows_the_word.Goals as goal
 

@@ -1,4 +1,5 @@
--- A Li-Lim text that is refused has its first fault told, by class, line and kind; else it spells the problem.
+-- If a Li-Lim text is refused, its first fault by class, line and kind is reported; otherwise the text spells
+-- the problem.
 use Rattle.std.proofs.Common.{inl, inr, ⊎_elim, sym, subst, ◌∙◌, arith}
 use Rattle.std.proofs.lemmas.Result.{err_from_is_err_and, MatchResult-weaker}
 use Rattle.instance_read.specs.declared.faults.ReadFault.{ReadFault}
@@ -8,7 +9,7 @@ use Rattle.instance_read.specs.RowViews.{row_view}
 use Rattle.instance_read.proofs.LilimLemmas.{no_rows_first, header_first, rest_above, task_first, no_tasks_first}
 use Rattle.instance_read.proofs.LimitLemmas.{header_limits_of}
 use Rattle.instance_read.proofs.ReadLemmas.{known_tasks, spells, tells, no_rest}
-use Rattle.instance_read.proofs.WalkLemmas.{above_weaker}
+use Rattle.instance_read.proofs.TaskFaultLemmas.{above_weaker}
 use Rattle.instance_read.proofs.lilim.read_lilim.Goals as goal
 
 pub returns-in_default-clause-fault : goal.returns-in_default-clause-fault

@@ -1,9 +1,9 @@
--- The next task's line is read behind the task before it, or its fault is the first of all lines.
+-- The next task's line is read after the task before it, or its fault is the first of all lines.
 use Rattle.std.proofs.Common.{◌-◌, ◌∙◌, ap, length, inr}
 use Rattle.std.specs.Prelude.{slice_get}
 use Rattle.instance_read.specs.Pairs.{task_of}
 use Rattle.instance_read.specs.RowViews.{row_view}
-use Rattle.instance_read.proofs.WalkLemmas.{last_or-is, tasks_more, above_more, none_more, first_more, stops_first}
+use Rattle.instance_read.proofs.TaskFaultLemmas.{last_or-is, tasks_more, above_more, none_more, first_more, stops_first}
 use Rattle.instance_read.proofs.lilim.read_tasks.Goals as goal
 
 pub loop-line-preserved : goal.loop-line-preserved

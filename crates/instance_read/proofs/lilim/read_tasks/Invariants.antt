@@ -1,12 +1,12 @@
--- The tasks so far are read without fault, and what is left has the rest and the first fault.
+-- The tasks so far are read without a fault, and the rest has the other tasks and the first fault.
 use Rattle.std.proofs.Common.{◌≡◌, ◌++◌, map, None}
 use Rattle.std.specs.List.{last_or}
 use Rattle.instance_read.specs.declared.faults.ReadFault.{ReadFault}
 use Rattle.instance_read.specs.Pairs.{task_of}
-use Rattle.instance_read.specs.Walk.{HasNoTaskFault, IsFirstTaskFault, LinesAbove}
+use Rattle.instance_read.specs.TaskFaults.{HasNoTaskFault, IsFirstTaskFault, LinesAbove}
 use Rattle.instance_read.proofs.lilim.read_tasks.Given as goal
 
--- the lines so far have no fault, and are read; what is said of the lines that are left holds of them all
+-- the lines so far are read and have no fault; what is true for the rest is true for all lines
 abbrev pub invariant-loop-line : goal.invariant-loop-line
 invariant-loop-line l = record {
   tasks : l.tasks.items ++ map task_of l.line-iterator ≡ map task_of l.fn.lines;

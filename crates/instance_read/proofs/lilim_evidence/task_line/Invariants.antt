@@ -1,4 +1,4 @@
--- The first of the lines that are left is the first of all.
+-- The line found in the rest is the one found in all lines.
 use Rattle.std.proofs.Common.{◌≡◌}
 use Rattle.std.specs.Prelude.{find}
 use Rattle.instance_read.specs.LilimEvidence.{is_task_line}

@@ -1,4 +1,4 @@
--- The last task, or the depot where there is none, has the greatest number.
+-- The last task, or the depot if there is none, has the greatest number.
 use Rattle.instance_read.proofs.TableLemmas.{last_number-ref}
 use Rattle.instance_read.proofs.pairs.last_task.Goals as goal
 

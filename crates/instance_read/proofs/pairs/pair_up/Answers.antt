@@ -1,4 +1,4 @@
--- Tasks of which none is mismatched are the requests of the problem, and the next number is above theirs.
+-- If no task is mismatched, the tasks make the requests of the problem, and the next number is above theirs.
 use Rattle.std.proofs.Common.{◌+◌, ◌<◌, ℕ, List, sym, ap, subst, arith}
 use Rattle.std.specs.List.{AllByRecursion}
 use Rattle.plan_types.specs.Instance.{Instance, numbers_among}
@@ -9,7 +9,7 @@ use Rattle.instance_read.proofs.pairs.pair_up.Goals as goal
 
 pub task_table-requires : goal.task_table-requires
 task_table-requires c =
-    omega (arith, few_tasks 0 c.args.customers.now (omega arith) c.requires.tasks.valid c.requires.tasks.rising)
+    omega (arith, few_tasks 0 c.args.customers.now (omega arith) c.requires.tasks.valid c.requires.tasks.ascending)
 
 pub put_pairs-requires-clause-paired : goal.put_pairs-requires-clause-paired
 put_pairs-requires-clause-paired c =
@@ -19,8 +19,8 @@ pub overflow_add-last_task : goal.overflow_add-last_task
 overflow_add-last_task c =
     omega (arith, c.last_task.ensures, next_small c.args.depot.now c.args.customers.now c.requires.tasks)
 
-pub set_next_number-requires-clause-to_most : goal.set_next_number-requires-clause-to_most
-set_next_number-requires-clause-to_most c =
+pub set_next_number-requires-clause-to_max : goal.set_next_number-requires-clause-to_max
+set_next_number-requires-clause-to_max c =
     omega (arith, c.last_task.ensures, next_small c.args.depot.now c.args.customers.now c.requires.tasks)
 
 pub set_next_number-requires-clause-above : goal.set_next_number-requires-clause-above

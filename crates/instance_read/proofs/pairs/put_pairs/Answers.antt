@@ -13,7 +13,7 @@ put_request-requires-clause-valid c =
     let tasks = c.args.tasks.now in
     let i = c.loop-task.task-index in
     let t = get_or tasks i no_task in
-    put_valid tasks i t c.requires.valid c.requires.rising c.requires.paired c.loop-task-test.true (get_or_default tasks i no_task t c.loop-task-test.true)
+    put_valid tasks i t c.requires.valid c.requires.ascending c.requires.paired c.loop-task-test.true (get_or_default tasks i no_task t c.loop-task-test.true)
     c.in-Some.request (sym c.in-Some.ensures)
 
 pub put_request-requires-clause-free : goal.put_request-requires-clause-free
@@ -21,7 +21,7 @@ put_request-requires-clause-free c =
     let tasks = c.args.tasks.now in
     let i = c.loop-task.task-index in
     let t = get_or tasks i no_task in
-    put_free tasks i t c.requires.valid c.requires.rising c.requires.paired c.loop-task-test.true (get_or_default tasks i no_task t c.loop-task-test.true)
+    put_free tasks i t c.requires.valid c.requires.ascending c.requires.paired c.loop-task-test.true (get_or_default tasks i no_task t c.loop-task-test.true)
     c.in-Some.request (sym c.in-Some.ensures) c.loop-task.problem (ap (λ (p : Instance). p.requests) c.loop-task.invariant)
 
 pub loop-task-preserved : goal.loop-task-preserved
@@ -35,7 +35,7 @@ loop-task-preserved c =
       | in-Some+in_ok-put_request w ↦
           put_step c.args.problem.now c.loop-task.problem c.match-pair_of.problem w.in-Some.request
           (filter_map (pair_of tasks) (take i tasks)) (filter_map (pair_of tasks) (take (i + 1) tasks)) c.loop-task.invariant (w.problem-is ∙ w.in_ok-put_request.ensures)
-          (put_last tasks i t c.requires.valid c.requires.rising c.requires.paired c.loop-task-test.true at w.in-Some.request (sym w.in-Some.ensures) (filter_map (pair_of tasks) (take i tasks)) refl)
+          (put_last tasks i t c.requires.valid c.requires.ascending c.requires.paired c.loop-task-test.true at w.in-Some.request (sym w.in-Some.ensures) (filter_map (pair_of tasks) (take i tasks)) refl)
       | in_default w ↦
           let kept = w.problem-is ∙ c.loop-task.invariant in
           same_instance c.match-pair_of.problem c.args.problem.now (filter_map (pair_of tasks) (take (i + 1) tasks))

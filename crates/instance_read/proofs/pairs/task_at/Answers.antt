@@ -1,4 +1,4 @@
--- The table's entry of a number leads to the task with that number, if there is one.
+-- The table's entry for a number leads to the task with that number, if there is one.
 use Rattle.std.proofs.Common.{sym, ap, ◌∙◌}
 use Rattle.std.specs.Prelude.{option_and_then, slice_get}
 use Rattle.std.specs.Option.{option_copied}

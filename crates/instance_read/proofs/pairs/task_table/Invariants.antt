@@ -1,4 +1,4 @@
--- The table leads to each task from the last one back to this place.
+-- The table leads to each task from this place to the last.
 use Rattle.std.proofs.Common.{◌≡◌, ◌<◌, ℕ, length, drop, get_or, None}
 use Rattle.std.specs.Prelude.{◌==◌}
 use Rattle.std.specs.List.{All, position_from}

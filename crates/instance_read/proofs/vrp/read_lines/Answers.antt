@@ -1,4 +1,5 @@
--- Each line of a `.vrp` text is taken by the draft of the lines before it, or its fault is the text's first.
+-- The draft of the earlier lines takes each line of a `.vrp` text, or the line's fault is the first of the
+-- text.
 use Rattle.instance_read.specs.RowViews.{row_view}
 use Rattle.instance_read.proofs.ReadingLemmas.{reading_done, reading_more, reading_stops}
 use Rattle.instance_read.proofs.vrp.read_lines.Goals as goal

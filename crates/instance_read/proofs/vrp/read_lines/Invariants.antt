@@ -1,4 +1,4 @@
--- What is read of a `.vrp` text: the draft of the lines so far, at the place behind them.
+-- The state of reading a `.vrp` text: the draft of the lines so far, and the section after them.
 use Rattle.instance_read.proofs.ReadingLemmas.{IsReading}
 use Rattle.instance_read.proofs.vrp.read_lines.Given as goal
 

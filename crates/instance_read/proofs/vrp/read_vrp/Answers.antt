@@ -1,4 +1,5 @@
--- A `.vrp` text that is refused has its first fault told: of a line, of a section that is cut off, or of keys that no line has.
+-- If a `.vrp` text is refused, its first fault is reported: of a line, of a section that is cut off, or of keys
+-- that no line has.
 use Rattle.std.proofs.Common.{sym, ◌∙◌}
 use Rattle.std.proofs.lemmas.Result.{err_from_is_err_and, MatchResult-weaker}
 use Rattle.instance_read.proofs.ReadVrpLemmas.{announced, spells_problem, tells_first, tells_missing, tells_truncated}

@@ -1,4 +1,5 @@
--- The lines that are left, from what is known of those before, lead to the line that all lead to.
+-- A search of the rest, with the data from the lines before it, finds the line that a search of all lines
+-- finds.
 use Rattle.std.proofs.Common.{◌≡◌}
 use Rattle.std.specs.Prelude.{None}
 use Rattle.instance_read.specs.Rows.{rows_of}

@@ -1,4 +1,4 @@
--- A line of the coordinate section gives its node and point where all three numbers are within their limits.
+-- A line of the coordinate section has a node and its point if all three numbers are within their limits.
 use Rattle.std.proofs.Common.{ℤ, ◌∷◌, [], ap, sym, subst, ◌∙◌, get_or, pos, negsuc, w32, rules, arith, refl, Some}
 use Rattle.std.proofs.lemmas.Int.{to_z-of_z}
 use Rattle.std.specs.Int.RustNames.{unsigned_abs}

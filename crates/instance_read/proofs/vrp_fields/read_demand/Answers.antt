@@ -1,4 +1,4 @@
--- A line of the demand section gives its node and demand where both are within their limits.
+-- A line of the demand section has a node and its demand if both are within their limits.
 use Rattle.std.proofs.Common.{ℤ, ◌∷◌, [], ap, sym, subst, ◌∙◌, get_or, pos, w32, rules, arith, refl, Some}
 use Rattle.std.proofs.lemmas.Int.{to_z-of_z}
 use Rattle.std.specs.Int.RustNames.{unsigned_abs}

@@ -1,4 +1,5 @@
--- Key and value are the trimmed parts before and behind the first colon; without one the whole line is the key.
+-- The key and the value are the trimmed parts before and after the first colon; without a colon the whole line
+-- is the key.
 use Rattle.std.proofs.Common.{◌+◌, take, drop, sym, ap, ◌∙◌, arith}
 use Rattle.std.specs.List.{position_or_len}
 use Rattle.std.proofs.lemmas.List.{drop_all, take_all, take_rest}

@@ -1,10 +1,10 @@
--- What is left is the front of the text, and what is cut off are blanks of its end.
+-- The rest is a prefix of the text, and the bytes cut off are blanks at its end.
 use Rattle.std.proofs.Common.{◌≡◌, ◌+◌, ◌≤◌, length, take}
 use Rattle.std.specs.List.{suffix_len}
 use Rattle.text_lines.specs.Words.{is_blank}
 use Rattle.instance_read.proofs.vrp_lines.trim_blanks_end.Given as goal
 
--- what is cut off so far are blanks at the end
+-- the bytes cut off so far are blanks at the end
 abbrev pub invariant-loop-rest : goal.invariant-loop-rest
 invariant-loop-rest l = record {
   front : l.rest ≡ take (length l.rest) l.text;

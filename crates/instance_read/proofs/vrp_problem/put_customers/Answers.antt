@@ -1,7 +1,7 @@
 -- The next node is a customer within its limits, and its number is free.
 use Rattle.std.proofs.Common.{◌≡◌, ◌+◌, ◌-◌, ◌∙◌, ap, subst, arith}
 use Rattle.plan_types.specs.Instance.{Instance, with_request}
-use Rattle.instance_read.specs.VrpWalk.{customers_in}
+use Rattle.instance_read.specs.DraftLines.{customers_in}
 use Rattle.instance_read.proofs.CustomerLemmas.{customer_free, customer_put, customer_valid}
 use Rattle.instance_read.proofs.vrp_problem.put_customers.Goals as goal
 

@@ -1,4 +1,4 @@
--- All are customers, numbered on, where those so far and those left are.
+-- If the requests so far and the remaining ones are customers with consecutive numbers, all requests are.
 use Rattle.std.proofs.Common.{sym, ◌∙◌, arith}
 use Rattle.instance_text.proofs.WriteLemmas.{customers_fail, customers_pass}
 use Rattle.instance_text.proofs.formats.are_customers.Goals as goal

@@ -1,4 +1,4 @@
--- All are customers where those left are, from the number behind the index on.
+-- All requests are customers if the remaining ones are, with numbers from the index plus 1 on.
 use Rattle.std.proofs.Common.{◌≡◌, ◌+◌, drop}
 use Rattle.instance_text.specs.Formats.{are_customers}
 use Rattle.instance_text.proofs.formats.are_customers.Given as goal

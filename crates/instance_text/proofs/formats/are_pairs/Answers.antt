@@ -1,4 +1,4 @@
--- All are pairs where those so far and those left are.
+-- If the requests so far and the remaining ones are pairs, all requests are.
 use Rattle.std.proofs.Common.{sym, ◌∙◌}
 use Rattle.instance_text.specs.Formats.{is_pair}
 use Rattle.instance_text.proofs.WriteLemmas.{all_fails, all_passes}

@@ -1,4 +1,4 @@
--- All are pairs where those left are.
+-- All requests are pairs if the remaining ones are.
 use Rattle.std.proofs.Common.{◌≡◌, drop}
 use Rattle.std.specs.List.{list_all}
 use Rattle.instance_text.specs.Formats.{is_pair}

@@ -1,4 +1,4 @@
--- A text that is written spells the problem of which it was written.
+-- A text that is written spells the problem from which it was written.
 use Rattle.instance_text.proofs.ReadBack.{texts_are_read_back}
 use Rattle.instance_text.proofs.laws.texts_are_read_back.Goals as goal
 

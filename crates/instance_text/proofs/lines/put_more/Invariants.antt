@@ -1,4 +1,4 @@
--- The text so far, and that of the numbers to come.
+-- The text so far, followed by that of the remaining numbers, is the whole text.
 use Rattle.std.proofs.Common.{◌≡◌, ◌++◌, ◌∷◌, drop}
 use Rattle.std.specs.Fmt.{signed_decimal}
 use Rattle.std.specs.List.{flat_map}

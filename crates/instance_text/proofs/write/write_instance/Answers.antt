@@ -1,4 +1,4 @@
--- The text spells the problem, as it is read back.
+-- The text reads back as the problem, with the differences that `read_by` defines.
 use Rattle.std.proofs.Common.{sym, subst, ◌∙◌}
 use Rattle.instance_read.specs.Readings.{SpellsInstance}
 use Rattle.instance_text.specs.ReadBack.{as_read}

@@ -1,4 +1,4 @@
--- Head, both sections and the end, one behind the other, are the text.
+-- The text consists of the head, both sections and the end, in this order.
 use Rattle.std.proofs.Common.{◌∙◌, ◌++◌, ap}
 use Rattle.instance_text.specs.Texts.{end_lines, head_lines, lines_text, section_lines}
 use Rattle.instance_text.specs.declared.lines.Heading.TheVariants.{Coordinates, Demands}

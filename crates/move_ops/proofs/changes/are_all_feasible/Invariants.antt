@@ -1,4 +1,5 @@
--- The routes left are all feasible alone exactly where all are, so the first that isn't answers for all, and so does the end.
+-- All remaining routes are feasible alone exactly when all routes are. So the first that isn't decides for all,
+-- and at the end all are.
 use Rattle.std.proofs.Common.{◌≡◌, drop}
 use Rattle.std.specs.List.{list_all}
 use Rattle.plan_audit.specs.Passes.{feasible_alone}

@@ -1,4 +1,4 @@
--- The log keeps its room while it gets shorter, so once it is empty it has as much as before.
+-- The log keeps its capacity while it gets shorter, so once it is empty it has as much as before.
 use Rattle.std.proofs.Common.{◌≡◌, length, vec_capacity}
 use Rattle.move_ops.proofs.draft.clear_log.Given as goal
 

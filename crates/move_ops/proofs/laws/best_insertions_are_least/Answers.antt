@@ -1,9 +1,10 @@
--- Costs are in order, so the best insertion is no worse than any, and there is none exactly where the request has no insertion.
+-- Costs are totally ordered, so the best insertion is no worse than any, and there is none exactly when the
+-- request has no insertion.
 use Rattle.move_ops.proofs.BestLemmas.{best_is_least}
 use Rattle.move_ops.proofs.laws.best_insertions_are_least.Goals as goal
 
 pub returns : goal.returns
 returns c =
-    best_is_least c.costs_are_in_order.ensures.total c.costs_are_in_order.ensures.transitive
-    c.costs_are_in_order.ensures.below_then_at_most c.costs_are_in_order.ensures.at_most_then_below
-    c.costs_are_in_order.ensures.below_is_at_most
+    best_is_least c.costs_are_totally_ordered.ensures.total c.costs_are_totally_ordered.ensures.transitive
+    c.costs_are_totally_ordered.ensures.below_then_at_most c.costs_are_totally_ordered.ensures.at_most_then_below
+    c.costs_are_totally_ordered.ensures.below_is_at_most

@@ -1,4 +1,5 @@
--- The stops left have their partners in the route exactly where all have, so the first without its partner answers, and so does the end.
+-- The remaining stops have their partners in the route exactly when all have. So the first without its partner
+-- decides, and at the end all have them.
 use Rattle.std.proofs.Common.{◌≡◌, true, drop}
 use Rattle.std.specs.List.{list_all}
 use Rattle.std.specs.Option.{option_map_or}

@@ -1,4 +1,5 @@
--- Among the stops left each pickup comes first exactly where it does among all, so the first delivery ahead of its pickup answers, and so does the end.
+-- Among the remaining stops each pickup comes first exactly when it does among all. So the first delivery ahead
+-- of its pickup decides, and at the end all pickups come first.
 use Rattle.std.proofs.Common.{◌≡◌, length}
 use Rattle.plan_audit.specs.Passes.{picks_up_first}
 use Rattle.move_ops.proofs.pairing.picks_up_first.Given as goal

@@ -2,7 +2,7 @@
 use Rattle.std.proofs.Common.{rules, ◌∙◌, ℕ, List, ap}
 use Rattle.plan_types.specs.Request.{request_name}
 use Rattle.move_ops.specs.Insertion.{best_insertion}
-use Rattle.move_ops.proofs.Putting.{named_request, named_so}
+use Rattle.move_ops.proofs.PlacementLemmas.{named_request, named_so}
 use Rattle.move_ops.proofs.plan_moves.best_insertion.Goals as goal
 
 pub best-requires-clause-request : goal.best-requires-clause-request

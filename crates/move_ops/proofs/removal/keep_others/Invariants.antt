@@ -1,4 +1,5 @@
--- The stops kept so far, and those to be kept of the ones left, are the stops of other requests of the whole route.
+-- The stops kept so far, followed by those to be kept of the remaining ones, are the stops of other requests in
+-- the whole route.
 use Rattle.std.proofs.Common.{◌≡◌, ◌++◌, not, filter, drop}
 use Rattle.move_ops.specs.Moves.{is_of_named}
 use Rattle.move_ops.proofs.removal.keep_others.Given as goal

@@ -1,4 +1,5 @@
--- A number whose rest has no mark is among the names exactly where it is among those left, so at the end it is none of them.
+-- A number whose remainder has no mark is among the names exactly when it is among the remaining ones, so at the
+-- end it is none of them.
 use Rattle.std.proofs.Common.{◌≡◌, length}
 use Rattle.move_ops.proofs.Marking.{AreMarked}
 use Rattle.move_ops.proofs.removal.marks_of.Given as goal

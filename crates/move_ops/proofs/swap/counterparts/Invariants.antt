@@ -1,4 +1,4 @@
--- The new stops so far, and the counterparts of the stops left, are the counterparts of the whole route.
+-- The new stops so far, and the counterparts of the remaining stops, are the counterparts of the whole route.
 use Rattle.std.proofs.Common.{◌≡◌, ◌++◌, map, drop}
 use Rattle.move_ops.specs.Moves.{counterpart}
 use Rattle.move_ops.proofs.swap.counterparts.Given as goal

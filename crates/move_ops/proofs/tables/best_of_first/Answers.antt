@@ -1,15 +1,15 @@
--- The vehicle of one entry more is looked at, or has no stops and is none of those that are asked first.
+-- The vehicle of one more entry is searched, or has no stops and need not be searched.
 use Rattle.std.proofs.Common.{rules, ◌-◌, ◌+◌, [], length, get_or, sym, subst, arith}
-use Rattle.slack_tables.specs.Course.{route_of}
-use Rattle.move_ops.specs.Choosing.{IsBestAmongThese, IsLookable, IsLookedAt, IsNamed}
-use Rattle.move_ops.specs.Insertion.{of_vehicle}
+use Rattle.slack_tables.specs.Course.{course_route}
+use Rattle.move_ops.specs.Choosing.{IsBestAmongThese, IsScannable, IsScanned, IsEntryWithStops}
+use Rattle.move_ops.specs.Insertion.{route_of}
 use Rattle.move_ops.specs.Tables.{plan_of}
-use Rattle.move_ops.proofs.Asked.{entry_at, lookable, named_idle, named_more}
+use Rattle.move_ops.proofs.QueryLemmas.{entry_at, lookable, named_idle, named_more}
 use Rattle.move_ops.proofs.tables.best_of_first.Goals as goal
 use Rattle.move_ops.proofs.tables.best_of_first.Goals.{then-stop_count-ne0, else-stop_count-ne0}
 
-pub look_at-requires-clause-vehicle : goal.look_at-requires-clause-vehicle
-look_at-requires-clause-vehicle c =
+pub scan_vehicle-requires-clause-vehicle : goal.scan_vehicle-requires-clause-vehicle
+scan_vehicle-requires-clause-vehicle c =
     let tables = c.args.vehicles.now.tables.now in
     let first = c.args.vehicles.now.first.now in
     let number = c.from-number in
@@ -17,8 +17,8 @@ look_at-requires-clause-vehicle c =
     let e =
     entry_at (length tables) first c.loop-j.j c.index-first-j.result number.result c.requires.first
     (search rules) number.ensures in
-    subst (λ u. IsLookable c.args.terms.now.problem.now c.args.terms.now.pins.now c.args.request.now c.args.ways.now u table) (sym e.2)
-    (lookable c.insertion_laws.ensures c.requires.asked (number.result - 1) table c.index-tables-index.is e.3 c.args.ways.now c.requires.ways)
+    subst (λ u. IsScannable c.args.terms.now.problem.now c.args.terms.now.pins.now c.args.request.now c.args.ways.now u table) (sym e.2)
+    (lookable c.insertion_laws.ensures c.requires.asked (number.result - 1) table c.index-tables-index.is e.3 c.args.ways.now c.requires.distances)
 
 pub loop-j-preserved : goal.loop-j-preserved
 loop-j-preserved c =
@@ -34,14 +34,14 @@ loop-j-preserved c =
     record {
       best = elim c.if-stop_count-ne0.branch [
         | then-stop_count-ne0 w ↦ (
-            subst (IsBestAmongThese p pins routes r limit (IsNamed routes first (c.loop-j.j + 1))) (sym w.best-is)
+            subst (IsBestAmongThese p pins routes r limit (IsEntryWithStops routes first (c.loop-j.j + 1))) (sym w.best-is)
             (named_more c.insertion_laws.ensures c.requires.asked (v - 1) table c.index-tables-index.is e.3 first limit c.loop-j.j
             (get_or first c.loop-j.j c.index-first-j.result) e.0 e.1 (omega arith)
-            (omega arith) c.loop-j.best w.look_at.new.best c.loop-j.invariant.best
-            (subst (λ u. IsLookedAt p (route_of table) r
-            (length (of_vehicle pins u)) [] u limit c.loop-j.best w.look_at.new.best) e.2 w.look_at.ensures.looked)))
+            (omega arith) c.loop-j.best w.scan_vehicle.new.best c.loop-j.invariant.best
+            (subst (λ u. IsScanned p (course_route table) r
+            (length (route_of pins u)) [] u limit c.loop-j.best w.scan_vehicle.new.best) e.2 w.scan_vehicle.ensures.scanned)))
         | else-stop_count-ne0 w ↦ (
-            subst (IsBestAmongThese p pins routes r limit (IsNamed routes first (c.loop-j.j + 1))) (sym w.best-is)
+            subst (IsBestAmongThese p pins routes r limit (IsEntryWithStops routes first (c.loop-j.j + 1))) (sym w.best-is)
             (named_idle c.insertion_laws.ensures c.requires.asked (v - 1) table c.index-tables-index.is e.3 first limit c.loop-j.j
             (get_or first c.loop-j.j c.index-first-j.result) e.0 e.1 (omega arith) c.loop-j.best c.loop-j.invariant.best))
       ];
@@ -56,4 +56,4 @@ returns-clause-best c =
     let r = c.args.request.now in
     let first = c.args.vehicles.now.first.now in
     let limit = c.args.terms.now.limit.now in
-    subst (λ n. IsBestAmongThese p pins routes r limit (IsNamed routes first n) c.loop-j.best) (search rules) c.loop-j.invariant.best
+    subst (λ n. IsBestAmongThese p pins routes r limit (IsEntryWithStops routes first n) c.loop-j.best) (search rules) c.loop-j.invariant.best

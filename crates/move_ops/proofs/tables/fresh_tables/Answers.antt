@@ -1,8 +1,8 @@
--- A route of a plan that passes has live stops, each once, and keeps its limits, so a table can be built of it.
+-- A route of a plan that passes has current, distinct stops and keeps its limits, so a table can be built of it.
 use Rattle.std.proofs.Common.{rules, ◌≤◌, ◌-◌, ℕ, [], sym, subst, arith}
 use Rattle.std.proofs.lemmas.List.Elements.{All-get_or}
 use Rattle.plan_types.specs.Instance.{IsInstance}
-use Rattle.move_ops.proofs.Asked.{route_once, route_keeps}
+use Rattle.move_ops.proofs.QueryLemmas.{route_once, route_keeps}
 use Rattle.move_ops.proofs.Refreshing.{vehicle_at, fleet_of}
 use Rattle.move_ops.proofs.tables.fresh_tables.Goals as goal
 
@@ -15,10 +15,10 @@ build-requires-clause-route c =
     (All-get_or (λ (n : ℕ). (1 ≤ n) × (n ≤ p.fleet)) c.args.vehicles.now c.loop-vehicle.vehicle-index 0
     (omega arith) c.requires.vehicles) in
     let low = within.0 in
-    let fleet = fleet_of c.passes_are_local.ensures p [] c.args.routes.now c.requires.pass in
-    route_once c.passes_are_local.ensures c.plans_are_local.ensures c.tests_say_feasible.ensures p [] c.args.routes.now c.requires.pass
-    (v - 1) c.of_vehicle-route.result.now
-    (vehicle_at c.args.routes.now v c.of_vehicle-route.result.now low (omega arith) c.of_vehicle-route.ensures) (omega arith)
+    let fleet = fleet_of c.passing_is_local.ensures p [] c.args.routes.now c.requires.pass in
+    route_once c.passing_is_local.ensures c.plans_are_disjoint_routes.ensures c.feasible_alone_decides_feasibility.ensures p [] c.args.routes.now c.requires.pass
+    (v - 1) c.route_of-route.result.now
+    (vehicle_at c.args.routes.now v c.route_of-route.result.now low (omega arith) c.route_of-route.ensures) (omega arith)
 
 pub build-requires-clause-limits : goal.build-requires-clause-limits
 build-requires-clause-limits c =
@@ -30,7 +30,7 @@ build-requires-clause-limits c =
     (All-get_or (λ (n : ℕ). (1 ≤ n) × (n ≤ p.fleet)) c.args.vehicles.now c.loop-vehicle.vehicle-index 0
     (omega arith) c.requires.vehicles) in
     let low = within.0 in
-    let fleet = fleet_of c.passes_are_local.ensures p [] c.args.routes.now c.requires.pass in
-    route_keeps c.passes_are_local.ensures c.plans_are_local.ensures c.tests_say_feasible.ensures p [] c.args.routes.now c.requires.pass
-    (v - 1) c.of_vehicle-route.result.now
-    (vehicle_at c.args.routes.now v c.of_vehicle-route.result.now low (omega arith) c.of_vehicle-route.ensures) (omega arith) valid
+    let fleet = fleet_of c.passing_is_local.ensures p [] c.args.routes.now c.requires.pass in
+    route_keeps c.passing_is_local.ensures c.plans_are_disjoint_routes.ensures c.feasible_alone_decides_feasibility.ensures p [] c.args.routes.now c.requires.pass
+    (v - 1) c.route_of-route.result.now
+    (vehicle_at c.args.routes.now v c.route_of-route.result.now low (omega arith) c.route_of-route.ensures) (omega arith) valid

@@ -1,6 +1,6 @@
--- Where all tours are tables in a problem, so is each of them.
+-- If all tours are tables of a problem, so is each of them.
 use Rattle.std.proofs.Common.{◌-◌, arith}
-use Rattle.move_ops.proofs.Asked.{course_at}
+use Rattle.move_ops.proofs.QueryLemmas.{course_at}
 use Rattle.move_ops.proofs.tour.tour_of.Goals as goal
 
 pub returns : goal.returns

@@ -1,4 +1,5 @@
--- The tours left have the stop exactly where all have it, so the first tour that has it answers, and at the end none has it.
+-- The remaining tours have the stop exactly when all have it, so the first tour that has it decides, and at the
+-- end none has it.
 use Rattle.std.proofs.Common.{◌≡◌, drop}
 use Rattle.route_sched.specs.Cost.{has_stop}
 use Rattle.move_ops.specs.Tables.{plan_of}

@@ -1,4 +1,5 @@
--- In the only route a stop's partner is told just where it does not stand there.
+-- In a list that is checked as the only route, the partner of a stop is reported exactly if it is not in the
+-- list.
 use Rattle.std.proofs.Common.{[], ◌∷◌, rules}
 use Rattle.plan_audit.proofs.alone.missing_stop.Goals as goal
 

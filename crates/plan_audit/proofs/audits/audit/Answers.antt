@@ -1,20 +1,21 @@
--- A plan's verdict is that of its stops and drives, then that of its number of routes, then that of its pins; where all are kept it passes with its cost.
+-- The verdict on a plan is that on its stops, loads and times, then that on its number of routes, then that on
+-- its pins. If all rules hold, it passes with its cost.
 use Rattle.std.proofs.Common.{◌≡◌, ℕ, List, Option, length, sym, ap, subst, ◌∙◌, refl, arith}
 use Rattle.plan_types.specs.Instance.{Instance}
-use Rattle.plan_audit.specs.Finding.{first_off_pin}
+use Rattle.plan_audit.specs.FirstFault.{first_pin_mismatch}
 use Rattle.plan_audit.specs.declared.faults.Fault.{Fault}
-use Rattle.plan_audit.specs.Verdict.{planned, IsBrokenOver, IsVerdictOver}
+use Rattle.plan_audit.specs.Verdict.{planned, IsBrokenWithin, IsVerdictWithin}
 use Rattle.plan_audit.specs.declared.rules.Verdict.TheVariants.{Pass}
 use Rattle.plan_audit.proofs.StepLemmas.{length_step, pin_step, planned_step}
 use Rattle.plan_audit.proofs.VerdictLemmas.{broken_wider, broken_verdict}
 use Rattle.plan_audit.proofs.audits.audit.Goals as goal
 use Rattle.plan_audit.proofs.audits.audit.Goals.{In-Ok}
 
--- what the routes cost where no stop is wrong
-judged : (c : In-Ok) → IsVerdictOver 1 8 c.args.problem.now (planned c.args.plan.now.routes c.args.pins.now.routes) (Pass c.in-Ok.cost)
+-- the cost of the routes if rules 1 to 8 hold
+judged : (c : In-Ok) → IsVerdictWithin 1 8 c.args.problem.now (planned c.args.plan.now.routes c.args.pins.now.routes) (Pass c.in-Ok.cost)
 judged c =
     let s = planned c.args.plan.now.routes c.args.pins.now.routes in
-    subst (λ (p : Instance). IsVerdictOver 1 8 p s (Pass c.in-Ok.cost)) c.in_ok-scan.ensures.made.0
+    subst (λ (p : Instance). IsVerdictWithin 1 8 p s (Pass c.in-Ok.cost)) c.in_ok-scan.ensures.made.0
     (c.in-Ok.ensures.judged s (sym (c.in_ok-scan.ensures.made.1 ∙ c.as_slice-routes.ensures)) refl)
 
 pub returns-in-Err : goal.returns-in-Err
@@ -23,17 +24,17 @@ returns-in-Err c =
     let s = planned c.args.plan.now.routes c.args.pins.now.routes in
     broken_verdict p s 1 11 c.in-Err.broken
     (broken_wider p s 1 8 11 c.in-Err.broken (omega arith)
-    (subst (λ (q : Instance). IsBrokenOver 1 8 q s c.in-Err.broken) c.in_ok-scan.ensures.made.0
+    (subst (λ (q : Instance). IsBrokenWithin 1 8 q s c.in-Err.broken) c.in_ok-scan.ensures.made.0
     (c.in-Err.ensures.judged s (sym (c.in_ok-scan.ensures.made.1 ∙ c.as_slice-routes.ensures)) refl)))
 
--- the plan's length and the fleet, of the plan and the problem as they are given
+-- the length of the plan is compared with the fleet of the given problem
 same_length : (fleet : ℕ) (routes given : List (List ℕ)) (p : Instance) → fleet ≡ p.fleet → routes ≡ given → length routes ≡ fleet → length given ≡ p.fleet
 same_length fleet routes given p same is len = sym (ap length is) ∙ len ∙ same
 
--- what is told of the pins, of the plan and the pins as they are given
-same_pins : (routes given pins named : List (List ℕ)) (o : Option Fault) → routes ≡ given → pins ≡ named → o ≡ first_off_pin routes pins
-    → first_off_pin given named ≡ o
-same_pins routes given pins named o is are told = ap (λ l. first_off_pin l named) (sym is) ∙ ap (first_off_pin routes) (sym are) ∙ sym told
+-- the fault of the pins is that of the given plan and pins
+same_pins : (routes given pins named : List (List ℕ)) (o : Option Fault) → routes ≡ given → pins ≡ named → o ≡ first_pin_mismatch routes pins
+    → first_pin_mismatch given named ≡ o
+same_pins routes given pins named o is are reported = ap (λ l. first_pin_mismatch l named) (sym is) ∙ ap (first_pin_mismatch routes) (sym are) ∙ sym reported
 
 pub returns-then-routes-problem : goal.returns-then-routes-problem
 returns-then-routes-problem c =
@@ -47,7 +48,7 @@ returns-in-Some c =
     (ap (λ (p : Instance). p.fleet) c.problem.view_is) c.as_slice-routes.ensures c.if-routes-problem.false)
     c.in-Some.fault _ c.broken_at.ensures
     (same_pins c.as_slice-routes.result.now c.args.plan.now.routes c.as_slice.result.now c.args.pins.now.routes _ c.as_slice-routes.ensures
-    c.as_slice.ensures c.in-Some.ensures.told)
+    c.as_slice.ensures c.in-Some.ensures.reported)
 
 pub returns : goal.returns
 returns c = (
@@ -55,6 +56,6 @@ returns c = (
       (same_length c.problem.inside.fleet c.as_slice-routes.result.now c.args.plan.now.routes c.args.problem.now
       (ap (λ (p : Instance). p.fleet) c.problem.view_is) c.as_slice-routes.ensures c.if-routes-problem.false)
       (same_pins c.as_slice-routes.result.now c.args.plan.now.routes c.as_slice.result.now c.args.pins.now.routes _ c.as_slice-routes.ensures c.as_slice.ensures
-      c.in_default.ensures.told),
+      c.in_default.ensures.reported),
   (judged (goal.at.returns c).In-Ok).1,
 )

@@ -1,22 +1,23 @@
--- A solution has the verdict of its routes; where they pass, its printed cost is wrong, or it is the distance driven and the solution passes.
+-- A solution has the verdict of its routes. If they pass, either its printed cost is wrong or the solution
+-- passes.
 use Rattle.std.proofs.Common.{sym, ap, subst, ◌∙◌}
 use Rattle.plan_types.specs.declared.plans.Cost.{Cost}
-use Rattle.plan_audit.specs.Verdict.{printed, IsVerdictOver}
+use Rattle.plan_audit.specs.Verdict.{printed, IsVerdictWithin}
 use Rattle.plan_audit.specs.declared.rules.Verdict.TheVariants.{Pass}
 use Rattle.plan_audit.proofs.RoutesLemmas.{still_broken}
 use Rattle.plan_audit.proofs.StepLemmas.{cost_step, true_cost_step}
 use Rattle.plan_audit.proofs.audits.audit_solution.Goals as goal
 use Rattle.plan_audit.proofs.audits.audit_solution.Goals.{In_ok-broken, In-Pass}
 
--- the verdict on the routes, of the solution as it is given
-judged : (c : In_ok-broken) → IsVerdictOver 1 10 c.args.problem.now (printed c.args.solution.now.routes c.args.solution.now.cost) c.in_ok-broken.broken
+-- the verdict on the routes is that on the given solution
+judged : (c : In_ok-broken) → IsVerdictWithin 1 10 c.args.problem.now (printed c.args.solution.now.routes c.args.solution.now.cost) c.in_ok-broken.broken
 judged c =
-    subst (λ routes. IsVerdictOver 1 10 c.args.problem.now (printed routes c.args.solution.now.cost) c.in_ok-broken.broken) c.as_slice.ensures
+    subst (λ routes. IsVerdictWithin 1 10 c.args.problem.now (printed routes c.args.solution.now.cost) c.in_ok-broken.broken) c.as_slice.ensures
     (c.in_ok-broken.ensures c.args.solution.now.cost)
 
-passed : (c : In-Pass) → IsVerdictOver 1 10 c.args.problem.now (printed c.args.solution.now.routes c.args.solution.now.cost) (Pass c.in-Pass.cost)
+passed : (c : In-Pass) → IsVerdictWithin 1 10 c.args.problem.now (printed c.args.solution.now.routes c.args.solution.now.cost) (Pass c.in-Pass.cost)
 passed c =
-    subst (IsVerdictOver 1 10 c.args.problem.now (printed c.args.solution.now.routes c.args.solution.now.cost)) c.in-Pass.is
+    subst (IsVerdictWithin 1 10 c.args.problem.now (printed c.args.solution.now.routes c.args.solution.now.cost)) c.in-Pass.is
     (judged (goal.at.In-Pass c).In_ok-broken)
 
 pub returns-in_default : goal.returns-in_default

@@ -1,4 +1,4 @@
--- What is not sound is told as broken.
+-- An unsound plan or solution has the verdict `Broken`.
 use Rattle.plan_audit.proofs.LawProofs.{unsound_is_broken}
 use Rattle.plan_audit.proofs.laws.an_unsound_plan_does_not_pass.Goals as goal
 

@@ -1,4 +1,5 @@
--- A plan or a printed solution passes or breaks a least rule, and a list of live, distinct stops is feasible alone or breaks a least rule alone.
+-- A plan or a solution passes or has a first violation. A list of distinct current stops is feasible alone, or
+-- has a first rule that it breaks as the only route.
 use Rattle.plan_audit.proofs.TotalLemmas.{subjects_have_verdicts, routes_have_answers}
 use Rattle.plan_audit.proofs.laws.each_plan_has_a_verdict.Goals as goal
 

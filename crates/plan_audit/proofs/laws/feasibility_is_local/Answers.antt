@@ -1,4 +1,4 @@
--- Whether a route is feasible alone depends on no request of the problem but its own.
+-- Feasibility of a route alone depends only on the route's own requests.
 use Rattle.plan_audit.proofs.AgreeLemmas.{feasibility_is_local}
 use Rattle.plan_audit.proofs.laws.feasibility_is_local.Goals as goal
 

@@ -1,4 +1,4 @@
--- The routes of what passes are a plan, and each of them has live stops, each once.
+-- The routes of a plan or solution that passes are a plan, and each has distinct current stops.
 use Rattle.plan_audit.proofs.LawProofs.{passes_are_plans}
 use Rattle.plan_audit.proofs.laws.routes_that_pass_are_a_plan.Goals as goal
 

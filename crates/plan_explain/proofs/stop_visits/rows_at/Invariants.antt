@@ -1,4 +1,4 @@
--- The rows so far.
+-- The rows so far are those of the visits so far.
 use Rattle.std.proofs.Common.{◌≡◌, map, take}
 use Rattle.plan_explain.specs.declared.stop_visits.StopVisit.{StopVisit}
 use Rattle.plan_explain.proofs.stop_visits.rows_at.Given as goal

@@ -1,15 +1,15 @@
--- The next visit, straight after the last one, is that of the next place, and there is one.
+-- The next visit is that of the next place, and there is one.
 use Rattle.std.proofs.Common.{◌∙◌, ◌∷◌, ◌++◌, [], arith, ap, sym, map}
 use Rattle.std.specs.List.{range_with_len}
 use Rattle.std.proofs.lemmas.List.FromFn.{map-range_with_len_more}
 use Rattle.plan_types.specs.Instance.{Instance}
 use Rattle.route_sched.specs.VisitsValue.{VisitsValue}
-use Rattle.route_sched.specs.Visiting.{visits_from}
+use Rattle.route_sched.specs.VisitList.{visits_from}
 use Rattle.route_sched.specs.declared.visits.Visit.{Visit}
-use Rattle.route_sched.proofs.LiveStops.{place-first}
+use Rattle.route_sched.proofs.KnownStops.{place-first}
 use Rattle.route_sched.proofs.Steps.{start-first}
 use Rattle.plan_audit.proofs.VisitLemmas.{visit_is, visits_left}
-use Rattle.plan_explain.specs.Tables.{stop_visit_behind}
+use Rattle.plan_explain.specs.Tables.{stop_visit_after}
 use Rattle.plan_explain.proofs.RowLemmas.{stop_visit_is, in_time, none_left}
 use Rattle.plan_explain.proofs.stop_visits.stop_visits_of.Goals as goal
 
@@ -41,8 +41,8 @@ loop-place-preserved c =
     record {
       stop_visits =
           c.in_ok-push.ensures.items ∙ ap (λ hs. hs ++ c.stop_visit.result ∷ []) is.stop_visits
-          ∙ ap (λ h. map (stop_visit_behind p route) (range_with_len 0 k) ++ h ∷ []) made
-          ∙ sym (map-range_with_len_more (stop_visit_behind p route) 0 k k (omega arith));
+          ∙ ap (λ h. map (stop_visit_after p route) (range_with_len 0 k) ++ h ∷ []) made
+          ∙ sym (map-range_with_len_more (stop_visit_after p route) 0 k k (omega arith));
       rest = visits_left p route k c.in-Some.visit _ _ (omega arith) is.rest c.in-Some.ensures.steps;
       stop = ap (λ (v : Visit). v.stop) met;
       begun = ap (λ (v : Visit). v.start) met;

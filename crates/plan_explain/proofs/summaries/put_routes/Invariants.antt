@@ -1,4 +1,4 @@
--- The text so far and the lines to come are the whole.
+-- The text so far, followed by that of the remaining lines, is the whole text.
 use Rattle.std.proofs.Common.{◌≡◌, ◌+◌, ◌++◌, drop}
 use Rattle.plan_explain.specs.Summaries.{route_lines}
 use Rattle.plan_explain.proofs.summaries.put_routes.Given as goal

@@ -1,4 +1,4 @@
--- The summaries of the routes so far.
+-- The list has the summaries of the routes so far.
 use Rattle.std.proofs.Common.{◌≡◌, map, take}
 use Rattle.plan_explain.specs.Summaries.{summary_of}
 use Rattle.plan_explain.proofs.summaries.summaries.Given as goal

@@ -1,7 +1,7 @@
--- What is waited at the next row is within the time, so the sum doesn't overflow.
+-- The waiting time up to the next row is at most the time at that row, so the sum doesn't overflow.
 use Rattle.std.proofs.Common.{pos, arith}
 use Rattle.std.proofs.lemmas.List.Sums.{sum_by_more}
-use Rattle.plan_explain.specs.Summaries.{wait}
+use Rattle.plan_explain.specs.Summaries.{waiting_time}
 use Rattle.plan_explain.proofs.RowLemmas.{waits_on}
 use Rattle.plan_explain.specs.declared.rows.Row.{Row}
 use Rattle.plan_explain.proofs.summaries.waiting.Goals as goal
@@ -13,17 +13,17 @@ pub overflow_add-waiting : goal.overflow_add-waiting
 unfolding no_row
 overflow_add-waiting c =
     let on =
-    waits_on c.args.problem.now c.args.route.now c.args.rows.now c.loop-row.row-index no_row c.loop-row.waiting c.wait-waiting.result
-    c.requires c.loop-row-test.true c.loop-row.invariant.bound c.wait-waiting.ensures.value in
-    omega (arith, on.0, on.1, c.wait-waiting.ensures.fits)
+    waits_on c.args.problem.now c.args.route.now c.args.rows.now c.loop-row.row-index no_row c.loop-row.waiting c.waiting_time-waiting.result
+    c.requires c.loop-row-test.true c.loop-row.invariant.bound c.waiting_time-waiting.ensures.value in
+    omega (arith, on.0, on.1, c.waiting_time-waiting.ensures.fits)
 
 pub loop-row-preserved : goal.loop-row-preserved
 unfolding no_row
 loop-row-preserved c =
     let on =
-    waits_on c.args.problem.now c.args.route.now c.args.rows.now c.loop-row.row-index no_row c.loop-row.waiting c.wait-waiting.result
-    c.requires c.loop-row-test.true c.loop-row.invariant.bound c.wait-waiting.ensures.value in
+    waits_on c.args.problem.now c.args.route.now c.args.rows.now c.loop-row.row-index no_row c.loop-row.waiting c.waiting_time-waiting.result
+    c.requires c.loop-row-test.true c.loop-row.invariant.bound c.waiting_time-waiting.ensures.value in
     record {
-      sum = omega (arith, sum_by_more wait c.args.rows.now c.loop-row.row-index no_row c.loop-row-test.true, c.loop-row.invariant.sum, c.wait-waiting.ensures.value);
+      sum = omega (arith, sum_by_more waiting_time c.args.rows.now c.loop-row.row-index no_row c.loop-row-test.true, c.loop-row.invariant.sum, c.waiting_time-waiting.ensures.value);
       bound = on.0;
     }

@@ -1,4 +1,4 @@
--- The text so far and that of the rows to come are the whole.
+-- The text so far, followed by that of the remaining rows, is the whole text.
 use Rattle.std.proofs.Common.{◌≡◌, ◌++◌, drop}
 use Rattle.std.specs.List.{flat_map}
 use Rattle.plan_explain.specs.Tables.{row_text}

@@ -1,4 +1,4 @@
--- The text so far and that of the places to come are the whole.
+-- The text so far, followed by that of the remaining places, is the whole text.
 use Rattle.std.proofs.Common.{◌≡◌, ◌+◌, ◌++◌, drop}
 use Rattle.plan_explain.specs.Tables.{stop_rows}
 use Rattle.plan_explain.proofs.tables.put_stop_rows.Given as goal

@@ -1,4 +1,4 @@
--- The zeros left of a step between ticks get fewer.
+-- Each call leaves one zero less for the tick step, so the recursion ends.
 use Rattle.plan_picture.proofs.days.+tick_step.Given as goal
 
 abbrev pub decreases-tick_step : goal.decreases-tick_step

@@ -1,4 +1,4 @@
--- The latest so far, with the routes to come, is the latest of all.
+-- The latest time so far, or a later one in the remaining routes, is the latest of all.
 use Rattle.std.proofs.Common.{◌≡◌, drop}
 use Rattle.plan_picture.specs.Days.{horizon}
 use Rattle.plan_picture.proofs.days.horizon.Given as goal

@@ -1,6 +1,6 @@
--- The starts to come are at first those of all visits.
+-- At first, the starts to come are those of all visits.
 use Rattle.std.proofs.Common.{◌∙◌, ap}
-use Rattle.route_sched.proofs.Visited.{all_visits}
+use Rattle.route_sched.proofs.VisitLemmas.{all_visits}
 use Rattle.plan_picture.specs.Days.{last_start}
 use Rattle.plan_picture.proofs.days.last_start.Goals as goal
 

@@ -1,8 +1,8 @@
--- The latest so far, with the starts to come, is the latest of all.
+-- The latest time so far, or a later one among the remaining starts, is the latest of all.
 use Rattle.std.proofs.Common.{◌≡◌}
-use Rattle.route_sched.specs.Visiting.{visits_from}
+use Rattle.route_sched.specs.VisitList.{visits_from}
 use Rattle.plan_picture.specs.Days.{last_start}
-use Rattle.plan_picture.specs.Known.{visits_of}
+use Rattle.plan_picture.specs.DrawnStops.{visits_of}
 use Rattle.plan_picture.proofs.days.last_start.Given as goal
 
 abbrev pub invariant-loop-visit : goal.invariant-loop-visit

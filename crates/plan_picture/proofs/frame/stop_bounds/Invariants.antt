@@ -1,4 +1,4 @@
--- The bounds so far, widened by the stops to come, are those of all.
+-- The bounds so far, extended by the remaining stops, are the bounds of all stops.
 use Rattle.std.proofs.Common.{◌≡◌, fold, drop}
 use Rattle.plan_picture.specs.Frame.{bounds_at, widened}
 use Rattle.plan_picture.proofs.frame.stop_bounds.Given as goal

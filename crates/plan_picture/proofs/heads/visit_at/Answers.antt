@@ -1,17 +1,17 @@
--- The visit at a place is the one behind so many before it.
+-- The visit at a place, counted from 1, is the item before that index of the list of visits.
 use Rattle.std.proofs.Common.{◌≡◌, ◌∙◌, ℕ, zero, suc, ◌-◌, ◌<◌, List, ap, sym, arith, slice_get}
 use Rattle.std.specs.Option.{option_map}
 use Rattle.std.proofs.lemmas.Iterator.Adapters.{option_map_id}
 use Rattle.std.proofs.lemmas.Iterator.Consumers.{nth_from_yields_List, YieldsList-from_first}
 use Rattle.route_sched.specs.VisitsValue.{VisitsValue}
-use Rattle.route_sched.specs.Visiting.{visits_from}
+use Rattle.route_sched.specs.VisitList.{visits_from}
 use Rattle.plan_audit.specs.Rules.{item_at}
 use Rattle.plan_picture.proofs.heads.visit_at.Goals as goal
 
--- the item at a place is that of the place before, counted from 0
-item_behind : {X : Type 0} (xs : List X) (n : ℕ) → 0 < n → item_at xs n ≡ slice_get xs (n - 1)
-item_behind xs zero some = absurd (omega arith)
-item_behind xs (suc k) some = ap (slice_get xs) (let e : k ≡ suc k - 1 = omega arith in e)
+-- the item at a place is the item at the index before it, counted from 0
+item_before : {X : Type 0} (xs : List X) (n : ℕ) → 0 < n → item_at xs n ≡ slice_get xs (n - 1)
+item_before xs zero some = absurd (omega arith)
+item_before xs (suc k) some = ap (slice_get xs) (let e : k ≡ suc k - 1 = omega arith in e)
 
 pub returns : goal.returns
 returns c =
@@ -20,4 +20,4 @@ returns c =
     nth_from_yields_List c.nth.result c.nth.new.self (c.args.place - 1) c.nth.ensures.ran
     (YieldsList-from_first (λ v. v) (λ v. visits_from v.problem v.route v.place) all (ap (λ (v : VisitsValue). visits_from v.problem v.route v.place) c.new.ensures))
     in
-    sym (option_map_id c.nth.result) ∙ (found ∙ sym (item_behind all c.args.place (omega (arith, c.if-place-eq0.false))))
+    sym (option_map_id c.nth.result) ∙ (found ∙ sym (item_before all c.args.place (omega (arith, c.if-place-eq0.false))))

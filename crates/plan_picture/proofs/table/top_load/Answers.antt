@@ -1,6 +1,6 @@
--- The loads to come are at first those of all visits.
+-- At first, the loads to come are those of all visits.
 use Rattle.std.proofs.Common.{◌∙◌, ap}
-use Rattle.route_sched.proofs.Visited.{all_visits}
+use Rattle.route_sched.proofs.VisitLemmas.{all_visits}
 use Rattle.plan_picture.specs.Table.{top_load}
 use Rattle.plan_picture.proofs.table.top_load.Goals as goal
 

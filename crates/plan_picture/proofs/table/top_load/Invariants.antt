@@ -1,8 +1,8 @@
--- The greatest load so far, with those to come, is the greatest of all.
+-- The greatest load so far, or a greater one among the remaining loads, is the greatest of all.
 use Rattle.std.proofs.Common.{◌≡◌, map, fold}
 use Rattle.std.specs.Int.{int_max}
-use Rattle.route_sched.specs.Visiting.{visits_from}
-use Rattle.plan_picture.specs.Known.{visits_of}
+use Rattle.route_sched.specs.VisitList.{visits_from}
+use Rattle.plan_picture.specs.DrawnStops.{visits_of}
 use Rattle.plan_picture.specs.Table.{top_load}
 use Rattle.plan_picture.proofs.table.top_load.Given as goal
 

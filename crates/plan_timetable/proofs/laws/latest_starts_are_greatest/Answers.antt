@@ -1,4 +1,4 @@
--- No start later than the latest one keeps the limits behind it.
+-- No start later than the latest one keeps the limits after it.
 use Rattle.plan_timetable.proofs.SlackLemmas as slack
 use Rattle.plan_timetable.proofs.laws.latest_starts_are_greatest.Goals as goal
 

@@ -1,6 +1,6 @@
--- The latest start is the lesser of the stop's own end and of what the places behind it allow.
+-- The latest start is the stop's own limit, or what the later places allow, whichever is less.
 use Rattle.std.proofs.Common.{◌∙◌, min, sym, ap, subst}
-use Rattle.slack_tables.specs.Latest.{IsLimitOfStarts}
+use Rattle.slack_tables.specs.Latest.{IsLatestStartLimit}
 use Rattle.plan_timetable.proofs.SlackLemmas.{limited, unlimited}
 use Rattle.plan_timetable.proofs.slack.latest_allowed.Goals as goal
 
@@ -9,13 +9,13 @@ returns-in-Some c =
     let p = c.args.problem.now in
     let route = c.args.route.now in
     let i = c.args.row.now.place in
-    let is = subst (IsLimitOfStarts p route i) c.in-Some.is (c.latest_start.ensures p route (sym c.requires.table.course)) in
-    c.min.ensures ∙ ap (λ here. min here c.in-Some.behind) (c.from-here.ensures ∙ c.requires.row.latest) ∙ limited p route c.requires.table.kind c.requires.table.limits i c.in-Some.behind is
+    let is = subst (IsLatestStartLimit p route i) c.in-Some.is (c.latest_start.ensures p route (sym c.requires.table.course)) in
+    c.min.ensures ∙ ap (λ here. min here c.in-Some.following) (c.from-here.ensures ∙ c.requires.row.latest) ∙ limited p route c.requires.table.kind c.requires.table.limits i c.in-Some.following is
 
 pub returns-in-None : goal.returns-in-None
 returns-in-None c =
     let p = c.args.problem.now in
     let route = c.args.route.now in
     let i = c.args.row.now.place in
-    let goes = subst (IsLimitOfStarts p route i) c.in-None.is (c.latest_start.ensures p route (sym c.requires.table.course)) in
+    let goes = subst (IsLatestStartLimit p route i) c.in-None.is (c.latest_start.ensures p route (sym c.requires.table.course)) in
     c.from-here.ensures ∙ c.requires.row.latest ∙ unlimited p route c.requires.table.kind c.requires.table.limits i goes

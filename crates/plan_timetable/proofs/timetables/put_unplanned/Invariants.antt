@@ -1,4 +1,4 @@
--- The text so far and that of the names to come.
+-- The text so far, followed by that of the remaining names, is the whole text.
 use Rattle.std.proofs.Common.{◌≡◌, ◌++◌, drop}
 use Rattle.std.specs.List.{flat_map}
 use Rattle.plan_timetable.specs.Timetable.{unplanned_block, unplanned_text}

@@ -1,4 +1,4 @@
--- The text so far and that of the vehicles to come.
+-- The text so far, followed by that of the remaining vehicles, is the whole text.
 use Rattle.std.proofs.Common.{◌≡◌, ◌+◌, ◌++◌, drop}
 use Rattle.plan_timetable.specs.Timetable.{blocks_from}
 use Rattle.plan_timetable.proofs.vehicles.put_blocks.Given as goal

@@ -1,4 +1,5 @@
--- A request whose numbers are free makes a problem of a problem: it is found at its numbers, and all else stays.
+-- Adding a request with free numbers keeps the problem valid; lookups of its numbers find the request, and all
+-- other lookups stay the same.
 use Rattle.plan_types.proofs.LawProofs.{put_gives_problem, put_is_found, put_keeps_others, put_by_name}
 use Rattle.plan_types.proofs.laws.put_adds_one_request.Goals as goal
 

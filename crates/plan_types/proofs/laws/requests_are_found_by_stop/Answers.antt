@@ -1,4 +1,4 @@
--- The request under a name is found at each of its numbers.
+-- A request that is stored under a name is found by lookups of each of its numbers.
 use Rattle.plan_types.proofs.LawProofs.{named_are_found}
 use Rattle.plan_types.proofs.laws.requests_are_found_by_stop.Goals as goal
 

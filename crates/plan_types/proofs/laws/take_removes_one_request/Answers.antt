@@ -1,4 +1,5 @@
--- A problem without one of its requests is a problem: nothing is found at the request's numbers, and all else stays.
+-- Removing a request keeps the problem valid; lookups of its numbers find nothing, and all other lookups stay
+-- the same.
 use Rattle.plan_types.proofs.LawProofs.{take_gives_problem, take_frees_numbers, take_keeps_others, take_by_name, take_of_none}
 use Rattle.plan_types.proofs.laws.take_removes_one_request.Goals as goal
 

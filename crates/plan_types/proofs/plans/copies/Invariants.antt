@@ -1,4 +1,4 @@
--- The copies so far are those of the routes so far, so behind the last route they are those of all.
+-- The copies so far equal the routes so far, so after the last route they equal all routes.
 use Rattle.std.proofs.Common.{◌≡◌, take}
 use Rattle.plan_types.proofs.plans.copies.Given as goal
 

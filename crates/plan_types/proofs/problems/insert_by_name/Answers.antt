@@ -1,4 +1,5 @@
--- A request with a new name goes last where all names are lesser, else behind the last lesser name and before the first greater one.
+-- A request with a new name goes last if all names are smaller, otherwise between the last smaller and the
+-- first greater name.
 use Rattle.std.proofs.Common.{sym, ◌∙◌, ◌≡◌, None, subst, nat_eq, ℕ}
 use Rattle.std.specs.Map.{lookup}
 use Rattle.plan_types.proofs.InsertLemmas.{inserted_before, inserted_last, with_entry-at}
@@ -8,7 +9,7 @@ pub returns-clause-ok : goal.returns-clause-ok
 returns-clause-ok c =
     let es = c.args.requests.now.entries in
     let named = c.name-name.ensures in
-    let place = c.place_of-place in
+    let place = c.insertion_place-place in
     let absent : lookup (nat_eq c.name-name.result) es ≡ None = subst (λ (n : ℕ). lookup (nat_eq n) es ≡ None) (sym named) c.requires.absent in
     c.in_ok-insert_before.ensures.entries
     ∙ inserted_before c.name-name.result c.args.request es place.result c.in_ok-insert_before.field-0.0 place.ensures.within absent

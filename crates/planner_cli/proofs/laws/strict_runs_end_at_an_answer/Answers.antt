@@ -1,6 +1,6 @@
--- A strict run is a serving that ends at such an answer.
+-- A strict run is a serving that ends at an answer that reports a failure.
 use Rattle.planner_cli.proofs.laws.strict_runs_end_at_an_answer.Goals as goal
 
 pub returns : goal.returns
 returns g c = λ old new is_strict given opened answered served why reader_failed writer_failed input reading ended strict whole known is.
-    c.nothing_is_done_behind_a_refusal.ensures reading old new input opened answered served why ((ended.serves input known).serves reading is) (ended.last strict whole)
+    c.nothing_is_done_after_a_refusal.ensures reading old new input opened answered served why ((ended.serves input known).serves reading is) (ended.last strict whole)

@@ -1,4 +1,4 @@
--- What `format` says of the device.
+-- The result is that of `format`.
 use Rattle.planner_cli.proofs.stores.format_device.Goals as goal
 
 pub returns-clause-formatted : goal.returns-clause-formatted

@@ -1,6 +1,6 @@
--- Served to its end.
+-- The case that the input was served to its end.
 use Rattle.std.proofs.Common.{◌∙◌, true≢false, refl, sym}
-use Rattle.planner_cli.proofs.TellLemmas.{unless_stopped}
+use Rattle.planner_cli.proofs.MessageLemmas.{unless_stopped}
 use Rattle.planner_cli.proofs.stores.serve_input.Goals as goal
 
 pub returns : goal.returns

@@ -1,4 +1,4 @@
--- A new store stands for the state that it was made of, whatever a stop leaves, and opens with it.
+-- Every crash image of a new store recovers to the state that it was created from, and the store opens with it.
 use Rattle.recover.proofs.StepLemmas.{held_new}
 use Rattle.recover.proofs.laws.a_new_store_opens_with_its_state.Goals as goal
 

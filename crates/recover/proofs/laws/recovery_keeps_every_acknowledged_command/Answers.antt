@@ -1,6 +1,6 @@
--- Recovery gives the state after a first part of the commands that holds all acknowledged ones.
+-- Recovery returns the state after a prefix of the commands. The prefix has all acknowledged ones.
 use Rattle.recover.proofs.Headlines.{headline}
 use Rattle.recover.proofs.laws.recovery_keeps_every_acknowledged_command.Goals as goal
 
 pub returns : goal.returns
-returns g c = headline c.effects_keep_facts.ensures.many c.plans_never_cost_more.ensures c.tests_say_pass.ensures g.D.Sectors g.E.Sectors
+returns g c = headline c.commands_keep_invariants.ensures.many c.plans_never_cost_more.ensures c.passes_decides_the_verdict.ensures g.D.Sectors g.E.Sectors

@@ -1,8 +1,8 @@
--- The state, with the journal's commands repeated on it, is what the image stands for.
+-- The image recovers to the loaded state with the journal's commands replayed on it.
 use Rattle.std.proofs.Common.{rules, ℕ, sym, subst}
 use Rattle.checkpoint.specs.declared.places.Place.{Place}
-use Rattle.recover.specs.Repeating.{IsRepeated}
-use Rattle.recover.proofs.Replays.{repeated}
+use Rattle.recover.specs.Replaying.{IsReplayedImage}
+use Rattle.recover.proofs.Replays.{replay_records}
 use Rattle.recover.proofs.opening.recover.Goals as goal
 
 pub returns-clause-recovered : goal.returns-clause-recovered
@@ -15,8 +15,8 @@ returns-clause-recovered g c = record {
       let loaded = c.in_ok-loaded.loaded in
       let found = c.in_ok-found.found in
       let is = c.in_ok-found.ensures.ok in
-      subst (λ (place : Place). IsRepeated c.args.version image found.state place found.replayed) (sym is.place)
-      (subst (λ (n : ℕ). IsRepeated c.args.version image found.state loaded.place n) (sym is.replayed)
-      (repeated c.args.version image loaded.state loaded.commands.items loaded.place
+      subst (λ (place : Place). IsReplayedImage c.args.version image found.state place found.replayed) (sym is.place)
+      (subst (λ (n : ℕ). IsReplayedImage c.args.version image found.state loaded.place n) (sym is.replayed)
+      (replay_records c.args.version image loaded.state loaded.commands.items loaded.place
       (c.in_ok-loaded.ensures.loaded.found honest) c.in_ok-loaded.ensures.loaded.standing.used is.accepted found.state is.leads));
 }

@@ -1,4 +1,4 @@
--- A session that was opened runs and is closed.
+-- Opening a session, executing the commands and closing it carries them out.
 use Rattle.recover.proofs.restarts.open_and_run.Goals as goal
 
 pub returns-in-Ok : goal.returns-in-Ok

@@ -1,4 +1,4 @@
--- A run and its close carry the commands out over the device.
+-- Executing the commands and closing the session carries them out on the device.
 use Rattle.recover.proofs.RoundLemmas.{carries_out}
 use Rattle.recover.proofs.restarts.run_and_close.Goals as goal
 

@@ -1,4 +1,4 @@
--- The restarts so far are what each did, to the opening that ends them or is refused.
+-- The restarts so far had these results. The next one continues the list, or ends it if it did not begin.
 use Rattle.std.proofs.Common.{rules, ◌≡◌, ◌+◌, ◌≤◌, List, [], ◌∷◌, ◌++◌, length, refl, sym, ap, subst, ◌∙◌, append_assoc, append-nil, length-append, arith}
 use Rattle.std.specs.Prelude.{Result, is_ok, if◌then◌else◌}
 use Rattle.std.specs.Vec.{vec_capacity}
@@ -75,5 +75,5 @@ returns-clause-restarts c = ends c
 
 pub returns-clause-joined : goal.returns-clause-joined
 returns-clause-joined c =
-    are_joined c.effects_keep_facts.ensures.many c.plans_never_cost_more.ensures c.tests_say_pass.ensures c.restarts_add_up.ensures c.args.device
+    are_joined c.commands_keep_invariants.ensures.many c.plans_never_cost_more.ensures c.passes_decides_the_verdict.ensures c.restarts_compose.ensures c.args.device
     c.args.restarts.items c.loop-restart.runs.items c.in_ok-session.session (ends c)

@@ -1,4 +1,4 @@
--- The restarts so far led to this device, and there is room for the runs of the others.
+-- The restarts so far led to this device, and there is room for the runs of the remaining ones.
 use Rattle.std.proofs.Common.{◌≡◌, ◌++◌, ◌+◌, ◌≤◌, length}
 use Rattle.std.specs.Vec.{vec_capacity}
 use Rattle.std.specs.Vec.Iter.{into_iter_items, into_iter_len}

@@ -1,4 +1,4 @@
--- A device in memory opens with what its image stands for, or is refused for a cause of that image.
+-- A device in memory opens with the state that its image recovers to, or is refused for a fault of that image.
 use Rattle.sector_disk.specs.MemDevice.{memory}
 use Rattle.sector_disk.specs.Memory.{clock_of}
 use Rattle.recover.proofs.RoundLemmas.{counts_now}
@@ -15,7 +15,7 @@ returns-in-Ok-clause-opened c =
       replayed = (c.in-Ok.opened.replayed, said.replays tt);
     }
 
--- each image is one of this moment, and so one of those within the opening
+-- each image belongs to the present moment, and so to a moment of the opening
 pub returns-in-Err-clause-refused : goal.returns-in-Err-clause-refused
 returns-in-Err-clause-refused c =
     let said = c.in-Err.ensures in

@@ -1,4 +1,4 @@
--- The rounds so far are what each did, to the opening that ends them or is refused.
+-- The rounds so far had these results. The next one continues the list, or ends it if it did not begin.
 use Rattle.std.proofs.Common.{rules, ◌≡◌, ◌+◌, ◌≤◌, List, [], ◌∷◌, ◌++◌, length, refl, sym, ap, subst, ◌∙◌, append_assoc, append-nil, length-append, arith}
 use Rattle.std.specs.Prelude.{is_ok, if◌then◌else◌}
 use Rattle.std.specs.Vec.{vec_capacity}
@@ -67,5 +67,5 @@ returns-clause-rounds c = ends c
 
 pub returns-clause-fold : goal.returns-clause-fold
 returns-clause-fold c =
-    is_fold c.effects_keep_facts.ensures.many c.plans_never_cost_more.ensures c.searches_add_up.ensures.many c.annealings_add_up.ensures.many
-    c.tests_say_pass.ensures c.args.device c.args.rounds.items c.loop-round.runs.items c.in_ok-session.session (ends c)
+    is_fold c.commands_keep_invariants.ensures.many c.plans_never_cost_more.ensures c.searches_add_up.ensures.many c.annealings_add_up.ensures.many
+    c.passes_decides_the_verdict.ensures c.args.device c.args.rounds.items c.loop-round.runs.items c.in_ok-session.session (ends c)

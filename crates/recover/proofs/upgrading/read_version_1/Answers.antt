@@ -1,4 +1,4 @@
--- What was read is the state that the old store stands for.
+-- The state that was read is the one that the old store recovers to.
 use Rattle.std.proofs.Common.{rules}
 use Rattle.state_codec.specs.declared.version.Version.TheVariants.{One}
 use Rattle.recover.proofs.Openings.{stands}

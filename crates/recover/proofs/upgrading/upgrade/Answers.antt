@@ -1,4 +1,4 @@
--- The new store is made of the state that the old one stood for, and stands for it.
+-- The new store is created from the state that the old one recovers to, so it recovers to the same state.
 use Rattle.checkpoint.specs.Places.{first_place}
 use Rattle.recover.proofs.StepLemmas.{held_new}
 use Rattle.recover.proofs.Upgrades.{is_made}

@@ -1,4 +1,4 @@
--- A stop stands among all stops of a plan just where one of its routes has it.
+-- A stop is in the joined routes exactly if one of the routes has it.
 use Rattle.std.proofs.Common.{◌∙◌, sym, eqb, rules}
 use Rattle.std.specs.List.{list_any}
 use Rattle.std.proofs.lemmas.Iterator.{YieldsList-from_slice}

@@ -1,8 +1,8 @@
--- The stops of a plan are live, so their numbers are at most 40,000.
+-- The stops of a plan belong to current requests, so their numbers are at most 40,000.
 use Rattle.std.proofs.Common.{subst}
 use Rattle.plan_types.specs.Instance.{IsInstance}
 use Rattle.std.specs.List.{concat}
-use Rattle.route_sched.proofs.LiveStops.{live_numbers}
+use Rattle.route_sched.proofs.KnownStops.{live_numbers}
 use Rattle.route_sched.proofs.cost.plan_cost.Goals as goal
 
 pub returns-clause-numbers : goal.returns-clause-numbers

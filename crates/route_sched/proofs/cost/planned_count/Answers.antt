@@ -1,10 +1,10 @@
--- The requests that are counted at the stops of all routes, and the unplanned ones, are all requests.
+-- The requests counted at the stops of all routes, together with the unplanned ones, are all requests.
 use Rattle.std.proofs.Common.{◌≡◌, ◌+◌, ◌∙◌, [], get_or, take, ap, arith}
 use Rattle.std.specs.List.{concat}
 use Rattle.std.proofs.lemmas.List.{get_or_read, take_all}
-use Rattle.route_sched.specs.Counted.{counted_among}
-use Rattle.route_sched.proofs.LiveStops.{few_stops}
-use Rattle.route_sched.proofs.Counting.{counted_unplanned, counted_more, counted_le}
+use Rattle.route_sched.specs.RequestCount.{count_among}
+use Rattle.route_sched.proofs.KnownStops.{few_stops}
+use Rattle.route_sched.proofs.CountLemmas.{counted_unplanned, counted_more, counted_le}
 use Rattle.route_sched.proofs.Concats.{concat_more, part_of_routes, length-concat-take-le}
 use Rattle.route_sched.proofs.cost.planned_count.Goals as goal
 
@@ -27,7 +27,7 @@ loop-route-preserved c =
       counted_more c.args.problem.now all before (get_or c.args.routes.now c.loop-route.route-index []),
       c.loop-route.invariant,
       c.counted_in-planned.ensures
-          ∙ ap (λ r. counted_among c.args.problem.now (concat c.args.routes.now) r) route,
+          ∙ ap (λ r. count_among c.args.problem.now (concat c.args.routes.now) r) route,
     ))
 
 pub overflow_add-planned : goal.overflow_add-planned
@@ -44,5 +44,5 @@ overflow_add-planned c =
 pub returns : goal.returns
 returns c =
     let all = take_all c.loop-route.route-index c.args.routes.now c.loop-route-test.false in
-    let planned = c.loop-route.invariant ∙ ap (λ rs. counted_among c.args.problem.now (concat c.args.routes.now) (concat rs)) all in
+    let planned = c.loop-route.invariant ∙ ap (λ rs. count_among c.args.problem.now (concat c.args.routes.now) (concat rs)) all in
     omega (arith, planned, counted_unplanned c.args.problem.now c.args.routes.now c.requires.problem c.requires.plan.distinct)

@@ -1,8 +1,8 @@
--- The requests so far are those that are counted at the stops of the routes so far.
+-- The requests so far are those counted at the stops of the routes so far.
 use Rattle.std.proofs.Common.{◌≡◌, take}
 use Rattle.std.specs.List.{concat}
-use Rattle.route_sched.specs.Counted.{counted_among}
+use Rattle.route_sched.specs.RequestCount.{count_among}
 use Rattle.route_sched.proofs.cost.planned_count.Given as goal
 
 abbrev pub invariant-loop-route : goal.invariant-loop-route
-invariant-loop-route l = l.planned ≡ counted_among l.problem (concat l.routes) (concat (take l.route-index l.routes))
+invariant-loop-route l = l.planned ≡ count_among l.problem (concat l.routes) (concat (take l.route-index l.routes))

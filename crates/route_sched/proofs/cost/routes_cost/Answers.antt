@@ -1,9 +1,9 @@
--- The routes of a plan share no stop, so they have so few that the distance of all of them fits a `u64`.
+-- The routes of a plan share no stop. So they have few enough stops for the total distance to fit a `u64`.
 use Rattle.std.proofs.Common.{subst, arith}
 use Rattle.std.specs.List.{concat}
 use Rattle.plan_types.specs.Instance.{IsInstance}
 use Rattle.route_sched.proofs.Concats.{routes_of_plan}
-use Rattle.route_sched.proofs.LiveStops.{few_stops}
+use Rattle.route_sched.proofs.KnownStops.{few_stops}
 use Rattle.route_sched.proofs.cost.routes_cost.Goals as goal
 
 pub total_distance-requires : goal.total_distance-requires

@@ -1,4 +1,4 @@
--- A further route adds its length, which is at most 5,656,854 for each of its stops.
+-- Each route adds its length, which is at most 5,656,854 for each of its stops.
 use Rattle.std.proofs.Common.{◌≡◌, ◌∙◌, [], length, get_or, take, ap, arith}
 use Rattle.std.specs.List.{concat}
 use Rattle.std.proofs.lemmas.List.{get_or_read, length-append}

@@ -1,4 +1,5 @@
--- The total is how far the vehicles so far drive, at most 5,656,854 for each of their stops; with at most 2^64 for each route it fits.
+-- The total is the distance of the routes so far, at most 5,656,854 for each of their stops. The distance of
+-- one route is below 2^64, so the total fits a `u128`.
 use Rattle.std.proofs.Common.{◌≡◌, ◌≤◌, ◌*◌, ◌^◌, length, take}
 use Rattle.std.specs.List.{concat, sum_by}
 use Rattle.route_sched.specs.Schedule.{route_length}

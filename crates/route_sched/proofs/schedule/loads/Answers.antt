@@ -1,11 +1,11 @@
--- The loads of the visits along a route, but for the return's, are the loads of its schedule.
+-- The loads of the visits along a route, except for the return, are the loads of its schedule.
 use Rattle.std.proofs.Common.{◌∙◌, ap, rules, length}
 use Rattle.std.proofs.lemmas.Iterator.{YieldsList-from_map, YieldsList-from_take, items_from_collect}
 use Rattle.std.specs.Iterator.Adapters.{take_source, take_count}
 use Rattle.std.proofs.lemmas.Iterator.Consumers.{YieldsList-from_first}
-use Rattle.route_sched.specs.Visiting.{visits_from}
+use Rattle.route_sched.specs.VisitList.{visits_from}
 use Rattle.route_sched.specs.VisitsValue.{VisitsValue}
-use Rattle.route_sched.proofs.Visited.{all_visits, loads_among_visits}
+use Rattle.route_sched.proofs.VisitLemmas.{all_visits, loads_among_visits}
 use Rattle.route_sched.proofs.schedule.loads.Goals as goal
 
 pub returns : goal.returns

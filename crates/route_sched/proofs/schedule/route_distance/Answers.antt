@@ -1,7 +1,8 @@
--- With each leg the distance is that of the way to the next place; behind the last leg it is the route's length, at most 5,656,854 for each stop.
+-- With each leg, the sum is the distance up to the next place. After the last leg it is the route's length, at
+-- most 5,656,854 for each stop.
 use Rattle.std.proofs.Common.{rules, ◌≡◌, ◌∙◌, ◌+◌, ◌≤◌, length, sym, ap, subst, arith}
 use Rattle.plan_types.specs.Instance.{IsInstance}
-use Rattle.route_sched.proofs.LiveStops.{few_stops, place-first}
+use Rattle.route_sched.proofs.KnownStops.{few_stops, place-first}
 use Rattle.route_sched.proofs.Steps.{length_before, length_before-first, length_before-leg, route_length_is, route_length-empty, route_length_le}
 use Rattle.route_sched.proofs.schedule.route_distance.Goals as goal
 
@@ -19,7 +20,7 @@ loop-k-init c =
 pub loop-k-preserved : goal.loop-k-preserved
 loop-k-preserved c =
     let is = c.loop-k.invariant in
-    let next = c.stop_behind-stop.ensures in
+    let next = c.next_stop-stop.ensures in
     record {
       few = is.few;
       last = next.value;
@@ -36,7 +37,7 @@ returns-then-is_empty-clause-value c =
 pub returns-else-is_empty-2-clause-value : goal.returns-else-is_empty-2-clause-value
 returns-else-is_empty-2-clause-value c =
     let is = c.loop-k.invariant in
-    let next = c.stop_behind-stop.ensures in
+    let next = c.next_stop-stop.ensures in
     let end : c.loop-k.k ≡ length c.args.route.now = omega arith in
     length_before-leg c.args.problem.now c.args.route.now c.loop-k.k _ _ _ _ is.last next.value is.sum (c.from-distance.ensures ∙ c.dist.ensures.value)
     ∙ (ap (λ k. length_before c.args.problem.now c.args.route.now (k + 1)) end ∙ sym (route_length_is c.args.problem.now c.args.route.now))

@@ -1,4 +1,5 @@
--- The distance is that of the way up to this place, at most 2,828,427 for each leg, and the last stop is the one that stands here.
+-- The sum is the distance up to this place, at most 2,828,427 for each leg, and the last stop is the stop at
+-- this place.
 use Rattle.std.proofs.Common.{◌≡◌, ◌*◌, ◌≤◌, length}
 use Rattle.plan_types.specs.Limits.{IsVisit}
 use Rattle.route_sched.specs.Route.{place}

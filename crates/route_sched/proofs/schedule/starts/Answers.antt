@@ -1,10 +1,10 @@
--- The starts of the visits along a route, the return among them, are the starts of its schedule.
+-- The starts of the visits along a route, including the return, are the starts of its schedule.
 use Rattle.std.proofs.Common.{◌∙◌, rules}
 use Rattle.std.proofs.lemmas.Iterator.{YieldsList-from_map, items_from_collect}
 use Rattle.std.proofs.lemmas.Iterator.Consumers.{YieldsList-from_first}
-use Rattle.route_sched.specs.Visiting.{visits_from}
+use Rattle.route_sched.specs.VisitList.{visits_from}
 use Rattle.route_sched.specs.VisitsValue.{VisitsValue}
-use Rattle.route_sched.proofs.Visited.{all_visits, starts_among_visits}
+use Rattle.route_sched.proofs.VisitLemmas.{all_visits, starts_among_visits}
 use Rattle.route_sched.proofs.schedule.starts.Goals as goal
 
 pub returns : goal.returns

@@ -1,4 +1,4 @@
--- After a successful sync, and no write since, a stop leaves one image: the one that reads give.
+-- After a successful sync, if no write follows, a crash leaves one image: the one that reads return.
 use Rattle.sector_disk.proofs.LawProofs.{has_one_image}
 use Rattle.sector_disk.proofs.laws.one_image_after_a_sync.Goals as goal
 

@@ -1,9 +1,9 @@
--- Each sector so far has the content that was chosen for it, and the others are as they were.
+-- Each sector so far has its chosen content, and the others are unchanged.
 use Rattle.std.proofs.Common.{◌≡◌, ◌≤◌, ◌<◌, ℕ, map}
 use Rattle.std.specs.Prelude.{slice_index}
 use Rattle.std.specs.List.{filter_map}
 use Rattle.sector_disk.specs.Image.{sector}
-use Rattle.sector_disk.specs.Kept.{call_of}
+use Rattle.sector_disk.specs.Consistency.{call_of}
 use Rattle.sector_disk.specs.Crash.{content_of, chosen}
 use Rattle.sector_disk.proofs.mem_device.choose.Given as goal
 

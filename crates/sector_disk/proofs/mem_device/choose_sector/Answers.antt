@@ -1,10 +1,10 @@
--- The content with the chosen number is there, the sector has it then, and no other sector changes.
+-- The content with the chosen number exists. The call puts it into the sector, and changes no other sector.
 use Rattle.std.proofs.Common.{◌≡◌, ⊎_elim, ◌∙◌, ◌+◌, ◌*◌, ◌%◌, ◌<◌, ◌≤◌, ℕ, length, map, sym, ap, arith}
 use Rattle.std.specs.List.{filter_map}
 use Rattle.std.proofs.lemmas.List.{take_all}
 use Rattle.sector_disk.specs.Image.{sector, written}
 use Rattle.sector_disk.specs.ImageLaws.{sector-written_inside, sector-written_cases}
-use Rattle.sector_disk.specs.Kept.{call_of}
+use Rattle.sector_disk.specs.Consistency.{call_of}
 use Rattle.sector_disk.specs.Crash.{content_of}
 use Rattle.sector_disk.proofs.Contents.{chosen_later, chosen_there}
 use Rattle.sector_disk.proofs.Steps.{is_none}

@@ -1,7 +1,7 @@
--- A call that writes to the sector is one more that does, and another changes nothing.
+-- A call that writes to the sector adds one to the count, and any other call changes nothing.
 use Rattle.std.proofs.Common.{◌≡◌, ◌∙◌, get_or, ap, sym, arith}
 use Rattle.std.specs.Option.{option_copied}
-use Rattle.sector_disk.specs.Kept.{call_of}
+use Rattle.sector_disk.specs.Consistency.{call_of}
 use Rattle.sector_disk.specs.Crash.{content_of}
 use Rattle.sector_disk.specs.declared.mem_device.Call.{Call as Kept}
 use Rattle.sector_disk.proofs.Steps.{length-filter_more, one_content, no_content}

@@ -1,7 +1,7 @@
--- So many are counted as write to the sector, of the calls so far.
+-- The count is the number of calls so far that write to the sector.
 use Rattle.std.proofs.Common.{◌≡◌, ◌≤◌, length, map, take}
 use Rattle.std.specs.List.{filter_map}
-use Rattle.sector_disk.specs.Kept.{call_of}
+use Rattle.sector_disk.specs.Consistency.{call_of}
 use Rattle.sector_disk.specs.Crash.{content_of}
 use Rattle.sector_disk.proofs.mem_device.count_for.Given as goal
 

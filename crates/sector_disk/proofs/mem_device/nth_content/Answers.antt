@@ -1,9 +1,9 @@
--- Behind a call that writes to the sector one fewer is to be passed, and behind another as many.
+-- A call that writes to the sector leaves one fewer to skip; any other call leaves the number unchanged.
 use Rattle.std.proofs.Common.{◌≡◌, ◌∙◌, ◌+◌, ◌<◌, ℕ, List, Option, Some, None, map, drop, get_or, ap, sym, arith}
 use Rattle.std.specs.Prelude.{slice_get}
 use Rattle.std.specs.Option.{option_copied}
 use Rattle.std.specs.List.{filter_map, cons_option}
-use Rattle.sector_disk.specs.Kept.{call_of}
+use Rattle.sector_disk.specs.Consistency.{call_of}
 use Rattle.sector_disk.specs.Crash.{content_of}
 use Rattle.sector_disk.specs.declared.mem_device.Call.{Call as Kept}
 use Rattle.sector_disk.proofs.Steps.{filter_rest, slice_get_later, is_none}

@@ -1,8 +1,8 @@
--- The content that is sought is, of those of the calls to come, the one behind as many as are left.
+-- The content with the wanted number is among those of the remaining calls, after as many as are left to skip.
 use Rattle.std.proofs.Common.{◌≡◌, map, drop}
 use Rattle.std.specs.Prelude.{slice_get}
 use Rattle.std.specs.List.{filter_map}
-use Rattle.sector_disk.specs.Kept.{call_of}
+use Rattle.sector_disk.specs.Consistency.{call_of}
 use Rattle.sector_disk.specs.Crash.{content_of}
 use Rattle.sector_disk.proofs.mem_device.nth_content.Given as goal
 

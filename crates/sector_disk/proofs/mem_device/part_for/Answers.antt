@@ -1,4 +1,4 @@
--- Of a run that reaches a sector, the 512 bytes at its place are the sector's part.
+-- If a run reaches a sector, the 512 bytes at its place are the sector's part.
 use Rattle.std.proofs.Common.{◌≡◌, ◌+◌, ◌-◌, ◌*◌, ◌/◌, ◌<◌, ℕ, length, take, drop, Some, ap, sym, ◌∙◌, arith}
 use Rattle.sector_disk.proofs.Contents.{some_part}
 use Rattle.sector_disk.proofs.mem_device.part_for.Goals as goal

@@ -1,13 +1,14 @@
--- A finished write lies within the image, and reads give it then; another call changes nothing of what they give.
+-- A finished write lies within the image, and reads return it afterwards. Any other call does not change what
+-- reads return.
 use Rattle.std.proofs.Common.{◌≡◌, ◌∙◌, ℕ, List, length, map, take, get_or, subst, sym, ap, arith, IsTrue}
 use Rattle.std.specs.List.{flat_map}
 use Rattle.sector_disk.specs.Image.{written}
 use Rattle.sector_disk.specs.Model.{settled, run}
 use Rattle.sector_disk.specs.Memory.{fits, events_of}
 use Rattle.sector_disk.specs.MemoryLaws.{run_parts}
-use Rattle.sector_disk.specs.Kept.{call_of}
+use Rattle.sector_disk.specs.Consistency.{call_of}
 use Rattle.sector_disk.specs.declared.mem_device.Call.{Call as Kept}
-use Rattle.sector_disk.proofs.Keeps.{fits_at, seen_after}
+use Rattle.sector_disk.proofs.ConsistencySteps.{fits_at, seen_after}
 use Rattle.sector_disk.proofs.Steps.{seen_more, not_write}
 use Rattle.sector_disk.proofs.mem_device.replay.Goals as goal
 use Rattle.sector_disk.proofs.mem_device.replay.Goals.{in-Write, in_default}

@@ -1,8 +1,8 @@
--- A sync settles all calls so far, and a write is one more since the last sync.
+-- A sync settles all calls so far, and a write is one more call since the last sync.
 use Rattle.std.proofs.Common.{◌≡◌, ◌+◌, ◌∙◌, ℕ, List, [], map, take, drop, ap, sym, subst, arith, IsTrue, length-take}
 use Rattle.std.specs.List.{list_all}
 use Rattle.std.proofs.lemmas.List.{drop_all}
-use Rattle.sector_disk.specs.Kept.{call_of}
+use Rattle.sector_disk.specs.Consistency.{call_of}
 use Rattle.sector_disk.specs.Crash.{is_write, IsSettledBy}
 use Rattle.sector_disk.specs.declared.mem_device.Call.{Call as Kept}
 use Rattle.sector_disk.proofs.Steps.{settled_more, writes_more, not_sync}

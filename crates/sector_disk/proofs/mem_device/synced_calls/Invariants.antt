@@ -1,7 +1,7 @@
--- The calls up to the last sync so far are settled, and those since are writes.
+-- The calls up to the last sync so far leave one possible image, and all calls after it are writes.
 use Rattle.std.proofs.Common.{◌≤◌, map, take, drop, IsTrue}
 use Rattle.std.specs.List.{list_all}
-use Rattle.sector_disk.specs.Kept.{call_of}
+use Rattle.sector_disk.specs.Consistency.{call_of}
 use Rattle.sector_disk.specs.Crash.{is_write, IsSettledBy}
 use Rattle.sector_disk.proofs.mem_device.synced_calls.Given as goal
 

@@ -1,4 +1,5 @@
--- Each pick is below the count of the numbers left, so its index is that of one not drawn yet, which is put behind those drawn so far.
+-- Each pick is below the count of the remaining numbers, so its index is that of a number not drawn yet, which
+-- is appended.
 use Rattle.std.proofs.Common.{rules, ◌≡◌, ◌-◌, ◌<◌, ◌≤◌, ◌++◌, ◌∷◌, [], length, drop, slice_index, refl, ap}
 use Rattle.seeded_search.specs.Words.{pick}
 use Rattle.seeded_search.specs.Steps.{drawn}

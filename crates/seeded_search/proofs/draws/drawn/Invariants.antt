@@ -1,4 +1,5 @@
--- What is drawn so far, and what the words left draw of the numbers left, is all that is drawn.
+-- The numbers drawn so far, followed by those that the remaining words draw from the remaining numbers, are all
+-- numbers drawn.
 use Rattle.std.proofs.Common.{◌≡◌, ◌++◌, drop}
 use Rattle.seeded_search.specs.Steps.{drawn}
 use Rattle.seeded_search.specs.Draws.{left_of, AreTaken}

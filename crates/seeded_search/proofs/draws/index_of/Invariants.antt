@@ -1,4 +1,5 @@
--- The older indices left lead from the index so far to where all lead; those passed raised it by one each at most.
+-- The remaining older indices lead from the index so far to the final one; each index passed raised it by at
+-- most one.
 use Rattle.std.proofs.Common.{◌≡◌, ◌+◌, ◌≤◌, drop}
 use Rattle.seeded_search.specs.Draws.{index_of}
 use Rattle.seeded_search.proofs.draws.index_of.Given as goal

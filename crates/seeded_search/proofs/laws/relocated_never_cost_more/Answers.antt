@@ -1,5 +1,6 @@
--- A request can go back where it was, so a relocated plan costs no more than the one that it is made of.
-use Rattle.seeded_search.proofs.WalkLemmas.{relocated_never_cost_more}
+-- A request can go back to its old place, so a relocated plan costs no more than the plan from which it was
+-- made.
+use Rattle.seeded_search.proofs.SearchLemmas.{relocated_never_cost_more}
 use Rattle.seeded_search.proofs.laws.relocated_never_cost_more.Goals as goal
 
 pub returns : goal.returns

@@ -1,5 +1,5 @@
--- Some steps and then some more are as many steps at once.
-use Rattle.seeded_search.proofs.WalkLemmas.{steps_add_up}
+-- Some steps followed by more steps are as many steps in one run.
+use Rattle.seeded_search.proofs.SearchLemmas.{steps_add_up}
 use Rattle.seeded_search.proofs.laws.steps_add_up.Goals as goal
 
 pub returns : goal.returns

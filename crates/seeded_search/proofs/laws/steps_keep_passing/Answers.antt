@@ -1,5 +1,5 @@
--- From plans that pass each step leads to plans that pass, so any number of them does.
-use Rattle.seeded_search.proofs.WalkLemmas.{steps_keep_passing}
+-- Each step leads from plans that pass to plans that pass, so any number of steps does.
+use Rattle.seeded_search.proofs.SearchLemmas.{steps_keep_passing}
 use Rattle.seeded_search.proofs.laws.steps_keep_passing.Goals as goal
 
 pub returns : goal.returns

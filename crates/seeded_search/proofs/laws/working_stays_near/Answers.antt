@@ -1,6 +1,7 @@
--- What becomes the working plan is within the deviation of the incumbent, or is the new incumbent, so the working plan stays near it.
-use Rattle.seeded_search.proofs.WalkLemmas.{working_stays_near}
+-- The new working plan is within the deviation of the incumbent, or is the new incumbent. So the working plan
+-- stays near it.
+use Rattle.seeded_search.proofs.SearchLemmas.{working_stays_near}
 use Rattle.seeded_search.proofs.laws.working_stays_near.Goals as goal
 
 pub returns : goal.returns
-returns c = working_stays_near c.costs_are_in_order.ensures.below_is_at_most
+returns c = working_stays_near c.costs_are_totally_ordered.ensures.below_is_at_most

@@ -1,4 +1,4 @@
--- The next request's name is put behind those so far where the request is movable, and passed over where it is not.
+-- The next request's name is appended if the request is movable, and skipped if it is not.
 use Rattle.std.proofs.Common.{rules, ◌≡◌, ◌≤◌, length, ◌++◌, ◌∷◌, [], Some, None, sym, ◌∙◌}
 use Rattle.move_ops.specs.Moves.{is_movable}
 use Rattle.move_ops.specs.Drafts.{draft_of}

@@ -1,4 +1,5 @@
--- The names so far, and those of the movable requests left, are the names of all movable requests.
+-- The names collected so far, followed by those of the remaining movable requests, are the names of all movable
+-- requests.
 use Rattle.std.proofs.Common.{◌≡◌, ◌++◌, drop}
 use Rattle.move_ops.specs.Moves.{is_movable}
 use Rattle.move_ops.specs.Drafts.{draft_of}

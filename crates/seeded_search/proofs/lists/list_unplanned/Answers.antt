@@ -1,4 +1,4 @@
--- The next request's name is put behind those so far where the request is unplanned, and passed over where it is planned.
+-- The next request's name is appended if the request is unplanned, and skipped if it is planned.
 use Rattle.std.proofs.Common.{rules, ◌≡◌, ◌++◌, ◌∷◌, [], not, Some, None, sym, ◌∙◌}
 use Rattle.route_sched.specs.Cost.{is_planned}
 use Rattle.move_ops.specs.Drafts.{draft_of}

@@ -1,4 +1,5 @@
--- The names so far, and those of the unplanned requests left, are the names of all unplanned requests.
+-- The names collected so far, followed by those of the remaining unplanned requests, are the names of all
+-- unplanned requests.
 use Rattle.std.proofs.Common.{◌≡◌, ◌++◌, not, drop}
 use Rattle.route_sched.specs.Cost.{is_planned}
 use Rattle.move_ops.specs.Drafts.{draft_of}

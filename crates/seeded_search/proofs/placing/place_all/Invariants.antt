@@ -1,4 +1,4 @@
--- The requests left, put into the draft so far, make the plan with all of them.
+-- Inserting the remaining requests into the draft so far makes the plan with all of them.
 use Rattle.std.proofs.Common.{◌≡◌, drop}
 use Rattle.move_ops.specs.Drafts.{base_of, draft_of, IsDraftOf}
 use Rattle.seeded_search.specs.Steps.{placed_all}

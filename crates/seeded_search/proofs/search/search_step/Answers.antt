@@ -1,4 +1,4 @@
--- One step is the first of many.
+-- One step is a run of one step.
 use Rattle.seeded_search.specs.Steps.{steps}
 use Rattle.seeded_search.proofs.search.search_step.Goals as goal
 

@@ -1,4 +1,4 @@
--- Each word is the generator's at its place, so all are its next sixteen words.
+-- Each word is the one that the generator has at this place, so all of them are its next sixteen words.
 use Rattle.std.proofs.Common.{arith}
 use Rattle.rand_chacha.specs.ChaCha.{word_at}
 use Rattle.seeded_search.specs.Generator.{next_words}

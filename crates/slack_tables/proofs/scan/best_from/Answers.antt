@@ -1,4 +1,5 @@
--- What is best with the pickup at one more place is accepted; from a place past the pickup's latest time on no pair fits.
+-- The best insertion with the pickup at the next place is recorded. From a place past the pickup's latest time
+-- on no pair fits.
 use Rattle.std.proofs.Common.{w64, rules, arith, subst, ◌-◌, ◌≤◌, get_or}
 use mir.Val.{SFits}
 use Rattle.std.proofs.lemmas.Int.{to_z-of_z}
@@ -10,9 +11,9 @@ use Rattle.slack_tables.proofs.scan.best_from.Goals as goal
 
 pub loop-i-init : goal.loop-i-init
 loop-i-init c = record {
-  behind = omega arith;
-  to = c.least_leg_at-to.ensures.value;
-  bound = c.least_leg_at-to.ensures.bound;
+  following = omega arith;
+  to = c.leg_lower_bound-to.ensures.value;
+  bound = c.leg_lower_bound-to.ensures.bound;
   best = λ d.
       pairs-begin c.args.trip.now.limits c.args.places.now c.args.trip.now.pickup c.args.trip.now.delivery
       (c.args.first - 1) d _ c.args.first _ (let one = c.requires.from_one in omega arith) c.none_below-best.ensures;
@@ -23,11 +24,11 @@ loop-i-preserved c =
     let trip = c.args.trip.now in
     let places = c.args.places.now in
     let bound : SFits w64 c.loop-i.best.bound = search rules in
-    let behind = c.loop-i.invariant.behind in
+    let following = c.loop-i.invariant.following in
     record {
-      behind = omega arith;
-      to = λ d. subst (λ k. c.least_leg_at-from.result ≤ distance (get_or places k d).at.stop trip.pickup) (omega arith) (c.least_leg_at-from.ensures.value d);
-      bound = c.least_leg_at-from.ensures.bound;
+      following = omega arith;
+      to = λ d. subst (λ k. c.leg_lower_bound-from.result ≤ distance (get_or places k d).at.stop trip.pickup) (omega arith) (c.leg_lower_bound-from.ensures.value d);
+      bound = c.leg_lower_bound-from.ensures.bound;
       best = λ d.
           pair-more trip.limits places trip.pickup trip.delivery (c.args.first - 1) d _ c.loop-i.i c.loop-i.best
           (c.loop-i.invariant.best d) _ _ (omega arith)

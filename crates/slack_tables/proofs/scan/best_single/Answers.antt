@@ -1,4 +1,5 @@
--- What the single adds at one more place is offered, and behind the last place the best so far is the best of all.
+-- The distance that the single adds at the next place is offered. After the last place the best so far is the
+-- best of all.
 use Rattle.std.proofs.Common.{◌≡◌, ◌∙◌, ◌+◌, ◌-◌, ◌≤◌, w64, rules, get_or, arith, subst, ap}
 use mir.Val.{SFits}
 use Rattle.std.proofs.lemmas.Int.{to_z-of_z}
@@ -11,33 +12,33 @@ use Rattle.slack_tables.proofs.scan.best_single.Goals as goal
 
 pub loop-i-init : goal.loop-i-init
 loop-i-init c = record {
-  behind = omega arith;
+  following = omega arith;
   to = λ d.
       (let here : c.args.kept ≡ c.args.kept + 1 - 1 = omega arith in
-      subst (λ k. c.side_at-to.result ≤ distance (get_or c.args.places.now k d).at.stop c.args.stop.now) here
-      (c.side_at-to.ensures.value d));
-  bound = c.side_at-to.ensures.bound;
+      subst (λ k. c.leg_longer_side-to.result ≤ distance (get_or c.args.places.now k d).at.stop c.args.stop.now) here
+      (c.leg_longer_side-to.ensures.value d));
+  bound = c.leg_longer_side-to.ensures.bound;
   best = λ d. singles-begin c.args.limits c.args.places.now c.args.stop.now c.args.kept d _ _ c.none_below-best.ensures;
 }
 
 pub loop-i-preserved : goal.loop-i-preserved
 loop-i-preserved c =
-    let behind = c.loop-i.invariant.behind in
+    let following = c.loop-i.invariant.following in
     let bound : SFits w64 c.loop-i.best.bound = search rules in
     record {
-      behind = omega arith;
+      following = omega arith;
       to = λ d.
-          subst (λ k. c.side_at-from.result ≤ distance (get_or c.args.places.now k d).at.stop c.args.stop.now) (omega arith)
-          (c.side_at-from.ensures.value d);
-      bound = c.side_at-from.ensures.bound;
+          subst (λ k. c.leg_longer_side-from.result ≤ distance (get_or c.args.places.now k d).at.stop c.args.stop.now) (omega arith)
+          (c.leg_longer_side-from.ensures.value d);
+      bound = c.leg_longer_side-from.ensures.bound;
       best = λ d.
-          (let served = subst
+          (let price_if_feasible = subst
           (λ x. c.single_at-distance.result ≡ served_single x c.args.limits c.args.places.now c.args.stop.now c.loop-i.i d)
           (to_z-of_z w64 c.loop-i.best.bound bound) (c.single_at-distance.ensures d) in
           single-more c.args.limits c.args.places.now c.args.stop.now c.args.kept d _ c.loop-i.i c.loop-i.best
-          (c.loop-i.invariant.best d) behind (omega arith) c.offer.new.self
+          (c.loop-i.invariant.best d) following (omega arith) c.offer.new.self
           (offered-single c.args.limits c.args.places.now c.args.stop.now c.loop-i.i d c.loop-i.best c.offer.new.self
-          (c.offer.ensures ∙ ap (λ o. offered c.loop-i.best o c.loop-i.i c.loop-i.i) served)));
+          (c.offer.ensures ∙ ap (λ o. offered c.loop-i.best o c.loop-i.i c.loop-i.i) price_if_feasible)));
     }
 
 pub returns : goal.returns

@@ -1,12 +1,13 @@
--- A price from below that comes to the bound leaves nothing below it; else what serving the stop adds is what the single adds here.
+-- If a lower bound on the price reaches the bound, there is no price below it. Otherwise the distance that the
+-- stop adds is what the single adds here.
 use Rattle.std.proofs.Common.{◌≡◌, ◌∙◌, ◌-◌, ◌≤ℤ◌, w64, rules, get_or, arith, subst, ap}
 use mir.Val.{SFits}
 use Rattle.std.proofs.lemmas.Int.{ints, to_z-of_z}
 use Rattle.nint_dist.specs.Distance.{distance}
-use Rattle.slack_tables.specs.Ride.{ride_of, price, served_below}
+use Rattle.slack_tables.specs.Ride.{ride_of, price, price_below}
 use Rattle.slack_tables.specs.declared.progress.PlaceSlack.{PlaceSlack}
 use Rattle.slack_tables.specs.declared.ride.Ride.{Ride}
-use Rattle.slack_tables.proofs.DetourLemmas.{served-dear}
+use Rattle.slack_tables.proofs.DetourLemmas.{price_if_feasible-dear}
 use Rattle.slack_tables.proofs.scan.single_at.Goals as goal
 
 pub returns-then-price-below : goal.returns-then-price-below
@@ -21,7 +22,7 @@ returns-then-price-below c = λ d.
     let dear : c.args.below
     ≤ℤ price (ride_of (get_or places (c.args.i - 1) d).at) c.args.near.to c.args.near.from (get_or places c.args.i d) =
     omega (arith, ints) in
-    served-dear c.args.below c.args.limits (ride_of (get_or places (c.args.i - 1) d).at)
+    price_if_feasible-dear c.args.below c.args.limits (ride_of (get_or places (c.args.i - 1) d).at)
     (get_or places (c.args.i - 1) d).at.stop.service (distance (get_or places (c.args.i - 1) d).at.stop stop) stop
     (distance (get_or places c.args.i d).at.stop stop) (get_or places c.args.i d) c.args.near.to c.args.near.from (c.requires.near.to d)
     (c.requires.near.from d) dear)
@@ -37,12 +38,12 @@ returns-then-price-below-2 c = λ d.
     let before = ap (λ (e : PlaceSlack). e.at.distance) (c.small_row-before.ensures.place d) in
     let end = ap (λ (e : PlaceSlack). e.at.distance) (c.small_row-tail.ensures.place d) in
     let dear : c.args.below
-    ≤ℤ price (ride_of (get_or places (c.args.i - 1) d).at) c.least_leg_at.result c.least_leg_at-2.result (get_or places c.args.i d) =
+    ≤ℤ price (ride_of (get_or places (c.args.i - 1) d).at) c.leg_lower_bound.result c.leg_lower_bound-2.result (get_or places c.args.i d) =
     omega (arith, ints) in
-    served-dear c.args.below c.args.limits (ride_of (get_or places (c.args.i - 1) d).at)
+    price_if_feasible-dear c.args.below c.args.limits (ride_of (get_or places (c.args.i - 1) d).at)
     (get_or places (c.args.i - 1) d).at.stop.service (distance (get_or places (c.args.i - 1) d).at.stop stop) stop
-    (distance (get_or places c.args.i d).at.stop stop) (get_or places c.args.i d) c.least_leg_at.result c.least_leg_at-2.result
-    (c.least_leg_at.ensures.value d) (c.least_leg_at-2.ensures.value d) dear)
+    (distance (get_or places c.args.i d).at.stop stop) (get_or places c.args.i d) c.leg_lower_bound.result c.leg_lower_bound-2.result
+    (c.leg_lower_bound.ensures.value d) (c.leg_lower_bound-2.ensures.value d) dear)
 
 pub returns : goal.returns
 returns c = λ d.
@@ -52,22 +53,22 @@ returns c = λ d.
     let stop = c.args.stop.now in
     let below : SFits w64 c.args.below = record { sfits = c.ranges.below.sfits } in
     let raw =
-    subst (λ x. c.serve_below.result
-    ≡ served_below x c.args.limits c.ride_of-ride.result here.at.stop.service c.leg_at.result stop c.leg_at-2.result next)
-    (to_z-of_z w64 c.args.below below) c.serve_below.ensures in
-    let ride = ap (λ r. served_below c.args.below c.args.limits r here.at.stop.service c.leg_at.result stop c.leg_at-2.result next) c.ride_of-ride.ensures in
-    let to = ap (λ n. served_below c.args.below c.args.limits (ride_of here.at) here.at.stop.service n stop c.leg_at-2.result next)
+    subst (λ x. c.price_below.result
+    ≡ price_below x c.args.limits c.ride_of-ride.result here.at.stop.service c.leg_at.result stop c.leg_at-2.result next)
+    (to_z-of_z w64 c.args.below below) c.price_below.ensures in
+    let ride = ap (λ r. price_below c.args.below c.args.limits r here.at.stop.service c.leg_at.result stop c.leg_at-2.result next) c.ride_of-ride.ensures in
+    let to = ap (λ n. price_below c.args.below c.args.limits (ride_of here.at) here.at.stop.service n stop c.leg_at-2.result next)
     (c.leg_at.ensures.value d) in
     let from =
-    ap (λ n. served_below c.args.below c.args.limits (ride_of here.at) here.at.stop.service
+    ap (λ n. price_below c.args.below c.args.limits (ride_of here.at) here.at.stop.service
     (distance (get_or places (c.args.i - 1) d).at.stop stop) stop n next)
     (c.leg_at-2.ensures.value d) in
     let before =
-    ap (λ (e : PlaceSlack). served_below c.args.below c.args.limits (ride_of e.at) e.at.stop.service
+    ap (λ (e : PlaceSlack). price_below c.args.below c.args.limits (ride_of e.at) e.at.stop.service
     (distance (get_or places (c.args.i - 1) d).at.stop stop) stop (distance (get_or places c.args.i d).at.stop stop) next)
     (c.small_row-before.ensures.place d) in
     let tail =
-    ap (λ (e : PlaceSlack). served_below c.args.below c.args.limits (ride_of (get_or places (c.args.i - 1) d).at)
+    ap (λ (e : PlaceSlack). price_below c.args.below c.args.limits (ride_of (get_or places (c.args.i - 1) d).at)
     (get_or places (c.args.i - 1) d).at.stop.service (distance (get_or places (c.args.i - 1) d).at.stop stop) stop
     (distance (get_or places c.args.i d).at.stop stop) e)
     (c.small_row-tail.ensures.place d) in

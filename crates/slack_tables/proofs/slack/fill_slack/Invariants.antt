@@ -1,4 +1,5 @@
--- The places from k on tell what those behind them do, and those before are as they were; so once k is 0 all are filled.
+-- The places from k on follow from the next ones, and those before are unchanged. So once k is 0 all are
+-- filled.
 use Rattle.slack_tables.proofs.FillLemmas.{IsFilledFrom}
 use Rattle.slack_tables.proofs.slack.fill_slack.Given as goal
 

@@ -1,4 +1,4 @@
--- No way is shorter than either of its sides.
+-- A distance is at least each of its sides along the axes.
 use Rattle.std.proofs.Common.{◌≤◌, ◌*◌, ◌+◌, arith}
 use Rattle.slack_tables.proofs.SpanLemmas.{side-le}
 use Rattle.slack_tables.proofs.span.longer_side.Goals as goal

@@ -1,8 +1,9 @@
--- A route that was driven within its limits is in time from place to place, so the backward pass makes the table of its course.
+-- A route within its limits is in time from place to place, so the backward pass completes the table of its
+-- course.
 use Rattle.std.proofs.Common.{◌≡◌, ◌∙◌, ◌+◌, length, refl, sym, subst}
 use Rattle.plan_types.specs.Instance.{IsInstance}
-use Rattle.slack_tables.specs.Filled.{EachIsTimely, IsFilled}
-use Rattle.slack_tables.specs.Opened.{leaving, open_row}
+use Rattle.slack_tables.specs.BackwardPass.{EachIsTimely, IsFilled}
+use Rattle.slack_tables.specs.ForwardPass.{at_depot, forward_row}
 use Rattle.slack_tables.proofs.TableLemmas.{route_timely, course-is, known-as}
 use Rattle.slack_tables.proofs.table.fill.Goals as goal
 
@@ -29,5 +30,5 @@ returns-clause-made c = λ _.
     subst (λ q. IsFilled q.kind c.drive_route.new.places c.fill_slack.new.places) c.problem.view_is c.fill_slack.ensures in
     record {
       known = known-as p route valid kept old opened long new c.fill_slack.auto.places c.requires.few filled _ refl;
-      course = course-is p route valid kept old opened long new c.fill_slack.auto.places c.requires.few filled (open_row (leaving c.args.problem.now.depot));
+      course = course-is p route valid kept old opened long new c.fill_slack.auto.places c.requires.few filled (forward_row (at_depot c.args.problem.now.depot));
     })

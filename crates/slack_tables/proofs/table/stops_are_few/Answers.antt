@@ -1,7 +1,7 @@
--- Live and distinct stops of a valid problem are few.
+-- A list of distinct current stops of a valid problem has at most 40,001 of them.
 use Rattle.std.proofs.Common.{subst}
 use Rattle.plan_types.specs.Instance.{IsInstance}
-use Rattle.route_sched.proofs.LiveStops.{few_stops}
+use Rattle.route_sched.proofs.KnownStops.{few_stops}
 use Rattle.slack_tables.proofs.table.stops_are_few.Goals as goal
 
 pub returns : goal.returns

@@ -1,4 +1,4 @@
--- The customers so far, and those of the words to come, are those of all words.
+-- The customers so far, followed by those of the remaining words, are the customers of all words.
 use Rattle.std.proofs.Common.{◌≡◌, ◌++◌}
 use Rattle.std.specs.Option.{option_map}
 use Rattle.text_lines.specs.Words.{words_of}

@@ -1,4 +1,4 @@
--- A text begins with a key just where as many bytes at its front spell the key in any letter case.
+-- A text begins with a key exactly if its first bytes spell the key in any letter case.
 use Rattle.std.proofs.Common.{◌≡◌, ℕ, List, ◌++◌, map, take, drop, sym, ap, ◌∙◌}
 use Rattle.std.specs.Char.{to_ascii_lowercase}
 use Rattle.std.specs.Option.{option_copied}

@@ -1,4 +1,5 @@
--- A line's fault, or its cost, is that of all lines; a route goes behind those before it, and a blank line changes nothing.
+-- A line with a fault or a cost decides the result. The route of a route line is appended to the earlier
+-- routes, and a blank line changes nothing.
 use Rattle.std.proofs.Common.{◌+◌, ◌∙◌, Ok, sym, ap, inl, inr}
 use Rattle.std.proofs.lemmas.Result.{err_from_is_err_and}
 use Rattle.sol_text.specs.Reading.{reading, with_routes}

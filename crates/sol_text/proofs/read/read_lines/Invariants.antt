@@ -1,4 +1,5 @@
--- The routes so far, with what the lines to come say, are what all lines say; and no line has a number above the text's length.
+-- The routes so far, with the result of the remaining lines, are the result of all lines; and no line has a
+-- number above the text's length.
 use Rattle.std.proofs.Common.{◌≡◌, ◌+◌, ◌≤◌, length}
 use Rattle.text_lines.specs.Lines.{lines_of}
 use Rattle.sol_text.specs.Reading.{reading, with_routes}

@@ -1,4 +1,5 @@
--- The text so far, and that of the customers to come, is the old text and that of all customers.
+-- The text so far, followed by that of the remaining customers, is the old text followed by that of all
+-- customers.
 use Rattle.std.proofs.Common.{◌≡◌, ◌++◌, drop}
 use Rattle.sol_text.specs.Written.{customers_text}
 use Rattle.sol_text.proofs.write.write_customers.Given as goal

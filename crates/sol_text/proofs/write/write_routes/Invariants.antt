@@ -1,4 +1,5 @@
--- The text so far, and that of the used routes to come, is that of all used routes; their numbers rise by at most one for each route.
+-- The text so far, followed by that of the remaining nonempty routes, is the text of all nonempty routes. Their
+-- numbers grow by at most one per route.
 use Rattle.std.proofs.Common.{◌≡◌, ◌≤◌, ◌+◌, ◌++◌, drop}
 use Rattle.sol_text.specs.Written.{used_routes, routes_text}
 use Rattle.sol_text.proofs.write.write_routes.Given as goal

@@ -1,10 +1,10 @@
--- The text of a plan is read as its nonempty routes and the distance that they drive.
+-- The text of a plan reads back as its nonempty routes and their distance.
 use Rattle.std.proofs.Common.{◌≡◌, ◌∙◌, ◌<◌, ◌+◌, ◌^◌, ◌++◌, ◌∷◌, [], length, sym, ap, subst, arith}
 use Rattle.route_sched.specs.Cost.{total_length}
 use Rattle.sol_text.specs.Faults.{Spells}
 use Rattle.sol_text.specs.Written.{used_routes, cost_text, solution_text}
-use Rattle.sol_text.proofs.TextLemmas.{spells_from_told}
-use Rattle.sol_text.proofs.WrittenRead.{reads_back, used_small, length-solution_text}
+use Rattle.sol_text.proofs.TextLemmas.{spells_from_reported}
+use Rattle.sol_text.proofs.ReadBackLemmas.{reads_back, used_small, length-solution_text}
 use Rattle.sol_text.proofs.write.write_sol.Goals as goal
 
 pub returns-clause-spells : goal.returns-clause-spells
@@ -29,6 +29,6 @@ returns-clause-spells c =
     in
     let fits : total_length c.args.problem.now c.args.plan.now.routes < 2 ^ 64 = omega (arith, distance, c.plan_cost-cost.type_inv) in
     subst (λ t. Spells t (record { routes = used_routes c.args.plan.now.routes; cost = total_length c.args.problem.now c.args.plan.now.routes })) (sym text)
-    (spells_from_told _ _
-    (reads_back c.lines_follow.ensures.ended c.words_make_the_line.ensures c.decimals_are_read.ensures (used_routes c.args.plan.now.routes)
+    (spells_from_reported _ _
+    (reads_back c.lines_end_at_line_feeds.ensures.ended c.lines_split_into_words.ensures c.decimals_parse_back.ensures (used_routes c.args.plan.now.routes)
     (total_length c.args.problem.now c.args.plan.now.routes) few (used_small c.args.plan.now.routes c.plan_cost-cost.ensures.numbers) fits))

@@ -1,4 +1,4 @@
--- A further one that is read leads on, one that fails is told, and with the last one all are read.
+-- Reading one more item keeps the invariant. A fault is returned, and after the last item all are read
 use Rattle.std.proofs.lemmas.Result.{err_from_is_err_and}
 use Rattle.state_codec.specs.Reading.{times}
 use Rattle.state_codec.proofs.Loop.{goes_on, ends, is_done}

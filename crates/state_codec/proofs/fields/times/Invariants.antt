@@ -1,4 +1,4 @@
--- What was read so far, and what is left, are all.
+-- The items so far and the remaining ones make up the result
 use Rattle.std.proofs.Common.{◌≡◌, ◌-◌, ℕ, List}
 use Rattle.state_codec.specs.Fields.{Field}
 use Rattle.state_codec.specs.Reading.{ReadsMore, times}

@@ -1,4 +1,4 @@
--- A head that was read is within its limits.
+-- A head that was read is within its limits
 use Rattle.std.proofs.Common.{arith}
 use Rattle.state_codec.proofs.HeadLaws.{head_takes}
 use Rattle.state_codec.proofs.parts.job_at.Goals as goal

@@ -1,9 +1,9 @@
--- A sector that is a command's record is read as that command, and its record is the sector again.
+-- The record of a command is read as this command, and its record is the sector
 use Rattle.std.proofs.Common.{◌≡◌, ◌∙◌, sym, ap, true, List, ℕ, length, take, drop, arith, length-drop, Ok, Err, not}
 use Rattle.std.specs.Str.{bytes_eq}
 use Rattle.std.proofs.lemmas.Slice.Eq.{bytes_eq-Decides}
 use Rattle.std.proofs.lemmas.List.{take_all}
-use Rattle.command_core.specs.declared.commands.Command.{Command}
+use Rattle.command_types.specs.declared.commands.Command.{Command}
 use Rattle.state_codec.specs.declared.version.Version.{Version}
 use Rattle.state_codec.specs.declared.fault.CodecFault.{CodecFault}
 use Rattle.state_codec.specs.Bytes.{record_bytes}
@@ -12,7 +12,7 @@ use Rattle.state_codec.specs.Records.{command_at}
 use Rattle.state_codec.proofs.RecordLaws.{record_again}
 use Rattle.state_codec.proofs.records.decode.Goals as goal
 
--- what is read behind sequence and index
+-- The bytes after the sequence and the index are read as the command
 module _ (v : Version) (sector : List ℕ) (sequence index : ℕ) (c : Command) (is : IsRecorded v c) (e : sector ≡ record_bytes v sequence index c) (long : length sector ≡ 512) where
   whole : take 500 (drop 12 sector) ≡ drop 12 sector
   whole = take_all 500 (drop 12 sector) (omega (arith, length-drop 12 sector, long))

@@ -1,4 +1,4 @@
--- A pickup that was read has a demand within limits.
+-- A pickup that was read has a demand within its limits
 use Rattle.std.proofs.Common.{arith}
 use Rattle.state_codec.proofs.RequestLaws.{byte_takes, first_goods}
 use Rattle.state_codec.proofs.requests.request_at.Goals as goal

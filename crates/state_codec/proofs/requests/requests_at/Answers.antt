@@ -1,4 +1,4 @@
--- A further request has a new name and is put in behind the others; one that fails is told.
+-- One more request has a new name and is added after the others. A fault is returned
 use Rattle.std.proofs.Common.{◌≡◌, ◌<◌, ◌-◌, ◌++◌, ◌∷◌, [], Ok, refl, sym, ap, ◌∙◌, arith, subst}
 use Rattle.std.proofs.lemmas.Result.{err_from_is_err_and}
 use Rattle.plan_types.specs.Request.{request_name}

@@ -1,7 +1,7 @@
--- The requests so far, and those left, are all.
+-- The requests so far and the remaining ones make up the result
 use Rattle.std.proofs.Common.{◌≡◌, ◌-◌, []}
 use Rattle.state_codec.specs.Reading.{times, next_request}
-use Rattle.state_codec.specs.Filled.{IsFilledBelow}
+use Rattle.state_codec.specs.FilledProblem.{IsFilledBelow}
 use Rattle.state_codec.proofs.FieldLaws.{IsBytes}
 use Rattle.state_codec.proofs.requests.requests_at.Given as goal
 

@@ -1,4 +1,4 @@
--- What was read whole is judged: its fault is told, or it is the job of its parts.
+-- A state that was read completely is checked: its fault is returned, or it is the job of its parts
 use Rattle.std.proofs.Common.{◌∙◌, Ok, ap, arith}
 use Rattle.std.specs.Option.{option_map}
 use Rattle.std.proofs.lemmas.Result.{err_from_is_err_and}
@@ -6,24 +6,24 @@ use Rattle.state_codec.specs.Parts.{job_in}
 use Rattle.state_codec.proofs.DecodeLemmas.{within, by_fault, by_job, by_rule}
 use Rattle.state_codec.proofs.states.decode.Goals as goal
 
-pub judged-requires : goal.judged-requires
-judged-requires c = within c.args.version c.args.bytes.now (job_in c.in-Some.parts) (c.in_ok-whole_at.ensures ∙ ap (λ o. Ok (option_map job_in o)) c.in-Some.is)
+pub audited_job-requires : goal.audited_job-requires
+audited_job-requires c = within c.args.version c.args.bytes.now (job_in c.in-Some.parts) (c.in_ok-whole_state_at.ensures ∙ ap (λ o. Ok (option_map job_in o)) c.in-Some.is)
     (λ i. omega (arith, c.type_inv.bytes i))
 
-pub returns-in_err-whole_at : goal.returns-in_err-whole_at
-returns-in_err-whole_at c =
+pub returns-in_err-whole_state_at : goal.returns-in_err-whole_state_at
+returns-in_err-whole_state_at c =
     let p = err_from_is_err_and c.from_residual.result c.from_residual.ensures.1 in
-    rw (p.1, p.2) (by_fault c.args.version c.args.bytes.now c.in_err-whole_at.field-0.0 c.in_err-whole_at.ensures)
+    rw (p.1, p.2) (by_fault c.args.version c.args.bytes.now c.in_err-whole_state_at.field-0.0 c.in_err-whole_state_at.ensures)
 
 pub returns-in_err-job-in-Some : goal.returns-in_err-job-in-Some
 returns-in_err-job-in-Some c =
     let p = err_from_is_err_and c.from_residual-in_err-job-in-Some.result c.from_residual-in_err-job-in-Some.ensures.1 in
     rw (p.1, p.2) (by_rule c.args.version c.args.bytes.now (job_in c.in-Some.parts)
-    (c.in_ok-whole_at.ensures ∙ ap (λ o. Ok (option_map job_in o)) c.in-Some.is) c.in_err-job-in-Some.field-0.0 c.in_err-job-in-Some.ensures.err)
+    (c.in_ok-whole_state_at.ensures ∙ ap (λ o. Ok (option_map job_in o)) c.in-Some.is) c.in_err-job-in-Some.field-0.0 c.in_err-job-in-Some.ensures.err)
 
 pub returns-in-None : goal.returns-in-None
-returns-in-None c = c.in_ok-whole_at.ensures ∙ ap (λ o. Ok (option_map job_in o)) c.in-None.is
+returns-in-None c = c.in_ok-whole_state_at.ensures ∙ ap (λ o. Ok (option_map job_in o)) c.in-None.is
 
 pub returns-in_ok-job-in-Some : goal.returns-in_ok-job-in-Some
 returns-in_ok-job-in-Some c = by_job c.args.version c.args.bytes.now (job_in c.in-Some.parts)
-    (c.in_ok-whole_at.ensures ∙ ap (λ o. Ok (option_map job_in o)) c.in-Some.is) c.in_ok-job-in-Some.job c.in_ok-job-in-Some.ensures.ok
+    (c.in_ok-whole_state_at.ensures ∙ ap (λ o. Ok (option_map job_in o)) c.in-Some.is) c.in_ok-job-in-Some.job c.in_ok-job-in-Some.ensures.ok

@@ -1,4 +1,4 @@
--- What is written, and the requests left, are all.
+-- The requests written so far and the remaining ones make up the result
 use Rattle.std.proofs.Common.{◌≡◌, ◌++◌}
 use Rattle.state_codec.specs.declared.version.Version.TheVariants.{Two}
 use Rattle.state_codec.specs.Bytes.{requests_bytes}

@@ -1,4 +1,4 @@
--- The seven fields of a stop stand one behind the other.
+-- The seven fields of a stop follow each other
 use Rattle.state_codec.specs.Bytes.{number_bytes, signed_bytes}
 use Rattle.state_codec.proofs.WritingLemmas.{in_six}
 use Rattle.state_codec.proofs.writing.put_stop.Goals as goal

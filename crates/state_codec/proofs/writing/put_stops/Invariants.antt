@@ -1,4 +1,4 @@
--- The stops so far are written.
+-- The stops so far are written
 use Rattle.std.proofs.Common.{◌≡◌, ◌++◌, take}
 use Rattle.state_codec.specs.declared.version.Version.TheVariants.{Two}
 use Rattle.state_codec.specs.Bytes.{stops_bytes}

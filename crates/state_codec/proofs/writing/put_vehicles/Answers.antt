@@ -1,4 +1,4 @@
--- The next vehicle's pin and route stand behind those of the vehicles before.
+-- The next vehicle's pin and route follow those of the vehicles before
 use Rattle.std.proofs.Common.{[], arith}
 use Rattle.std.proofs.lemmas.List.{get_or_read}
 use Rattle.state_codec.proofs.WritingLemmas.{one_written}

@@ -1,4 +1,4 @@
--- The vehicles so far are written.
+-- The vehicles so far are written
 use Rattle.std.proofs.Common.{◌≡◌, ◌++◌, take}
 use Rattle.state_codec.specs.declared.version.Version.TheVariants.{Two}
 use Rattle.state_codec.specs.Bytes.{vehicles_bytes}

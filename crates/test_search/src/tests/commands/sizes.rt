@@ -2,14 +2,14 @@
 ghost use Rattle.std.specs.Prelude.{◌≡◌, true, IfOk};
 ghost use Rattle.plan_audit.specs.Passes.{passes};
 
-use super::{Step, after, load, loaded};
-use crate::tests::builders::{Given, grid, is_passing, one_route};
+use super::{TestCommand, after, load, loaded};
+use crate::tests::builders::{TestProblem, grid, is_passing, one_route};
 use command_core::{Job, Refusal, State, unplanned_names};
 use plan_types::{Pins, Plan, Problem};
 use std::alloc::Global;
 use std::test::Fail;
 
-// The job with another plan and working plan.
+// Returns the job with another plan and working plan.
 fn with_plans(job: Job, plan: Plan, work: Plan) -> Job
     requires plan { passes job.problem job.pins plan.routes ≡ true }
     requires work { passes job.problem job.pins work.routes ≡ true }
@@ -25,7 +25,7 @@ fn with_plans(job: Job, plan: Plan, work: Plan) -> Job
     Job::from_parts(problem, pins, plan, work, deviation, seed, steps)
 }
 
-// A copy of a plan that passes.
+// Returns a copy of a plan that passes.
 fn passing_copy(alloc: Global, problem: &Problem, pins: &Pins, plan: &Plan) -> Result<Plan, Fail>
     ensures plan { IfOk result (λ _. passes problem.now pins.now.routes plan.now.routes ≡ true) }
     ensures copy { IfOk result (λ copy. passes problem.now pins.now.routes copy.routes ≡ true) }
@@ -36,7 +36,7 @@ fn passing_copy(alloc: Global, problem: &Problem, pins: &Pins, plan: &Plan) -> R
     Ok(plan.copy()?)
 }
 
-// The job with this plan, where it passes.
+// Returns the job with this plan, if it passes.
 fn with_plan(alloc: Global, job: Job, plan: Plan) -> Result<State, Fail> {
     match passing_copy(alloc, &job.problem, &job.pins, &plan) {
         Ok(work) => Ok(State::Loaded(with_plans(job, plan, work))),
@@ -54,14 +54,14 @@ fn planned(alloc: Global, state: State, plan: Plan) -> Result<State, Fail> {
     }
 }
 
-// As many requests as there can be but one and as many vehicles, and one route of all stops.
+// Returns a state with one request less than possible, as many vehicles as possible, and one route of all stops.
 fn largest(alloc: Global) -> Result<State, Fail> {
     let plan = one_route(alloc, 39_999, 40_000)?;
     let problem = grid(alloc, 39_999, 1_000_000, 40_000)?;
     planned(alloc, load(alloc, problem)?, plan)
 }
 
-// How many requests there are, the next number, and the steps made; zeros before the first Load.
+// Returns the number of requests, the next number, and the number of steps made; zeros before the first `Load`.
 fn numbers(state: &State) -> (usize, u32, u64) {
     match state {
         State::Empty => (0, 0, 0),
@@ -73,7 +73,7 @@ fn numbers(state: &State) -> (usize, u32, u64) {
     }
 }
 
-// The names of the unplanned requests.
+// Returns the names of the unplanned requests.
 fn unplanned(alloc: Global, state: &State) -> Result<Vec<u32>, Fail> {
     match state {
         State::Empty => Ok(Vec::new(alloc)),
@@ -84,14 +84,14 @@ fn unplanned(alloc: Global, state: &State) -> Result<Vec<u32>, Fail> {
     }
 }
 
-const ON_THE_LARGEST: [Step; 4] = [
-    Step::Pin(1, 39_999),
-    Step::Unpin(1),
-    Step::AddOne,
-    Step::Withdraw(20_000),
+const COMMANDS_ON_THE_LARGEST: [TestCommand; 4] = [
+    TestCommand::Pin(1, 39_999),
+    TestCommand::Unpin(1),
+    TestCommand::AddOne,
+    TestCommand::Withdraw(20_000),
 ];
 
-// A second state like the largest.
+// Returns a copy of the largest state.
 fn copied(alloc: Global) -> Result<State, Fail> {
     let state = largest(alloc)?;
     let copy = state.copy();
@@ -99,9 +99,9 @@ fn copied(alloc: Global) -> Result<State, Fail> {
     Ok(copy?)
 }
 
-// Whether the commands on a copy of the largest state make what is wanted of it.
+// Returns whether the commands have the expected effect on a copy of the largest state.
 fn is_changed(alloc: Global) -> Result<bool, Fail> {
-    let state = after(alloc, copied(alloc)?, &ON_THE_LARGEST)?;
+    let state = after(alloc, copied(alloc)?, &COMMANDS_ON_THE_LARGEST)?;
     let numbers = numbers(&state);
     let names = unplanned(alloc, &state);
     drop(state);
@@ -115,10 +115,10 @@ fn of_forty_thousand_stops(rt: HostRuntime) -> Result<(), Fail> {
     Ok(())
 }
 
-// A state with a pinned plan.
+// Returns a state with a pinned plan.
 fn pinned(alloc: Global) -> Result<State, Fail> {
-    let begun = loaded(alloc, Given::Pairs)?;
-    after(alloc, begun, &[Step::Build, Step::Pin(1, 4)])
+    let begun = loaded(alloc, TestProblem::Pairs)?;
+    after(alloc, begun, &[TestCommand::Build, TestCommand::Pin(1, 4)])
 }
 
 fn shown(alloc: Global, state: &State) -> Result<String, Fail> {
@@ -132,7 +132,7 @@ fn shown_of_a_copy(alloc: Global, state: &State) -> Result<String, Fail> {
     shown
 }
 
-// Whether a copy of the state shows what the state does.
+// Returns whether a copy of the state prints like the state.
 fn is_copied(alloc: Global, state: &State) -> Result<bool, Fail> {
     let copied = shown_of_a_copy(alloc, state)?;
     Ok(copied.as_str() == shown(alloc, state)?.as_str())

@@ -1,11 +1,11 @@
-//! Where a request is put in best.
+//! The best insertion of a request.
 ghost use Rattle.std.specs.Prelude.{◌≡◌, true, false, IfOk, IsTrue};
 ghost use Rattle.std.specs.Option.{IsSomeAnd};
 ghost use Rattle.route_sched.specs.Cost.{is_planned};
 ghost use Rattle.plan_audit.specs.Passes.{passes};
 ghost use Rattle.move_ops.specs.Insertion.{request_named};
 
-use crate::tests::builders::{Case, FOUR, FOUR_BY_ONE, Given, case_of, case_of_one_route};
+use crate::tests::builders::{Case, FOUR, FOUR_BY_ONE, TestProblem, case_of, case_of_one_route};
 use move_ops::{Draft, Tables, best_insertion, plans_pass_without_pins, request_named};
 use plan_types::Kind;
 use std::alloc::Global;
@@ -13,19 +13,19 @@ use std::test::Fail;
 
 type Insertion = (u64, u64, u64);
 
-/// No insertion has this place.
-const NOT_ASKED: Insertion = (0, 0, 0);
+/// A place that no insertion has.
+const NO_INSERTION: Insertion = (0, 0, 0);
 
-// What `best_insertion` answers, and what the plan's tables do, if that is the same.
+// Returns the result of `best_insertion` if the plan's tables have the same one.
 fn best(alloc: Global, case: &Case, name: u32) -> Result<Option<Insertion>, Fail> {
     if !case.is_passing(alloc)? {
-        return Ok(Some(NOT_ASKED));
+        return Ok(Some(NO_INSERTION));
     }
     let answer = best_insertion(alloc, &case.problem, &case.pins, &case.plan, name)?;
     if answer == best_by_tables(alloc, case, name)? {
         return Ok(answer);
     }
-    Ok(Some(NOT_ASKED))
+    Ok(Some(NO_INSERTION))
 }
 
 fn best_by_tables(alloc: Global, case: &Case, name: u32) -> Result<Option<Insertion>, Fail>
@@ -39,7 +39,7 @@ fn best_by_tables(alloc: Global, case: &Case, name: u32) -> Result<Option<Insert
     Ok(None)
 }
 
-// Whether the name is of a live and unplanned request.
+// Returns whether the name belongs to a current, unplanned request.
 fn is_free(alloc: Global, case: &Case, name: u32) -> Result<bool, Fail>
     requires { passes case.now.problem case.now.pins.routes case.now.plan.routes ≡ true }
     ensures { IfOk result (λ b. IsTrue b → IsSomeAnd (request_named case.now.problem name)
@@ -54,20 +54,20 @@ fn is_free(alloc: Global, case: &Case, name: u32) -> Result<bool, Fail>
 
 /// A problem, pins, a plan, an unplanned request, and its best place.
 type Example = (
-    Given,
+    TestProblem,
     &'static [u32],
     &'static [u32],
     u32,
     Option<Insertion>,
 );
 
-const COUNTED: Given = Given::Opposite(Kind::LiLim);
+const COUNTED: TestProblem = TestProblem::Opposite(Kind::LiLim);
 
-const UNCOUNTED: Given = Given::Opposite(Kind::Vrp);
+const UNCOUNTED: TestProblem = TestProblem::Opposite(Kind::Vrp);
 
 const EXAMPLES: [Example; 11] = [
     (FOUR, &[], &[1, 0, 2, 0, 4, 0, 0], 3, Some((2, 1, 1))),
-    // Right behind a pin.
+    // Right after a pin.
     (
         FOUR,
         &[0, 2, 0, 0, 0],
@@ -80,17 +80,23 @@ const EXAMPLES: [Example; 11] = [
     (FOUR, &[], &[1, 0, 2, 0, 4, 0, 0], 5, None),
     // Vehicles that are full.
     (FOUR_BY_ONE, &[], &[1, 0, 2, 0, 4, 0, 0], 3, Some((4, 1, 1))),
-    (Given::Pairs, &[], &[1, 2, 0], 3, Some((1, 2, 3))),
-    // Right behind a pin.
-    (Given::Pairs, &[1, 2, 0], &[1, 2, 0], 3, Some((1, 3, 4))),
-    // A vehicle is opened only where none is counted.
+    (TestProblem::Pairs, &[], &[1, 2, 0], 3, Some((1, 2, 3))),
+    // Right after a pin.
+    (
+        TestProblem::Pairs,
+        &[1, 2, 0],
+        &[1, 2, 0],
+        3,
+        Some((1, 3, 4)),
+    ),
+    // An empty vehicle is used only if vehicles do not count.
     (COUNTED, &[], &[0, 1, 0, 0], 2, Some((2, 1, 1))),
     (UNCOUNTED, &[], &[0, 1, 0, 0], 2, Some((1, 1, 1))),
     (COUNTED, &[], &[1, 0, 0, 0], 2, Some((1, 1, 1))),
     (UNCOUNTED, &[], &[1, 0, 0, 0], 2, Some((2, 1, 1))),
 ];
 
-// Whether the example's place is the best.
+// Returns whether the place of the example is the best.
 fn is_best(alloc: Global, example: &Example) -> Result<bool, Fail> {
     let (given, pins, plan, name, place) = *example;
     let case = case_of(alloc, given, pins, plan)?;
@@ -107,10 +113,10 @@ fn best_places(rt: HostRuntime) -> Result<(), Fail> {
     Ok(())
 }
 
-// The best places of a request in one route of so many stops.
+// Returns the best places of a request in one route of this many stops.
 fn best_in_one_route(
     alloc: Global,
-    given: Given,
+    given: TestProblem,
     stops: u32,
     name: u32,
 ) -> Result<Option<Insertion>, Fail> {
@@ -122,15 +128,15 @@ fn best_in_one_route(
 
 #[test]
 fn a_place_in_the_largest_route(rt: HostRuntime) -> Result<(), Fail> {
-    // Between the last stops of the row before, (198, 198) and (199, 198).
-    let place = best_in_one_route(rt.alloc(), Given::Grid(40_000), 39_999, 40_000)?;
+    // Between the last stops of the previous row, (198, 198) and (199, 198).
+    let place = best_in_one_route(rt.alloc(), TestProblem::Grid(40_000), 39_999, 40_000)?;
     assert!(rt; place == Some((1, 39_800, 39_800)));
     Ok(())
 }
 
 #[test]
 fn the_places_of_a_pair_in_a_long_route(rt: HostRuntime) -> Result<(), Fail> {
-    let place = best_in_one_route(rt.alloc(), Given::PairsAtTheDepot, 130, 131)?;
+    let place = best_in_one_route(rt.alloc(), TestProblem::PairsAtTheDepot, 130, 131)?;
     assert!(rt; place == Some((1, 129, 130)));
     Ok(())
 }

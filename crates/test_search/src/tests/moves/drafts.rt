@@ -1,24 +1,24 @@
-//! A plan that is changed in its place.
+//! A draft: a plan that is changed in place.
 ghost use Rattle.std.specs.Prelude.{OnOk};
 ghost use Rattle.move_ops.specs.Drafts.{IsDraftOf};
 
-use crate::tests::builders::{Case, FOUR, Given, case_of, stops_of};
+use crate::tests::builders::{Case, FOUR, TestProblem, case_of, stops_of};
 use move_ops::Draft;
 use plan_types::{Kind, OutOfMemory, Pins, Problem};
 use std::alloc::Global;
 use std::test::Fail;
 
-/// What is done with a draft.
+/// An edit of a draft.
 #[derive(Clone, Copy)]
 enum Edit {
     Relocate(u32),
-    /// An unplanned request, where that adds less than so much and opens no vehicle.
+    /// The insertion of an unplanned request, if it adds less than this and uses no empty vehicle.
     PlaceBelow(u32, i64),
     Exchange(u32, u32),
     Cross(u64, u64, u64, u64),
 }
 
-// Whether the edit was made.
+// Makes the edit and returns whether it was possible.
 fn make(draft: &mut Draft, problem: &Problem, pins: &Pins, edit: Edit) -> Result<bool, OutOfMemory>
     requires { IsDraftOf problem.now pins.now.routes draft.old }
     ensures { OnOk result (IsDraftOf problem.now pins.now.routes draft.new) }
@@ -35,14 +35,14 @@ fn make(draft: &mut Draft, problem: &Problem, pins: &Pins, edit: Edit) -> Result
     }
 }
 
-// How far all would drive after the edit, where that is foreseen, else 0.
-fn foreseen(draft: &Draft, problem: &Problem, pins: &Pins, edit: Edit) -> u32
+// Returns the distance after the edit if it can be predicted, otherwise 0.
+fn predicted_distance(draft: &Draft, problem: &Problem, pins: &Pins, edit: Edit) -> u32
     requires { IsDraftOf problem.now pins.now.routes draft.now }
 {
     let cost = match edit {
         Edit::Relocate(_) | Edit::PlaceBelow(_, _) => None,
-        Edit::Exchange(a, b) => draft.cost_exchanged(problem, pins, a, b),
-        Edit::Cross(a, a_cut, b, b_cut) => { draft.cost_crossed(problem, pins, a, a_cut, b, b_cut) }
+        Edit::Exchange(a, b) => draft.exchange_cost(problem, pins, a, b),
+        Edit::Cross(a, a_cut, b, b_cut) => { draft.cross_cost(problem, pins, a, a_cut, b, b_cut) }
     };
     match cost {
         Some(cost) => cost.distance.min(1_000) as u32,
@@ -50,7 +50,7 @@ fn foreseen(draft: &Draft, problem: &Problem, pins: &Pins, edit: Edit) -> u32
     }
 }
 
-// The draft's routes after the edit, whether it was made, how far all drive then, and how far it was foreseen that they would.
+// Returns the draft's routes after the edit, whether it was made, the distance then, and the predicted distance.
 fn edited(
     alloc: Global,
     draft: &mut Draft,
@@ -60,11 +60,11 @@ fn edited(
 ) -> Result<Vec<u32>, Fail>
     requires { IsDraftOf problem.now pins.now.routes draft.old }
 {
-    let foreseen = foreseen(draft, problem, pins, made);
+    let predicted_distance = predicted_distance(draft, problem, pins, made);
     let is_made = make(draft, problem, pins, made)?;
     let distance = draft.cost(problem, pins).distance.min(1_000) as u32;
     let mut stops = stops_of_draft(alloc, draft)?;
-    stops.extend_from_slice(&[u32::from(is_made), distance, foreseen])?;
+    stops.extend_from_slice(&[u32::from(is_made), distance, predicted_distance])?;
     Ok(stops)
 }
 
@@ -72,11 +72,11 @@ fn stops_of_draft(alloc: Global, draft: &Draft) -> Result<Vec<u32>, Fail> {
     stops_of(alloc, &draft.plan(alloc)?.routes)
 }
 
-/// A problem, a plan, an edit, whether it is taken then, and what is told.
-type Example = (Given, &'static [u32], Edit, bool, &'static [u32]);
+/// A problem, a plan, an edit, whether it is then accepted, and the expected values.
+type Example = (TestProblem, &'static [u32], Edit, bool, &'static [u32]);
 
-/// Two customers 3 from one another, and between them, at the depot, a third.
-const DETOUR: Given = Given::Customers(10, 1, &[(1, 1, 1), (-1, -1, 1), (0, 0, 1)]);
+/// Two customers at a distance of 3, and a third between them, at the depot.
+const DETOUR: TestProblem = TestProblem::Customers(10, 1, &[(1, 1, 1), (-1, -1, 1), (0, 0, 1)]);
 
 const RELOCATIONS_AND_EXCHANGES: [Example; 8] = [
     (
@@ -100,7 +100,7 @@ const RELOCATIONS_AND_EXCHANGES: [Example; 8] = [
         false,
         &[1, 0, 2, 3, 0, 4, 0, 0, 0, 54, 0, 1, 0, 2, 3, 0, 4, 0, 0],
     ),
-    // 3 and 1 in one another's routes: 6 + 6, and 10 + 6 + 10.
+    // Stops 3 and 1 change places: 6 + 6, and 10 + 6 + 10.
     (
         FOUR,
         &[1, 0, 2, 3, 0, 4, 0, 0],
@@ -108,7 +108,7 @@ const RELOCATIONS_AND_EXCHANGES: [Example; 8] = [
         false,
         &[3, 0, 2, 1, 0, 4, 0, 0, 1, 48, 48, 1, 0, 2, 3, 0, 4, 0, 0],
     ),
-    // Within one route nothing is foreseen.
+    // Within one route nothing is predicted.
     (
         FOUR,
         &[1, 0, 2, 3, 0, 4, 0, 0],
@@ -117,22 +117,22 @@ const RELOCATIONS_AND_EXCHANGES: [Example; 8] = [
         &[1, 0, 3, 2, 0, 4, 0, 0, 1, 54, 0, 1, 0, 2, 3, 0, 4, 0, 0],
     ),
     (
-        Given::Pairs,
+        TestProblem::Pairs,
         &[1, 3, 4, 2, 0],
         Edit::Relocate(3),
         false,
         &[1, 3, 4, 2, 0, 1, 4, 0, 1, 3, 4, 2, 0],
     ),
-    // The direct way to stop 3 is too long.
+    // The direct leg to stop 3 is too long.
     (
-        Given::Pairs,
+        TestProblem::Pairs,
         &[1, 3, 4, 2, 0],
         Edit::Relocate(1),
         false,
         &[1, 3, 4, 2, 0, 0, 4, 0, 1, 3, 4, 2, 0],
     ),
     (
-        Given::Pairs,
+        TestProblem::Pairs,
         &[1, 3, 4, 2, 0],
         Edit::Exchange(1, 3),
         false,
@@ -155,7 +155,7 @@ const CROSSINGS: [Example; 4] = [
         true,
         &[1, 0, 0, 4, 2, 3, 0, 0, 1, 44, 44, 1, 0, 0, 4, 2, 3, 0, 0],
     ),
-    // A vehicle more, for 3: 10 + 10, and 6 + 6.
+    // One more vehicle serves stop 3: 10 + 10, and 6 + 6.
     (
         FOUR,
         &[1, 0, 2, 3, 0, 4, 0, 0],
@@ -163,7 +163,7 @@ const CROSSINGS: [Example; 4] = [
         false,
         &[1, 0, 2, 0, 4, 0, 3, 0, 1, 62, 62, 1, 0, 2, 3, 0, 4, 0, 0],
     ),
-    // A cut behind the end.
+    // A cut after the end.
     (
         FOUR,
         &[1, 0, 2, 3, 0, 4, 0, 0],
@@ -174,43 +174,44 @@ const CROSSINGS: [Example; 4] = [
 ];
 
 const PLACINGS: [Example; 8] = [
-    // In the used route 2 adds 1 + 3 + 1 - 2. A vehicle more would add 2, and is opened only where none is counted.
+    // In the used route, stop 2 adds 1 + 3 + 1 - 2. Another vehicle would add 2, and is used only if vehicles
+    // do not count.
     (
-        Given::Opposite(Kind::LiLim),
+        TestProblem::Opposite(Kind::LiLim),
         &[0, 1, 0, 0],
         Edit::PlaceBelow(2, 4),
         false,
         &[0, 2, 1, 0, 0, 1, 5, 0, 0, 1, 0, 0],
     ),
     (
-        Given::Opposite(Kind::LiLim),
+        TestProblem::Opposite(Kind::LiLim),
         &[0, 1, 0, 0],
         Edit::PlaceBelow(2, 3),
         false,
         &[0, 1, 0, 0, 0, 2, 0, 0, 1, 0, 0],
     ),
     (
-        Given::Opposite(Kind::LiLim),
+        TestProblem::Opposite(Kind::LiLim),
         &[0, 0, 0],
         Edit::PlaceBelow(2, 1_000),
         false,
         &[0, 0, 0, 0, 0, 0, 0, 0, 0],
     ),
     (
-        Given::Opposite(Kind::Vrp),
+        TestProblem::Opposite(Kind::Vrp),
         &[0, 1, 0, 0],
         Edit::PlaceBelow(2, 3),
         false,
         &[2, 0, 1, 0, 0, 1, 4, 0, 0, 1, 0, 0],
     ),
     (
-        Given::Opposite(Kind::Vrp),
+        TestProblem::Opposite(Kind::Vrp),
         &[0, 1, 0, 0],
         Edit::PlaceBelow(2, 2),
         false,
         &[0, 1, 0, 0, 0, 2, 0, 0, 1, 0, 0],
     ),
-    // Over the depot it is nearer: 1 + 1 in place of 3.
+    // A leg via the depot is shorter: 1 + 1 instead of 3.
     (
         DETOUR,
         &[1, 2, 0],
@@ -235,7 +236,8 @@ const PLACINGS: [Example; 8] = [
     ),
 ];
 
-// What the edit makes of a draft, and then its routes once it is dropped, perhaps after it was taken.
+// Makes the edit, accepts the draft if `is_taken` and otherwise discards it. Returns the values of the edit and
+// the routes at the end.
 fn left(
     alloc: Global,
     draft: &mut Draft,
@@ -248,15 +250,15 @@ fn left(
 {
     let mut stops = edited(alloc, draft, problem, pins, made)?;
     if is_taken {
-        draft.take();
+        draft.accept();
     }
-    draft.drop_draft();
+    draft.discard();
     stops.extend_from_slice(&stops_of_draft(alloc, draft)?)?;
     Ok(stops)
 }
 
-// The same of a draft of the plan.
-fn told(alloc: Global, case: &Case, made: Edit, is_taken: bool) -> Result<Vec<u32>, Fail> {
+// Builds a draft of the plan, makes the edit as `left` does, and returns its values.
+fn edit_result(alloc: Global, case: &Case, made: Edit, is_taken: bool) -> Result<Vec<u32>, Fail> {
     if !case.is_passing(alloc)? {
         return Ok(Vec::new(alloc));
     }
@@ -271,18 +273,18 @@ fn told(alloc: Global, case: &Case, made: Edit, is_taken: bool) -> Result<Vec<u3
     left
 }
 
-fn told_of(alloc: Global, example: &Example) -> Result<Vec<u32>, Fail> {
+fn edit_result_of(alloc: Global, example: &Example) -> Result<Vec<u32>, Fail> {
     let (given, plan, made, is_taken, _) = *example;
     let case = case_of(alloc, given, &[], plan)?;
-    let told = told(alloc, &case, made, is_taken);
+    let edit_result = edit_result(alloc, &case, made, is_taken);
     drop(case);
-    told
+    edit_result
 }
 
-// Whether each example's edit is told.
+// Returns whether each example has the expected values.
 fn are_edited(alloc: Global, examples: &[Example]) -> Result<bool, Fail> {
     for example in examples {
-        if told_of(alloc, example)?.as_slice() != example.4 {
+        if edit_result_of(alloc, example)?.as_slice() != example.4 {
             return Ok(false);
         }
     }

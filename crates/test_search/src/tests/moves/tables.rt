@@ -1,16 +1,17 @@
-//! The tables of a plan's routes, built anew where routes change.
+//! The tables of a plan's routes, rebuilt for the routes that change.
 ghost use Rattle.std.specs.Prelude.{◌≡◌, true, false, [], IsTrue};
 ghost use Rattle.plan_audit.specs.Passes.{has, passes};
-ghost use Rattle.move_ops.specs.Insertion.{of_vehicle};
+ghost use Rattle.move_ops.specs.Insertion.{route_of};
 ghost use Rattle.move_ops.specs.Tables.{AreVehicles, DifferOnlyAt};
 
-use crate::tests::builders::{FOUR, Given, case_of, is_passing, plan_of};
+use crate::tests::builders::{FOUR, TestProblem, case_of, is_passing, plan_of};
 use move_ops::{Tables, plans_pass_without_pins};
 use plan_types::{Pins, Plan, Problem, Route};
 use std::alloc::Global;
 use std::test::Fail;
 
-// Whether the tables of one plan, with those of these vehicles built anew, are the tables of another one.
+// Returns whether the tables of one plan, after those of these vehicles are rebuilt, are the tables of the other
+// plan.
 fn is_refreshed(
     alloc: Global,
     problem: &Problem,
@@ -51,14 +52,14 @@ fn refreshes(
     drop(tables);
     let shown = shown?;
     refreshed?;
-    Ok(shown == shown_anew(alloc, problem, after)?)
+    Ok(shown == rebuilt_text(alloc, problem, after)?)
 }
 
 fn shown(alloc: Global, tables: &Tables) -> Result<String, Fail> {
     Ok(format!(in alloc; "{tables:?}")?)
 }
 
-fn shown_anew(alloc: Global, problem: &Problem, plan: &Plan) -> Result<String, Fail>
+fn rebuilt_text(alloc: Global, problem: &Problem, plan: &Plan) -> Result<String, Fail>
     requires { passes problem.now [] plan.now.routes ≡ true }
 {
     let tables = Tables::build(alloc, problem, plan)?;
@@ -78,7 +79,7 @@ fn are_vehicles(problem: &Problem, vehicles: &[u32]) -> bool
     true
 }
 
-// Whether the plans have as many routes, and differ at these vehicles alone.
+// Returns whether the plans have the same number of routes, and differ only at these vehicles.
 fn differ_only_at(before: &Plan, after: &Plan, vehicles: &[u32]) -> bool
     ensures { IsTrue result → DifferOnlyAt vehicles.now before.now.routes after.now.routes }
 {
@@ -108,13 +109,13 @@ fn is_in(vehicles: &[u32], vehicle: u32) -> bool
 }
 
 fn is_same(before: &[Route], after: &[Route], vehicle: u32) -> bool
-    ensures { IsTrue result → of_vehicle before.now vehicle ≡ of_vehicle after.now vehicle }
+    ensures { IsTrue result → route_of before.now vehicle ≡ route_of after.now vehicle }
 {
-    of_vehicle(before, vehicle) == of_vehicle(after, vehicle)
+    route_of(before, vehicle) == route_of(after, vehicle)
 }
 
-fn of_vehicle(routes: &[Route], vehicle: u32) -> &[u32]
-    ensures { result.now ≡ of_vehicle routes.now vehicle }
+fn route_of(routes: &[Route], vehicle: u32) -> &[u32]
+    ensures { result.now ≡ route_of routes.now vehicle }
 {
     if vehicle == 0 {
         return &[];
@@ -125,8 +126,8 @@ fn of_vehicle(routes: &[Route], vehicle: u32) -> &[u32]
     }
 }
 
-/// A problem, a plan, another one, and the vehicles whose tables are built anew.
-type Example = (Given, &'static [u32], &'static [u32], &'static [u32]);
+/// A problem, a plan, another one, and the vehicles whose tables are rebuilt.
+type Example = (TestProblem, &'static [u32], &'static [u32], &'static [u32]);
 
 const EXAMPLES: [Example; 5] = [
     (
@@ -147,12 +148,12 @@ const EXAMPLES: [Example; 5] = [
         &[0, 1, 2, 3, 0, 4, 0, 0],
         &[2, 1],
     ),
-    (Given::Pairs, &[1, 2, 0], &[1, 3, 4, 2, 0], &[1]),
-    (Given::Pairs, &[1, 2, 0], &[1, 2, 0], &[]),
+    (TestProblem::Pairs, &[1, 2, 0], &[1, 3, 4, 2, 0], &[1]),
+    (TestProblem::Pairs, &[1, 2, 0], &[1, 2, 0], &[]),
 ];
 
-// Whether the example's tables are built anew.
-fn is_built_anew(alloc: Global, example: &Example) -> Result<bool, Fail> {
+// Returns whether the example's tables are rebuilt.
+fn is_rebuilt(alloc: Global, example: &Example) -> Result<bool, Fail> {
     let (given, before, after, vehicles) = *example;
     let after = plan_of(alloc, after)?;
     let case = case_of(alloc, given, &[], before)?;
@@ -169,9 +170,9 @@ fn is_built_anew(alloc: Global, example: &Example) -> Result<bool, Fail> {
 }
 
 #[test]
-fn tables_built_anew(rt: HostRuntime) -> Result<(), Fail> {
+fn tables_are_rebuilt(rt: HostRuntime) -> Result<(), Fail> {
     for example in &EXAMPLES {
-        assert!(rt; is_built_anew(rt.alloc(), example)?);
+        assert!(rt; is_rebuilt(rt.alloc(), example)?);
     }
     Ok(())
 }

@@ -1,4 +1,4 @@
--- The first line feed ends the first piece of a text, and a text without one is a single piece.
+-- The first line feed ends the first piece of a text; a text without a line feed is a single piece.
 use Rattle.std.proofs.Common.{◌≡◌, [], ◌∷◌, ◌-◌, length, take, drop, get_or, arith, ap, ◌∙◌, sym, add-one}
 use Rattle.std.proofs.lemmas.List.{take_rest, drop_all}
 use Rattle.std.proofs.lemmas.Bool.{eq-eqb, eqb-true}

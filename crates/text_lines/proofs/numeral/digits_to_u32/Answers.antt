@@ -1,4 +1,4 @@
--- A word has a value below 2^32 just where it is digits alone, and their value fits a `u64` and then a `u32`.
+-- A word has a value below 2^32 exactly if it is all digits, and their value fits a `u64` and then a `u32`.
 use Rattle.std.proofs.Common.{◌<◌, ◌^◌, ◌∙◌, Some, sym, ap, arith}
 use Rattle.std.specs.Option.{SomeIff}
 use Rattle.std.specs.Str.Parse.{digits_value}

@@ -1,4 +1,4 @@
--- The digits that are counted at the front of the first bytes are digits at the front of the text.
+-- The digits counted in the first bytes are leading digits of the text.
 use Rattle.std.proofs.Common.{take, sym, ap, ◌∙◌, arith}
 use Rattle.std.proofs.lemmas.List.Sums.{prefix_len-le-length}
 use Rattle.std.specs.Char.{is_ascii_digit}
@@ -10,6 +10,6 @@ pub returns-clause-digits : goal.returns-clause-digits
 returns-clause-digits c =
     let text = c.args.text.now in
     let front = take c.min.result text in
-    let len = c.short_front_digits.ensures.len in
-    let fewer = take_fewer c.short_front_digits.result.0 c.min.result text (omega (arith, len, prefix_len-le-length is_ascii_digit front)) in
+    let len = c.short_leading_digits.ensures.len in
+    let fewer = take_fewer c.short_leading_digits.result.0 c.min.result text (omega (arith, len, prefix_len-le-length is_ascii_digit front)) in
     ap (list_all is_ascii_digit) (sym fewer ∙ ap (λ n. take n front) len) ∙ front_passes is_ascii_digit front

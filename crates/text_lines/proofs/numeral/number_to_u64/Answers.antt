@@ -1,4 +1,4 @@
--- A word has a value below 2^64 just where it is a number that a `u64` can hold.
+-- A word has a value below 2^64 exactly if it is a number that fits a `u64`.
 use Rattle.std.proofs.Common.{◌≡◌, ◌^◌, ◌∙◌, Some, None, sym, ap}
 use Rattle.std.specs.Option.{option_and_then}
 use Rattle.text_lines.specs.Numbers.{below, magnitude, number_of}

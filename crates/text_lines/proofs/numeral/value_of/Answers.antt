@@ -1,4 +1,5 @@
--- The first digits have no greater value than all of them, so where one more leaves a `u64` the whole value does not fit.
+-- The value of the first digits is not greater than that of all digits. So if one more digit exceeds a `u64`,
+-- the whole value does not fit.
 use Rattle.std.proofs.Common.{◌+◌, arith, ◌∙◌, ap}
 use Rattle.std.proofs.lemmas.Int.Digits.{digits_value_more}
 use Rattle.std.proofs.lemmas.List.{take_all}

@@ -1,4 +1,4 @@
--- The value is that of the digits so far, and fits a `u64`; behind the last digit it is the value of all.
+-- The value is that of the digits so far, and fits a `u64`; after the last digit it is the value of all.
 use Rattle.std.proofs.Common.{◌≡◌, ◌<◌, ◌^◌, take}
 use Rattle.std.specs.Str.Parse.{digits_value}
 use Rattle.text_lines.proofs.numeral.value_of.Given as goal

@@ -1,4 +1,4 @@
--- The first byte that is no blank, or the end, is where the blanks at the front end.
+-- The leading blanks end at the first byte that is not a blank, or at the end of the text.
 use Rattle.std.proofs.Common.{drop, not, ap, ◌∙◌, rules, tests}
 use Rattle.std.proofs.lemmas.Iterator.{YieldsList-from_slice}
 use Rattle.std.proofs.lemmas.Iterator.Search.{position_from_yields_List}

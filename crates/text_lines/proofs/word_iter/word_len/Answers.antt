@@ -1,4 +1,4 @@
--- The first blank, or the end, is where the word at the front ends.
+-- The first word ends at the first blank, or at the end of the text.
 use Rattle.std.proofs.Common.{◌∙◌, rules, tests}
 use Rattle.std.proofs.lemmas.Iterator.{YieldsList-from_slice}
 use Rattle.std.proofs.lemmas.Iterator.Search.{position_from_yields_List}

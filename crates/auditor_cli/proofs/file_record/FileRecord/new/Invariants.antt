@@ -1,4 +1,4 @@
--- A new record has no file that was read.
+-- A new record has no files.
 use Rattle.std.proofs.Common.{[]}
 use Rattle.auditor_cli.proofs.file_record.FileRecord.new.Given as goal
 

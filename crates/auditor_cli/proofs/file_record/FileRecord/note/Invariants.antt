@@ -1,6 +1,6 @@
--- This file more.
+-- The record after one more file.
 use Rattle.std.proofs.Common.{◌∷◌}
-use Rattle.auditor_cli.specs.Noted.{given}
+use Rattle.auditor_cli.specs.FileOutcome.{given}
 use Rattle.auditor_cli.proofs.file_record.FileRecord.note.Given as goal
 
 abbrev pub ghost-after : goal.ghost-after

@@ -1,4 +1,4 @@
--- The bytes to come lead on from the word so far.
+-- Scanning the remaining bytes from the state so far leads to the final state.
 use Rattle.std.proofs.Common.{◌≡◌, drop}
 use Rattle.command_text.specs.Scanning.{scanned_on}
 use Rattle.command_text.proofs.first_word.FirstWord.after_all.Given as goal

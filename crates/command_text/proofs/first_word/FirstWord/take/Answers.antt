@@ -1,4 +1,4 @@
--- Behind a further piece the word is that of all pieces together.
+-- After one more piece, the state is that of all pieces together.
 use Rattle.std.proofs.Common.{◌∙◌, ap, sym}
 use Rattle.command_text.specs.Scanning.{scanned_on}
 use Rattle.command_text.proofs.ScanLemmas.{scanned_append}

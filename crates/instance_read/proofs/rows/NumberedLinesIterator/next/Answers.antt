@@ -1,4 +1,4 @@
--- The next line with a word is told with its number, and counting doesn't overflow.
+-- The next line that is not blank is returned with its number, and counting doesn't overflow.
 use Rattle.std.proofs.Common.{◌+◌, ap, sym, ◌∙◌, arith, length}
 use Rattle.instance_read.specs.Rows.{rows_from}
 use Rattle.instance_read.proofs.RowLemmas.{rows_nil, rows_blank, rows_read}

@@ -1,9 +1,9 @@
--- The lines so far have no word, so those that are left have the same numbered lines.
+-- The lines so far are blank, so the rest has the same numbered lines.
 use Rattle.std.proofs.Common.{◌≡◌, ◌+◌, ◌<◌, ◌^◌, length}
 use Rattle.instance_read.specs.Rows.{rows_from}
 use Rattle.instance_read.proofs.rows.NumberedLinesIterator.next.Given as goal
 
--- the lines so far had no word
+-- the lines so far are blank
 abbrev pub invariant-loop-text : goal.invariant-loop-text
 invariant-loop-text l = record {
   rows : rows_from (l.self-inside.count + 1) l.self-inside.lines ≡ rows_from (l.initial.self-inside.count + 1) l.initial.self-inside.lines;

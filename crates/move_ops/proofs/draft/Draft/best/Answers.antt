@@ -1,4 +1,4 @@
--- `NO_LIMIT` lets each insertion in, so the best within it is the best of all.
+-- `NO_LIMIT` allows each insertion, so the best within it is the best of all.
 use Rattle.std.proofs.Common.{refl}
 use Rattle.move_ops.proofs.Bounding.{unbounded}
 use Rattle.move_ops.proofs.draft.Draft.best.Goals as goal

@@ -1,4 +1,4 @@
--- The draft stays as it was, so it has no stop of the requests left either.
+-- The draft is unchanged, so it has no stop of the remaining requests either.
 use Rattle.std.proofs.Common.{◌≡◌}
 use Rattle.move_ops.proofs.draft.Draft.clear_named.Given as goal
 

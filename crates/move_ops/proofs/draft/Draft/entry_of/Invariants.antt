@@ -1,6 +1,7 @@
--- The vehicle is among the entries left exactly where it is among all, so the first of its entries answers, and at the end there is none.
+-- The vehicle is among the remaining entries exactly when it is among all, so the first of its entries decides;
+-- at the end there is none.
 use Rattle.std.proofs.Common.{◌≡◌, drop}
-use Rattle.move_ops.specs.Logged.{is_logged}
+use Rattle.move_ops.specs.UndoLog.{is_logged}
 use Rattle.move_ops.proofs.draft.Draft.entry_of.Given as goal
 
 abbrev pub invariant-loop-entry : goal.invariant-loop-entry

@@ -1,4 +1,5 @@
--- No vehicle but those with stops of either request gets another route, so their changes make the plan with the two exchanged.
+-- Only vehicles with stops of the two requests get another route, so their changes make the plan with the two
+-- exchanged.
 use Rattle.std.proofs.Common.{◌≡◌, List, map, sym, ap, subst, ◌∙◌}
 use Rattle.std.proofs.lemmas.List.{take_all}
 use Rattle.move_ops.specs.Changes.{AreChanges}

@@ -1,4 +1,5 @@
--- The plan with the changed routes passes, so its length is small, and with its cost the changed draft is one of the same problem and pins.
+-- The plan with the changed routes passes, so its length is small. With its cost the changed draft is one of the
+-- same problem and pins.
 use Rattle.std.proofs.Common.{rules, ◌≡◌, ◌≤◌, ℕ, List, length, true, sym, ap, subst, ◌∙◌}
 use Rattle.std.specs.List.{AllByRecursion}
 use Rattle.std.proofs.lemmas.List.{length-map}
@@ -8,7 +9,7 @@ use Rattle.move_ops.proofs.Touring.{within_from}
 use Rattle.route_sched.specs.Cost.{cost_of, unplanned_count}
 use Rattle.plan_types.specs.declared.plans.Cost.{Cost}
 use Rattle.plan_audit.specs.Passes.{passes}
-use Rattle.slack_tables.specs.Course.{route_of}
+use Rattle.slack_tables.specs.Course.{course_route}
 use Rattle.move_ops.specs.Changes.{changes_of, with_routes}
 use Rattle.move_ops.specs.Tables.{plan_of}
 use Rattle.move_ops.specs.Drafts.{draft_of}
@@ -19,14 +20,14 @@ use Rattle.move_ops.proofs.draft.Draft.install.Goals as goal
 
 pub set_tours-vehicles-requires-clause-small : goal.set_tours-vehicles-requires-clause-small
 set_tours-vehicles-requires-clause-small c =
-    plan_small c.numbers_are_below_the_next.ensures.stops c.passes_are_local.ensures c.args.problem.now c.requires.is.valid c.args.pins.now.routes
+    plan_small c.numbers_are_below_next_number.ensures.stops c.passing_is_local.ensures c.args.problem.now c.requires.is.valid c.args.pins.now.routes
     (with_routes (draft_of c.args.self.now) (changes_of c.args.tours.items)) c.requires.change.passes
 
 pub set_tours-vehicles-requires-clause-within : goal.set_tours-vehicles-requires-clause-within
 set_tours-vehicles-requires-clause-within c =
     let d = c.args.self.now in
     within_from (length d.tours) c.args.tours.items
-    (subst (λ n. AllByRecursion (λ (x : Change). (1 ≤ x.vehicle) × (x.vehicle ≤ n)) (changes_of c.args.tours.items)) (length-map d.tours route_of)
+    (subst (λ n. AllByRecursion (λ (x : Change). (1 ≤ x.vehicle) × (x.vehicle ≤ n)) (changes_of c.args.tours.items)) (length-map d.tours course_route)
     (recursion_from_All (λ (x : Change). (1 ≤ x.vehicle) × (x.vehicle ≤ length (draft_of d))) (changes_of c.args.tours.items) c.requires.change.within))
 
 pub returns-clause-is : goal.returns-clause-is

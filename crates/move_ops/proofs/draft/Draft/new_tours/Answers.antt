@@ -1,4 +1,4 @@
--- The tour of one change more is put behind those so far.
+-- The tour of one more change is appended.
 use Rattle.std.proofs.Common.{◌∙◌, ap}
 use Rattle.slack_tables.specs.Course.{course_of}
 use Rattle.move_ops.proofs.Touring.{tours_more}

@@ -1,4 +1,5 @@
--- The tours so far are those of the changes so far, and the draft stays; so at the end each change has its tour.
+-- The tours so far are those of the changes so far, and the draft is unchanged. So at the end each change has
+-- its tour.
 use Rattle.std.proofs.Common.{◌≡◌}
 use Rattle.move_ops.proofs.Touring.{AreToursTo}
 use Rattle.move_ops.proofs.draft.Draft.new_tours.Given as goal

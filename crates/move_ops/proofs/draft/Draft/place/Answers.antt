@@ -1,7 +1,7 @@
--- A live request is put in where it is best, and without a best place the draft stays, as the plan does.
+-- A current request is inserted at its best place. Without a best place the draft is unchanged, as the plan is.
 use Rattle.std.proofs.Common.{rules, ◌≡◌, ℕ, List, OnOk, subst}
 use Rattle.move_ops.specs.Drafts.{draft_of}
-use Rattle.move_ops.proofs.Putting.{named_request, placed_named, stays_named}
+use Rattle.move_ops.proofs.PlacementLemmas.{named_request, placed_named, stays_named}
 use Rattle.move_ops.proofs.draft.Draft.place.Goals as goal
 
 pub best-requires-clause-request : goal.best-requires-clause-request

@@ -1,11 +1,12 @@
--- The best insertion within the limit is the best of all, opens no vehicle and adds less than the bound; without one the plan with the request is far.
+-- The best insertion within the limit is the best of all; it opens no vehicle and adds less than the bound.
+-- Without one the plan with the request is far.
 use mir.Val.{SFits}
 use Rattle.std.proofs.Common.{rules, w64, true, false, refl, subst}
 use Rattle.std.proofs.lemmas.Int.{to_z-of_z}
-use Rattle.move_ops.specs.Bounded.{IsPlacedBelow}
+use Rattle.move_ops.specs.BoundedPlacing.{IsPlacedBelow}
 use Rattle.move_ops.specs.Drafts.{draft_of}
 use Rattle.move_ops.proofs.Bounding.{put_below, kept_below, unnamed_below}
-use Rattle.move_ops.proofs.Putting.{named_request}
+use Rattle.move_ops.proofs.PlacementLemmas.{named_request}
 use Rattle.move_ops.proofs.draft.Draft.place_below.Goals as goal
 
 pub best_within-requires-clause-request : goal.best_within-requires-clause-request

@@ -1,11 +1,12 @@
--- The route with the request put in keeps its limits, so with its tour the draft is one of the plan with the request, which leaves one fewer out.
+-- The route with the request inserted keeps its limits. So with its tour the draft is the plan with the
+-- request, which leaves one request fewer out.
 use Rattle.std.proofs.Common.{rules, ◌≡◌, ◌-◌, set, ap, ◌∙◌, arith}
 use Rattle.plan_types.specs.declared.plans.Cost.{Cost}
 use Rattle.route_sched.specs.Cost.{cost_of}
 use Rattle.slack_tables.specs.Course.{course_of}
-use Rattle.move_ops.specs.Drafts.{Drafted, undone}
+use Rattle.move_ops.specs.Drafts.{DraftState, undone}
 use Rattle.move_ops.proofs.Drafting.{changed}
-use Rattle.move_ops.proofs.Putting.{within_tours, given_unplanned, plan_new, tables_new, passes_new, plan_cost}
+use Rattle.move_ops.proofs.PlacementLemmas.{within_tours, given_unplanned, plan_new, tables_new, passes_new, plan_cost}
 use Rattle.move_ops.proofs.draft.Draft.put.Goals as goal
 
 pub overflow_cast-vehicle : goal.overflow_cast-vehicle
@@ -25,7 +26,7 @@ set_route-requires-clause-unplanned c =
     let tv : c.self.inside.tours.items ≡ c.args.self.now.tours = search rules in
     let count = given_unplanned c.args.problem.now c.args.pins.now.routes c.args.self.now c.requires.is c.args.request.now c.args.place
     c.requires.put c.self.inside.tours.items tv c.route.result.now c.route.ensures
-    c.put_into.new.new.items c.in_ok-put_into.ensures c.deref.result.now c.deref.ensures.value in
+    c.insert_into.new.new.items c.in_ok-insert_into.ensures c.deref.result.now c.deref.ensures.value in
     let held : c.self.inside.cost ≡ c.args.self.now.cost = search rules in
     let left = ap (λ (k : Cost). k.unplanned) held in
     omega arith
@@ -37,7 +38,7 @@ returns-clause-is c =
     let new = c.self-2.inside in
     let is_set = c.in_ok-self-inside.ensures.set in
     let tours : new.tours.items ≡ set c.self.inside.tours.items (c.args.place.0 - 1) (course_of p c.deref.result.now) =
-    ap (λ (d : Drafted). d.tours) c.self-2.view_is ∙ is_set.tours in
+    ap (λ (d : DraftState). d.tours) c.self-2.view_is ∙ is_set.tours in
     changed p c.args.pins.now.routes c.args.self.now
     (record {
       tours = new.tours.items;
@@ -47,20 +48,20 @@ returns-clause-is c =
       base_cost = new.base_cost;
     })
     c.requires.is
-    (ap (λ (d : Drafted). undone d.tours d.log) c.self-2.view_is ∙ (is_set.base ∙ ap (λ (d : Drafted). undone d.tours d.log) c.self.view_is))
-    (ap (λ (d : Drafted). d.pinned) c.self-2.view_is ∙ (is_set.pinned ∙ ap (λ (d : Drafted). d.pinned) c.self.view_is))
-    (ap (λ (d : Drafted). d.base_cost) c.self-2.view_is ∙ (is_set.base_cost ∙ ap (λ (d : Drafted). d.base_cost) c.self.view_is))
+    (ap (λ (d : DraftState). undone d.tours d.log) c.self-2.view_is ∙ (is_set.base ∙ ap (λ (d : DraftState). undone d.tours d.log) c.self.view_is))
+    (ap (λ (d : DraftState). d.pinned) c.self-2.view_is ∙ (is_set.pinned ∙ ap (λ (d : DraftState). d.pinned) c.self.view_is))
+    (ap (λ (d : DraftState). d.base_cost) c.self-2.view_is ∙ (is_set.base_cost ∙ ap (λ (d : DraftState). d.base_cost) c.self.view_is))
     (passes_new p c.args.pins.now.routes c.args.self.now c.requires.is c.args.request.now c.args.place c.requires.put
     c.self.inside.tours.items tv c.route.result.now c.route.ensures
-    c.put_into.new.new.items c.in_ok-put_into.ensures c.deref.result.now c.deref.ensures.value is_set.stops new.tours.items tours)
+    c.insert_into.new.new.items c.in_ok-insert_into.ensures c.deref.result.now c.deref.ensures.value is_set.stops new.tours.items tours)
     (tables_new p c.args.pins.now.routes c.args.self.now c.requires.is c.args.request.now c.args.place c.requires.put
     c.self.inside.tours.items tv c.route.result.now c.route.ensures
-    c.put_into.new.new.items c.in_ok-put_into.ensures c.deref.result.now c.deref.ensures.value is_set.stops new.tours.items tours)
+    c.insert_into.new.new.items c.in_ok-insert_into.ensures c.deref.result.now c.deref.ensures.value is_set.stops new.tours.items tours)
     (c.in_ok-self-inside.ensures.cost
     ∙ ap (cost_of p)
     (plan_cost p c.args.pins.now.routes c.args.self.now c.requires.is c.args.request.now c.args.place c.requires.put
     c.self.inside.tours.items tv c.route.result.now c.route.ensures
-    c.put_into.new.new.items c.in_ok-put_into.ensures c.deref.result.now c.deref.ensures.value is_set.stops new.tours.items tours))
+    c.insert_into.new.new.items c.in_ok-insert_into.ensures c.deref.result.now c.deref.ensures.value is_set.stops new.tours.items tours))
 
 pub returns-clause-draft : goal.returns-clause-draft
 returns-clause-draft c =
@@ -68,7 +69,7 @@ returns-clause-draft c =
     let new = c.self-2.inside in
     let is_set = c.in_ok-self-inside.ensures.set in
     let tours : new.tours.items ≡ set c.self.inside.tours.items (c.args.place.0 - 1) (course_of p c.deref.result.now) =
-    ap (λ (d : Drafted). d.tours) c.self-2.view_is ∙ is_set.tours in
+    ap (λ (d : DraftState). d.tours) c.self-2.view_is ∙ is_set.tours in
     plan_new p c.args.pins.now.routes c.args.self.now c.requires.is c.args.request.now c.args.place c.requires.put c.self.inside.tours.items
     (search rules) c.route.result.now c.route.ensures
-    c.put_into.new.new.items c.in_ok-put_into.ensures c.deref.result.now c.deref.ensures.value is_set.stops new.tours.items tours
+    c.insert_into.new.new.items c.in_ok-insert_into.ensures c.deref.result.now c.deref.ensures.value is_set.stops new.tours.items tours

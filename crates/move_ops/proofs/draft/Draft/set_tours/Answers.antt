@@ -1,9 +1,10 @@
--- With one more tour the vehicles that count and the total length change by its route alone, and the tours left lead on to the plan with all.
+-- With one more tour only its route changes the number of used vehicles and the total length. The remaining
+-- tours lead to the plan with all.
 use Rattle.std.proofs.Common.{rules, ◌≡◌, ◌-◌, ◌∷◌, [], length, sym, ap, subst, ◌∙◌, arith, length-append}
 use Rattle.std.specs.Vec.Iter.{into_iter_items}
 use Rattle.std.proofs.lemmas.List.{length-set}
 use Rattle.move_ops.proofs.Pricing.{length_moved, part}
-use Rattle.slack_tables.specs.Course.{route_of, IsCourseIn}
+use Rattle.slack_tables.specs.Course.{course_route, IsCourseIn}
 use Rattle.move_ops.specs.Changes.{changes_of, with_routes, AreCourses}
 use Rattle.move_ops.specs.Drafts.{draft_of}
 use Rattle.move_ops.specs.Refreshing.{AreWithin}
@@ -41,11 +42,11 @@ loop-vehicle-preserved c =
     let long = ap length made.tours ∙ length-set old.tours (v - 1) tour in
     let moved = length_moved p old.tours c.set_tour.new.self.tours v tour made.tours all.0.0 all.0.1 in
     let is_course : IsCourseIn p tour = courses.0 in
-    let there = c.distance.ensures p (route_of tour) (is_course ∙ sym (search rules)) in
+    let there = c.distance.ensures p (course_route tour) (is_course ∙ sym (search rules)) in
     let few = inv.few in
     let more = length-append c.loop-vehicle.yielded ((v, tour) ∷ []) in
     record {
-      vehicles = c.vehicles_with-vehicles.ensures ∙ ap (vehicle_count p.kind) (sym (ap plan_of made.tours ∙ plan_with old.tours (v - 1) tour));
+      vehicles = c.vehicle_count_with-vehicles.ensures ∙ ap (vehicle_count p.kind) (sym (ap plan_of made.tours ∙ plan_with old.tours (v - 1) tour));
       driven = omega arith;
       few = omega arith;
       tables = subst (AreTablesIn p) (sym made.tours) (tables_with p old.tours (v - 1) tour inv.tables is_course);

@@ -1,4 +1,5 @@
--- The tours left lead from the plan so far to the plan with all, and vehicles and distance are those of the plan so far; so at the end they are its.
+-- The remaining tours lead from the plan so far to the plan with all; vehicles and distance are those of the
+-- plan so far. So at the end they are those of the new plan.
 use Rattle.std.proofs.Common.{◌≡◌, ◌≤◌, ◌+◌, ◌*◌, ◌^◌, length}
 use Rattle.std.specs.Vec.Iter.{into_iter_items}
 use Rattle.route_sched.specs.Cost.{total_length, vehicle_count}

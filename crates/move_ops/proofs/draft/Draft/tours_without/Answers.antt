@@ -1,13 +1,14 @@
--- The next route without the requests is live and paired; where it isn't feasible alone not all are, else its tour is put behind those so far.
+-- The next route without the requests is current and paired. If it isn't feasible alone, not all are; else its
+-- tour is appended.
 use Rattle.std.proofs.Common.{rules, ◌≡◌, ◌∙◌, true, ℕ, List, Option, None, Some, get_or, sym, ap, subst}
-use Rattle.route_sched.specs.Route.{AreLiveOnce}
+use Rattle.route_sched.specs.Route.{AreDistinctStops}
 use Rattle.plan_audit.specs.Passes.{feasible_alone}
 use Rattle.slack_tables.specs.Course.{Course}
 use Rattle.move_ops.specs.Changes.{removals, IsTourIfFeasible}
 use Rattle.move_ops.specs.Drafts.{draft_of}
-use Rattle.move_ops.specs.Insertion.{of_vehicle}
+use Rattle.move_ops.specs.Insertion.{route_of}
 use Rattle.move_ops.specs.Pairing.{are_paired}
-use Rattle.move_ops.proofs.TakenOut.{left_of, next, next_at, next_below, next_has}
+use Rattle.move_ops.proofs.RemovalLemmas.{left_of, next, next_at, next_below, next_has}
 use Rattle.move_ops.proofs.Touring.{all_broken, all_more, tours_more}
 use Rattle.move_ops.proofs.draft.Draft.tours_without.Goals as goal
 
@@ -17,9 +18,9 @@ feasible_tour-requires-clause-once c =
     let old = draft_of c.args.self.now in
     let k = c.loop-vehicle.vehicle-index in
     let kept : List ℕ → List ℕ = left_of p c.args.names.now old c.args.vehicles.now k c.loop-vehicle-test.true in
-    let route : c.deref.result.now ≡ kept (of_vehicle old (get_or c.args.vehicles.now k 0)) =
+    let route : c.deref.result.now ≡ kept (route_of old (get_or c.args.vehicles.now k 0)) =
     c.deref.ensures.value ∙ (c.in_ok-keep_others.ensures ∙ ap kept (search rules)) in
-    next_has p c.args.names.now old c.args.vehicles.now k c.loop-vehicle-test.true (AreLiveOnce p) c.requires.once c.deref.result.now route
+    next_has p c.args.names.now old c.args.vehicles.now k c.loop-vehicle-test.true (AreDistinctStops p) c.requires.once c.deref.result.now route
 
 pub feasible_tour-requires-clause-pairs : goal.feasible_tour-requires-clause-pairs
 feasible_tour-requires-clause-pairs c =
@@ -27,7 +28,7 @@ feasible_tour-requires-clause-pairs c =
     let old = draft_of c.args.self.now in
     let k = c.loop-vehicle.vehicle-index in
     let kept : List ℕ → List ℕ = left_of p c.args.names.now old c.args.vehicles.now k c.loop-vehicle-test.true in
-    let route : c.deref.result.now ≡ kept (of_vehicle old (get_or c.args.vehicles.now k 0)) =
+    let route : c.deref.result.now ≡ kept (route_of old (get_or c.args.vehicles.now k 0)) =
     c.deref.ensures.value ∙ (c.in_ok-keep_others.ensures ∙ ap kept (search rules)) in
     next_has p c.args.names.now old c.args.vehicles.now k c.loop-vehicle-test.true (λ l. are_paired p l ≡ true) c.requires.pairs c.deref.result.now route
 
@@ -37,7 +38,7 @@ returns-in_default-clause-tours c =
     let old = draft_of c.args.self.now in
     let k = c.loop-vehicle.vehicle-index in
     let kept : List ℕ → List ℕ = left_of p c.args.names.now old c.args.vehicles.now k c.loop-vehicle-test.true in
-    let route : c.deref.result.now ≡ kept (of_vehicle old (get_or c.args.vehicles.now k 0)) =
+    let route : c.deref.result.now ≡ kept (route_of old (get_or c.args.vehicles.now k 0)) =
     c.deref.ensures.value ∙ (c.in_ok-keep_others.ensures ∙ ap kept (search rules)) in
     let broken : IsTourIfFeasible p c.deref.result.now None = subst
     (λ (o : Option Course). IsTourIfFeasible p c.deref.result.now o) c.in_default.is c.in_ok-tour.ensures.tour in
@@ -54,7 +55,7 @@ loop-vehicle-preserved c =
     let old = draft_of c.args.self.now in
     let k = c.loop-vehicle.vehicle-index in
     let kept : List ℕ → List ℕ = left_of p c.args.names.now old c.args.vehicles.now k c.loop-vehicle-test.true in
-    let route : c.deref.result.now ≡ kept (of_vehicle old (get_or c.args.vehicles.now k 0)) =
+    let route : c.deref.result.now ≡ kept (route_of old (get_or c.args.vehicles.now k 0)) =
     c.deref.ensures.value ∙ (c.in_ok-keep_others.ensures ∙ ap kept (search rules)) in
     let is = c.loop-vehicle.invariant in
     let found : IsTourIfFeasible p c.deref.result.now (Some c.in-Some.tour) =

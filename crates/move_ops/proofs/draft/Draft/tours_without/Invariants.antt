@@ -1,4 +1,5 @@
--- The tours so far are those of the routes so far, and the routes left are all feasible alone exactly where all are; so at the end each has its tour.
+-- The tours so far are those of the routes so far. The remaining routes are all feasible alone exactly when all
+-- are. So at the end each route has its tour.
 use Rattle.std.proofs.Common.{◌≡◌, drop}
 use Rattle.std.specs.List.{list_all}
 use Rattle.plan_audit.specs.Passes.{feasible_alone}

@@ -1,4 +1,5 @@
--- So far all requests can be moved, and each vehicle with a stop of a named one is noted, or has one of a name that is left.
+-- So far all requests can be moved. Each vehicle with a stop of a named request is in the list, or has a stop of
+-- a remaining name.
 use Rattle.std.proofs.Common.{◌≡◌, drop}
 use Rattle.std.specs.List.{list_all}
 use Rattle.move_ops.specs.Changes.{AreIn}

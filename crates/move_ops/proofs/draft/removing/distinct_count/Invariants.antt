@@ -1,4 +1,5 @@
--- The count so far and the distinct names among those left are the distinct names of all, so at the end the count is theirs.
+-- The count so far and the distinct names among the remaining ones make the distinct names of all, so at the end
+-- the count is theirs.
 use Rattle.std.proofs.Common.{◌≡◌, ◌+◌, ◌≤◌, length}
 use Rattle.move_ops.specs.Changes.{distinct_count}
 use Rattle.move_ops.proofs.draft.removing.distinct_count.Given as goal

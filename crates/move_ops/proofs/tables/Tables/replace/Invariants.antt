@@ -1,4 +1,4 @@
--- The tables left lead from those so far to what all of them give, so at the end that stands.
+-- The remaining tables lead from the ones so far to the result of all, so at the end the result is reached.
 use Rattle.std.proofs.Common.{◌≡◌, length}
 use Rattle.std.specs.Vec.Iter.{into_iter_items}
 use Rattle.move_ops.specs.Refreshing.{replaced, AreWithin}

@@ -1,4 +1,4 @@
--- A route whose pairs are whole is feasible alone exactly where it keeps its limits.
+-- A route whose pairs are whole is feasible alone exactly when it keeps its limits.
 use Rattle.std.proofs.Common.{rules, ◌∙◌, sym}
 use Rattle.move_ops.proofs.Fitting.{paired}
 use Rattle.move_ops.proofs.tour.Tour.build_if_feasible.Goals as goal

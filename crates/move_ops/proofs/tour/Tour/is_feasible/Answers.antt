@@ -1,4 +1,4 @@
--- A route is feasible alone exactly where it keeps its limits and its pairs are whole, each pickup first.
+-- A route is feasible alone exactly when it keeps its limits and its pairs are whole, each pickup first.
 use Rattle.std.proofs.Common.{rules, ◌≡◌, ◌∙◌, false}
 use Rattle.move_ops.proofs.Fitting.{within_limits, outside_limits}
 use Rattle.move_ops.proofs.tour.Tour.is_feasible.Goals as goal

@@ -1,4 +1,5 @@
--- The first request from here on that is not planned is this one, or the first behind it where this one is planned.
+-- Of the requests from here on, the first unplanned one is this one, or the first one after it if this one is
+-- planned.
 use Rattle.std.proofs.Common.{sym, ◌∙◌}
 use Rattle.plan_audit.proofs.PairLemmas.{unserved_here, unserved_later}
 use Rattle.plan_audit.proofs.scan.Scan.first_unserved.Goals as goal

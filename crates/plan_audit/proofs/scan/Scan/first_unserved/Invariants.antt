@@ -1,6 +1,6 @@
--- The first request from this one on that is not planned is the first of all.
+-- The first unplanned request from this one on is the first of all.
 use Rattle.std.proofs.Common.{◌≡◌, drop}
-use Rattle.plan_audit.specs.Finding.{first_unserved}
+use Rattle.plan_audit.specs.FirstFault.{first_unserved}
 use Rattle.plan_audit.proofs.scan.Scan.first_unserved.Given as goal
 
 abbrev pub invariant-loop-index : goal.invariant-loop-index

@@ -1,4 +1,4 @@
--- A stop's partner is told just where it has no first seat.
+-- A stop's partner is reported exactly if it has no first position.
 use Rattle.std.proofs.Common.{rules}
 use Rattle.plan_audit.proofs.scan.Scan.missing_stop.Goals as goal
 

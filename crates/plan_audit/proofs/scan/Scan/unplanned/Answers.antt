@@ -1,4 +1,4 @@
--- Each request that is not planned adds one to those before it.
+-- Each request that is not planned adds one to the count.
 use Rattle.std.proofs.Common.{◌<◌, arith, true, false, length, is_some, sym, ap, ◌∙◌}
 use Rattle.plan_types.specs.Instance.{Instance}
 use Rattle.plan_audit.proofs.PairLemmas.{left_out_more}

@@ -1,4 +1,4 @@
--- So many are counted as are not planned of the requests so far.
+-- The count is the number of unplanned requests so far.
 use Rattle.std.proofs.Common.{◌≡◌, ◌≤◌, not, count_by, take}
 use Rattle.route_sched.specs.Cost.{is_planned}
 use Rattle.plan_audit.proofs.scan.Scan.unplanned.Given as goal

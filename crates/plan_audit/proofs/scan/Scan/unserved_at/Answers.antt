@@ -1,4 +1,5 @@
--- The request at an index is told just where it is not planned: its numbers are below the next one, so their seats are known.
+-- The request at an index is reported exactly if it is not planned. Its numbers are below `next_number`, so
+-- their first positions are in the table.
 use Rattle.std.proofs.Common.{◌≡◌, Some, None, cond, sym, ap, subst, ◌∙◌, slice_get}
 use Rattle.plan_types.specs.Instance.{Instance, IsInstance}
 use Rattle.plan_audit.proofs.PairLemmas.{unserved_is}
@@ -17,7 +18,7 @@ pub returns-then-is_planned : goal.returns-then-is_planned
 returns-then-is_planned c =
     let d = (goal.at.returns-then-is_planned c).After-is_planned in
     ap (λ b. cond b None (Some c.in_ok-name.name.now)) (sym c.if-is_planned.true)
-    ∙ unserved_is c.numbers_are_below_the_next.ensures.requests c.args.self.now.problem.now c.args.self.now.routes.now c.args.index c.in_ok-name.name.now
+    ∙ unserved_is c.numbers_are_below_next_number.ensures.requests c.args.self.now.problem.now c.args.self.now.routes.now c.args.index c.in_ok-name.name.now
     c.in_ok-name.request.now c.is_planned.result
     (valid d) (here d) c.is_planned.ensures
 
@@ -25,6 +26,6 @@ pub returns-else-is_planned : goal.returns-else-is_planned
 returns-else-is_planned c =
     let d = (goal.at.returns-else-is_planned c).After-is_planned in
     ap (λ b. cond b None (Some c.in_ok-name.name.now)) (sym c.if-is_planned.false)
-    ∙ unserved_is c.numbers_are_below_the_next.ensures.requests c.args.self.now.problem.now c.args.self.now.routes.now c.args.index c.in_ok-name.name.now
+    ∙ unserved_is c.numbers_are_below_next_number.ensures.requests c.args.self.now.problem.now c.args.self.now.routes.now c.args.index c.in_ok-name.name.now
     c.in_ok-name.request.now c.is_planned.result
     (valid d) (here d) c.is_planned.ensures

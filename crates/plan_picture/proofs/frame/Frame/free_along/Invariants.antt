@@ -1,4 +1,4 @@
--- The stops to come give the answer.
+-- The remaining stops lead to the same result as all stops.
 use Rattle.std.proofs.Common.{◌≡◌, drop}
 use Rattle.plan_picture.specs.Labels.{free_along}
 use Rattle.plan_picture.proofs.frame.Frame.free_along.Given as goal

@@ -1,4 +1,4 @@
--- The labels to come give the answer.
+-- The remaining labels lead to the same result as all labels.
 use Rattle.std.proofs.Common.{◌≡◌, drop}
 use Rattle.plan_picture.specs.Labels.{covers}
 use Rattle.plan_picture.proofs.labels.Area.covers.Given as goal

@@ -1,4 +1,4 @@
--- The text so far and that of the pairs to come.
+-- The text so far, followed by that of the remaining pairs, is the whole text.
 use Rattle.std.proofs.Common.{◌≡◌, ◌++◌, drop}
 use Rattle.std.specs.List.{flat_map}
 use Rattle.plan_picture.specs.Map.{pair_text}

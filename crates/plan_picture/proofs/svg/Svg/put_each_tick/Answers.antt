@@ -1,4 +1,4 @@
--- The next tick stands before those behind it, of fourteen at most.
+-- The next tick precedes the rest, and there are at most fourteen.
 use Rattle.std.proofs.Common.{◌≡◌, ◌∙◌, ◌+◌, ◌-◌, ◌*◌, ◌++◌, suc, ap, append_assoc, arith}
 use Rattle.std.specs.Int.{div_ceil}
 use Rattle.std.specs.List.{flat_map, range_with_len}

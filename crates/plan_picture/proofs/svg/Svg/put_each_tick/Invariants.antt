@@ -1,4 +1,4 @@
--- The text so far and that of the ticks to come.
+-- The text so far, followed by that of the remaining ticks, is the whole text.
 use Rattle.std.proofs.Common.{◌≡◌, ◌-◌, ◌++◌}
 use Rattle.std.specs.List.{flat_map, range_with_len}
 use Rattle.plan_picture.specs.Days.{nth_tick}

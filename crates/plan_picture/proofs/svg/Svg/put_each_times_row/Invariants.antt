@@ -1,4 +1,4 @@
--- The text so far and that of the routes to come.
+-- The text so far, followed by that of the remaining routes, is the whole text.
 use Rattle.std.proofs.Common.{◌≡◌, ◌++◌, drop}
 use Rattle.plan_picture.specs.Days.{times_row}
 use Rattle.plan_picture.specs.Svg.{each}

@@ -1,6 +1,6 @@
--- The visits to come are at first all of the route's.
+-- At first, the visits to come are all visits of the route.
 use Rattle.std.proofs.Common.{◌∙◌, ◌++◌, ap}
-use Rattle.route_sched.proofs.Visited.{all_visits}
+use Rattle.route_sched.proofs.VisitLemmas.{all_visits}
 use Rattle.plan_picture.specs.Map.{legs_text}
 use Rattle.plan_picture.proofs.svg.Svg.put_legs.Goals as goal
 

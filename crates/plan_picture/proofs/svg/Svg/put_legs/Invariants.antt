@@ -1,7 +1,7 @@
--- The text so far and that of the legs to the visits to come.
+-- The text so far, followed by that of the legs to the remaining visits, is the whole text.
 use Rattle.std.proofs.Common.{◌≡◌, ◌++◌}
-use Rattle.route_sched.specs.Visiting.{visits_from}
-use Rattle.plan_picture.specs.Known.{visits_of}
+use Rattle.route_sched.specs.VisitList.{visits_from}
+use Rattle.plan_picture.specs.DrawnStops.{visits_of}
 use Rattle.plan_picture.specs.Map.{legs_text}
 use Rattle.plan_picture.proofs.svg.Svg.put_legs.Given as goal
 

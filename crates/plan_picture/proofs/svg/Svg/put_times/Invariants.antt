@@ -1,8 +1,8 @@
--- The text so far and that of the times of the visits to come.
+-- The text so far, followed by that of the remaining visits' times, is the whole text.
 use Rattle.std.proofs.Common.{◌≡◌, ◌++◌}
-use Rattle.route_sched.specs.Visiting.{visits_from}
+use Rattle.route_sched.specs.VisitList.{visits_from}
 use Rattle.plan_picture.specs.Days.{times_text}
-use Rattle.plan_picture.specs.Known.{visits_of}
+use Rattle.plan_picture.specs.DrawnStops.{visits_of}
 use Rattle.plan_picture.proofs.svg.Svg.put_times.Given as goal
 
 abbrev pub invariant-loop-visit : goal.invariant-loop-visit

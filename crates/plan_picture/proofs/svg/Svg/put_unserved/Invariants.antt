@@ -1,4 +1,4 @@
--- The text so far and that of the stops to come that no route has.
+-- The text so far, followed by that of the remaining unserved stops, is the whole text.
 use Rattle.std.proofs.Common.{◌≡◌, ◌++◌, drop}
 use Rattle.std.specs.List.{flat_map}
 use Rattle.plan_picture.specs.Map.{mark_text}

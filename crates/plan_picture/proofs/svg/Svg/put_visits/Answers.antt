@@ -1,8 +1,8 @@
--- The visits to come are at first all of the route's, from the first start on.
+-- At first, the visits to come are all visits of the route, from the first start on.
 use Rattle.std.proofs.Common.{◌∙◌, ◌++◌, ap}
-use Rattle.route_sched.proofs.Visited.{all_visits}
+use Rattle.route_sched.proofs.VisitLemmas.{all_visits}
 use Rattle.plan_picture.specs.Days.{visits_text}
-use Rattle.plan_picture.specs.Known.{visits_of}
+use Rattle.plan_picture.specs.DrawnStops.{visits_of}
 use Rattle.plan_picture.proofs.svg.Svg.put_visits.Goals as goal
 
 pub loop-visit-init : goal.loop-visit-init

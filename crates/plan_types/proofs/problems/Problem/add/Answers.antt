@@ -1,13 +1,14 @@
--- A request with free numbers goes under a free name, and the problem with it is valid; the table of stops has then what its requests say.
+-- A request with free numbers also has a free name. So the problem with it is valid, and its table has the
+-- entries of all requests.
 use Rattle.std.proofs.Common.{rules, List, Option, sym, ap, ◌∙◌}
 use Rattle.plan_types.specs.Request.{IsRequest}
-use Rattle.plan_types.specs.Located.{instance_of, located_in, located_at}
+use Rattle.plan_types.specs.StopEntry.{instance_of, entry_in, table_entry}
 use Rattle.plan_types.specs.Instance.{IsTaken}
 use Rattle.plan_types.proofs.InstanceLemmas.{IsInstance-with_request}
 use Rattle.plan_types.proofs.InsertLemmas.{splits_free}
-use Rattle.plan_types.proofs.LookupLemmas.{lookup-name-free, located-asks, found-with_entry, take-overwritten}
+use Rattle.plan_types.proofs.LookupLemmas.{lookup-name-free, by_number-asks, found-with_entry, take-overwritten}
 use Rattle.std.specs.Option.{option_or}
-use Rattle.plan_types.specs.declared.problems.Located.{Located}
+use Rattle.plan_types.specs.declared.problems.StopEntry.{StopEntry}
 use Rattle.plan_types.proofs.problems.Problem.add.Goals as goal
 
 pub insert_by_name-requires-clause-absent : goal.insert_by_name-requires-clause-absent
@@ -24,12 +25,12 @@ invariant_of-self-2 c =
     record {
       valid = rw (put.ok, c.max-self-inside.ensures, c.number_after-after.ensures)
           (IsInstance-with_request p c.args.request c.self.invariant.valid fits free (splits_free p c.args.request c.self.invariant.valid free));
-      located = λ n.
+      by_number = λ n.
           rw (put.ok)
-          (ap (λ (l : List (Option Located)). located_at l n)
-          (take-overwritten c.make_room.new.located.len c.locate.new.located c.make_room.new.located.items (search rules))
-          ∙ c.locate.ensures n
-          ∙ ap (option_or (located_in n c.args.request))
-          (ap (λ (l : List (Option Located)). located_at l n) c.deref_mut.ensures.value ∙ c.in_ok-make_room.ensures.same n ∙ c.self.invariant.located n)
-          ∙ sym (found-with_entry p c.args.request n (located_in n) (located-asks n) free (splits_free p c.args.request c.self.invariant.valid free)));
+          (ap (λ (l : List (Option StopEntry)). table_entry l n)
+          (take-overwritten c.make_room.new.by_number.len c.add_to_table.new.by_number c.make_room.new.by_number.items (search rules))
+          ∙ c.add_to_table.ensures n
+          ∙ ap (option_or (entry_in n c.args.request))
+          (ap (λ (l : List (Option StopEntry)). table_entry l n) c.deref_mut.ensures.value ∙ c.in_ok-make_room.ensures.same n ∙ c.self.invariant.by_number n)
+          ∙ sym (found-with_entry p c.args.request n (entry_in n) (by_number-asks n) free (splits_free p c.args.request c.self.invariant.valid free)));
     }

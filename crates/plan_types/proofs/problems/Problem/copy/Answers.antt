@@ -1,8 +1,9 @@
--- A clone of the requests has the same entries, so the copy is the same problem, and its table agrees with them.
+-- A clone of the requests has the same entries, so the copy is the same problem, and its table agrees with
+-- them.
 use Rattle.std.proofs.Common.{rules, ◌≡◌, ◌∙◌, ap, List, Option}
 use Rattle.std.proofs.lemmas.Map.Entries.{entries_from_clone}
-use Rattle.plan_types.specs.Located.{located_at}
-use Rattle.plan_types.specs.declared.problems.Located.{Located}
+use Rattle.plan_types.specs.StopEntry.{table_entry}
+use Rattle.plan_types.specs.declared.problems.StopEntry.{StopEntry}
 use Rattle.plan_types.proofs.problems.Problem.copy.Goals as goal
 
 -- a clone of the requests has the same entries
@@ -14,8 +15,8 @@ same_requests c =
 pub invariant_of-result : goal.invariant_of-result
 invariant_of-result c = record {
   valid = rw (same_requests c) c.self.invariant.valid;
-  located = λ n. rw (same_requests c)
-      (ap (λ (l : List (Option Located)). located_at l n) (c.in_ok-located.ensures.items ∙ c.as_slice.ensures.value) ∙ c.self.invariant.located n);
+  by_number = λ n. rw (same_requests c)
+      (ap (λ (l : List (Option StopEntry)). table_entry l n) (c.in_ok-by_number.ensures.items ∙ c.as_slice.ensures.value) ∙ c.self.invariant.by_number n);
 }
 
 pub returns : goal.returns

@@ -7,25 +7,25 @@ use Rattle.plan_types.proofs.LookupLemmas.{pickup_from_located, pickup-below}
 use Rattle.plan_types.proofs.problems.Problem.pickup_of.Goals as goal
 
 -- a stop whose request has another name is a delivery
-found : (c : goal.Then-located-number) → pickup_at c.args.self.now c.args.number ≡ Some c.in-Some.located.now.name
+found : (c : goal.Then-by_number-number) → pickup_at c.args.self.now c.args.number ≡ Some c.in-Some.by_number.now.name
 found c =
     pickup_from_located c.args.self.now c.args.number
     ∙ ap (option_and_then (λ l. cond (eqb l.name c.args.number) None (Some l.name))) (sym c.in-Some.ensures.found)
-    ∙ ap (λ b. cond b None (Some c.in-Some.located.now.name)) (ne_eqb c.in-Some.located.now.name c.args.number c.if-located-number.true)
+    ∙ ap (λ b. cond b None (Some c.in-Some.by_number.now.name)) (ne_eqb c.in-Some.by_number.now.name c.args.number c.if-by_number-number.true)
 
 pub returns-in-Some-clause-found : goal.returns-in-Some-clause-found
 returns-in-Some-clause-found c = sym (found c)
 
 pub returns-in-Some-clause-below : goal.returns-in-Some-clause-below
-returns-in-Some-clause-below c = pickup-below c.args.self.now c.args.number c.in-Some.located.now.name c.in-Some.ensures.valid (found c)
+returns-in-Some-clause-below c = pickup-below c.args.self.now c.args.number c.in-Some.by_number.now.name c.in-Some.ensures.valid (found c)
 
 pub returns-in_default-clause-found : goal.returns-in_default-clause-found
 returns-in_default-clause-found c =
     sym (pickup_from_located c.args.self.now c.args.number
     ∙ ap (option_and_then (λ l. cond (eqb l.name c.args.number) None (Some l.name))) (sym c.in-Some.ensures.found)
-    ∙ ap (λ b. cond b None (Some c.in-Some.located.now.name)) (eq-eqb c.in-Some.located.now.name c.args.number c.if-located-number.false))
+    ∙ ap (λ b. cond b None (Some c.in-Some.by_number.now.name)) (eq-eqb c.in-Some.by_number.now.name c.args.number c.if-by_number-number.false))
 
 pub returns-in_default-2-clause-found : goal.returns-in_default-2-clause-found
 returns-in_default-2-clause-found c =
     sym (pickup_from_located c.args.self.now c.args.number
-    ∙ ap (option_and_then (λ l. cond (eqb l.name c.args.number) None (Some l.name))) (sym c.located.ensures.found ∙ ap option_copied c.in_default.is))
+    ∙ ap (option_and_then (λ l. cond (eqb l.name c.args.number) None (Some l.name))) (sym c.by_number.ensures.found ∙ ap option_copied c.in_default.is))

@@ -1,4 +1,4 @@
--- A command that is denied changes nothing, and no moment passes.
+-- A command that is denied changes nothing and adds no moment.
 use Rattle.std.proofs.Common.{◌≡◌, refl, sym}
 use Rattle.std.specs.Prelude.{Err}
 use Rattle.recover.specs.Applying.{Makes, calls_of, faults_after_answer}
@@ -23,7 +23,7 @@ returns-in-Some-clause-moments g c whole honest =
     let d = g.D.Sectors in
     let s = c.args.self.now in
     still d.calls d.honest d.clock d.possible_since d.possible g.met.D.Sectors.only_now s.device honest s.state
-    (c.images_stand_for_the_state.ensures whole honest) c.args.command.now c.in-Some.denial (d.calls s.device)
+    (c.images_recover_to_the_state.ensures whole honest) c.args.command.now c.in-Some.denial (d.calls s.device)
 
 pub returns-in-Some-clause-counts : goal.returns-in-Some-clause-counts
 returns-in-Some-clause-counts g c honest =

@@ -1,17 +1,17 @@
--- An image stands for one state, so what opening gives is it, or why there is none.
+-- An image recovers to at most one state, so opening returns this state or a fault.
 use Rattle.std.proofs.Common.{◌≡◌, Result, refl, rules, sym, subst, arith}
 use Rattle.std.specs.Prelude.{Ok, Err}
 use Rattle.checkpoint.specs.declared.faults.StoreFault.{StoreFault}
 use Rattle.checkpoint.specs.declared.faults.StoreFault.TheVariants.{NotFormatted}
 use Rattle.state_codec.specs.declared.version.Version.TheVariants.{Two}
 use Rattle.recover.specs.Sessions.{SessionValue}
-use Rattle.recover.specs.StandsFor.{StandsFor}
-use Rattle.recover.specs.declared.opening.Recovered.{Recovered}
+use Rattle.recover.specs.RecoversTo.{RecoversTo}
+use Rattle.recover.specs.declared.opening.RecoveredState.{RecoveredState}
 use Rattle.recover.proofs.Openings.{opens, stands}
 use Rattle.recover.proofs.sessions.Session.open.Goals as goal
 
-same_fault : (answer : Result Recovered StoreFault) (fault cause : StoreFault) → answer ≡ Err fault → answer ≡ Err cause → fault ≡ cause
-same_fault answer fault cause is told = cc
+same_fault : (answer : Result RecoveredState StoreFault) (fault cause : StoreFault) → answer ≡ Err fault → answer ≡ Err cause → fault ≡ cause
+same_fault answer fault cause is reported = cc
 
 pub returns-in-Ok : goal.returns-in-Ok
 returns-in-Ok g c =
@@ -23,8 +23,8 @@ returns-in-Ok g c =
       given = search rules;
       opens = λ honest.
           (let read = subst (λ (s : SessionValue _). g.D.Sectors.honest s.device) c.over.ensures honest in
-          opens Two c.images_hold_one_thing.ensures.one c.images_hold_one_thing.ensures.never_both image (Ok c.over.result.state)
-          (subst (λ (s : SessionValue _). StandsFor Two image s.state) (sym c.over.ensures) (stands Two image found.state found.place found.replayed (said.recovered.found read))));
+          opens Two c.images_hold_at_most_one_state.ensures.one c.images_hold_at_most_one_state.ensures.never_both image (Ok c.over.result.state)
+          (subst (λ (s : SessionValue _). RecoversTo Two image s.state) (sym c.over.ensures) (stands Two image found.state found.place found.replayed (said.recovered.found read))));
       replays = search rules;
       stands = search rules;
       reads = search rules;
@@ -42,7 +42,7 @@ returns-in-Err g c =
     let said = c.in-Err.ensures in
     record {
       refused = search rules;
-      opens = λ honest. opens Two c.images_hold_one_thing.ensures.one c.images_hold_one_thing.ensures.never_both
+      opens = λ honest. opens Two c.images_hold_at_most_one_state.ensures.one c.images_hold_at_most_one_state.ensures.never_both
           (g.D.Sectors.seen c.args.device) (Err c.in-Err.fault) (said.recovered.found honest);
       fails = search rules;
       small = λ short. (same_fault (Err c.in-Err.fault) c.in-Err.fault NotFormatted refl (said.recovered.small short).1, (said.recovered.small short).0);

@@ -1,10 +1,10 @@
--- One more command makes a run one longer; a run leaves what it promises at each moment.
+-- A run and one more command are a longer run. The guarantee of a run holds at each moment.
 use Rattle.std.proofs.Common.{rules, ◌≡◌, ◌+◌, ◌≤◌, List, [], ◌∷◌, ◌++◌, length, sym, ap, subst, ◌∙◌, append_assoc, append-nil, length-append, arith}
 use Rattle.std.specs.Prelude.{is_ok, if◌then◌else◌}
 use Rattle.std.specs.Vec.{vec_capacity}
 use Rattle.std.proofs.lemmas.List.{nil_from_length}
 use Rattle.std.specs.Vec.Iter.{into_iter_items}
-use Rattle.command_core.specs.declared.commands.Command.{Command}
+use Rattle.command_types.specs.declared.commands.Command.{Command}
 use Rattle.recover.specs.declared.replies.Reply.{Reply}
 use Rattle.recover.specs.Applying.{IsRun}
 use Rattle.recover.proofs.RunLemmas.{run_more, honest_back, run_leaves}
@@ -43,4 +43,4 @@ returns-clause-moments g c whole honest =
     let run = subst (λ (commands : List Command). IsRun d.len d.calls d.faults d.honest d.clock d.possible_since d.possible c.args.self.now commands at.replies.items at.self) all at.invariant.1 in
     let before = honest_back d.len d.calls d.faults d.honest d.clock d.possible_since d.possible c.args.commands.items at.replies.items c.args.self.now at.self run honest in
     run_leaves d.len d.calls d.faults d.honest d.clock d.possible_since d.possible g.met.D.Sectors.only_now c.args.commands.items at.replies.items c.args.self.now at.self run whole
-    (c.images_stand_for_the_state.ensures whole before) honest
+    (c.images_recover_to_the_state.ensures whole before) honest

@@ -1,8 +1,8 @@
--- Before the first place the vehicle is at the depot, at the depot's earliest time, and carries nothing.
+-- Before the first place the vehicle is at the depot, at the depot's earliest time, with load 0.
 use Rattle.std.proofs.Common.{◌∙◌, sym, ap, subst, arith}
 use Rattle.plan_types.specs.Limits.{IsVisit}
 use Rattle.plan_types.specs.Instance.{IsInstance}
-use Rattle.route_sched.proofs.LiveStops.{few_stops, place-first}
+use Rattle.route_sched.proofs.KnownStops.{few_stops, place-first}
 use Rattle.route_sched.proofs.Steps.{start-first, load-first}
 use Rattle.route_sched.proofs.visits.Visits.new.Goals as goal
 

@@ -1,7 +1,7 @@
--- As many visits are left as stops behind this place, and the return.
+-- The number of visits left is the number of stops after this place, plus one for the return.
 use Rattle.std.proofs.Common.{◌∙◌, ℕ, Some, length, sym, ap, arith}
-use Rattle.route_sched.specs.Visiting.{visits_from}
-use Rattle.route_sched.proofs.Visited.{visit_count}
+use Rattle.route_sched.specs.VisitList.{visits_from}
+use Rattle.route_sched.proofs.VisitLemmas.{visit_count}
 use Rattle.route_sched.proofs.visits.VisitsIterator.size_hint.Goals as goal
 
 pub returns-clause-lower : goal.returns-clause-lower

@@ -1,6 +1,6 @@
--- A stop of a new device leaves one image: the one that reads give.
+-- A crash of a new device leaves one image: the one that reads return.
 use Rattle.std.proofs.Common.{map, ap, rules}
-use Rattle.sector_disk.specs.Kept.{call_of}
+use Rattle.sector_disk.specs.Consistency.{call_of}
 use Rattle.sector_disk.proofs.Contents.{only_start}
 use Rattle.sector_disk.proofs.mem_device.MemDevice.new.Goals as goal
 

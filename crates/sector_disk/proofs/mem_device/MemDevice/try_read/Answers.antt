@@ -1,7 +1,7 @@
 -- A run of sectors within the device lies within its image.
 use Rattle.std.proofs.Common.{length, ap, arith}
 use Rattle.sector_disk.specs.MemoryLaws.{whole_sectors}
-use Rattle.sector_disk.proofs.Keeps.{image_size}
+use Rattle.sector_disk.proofs.ConsistencySteps.{image_size}
 use Rattle.sector_disk.proofs.mem_device.MemDevice.try_read.Goals as goal
 
 pub get-requires : goal.get-requires

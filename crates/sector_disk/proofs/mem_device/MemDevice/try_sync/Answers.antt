@@ -1,7 +1,7 @@
--- The image is still that of the calls with a sync behind them.
+-- After the sync the image is still that of the calls.
 use Rattle.std.proofs.Common.{refl, rules}
 use Rattle.sector_disk.specs.Memory.{Synced}
-use Rattle.sector_disk.proofs.Keeps.{keeps}
+use Rattle.sector_disk.proofs.ConsistencySteps.{keeps}
 use Rattle.sector_disk.proofs.mem_device.MemDevice.try_sync.Goals as goal
 
 pub invariant_of-self-2 : goal.invariant_of-self-2

@@ -1,10 +1,11 @@
--- A run within the device lies within its image; behind a write, torn or finished, the image is still that of the calls.
+-- A run within the device lies within its image. After a write, torn or finished, the image is still that of
+-- the calls.
 use Rattle.std.proofs.Common.{◌+◌, ◌*◌, ◌≤◌, length, drop, refl, rules, ap, arith, ◌∙◌}
 use Rattle.std.proofs.lemmas.List.{take_at}
 use Rattle.sector_disk.specs.Image.{written}
 use Rattle.sector_disk.specs.Memory.{Wrote, Tore}
 use Rattle.sector_disk.specs.MemoryLaws.{whole_sectors}
-use Rattle.sector_disk.proofs.Keeps.{keeps, image_size, is_run_from}
+use Rattle.sector_disk.proofs.ConsistencySteps.{keeps, image_size, is_run_from}
 use Rattle.sector_disk.proofs.mem_device.MemDevice.try_write.Goals as goal
 
 pub invariant_of-self-then-refused-2 : goal.invariant_of-self-then-refused-2

@@ -1,6 +1,6 @@
--- The image has as many sectors as there were at the start.
+-- The image has as many sectors as the initial one, so its length is that of the device.
 use Rattle.std.proofs.Common.{◌∙◌, ◌/◌, ap, ℕ}
-use Rattle.sector_disk.proofs.Keeps.{image_size}
+use Rattle.sector_disk.proofs.ConsistencySteps.{image_size}
 use Rattle.sector_disk.proofs.mem_device.MemDeviceSectors.len.Goals as goal
 
 pub returns : goal.returns

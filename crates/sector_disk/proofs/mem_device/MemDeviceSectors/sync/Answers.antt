@@ -1,9 +1,9 @@
--- What a sync of a device in memory answers and leaves is a sync of the model.
+-- A sync of a device in memory satisfies the contract of a sync of the model.
 use Rattle.sector_disk.specs.Memory.{history_of}
 use Rattle.sector_disk.specs.MemDevice.{memory}
 use Rattle.sector_disk.specs.MemoryLaws.{memory_reads_possible}
 use Rattle.sector_disk.proofs.Calls.{sync_case}
-use Rattle.sector_disk.proofs.Goes.{Syncs, sync_means}
+use Rattle.sector_disk.proofs.HistorySteps.{Syncs, sync_means}
 use Rattle.sector_disk.proofs.mem_device.MemDeviceSectors.sync.Goals as goal
 
 made : (c : goal.After-try_sync) → Syncs (history_of (memory c.args.self.now)) (history_of (memory c.try_sync.new.self)) c.try_sync.result

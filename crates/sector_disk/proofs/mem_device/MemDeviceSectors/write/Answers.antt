@@ -1,10 +1,10 @@
--- What a write to a device in memory answers and leaves is a write of the model.
+-- A write to a device in memory satisfies the contract of a write of the model.
 use Rattle.std.proofs.Common.{◌+◌, ◌≤◌, ◌/◌, length, arith}
 use Rattle.sector_disk.specs.Memory.{len_of, history_of}
 use Rattle.sector_disk.specs.MemDevice.{memory}
 use Rattle.sector_disk.specs.MemoryLaws.{whole_sectors, memory_reads_possible}
 use Rattle.sector_disk.proofs.Calls.{write_case}
-use Rattle.sector_disk.proofs.Goes.{Writes, write_means}
+use Rattle.sector_disk.proofs.HistorySteps.{Writes, write_means}
 use Rattle.sector_disk.proofs.mem_device.MemDeviceSectors.write.Goals as goal
 
 made : (c : goal.After-try_write)

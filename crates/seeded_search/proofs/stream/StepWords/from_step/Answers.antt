@@ -1,4 +1,4 @@
--- The generator of a seed and a step stands before the first word of the step.
+-- The generator of a seed and a step is before the first word of the step.
 use Rattle.seeded_search.specs.Generator.{NextStep}
 use Rattle.seeded_search.proofs.StepLemmas.{step_seen, stands_before}
 use Rattle.seeded_search.proofs.stream.StepWords.from_step.Goals as goal

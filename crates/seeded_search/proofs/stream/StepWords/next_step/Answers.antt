@@ -1,4 +1,4 @@
--- The next sixteen words of a generator are those of the seed and step before which it stands.
+-- The next sixteen words of a generator are the words of the step before which it is.
 use Rattle.std.proofs.Common.{ap, ◌∙◌}
 use Rattle.rand_chacha.specs.ChaCha.{ChaCha}
 use Rattle.seeded_search.specs.Words.{step_words}

@@ -1,4 +1,5 @@
--- No way to a stop inside is shorter than the longer of the two gaps to the span, so where that exceeds the reach each such way does.
+-- The distance to each stop in the box is at least the longer of the two gaps to the box. So if that gap
+-- exceeds the reach, all these distances do.
 use Rattle.std.proofs.Common.{w32, rules, ◌≤ℤ◌, subst, sym, arith}
 use mir.Val.{SFits}
 use Rattle.std.proofs.lemmas.Bool.{ltb-true}

@@ -1,4 +1,5 @@
--- The span holds the places from 1 to k - 1 and the ways between them, and the ends; so behind the last stop it is that of all places.
+-- The span covers the places from 1 to k - 1, the legs between them, and the ends. So after the last stop it is
+-- that of all places.
 use Rattle.std.proofs.Common.{◌≤◌}
 use Rattle.slack_tables.specs.Span.{IsSpanTo, AreEnds}
 use Rattle.slack_tables.proofs.span.Span.of.Given as goal

@@ -1,11 +1,11 @@
--- The distance that the return keeps is the length of each route of this course.
+-- The distance at the return is the length of each route with this course.
 use Rattle.std.proofs.Common.{◌∙◌, ap}
-use Rattle.slack_tables.specs.Opened.{leaving, open_row}
+use Rattle.slack_tables.specs.ForwardPass.{at_depot, forward_row}
 use Rattle.slack_tables.specs.declared.progress.PlaceSlack.{PlaceSlack}
 use Rattle.slack_tables.proofs.ReadLemmas.{length-read}
 use Rattle.slack_tables.proofs.table.RouteTable.distance.Goals as goal
 
 pub returns : goal.returns
 returns c = λ p route is.
-    (let d = open_row (leaving c.args.self.now.depot) in
+    (let d = forward_row (at_depot c.args.self.now.depot) in
     ap (λ (e : PlaceSlack). e.at.distance) (c.row_at.ensures d) ∙ length-read c.args.self.now c.rows-places.result.now c.rows-places.ensures.known p route is d)

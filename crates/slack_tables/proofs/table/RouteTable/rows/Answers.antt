@@ -1,8 +1,9 @@
--- The places of a table are those of its course: each tells the next one's distance, and they know the fronts and stops of each problem with this course.
+-- The places of a table are those of its course. Their distances grow by the legs, and they have the prefixes
+-- and stops of each problem with this course.
 use Rattle.std.proofs.Common.{subst, sym}
-use Rattle.slack_tables.specs.Inside.{AreKnown}
+use Rattle.slack_tables.specs.TableFields.{AreKnown}
 use Rattle.slack_tables.proofs.BestLemmas.{linked}
-use Rattle.slack_tables.proofs.FrontLemmas.{knows-fronts, knows-stops}
+use Rattle.slack_tables.proofs.PrefixLemmas.{knows-fronts, knows-stops}
 use Rattle.slack_tables.proofs.table.RouteTable.rows.Goals as goal
 
 pub returns-clause-known : goal.returns-clause-known
@@ -13,8 +14,8 @@ returns-clause-known c =
 pub returns-clause-linked : goal.returns-clause-linked
 returns-clause-linked c = linked c.args.self.now _ (returns-clause-known c)
 
-pub returns-clause-fronts : goal.returns-clause-fronts
-returns-clause-fronts c = λ p is. knows-fronts p c.args.self.now _ (returns-clause-known c) is
+pub returns-clause-prefixes : goal.returns-clause-prefixes
+returns-clause-prefixes c = λ p is. knows-fronts p c.args.self.now _ (returns-clause-known c) is
 
 pub returns-clause-stops : goal.returns-clause-stops
 returns-clause-stops c = λ p is. knows-stops p c.args.self.now _ (returns-clause-known c) is

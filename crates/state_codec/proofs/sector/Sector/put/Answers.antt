@@ -1,9 +1,9 @@
--- Behind what is put the sector has zeros, and before it what was put before.
+-- The new bytes follow the written part, and zeros follow the new bytes
 use Rattle.std.proofs.Common.{◌≡◌, ◌+◌, ◌-◌, ◌≤◌, ◌++◌, ℕ, length, take, sym, ap, ◌∙◌, arith, length-take}
 use Rattle.state_codec.proofs.SectorLemmas.{written_is, is_padded}
 use Rattle.state_codec.proofs.sector.Sector.put.Goals as goal
 
--- the numbers of bytes before and behind
+-- The new bytes fit into the sector
 fits : (used all k : ℕ) → all + k ≤ 512 → all ≡ used → used + k ≤ 512
 fits used all k short is = omega (arith, short, is)
 

@@ -1,4 +1,4 @@
--- A request that the problem has by a name is one that can be put in.
+-- A request that is found by its name can be inserted.
 use Rattle.std.proofs.Common.{◌≡◌, ◌∙◌, Some, sym, ap, subst}
 use Rattle.plan_types.specs.Instance.{IsInstance}
 use Rattle.slack_tables.specs.Insertion.{request_named}

@@ -1,4 +1,4 @@
--- Where all visits keep the limits, so does the route.
+-- If all visits keep the limits, so does the route.
 use Rattle.std.proofs.Common.{◌∙◌, subst, length}
 use Rattle.plan_types.specs.Instance.{Instance}
 use Rattle.test_plan.proofs.TableLemmas.{KeepTo, limits-seen}

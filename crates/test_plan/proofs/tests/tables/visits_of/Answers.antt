@@ -1,9 +1,9 @@
--- The visits that are collected are all of the route's.
+-- All visits of the route are collected.
 use Rattle.std.proofs.lemmas.Iterator.{items_from_collect}
 use Rattle.std.proofs.lemmas.Iterator.Consumers.{YieldsList-from_first}
-use Rattle.route_sched.specs.Visiting.{visits_from}
+use Rattle.route_sched.specs.VisitList.{visits_from}
 use Rattle.route_sched.specs.VisitsValue.{VisitsValue}
-use Rattle.route_sched.proofs.Visited.{all_visits}
+use Rattle.route_sched.proofs.VisitLemmas.{all_visits}
 use Rattle.test_plan.proofs.tests.tables.visits_of.Goals as goal
 
 pub returns : goal.returns

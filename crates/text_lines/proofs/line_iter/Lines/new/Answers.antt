@@ -1,4 +1,4 @@
--- A text has no more lines than bytes.
+-- A text has at most as many lines as bytes.
 use Rattle.text_lines.proofs.PieceLemmas.{length-lines_of-le}
 use Rattle.text_lines.proofs.line_iter.Lines.new.Goals as goal
 

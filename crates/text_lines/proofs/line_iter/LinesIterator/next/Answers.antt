@@ -1,4 +1,5 @@
--- The first piece of what is left is the next line, and the lines behind it are one fewer; where nothing is left there is none.
+-- The first piece of the rest is the next line, and one line fewer is left; if the rest is empty, there is no
+-- line.
 use Rattle.std.proofs.Common.{◌∷◌, ap, sym, ◌∙◌, arith, length}
 use Rattle.std.proofs.lemmas.Bool.{eqb-true}
 use Rattle.std.proofs.lemmas.List.{nil_from_length}

@@ -1,4 +1,5 @@
--- A word is a number just where digits, and perhaps a point and zeros, stand behind its sign; sign and digits make its value.
+-- A word is a number exactly if digits, and optionally a point and zeros, follow its sign; sign and digits
+-- determine its value.
 use Rattle.text_lines.specs.Numbers.{number_of}
 use Rattle.text_lines.proofs.numeral.Number.parse.Goals as goal
 

@@ -1,4 +1,5 @@
--- An integer is a minus or no sign and 1 to 20 digits: neither a longer word is one, nor a word with another byte.
+-- An integer is a minus or no sign and 1 to 20 digits; a longer word, or one with another byte, is not an
+-- integer.
 use Rattle.std.proofs.Common.{sym, length, arith}
 use Rattle.std.proofs.lemmas.Bool.{le-leb, lt-leb}
 use Rattle.text_lines.specs.Numbers.{integer_of}

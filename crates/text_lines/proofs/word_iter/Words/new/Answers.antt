@@ -1,4 +1,4 @@
--- A line has no more words than bytes.
+-- A line has at most as many words as bytes.
 use Rattle.text_lines.proofs.WordLemmas.{length-words_of-le}
 use Rattle.text_lines.proofs.word_iter.Words.new.Goals as goal
 

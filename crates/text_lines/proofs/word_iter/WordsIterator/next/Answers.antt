@@ -1,4 +1,5 @@
--- The bytes behind the blanks, up to the next blank, are the next word, and the words behind it are one fewer; where there are none, no word is left.
+-- The bytes after the blanks, up to the next blank, are the next word, and one word fewer is left. If there is
+-- no byte after the blanks, no word is left.
 use Rattle.std.proofs.Common.{ap, sym, ◌∙◌, arith, length, not}
 use Rattle.std.proofs.lemmas.Bool.{eqb-true, eqb-false}
 use Rattle.std.proofs.lemmas.List.Sums.{prefix_len-le-length}

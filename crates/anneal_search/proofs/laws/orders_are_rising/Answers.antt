@@ -1,6 +1,0 @@
--- An order has the same names, rising by key, then by salt, then by name.
-use Rattle.anneal_search.proofs.OrderLemmas.{orders_are_rising}
-use Rattle.anneal_search.proofs.laws.orders_are_rising.Goals as goal
-
-pub returns : goal.returns
-returns c = orders_are_rising

@@ -1,2 +1,0 @@
--- The lemma file, for this crate alone.
-mod StageLemmas

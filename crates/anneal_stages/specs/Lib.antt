@@ -1,2 +1,0 @@
--- what public contracts say
-pub mod Stages

@@ -1,0 +1,2 @@
+-- The lemma file, only for this crate.
+mod StageLemmas

@@ -1,0 +1,34 @@
+-- The audit of a solution compared with a best-known cost of its instance.
+use Rattle.std.specs.Prelude.{◌≡◌, ℕ, Bool, List, ◌++◌, Option, Some, None}
+use Rattle.auditor_cli.specs.BestKnown.{BestCost, comparison_text}
+use Rattle.plan_types.specs.declared.requests.Kind.{Kind}
+use Rattle.plan_audit.specs.declared.rules.Verdict.{Verdict}
+use Rattle.plan_audit.specs.declared.rules.Verdict.TheVariants.{Broken, Pass}
+use Rattle.auditor_cli.specs.Answer.{IsAnswerBy, verdict_answer}
+use Rattle.auditor_cli.specs.AnswerText.{pass_text}
+use Rattle.auditor_cli.specs.Examination.{IsExaminedBy, answer_of}
+use Rattle.auditor_cli.specs.declared.answer.AuditAnswer.{AuditAnswer}
+use Rattle.auditor_cli.specs.declared.audit.Examination.{Examination}
+use Rattle.auditor_cli.specs.declared.audit.Examination.TheVariants.{BadInstance, BadSolution, Judged}
+
+-- The answer for a verdict. After a pass it says how the cost compares.
+abbrev pub compared_verdict : BestCost → Verdict → AuditAnswer
+compared_verdict best (Pass cost) = record { line = pass_text cost ++ comparison_text best cost; status = 0 }
+compared_verdict best (Broken rule route place stop) = verdict_answer (Broken rule route place stop)
+
+-- The answer for two examined texts.
+abbrev pub compared_answer : BestCost → Examination → AuditAnswer
+compared_answer best (BadInstance fault) = answer_of (BadInstance fault)
+compared_answer best (BadSolution fault) = answer_of (BadSolution fault)
+compared_answer best (Judged problem plan verdict) = compared_verdict best verdict
+
+-- The answer for an instance of this kind and a solution, or only its routes.
+pub record IsComparedAnswer (routes_alone : Bool) (kind : Kind) (best : BestCost) (instance solution : List ℕ) (answer : AuditAnswer) : Type 0 where
+  pub examined : Examination
+  pub is_examined : IsExaminedBy routes_alone kind instance solution examined
+  pub answers : answer ≡ compared_answer best examined
+
+-- The answer for two texts of a list, which may have a best-known cost after them.
+abbrev pub IsListedAnswer : Bool → Kind → Option BestCost → List ℕ → List ℕ → AuditAnswer → Type 0
+IsListedAnswer routes_alone kind None instance solution answer = IsAnswerBy routes_alone kind instance solution answer
+IsListedAnswer routes_alone kind (Some best) instance solution answer = IsComparedAnswer routes_alone kind best instance solution answer

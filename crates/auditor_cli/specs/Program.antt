@@ -1,0 +1,65 @@
+-- Command lines that request an audit: the files that they read, the output, standard error, and the status.
+use Rattle.std.specs.Prelude.{◌≡◌, ◌⊎◌, ℕ, true, List, Option, codes}
+use Rattle.std.specs.Io.KnownBytes.{Appends}
+use Rattle.clap.specs.Words.{Text}
+use Rattle.command_line.specs.Invocations.{InvocationValue, IsUsageStatus, asks_help, audit, audits, built_in, explain}
+use Rattle.plan_types.specs.declared.requests.Kind.TheVariants.{LiLim}
+use Rattle.text_lines.specs.Lines.{with_line_feed}
+use Rattle.auditor_cli.specs.IgnoredLines.{PrintsIgnored}
+use Rattle.auditor_cli.specs.Explain.{ExplainsFiles}
+use Rattle.auditor_cli.specs.Files.{AreReadInTurn, PrintsFiles}
+use Rattle.auditor_cli.specs.Audits.{PrintsList}
+use Rattle.auditor_cli.specs.Reads.{FileRead, IsReadFirst}
+use Rattle.auditor_cli.specs.Messages.{PrintsAudit, example_instance, example_solution}
+
+-- The files that were read, newest first, and what the output and standard error hold.
+pub record World : Type 0 where
+  pub files : List FileRead
+  pub output : Option (List ℕ)
+  pub errors : Option (List ℕ)
+
+abbrev pub world : List FileRead → Option (List ℕ) → Option (List ℕ) → World
+world files output errors = record { files = files; output = output; errors = errors }
+
+-- The files that a subcommand reads, even if an answer can't be printed.
+abbrev pub AreReadFor : InvocationValue → List FileRead → List FileRead → Type 0
+AreReadFor (audit paths routes_alone) was now = AreReadInTurn paths.instance paths.solution was now
+AreReadFor (audits kind list routes_alone) was now = IsReadFirst list was now
+AreReadFor (explain paths routes_alone) was now = AreReadInTurn paths.instance paths.solution was now
+AreReadFor _ was now = now ≡ was
+
+-- The line for a subcommand that only `planner` has.
+abbrev pub planner_only_line : List ℕ
+planner_only_line = with_line_feed (codes "auditor: only planner does that; here are audit, audits and explain")
+
+-- The subcommand was executed and its answer printed, with this status.
+abbrev pub Does : InvocationValue → World → World → ℕ → Type 0
+Does built_in old new status = PrintsAudit LiLim example_instance example_solution old.output new.output status × (new.errors ≡ old.errors)
+Does (audit paths routes_alone) old new status =
+    PrintsFiles routes_alone paths.kind paths.instance paths.solution old.files new.files old.output new.output status
+    × PrintsIgnored paths.kind paths.instance paths.solution old.files new.files old.errors new.errors
+Does (audits kind list routes_alone) old new status =
+    PrintsList routes_alone kind list old.files new.files old.output new.output old.errors new.errors status
+Does (explain paths routes_alone) old new status =
+    ExplainsFiles routes_alone paths.kind paths.instance paths.solution old.files new.files old.output new.output status
+    × PrintsIgnored paths.kind paths.instance paths.solution old.files new.files old.errors new.errors
+Does _ old new status = (status ≡ 64) × ((new.output ≡ old.output) × Appends old.errors new.errors planner_only_line)
+
+-- The command line was parsed. If an answer could not be printed, the status is 3.
+pub record Works (asked : InvocationValue) (old new : World) (status : ℕ) : Type 0 where
+  pub does : Does asked old new status ⊎ (status ≡ 3)
+  pub reads : AreReadFor asked old.files new.files
+
+-- The command line was parsed and executed; or there was no memory to parse it, and nothing was done.
+abbrev pub EndsWith : InvocationValue → World → World → ℕ → Type 0
+EndsWith asked old new status = Works asked old new status ⊎ ((status ≡ 4) × (new ≡ old))
+
+-- The command line requests help or has an error. No file is read. Help leaves standard error as it was, and an
+-- error leaves the output as it was. The status is one of a command line with an error, or 0, which means that
+-- help was requested.
+pub record PrintsUsage (asked : List Text) (old new : World) (status : ℕ) : Type 0 where
+  pub files : new.files ≡ old.files
+  pub help : status ≡ 0 → new.errors ≡ old.errors
+  pub mistake : status ≡ 64 → new.output ≡ old.output
+  pub memory : status ≡ 4 → new ≡ old
+  pub statuses : ((status ≡ 0) × (asks_help asked ≡ true)) ⊎ IsUsageStatus status

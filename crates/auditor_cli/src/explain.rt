@@ -1,0 +1,232 @@
+//! The subcommand `explain`: the audit of two files and the reasons for its answer.
+ghost use Rattle.std.specs.Prelude.{◌≡◌, ◌≤◌, ◌++◌, IfOk, string_bytes};
+ghost use Rattle.std.specs.Io.KnownBytes.{Appends};
+ghost use Rattle.auditor_cli.specs.Answer.{IsAnswerBy};
+ghost use Rattle.auditor_cli.specs.IgnoredLines.{PrintsIgnored, ignored_line_note, ignored_limit_note};
+ghost use Rattle.auditor_cli.specs.Examination.{HasVerdictForSomeCost, answer_of};
+ghost use Rattle.auditor_cli.specs.Explain.{IsExplanation, RestsOn, RestsOnFault, GivesRoutesDistance, ExplainsFiles, PrintsExplanationResult, ExplainsTexts, distance_of_routes, answer_and_text};
+ghost use Rattle.auditor_cli.specs.Files.{AreReadInTurn};
+
+use crate::answer::AuditAnswer;
+use crate::audit::{Examination, answer_of, examine_by};
+use crate::audit_pair::read_both;
+use crate::files::ReadFiles;
+use crate::ignored_lines::print_ignored;
+use crate::messages::{print_out_of_memory, print_read_failure, write_line};
+use command_line::Paths;
+use plan_audit::routes_are_judged_by_true_cost;
+use plan_explain::{
+    explain_distance, explain_instance_fault, explain_solution_fault, explain_verdict,
+};
+use plan_types::{Kind, OutOfMemory};
+use sol_text::SolFault;
+use std::alloc::Global;
+use std::io;
+use std::io::Write;
+
+/// The answer of an audit, and the lines that explain it.
+#[derive(Debug, Drop)]
+pub struct Explanation {
+    pub answer: AuditAnswer,
+    pub text: String,
+}
+
+/// Reads both files as `audit_files` does, and prints the answer of the audit, of the solution or only of its
+/// routes, with its explanation. The notes on ignored lines go to `errors`.
+pub fn explain_files<F: ReadFiles, W: Write, E: Write>(
+    alloc: Global,
+    paths: Paths,
+    routes_alone: bool,
+    files: &mut F,
+    output: &mut W,
+    errors: &mut E,
+) -> io::Result<u8>
+    ensures status { IfOk result (λ status. status ≤ 4) }
+    ensures reads { AreReadInTurn paths.entry.instance.now paths.entry.solution.now
+        (F.reads files.old) (F.reads files.new) }
+    ensures reported { IfOk result (λ status. ExplainsFiles routes_alone paths.entry.kind
+        paths.entry.instance.now paths.entry.solution.now (F.reads files.old) (F.reads files.new)
+        (W.contents output.old) (W.contents output.new) status
+        × PrintsIgnored paths.entry.kind paths.entry.instance.now paths.entry.solution.now
+        (F.reads files.old) (F.reads files.new)
+        (E.contents errors.old) (E.contents errors.new)) }
+{
+    match read_both(paths, files) {
+        Ok(both) => print_both(alloc, paths, routes_alone, &both.0, &both.1, output, errors),
+        Err(unread) => print_read_failure(output, unread.path, unread.kind),
+    }
+}
+
+// Prints the explained audit of both texts, and the notes on ignored lines on `errors`.
+fn print_both<W: Write, E: Write>(
+    alloc: Global,
+    paths: Paths<'_>,
+    routes_alone: bool,
+    instance: &[u8],
+    solution: &[u8],
+    output: &mut W,
+    errors: &mut E,
+) -> io::Result<u8>
+    ensures status { IfOk result (λ status. status ≤ 4) }
+    ensures reported { IfOk result (λ status. ExplainsTexts routes_alone paths.entry.kind
+        instance.now solution.now (W.contents output.old) (W.contents output.new) status
+        × Appends (E.contents errors.old) (E.contents errors.new)
+        (ignored_line_note paths.entry.solution.now solution.now
+        ++ ignored_limit_note paths.entry.kind paths.entry.instance.now instance.now)) }
+{
+    let status = print_texts_explained(
+        alloc,
+        paths.kind,
+        routes_alone,
+        instance,
+        solution,
+        output,
+    )?;
+    print_ignored(paths, instance, solution, errors)?;
+    Ok(status)
+}
+
+// Prints the explained audit of both texts.
+fn print_texts_explained<W: Write>(
+    alloc: Global,
+    kind: Kind,
+    routes_alone: bool,
+    instance: &[u8],
+    solution: &[u8],
+    output: &mut W,
+) -> io::Result<u8>
+    ensures status { IfOk result (λ status. status ≤ 4) }
+    ensures reported { IfOk result (ExplainsTexts routes_alone kind
+        instance.now solution.now (W.contents output.old) (W.contents output.new)) }
+{
+    let explained = explain(alloc, kind, routes_alone, instance, solution);
+    print_explanation_result(output, &explained)
+}
+
+/// Prints an answer with its explanation, or `out of memory`.
+pub fn print_explanation_result<W: Write>(
+    output: &mut W,
+    explained: &Result<Explanation, OutOfMemory>,
+) -> io::Result<u8>
+    ensures { IfOk result (PrintsExplanationResult explained.now
+        (W.contents output.old) (W.contents output.new)) }
+{
+    match explained {
+        Ok(explanation) => print_explanation(output, explanation),
+        Err(_) => print_out_of_memory(output),
+    }
+}
+
+/// Prints an answer with its explanation.
+pub fn print_explanation<W: Write>(output: &mut W, explanation: &Explanation) -> io::Result<u8>
+    ensures { IfOk result (λ status. (status ≡ explanation.now.answer.status)
+        × Appends (W.contents output.old) (W.contents output.new) (answer_and_text explanation.now)) }
+{
+    write_line(output, explanation.answer.line.as_bytes())?;
+    output.write_all(explanation.text.as_bytes())?;
+    Ok(explanation.answer.status)
+}
+
+// Audits a solution, or only its routes, against an instance, and explains the answer.
+fn explain(
+    alloc: Global,
+    kind: Kind,
+    routes_alone: bool,
+    instance: &[u8],
+    solution: &[u8],
+) -> Result<Explanation, OutOfMemory>
+    ensures answer { IfOk result (λ explanation.
+        IsAnswerBy routes_alone kind instance.now solution.now explanation.answer) }
+    ensures explains { IfOk result (IsExplanation routes_alone kind instance.now solution.now) }
+    ensures status { IfOk result (λ explanation. explanation.answer.status ≤ 2) }
+{
+    routes_are_judged_by_true_cost();
+    let examined = examine_by(alloc, kind, routes_alone, instance, solution)?;
+    explanation_of(alloc, kind, instance, solution, &examined)
+}
+
+// Returns the answer for the examined texts, and its explanation.
+fn explanation_of(
+    alloc: Global,
+    kind: Kind,
+    instance: &[u8],
+    solution: &[u8],
+    examined: &Examination,
+) -> Result<Explanation, OutOfMemory>
+    requires { HasVerdictForSomeCost examined.now }
+    ensures answer { IfOk result (λ explanation. explanation.answer ≡ answer_of examined.now) }
+    ensures rests { IfOk result (λ explanation. RestsOn kind instance.now solution.now
+        examined.now (string_bytes explanation.text)) }
+{
+    let answer = answer_of(alloc, examined)?;
+    let text = rests_on(alloc, kind, instance, solution, examined)?;
+    Ok(Explanation { answer, text })
+}
+
+// Returns the explanation of the answer for two texts.
+fn rests_on(
+    alloc: Global,
+    kind: Kind,
+    instance: &[u8],
+    solution: &[u8],
+    examined: &Examination,
+) -> Result<String, OutOfMemory>
+    requires { HasVerdictForSomeCost examined.now }
+    ensures { IfOk result (λ text. RestsOn kind instance.now solution.now examined.now
+        (string_bytes text)) }
+{
+    match examined {
+        Examination::BadInstance(fault) => explain_instance_fault(alloc, kind, instance, *fault),
+        Examination::BadSolution(fault) => {
+            rests_on_fault(alloc, kind, instance, solution, *fault)
+        }
+        Examination::Judged(problem, plan, verdict) => explain_verdict(
+            alloc, problem, plan, *verdict,
+        ),
+    }
+}
+
+// Returns the explanation for a solution that is refused, and the distance of its routes.
+fn rests_on_fault(
+    alloc: Global,
+    kind: Kind,
+    instance: &[u8],
+    solution: &[u8],
+    fault: SolFault,
+) -> Result<String, OutOfMemory>
+    ensures { IfOk result (λ text. RestsOnFault kind instance.now solution.now fault
+        (string_bytes text)) }
+{
+    let mut text = explain_solution_fault(alloc, solution, fault)?;
+    let driven = routes_distance(alloc, kind, instance, solution)?;
+    text.push_str(driven.as_str())?;
+    Ok(text)
+}
+
+// Returns the line with the distance of the solution's routes, if they can be parsed.
+fn routes_distance(
+    alloc: Global,
+    kind: Kind,
+    instance: &[u8],
+    solution: &[u8],
+) -> Result<String, OutOfMemory>
+    ensures { IfOk result (λ text. GivesRoutesDistance kind instance.now solution.now
+        (string_bytes text)) }
+{
+    routes_are_judged_by_true_cost();
+    let routes = examine_by(alloc, kind, true, instance, solution)?;
+    distance_of_routes(alloc, &routes)
+}
+
+// Returns the line with the distance of these routes, if they could be parsed.
+fn distance_of_routes(alloc: Global, routes: &Examination) -> Result<String, OutOfMemory>
+    requires { HasVerdictForSomeCost routes.now }
+    ensures { IfOk result (λ text. string_bytes text ≡ distance_of_routes routes.now) }
+{
+    match routes {
+        Examination::Judged(problem, plan, verdict) => {
+            explain_distance(alloc, problem, plan.routes.as_slice(), *verdict)
+        }
+        Examination::BadInstance(_) | Examination::BadSolution(_) => Ok(String::new(alloc)),
+    }
+}

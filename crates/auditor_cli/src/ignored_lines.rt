@@ -1,0 +1,112 @@
+//! Notes on ignored lines: those after the cost line of a solution, and a limit of an instance that is not
+//! checked.
+ghost use Rattle.std.specs.Prelude.{◌++◌, OnOk, Some};
+ghost use Rattle.std.specs.Io.KnownBytes.{Appends};
+ghost use Rattle.auditor_cli.specs.IgnoredLines.{ignored_line_note, ignored_limit_note, listed_note_by, listed_note, place_text};
+
+use command_line::Paths;
+use plan_explain::{ignored_limit_line, line_after_cost};
+use plan_types::Kind;
+use std::io;
+use std::io::Write;
+
+/// Prints the number of the first line after the cost line that is not blank, if there is one. Parsing ends at
+/// the cost line. `path` is the solution's file.
+pub fn print_ignored_line<E: Write>(path: &str, solution: &[u8], errors: &mut E) -> io::Result<()>
+    ensures { OnOk result (Appends (E.contents errors.old) (E.contents errors.new)
+        (ignored_line_note path.now solution.now)) }
+{
+    match line_after_cost(solution) {
+        Some(number) => {
+            writeln!(
+                errors,
+                "planner: {path}: line {number} is behind the cost line and not read"
+            )
+        }
+        None => Ok(()),
+    }
+}
+
+/// Prints the number of the first line of the instance that names a limit which is not checked, if there is one.
+/// `path` is the instance's file.
+pub fn print_ignored_limit<E: Write>(
+    kind: Kind,
+    path: &str,
+    instance: &[u8],
+    errors: &mut E,
+) -> io::Result<()>
+    ensures { OnOk result (Appends (E.contents errors.old) (E.contents errors.new)
+        (ignored_limit_note kind path.now instance.now)) }
+{
+    match ignored_limit_line(kind, instance) {
+        Some(number) => {
+            writeln!(
+                errors,
+                "planner: {path}: line {number} names a limit that is not asked"
+            )
+        }
+        None => Ok(()),
+    }
+}
+
+/// Prints the notes on a solution and on an instance.
+pub(crate) fn print_ignored<E: Write>(
+    paths: Paths<'_>,
+    instance: &[u8],
+    solution: &[u8],
+    errors: &mut E,
+) -> io::Result<()>
+    ensures { OnOk result (Appends (E.contents errors.old) (E.contents errors.new)
+        (ignored_line_note paths.entry.solution.now solution.now
+        ++ ignored_limit_note paths.entry.kind paths.entry.instance.now instance.now)) }
+{
+    print_ignored_line(paths.solution, solution, errors)?;
+    print_ignored_limit(paths.kind, paths.instance, instance, errors)
+}
+
+/// A line of a list, given by the path of the list and the number of the line, from 1.
+#[derive(Clone, Copy)]
+pub(crate) struct ListLine<'a> {
+    pub list: &'a str,
+    pub number: u64,
+}
+
+/// Prints the note on a solution that a line of a list names.
+pub(crate) fn print_listed_ignored_line<E: Write>(
+    line: ListLine<'_>,
+    path: &str,
+    solution: &[u8],
+    errors: &mut E,
+) -> io::Result<()>
+    ensures { OnOk result (Appends (E.contents errors.old) (E.contents errors.new)
+        (listed_note line.entry.list.now line.entry.number path.now solution.now)) }
+{
+    match line_after_cost(solution) {
+        Some(following) => write_listed(line, path, following, errors),
+        None => Ok(()),
+    }
+}
+
+fn write_listed<E: Write>(
+    line: ListLine<'_>,
+    path: &str,
+    following: u64,
+    errors: &mut E,
+) -> io::Result<()>
+    ensures { OnOk result (Appends (E.contents errors.old) (E.contents errors.new)
+        (listed_note_by line.entry.list.now line.entry.number path.now (Some following))) }
+{
+    write_place(line, errors)?;
+    writeln!(
+        errors,
+        "{path}: line {following} is behind the cost line and not read"
+    )
+}
+
+fn write_place<E: Write>(line: ListLine<'_>, errors: &mut E) -> io::Result<()>
+    ensures { OnOk result (Appends (E.contents errors.old) (E.contents errors.new)
+        (place_text line.entry.list.now line.entry.number)) }
+{
+    let ListLine { list, number } = line;
+    write!(errors, "planner: {list}: line {number}: ")
+}

@@ -1,3 +1,0 @@
--- What public contracts say.
-pub mod BestKnown
-pub mod Gaps

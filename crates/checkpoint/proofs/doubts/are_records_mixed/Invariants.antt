@@ -1,8 +1,0 @@
--- No record so far is newer than the one before it.
-use Rattle.std.proofs.Common.{ℕ, ◌+◌, ◌<◌, ◌≤◌}
-use Rattle.sector_disk.specs.Image.{sector}
-use Rattle.checkpoint.specs.Stores.{begins_with}
-use Rattle.checkpoint.proofs.doubts.are_records_mixed.Given as goal
-
-abbrev pub invariant-loop-i : goal.invariant-loop-i
-invariant-loop-i l = (k : ℕ) → k < l.i → begins_with (sector (3 + k) l.front) ≤ begins_with (sector (2 + k) l.front)

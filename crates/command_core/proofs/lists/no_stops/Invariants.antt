@@ -1,6 +1,0 @@
--- The lists so far are empty, one for each vehicle so far.
-use Rattle.std.proofs.Common.{◌≡◌, [], replicate}
-use Rattle.command_core.proofs.lists.no_stops.Given as goal
-
-abbrev pub invariant-loop : goal.invariant-loop
-invariant-loop l = l.lists ≡ replicate l.counter []

@@ -1,0 +1,7 @@
+-- The stops kept so far and those kept of the rest make up the result
+use Rattle.std.proofs.Common.{◌≡◌, ◌++◌, drop}
+use Rattle.command_core.specs.Effects.{route_without}
+use Rattle.command_core.proofs.withdraw.route_without.Given as goal
+
+abbrev pub invariant-loop-stop : goal.invariant-loop-stop
+invariant-loop-stop l = l.rest ++ route_without l.problem l.name (drop l.stop-index l.stops) ≡ route_without l.problem l.name l.stops

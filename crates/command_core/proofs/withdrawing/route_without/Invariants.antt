@@ -1,7 +1,0 @@
--- What is kept so far, and what is left of the other stops, is all that is left.
-use Rattle.std.proofs.Common.{◌≡◌, ◌++◌, drop}
-use Rattle.command_core.specs.Effects.{route_without}
-use Rattle.command_core.proofs.withdrawing.route_without.Given as goal
-
-abbrev pub invariant-loop-stop : goal.invariant-loop-stop
-invariant-loop-stop l = l.rest ++ route_without l.problem l.name (drop l.stop-index l.stops) ≡ route_without l.problem l.name l.stops

@@ -1,0 +1,5 @@
+-- The record has the required history.
+use Rattle.command_server.proofs.events.Events.of_flush.Given as goal
+
+abbrev pub ghost-of : goal.ghost-of
+ghost-of g a = g.history

@@ -1,5 +1,0 @@
--- The same events.
-use Rattle.command_serving.proofs.events.Events.again.Given as goal
-
-abbrev pub ghost-of_same : goal.ghost-of_same
-ghost-of_same a = record { events = a.self.now.events; reads = a.self.now.reads }

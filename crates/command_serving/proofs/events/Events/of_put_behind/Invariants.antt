@@ -1,5 +1,0 @@
--- What is asked for.
-use Rattle.command_serving.proofs.events.Events.of_put_behind.Given as goal
-
-abbrev pub ghost-of : goal.ghost-of
-ghost-of g a = g.history

@@ -1,6 +1,0 @@
--- The same events, and what one read gave before those of earlier reads.
-use Rattle.std.proofs.Common.{◌∷◌}
-use Rattle.command_serving.proofs.events.Events.with_read.Given as goal
-
-abbrev pub ghost-of_read : goal.ghost-of_read
-ghost-of_read a = record { events = a.self.now.events; reads = a._piece.now ∷ a.self.now.reads }

@@ -1,6 +1,0 @@
--- Nothing was written yet.
-use Rattle.std.specs.Io.KnownBytes.{Keeps}
-use Rattle.command_serving.proofs.streams.write_once.Given as goal
-
-abbrev pub invariant-loop : goal.invariant-loop
-invariant-loop g l = Keeps (g.W.Write.contents l.fn.writer) (g.W.Write.contents l.writer)

@@ -1,7 +1,0 @@
--- A text more was put.
-use Rattle.command_serving.proofs.StreamLemmas.{follows_put}
-use Rattle.command_serving.proofs.strict.StrictSink.put.Goals as goal
-
-pub invariant_of-self-2 : goal.invariant_of-self-2
-invariant_of-self-2 g c = λ whole.
-    follows_put _ _ _ c.self.inside.last_lines (c.self.invariant (c.put.ensures.noted whole)) c.take_all.new.self _ c.args.text.now c.in_ok-put.ensures.puts c.take_all.ensures

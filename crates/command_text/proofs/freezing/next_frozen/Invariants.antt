@@ -1,7 +1,0 @@
--- The vehicles so far have no pin to be set.
-use Rattle.std.proofs.Common.{◌≡◌}
-use Rattle.command_text.specs.Freezing.{freeze_commands}
-use Rattle.command_text.proofs.freezing.next_frozen.Given as goal
-
-abbrev pub invariant-loop-vehicle : goal.invariant-loop-vehicle
-invariant-loop-vehicle l = freeze_commands l.time l.first l.job ≡ freeze_commands l.time l.vehicle l.job

@@ -1,0 +1,3 @@
+-- The lemma files. Those that are `pub` may be used in crates above.
+pub mod AddLemmas
+pub mod PassLemmas

@@ -1,0 +1,11 @@
+-- The lists so far and those of the remaining vehicles are all lists; no more lists are used than vehicles were
+-- seen.
+use Rattle.std.proofs.Common.{◌≡◌, ◌≤◌, ◌++◌, drop}
+use Rattle.fleet_reduction.specs.Fleets.{put_back}
+use Rattle.fleet_reduction.proofs.fleets.put_back.Given as goal
+
+abbrev pub invariant-loop-index : goal.invariant-loop-index
+invariant-loop-index l = record {
+  all : l.routes ++ put_back (drop l.index l.kept) (drop l.next l.lists) ≡ put_back l.kept l.lists;
+  few : l.next ≤ l.index;
+}

@@ -1,0 +1,110 @@
+-- The faults of task lines, in the order in which a reader meets them.
+use Rattle.std.proofs.Common.{◌≡◌, ℕ, suc, ◌+◌, ◌-◌, ◌<◌, ◌≤◌, inl, inr, ⊎_elim, List, [], ◌∷◌, ◌++◌, length, map, Option, Some, None, refl, sym, ap, subst, ◌∙◌, arith, append_assoc}
+use Rattle.std.specs.Prelude.{slice_get}
+use Rattle.std.specs.List.{last_or}
+use Rattle.std.proofs.lemmas.Bool.{cases_Bool, false≢true}
+use Rattle.text_lines.specs.Words.{is_blank_line, words_of}
+use Rattle.instance_read.specs.declared.faults.ReadFault.{ReadFault}
+use Rattle.instance_read.specs.declared.faults.ReadFaultKind.{ReadFaultKind}
+use Rattle.instance_read.specs.declared.tasks.Task.{Task}
+use Rattle.instance_read.specs.Faults.{IsNoLaterPlace}
+use Rattle.instance_read.specs.Lilim.{task_fault}
+use Rattle.instance_read.specs.Pairs.{task_of}
+use Rattle.instance_read.specs.Rows.{Row, rows_from}
+use Rattle.instance_read.specs.TaskFaults.{HasNoKind, IsFirstKind, TaskLineFault, HasNoTaskFault, IsFirstTaskFault, LinesAbove}
+use Rattle.instance_read.proofs.RowLemmas.{rows_nil, rows_blank, rows_read}
+
+pub above_weaker : (m n : ℕ) (rows : List Row) → m ≤ n → LinesAbove n rows → LinesAbove m rows
+above_weaker m n [] l h = tt
+above_weaker m n (row ∷ rows) l h = (omega arith, h.1)
+
+-- the line numbers of a text are ascending
+pub rows_above : (n : ℕ) (ls : List (List ℕ)) → LinesAbove n (rows_from (n + 1) ls)
+rows_above n [] = let P : List Row → Type 0 = LinesAbove n in subst P (sym (rows_nil (n + 1))) tt
+rows_above n (l ∷ ls) =
+    let P : List Row → Type 0 = LinesAbove n in
+    ⊎_elim
+    (λ blank. subst P (sym (rows_blank (n + 1) l ls blank)) (above_weaker n (n + 1) (rows_from (n + 1 + 1) ls) (omega arith) (rows_above (n + 1) ls)))
+    (λ read. subst P (sym (rows_read (n + 1) l ls read)) (omega arith, rows_above (n + 1) ls))
+    (cases_Bool (is_blank_line l))
+
+-- a fault of these lines is on a line after line n
+pub fault_above : (n : ℕ) (previous : Option Task) (rows : List Row) (line : ℕ) (kind : ReadFaultKind) → LinesAbove n rows → TaskLineFault previous rows line kind → n < line
+fault_above n previous [] line kind h f = absurd f
+fault_above n previous (row ∷ rows) line kind h (inl here) = omega (arith, here.0)
+fault_above n previous (row ∷ rows) line kind h (inr later) = omega (arith, fault_above row.line (Some (task_of row)) rows line kind h.1 later)
+
+module _ (previous : Option Task) (row : Row) (rows : List Row) where
+  pub step_none : HasNoKind (task_fault previous (words_of row.text)) → HasNoTaskFault (Some (task_of row)) rows → HasNoTaskFault previous (row ∷ rows)
+  step_none none rest line kind (inl here) = false≢true (sym (none kind) ∙ here.1)
+  step_none none rest line kind (inr later) = rest line kind later
+
+  first_cases : (f : ReadFault) → HasNoKind (task_fault previous (words_of row.text)) → IsFirstTaskFault (Some (task_of row)) rows f → (line : ℕ) (kind : ReadFaultKind)
+      → TaskLineFault previous (row ∷ rows) line kind → IsNoLaterPlace f.line f.kind line kind
+  first_cases f none rest line kind (inl here) = absurd (false≢true (sym (none kind) ∙ here.1))
+  first_cases f none rest line kind (inr later) = rest.first line kind later
+
+  pub step_first : (f : ReadFault) → HasNoKind (task_fault previous (words_of row.text)) → IsFirstTaskFault (Some (task_of row)) rows f → IsFirstTaskFault previous (row ∷ rows) f
+  step_first f none rest = record { here = inr rest.here; first = first_cases f none rest }
+
+  here_cases : (found : ReadFaultKind) → LinesAbove 0 (row ∷ rows) → IsFirstKind (task_fault previous (words_of row.text)) found → (line : ℕ) (kind : ReadFaultKind)
+      → TaskLineFault previous (row ∷ rows) line kind → IsNoLaterPlace row.line found line kind
+  here_cases found above h line kind (inl here) = inr (here.0, h.1 kind here.1)
+  here_cases found above h line kind (inr later) = inl (fault_above row.line (Some (task_of row)) rows line kind above.1 later)
+
+  pub here_first : (found : ReadFaultKind) → LinesAbove 0 (row ∷ rows) → IsFirstKind (task_fault previous (words_of row.text)) found
+      → IsFirstTaskFault previous (row ∷ rows) (record { line = row.line; kind = found })
+  here_first found above h = record { here = inl (refl, h.0); first = here_cases found above h }
+
+pub last_or-push : (o : Option Task) (ts : List Task) (t : Task) → last_or o (ts ++ t ∷ []) ≡ Some t
+last_or-push o [] t = refl
+last_or-push o (u ∷ ts) t = last_or-push (Some u) ts t
+
+last_from : (t : Task) (ts : List Task) → slice_get (t ∷ ts) (length ts) ≡ last_or (Some t) ts
+last_from t [] = refl
+last_from t (u ∷ ts) = last_from u ts
+
+-- the value that `last` returns
+pub last_or-is : (ts : List Task) → slice_get ts (length ts - 1) ≡ last_or None ts
+last_or-is [] = refl
+last_or-is (t ∷ ts) = let n : suc (length ts) - 1 ≡ length ts = omega arith in rw n (last_from t ts)
+
+-- one more line without a fault: `tasks` are those of the lines before it, and `rest` are the lines from it on
+module _ (all rest more : List Row) (row : Row) (tasks : List Task) (previous : Option Task) (task : Task) (steps : rest ≡ row ∷ more)
+    (last : previous ≡ last_or None tasks) (none : HasNoKind (task_fault previous (words_of row.text))) (made : task ≡ task_of row) where
+  pub tasks_more : tasks ++ map task_of rest ≡ map task_of all → (tasks ++ task ∷ []) ++ map task_of more ≡ map task_of all
+  tasks_more h =
+      append_assoc tasks (task ∷ []) (map task_of more) ∙ ap (λ t. tasks ++ t ∷ map task_of more) made
+      ∙ sym (ap (λ rows. tasks ++ map task_of rows) steps) ∙ h
+
+  pub above_more : LinesAbove 0 rest → LinesAbove 0 more
+  above_more h =
+      let P : List Row → Type 0 = LinesAbove 0 in
+      above_weaker 0 row.line more (omega arith) (subst P steps h).1
+
+  after : last_or None (tasks ++ task ∷ []) ≡ Some (task_of row)
+  after = last_or-push None tasks task ∙ ap (λ t. Some t) made
+
+  pub none_more : HasNoTaskFault (last_or None (tasks ++ task ∷ [])) more → HasNoTaskFault (last_or None tasks) rest
+  none_more h =
+      let P : Option Task → Type 0 = λ o. HasNoTaskFault o more in
+      let Q : List Row → Type 0 = HasNoTaskFault previous in
+      let R : Option Task → Type 0 = λ o. HasNoTaskFault o rest in
+      subst R last (subst Q (sym steps) (step_none previous row more none (subst P after h)))
+
+  pub first_more : (f : ReadFault) → IsFirstTaskFault (last_or None (tasks ++ task ∷ [])) more f → IsFirstTaskFault (last_or None tasks) rest f
+  first_more f h =
+      let P : Option Task → Type 0 = λ o. IsFirstTaskFault o more f in
+      let Q : List Row → Type 0 = λ rows. IsFirstTaskFault previous rows f in
+      let R : Option Task → Type 0 = λ o. IsFirstTaskFault o rest f in
+      subst R last (subst Q (sym steps) (step_first previous row more f none (subst P after h)))
+
+-- the fault of the line at which reading ends is the first of all lines
+pub stops_first : (rest more : List Row) (row : Row) (tasks : List Task) (previous : Option Task) (found : ReadFaultKind) → rest ≡ row ∷ more
+    → previous ≡ last_or None tasks → LinesAbove 0 rest → IsFirstKind (task_fault previous (words_of row.text)) found
+    → IsFirstTaskFault (last_or None tasks) rest (record { line = row.line; kind = found })
+stops_first rest more row tasks previous found steps last above h =
+    let P : List Row → Type 0 = LinesAbove 0 in
+    let Q : List Row → Type 0 = λ rows. IsFirstTaskFault previous rows (record { line = row.line; kind = found }) in
+    let R : Option Task → Type 0 = λ o. IsFirstTaskFault o rest (record { line = row.line; kind = found }) in
+    subst R last (subst Q (sym steps) (here_first previous row more found (subst P steps above) h))

@@ -1,6 +1,0 @@
--- A line with a colon is its key, the colon and its value, with blanks around them.
-use Rattle.instance_read.proofs.KeyLineProofs.{key_lines}
-use Rattle.instance_read.proofs.laws.key_lines_are_made.Goals as goal
-
-pub returns : goal.returns
-returns c = key_lines

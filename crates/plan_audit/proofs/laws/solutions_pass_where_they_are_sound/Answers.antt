@@ -1,6 +1,0 @@
--- A printed solution passes just where it is sound, plans every request, uses no more vehicles than there are, and prints the distance driven.
-use Rattle.plan_audit.proofs.LawProofs.{solutions_pass_where_sound}
-use Rattle.plan_audit.proofs.laws.solutions_pass_where_they_are_sound.Goals as goal
-
-pub returns : goal.returns
-returns c = solutions_pass_where_sound c.requests_stand_by_name.ensures c.requests_are_found_by_stop.ensures

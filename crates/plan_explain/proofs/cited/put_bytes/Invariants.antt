@@ -1,7 +1,0 @@
--- The text has the bytes so far behind what it had.
-use Rattle.std.proofs.Common.{◌≡◌, ◌++◌, map, take}
-use Rattle.plan_explain.specs.Cited.{shown_byte}
-use Rattle.plan_explain.proofs.cited.put_bytes.Given as goal
-
-abbrev pub invariant-loop-byte : goal.invariant-loop-byte
-invariant-loop-byte l = l.text ≡ l.fn.text ++ map shown_byte (take l.byte-index l.bytes)

@@ -1,0 +1,27 @@
+-- Limits that a `.vrp` file may have and that are ignored here, like any other unknown key. Lines count from 1.
+use Rattle.std.specs.Prelude.{ℕ, ◌+◌, ◌||◌, Bool, List, [], ◌∷◌, codes, Option, Some, None, if◌then◌else◌}
+use Rattle.std.specs.Str.{str_eq_ignore_ascii_case}
+use Rattle.instance_read.specs.VrpLines.{key_text}
+use Rattle.plan_types.specs.declared.requests.Kind.{Kind}
+use Rattle.plan_types.specs.declared.requests.Kind.TheVariants.{LiLim, Vrp}
+use Rattle.text_lines.specs.Lines.{lines_of}
+use Rattle.plan_explain.specs.Quotes.{is_key}
+
+-- the key limits the number of vehicles, the length of a route, its number of stops, or its risk, in the
+-- readers of LKH and CVRPLIB
+abbrev pub is_limit : List ℕ → Bool
+is_limit key = str_eq_ignore_ascii_case key (codes "VEHICLES") || (str_eq_ignore_ascii_case key (codes "SALESMEN")
+    || (str_eq_ignore_ascii_case key (codes "MAX_DURATION") || (str_eq_ignore_ascii_case key (codes "MAX_DISTANCE")
+    || (str_eq_ignore_ascii_case key (codes "MTSP_MIN_SIZE") || (str_eq_ignore_ascii_case key (codes "MTSP_MAX_SIZE")
+    || str_eq_ignore_ascii_case key (codes "RISK_THRESHOLD"))))))
+
+-- the number of the first line before the EOF line whose key is a limit; the first line of the list has number
+-- n
+abbrev pub limit_from : ℕ → List (List ℕ) → Option ℕ
+limit_from n [] = None
+limit_from n (line ∷ lines) = if is_key (codes "EOF") line then None else if is_limit (key_text line) then Some n else limit_from (n + 1) lines
+
+-- the number of the first line whose key is a limit, in an instance of this kind
+abbrev pub ignored_limit_line : Kind → List ℕ → Option ℕ
+ignored_limit_line LiLim text = None
+ignored_limit_line Vrp text = limit_from 1 (lines_of text)

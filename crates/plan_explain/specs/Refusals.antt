@@ -1,0 +1,96 @@
+-- The text for a refused file: the sentence on its fault, the line that the fault names, and notes on the whole
+-- file.
+use Rattle.std.specs.Prelude.{ℕ, ◌==◌, ◌&&◌, ◌||◌, not, Bool, false, List, [], ◌∷◌, ◌++◌, length, codes, Option, Some, None, decimal}
+use Rattle.std.specs.List.{list_any}
+use Rattle.text_lines.specs.Lines.{lines_of}
+use Rattle.text_lines.specs.Words.{words_of}
+use Rattle.plan_types.specs.declared.requests.Kind.{Kind}
+use Rattle.plan_types.specs.declared.requests.Kind.TheVariants.{LiLim, Vrp}
+use Rattle.plan_audit.specs.Rules.{item_at}
+use Rattle.instance_read.specs.Evidence.{evidence_of}
+use Rattle.instance_read.specs.Fields.{has_no_number}
+use Rattle.instance_read.specs.declared.faults.ReadFault.{ReadFault}
+use Rattle.instance_read.specs.declared.faults.ReadFaultKind.{ReadFaultKind}
+use Rattle.instance_read.specs.declared.faults.ReadFaultKind.TheVariants as faults
+use Rattle.sol_text.specs.declared.faults.SolFault.{SolFault}
+use Rattle.sol_text.specs.declared.faults.SolFaultKind.{SolFaultKind}
+use Rattle.sol_text.specs.declared.faults.SolFaultKind.TheVariants as sol_faults
+use Rattle.plan_explain.specs.Quotes.{is_key, shown_bytes}
+use Rattle.plan_explain.specs.EvidenceTexts.{evidence_text}
+use Rattle.plan_explain.specs.Templates.{form, text_if}
+use Rattle.plan_explain.specs.SolFaults.{sol_detail}
+
+-- the words for a task with a number above the greatest allowed, or for a DIMENSION that announces too many
+-- nodes
+unfoldable pub too_many : Kind → List ℕ
+too_many LiLim = codes "a task has a number above 40000"
+too_many Vrp = codes "there are more nodes than 40001"
+
+-- the description of a fault of an instance of this kind
+unfoldable pub instance_reason : Kind → ReadFaultKind → List ℕ
+instance_reason kind faults.BadNumber = codes "a word is not a whole number"
+instance_reason kind faults.Range = codes "a number is outside its limits"
+instance_reason kind faults.FieldCount = codes "the number of words is wrong"
+instance_reason kind faults.TaskOrder = codes "task numbers do not rise from 0"
+instance_reason kind faults.PairMismatch = codes "a task is no half of a pair"
+instance_reason kind faults.EmptyWindow = codes "a window ends before it begins"
+instance_reason kind faults.TooManyStops = too_many kind
+instance_reason kind faults.MissingKey = codes "a key or a section is missing"
+instance_reason kind faults.Unsupported = codes "the key or its value is not supported"
+instance_reason kind faults.DepotNotFirst = codes "the list of depots is not 1 and then -1"
+instance_reason kind faults.NodeRepeated = codes "a node, a key or a section stands twice"
+instance_reason kind faults.Truncated = codes "the text ends early"
+instance_reason kind faults.OutOfMemory = codes "out of memory"
+
+-- the sentence on the fault, with the details of the line that it names
+abbrev pub instance_sentence : Kind → List ℕ → ReadFault → List ℕ
+instance_sentence kind text fault =
+    form (codes "line @: ") (decimal fault.line ∷ []) ++ instance_reason kind fault.kind ++ evidence_text fault.kind (evidence_of kind text fault)
+
+unfoldable pub solution_reason : SolFaultKind → List ℕ
+solution_reason sol_faults.BadLine = codes "this is no route line, and no cost line with one word"
+solution_reason sol_faults.BadNumber = codes "a word is not the number that has to stand there"
+solution_reason sol_faults.NoCost = codes "there is no cost line"
+solution_reason sol_faults.OutOfMemory = codes "out of memory"
+
+abbrev pub solution_sentence : List ℕ → SolFault → List ℕ
+solution_sentence text fault =
+    form (codes "line @: ") (decimal fault.line ∷ []) ++ solution_reason fault.kind ++ sol_detail text fault.line fault.kind
+
+-- the line, if the file has it
+abbrev pub quoted_line : Option (List ℕ) → List ℕ
+quoted_line None = []
+quoted_line (Some bytes) = form (codes "@\n") (shown_bytes bytes ∷ [])
+
+-- the end of the sentence's line, and below it the line that it names; lines count from 1
+abbrev pub under_sentence : List ℕ → ℕ → List ℕ
+under_sentence text number = codes "\n" ++ quoted_line (item_at (lines_of text) number)
+
+-- the file begins with U+FEFF in UTF-8
+abbrev pub has_bom : List ℕ → Bool
+has_bom (a ∷ b ∷ c ∷ rest) = a == 239 && b == 187 && c == 191
+has_bom _ = false
+
+abbrev pub bom_note : List ℕ → List ℕ
+bom_note text = text_if (codes "the text begins with a byte order mark (EF BB BF): save it without, or by tail -c +4\n") (has_bom text)
+
+-- the line has the key of the number of nodes or of their coordinates
+abbrev pub is_vrp_line : List ℕ → Bool
+is_vrp_line line = is_key (codes "DIMENSION") line || is_key (codes "NODE_COORD_SECTION") line
+
+-- the line has the nine numbers of a task
+abbrev pub has_nine_numbers : List ℕ → Bool
+has_nine_numbers line = length (words_of line) == 9 && not (has_no_number (words_of line))
+
+-- a note if an instance that is read as this kind looks like the other kind
+abbrev pub kind_note : Kind → List ℕ → List ℕ
+kind_note LiLim text = text_if (codes "the text looks like a .vrp instance, and is read as lilim\n") (list_any is_vrp_line (lines_of text))
+kind_note Vrp text = text_if (codes "the text looks like a Li-Lim instance, and is read as vrp\n") (list_any has_nine_numbers (lines_of text))
+
+-- the text for an instance that was read as this kind and has this fault
+abbrev pub instance_fault_text : Kind → List ℕ → ReadFault → List ℕ
+instance_fault_text kind text fault = instance_sentence kind text fault ++ under_sentence text fault.line ++ bom_note text ++ kind_note kind text
+
+-- the text for a solution with this fault
+abbrev pub solution_fault_text : List ℕ → SolFault → List ℕ
+solution_fault_text text fault = solution_sentence text fault ++ under_sentence text fault.line ++ bom_note text

@@ -1,0 +1,164 @@
+//! The text for a refused file: the sentence on its fault, the line that the fault names, and notes on the
+//! whole file.
+ghost use Rattle.std.specs.Prelude.{◌≡◌, ◌++◌, IfOk, string_bytes};
+ghost use Rattle.std.specs.List.{list_any};
+ghost use Rattle.text_lines.specs.Lines.{lines_of};
+ghost use Rattle.plan_explain.specs.Refusals.{has_nine_numbers, instance_fault_text, instance_reason, instance_sentence, is_vrp_line, kind_note, bom_note, solution_fault_text, solution_reason, solution_sentence, too_many, under_sentence};
+
+use crate::evidence::put_evidence;
+use crate::quotes::{is_key, line_at};
+use crate::sol_faults::put_sol_detail;
+use crate::templates::Value::{Number, Quote};
+use crate::templates::{put_if, put_template};
+use instance_read::{ReadFault, ReadFaultKind, evidence_of, has_no_number};
+use plan_types::{Kind, OutOfMemory};
+use sol_text::{SolFault, SolFaultKind};
+use std::alloc::Global;
+use text_buffer::TextBuffer;
+use text_lines::{Lines, word_count};
+
+/// Returns the sentence on a fault of an instance that was read as this kind. Below it is the line that the
+/// fault names, if the file has that line: its first 200 bytes, with `?` for each byte that is neither
+/// printable ASCII nor a tab. Notes follow if the file begins with a byte order mark, or looks like an instance
+/// of the other kind.
+pub fn explain_instance_fault(
+    alloc: Global,
+    kind: Kind,
+    text: &[u8],
+    fault: ReadFault,
+) -> Result<String, OutOfMemory>
+    ensures { IfOk result (λ answer. string_bytes answer
+        ≡ instance_fault_text kind text.now fault) }
+{
+    let mut answer = TextBuffer::new(alloc);
+    put_instance_sentence(&mut answer, kind, text, fault);
+    put_line_under(&mut answer, text, fault.line);
+    put_bom_note(&mut answer, text);
+    put_kind_note(&mut answer, kind, text);
+    answer.into_string()
+}
+
+/// Returns the sentence on a fault of a solution, the line that it names, and the note on a byte order mark,
+/// like `explain_instance_fault`.
+pub fn explain_solution_fault(
+    alloc: Global,
+    text: &[u8],
+    fault: SolFault,
+) -> Result<String, OutOfMemory>
+    ensures { IfOk result (λ answer. string_bytes answer ≡ solution_fault_text text.now fault) }
+{
+    let mut answer = TextBuffer::new(alloc);
+    put_solution_sentence(&mut answer, text, fault);
+    put_line_under(&mut answer, text, fault.line);
+    put_bom_note(&mut answer, text);
+    answer.into_string()
+}
+
+fn put_instance_sentence(answer: &mut TextBuffer, kind: Kind, text: &[u8], fault: ReadFault)
+    ensures { answer.new ≡ answer.old ++ instance_sentence kind text.now fault }
+{
+    put_template(answer, "line @: ", &[Number(fault.line)]);
+    answer.push_str(instance_reason(kind, fault.kind));
+    put_evidence(answer, fault.kind, evidence_of(kind, text, fault));
+}
+
+#[tactic(auto, unfolding(crate::specs::Refusals::instance_reason))]
+fn instance_reason(kind: Kind, fault: ReadFaultKind) -> &'static str
+    ensures { result.now ≡ instance_reason kind fault }
+{
+    match fault {
+        ReadFaultKind::BadNumber => "a word is not a whole number",
+        ReadFaultKind::Range => "a number is outside its limits",
+        ReadFaultKind::FieldCount => "the number of words is wrong",
+        ReadFaultKind::TaskOrder => "task numbers do not rise from 0",
+        ReadFaultKind::PairMismatch => "a task is no half of a pair",
+        ReadFaultKind::EmptyWindow => "a window ends before it begins",
+        ReadFaultKind::TooManyStops => too_many(kind),
+        ReadFaultKind::MissingKey => "a key or a section is missing",
+        ReadFaultKind::Unsupported => "the key or its value is not supported",
+        ReadFaultKind::DepotNotFirst => "the list of depots is not 1 and then -1",
+        ReadFaultKind::NodeRepeated => "a node, a key or a section stands twice",
+        ReadFaultKind::Truncated => "the text ends early",
+        ReadFaultKind::OutOfMemory => "out of memory",
+    }
+}
+
+#[tactic(auto, unfolding(crate::specs::Refusals::too_many))]
+fn too_many(kind: Kind) -> &'static str
+    ensures { result.now ≡ too_many kind }
+{
+    match kind {
+        Kind::LiLim => "a task has a number above 40000",
+        Kind::Vrp => "there are more nodes than 40001",
+    }
+}
+
+fn put_solution_sentence(answer: &mut TextBuffer, text: &[u8], fault: SolFault)
+    ensures { answer.new ≡ answer.old ++ solution_sentence text.now fault }
+{
+    put_template(answer, "line @: ", &[Number(fault.line)]);
+    answer.push_str(solution_reason(fault.kind));
+    put_sol_detail(answer, text, fault);
+}
+
+#[tactic(auto, unfolding(crate::specs::Refusals::solution_reason))]
+fn solution_reason(fault: SolFaultKind) -> &'static str
+    ensures { result.now ≡ solution_reason fault }
+{
+    match fault {
+        SolFaultKind::BadLine => "this is no route line, and no cost line with one word",
+        SolFaultKind::BadNumber => "a word is not the number that has to stand there",
+        SolFaultKind::NoCost => "there is no cost line",
+        SolFaultKind::OutOfMemory => "out of memory",
+    }
+}
+
+// Ends the sentence's line, and appends the line with this number, if the file has it.
+fn put_line_under(answer: &mut TextBuffer, text: &[u8], number: u64)
+    ensures { answer.new ≡ answer.old ++ under_sentence text.now number }
+{
+    answer.push_str("\n");
+    if let Some(bytes) = line_at(text, number) {
+        put_template(answer, "@\n", &[Quote(bytes)]);
+    }
+}
+
+// Appends a note if the file begins with a byte order mark.
+fn put_bom_note(text: &mut TextBuffer, refused: &[u8])
+    ensures { text.new ≡ text.old ++ bom_note refused.now }
+{
+    let words =
+        "the text begins with a byte order mark (EF BB BF): save it without, or by tail -c +4\n";
+    put_if(text, words, matches!(refused, [0xef, 0xbb, 0xbf, ..]));
+}
+
+// Appends a note if an instance that is read as this kind looks like the other kind.
+fn put_kind_note(text: &mut TextBuffer, kind: Kind, instance: &[u8])
+    ensures { text.new ≡ text.old ++ kind_note kind instance.now }
+{
+    match kind {
+        Kind::LiLim => {
+            let words = "the text looks like a .vrp instance, and is read as lilim\n";
+            put_if(text, words, looks_like_vrp(instance))
+        }
+        Kind::Vrp => {
+            let words = "the text looks like a Li-Lim instance, and is read as vrp\n";
+            put_if(text, words, looks_like_lilim(instance))
+        }
+    }
+}
+
+// Returns whether a line has the key `DIMENSION` or `NODE_COORD_SECTION`.
+fn looks_like_vrp(instance: &[u8]) -> bool
+    ensures { result ≡ list_any is_vrp_line (lines_of instance.now) }
+{
+    Lines::new(instance).any(|line| is_key(b"DIMENSION", line)
+        || is_key(b"NODE_COORD_SECTION", line))
+}
+
+// Returns whether a line has the nine numbers of a task.
+fn looks_like_lilim(instance: &[u8]) -> bool
+    ensures { result ≡ list_any has_nine_numbers (lines_of instance.now) }
+{
+    Lines::new(instance).any(|line| word_count(line) == 9 && !has_no_number(line))
+}

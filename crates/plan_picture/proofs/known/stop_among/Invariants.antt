@@ -1,7 +1,0 @@
--- The stops to come give the answer.
-use Rattle.std.proofs.Common.{◌≡◌, drop}
-use Rattle.plan_picture.specs.Known.{stop_among}
-use Rattle.plan_picture.proofs.known.stop_among.Given as goal
-
-abbrev pub invariant-loop-stop : goal.invariant-loop-stop
-invariant-loop-stop l = stop_among l.number (drop l.stop-index l.stops) ≡ stop_among l.number l.stops

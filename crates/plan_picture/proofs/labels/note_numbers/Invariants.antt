@@ -1,7 +1,0 @@
--- Behind the numbers to come the labels are those behind all numbers.
-use Rattle.std.proofs.Common.{◌≡◌, drop}
-use Rattle.plan_picture.specs.Labels.{with_numbers}
-use Rattle.plan_picture.proofs.labels.note_numbers.Given as goal
-
-abbrev pub invariant-loop-stop : goal.invariant-loop-stop
-invariant-loop-stop l = with_numbers l.frame l.labels.items (drop l.stop-index l.stops) ≡ with_numbers l.frame l.fn.labels.items l.stops

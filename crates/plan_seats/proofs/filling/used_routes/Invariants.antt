@@ -1,8 +1,0 @@
--- The used routes so far and those that are left are all.
-use Rattle.std.proofs.Common.{◌≡◌, ◌++◌}
-use Rattle.std.specs.Vec.Iter.{into_iter_items}
-use Rattle.sol_text.specs.Written.{used_routes}
-use Rattle.plan_seats.proofs.filling.used_routes.Given as goal
-
-abbrev pub invariant-loop-route : goal.invariant-loop-route
-invariant-loop-route l = l.used ++ used_routes (into_iter_items l.route-iterator) ≡ used_routes l.fn.routes

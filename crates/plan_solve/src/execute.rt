@@ -1,0 +1,59 @@
+//! Executes operations with a planner. The operations of this crate are refused only if memory runs out.
+ghost use Rattle.std.specs.Prelude.{◌≡◌, IfErr, IfOk, OnOk};
+ghost use Rattle.command_core.specs.Effects.{effect};
+ghost use Rattle.command_types.specs.declared.states.State.TheVariants.{Loaded};
+
+use command_core::{Change, Command, Job, Planner, Refusal, State};
+use plan_types::OutOfMemory;
+use std::alloc::{AllocError, Global};
+
+/// Executes an operation.
+pub(crate) fn execute(
+    alloc: Global,
+    planner: &mut Planner,
+    command: Command,
+) -> Result<(), OutOfMemory>
+    ensures { OnOk result (planner.new ≡ effect planner.old command) }
+{
+    out_of_memory_if_refused(planner.change(alloc, &command))
+}
+
+// Turns any refusal into `OutOfMemory`, since no other cause is possible.
+fn out_of_memory_if_refused(changed: Result<Change, Refusal>) -> Result<(), OutOfMemory>
+    ensures { OnOk result (IfErr changed (λ _. ⊥)) }
+{
+    match changed {
+        Ok(_) => Ok(()),
+        Err(_) => Err(AllocError),
+    }
+}
+
+/// Returns the job of a planner that has loaded one.
+pub(crate) fn job_of(planner: &Planner) -> Result<&Job, OutOfMemory>
+    ensures { IfOk result (λ job. planner.now ≡ Loaded job.now) }
+{
+    match planner.state() {
+        State::Loaded(job) => Ok(job),
+        State::Empty => Err(AllocError),
+    }
+}
+
+/// Returns the planner's job if the steps succeeded.
+pub(crate) fn final_job(planner: Planner, made: Result<(), OutOfMemory>) -> Result<Job, OutOfMemory>
+    ensures { IfOk result (λ job. (planner ≡ Loaded job) × IfErr made (λ _. ⊥)) }
+{
+    match made {
+        Ok(()) => into_job(planner),
+        Err(error) => Err(error),
+    }
+}
+
+/// Consumes the planner and returns its job.
+pub(crate) fn into_job(planner: Planner) -> Result<Job, OutOfMemory>
+    ensures { IfOk result (λ job. planner ≡ Loaded job) }
+{
+    match planner.into_state() {
+        State::Loaded(job) => Ok(job),
+        State::Empty => Err(AllocError),
+    }
+}

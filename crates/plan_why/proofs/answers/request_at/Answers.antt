@@ -1,9 +1,0 @@
--- A stop of no request has none; that of one is found under the request's name.
-use Rattle.std.proofs.Common.{◌∙◌, sym}
-use Rattle.plan_audit.proofs.FirstLemmas.{map-none}
-use Rattle.plan_types.specs.Instance.{request_with}
-use Rattle.plan_types.specs.Request.{request_name}
-use Rattle.plan_why.proofs.answers.request_at.Goals as goal
-
-pub returns-in-None-clause-found : goal.returns-in-None-clause-found
-returns-in-None-clause-found c = sym (map-none request_name (request_with c.args.problem.now c.args.stop) (sym c.name_of.ensures.found ∙ c.in-None.is))

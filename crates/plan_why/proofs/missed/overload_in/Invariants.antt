@@ -1,7 +1,0 @@
--- The first heavy row of those left is that of all.
-use Rattle.std.proofs.Common.{◌≡◌, drop}
-use Rattle.plan_why.specs.Missed.{overload_in}
-use Rattle.plan_why.proofs.missed.overload_in.Given as goal
-
-abbrev pub invariant-loop-row : goal.invariant-loop-row
-invariant-loop-row l = overload_in l.capacity (drop l.row-index l.rows) ≡ overload_in l.capacity l.rows

@@ -1,8 +1,0 @@
--- The rows so far and those left, as they are moved, are all rows of the new route.
-use Rattle.std.proofs.Common.{◌≡◌, ◌∷◌, ◌++◌, take, drop}
-use Rattle.plan_why.specs.Moved.{moved_from}
-use Rattle.plan_why.proofs.puts.moved_rows.Given as goal
-
-abbrev pub invariant-loop-index : goal.invariant-loop-index
-invariant-loop-index l = l.new.items ++ moved_from l.left l.had_left l.stop.demand (drop l.index l.rows) ≡ take l.at l.rows ++
-    (l.fn.row ∷ moved_from l.fn.now l.fn.before l.stop.demand (drop l.at l.rows))

@@ -1,9 +1,0 @@
--- The best so far and the places left give the best of all.
-use Rattle.std.proofs.Common.{◌≡◌, ◌+◌}
-use Rattle.plan_types.specs.declared.requests.Request.TheVariants.{Single}
-use Rattle.plan_why.specs.Trials.{best_from, best_trial}
-use Rattle.plan_why.proofs.TrialLemmas.{singles}
-use Rattle.plan_why.proofs.trials.best_single.Given as goal
-
-abbrev pub invariant-loop-front : goal.invariant-loop-front
-invariant-loop-front l = best_from l.best (singles l.problem l.route l.stop (l.front + 1)) ≡ best_trial l.problem l.route (Single l.stop) l.kept

@@ -1,9 +1,0 @@
--- The device was read to tell what its file is, or not.
-use Rattle.planner_cli.proofs.ReadLemmas.{not_read}
-use Rattle.planner_cli.proofs.remains.tell_remains.Goals as goal
-
-pub returns-in_default : goal.returns-in_default
-returns-in_default g c = not_read g.D.Sectors g.met.D.Sectors.only_now c.args.device.now
-
-pub returns-in-BadVersion : goal.returns-in-BadVersion
-returns-in-BadVersion g c = not_read g.D.Sectors g.met.D.Sectors.only_now c.args.device.now

@@ -1,7 +1,0 @@
--- What was read of the old store, and what was made of it.
-use Rattle.std.proofs.Common.{refl}
-use Rattle.std.specs.Prelude.{Ok}
-use Rattle.planner_cli.proofs.stores.upgrade_onto.Goals as goal
-
-pub returns-in-Ok-clause-upgrades : goal.returns-in-Ok-clause-upgrades
-returns-in-Ok-clause-upgrades g c = (c.read_version_1-read.new.old, Ok c.in-Ok.state, refl, c.in-Ok.ensures, (c.make_upgraded-told.ensures.asks, c.make_upgraded-told.ensures.makes))

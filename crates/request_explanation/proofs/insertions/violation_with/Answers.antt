@@ -1,0 +1,14 @@
+-- The violations before the stop, at it and after it are those of the route with the stop.
+use Rattle.std.proofs.Common.{◌∙◌, ap, pos}
+use Rattle.plan_explain.specs.declared.rows.Row.{Row}
+use Rattle.request_explanation.specs.Insertions.{violations_then}
+use Rattle.request_explanation.proofs.InsertionLemmas.{miss_reported}
+use Rattle.request_explanation.proofs.insertions.violation_with.Goals as goal
+
+pub returns : goal.returns
+returns c = λ number is.
+    let none : Row = record { place = 0; stop = 0; arrival = 0; start = 0; earliest = 0; latest = 0; load = pos 0 } in
+    miss_reported c.args.problem.now c.args.tour.now c.args.at c.requires.tour c.requires.within.0 c.requires.within.1 c.args.detour.now c.requires.detour number is
+    c.args.front c.then-found.result none none c.in_ok-row.row c.in_ok-arrival.arrival c.in_ok-violation.violation
+    c.requires.front c.in_ok-row.ensures c.in_ok-arrival.ensures
+    (c.then-found.ensures ∙ ap (violations_then c.args.front) c.violations_in.ensures) (c.in_ok-violation.ensures none)

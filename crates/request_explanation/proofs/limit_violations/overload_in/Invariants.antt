@@ -1,0 +1,7 @@
+-- The first overloaded row among the remaining rows is the first of all.
+use Rattle.std.proofs.Common.{◌≡◌, drop}
+use Rattle.request_explanation.specs.LimitViolations.{overload_in}
+use Rattle.request_explanation.proofs.limit_violations.overload_in.Given as goal
+
+abbrev pub invariant-loop-row : goal.invariant-loop-row
+invariant-loop-row l = overload_in l.capacity (drop l.row-index l.rows) ≡ overload_in l.capacity l.rows

@@ -1,8 +1,0 @@
--- A request that is not planned goes behind those before it.
-use Rattle.rule_breaches.proofs.StepLemmas.{unserved_kept}
-use Rattle.rule_breaches.proofs.missing.add_unserved.Goals as goal
-
-pub loop-index-preserved : goal.loop-index-preserved
-loop-index-preserved c =
-    unserved_kept c.args.routes.now c.args.problem.now.requests c.loop-index.index _ _ _ c.unserved_breach.result c.in_ok-add.ensures c.unserved_breach.ensures
-    c.loop-index.invariant

@@ -1,6 +1,0 @@
--- After the same writes and syncs a file and a device in memory read the same, and a stop may leave the same images.
-use Rattle.sector_disk.proofs.FileLawProofs.{is_as_in_memory}
-use Rattle.sector_disk.proofs.laws.a_file_is_as_a_device_in_memory.Goals as goal
-
-pub returns : goal.returns
-returns c = is_as_in_memory

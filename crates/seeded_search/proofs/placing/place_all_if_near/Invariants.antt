@@ -1,0 +1,17 @@
+-- Inserting the remaining requests into the draft so far makes the plan with all. Their number is counted, and
+-- the greatest saving by them is their sum.
+use Rattle.std.proofs.Common.{◌≡◌, ◌+◌, drop, length}
+use Rattle.std.specs.Prelude.{sum_by}
+use Rattle.move_ops.specs.Drafts.{base_of, draft_of, IsDraftOf}
+use Rattle.move_ops.specs.Savings.{max_saving}
+use Rattle.seeded_search.specs.Steps.{placed_all}
+use Rattle.seeded_search.proofs.placing.place_all_if_near.Given as goal
+
+abbrev pub invariant-loop-name : goal.invariant-loop-name
+invariant-loop-name l = record {
+  is : IsDraftOf l.problem l.pins.routes l.draft;
+  base : base_of l.draft ≡ base_of l.fn.draft;
+  left : placed_all l.problem l.pins.routes (draft_of l.draft) (drop l.name-index l.names) ≡ placed_all l.problem l.pins.routes (draft_of l.fn.draft) l.names;
+  following : l.following + l.name-index ≡ length l.names;
+  rest : l.rest ≡ sum_by (max_saving l.problem) (drop l.name-index l.names);
+}

@@ -1,0 +1,7 @@
+-- The table has the stops so far at the same places of the route, so they are a shared prefix wherever the loop
+-- ends.
+use Rattle.slack_tables.specs.SharedPrefix.{IsSharedPrefix}
+use Rattle.slack_tables.proofs.front.shared_prefix_length.Given as goal
+
+abbrev pub invariant-loop-k : goal.invariant-loop-k
+invariant-loop-k l = IsSharedPrefix l.known l.route l.k

@@ -1,0 +1,2 @@
+-- definitions that public contracts use
+pub mod Columns

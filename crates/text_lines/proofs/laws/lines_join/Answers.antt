@@ -1,6 +1,0 @@
--- The lines of a text are what its line feeds cut it into.
-use Rattle.text_lines.proofs.LawProofs.{cut_at_line_feeds}
-use Rattle.text_lines.proofs.laws.lines_join.Goals as goal
-
-pub returns : goal.returns
-returns c = cut_at_line_feeds

@@ -1,0 +1,8 @@
+-- The used routes so far, followed by those among the remaining routes, are all used routes.
+use Rattle.std.proofs.Common.{◌≡◌, ◌++◌}
+use Rattle.std.specs.Vec.Iter.{into_iter_items}
+use Rattle.sol_text.specs.Written.{used_routes}
+use Rattle.vehicle_assignment.proofs.fill.used_routes.Given as goal
+
+abbrev pub invariant-loop-route : goal.invariant-loop-route
+invariant-loop-route l = l.used ++ used_routes (into_iter_items l.route-iterator) ≡ used_routes l.fn.routes
