@@ -68,7 +68,7 @@ done <words.txt
 
 answer auditor auditor solve lilim one-pair.txt 1
 [ "$(cat -- "$folder/auditor.status")" = 64 ] || fail 'it solves'
-[ "$(cat -- "$folder/auditor.errors")" = 'auditor: only planner does that; here are audit, audits and explain' ] ||
+[ "$(cat -- "$folder/auditor.errors")" = 'auditor: only planner has this command; auditor has audit, audits and explain' ] ||
     fail 'it does not say what it does'
 
 [ "$failures" = 0 ] || exit 1

@@ -145,7 +145,7 @@ def check_failed_call(store, name, number, error):
         if (status, store.shown()) != (3, store.states[0]):
             fail(f"{what}, in opening: status {status}")
         return "opening"
-    if "planner: the store failed: go on with a copy" not in errors:
+    if "planner: the store's device failed: continue with a copy" not in errors:
         fail(f"{what}: no cure in {errors!r}")
     answers, found, rest = output.partition("fault device\n")
     acknowledged = answers.count("ok\n")

@@ -66,7 +66,7 @@ REFUSED = re.compile("|".join(REFUSED_WORDS), flags=re.IGNORECASE)
 KEPT_TEXTS = re.compile(
     r": behind stop\b|task @ stands behind task @|task 1 stands behind task 2|words stand behind -1"
     r"|behind the word routes no cost is asked|due behind Cost|as they do behind: sed|as it has none behind: grep"
-    r"|is behind the cost line\b|--anew\b"
+    r"|--anew\b"
 )
 # Words are checked in these folders and in the files at the top, except in this file and in what is built.
 PROSE_FOLDERS = ("bench", "crates", "docs", "examples", "man", "tests", "tools")

@@ -43,7 +43,7 @@ from upgrade import old_store  # noqa: E402
 PAIR = b"2 10 1\n0 0 0 0 0 100 0 0 0\n1 3 4 4 0 50 2 0 2\n2 6 8 -4 0 60 2 1 0\n"
 BOTH = b"Route #1: 1 2\nCost 20\n"
 PASS = "pass 0 1 20\n"
-NOT_PLAIN = "it is no plain file"
+NOT_PLAIN = "it is not a regular file"
 # Nothing here takes longer.
 SECONDS = 60
 
@@ -482,7 +482,7 @@ def check_size_limit(folder):
         answers, found, rest = output.partition("fault device\n")
         what = f"a run after {len(commands)} commands to {size} bytes"
         expect(what, (status, found, rest.replace("no Broken\n", "")), (0, "fault device\n", ""))
-        if not errors.startswith(told("day.store", "EFBIG")) or "planner: the store failed: " not in errors:
+        if not errors.startswith(told("day.store", "EFBIG")) or "planner: the store's device failed: " not in errors:
             fail(f"{what}: {errors!r}")
         expect_acknowledged(what, states, len(commands) * "ok\n" + answers, shown(folder, "day.store"))
     write(folder.at("day.store"), day)

@@ -197,13 +197,13 @@ TAKEN = [
 
 # Usage errors, and the beginning of the first line of standard error, after `error: `.
 NOT_GIVEN = "the following required arguments were not provided:"
-BAD_STEPS = "STEPS and DEVIATION are 0 to 1000000000 and SEED 0 to 18446744073709551615, in digits alone"
-BAD_SEED = "SEED is 0 to 18446744073709551615, in digits alone"
-BAD_TASKS = "STEPS is 0 to 1000000000 and SEED 0 to 18446744073709551615, in digits alone"
-BAD_AUDIT = "the words are KIND INSTANCE SOLUTION [routes], and KIND is lilim or vrp"
-BAD_AUDITS = "the words are KIND LIST [routes], and KIND is lilim or vrp"
-BAD_DRAWING = "the words are STORE [ROUTE] or KIND INSTANCE SOLUTION [ROUTE], KIND is lilim or vrp, and ROUTE a number, in digits alone"
-BAD_TIMETABLE = "the words are STORE [tabs] or KIND INSTANCE SOLUTION [tabs], and KIND is lilim or vrp"
+BAD_STEPS = "STEPS and DEVIATION are 0 to 1000000000 and SEED is 0 to 18446744073709551615, with digits only"
+BAD_SEED = "SEED is 0 to 18446744073709551615, with digits only"
+BAD_TASKS = "STEPS is 0 to 1000000000 and SEED is 0 to 18446744073709551615, with digits only"
+BAD_AUDIT = "the arguments are KIND INSTANCE SOLUTION [routes], and KIND is lilim or vrp"
+BAD_AUDITS = "the arguments are KIND LIST [routes], and KIND is lilim or vrp"
+BAD_DRAWING = "the arguments are STORE [ROUTE] or KIND INSTANCE SOLUTION [ROUTE], KIND is lilim or vrp, and ROUTE is a number with digits only"
+BAD_TIMETABLE = "the arguments are STORE [tabs] or KIND INSTANCE SOLUTION [tabs], and KIND is lilim or vrp"
 REFUSED = [
     (["audit", "lilim", "a"], NOT_GIVEN),
     (["audit", "lilim", "a", "b", "c"], BAD_AUDIT),
@@ -796,7 +796,7 @@ def check_hints(folder):
     for lines, told in [
         ("build\n", "unplanned 1: 3\n"),
         ("withdraw 2\n", "withdraw 2: stop 2 is the delivery of request 1\n"),
-        ("build\npin 1 2\nwithdraw 1\n", "unplanned 1: 3\nwithdraw 1: a stop of it is in the pin of vehicle 1\n"),
+        ("build\npin 1 2\nwithdraw 1\n", "unplanned 1: 3\nwithdraw 1: a stop of this request is pinned to vehicle 1\n"),
         ("withdraw 3\nbuild\nwithdraw 3\nwithdraw 5\n", ""),
     ]:
         folder.new_store()
@@ -819,7 +819,7 @@ ADOPTED = [
 # Vehicle 2 has stop 4 in its pin. The first solution has routes that begin with other stops, the second one has
 # the routes in another order.
 ADOPTED_PINNED = [
-    ("Route #1: 1\nRoute #2: 3 2 4\nCost 44\n", "no Pinned\n", 1, "adopt: no route that is left begins with the pin of vehicle 2\n", TWO_ROUTES),
+    ("Route #1: 1\nRoute #2: 3 2 4\nCost 44\n", "no Pinned\n", 1, "adopt: no remaining route begins with the pin of vehicle 2\n", TWO_ROUTES),
     ("Route #1: 4 2 3\nRoute #2: 1\nCost 44\n", "ok\n", 0, "", TWO_ROUTES),
 ]
 

@@ -54,7 +54,7 @@ STAGED = [("vrp", SMALL_INSTANCE, 20), ("lilim", INSTANCE, 22)]
 
 
 # The message of `run` on standard error after the system's, if the device failed.
-CURE = b"planner: the store failed: go on with a copy on a sound disk, or begin the next run with `checkpoint`\n"
+CURE = b"planner: the store's device failed: continue with a copy on a sound disk, or begin the next run with `checkpoint`\n"
 
 
 def load_lines(seed=7):
@@ -138,7 +138,7 @@ def check_tries(folder):
     """
     answers = b"opened 0\nok\nat 300 0 10 829\nok\n"
     # From another program: without the four requests of vehicle 6, nine vehicles serve no more in 300 steps.
-    told = b"a try with 9 of 10 vehicles ended before step 300: 4 requests left out\n"
+    told = b"an attempt with 9 of 10 vehicles ended before step 300 with 4 requests left out\n"
     for words, errors in [("", told), ("strict", told), ("2>&-", b"")]:
         store = os.path.join(folder, "tries.store")
         load(store, 0, b"ok")
@@ -471,7 +471,7 @@ def check_copies(folder):
     os.truncate(copy, STORE_BYTES - 512)
     for words in [["run", copy], ["load", copy, "lilim", INSTANCE]]:
         got = run_program(*words, lines=b"build\n")
-        cure = f"planner: {copy}: it begins as a store, and its end is gone: take a whole copy\n".encode()
+        cure = f"planner: {copy}: it begins like a store, but its end is missing: use a whole copy\n".encode()
         if (got.returncode, got.stdout, got.stderr) != (2, b"store NotFormatted\n", cure) or read(copy) != whole[:-512]:
             fail(f"copies: {words} without the end: status {got.returncode}, {got.stdout!r}, {got.stderr!r}")
     os.truncate(copy, STORE_BYTES)
@@ -525,7 +525,7 @@ def warned(store, text):
     if line == b"store Codec":
         wanted = [b"planner: %s: suspect RecordDamaged" % store.encode()]
     if line == b"store NotFormatted":
-        wanted = [b"planner: %s: nothing in it begins as a store: it is another file, was cut off as it was made, or its headers are damaged" % store.encode()]
+        wanted = [b"planner: %s: it does not begin like a store: it is another file, its creation was interrupted, or its headers are damaged" % store.encode()]
     told = [it for it in got.stderr.splitlines() if not it.startswith(b"planner: repeating ")]
     if told != wanted or got.stdout.startswith(b"opened ") == text.startswith(b"store "):
         fail(f"run of a store that is {line!r}: {got.stdout!r}, on standard error {got.stderr!r}")
@@ -580,15 +580,15 @@ def check_remains(folder):
     """Checks files without a store. A new store has its header in the second sector, and zeros in the first."""
     store, other = os.path.join(folder, "made.store"), os.path.join(folder, "remains.store")
     format_store(store)
-    gone = "it begins as a store, and its end is gone: take a whole copy"
-    damaged = "it begins as a store, and its headers are damaged: take a whole copy"
-    nothing = "nothing in it begins as a store: it is another file, was cut off as it was made, or its headers are damaged"
-    zeros = "zeros stand where a store begins: if `load` was cut off as it made it, nothing is lost: move it aside, and load again; else take a whole copy"
-    empty = "it is empty: `planner load STORE KIND INSTANCE` makes a store in it"
-    text = "it is a text and no store: `planner load STORE KIND INSTANCE` makes one of an instance, in a new file"
+    gone = "it begins like a store, but its end is missing: use a whole copy"
+    damaged = "it begins like a store, but its headers are damaged: use a whole copy"
+    nothing = "it does not begin like a store: it is another file, its creation was interrupted, or its headers are damaged"
+    zeros = "it begins with zeros in place of headers. If a `load` was interrupted while it created the store, nothing is lost: move the file aside and load again. Otherwise use a whole copy"
+    empty = "it is empty: `planner load STORE KIND INSTANCE` creates a store in it"
+    text = "it is a text file, not a store: `planner load STORE KIND INSTANCE` creates a store from an instance, in a new file"
     within = (
-        "it ends within a sector of 512 bytes, so it is no whole store: `planner load STORE KIND INSTANCE` makes one of an instance, in a new file; "
-        "of a store take a whole copy"
+        "it does not end with a whole sector of 512 bytes, so it is not a whole store. If it was a store, use a whole copy. "
+        "`planner load STORE KIND INSTANCE` creates a store from an instance, in a new file"
     )
     # A valid header except for its length, which is above that of the largest state.
     too_long = b"PDRSTORE" + (2).to_bytes(4, "big") + sequence(1) + (2_097_153).to_bytes(8, "big")

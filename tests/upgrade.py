@@ -79,12 +79,12 @@ def check_files(folder):
     expect(0, "ok", "", "upgrade", old, new)
     holds(old, old_store())
     check_new(new)
-    expect(2, "store BadVersion", f"{old}: it is of another version: `planner upgrade OLD NEW` takes a store of version 1 over into a new one", "run", old)
+    expect(2, "store BadVersion", f"{old}: it has another version: `planner upgrade OLD NEW` converts a store of version 1 into a new store", "run", old)
     # an existing store is replaced, also by one that was upgraded before
     expect(0, "ok", "", "upgrade", old, new)
     check_new(new)
     newer = os.path.join(folder, "newer.store")
-    needless = f"{new}: it is not of version 1: a store of version 2 needs no upgrade, `run` opens it as it is"
+    needless = f"{new}: it does not have version 1. A store of version 2 needs no upgrade: `run` opens it as it is"
     expect(2, "store BadVersion", needless, "upgrade", new, newer)
     expect_none(newer)
     write(new, b"a note")
@@ -137,14 +137,14 @@ def check_refusals(folder):
     expect(3, f"cannot read {missing}", f"{missing}: {NO_FILE}", "upgrade", missing, new)
     if os.path.exists(new):
         fail("the new store was made where there is no old one")
-    expect(3, "cannot read /dev/null", "/dev/null: it is no plain file", "upgrade", "/dev/null", new)
+    expect(3, "cannot read /dev/null", "/dev/null: it is not a regular file", "upgrade", "/dev/null", new)
     write(old, old_store()[: 801 * SECTOR])
-    none = "no store of version 1 is in it: it is another file, its end is gone, or its headers are damaged: take a whole copy"
+    none = "it has no store of version 1: it is another file, its end is missing, or its headers are damaged. Use a whole copy"
     expect(2, "store NotFormatted", f"{old}: {none}", "upgrade", old, new)
     write(old, old_store()[:-1])
     within = (
-        "it ends within a sector of 512 bytes, so it is no whole store: `planner load STORE KIND INSTANCE` makes one of an instance, in a new file; "
-        "of a store take a whole copy"
+        "it does not end with a whole sector of 512 bytes, so it is not a whole store. If it was a store, use a whole copy. "
+        "`planner load STORE KIND INSTANCE` creates a store from an instance, in a new file"
     )
     expect(2, "store BadLength", f"{old}: {within}", "upgrade", old, new)
     write(old, old_store())

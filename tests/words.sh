@@ -43,8 +43,8 @@ expect 0 'pass 0 1 20' ''
 expect 0 'pass 0 10 829' '' audit lilim lc101.txt "$top/examples/lc101.sol"
 # Text after the cost line is not read. This is reported, and nothing else changes.
 printf 'Route #1: 1 2\nCost 20\n\nTime 3\nCost 5\n' >"$folder/timed.sol"
-expect 0 'pass 0 1 20' "planner: $folder/timed.sol: line 4 is behind the cost line and not read" audit lilim one-pair.txt "$folder/timed.sol"
-expect 0 'pass 0 1 20' "planner: $folder/timed.sol: line 4 is behind the cost line and not read" explain lilim one-pair.txt "$folder/timed.sol"
+expect 0 'pass 0 1 20' "planner: $folder/timed.sol: line 4 comes after the cost line and is not read" audit lilim one-pair.txt "$folder/timed.sol"
+expect 0 'pass 0 1 20' "planner: $folder/timed.sol: line 4 comes after the cost line and is not read" explain lilim one-pair.txt "$folder/timed.sol"
 # With `routes`: no cost line, or one with any word. A broken rule is reported all the same.
 grep -v '^Cost' lc101.sol >"$folder/routes.sol"
 expect 2 'solution NoCost 11' '' audit lilim lc101.txt "$folder/routes.sol"
@@ -53,7 +53,7 @@ expect 0 'pass 0 10 829' '' explain lilim lc101.txt "$folder/routes.sol" routes
 sed 's/^Cost .*/Cost 828.94/' lc101.sol >"$folder/fraction.sol"
 expect 2 'solution BadNumber 11' '' audit lilim lc101.txt "$folder/fraction.sol"
 expect 0 'pass 0 10 829' '' audit lilim lc101.txt "$folder/fraction.sol" routes
-expect 0 'pass 0 1 20' "planner: $folder/timed.sol: line 4 is behind the cost line and not read" audit lilim one-pair.txt "$folder/timed.sol" routes
+expect 0 'pass 0 1 20' "planner: $folder/timed.sol: line 4 comes after the cost line and is not read" audit lilim one-pair.txt "$folder/timed.sol" routes
 sed 's/^Route #5:.*//' "$folder/routes.sol" >"$folder/fewer.sol"
 expect 1 'broken 3 route 0 place 0 stop 42' '' audit lilim lc101.txt "$folder/fewer.sol" routes
 sed 's/^Route #2/Rouet #2/' "$folder/routes.sol" >"$folder/slip.sol"
@@ -64,30 +64,30 @@ expect 2 'solution BadLine 2' '' explain lilim lc101.txt "$folder/slip.sol" rout
     printf '# a comment\n\none-pair.txt\t\none-pair.txt\tone-pair.sol\t450.5\na\tb\tc\td\n\tone-pair.sol\t20\none-pair.txt\tone-pair.sol\t1 20\t\n'
     printf 'one-pair.txt\t\377\none-pair.txt\tone-pair.sol\t450.0\n'
 } >"$folder/pairs"
-expect 2 "one-pair.txt	$folder/timed.sol	pass 0 1 20" "planner: $folder/pairs: line 1: $folder/timed.sol: line 4 is behind the cost line and not read" \
+expect 2 "one-pair.txt	$folder/timed.sol	pass 0 1 20" "planner: $folder/pairs: line 1: $folder/timed.sol: line 4 comes after the cost line and is not read" \
     audits lilim "$folder/pairs"
 why="planner: $folder/pairs: line"
 [ "$(sed 1d "$folder/error")" = "$why 2: bad line: it has no tab
 $why 3: bad line: it is empty
 $why 4: bad line: a path is empty
-$why 5: bad line: the third column is no best-known cost, as 10 829 or 829
+$why 5: bad line: the third column is not a best-known cost, for example 10 829 or 829
 $why 6: bad line: it has more than two tabs
 $why 7: bad line: a path is empty
 $why 8: bad line: it has more than two tabs
 $why 9: bad line: a path is not UTF-8" ] || fail "audits: not why lines are bad"
 # A limit of a .vrp instance that no rule checks is named, but not one after the end.
 sed '2i vehicles : 5' P-n16-k8.vrp >"$folder/limited.vrp"
-expect 0 'pass 0 0 450' "planner: $folder/limited.vrp: line 2 names a limit that is not asked" audit vrp "$folder/limited.vrp" P-n16-k8.sol
-expect 0 'pass 0 0 450' "planner: $folder/limited.vrp: line 2 names a limit that is not asked" explain vrp "$folder/limited.vrp" P-n16-k8.sol routes
-limit="planner: $folder/limited.vrp: line 2 names a limit that is not asked"
-[ "$("$program" solve vrp "$folder/limited.vrp" 0 2>&1 >/dev/null | head -n 1)" = "$limit" ] || fail "solve: not the limit that is not asked"
+expect 0 'pass 0 0 450' "planner: $folder/limited.vrp: line 2 sets a limit that no rule checks" audit vrp "$folder/limited.vrp" P-n16-k8.sol
+expect 0 'pass 0 0 450' "planner: $folder/limited.vrp: line 2 sets a limit that no rule checks" explain vrp "$folder/limited.vrp" P-n16-k8.sol routes
+limit="planner: $folder/limited.vrp: line 2 sets a limit that no rule checks"
+[ "$("$program" solve vrp "$folder/limited.vrp" 0 2>&1 >/dev/null | head -n 1)" = "$limit" ] || fail "solve: not the limit that no rule checks"
 expect 0 'ok' "$limit" load "$folder/limited.store" vrp "$folder/limited.vrp"
 printf 'P-n16-k8.vrp\t%s\n%s\t%s\n' "$folder/free.sol" "$folder/limited.vrp" "$folder/limited.sol" >"$folder/tasks"
-[ "$("$program" solves vrp "$folder/tasks" 0 2>&1 >/dev/null)" = "$limit" ] || fail "solves: not the limit that is not asked"
+[ "$("$program" solves vrp "$folder/tasks" 0 2>&1 >/dev/null)" = "$limit" ] || fail "solves: not the limit that no rule checks"
 { cat P-n16-k8.vrp && echo 'MAX_DURATION : 30'; } >"$folder/limited.vrp"
 expect 0 'pass 0 0 450' '' audit vrp "$folder/limited.vrp" P-n16-k8.sol
 printf 'P-n16-k8.vrp\tP-n16-k8.sol\t8 450\n' >"$folder/pairs"
-expect 2 'bad line' "planner: $folder/pairs: line 1: bad line: the third column is no best-known cost, as 829" audits vrp "$folder/pairs"
+expect 2 'bad line' "planner: $folder/pairs: line 1: bad line: the third column is not a best-known cost, for example 829" audits vrp "$folder/pairs"
 got=$(printf 'lc101.txt\t%s\t10 829\n' "$folder/routes.sol" "$folder/fraction.sol" | "$program" audits lilim - routes | cut -f 3)
 [ "$got" = "$(printf 'pass 0 10 829 gap 0.00\npass 0 10 829 gap 0.00')" ] || fail "audits of routes: $got"
 expect 1 'broken 5 route 1 place 1 stop 2' '' audit lilim one-pair.txt one-pair-reversed.sol
@@ -101,8 +101,8 @@ got=$("$program" solve lilim lc101.txt 100 2>/dev/null | "$program" audit lilim 
 [ "${got%% *}" = 'pass' ] || fail "audit of a solution on standard input: $got"
 
 expect 64 '' 'error: the following required arguments were not provided:' audit
-expect 64 '' 'error: the words are KIND INSTANCE SOLUTION [routes], and KIND is lilim or vrp' audit lilim one-pair.txt one-pair.sol more
-expect 64 '' 'error: the words are KIND LIST [routes], and KIND is lilim or vrp' audits lilim pairs more
+expect 64 '' 'error: the arguments are KIND INSTANCE SOLUTION [routes], and KIND is lilim or vrp' audit lilim one-pair.txt one-pair.sol more
+expect 64 '' 'error: the arguments are KIND LIST [routes], and KIND is lilim or vrp' audits lilim pairs more
 expect 64 '' "error: unexpected argument 'more' found" audit lilim one-pair.txt one-pair.sol routes more
 expect 64 '' "error: invalid value 'LILIM' for '<KIND>'" audit LILIM one-pair.txt one-pair.sol
 expect 64 '' "error: unrecognized subcommand 'judge'" judge one-pair.txt one-pair.sol
@@ -152,7 +152,7 @@ got=$(sed 's/^Route #5:.*//' lc101.sol | "$program" explain lilim lc101.txt - | 
 expect 0 'pass 0 10 829' '' timetable lilim lc101.txt lc101.sol
 expect 1 'broken 5 route 1 place 1 stop 2' '' timetable lilim one-pair.txt one-pair-reversed.sol tabs
 expect 3 'cannot read nowhere' 'planner: nowhere: No such file or directory (os error 2)' timetable nowhere tabs
-expect 64 '' 'error: the words are STORE [tabs] or KIND INSTANCE SOLUTION [tabs], and KIND is lilim or vrp' timetable lilim one-pair.txt
+expect 64 '' 'error: the arguments are STORE [tabs] or KIND INSTANCE SOLUTION [tabs], and KIND is lilim or vrp' timetable lilim one-pair.txt
 [ "$("$program" timetable lilim lc101.txt lc101.sol tabs | sed -n 3p)" = "$(printf 'stop\t1\t1\t5\tpickup\t7\t0\t15\t15\t0\t90\t15\t67\t36\t10\t-')" ] || fail "timetable: not the first stop"
 expect 0 "$(head -n 1 lc101.svg)" '' draw lilim lc101.txt lc101.sol
 expect 2 '' 'solution BadLine 1' draw lilim one-pair.txt one-pair.txt
@@ -170,9 +170,9 @@ fi
 expect 0 'Route #1: 1 2' 'at 0 0 1 20' solve lilim one-pair.txt 3
 expect 2 '' 'instance FieldCount 1' solve lilim one-pair.sol 3
 expect 3 '' 'planner: nowhere: No such file or directory (os error 2)' solve lilim nowhere 3 7
-expect 64 '' 'error: STEPS and DEVIATION are 0 to 1000000000 and SEED 0 to 18446744073709551615, in digits alone' solve lilim one-pair.txt 1000000001
-expect 64 '' 'error: STEPS and DEVIATION are 0 to 1000000000 and SEED 0 to 18446744073709551615, in digits alone' solve lilim one-pair.txt +3
-expect 64 '' 'error: STEPS and DEVIATION are 0 to 1000000000 and SEED 0 to 18446744073709551615, in digits alone' solve lilim one-pair.txt 3 18446744073709551616
+expect 64 '' 'error: STEPS and DEVIATION are 0 to 1000000000 and SEED is 0 to 18446744073709551615, with digits only' solve lilim one-pair.txt 1000000001
+expect 64 '' 'error: STEPS and DEVIATION are 0 to 1000000000 and SEED is 0 to 18446744073709551615, with digits only' solve lilim one-pair.txt +3
+expect 64 '' 'error: STEPS and DEVIATION are 0 to 1000000000 and SEED is 0 to 18446744073709551615, with digits only' solve lilim one-pair.txt 3 18446744073709551616
 [ "$("$program" solve lilim one-pair.txt +3 2>&1 | sed -n 3p)" = 'Usage: planner solve <KIND> <INSTANCE> <STEPS> [SEED] [DEVIATION]' ] || fail "solve: not its own usage"
 [ "$("$program" solve lilim one-pair.txt 3 2>/dev/null)" = "$(cat one-pair.sol)" ] || fail "solve: not the one plan of one pair"
 [ "$("$program" solve lilim one-pair.txt 3 2>&1 >/dev/null)" = "$(printf 'at %d 0 1 20\n' 0 1 2 3)" ] || fail "solve: not a line for each step"
@@ -252,7 +252,7 @@ status=$?
 [ "$("$program" load "$folder/day.store" lilim - 7 <lc101.txt)" = 'ok' ] || fail "load of an instance on standard input"
 expect 2 'store Loaded' '' load "$folder/day.store" lilim one-pair.txt
 expect 3 'cannot read nowhere/day.store' 'planner: nowhere/day.store: No such file or directory (os error 2)' load nowhere/day.store lilim one-pair.txt
-expect 64 '' 'error: SEED is 0 to 18446744073709551615, in digits alone' load "$folder/day.store" lilim one-pair.txt 7.5
+expect 64 '' 'error: SEED is 0 to 18446744073709551615, with digits only' load "$folder/day.store" lilim one-pair.txt 7.5
 expect 64 '' "error: invalid value 'careful' for '[strict]'" run "$folder/day.store" careful
 
 # One answer for each line of a list, whatever the other lines are.
@@ -325,7 +325,7 @@ done
 expect 3 '' 'planner: nowhere: No such file or directory (os error 2)' draw nowhere
 [ "$("$program" draw "$folder/drawn.store" 3)" = "$("$program" draw lilim lc101.txt "$folder/drawn.sol" 3)" ] || fail "draw: not the route of the store's vehicle"
 expect 2 '' 'no NoSuchRoute' draw "$folder/drawn.store" 26
-expect 64 '' 'error: the words are STORE [ROUTE] or KIND INSTANCE SOLUTION [ROUTE], KIND is lilim or vrp, and ROUTE a number, in digits alone' draw lilim one-pair.txt
+expect 64 '' 'error: the arguments are STORE [ROUTE] or KIND INSTANCE SOLUTION [ROUTE], KIND is lilim or vrp, and ROUTE is a number with digits only' draw lilim one-pair.txt
 
 # A solution on standard input becomes the store's plan, and the instance of the store audits it.
 [ "$("$program" adopt "$folder/drawn.store" - <lc101.sol)" = 'ok' ] || fail "adopt of a solution on standard input"
@@ -341,7 +341,7 @@ expect 2 'no NoInstance' '' instance "$folder/no.store"
 # A path is accepted only as UTF-8.
 latin=$(printf 'caf\351.sol')
 cp one-pair.sol "$folder/$latin"
-expect 64 '' 'error: a word is not UTF-8 text' audit lilim one-pair.txt "$folder/$latin"
+expect 64 '' 'error: an argument is not UTF-8' audit lilim one-pair.txt "$folder/$latin"
 
 if [ -c /dev/full ]; then
     got=$("$program" 2>&1 >/dev/full)

@@ -13,7 +13,7 @@ use Rattle.auditor_cli.specs.Reads.{FileRead}
 -- One line that names the file and its first ignored line; nothing if there is none.
 abbrev pub ignored_line_note_by : List ℕ → Option ℕ → List ℕ
 ignored_line_note_by path None = []
-ignored_line_note_by path (Some n) = with_line_feed (codes "planner: " ++ path ++ codes ": line " ++ decimal n ++ codes " is behind the cost line and not read")
+ignored_line_note_by path (Some n) = with_line_feed (codes "planner: " ++ path ++ codes ": line " ++ decimal n ++ codes " comes after the cost line and is not read")
 
 abbrev pub ignored_line_note : List ℕ → List ℕ → List ℕ
 ignored_line_note path text = ignored_line_note_by path (line_after_cost text)
@@ -22,7 +22,7 @@ ignored_line_note path text = ignored_line_note_by path (line_after_cost text)
 -- there is none.
 abbrev pub ignored_limit_note_by : List ℕ → Option ℕ → List ℕ
 ignored_limit_note_by path None = []
-ignored_limit_note_by path (Some n) = with_line_feed (codes "planner: " ++ path ++ codes ": line " ++ decimal n ++ codes " names a limit that is not asked")
+ignored_limit_note_by path (Some n) = with_line_feed (codes "planner: " ++ path ++ codes ": line " ++ decimal n ++ codes " sets a limit that no rule checks")
 
 abbrev pub ignored_limit_note : Kind → List ℕ → List ℕ → List ℕ
 ignored_limit_note kind path text = ignored_limit_note_by path (ignored_limit_line kind text)
@@ -49,7 +49,7 @@ place_text list k = codes "planner: " ++ list ++ codes ": line " ++ decimal k ++
 -- The note on a solution that line k of a list names.
 abbrev pub listed_note_by : List ℕ → ℕ → List ℕ → Option ℕ → List ℕ
 listed_note_by list k path None = []
-listed_note_by list k path (Some n) = place_text list k ++ with_line_feed (path ++ codes ": line " ++ decimal n ++ codes " is behind the cost line and not read")
+listed_note_by list k path (Some n) = place_text list k ++ with_line_feed (path ++ codes ": line " ++ decimal n ++ codes " comes after the cost line and is not read")
 
 abbrev pub listed_note : List ℕ → ℕ → List ℕ → List ℕ → List ℕ
 listed_note list k path text = listed_note_by list k path (line_after_cost text)

@@ -30,7 +30,7 @@ AreReadFor _ was now = now ≡ was
 
 -- The line for a subcommand that only `planner` has.
 abbrev pub planner_only_line : List ℕ
-planner_only_line = with_line_feed (codes "auditor: only planner does that; here are audit, audits and explain")
+planner_only_line = with_line_feed (codes "auditor: only planner has this command; auditor has audit, audits and explain")
 
 -- The subcommand was executed and its answer printed, with this status.
 abbrev pub Does : InvocationValue → World → World → ℕ → Type 0

@@ -20,7 +20,7 @@ pub fn print_ignored_line<E: Write>(path: &str, solution: &[u8], errors: &mut E)
         Some(number) => {
             writeln!(
                 errors,
-                "planner: {path}: line {number} is behind the cost line and not read"
+                "planner: {path}: line {number} comes after the cost line and is not read"
             )
         }
         None => Ok(()),
@@ -42,7 +42,7 @@ pub fn print_ignored_limit<E: Write>(
         Some(number) => {
             writeln!(
                 errors,
-                "planner: {path}: line {number} names a limit that is not asked"
+                "planner: {path}: line {number} sets a limit that no rule checks"
             )
         }
         None => Ok(()),
@@ -99,7 +99,7 @@ fn write_listed<E: Write>(
     write_place(line, errors)?;
     writeln!(
         errors,
-        "{path}: line {following} is behind the cost line and not read"
+        "{path}: line {following} comes after the cost line and is not read"
     )
 }
 

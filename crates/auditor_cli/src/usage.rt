@@ -44,7 +44,7 @@ pub fn command_args<R: Env + Eprint + AllocGlobal>(rt: &R) -> Result<Vec<String>
         Ok(words) => words.collect(rt.alloc()).map_err(|_| OUT_OF_MEMORY),
         Err(error) if error.kind() == io::ErrorKind::OutOfMemory => Err(OUT_OF_MEMORY),
         Err(_) => {
-            let _ = eprintln!(rt; "error: a word is not UTF-8 text");
+            let _ = eprintln!(rt; "error: an argument is not UTF-8");
             Err(USAGE)
         }
     }

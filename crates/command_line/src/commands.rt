@@ -16,23 +16,23 @@ use clap::{Arg, ArgMatches, Command, Error};
 use plan_types::OutOfMemory;
 use std::alloc::Global;
 
-const BAD_AUDIT: &str = "the words are KIND INSTANCE SOLUTION [routes], and KIND is lilim or vrp";
+const BAD_AUDIT: &str = "the arguments are KIND INSTANCE SOLUTION [routes], and KIND is lilim or vrp";
 
-const BAD_AUDITS: &str = "the words are KIND LIST [routes], and KIND is lilim or vrp";
+const BAD_AUDITS: &str = "the arguments are KIND LIST [routes], and KIND is lilim or vrp";
 
 const BAD_STEPS: &str =
-    "STEPS and DEVIATION are 0 to 1000000000 and SEED 0 to 18446744073709551615, in digits alone";
+    "STEPS and DEVIATION are 0 to 1000000000 and SEED is 0 to 18446744073709551615, with digits only";
 
-const BAD_SEED: &str = "SEED is 0 to 18446744073709551615, in digits alone";
+const BAD_SEED: &str = "SEED is 0 to 18446744073709551615, with digits only";
 
 const BAD_TASKS: &str =
-    "STEPS is 0 to 1000000000 and SEED 0 to 18446744073709551615, in digits alone";
+    "STEPS is 0 to 1000000000 and SEED is 0 to 18446744073709551615, with digits only";
 
 const BAD_DRAWING: &str =
-    "the words are STORE [ROUTE] or KIND INSTANCE SOLUTION [ROUTE], KIND is lilim or vrp, and ROUTE a number, in digits alone";
+    "the arguments are STORE [ROUTE] or KIND INSTANCE SOLUTION [ROUTE], KIND is lilim or vrp, and ROUTE is a number with digits only";
 
 const BAD_TIMETABLE: &str =
-    "the words are STORE [tabs] or KIND INSTANCE SOLUTION [tabs], and KIND is lilim or vrp";
+    "the arguments are STORE [tabs] or KIND INSTANCE SOLUTION [tabs], and KIND is lilim or vrp";
 
 static KINDS: [&str; 2] = ["lilim", "vrp"];
 
@@ -268,7 +268,7 @@ fn solve_command<'a>(alloc: Global, kinds: &'a [&'a str]) -> CommandResult<'a>
     let command = add_arg(command, instance_arg(alloc));
     let command = add_arg(
         command,
-        required_arg(alloc, "STEPS", "How many steps are made"),
+        required_arg(alloc, "STEPS", "The number of steps"),
     );
     let command = add_arg(command, seed_arg(alloc));
     add_arg(command, deviation_arg(alloc))
@@ -282,7 +282,7 @@ fn solves_command<'a>(alloc: Global, kinds: &'a [&'a str]) -> CommandResult<'a>
     let command = add_arg(command, list_arg(alloc));
     let command = add_arg(
         command,
-        required_arg(alloc, "STEPS", "How many steps are made of each"),
+        required_arg(alloc, "STEPS", "The number of steps for each instance"),
     );
     add_arg(command, seed_arg(alloc))
 }
@@ -332,14 +332,14 @@ fn list_arg<'a>(alloc: Global) -> Arg<'a>
 fn seed_arg<'a>(alloc: Global) -> Arg<'a>
     ensures { IsArg (new_rule (codes "SEED")) result }
 {
-    Arg::new(alloc, "SEED").help("The number that all random choices follow from; 0 if left out")
+    Arg::new(alloc, "SEED").help("The seed of all random choices; 0 if left out")
 }
 
 fn deviation_arg<'a>(alloc: Global) -> Arg<'a>
     ensures { IsArg (new_rule (codes "DEVIATION")) result }
 {
     Arg::new(alloc, "DEVIATION").help(
-        "For researchers: another search, whose working plan may be so much longer than the best one",
+        "For researchers: another search, whose working plan may be up to DEVIATION longer than the best plan",
     )
 }
 
@@ -347,14 +347,14 @@ fn route_or_instance_arg<'a>(alloc: Global) -> Arg<'a>
     ensures { IsArg (new_rule (codes "ROUTE|INSTANCE")) result }
 {
     Arg::new(alloc, "ROUTE|INSTANCE").help(
-        "After a store the number of one route; after a format the instance",
+        "After a store, the number of one route; after a format, the instance",
     )
 }
 
 fn tabs_or_instance_arg<'a>(alloc: Global) -> Arg<'a>
     ensures { IsArg (new_rule (codes "tabs|INSTANCE")) result }
 {
-    Arg::new(alloc, "tabs|INSTANCE").help("After a store `tabs`; after a format the instance")
+    Arg::new(alloc, "tabs|INSTANCE").help("After a store, `tabs`; after a format, the instance")
 }
 
 fn solution_arg<'a>(alloc: Global) -> Arg<'a>
@@ -366,21 +366,21 @@ fn solution_arg<'a>(alloc: Global) -> Arg<'a>
 fn route_arg<'a>(alloc: Global) -> Arg<'a>
     ensures { IsArg (new_rule (codes "ROUTE")) result }
 {
-    Arg::new(alloc, "ROUTE").help("The number of the one route to draw, counted from 1")
+    Arg::new(alloc, "ROUTE").help("Draws only the route with this number, counted from 1")
 }
 
 fn routes_arg<'a>(alloc: Global) -> Arg<'a>
     ensures { IsArg (new_rule (codes "routes")) result }
 {
     Arg::new(alloc, "routes").help(
-        "Judges the routes alone: the cost line is not read, and need not be there",
+        "Checks only the routes: the cost line is not read, and may be missing",
     )
 }
 
 fn tabs_arg<'a>(alloc: Global) -> Arg<'a>
     ensures { IsArg (new_rule (codes "tabs")) result }
 {
-    Arg::new(alloc, "tabs").help("Fields with tabs between them, without headings")
+    Arg::new(alloc, "tabs").help("Separates fields by tabs, without headings")
 }
 
 // Returns a required argument.

@@ -58,7 +58,7 @@ pub(crate) fn log_hint<L: Log, D: Sectors>(
 /// Logs the vehicle whose pin no route of the solution begins with.
 pub(crate) fn log_unseated<L: Log>(rt: &L, why: AssignmentFault) {
     if let AssignmentFault::PinWithoutRoute(vehicle) = why {
-        info!(rt; "adopt: no route that is left begins with the pin of vehicle {vehicle}");
+        info!(rt; "adopt: no remaining route begins with the pin of vehicle {vehicle}");
     }
 }
 
@@ -113,7 +113,7 @@ fn log_pin<L: Log>(rt: &L, job: &Job, name: u32) {
     for (index, pin) in job.pins.routes.as_slice().iter().enumerate() {
         if has_stop_of(pin, request) {
             let vehicle = index as u64 + 1;
-            info!(rt; "withdraw {name}: a stop of it is in the pin of vehicle {vehicle}");
+            info!(rt; "withdraw {name}: a stop of this request is pinned to vehicle {vehicle}");
             return;
         }
     }

@@ -288,7 +288,7 @@ fn log_attempt<R: Log>(
     let kept = marked(subfleet);
     let left_out = plan_cost(problem, found).unplanned;
     info!(rt;
-        "a try with {kept} of {vehicles} vehicles ended before step {step}: {left_out} requests left out"
+        "an attempt with {kept} of {vehicles} vehicles ended before step {step} with {left_out} requests left out"
     );
 }
 

@@ -142,7 +142,7 @@ fn plan_of_text(alloc: Global, state: &State, text: &[u8]) -> Result<Plan, Adopt
 fn report_unkept_pin<R: Eprint>(rt: &R, unadopted: AdoptRefusal) {
     if let AdoptRefusal::AssignmentFault(AssignmentFault::PinWithoutRoute(vehicle)) = unadopted {
         let _ = eprintln!(rt;
-            "adopt: no route that is left begins with the pin of vehicle {vehicle}"
+            "adopt: no remaining route begins with the pin of vehicle {vehicle}"
         );
     }
 }

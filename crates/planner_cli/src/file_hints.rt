@@ -34,19 +34,19 @@ impl FileKind {
     // Returns the hint: what may have happened and what to do.
     fn hint(self) -> &'static str {
         match self {
-            FileKind::Truncated => "it begins as a store, and its end is gone: take a whole copy",
+            FileKind::Truncated => "it begins like a store, but its end is missing: use a whole copy",
             FileKind::Header =>
-                "it begins as a store, and its headers are damaged: take a whole copy",
+                "it begins like a store, but its headers are damaged: use a whole copy",
             FileKind::Empty =>
-                "it is empty: `planner load STORE KIND INSTANCE` makes a store in it",
+                "it is empty: `planner load STORE KIND INSTANCE` creates a store in it",
             FileKind::Zeros => {
-                "zeros stand where a store begins: if `load` was cut off as it made it, nothing is lost: move it aside, and load again; else take a whole copy"
+                "it begins with zeros in place of headers. If a `load` was interrupted while it created the store, nothing is lost: move the file aside and load again. Otherwise use a whole copy"
             }
             FileKind::Text => {
-                "it is a text and no store: `planner load STORE KIND INSTANCE` makes one of an instance, in a new file"
+                "it is a text file, not a store: `planner load STORE KIND INSTANCE` creates a store from an instance, in a new file"
             }
             FileKind::Unrecognized => {
-                "nothing in it begins as a store: it is another file, was cut off as it was made, or its headers are damaged"
+                "it does not begin like a store: it is another file, its creation was interrupted, or its headers are damaged"
             }
         }
     }
@@ -65,7 +65,7 @@ enum Content {
 pub(crate) fn report_length<R: Eprint>(rt: &R, path: &str, fault: FileFault) {
     if let FileFault::BadLength = fault {
         let _ = eprintln!(rt;
-            "planner: {path}: it ends within a sector of 512 bytes, so it is no whole store: `planner load STORE KIND INSTANCE` makes one of an instance, in a new file; of a store take a whole copy"
+            "planner: {path}: it does not end with a whole sector of 512 bytes, so it is not a whole store. If it was a store, use a whole copy. `planner load STORE KIND INSTANCE` creates a store from an instance, in a new file"
         );
     }
 }
@@ -86,7 +86,7 @@ pub(crate) fn report_file_kind<R: Eprint, D: Sectors>(
         }
         StoreFault::BadVersion => {
             let _ = eprintln!(rt;
-                "planner: {path}: it is of another version: `planner upgrade OLD NEW` takes a store of version 1 over into a new one"
+                "planner: {path}: it has another version: `planner upgrade OLD NEW` converts a store of version 1 into a new store"
             );
         }
         _ => {}
@@ -98,12 +98,12 @@ pub(crate) fn report_upgrade_hint<R: Eprint>(rt: &R, path: &str, fault: StoreFau
     match fault {
         StoreFault::NotFormatted => {
             let _ = eprintln!(rt;
-                "planner: {path}: no store of version 1 is in it: it is another file, its end is gone, or its headers are damaged: take a whole copy"
+                "planner: {path}: it has no store of version 1: it is another file, its end is missing, or its headers are damaged. Use a whole copy"
             );
         }
         StoreFault::BadVersion => {
             let _ = eprintln!(rt;
-                "planner: {path}: it is not of version 1: a store of version 2 needs no upgrade, `run` opens it as it is"
+                "planner: {path}: it does not have version 1. A store of version 2 needs no upgrade: `run` opens it as it is"
             );
         }
         _ => {}

@@ -117,7 +117,7 @@ fn report_reason<R: Eprint>(rt: &R, path: &str, fault: FileFault, cause: Option<
         FileFault::NoFile => match cause {
             Some(error) => report_cause(rt, path, Some(error)),
             None => {
-                let _ = eprintln!(rt; "planner: {path}: it is no plain file");
+                let _ = eprintln!(rt; "planner: {path}: it is not a regular file");
             }
         },
         _ => report_cause(rt, path, cause),
@@ -128,7 +128,7 @@ fn report_reason<R: Eprint>(rt: &R, path: &str, fault: FileFault, cause: Option<
 /// return bytes that are only in the system's memory, so they have to be written again.
 pub(crate) fn report_repair_hint<R: Eprint>(rt: &R) {
     let _ = eprintln!(rt;
-        "planner: the store failed: go on with a copy on a sound disk, or begin the next run with `checkpoint`"
+        "planner: the store's device failed: continue with a copy on a sound disk, or begin the next run with `checkpoint`"
     );
 }
 
