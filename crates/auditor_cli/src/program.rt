@@ -81,6 +81,8 @@ fn print_planner_only<E: Write>(errors: &mut E) -> io::Result<u8>
     ensures { IfOk result (λ status. (status ≡ 64)
         × Appends (E.contents errors.old) (E.contents errors.new) planner_only_line) }
 {
-    errors.write_all(b"auditor: only planner has this command; auditor has audit, audits and explain\n")?;
+    errors.write_all(
+        b"auditor: only planner has this command; auditor has audit, audits and explain\n",
+    )?;
     Ok(USAGE)
 }

@@ -16,7 +16,8 @@ use clap::{Arg, ArgMatches, Command, Error};
 use plan_types::OutOfMemory;
 use std::alloc::Global;
 
-const BAD_AUDIT: &str = "the arguments are KIND INSTANCE SOLUTION [routes], and KIND is lilim or vrp";
+const BAD_AUDIT: &str =
+    "the arguments are KIND INSTANCE SOLUTION [routes], and KIND is lilim or vrp";
 
 const BAD_AUDITS: &str = "the arguments are KIND LIST [routes], and KIND is lilim or vrp";
 
@@ -266,10 +267,7 @@ fn solve_command<'a>(alloc: Global, kinds: &'a [&'a str]) -> CommandResult<'a>
     let command = Ok(bare_command(alloc, "solve", SOLVE_ABOUT, SOLVE_ANSWERS));
     let command = add_arg(command, kind_arg(alloc, kinds));
     let command = add_arg(command, instance_arg(alloc));
-    let command = add_arg(
-        command,
-        required_arg(alloc, "STEPS", "The number of steps"),
-    );
+    let command = add_arg(command, required_arg(alloc, "STEPS", "The number of steps"));
     let command = add_arg(command, seed_arg(alloc));
     add_arg(command, deviation_arg(alloc))
 }

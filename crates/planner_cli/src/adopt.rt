@@ -141,9 +141,7 @@ fn plan_of_text(alloc: Global, state: &State, text: &[u8]) -> Result<Plan, Adopt
 // Prints on standard error the vehicle whose pin no route begins with, if a pin is the reason.
 fn report_unkept_pin<R: Eprint>(rt: &R, unadopted: AdoptRefusal) {
     if let AdoptRefusal::AssignmentFault(AssignmentFault::PinWithoutRoute(vehicle)) = unadopted {
-        let _ = eprintln!(rt;
-            "adopt: no remaining route begins with the pin of vehicle {vehicle}"
-        );
+        let _ = eprintln!(rt; "adopt: no remaining route begins with the pin of vehicle {vehicle}");
     }
 }
 

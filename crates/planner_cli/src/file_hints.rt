@@ -34,7 +34,8 @@ impl FileKind {
     // Returns the hint: what may have happened and what to do.
     fn hint(self) -> &'static str {
         match self {
-            FileKind::Truncated => "it begins like a store, but its end is missing: use a whole copy",
+            FileKind::Truncated =>
+                "it begins like a store, but its end is missing: use a whole copy",
             FileKind::Header =>
                 "it begins like a store, but its headers are damaged: use a whole copy",
             FileKind::Empty =>
