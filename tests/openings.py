@@ -2,7 +2,7 @@
 """Opens stores that are written here, byte by byte according to the tables of docs/FORMATS.md.
 
 1. The state with one customer: whole, cut after each of its bytes, with an additional byte, and with other
-   routes; other headers; a record where none is due.
+   routes; other headers; a record where none is due; damage that leaves a store `ok`.
 2. States of up to 40,000 stops, including the largest possible one: opened, and written again with the same
    bytes.
 3. Plans made by hand, and the states after steps and a build; the last steps and the last sequence.
@@ -62,6 +62,11 @@ class Opener:
             file.write(store)
         if self.run(lines) != wanted:
             fail(f"{name}: {self.run(lines)}, wanted {wanted}")
+
+    def expect_ok(self, name):
+        """Checks that `check` finds nothing in the file."""
+        if outcome("check", self.path)[:2] != (0, "ok\n"):
+            fail(f"{name}: check: {outcome('check', self.path)}")
 
     def expect_state(self, name, store, snapshot):
         """Checks that the store opens, and that a checkpoint writes the same state under the next sequence,
@@ -132,6 +137,26 @@ def check_headers(opener):
     opener.expect("sequence 3 beside", beside, (0, "opened 0\nno NoInstance\n"), b"show\n")
     beside[SECTOR : SECTOR + 28] = header(2, 1, 1)
     opener.expect("sequence 1 beside", beside, (0, "opened 0\nrequests 1 next 2\nsteps 0 place 0\nunplanned 1\ncost 1 0 0\nok\n"), b"show\n")
+
+
+def check_unseen_damage(opener):
+    """Checks that some damage leaves a store `ok`, as docs/OPERATING.md says: another sequence in a header, and
+    parts of two states.
+    """
+    older, newer = one_customer(), one_customer(routes=(0, 1, 1, 1, 1))
+    store = image(newer, sequence=6)
+    store[SECTOR : SECTOR + 28] = header(2, 5, len(older))
+    store[HALVES[1] : HALVES[1] + len(older)] = older
+    shown = "opened 0\nrequests 1 next 2\nsteps 0 place 0\n%s\nok\n"
+    opener.expect("sequences 6 and 5", store, (0, shown % "vehicle 1: 1\ncost 0 0 10"), b"show\n")
+    # One bit makes 4 of 6.
+    store[19] ^= 2
+    opener.expect("sequences 4 and 5", store, (0, shown % "unplanned 1\ncost 1 0 0"), b"show\n")
+    opener.expect_ok("sequences 4 and 5")
+    # The first 50 bytes end after the deviation.
+    mixed = one_customer(5, deviation=7)[:50] + older[50:]
+    opener.expect_state("parts of two states", image(mixed), mixed)
+    opener.expect_ok("parts of two states")
 
 
 def stop(number, demand):
@@ -322,6 +347,7 @@ def main():
         opener = Opener(folder)
         check_snapshots(opener)
         check_headers(opener)
+        check_unseen_damage(opener)
         check_large_states(opener)
         check_plans(opener)
         check_last_sequence(opener)
