@@ -1,8 +1,8 @@
 #!/bin/sh
-# Published results of Li-Lim instances, with the commands exactly as written in the documents: an instance that is
+# Published results of Li-Lim instances, with the commands as written in the documents: an instance that is
 # enlarged a thousand times, and a solution made from a text with a heading and lines `Route 1 : 5 3 7`. A plan
 # that is late by two thousandths breaks rule 7 there, and passes with whole numbers. One that is early by as
-# much passes.
+# much passes. The enlarged instance is also solved, with fewer steps, and the unrounded distance is computed.
 set -u
 
 top=$(CDPATH='' cd -- "$(dirname -- "$0")/.." && pwd -P) || exit 1
@@ -18,7 +18,11 @@ trap 'exit 143' TERM
 failures=0
 cd -- "$folder" || exit 1
 ln -s -- "$program" planner
-python3 -B "$top/tests/planner.py" "awk '{ sub(/\\r\$/, \"\") } NR == 1" >commands || exit 1
+# shellcheck disable=SC2016 # the block's text as it is shown
+python3 -B "$top/tests/planner.py" 'for it in $(cut' >commands || exit 1
+python3 -B "$top/tests/planner.py" './planner solve lilim lc101.milli' >shown || exit 1
+sed 's/ 100000 / 200 /' shown >solving
+printf 'lc101\t10 828.94\n' >best.txt
 
 # expect ANSWER WHAT: checks the answer of the commands for lc101.txt and lc101.published.
 expect() {
@@ -40,6 +44,11 @@ publish() {
 cp -- "$top/examples/lc101.txt" .
 sed -n 's/^Route #[0-9]*: //p' "$top/examples/lc101.sol" | publish
 expect 'pass 0 10 828937 gap 0.00' 'the published plan of lc101'
+got=$(sh ./solving 2>progress)
+[ "$got" = 828.94 ] || {
+    echo "published: the unrounded distance of lc101: '$got'"
+    failures=$((failures + 1))
+}
 sed 's/$/\r/' lc101.published >with_returns && mv with_returns lc101.published
 sed 's/$/\r/' lc101.txt >with_returns && mv with_returns lc101.txt
 expect 'pass 0 10 828937 gap 0.00' 'the same with carriage returns'

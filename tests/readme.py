@@ -27,12 +27,20 @@ GUIDES = sorted((TOP / "docs").glob("*.md"))
 # A block of commands, and the block after it if that shows the output.
 BLOCK = re.compile(r"^```sh\n(.*?)^```\n(?:\n```\n(.*?)^```\n)?", re.MULTILINE | re.DOTALL)
 # The beginnings of the guides' blocks that are run as they are shown.
-AS_SHOWN = ("./planner audit lilim", "./planner explain lilim", "./planner load day.store", "./planner load sound.store")
+AS_SHOWN = (
+    "./planner audit lilim",
+    "./planner explain lilim",
+    "./planner load day.store",
+    "./planner load sound.store",
+    "./planner solve vrp examples/E-n51-k5.vrp 1 9",
+    "./planner solve vrp examples/E-n51-k5.vrp 1000 1",
+)
 # The beginnings of the guides' blocks that other tests run, with these tests. No test runs the first one.
 ELSEWHERE = {
     "seq 16 | parallel --sshlogin": "two machines",
     "seq 16 | parallel 'planner solve": "many.sh",
-    "awk '{ sub(": "published.sh",
+    "for it in $(cut": "published.sh",
+    "./planner solve lilim lc101.milli": "published.sh",
     "now=600": "store.py",
     "cp day.store day.copy": "store.py",
     "./planner instance day.store": "adopt.py",
@@ -190,15 +198,39 @@ def check_lists(folder):
 
 
 def check_best_known(folder):
-    copies(folder, ["lc101", "lc102", "lc103"], [".txt", ".sol"])
-    write(os.path.join(folder, "best.txt"), "lc101\t10 829\nlc102\t10 800\nlc103\t11 829\nlc104\t10 829\n")
-    printed = run(folder, block("awk -F'\\t' '{ printf \"pdp_100")[0]).splitlines()
-    # 29 of 800 are 3.625 percent.
-    expect("the mean gap", printed[0], "2 1.815")
-    expect("other lines", [line.split("\t")[2] for line in printed[1:]], ["pass 0 10 829 vehicles -1", "cannot read pdp_100/lc104.txt"])
-    with open(os.path.join(folder, "told.txt"), encoding="utf-8") as file:
-        expect("gaps", [line.split()[-1] for line in file if " gap " in line], ["0.00", "3.63"])
+    os.mkdir(os.path.join(folder, "vrp"))
+    costs = {"P-n16-k8": "450", "longer": "440", "wrong": "450"}
+    for name, cost in costs.items():
+        shutil.copy(EXAMPLES / "P-n16-k8.vrp", os.path.join(folder, "vrp", name + ".vrp"))
+        solution = (EXAMPLES / "P-n16-k8.sol").read_text(encoding="ascii")
+        write(os.path.join(folder, "vrp", name + ".sol"), solution.replace("Cost 450", "Cost 451") if name == "wrong" else solution)
+    write(os.path.join(folder, "best.txt"), "".join(f"{name}\t{cost}\n" for name, cost in costs.items()) + "missing\t1\nbad\t828.94\n")
+    # `audits` ends with its own status, but the block with that of its last command.
+    printed = run(folder, block("awk -F'\\t' '{ printf \"vrp")[0]).splitlines()
+    # 10 of 440 are 2.27 percent.
+    expect("the mean gap", printed[0], "2 1.135")
+    expect("other lines", [line.split("\t")[-1] for line in printed[1:-1]], ["broken 11 route 0 place 0 stop 0", "cannot read vrp/missing.vrp", "bad line"])
+    expect("the sums", printed[-1], "2 0 900")
+    with open(os.path.join(folder, "audited.txt"), encoding="utf-8") as file:
+        expect("gaps", [line.split()[-1] for line in file if " gap " in line], ["0.00", "2.27"])
     print("readme: best-known costs")
+
+
+def check_seeds(folder):
+    """Checks the table over instances and seeds against the distance that each seed finds alone."""
+    os.mkdir(os.path.join(folder, "vrp"))
+    best = {"E-n51-k5": 521, "P-n16-k8": 450}
+    for name in best:
+        shutil.copy(EXAMPLES / f"{name}.vrp", os.path.join(folder, "vrp"))
+    write(os.path.join(folder, "best.txt"), "".join(f"{name}\t{cost}\n" for name, cost in best.items()))
+    printed = run(folder, block("seq 4 | xargs", "200")[0]).splitlines()
+    wanted = []
+    for name, cost in best.items():
+        found = [int(run(folder, f"./planner solve vrp vrp/{name}.vrp 200 {seed} | tail -n 1").split()[1]) for seed in range(1, 5)]
+        gap = sum(round(100 * (distance - cost) / cost, 2) for distance in found) / 4
+        wanted.append(f"vrp/{name}.vrp 4 {sum(found) / 4:.1f} {min(found)} {gap:.2f}")
+    expect("the table over seeds", printed, wanted)
+    print("readme: instances and seeds")
 
 
 def check_solves(folder):
@@ -213,7 +245,7 @@ def main():
     with tempfile.TemporaryDirectory() as above:
         begun = begin_readme(above)
         try:
-            for check in [check_sheet, check_as_shown, check_killed, check_lists, check_best_known, check_solves]:
+            for check in [check_sheet, check_as_shown, check_killed, check_lists, check_best_known, check_solves, check_seeds]:
                 check(new_folder(above, check.__name__))
             check_blocks()
             end_readme(begun)
