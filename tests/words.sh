@@ -70,7 +70,7 @@ why="planner: $folder/pairs: line"
 [ "$(sed 1d "$folder/error")" = "$why 2: bad line: it has no tab
 $why 3: bad line: it is empty
 $why 4: bad line: a path is empty
-$why 5: bad line: the third column is not a best-known cost, for example 10 829 or 829
+$why 5: bad line: the third column is not a best-known cost such as 10 829 or 829
 $why 6: bad line: it has more than two tabs
 $why 7: bad line: a path is empty
 $why 8: bad line: it has more than two tabs
@@ -87,7 +87,7 @@ printf 'P-n16-k8.vrp\t%s\n%s\t%s\n' "$folder/free.sol" "$folder/limited.vrp" "$f
 { cat P-n16-k8.vrp && echo 'MAX_DURATION : 30'; } >"$folder/limited.vrp"
 expect 0 'pass 0 0 450' '' audit vrp "$folder/limited.vrp" P-n16-k8.sol
 printf 'P-n16-k8.vrp\tP-n16-k8.sol\t8 450\n' >"$folder/pairs"
-expect 2 'bad line' "planner: $folder/pairs: line 1: bad line: the third column is not a best-known cost, for example 829" audits vrp "$folder/pairs"
+expect 2 'bad line' "planner: $folder/pairs: line 1: bad line: the third column is not a best-known cost such as 829" audits vrp "$folder/pairs"
 got=$(printf 'lc101.txt\t%s\t10 829\n' "$folder/routes.sol" "$folder/fraction.sol" | "$program" audits lilim - routes | cut -f 3)
 [ "$got" = "$(printf 'pass 0 10 829 gap 0.00\npass 0 10 829 gap 0.00')" ] || fail "audits of routes: $got"
 expect 1 'broken 5 route 1 place 1 stop 2' '' audit lilim one-pair.txt one-pair-reversed.sol

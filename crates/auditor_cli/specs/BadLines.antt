@@ -9,8 +9,8 @@ use Rattle.auditor_cli.specs.Columns.{cut, is_tab}
 
 -- The reason for a bad third column, in a list of instances of this kind.
 abbrev pub cost_reason : Kind → List ℕ
-cost_reason LiLim = codes "the third column is not a best-known cost, for example 10 829 or 829"
-cost_reason Vrp = codes "the third column is not a best-known cost, for example 829"
+cost_reason LiLim = codes "the third column is not a best-known cost such as 10 829 or 829"
+cost_reason Vrp = codes "the third column is not a best-known cost such as 829"
 
 -- The reason for two columns that are not paths.
 abbrev pub paths_reason : List ℕ → List ℕ → List ℕ

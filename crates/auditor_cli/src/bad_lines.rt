@@ -67,7 +67,7 @@ fn cost_reason(kind: Kind) -> &'static str
     ensures { result.now ≡ cost_reason kind }
 {
     match kind {
-        Kind::LiLim => "the third column is not a best-known cost, for example 10 829 or 829",
-        Kind::Vrp => "the third column is not a best-known cost, for example 829",
+        Kind::LiLim => "the third column is not a best-known cost such as 10 829 or 829",
+        Kind::Vrp => "the third column is not a best-known cost such as 829",
     }
 }

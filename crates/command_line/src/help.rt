@@ -210,7 +210,7 @@ pub(crate) const SOLVE_ANSWERS: &str =
     "It builds a plan, searches for a better one, and prints it as a solution (status 0).\n\
     If the plan leaves requests out, the solution has no cost line (status 1).\n\
     On standard error it prints:\n  \
-    at STEPS UNPLANNED VEHICLES DISTANCE    progress at the start and about every 5% of the steps; steps for fewer vehicles: every 524,288\n  \
+    at STEPS UNPLANNED VEHICLES DISTANCE    progress at the start and about every 5% of the steps; while it looks for fewer vehicles, every 524,288 steps\n  \
     unplanned N: R1 R2 ..                   how many requests are in no route, and which (status 1)\n  \
     why R: WORDS                            for each of them, what the `why R` command of `run` prints\n  \
     instance NAME LINE                      the first fault in the instance (status 2)\n  \
