@@ -58,6 +58,7 @@ BLOCK_OF = {
     "take": "sync try.store &&",
     "out": "./planner timetable town.store",
     "busy": "examples/day/day.sh add settings.csv",
+    "resume": "(echo freeze $((9",
     "save": "cp orders.csv town.orders",
     "back": "cp town.orders orders.csv",
     "untabled": 'now=600 (echo "freeze',
@@ -393,12 +394,15 @@ def check_cancellation(folder, commands):
 
 
 def check_copies(folder, commands):
+    """Checks that a copy of the store and of its table can be put back, and the search that goes on after a crash."""
     before = [read_bytes(os.path.join(folder, it)) for it in ("town.store", "orders.csv")]
     expect("a copy", shell(folder, commands["save"]), "ok\n")
     answered(folder, commands["more"], 2)
     add_row(folder, IMPOSSIBLE)
     shell(folder, commands["back"])
     expect("a copy that was put back", [read_bytes(os.path.join(folder, it)) for it in ("town.store", "orders.csv")] == before, True)
+    answered(folder, commands["resume"], 3)
+    check_served("a search that goes on", folder, *sheets_again(folder, commands), ["4747"])
 
 
 def check_twice(folder, commands):
