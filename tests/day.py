@@ -13,7 +13,7 @@
    these orders, and a picture of another plan, or with more than shapes and texts.
 4. Orders in no van are on a last sheet, with a timetable that is written by hand.
 5. The page escapes each text, loads nothing from elsewhere, and links phone numbers. `add` and `cancel` print
-   the commands of a store.
+   the commands of a store, and so does `out`, with a row for the table.
 
 The first part needs the program that rt ci leaves, and is skipped without it. tests/page.py renders the page.
 """
@@ -38,6 +38,9 @@ EARTH = 6371008.8
 # The script's bounds: rounding changes a leg by less than this many seconds, and the projection by this
 # fraction of it, within 10 km of the depot.
 MOST_ROUNDED, MOST_PROJECTED, NEAR = 2, 0.003, 10_000
+# An order that no van can serve: from the depot to a place 10 km away, in one minute.
+IMPOSSIBLE = ["4803", "3", "Foss Islands Depot, 22 Foss Islands Road", "", "53.9608", "-1.0692", "9:00", "9:00", "1",
+    "The Drovers, Strensall", "01632 960124", "54.0379", "-1.0348", "9:01", "9:02", "4"]
 COLUMNS_OF_SHEET = ["arrive", "begin", "leave", "window", "order", "task", "phone", "place"]
 # The blocks of commands in the guide: the name of each one here, and how it begins. tests/store.py runs the last
 # one.
@@ -46,14 +49,18 @@ BLOCK_OF = {
     "sheets": "examples/day/day.sh instance settings.csv",
     "page": "./planner draw lilim",
     "store": "./planner load town.store",
+    "more": "(echo build; echo",
     "again": "./planner timetable town.store",
-    "add": "examples/day/day.sh add settings.csv",
+    "add": "cp town.sheets old.sheets",
+    "changes": "diff old.sheets town.sheets",
     "early": "examples/day/day.sh cancel settings.csv",
     "cancel": "./planner timetable town.store",
     "take": "sync try.store &&",
-    "out": "examples/day/day.sh add settings.csv",
-    "save": "cp town.store town.copy",
-    "back": "cp town.copy town.back",
+    "out": "./planner timetable town.store",
+    "busy": "examples/day/day.sh add settings.csv",
+    "resume": "(echo freeze $((9",
+    "save": "cp orders.csv town.orders",
+    "back": "cp town.orders orders.csv",
     "untabled": 'now=600 (echo "freeze',
 }
 HTML, SVG = "{http://www.w3.org/1999/xhtml}", "{http://www.w3.org/2000/svg}"
@@ -317,6 +324,7 @@ def check_commands(above):
     check_twice(folder, commands)
     check_van_out(folder, commands, shown["out"])
     check_depot_order(new_folder(above, "depot"), commands, shown["depot"])
+    check_left(new_folder(above, "left"), commands)
     return len(sheets)
 
 
@@ -368,6 +376,8 @@ def check_phone_order(folder, commands, row):
     answered(folder, commands["add"], 4)
     shell(folder, "cp change.txt change.kept")
     vans, left = sheets_again(folder, commands, (0,))
+    new = [line for line in shell(folder, commands["changes"], (1,)).splitlines() if line.startswith("> ")]
+    expect("the lines of the phone order that differ", sum(" 4801 " in line for line in new), 2)
     check_served("a phone order", folder, vans, left, [])
     windows = [row[3] for rows in vans.values() for row in rows if row[4] == "4801"]
     expect("its windows", windows, ["10:15-12:00", "10:15-15:00"])
@@ -384,11 +394,15 @@ def check_cancellation(folder, commands):
 
 
 def check_copies(folder, commands):
-    before = read_bytes(os.path.join(folder, "town.store"))
+    """Checks that a copy of the store and of its table can be put back, and the search that goes on after a crash."""
+    before = [read_bytes(os.path.join(folder, it)) for it in ("town.store", "orders.csv")]
     expect("a copy", shell(folder, commands["save"]), "ok\n")
-    shell(folder, "echo build | ./planner run town.store strict")
+    answered(folder, commands["more"], 2)
+    add_row(folder, IMPOSSIBLE)
     shell(folder, commands["back"])
-    expect("a copy that was put back", read_bytes(os.path.join(folder, "town.store")) == before, True)
+    expect("a copy that was put back", [read_bytes(os.path.join(folder, it)) for it in ("town.store", "orders.csv")] == before, True)
+    answered(folder, commands["resume"], 3)
+    check_served("a search that goes on", folder, *sheets_again(folder, commands), ["4747"])
 
 
 def check_twice(folder, commands):
@@ -403,46 +417,60 @@ def check_twice(folder, commands):
     shell(folder, "cp kept.store town.store")
 
 
-def check_van_out(folder, commands, row):
+def check_van_out(folder, commands, shown):
     """Follows the guide for a van that drops out at 11:00: the first van that has delivered an order by then, and
-    has others left. The row that keeps it busy comes after all that it has served.
+    has others left. The row that keeps it busy comes after all that it has served. When the van is repaired, the
+    row is cancelled.
     """
-    vans, left = vans_of(read(os.path.join(folder, "town.sheets")))
-    at = seconds("11:00", None)
+    vans, _ = vans_of(read(os.path.join(folder, "town.sheets")))
+    day, at = Day(os.path.join(folder, "orders.csv")), seconds("11:00", None)
     for van, rows in vans.items():
-        done = [it[4] for it in rows if it[5].startswith("deliver") and seconds(it[1], None) < at]
-        others = list(dict.fromkeys(it[4] for it in rows if it[4] not in done))
+        stops = [day.stops[it[4], "pickup" if it[5].startswith("pick up") else "delivery"] for it in rows]
+        begins = [max(arrival, stop.earliest) for (arrival, _), stop in zip(day.arrivals(stops, day.rounded_leg), stops)]
+        begun = [(it[4], it[5].split()[0], stop, begin) for it, stop, begin in zip(rows, stops, begins) if begin <= at]
+        done = [it for it in begun if it[1] == "deliver"]
+        others = list(dict.fromkeys(it[4] for it in rows if it[4] not in [name for name, *_ in done]))
         if done and others:
             break
     else:
         fail("no van has orders before and after 11:00")
-    kept = [it for it in rows if it[4] in done]
-    cancel = "examples/day/day.sh cancel settings.csv orders.csv $it town.tabs 11:00"
-    shell(folder, f"for it in {' '.join(others)}; do {cancel}; done > change.txt && ./planner run town.store < change.txt")
-    day = Day(os.path.join(folder, "orders.csv"))
-    last = day.stops[kept[-1][4], "pickup" if kept[-1][5].startswith("pick up") else "delivery"]
-    at += 1800
-    minutes = int((day.closes - at - day.rounded_leg(last, day.depot)) / 60)
+    kept = [it for it in rows if it[4] not in others]
+    _, _, last, begin = done[-1]
+    # When the van is free there, and the minutes from half an hour later until it must drive home.
+    free = max(at, begin + last.service)
+    minutes = int((day.closes - free - 1800 - day.rounded_leg(last, day.depot)) / 60)
     name = f"van {van} out"
     place = [last.name, last.phone, f"{math.degrees(last.latitude):.4f}", f"{math.degrees(last.longitude):.4f}"]
-    fields = next(csv.reader([row]))
+    fields = next(csv.reader(shown.splitlines()[-1:]))
     expect("the guide's row of a van that is out", [fields[1], *fields[6:8], *fields[-3:]], ["0", "11:00", "11:30", "", "", "0"])
-    add_row(folder, [name, "0", *place, *fields[6:8], minutes, *place, *fields[-3:]])
-    answered(folder, commands["out"], 2)
+    ran = subprocess.run(["sh", "-c", commands["out"].replace(" 3 ", f" {van} ")], cwd=folder, capture_output=True, check=True, text=True)
+    row = [name, "0", *place, "11:00", minute(free + 1800), str(minutes), *place, "", "", "0"]
+    begun = [name for name, *_ in begun]
+    told = [f"day.sh: order {it}, {'on board' if it in begun else 'not picked up'}" for it in others]
+    reported = [it for it in ran.stderr.splitlines() if not it.startswith(("unplanned", "why"))]
+    expect("what a van leaves", reported[:-1], [*told, "day.sh: write as the last row of the table:"])
+    words = [{re.sub(r"\d+", "", it) for it in lines[:-1]} for lines in (shown.splitlines(), reported)]
+    expect("words for it that the guide lacks", words[1] - words[0], set())
+    expect("the row of a van that is out", next(csv.reader(reported[-1:])), row)
+    add_row(folder, reported[-1])
+    answered(folder, commands["busy"], 2)
     after, _ = sheets_again(folder, commands)
     expect("what it has served, and then the row", [it[4] for it in after[van]], [it[4] for it in kept] + [name] * 2)
-    for number, order in enumerate(others):
+    for later, order in enumerate(others):
         table = {it["order"]: it for it in csv.DictReader(read(os.path.join(folder, "orders.csv")).splitlines())}[order]
         if seconds(table["pickup from"] or "0:00", None) < seconds("12:15", None):
             table["pickup from"] = "12:15"
         for column in "pickup to", "delivery to":
             table[column] = ""
         add_row(folder, [f"{order}b", *list(table.values())[1:]])
-        answered(folder, commands["add"].replace("9:30", f"11:{number:02}"), 4)
+        answered(folder, commands["add"].replace("9:30", f"11:{later:02}"), 4)
     after, left = sheets_again(folder, commands)
     check_served("a van that drops out", folder, after, left, ["4747", *others])
     rows = [it[4] for it in kept] + [name] * 2
     expect("its first rows", [it[4] for it in after[van]][: len(rows)], rows)
+    answered(folder, f"examples/day/day.sh cancel settings.csv orders.csv '{name}' town.tabs 12:00 | ./planner run town.store strict", 3)
+    after, left = sheets_again(folder, commands)
+    check_served("a van that is repaired", folder, after, left, ["4747", *others, name])
 
 
 def check_depot_order(folder, commands, row):
@@ -456,6 +484,17 @@ def check_depot_order(folder, commands, row):
     check_served("an order from the depot", folder, vans, left, [])
     places = [it[7] for rows in vans.values() for it in rows if it[4] == "4802"]
     expect("its places", places, ["Foss Islands Depot, 22 Foss Islands Road", "Harbour Shop"])
+
+
+def check_left(folder, commands):
+    """Checks a day with an order that no van can take: its plan can't be adopted, so the store makes one."""
+    shell(folder, commands["copy"])
+    add_row(folder, IMPOSSIBLE)
+    shell(folder, commands["sheets"].replace("100000", "2000"), (1,))
+    expect("the order on the last page", vans_of(read(os.path.join(folder, "day.sheets")))[1], ["4803"])
+    expect("a plan that leaves an order out", re.sub(r"\d+", "", shell(folder, commands["store"], (2,))), "ok\nno NoCost \n")
+    answered(folder, commands["more"], 2)
+    check_served("a day with an order in no van", folder, *sheets_again(folder, commands), ["4803"])
 
 
 # Other forms of the table.
@@ -564,10 +603,10 @@ arrive  begin  leave  window       order  task       phone  place
 order B, 5 boxes, stops 3 and 4
   pick up 8:00-9:00  1  Mill
   deliver 8:00-8:10  3  Farm
-    alone: stop 4 (order B) would start at 8:18, latest 8:10
-    vehicle 2: after stop 1 (order A) it would carry 4 boxes too many
-    vehicle 2: stop 4 (order B) would start 8 minutes late
-    vehicle 2: would be back 1 minute late
+    with a van of its own: stop 4 (order B, delivery) would start at 8:18, latest 8:10
+    van 2: after stop 1 (order A, pickup) it would carry 4 boxes too many
+    van 2: stop 4 (order B, delivery) would start 8 minutes late
+    van 2: would be back 1 minute late
 """
 # The same with a name that has a tab and a line break, and one with letters of more than one byte.
 LONG_NAMES = SMALL.replace("Shop", '"The  Shop,\tMain\r\nStreet"').replace("A,", "Ä1,", 1)
@@ -752,12 +791,20 @@ def check_refused(folder):
     expect("other names", ask("sheets", town, write(folder, "names.csv", LONG_NAMES), alone)[:2], (1, LONG_SHEETS))
     idle = ask("sheets", town, small, write(folder, "idle.tabs", "partial 2 0 0\nunplanned\t1\nunplanned\t3\n"))
     expect("no van at all", (idle[0], idle[1][:10], idle[1].count("\norder ")), (1, "In no van,", 2))
+    # An order with a reason comes before one that the plan lacks.
+    lacking = "partial 1 0 0\nunplanned\t3\nwhy\t3\talone: a vehicle can serve it\nwhy\t3\tfleet: 0 of 2 vehicles are used\n"
+    status, text, told = ask("sheets", town, small, write(folder, "lacking.tabs", lacking))
+    expect("an order that the plan lacks", (status, told), (1, "day.sh: orders in no van: 2; not in this plan: 1\n"))
+    reasons = ["a van of its own can serve it", "fleet: 0 of 2 vans are used", "not in this plan: withdrawn, or not added to it yet"]
+    found = ["".join(it) for it in re.findall(r"^order (.)|^    (.*)", text, flags=re.MULTILINE)]
+    expect("the last page then", found, ["B", *reasons[:2], "A", reasons[2]])
     with open(alone, "rb") as file:
         expect("a timetable on standard input", ask("sheets", town, small, "-", stdin=file)[1], ALONE_SHEETS)
     expect("a file that is not there", ask("instance", town, "nowhere.csv"), (3, "", "cannot read nowhere.csv\n"))
     expect("a folder", ask("instance", folder, small), (3, "", f"cannot read {folder}\n"))
     for words in [], ["instance"], ["instance", town, small, small], ["sheets", town, small], ["sheets", town, small, ""], ["draw", town, small], [
-        "page", town, small, alone], ["cancel", town, small], ["cancel", town, small, "A", alone], ["add", town, small, "8:00", "9:00"]:
+        "page", town, small, alone], ["cancel", town, small], ["cancel", town, small, "A", alone], ["add", town, small, "8:00", "9:00"], [
+        "out", town, small, "2", alone]:
         expect(f"{words}", ask(*words)[:2], (64, ""))
     return len(bad) + 1 + len(BAD_SETTINGS) + len(BAD_TIMETABLES) + 1 + 2 * len(NO_TABLES) + 3 + len(OTHER_LETTERS)
 
@@ -987,12 +1034,12 @@ def check_store_commands(folder):
     expect("add", ask("add", town, small), (0, added, told))
     expect("add at 7:59", ask("add", town, small, "7:59"), (0, "freeze 28740\n" + added, told))
     refused("add at 8:00", "orders", ["add", town, small, "8:00"],
-        "TooEarly 3: pickup from: 8:00 is before 8:01, when each van can be there if it is sent at 8:00")
+        "TooEarly 3: pickup from: 8:00 is too early; from 8:01 on each van can be there, if it is sent at 8:00")
     expect("cancel", ask("cancel", town, small, "B"), (0, "withdraw 3\n", ""))
     expect("cancel with blanks", ask("cancel", town, small, "  B "), (0, "withdraw 3\n", ""))
     for time, now, told in [
         ("8:00", 28800, ""),
-        ("8:05", 29100, "day.sh: by this plan, van 2 has begun to pick up order A at 8:05\n"),
+        ("8:05", 29100, "day.sh: by this plan, van 2 has begun to pick up order A at 8:05: its boxes are on board\n"),
         ("08:07", 29220, "day.sh: by this plan, van 2 has begun to deliver order A at 8:06\n"),
     ]:
         expect(f"cancel at {time}", ask("cancel", town, small, "A", alone, time), (0, f"unpin 2\nwithdraw 1\nfreeze {now}\n", told))
@@ -1001,10 +1048,36 @@ def check_store_commands(folder):
     without = write(folder, "without.tabs", ALONE[: ALONE.index("unplanned")].replace("partial 1", "pass 0"))
     refused("cancel", "timetable", ["cancel", town, small, "B", without, "8:00"],
         "NoSuchOrder 6: order B is not in this plan: withdrawn, or not added to it yet")
+    check_outage(folder, town, alone)
     for time in "9.30", "9:60", "24:01", "now":
-        words = [["add", town, small, time], ["cancel", town, small, "A", alone, time]]
+        words = [["add", town, small, time], ["cancel", town, small, "A", alone, time], ["out", town, small, "2", alone, time]]
         for it in words:
             expect(f"{it}", ask(*it), (64, "", f'day.sh: "{time}" is not a time, for example 9:30\n'))
+
+
+def check_outage(folder, town, alone):
+    """Checks what `out` prints for the van of the small table, with other columns, quotes and separators."""
+    small = os.path.join(folder, "small.csv")
+    for van, time in ("2", "8:05"), ("1", "8:30"):
+        told = f"NothingDone 11: van {van} has delivered nothing by {time}; give its sheet to an idle van"
+        refused("out of a van without deliveries", "timetable", ["out", town, small, van, alone, time], told)
+    # The van is free at 8:08:44, and needs 55 seconds home. At 8:40 it can't be busy for half an hour more.
+    for time, now, window, minutes in ("8:07", 29220, "8:07,8:38", 20), ("8:10", 29400, "8:10,8:40", 19), ("8:40", 31200, "8:40,9:00", 0):
+        told = f"day.sh: write as the last row of the table:\nvan 2 out,0,Shop,2,0.003,0.004,{window},{minutes},Shop,2,0.003,0.004,,,0\n"
+        expect(f"out at {time}", ask("out", town, small, "2", alone, time), (0, f"unpin 2\nfreeze {now}\n", told))
+    # A van with both orders: the mill and the shop, then the mill again, and the farm at 8:20.
+    both = write(folder, "both.csv", SMALL.replace("B,5", "B,1").replace("8:10", "9:00").replace("Shop", '"The ""Shop"", Main Street"'))
+    route = write(folder, "both.tabs", hours((1, 28833, 29100), (3, 29160, 29160), (2, 29264, 29264), (4, 30353, 30353), (0, 31384, 31384)))
+    row = 'van 1 out,0,"The ""Shop"", Main Street",2,0.003,0.004,8:10,8:40,19,"The ""Shop"", Main Street",2,0.003,0.004,,,0\n'
+    told = "day.sh: order B, on board\nday.sh: write as the last row of the table:\n" + row
+    expect("out with an order on board", ask("out", town, both, "1", route, "8:10"), (0, "unpin 1\nwithdraw 3\nfreeze 29400\n", told))
+    other = write(folder, "other.csv", rewritten(read(both), lambda row: [re.sub(r"^0\.", "0,", it) for it in row[::-1]] + ["note"], delimiter=";"))
+    status, commands, told = ask("out", town, other, "1", route, "8:10")
+    expect("out with other columns", (status, commands), (0, "unpin 1\nwithdraw 3\nfreeze 29400\n"))
+    fields = next(csv.reader(told.splitlines()[-1:], delimiter=";"))
+    expect("its row", fields, [re.sub(r"^0\.", "0,", it) for it in next(csv.reader([row.rstrip()]))[::-1]] + [""])
+    more = write(folder, "more.csv", read(both) + row)
+    expect("the table with this row", ask("instance", town, more)[0], 0)
 
 
 def check_most(folder):

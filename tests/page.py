@@ -29,9 +29,6 @@ BROWSERS = ("chromium", "chromium-headless-shell", "chromium-browser", "google-c
 WIDTH, HEIGHT = 840, 900
 # A route is seen if its colour is in this many columns of the picture: the mark beside a heading is narrower.
 LEAST_COLUMNS = 40
-# An order that no van can serve: from the depot to a place 10 km away, in one minute.
-IMPOSSIBLE = ["4803", "3", "Foss Islands Depot, 22 Foss Islands Road", "", "53.9608", "-1.0692", "9:00", "9:00", "1",
-    "The Drovers, Strensall", "01632 960124", "54.0379", "-1.0348", "9:01", "9:02", "4"]
 
 
 def browser():
@@ -168,7 +165,7 @@ def check_day(above):
     check_pages(pages, sheets, day.Day(day.ORDERS))
     vans = [int(day.HEADING.match(sheet)[1]) for sheet in sheets.split("\f")]
     check_picture(folder, page, vans)
-    day.add_row(folder, IMPOSSIBLE)
+    day.add_row(folder, day.IMPOSSIBLE)
     day.shell(folder, commands["sheets"].split("\n")[0])
     day.shell(folder, "./planner load town.store lilim day.txt && echo build | ./planner run town.store strict")
     day.shell(folder, commands["again"], (0, 1))

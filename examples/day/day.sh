@@ -7,13 +7,16 @@
 #     day.sh add SETTINGS ORDERS [TIME]           prints the store command that adds the last order
 #     day.sh cancel SETTINGS ORDERS ORDER [TIMETABLE TIME]
 #                                                 prints the store commands that cancel the order with this name
+#     day.sh out SETTINGS ORDERS VAN TIMETABLE TIME
+#                                                 prints the store commands that cancel what this van has not delivered
 #
 # TIMETABLE is the timetable of a plan, made with `tabs`. MAP is the picture of the same plan, made with `draw`.
 # TIME is the time of the day, for example 9:30.
 #
 # With TIME, `add` begins with `freeze`, which keeps what has begun by then, and refuses a pickup that may begin so
 # early that a van could not reach it in time. With TIMETABLE and TIME, `cancel` removes the pin of the van before
-# it withdraws the order, and freezes again.
+# it withdraws the order, and freezes again. `out` does the same for each order that the van has not delivered by
+# TIME. On standard error it prints the row of 0 boxes that keeps the van busy, as the last one of ORDERS.
 #
 # The page loads nothing from elsewhere, and each text of the tables is escaped in it. Of MAP only the map is copied,
 # and it is refused if it has anything but shapes and texts.
@@ -44,13 +47,14 @@ usage() {
     echo '       day.sh page SETTINGS ORDERS TIMETABLE MAP' >&2
     echo '       day.sh add SETTINGS ORDERS [TIME]' >&2
     echo '       day.sh cancel SETTINGS ORDERS ORDER [TIMETABLE TIME]' >&2
+    echo '       day.sh out SETTINGS ORDERS VAN TIMETABLE TIME' >&2
     exit 64
 }
 
 for word in "$@"; do
     [ -n "$word" ] || usage
 done
-TIMETABLE='' MAP='' ORDER='' TIME=''
+TIMETABLE='' MAP='' ORDER='' VAN='' TIME=''
 case "${1-} $#" in
     'instance 3' | 'add 3') ;;
     'sheets 4') TIMETABLE=$4 ;;
@@ -58,6 +62,7 @@ case "${1-} $#" in
     'add 4') TIME=$4 ;;
     'cancel 4') ORDER=$4 ;;
     'cancel 6') ORDER=$4 TIMETABLE=$5 TIME=$6 ;;
+    'out 6') VAN=$4 TIMETABLE=$5 TIME=$6 ;;
     *) usage ;;
 esac
 TASK=$1 SETTINGS=$2 ORDERS=$3
@@ -71,7 +76,7 @@ done
 # Letters are bytes and a number has a point, whatever the system's language. Paths are passed in the
 # environment, so that awk takes them unchanged.
 LC_ALL=C
-export LC_ALL TASK SETTINGS ORDERS TIMETABLE MAP ORDER TIME
+export LC_ALL TASK SETTINGS ORDERS TIMETABLE MAP ORDER VAN TIME
 exec awk '
 BEGIN {
     RADIANS = atan2(0, -1) / 180
@@ -115,8 +120,10 @@ function run_task(task) {
         print_instance()
     else if (task == "add")
         print_addition()
-    else
+    else if (task == "cancel")
         print_cancellation(clean(ENVIRON["ORDER"]))
+    else
+        print_outage(ENVIRON["VAN"])
     return 0
 }
 
@@ -488,8 +495,8 @@ function print_addition(    pickup, drive, stop) {
     for (stop = 0; has_time && stop < pickup; stop += 1)
         drive = greater(drive, travel_time(stop, pickup))
     if (has_time && earliest[pickup] < now + drive) {
-        refuse("orders", "TooEarly", line_of["orders", orders], "pickup from: " clock_time(earliest[pickup]) " is before " \
-            clock_time(60 * minutes(now + drive)) ", when each van can be there if it is sent at " clock_time(now))
+        refuse("orders", "TooEarly", line_of["orders", orders], "pickup from: " clock_time(earliest[pickup]) " is too early; from " \
+            clock_time(60 * minutes(now + drive)) " on each van can be there, if it is sent at " clock_time(now))
         return
     }
     if (has_time)
@@ -510,7 +517,7 @@ function print_cancellation(name,    pickup) {
     }
     pickup = 2 * row_named[name] - 1
     if (has_time && !is_served[pickup] && !is_left[pickup]) {
-        refuse("timetable", "NoSuchOrder", end_of["timetable"], "order " name " is not in this plan: withdrawn, or not added to it yet")
+        refuse("timetable", "NoSuchOrder", end_of["timetable"], "order " name " is " NO_REASON)
         return
     }
     if (is_served[pickup])
@@ -524,8 +531,67 @@ function print_cancellation(name,    pickup) {
 
 # Reports that an order that is cancelled has begun with this stop.
 function report_begun(name, stop) {
-    printf "day.sh: by this plan, van %d has begun to %s order %s at %s\n", van[van_of[stop - !(stop % 2)]], \
-        (stop % 2 ? "pick up" : "deliver"), name, clock_time(begin_of[stop]) | "cat 1>&2"
+    printf "day.sh: by this plan, van %d has begun to %s order %s at %s%s\n", van[van_of[stop - !(stop % 2)]], \
+        (stop % 2 ? "pick up" : "deliver"), name, clock_time(begin_of[stop]), (stop % 2 ? ": its boxes are on board" : "") | "cat 1>&2"
+}
+
+# Prints the commands that cancel each order that a van has not delivered by now, and reports these orders. Then
+# reports the row of 0 boxes that keeps the van at the place of its last delivery.
+function print_outage(name,    n, k, stop, last) {
+    for (n = used; n > 0 && van[n] != name; n -= 1)
+        ;
+    for (k = 1; n > 0 && k < stops[n]; k += 1)
+        if (is_delivered(stop_at[n, k]))
+            last = k
+    if (!last) {
+        refuse("timetable", "NothingDone", end_of["timetable"], "van " name " has delivered nothing by " clock_time(now) \
+            "; give its sheet to an idle van")
+        return
+    }
+    print "unpin " van[n]
+    for (k = 1; k < stops[n]; k += 1) {
+        stop = stop_at[n, k]
+        if (stop % 2 == 0 || is_delivered(stop))
+            continue
+        print "withdraw " stop
+        printf "day.sh: order %s, %s\n", order_of(stop), (begin_of[stop] <= now ? "on board" : "not picked up") | "cat 1>&2"
+    }
+    print "freeze " now
+    print "day.sh: write as the last row of the table:" | "cat 1>&2"
+    print busy_row("van " van[n] " out", stop_at[n, last], greater(now, begin[n, last] + service[stop_at[n, last]])) | "cat 1>&2"
+}
+
+# Returns whether the order of a stop is delivered by now, by the plan.
+function is_delivered(stop) {
+    return begin_of[stop + stop % 2] <= now
+}
+
+# Returns a row of the table, with its columns and its separator: 0 boxes from and to the place of a stop, where the
+# van is free at this time. The pickup begins within half an hour of it, and lasts until the van must return.
+function busy_row(name, stop, free,    i, side, text, value) {
+    split("pickup|delivery", side, "|")
+    value["order"] = name
+    value["boxes"] = value["delivery minutes"] = 0
+    for (i = 1; i <= 2; i += 1) {
+        value[side[i]] = place[stop]
+        value[side[i] " phone"] = phone[stop]
+        value[side[i] " lat"] = cell["orders", row_at(stop), side[2 - stop % 2] " lat"]
+        value[side[i] " lon"] = cell["orders", row_at(stop), side[2 - stop % 2] " lon"]
+    }
+    value["pickup from"] = clock_time(now)
+    value["pickup to"] = clock_time(free + 1800 < latest[0] ? free + 1800 : latest[0])
+    value["pickup minutes"] = greater(int((latest[0] - free - 1800 - travel_time(stop, 0)) / 60), 0)
+    for (i = 1; i <= width_of["orders"]; i += 1)
+        text = text (i > 1 ? separator["orders"] : "") in_table(value[title["orders", i]])
+    return text
+}
+
+# Returns a field as it is written in a table.
+function in_table(text) {
+    if (text !~ /[",;]/)
+        return text
+    gsub(/"/, "\"\"", text)
+    return quoted(text)
 }
 
 # Reads the timetable: van[n] is the number of the n-th van that is used, and stop_at[n, k] its k-th stop, 0
@@ -569,16 +635,23 @@ function keep_left(line, pickup) {
     left += 1
 }
 
+# Keeps a line of `why`, in the words of the tables.
 function keep_reason(pickup, text) {
     sub(/: behind stop/, ": after stop", text)
+    sub(/^alone: a vehicle can serve it$/, "a van of its own can serve it", text)
+    sub(/^alone: /, "with a van of its own: ", text)
+    sub(/^vehicle /, "van ", text)
+    sub(/a vehicle /, "a van ", text)
+    sub(/ vehicles are used$/, " vans are used", text)
     reason[pickup] = reason[pickup] "    " text "\n"
 }
 
-# Returns a line of `why`, with the order after each stop that it names.
-function with_orders(text,    named) {
+# Returns a line of `why`, with the order and its side after each stop that it names.
+function with_orders(text,    named, stop) {
     named = ""
     while (match(text, /stop [0-9]+/)) {
-        named = named substr(text, 1, RSTART + RLENGTH - 1) " (order " order_of(substr(text, RSTART + 5, RLENGTH - 5)) ")"
+        stop = substr(text, RSTART + 5, RLENGTH - 5)
+        named = named substr(text, 1, RSTART + RLENGTH - 1) " (order " order_of(stop) ", " (stop % 2 ? "pickup" : "delivery") ")"
         text = substr(text, RSTART + RLENGTH)
     }
     return named text
@@ -696,8 +769,9 @@ function print_sheets(    n) {
             printf "\f"
         print_sheet(n)
     }
+    find_rest()
     print_rest()
-    return status_of(count_rest())
+    return status_of_rest()
 }
 
 # Returns what stands above the stops of a van.
@@ -739,34 +813,34 @@ function order_of(stop) {
     return order[row_at(stop)]
 }
 
+# Finds the orders that are in no van: rest[1], .. are their rows. Those that the plan leaves out come first; those
+# that it lacks, because they were withdrawn or not added yet, follow.
+function find_rest(    row, lacks) {
+    rests = 0
+    for (lacks = 0; lacks < 2; lacks += 1)
+        for (row = 1; row <= orders; row += 1)
+            if (!is_served[2 * row] && !is_left[2 * row - 1] == lacks)
+                rest[rests += 1] = row
+}
+
 # Prints the orders that are in no van, and why, on a page of their own.
-function print_rest(    row, count) {
-    for (row = 1; row <= orders; row += 1) {
-        if (is_served[2 * row])
-            continue
-        count += 1
-        if (count == 1)
-            printf "%s%s\n", used ? "\f" : "", REST
+function print_rest(    n, row) {
+    if (rests)
+        printf "%s%s\n", used ? "\f" : "", REST
+    for (n = 1; n <= rests; n += 1) {
+        row = rest[n]
         printf "\norder %s, %s, stops %d and %d\n", order[row], counted(boxes[row], "box", "boxes"), 2 * row - 1, 2 * row
         printf "  pick up %s  %s  %s\n", window(2 * row - 1), phone[2 * row - 1], place[2 * row - 1]
         printf "  deliver %s  %s  %s\n", window(2 * row), phone[2 * row], place[2 * row]
-        printf "%s", (reason[2 * row - 1] != "" ? reason[2 * row - 1] : "  " NO_REASON "\n")
+        printf "%s", (reason[2 * row - 1] != "" ? reason[2 * row - 1] : "    " NO_REASON "\n")
     }
 }
 
-# Returns how many orders are in no van.
-function count_rest(    row, count) {
-    count = 0
-    for (row = 1; row <= orders; row += 1)
-        count += !is_served[2 * row]
-    return count
-}
-
-# Returns the status if this many orders are in no van, and reports them.
-function status_of(count) {
-    if (count)
-        print "day.sh: orders in no van: " count | "cat 1>&2"
-    return count ? 1 : 0
+# Returns the status, and reports how many orders are in no van, and how many of them the plan lacks.
+function status_of_rest() {
+    if (rests)
+        print "day.sh: orders in no van: " rests (rests > left ? "; not in this plan: " rests - left : "") | "cat 1>&2"
+    return rests ? 1 : 0
 }
 
 # Reads the picture of the plan and keeps the lines of its map: map_line[1], .. without what stands above and below
@@ -831,26 +905,26 @@ function with_name(line, text,    stop) {
 }
 
 # Prints the page, and returns the status: the map, then a section for each van and one for the orders in no van.
-function print_page(    n, rest) {
-    rest = count_rest()
-    print_head(used + (rest > 0))
+function print_page(    n) {
+    find_rest()
+    print_head(used + (rests > 0))
     print "<section>"
     print "<h1>" escaped(place[0]) "</h1>"
     printf "<p>%s, %s</p>\n<ul>\n", counted(used, "van", "vans"), counted(orders, "order", "orders")
     for (n = 1; n <= used; n += 1)
         printf "<li><a href=\"#van-%d\">Van %d</a>: %s</li>\n", van[n], van[n], summary(n)
-    if (rest)
-        printf "<li><a href=\"#rest\">In no van: %s</a></li>\n", counted(rest, "order", "orders")
+    if (rests)
+        printf "<li><a href=\"#rest\">In no van: %s</a></li>\n", counted(rests, "order", "orders")
     print "</ul>"
     print_map()
     print "</section>"
     for (n = 1; n <= used; n += 1)
         print_section(n)
-    if (rest)
+    if (rests)
         print_rest_section()
     print "</body>"
     print "</html>"
-    return status_of(rest)
+    return status_of_rest()
 }
 
 # Prints the head of the page. The policy forbids a browser to load or run anything. In print the map takes what
@@ -896,7 +970,7 @@ function print_map(    n) {
         print map_line[n]
     print "</svg>"
     print "</div>"
-    print "<p>Numbers on the map are those of the column map. Dashed lines join pickup and delivery.</p>"
+    print "<p>The numbers on the map are in the last column of the tables below. A dashed line joins a pickup and its delivery.</p>"
 }
 
 # Prints the stops of a van, in the colour of its route on the map.
@@ -930,19 +1004,18 @@ function data(class, content) {
 }
 
 # Prints the orders that are in no van, and why.
-function print_rest_section(    row, count, n, line) {
+function print_rest_section(    n, row, count, i, line) {
     print "<section class=\"van\" id=\"rest\">"
     print "<h2>" REST "</h2>"
-    for (row = 1; row <= orders; row += 1) {
-        if (is_served[2 * row])
-            continue
+    for (n = 1; n <= rests; n += 1) {
+        row = rest[n]
         printf "<h3>order %s, %s, stops %d and %d</h3>\n<ul>\n", escaped(order[row]), counted(boxes[row], "box", "boxes"), 2 * row - 1, 2 * row
         print_visit("pick up", 2 * row - 1)
         print_visit("deliver", 2 * row)
         count = split(reason[2 * row - 1] != "" ? reason[2 * row - 1] : NO_REASON, line, "\n")
-        for (n = 1; n <= count; n += 1)
-            if (line[n] != "")
-                print "<li>" escaped(clean(line[n])) "</li>"
+        for (i = 1; i <= count; i += 1)
+            if (line[i] != "")
+                print "<li>" escaped(clean(line[i])) "</li>"
         print "</ul>"
     }
     print "</section>"
