@@ -40,8 +40,8 @@ TOP = THIS.parent.parent
 DOCUMENTS = sorted(TOP.glob("*.md")) + sorted((TOP / "docs").glob("*.md"))
 MOST_WORDS = 90
 SOURCES = {".rt", ".antt", ".edit", ".py", ".sh", ".txt", ".sol", ".vrp", ".1", ""}
-# Spans that name nothing in the tree: commands of the kit, its name, and folders of an installation.
-FOREIGN_SPANS = ("rt ", "rattle-kit", "PREFIX/")
+# Spans that name nothing in the tree: commands of the kit, its name, and folders of an installation or an archive.
+FOREIGN_SPANS = ("rt ", "rattle-kit", "PREFIX/", "bin/", "dist/")
 # Words from outside the project: commands and terms of the system.
 FOREIGN = {"PATH", "PREFIX", "xargs", "split", "parallel", "strace", "valgrind", "callgrind", "perf", "sha256sum", "rustc", "clang", "fdatasync", "fsync"}
 # Names of crates that the project uses, and of what they and std declare.

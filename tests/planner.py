@@ -17,10 +17,13 @@ TOP = pathlib.Path(__file__).resolve().parent.parent
 PROGRAM = TOP / "crates" / "planner" / "out" / "planner"
 AUDITOR = TOP / "crates" / "auditor" / "out" / "auditor"
 EXAMPLES = TOP / "examples"
+README = TOP / "README.md"
 # The length of a store file.
 STORE_BYTES = 4_326_400
 # The name of the test that runs, with which each of its lines begins.
 NAME = pathlib.Path(sys.argv[0]).stem
+# A block of commands in a document, and the block after it if that shows the output.
+BLOCK = re.compile(r"^```sh\n(.*?)^```\n(?:\n```\n(.*?)^```\n)?", re.MULTILINE | re.DOTALL)
 
 
 def fail(text):
@@ -84,6 +87,29 @@ def commands_shown(beginning):
     if len(found) != 1:
         fail(f"{len(found)} blocks of commands in the documents begin with {beginning!r}")
     return found[0]
+
+
+def blocks_of(path):
+    """Returns the blocks of commands of a document, each with the lines that are shown after it, if there are
+    any.
+    """
+    return [(commands, shown.splitlines()) for commands, shown in BLOCK.findall(path.read_text(encoding="utf-8"))]
+
+
+def sheet_shown():
+    """Returns the lines of the sheet of a van that README shows."""
+    shown = re.findall(r"^```\n(Van 1: .*?)^```$", README.read_text(encoding="utf-8"), re.MULTILINE | re.DOTALL)
+    expect("README's sheets", len(shown), 1)
+    return shown[0].splitlines()
+
+
+def holds(what, printed, shown):
+    """Checks that the lines that a document shows were printed in this order, and no others between them except
+    at `..`, which stands for any number of lines.
+    """
+    pattern = "".join("(?:.*\n)*?" if line == ".." else re.escape(line) + "\n" for line in shown)
+    if not re.fullmatch(pattern, printed):
+        fail(f"{what}: the document shows {shown}, and printed is {printed[:400]!r}")
 
 
 def read(path):

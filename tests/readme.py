@@ -20,12 +20,9 @@ import tempfile
 
 # Python leaves no files beside the scripts.
 sys.dont_write_bytecode = True
-from planner import EXAMPLES, PROGRAM, TOP, expect, fail, require_program, skip, write  # noqa: E402
+from planner import EXAMPLES, PROGRAM, README, TOP, blocks_of, expect, fail, holds, require_program, sheet_shown, skip, write  # noqa: E402
 
-README = TOP / "README.md"
 GUIDES = sorted((TOP / "docs").glob("*.md"))
-# A block of commands, and the block after it if that shows the output.
-BLOCK = re.compile(r"^```sh\n(.*?)^```\n(?:\n```\n(.*?)^```\n)?", re.MULTILINE | re.DOTALL)
 # The beginnings of the guides' blocks that are run as they are shown.
 AS_SHOWN = (
     "./planner audit lilim",
@@ -48,13 +45,6 @@ ELSEWHERE = {
 }
 # The guide whose blocks tests/day.py runs.
 OF_THE_DAY = TOP / "docs" / "DISPATCHING.md"
-
-
-def blocks_of(path):
-    """Returns the blocks of commands of a document, each with the lines that are shown after it, if there are
-    any.
-    """
-    return [(commands, shown.splitlines()) for commands, shown in BLOCK.findall(path.read_text(encoding="utf-8"))]
 
 
 def check_blocks():
@@ -87,15 +77,6 @@ def run(folder, commands, statuses=(0,)):
     if got.returncode not in statuses:
         fail(f"{commands!r} ends with {got.returncode}: {got.stderr!r}")
     return got.stdout
-
-
-def holds(what, printed, shown):
-    """Checks that the lines that a document shows were printed in this order, and no others between them except
-    at `..`, which stands for any number of lines.
-    """
-    pattern = "".join("(?:.*\n)*?" if line == ".." else re.escape(line) + "\n" for line in shown)
-    if not re.fullmatch(pattern, printed):
-        fail(f"{what}: the document shows {shown}, and printed is {printed[:400]!r}")
 
 
 def new_folder(above, name):
@@ -149,14 +130,12 @@ def stop_readme(begun):
 
 def check_sheet(folder):
     """Checks the sheet of a van that README shows."""
-    shown = re.findall(r"^```\n(Van 1: .*?)^```$", README.read_text(encoding="utf-8"), re.MULTILINE | re.DOTALL)
-    expect("README's sheets", len(shown), 1)
     sheets = run(
         folder,
         "day=examples/day; $day/day.sh instance $day/settings.csv $day/orders.csv > day.txt && ./planner solve lilim day.txt 100000 > day.sol &&"
         " ./planner timetable lilim day.txt day.sol tabs > day.tabs && $day/day.sh sheets $day/settings.csv $day/orders.csv day.tabs",
     )
-    holds("the sheet of a van", sheets.split("\f")[0], shown[0].splitlines())
+    holds("the sheet of a van", sheets.split("\f")[0], sheet_shown())
     print("readme: README's sheet is that of its day")
 
 
