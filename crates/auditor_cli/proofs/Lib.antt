@@ -2,6 +2,7 @@
 pub mod ExaminationLemmas
 pub mod FileLemmas
 pub mod ListLemmas
+pub mod NoteLemmas
 pub mod PartialLemmas
 pub mod RoutesLemmas
 pub mod SpelledLemmas
