@@ -6,9 +6,13 @@ VEHICLES DISTANCE for each. Each instance is solved with each seed, audited and 
 distance in percent, and for Li-Lim also the number of vehicles above the reference's. A plan that leaves
 requests out is reported as such.
 
-    bench/plan_quality.py [--jobs N] FOLDER STEPS [SEED..]
+    bench/plan_quality.py [--jobs N] [--against PROGRAM SECONDS] FOLDER STEPS [SEED..]
 
 N instances are solved in parallel, one without `--jobs`. The seconds are processor time.
+
+With `--against` another program solves each `.vrp` instance with each seed, too. It is called as PROGRAM FILE
+SECONDS SEED OUT, ends after these seconds, and writes its solution to OUT. A program that measures the seconds
+by the clock needs a core for each job.
 """
 
 import argparse
@@ -31,23 +35,40 @@ def references_of(folder):
     return {name: tuple(map(int, figures)) for name, *figures in rows}
 
 
-def solved(kind, path, steps, seed):
-    """Returns vehicles and distance from the audit of the printed solution, or None if requests are left out,
-    and the seconds.
-    """
-    with tempfile.TemporaryFile() as plan:
-        process = subprocess.Popen([PROGRAM, "solve", kind, path, str(steps), str(seed)], stdout=plan, stderr=subprocess.DEVNULL)
-        _, status, usage = os.wait4(process.pid, 0)
-        process.returncode = os.waitstatus_to_exitcode(status)
-        seconds = usage.ru_utime + usage.ru_stime
-        if process.returncode == 1:
-            return None, seconds
-        if process.returncode:
-            sys.exit(f"{path}: status {process.returncode}")
-        plan.seek(0)
-        audit = subprocess.run([PROGRAM, "audit", kind, path, "-"], stdin=plan, capture_output=True, check=True)
+def audited(kind, path, plan):
+    """Returns vehicles and distance from the audit of a solution, an open file."""
+    plan.seek(0)
+    audit = subprocess.run([PROGRAM, "audit", kind, path, "-"], stdin=plan, capture_output=True, check=True)
     _, _, vehicles, distance = audit.stdout.split()
-    return (int(vehicles), int(distance)), seconds
+    return int(vehicles), int(distance)
+
+
+def run(words, output):
+    """Runs a program and returns its status and its processor seconds."""
+    process = subprocess.Popen(words, stdout=output, stderr=subprocess.DEVNULL)
+    _, status, usage = os.wait4(process.pid, 0)
+    process.returncode = os.waitstatus_to_exitcode(status)
+    return process.returncode, usage.ru_utime + usage.ru_stime
+
+
+def solved(kind, path, steps, seed):
+    """Returns vehicles and distance of the printed solution, or None if requests are left out, and the seconds."""
+    with tempfile.TemporaryFile() as plan:
+        status, seconds = run([PROGRAM, "solve", kind, path, str(steps), str(seed)], plan)
+        if status == 1:
+            return None, seconds
+        if status:
+            sys.exit(f"{path}: status {status}")
+        return audited(kind, path, plan), seconds
+
+
+def solved_by(other, limit, kind, path, seed):
+    """The same for the solution of another program."""
+    with tempfile.NamedTemporaryFile() as plan:
+        status, seconds = run([other, path, limit, str(seed), plan.name], subprocess.DEVNULL)
+        if status:
+            sys.exit(f"{other}: {path}: status {status}")
+        return audited(kind, path, plan), seconds
 
 
 def gap(distance, best):
@@ -63,32 +84,43 @@ def tasks_of(folder, seeds):
             yield name, path, KINDS[path.suffix], seed, vehicles, distance
 
 
+def report(label, tasks, found):
+    """Prints a line for each task, and the means."""
+    gaps, above = [], []
+    for (name, _, kind, seed, best_vehicles, best), (cost, seconds) in zip(tasks, found):
+        if cost is None:
+            print(f"{label}: {name} seed {seed}: requests are left out, {seconds:.1f} s", flush=True)
+            continue
+        vehicles, distance = cost
+        more = "" if kind == "vrp" else f", {vehicles - best_vehicles:+d} vehicles"
+        if kind == "vrp":
+            gaps.append(gap(distance, best))
+        else:
+            above.append(vehicles - best_vehicles)
+        print(f"{label}: {name} seed {seed}: {distance}, gap {gap(distance, best):+.2f} %{more}, {seconds:.1f} s", flush=True)
+    if gaps:
+        least = sum(it <= 0 for it in gaps)
+        print(f"{label}: vrp: mean gap {sum(gaps) / len(gaps):+.2f} % of {len(gaps)} runs, {least} of them at the reference or below")
+    if above:
+        print(f"{label}: lilim: mean {sum(above) / len(above):+.2f} vehicles of {len(above)} runs")
+
+
 def main():
-    parser = argparse.ArgumentParser(usage="bench/plan_quality.py [--jobs N] FOLDER STEPS [SEED..]")
+    parser = argparse.ArgumentParser(usage="bench/plan_quality.py [--jobs N] [--against PROGRAM SECONDS] FOLDER STEPS [SEED..]")
     parser.add_argument("--jobs", type=int, default=1)
+    parser.add_argument("--against", nargs=2)
     parser.add_argument("folder", type=pathlib.Path)
     parser.add_argument("steps", type=int)
     parser.add_argument("seeds", type=int, nargs="*", default=[1])
     words = parser.parse_args()
     tasks = list(tasks_of(words.folder, words.seeds))
-    gaps, above = [], []
     with ThreadPoolExecutor(words.jobs) as pool:
-        found = pool.map(lambda task: solved(task[2], task[1], words.steps, task[3]), tasks)
-        for (name, _, kind, seed, best_vehicles, best), (cost, seconds) in zip(tasks, found):
-            if cost is None:
-                print(f"{name} seed {seed}: requests are left out, {seconds:.1f} s", flush=True)
-                continue
-            vehicles, distance = cost
-            more = "" if kind == "vrp" else f", {vehicles - best_vehicles:+d} vehicles"
-            if kind == "vrp":
-                gaps.append(gap(distance, best))
-            else:
-                above.append(vehicles - best_vehicles)
-            print(f"{name} seed {seed}: {distance}, gap {gap(distance, best):+.2f} %{more}, {seconds:.1f} s", flush=True)
-    if gaps:
-        print(f"vrp: mean gap {sum(gaps) / len(gaps):+.2f} % of {len(gaps)} after {words.steps} steps")
-    if above:
-        print(f"lilim: mean {sum(above) / len(above):+.2f} vehicles of {len(above)} after {words.steps} steps")
+        report(f"{words.steps} steps", tasks, pool.map(lambda task: solved(task[2], task[1], words.steps, task[3]), tasks))
+        if words.against:
+            other, limit = words.against
+            tasks = [task for task in tasks if task[2] == "vrp"]
+            found = pool.map(lambda task: solved_by(other, limit, task[2], task[1], task[3]), tasks)
+            report(f"{pathlib.Path(other).name} {limit} s", tasks, found)
 
 
 if __name__ == "__main__":
