@@ -156,9 +156,10 @@ module _ (items : List Task) (some : 1 ≤ length items) where
   known_customers (depot ∷ customers) clean same =
       let P : List Task → Type 0 = λ xs. AreTasks (first_task xs) (other_tasks xs) × AreLoads (other_tasks xs) in
       let Q : List Task → Type 0 = λ ts. AreTasks (task_of depot) ts × AreLoads ts in
-      subst P (sym same) (subst Q (sym (others_is (task_of depot) (map task_of customers)))
-      (are_tasks customer_limits customer_stop_limits depot customers clean,
-      are_loads _ customers (none_tail customer_limits customer_stop_limits None depot customers clean)))
+      subst P (sym same) (subst Q (sym (others_is (task_of depot) (map task_of customers))) (
+        are_tasks customer_limits customer_stop_limits depot customers clean,
+        are_loads _ customers (none_tail customer_limits customer_stop_limits None depot customers clean),
+      ))
 
   pub spells_singles : (text : List ℕ) (header : FleetLine) (rest : List Row) → ArePassed heading (rows_of text) rest → HasFleet (rows_of text) header
       → HasNoStopFault customer_limits None rest → items ≡ map task_of rest → (p : Instance)
@@ -168,6 +169,7 @@ module _ (items : List Task) (some : 1 ≤ length items) where
       let P : List Task → Type 0 = λ xs. p ≡ singles_problem header.fleet header.capacity (first_task xs) (other_tasks xs) in
       let Q : List Task → Type 0 = λ ts. p ≡ singles_problem header.fleet header.capacity (task_of depot) ts in
       let plain = subst Q (others_is (task_of depot) (map task_of customers)) (subst P same is) in
-      let end = length (lines_of text) + 1 in
-      (rest_clean end heading (rows_of text) (depot ∷ customers) passed (clean_lines end depot customers clean),
-      problem_here (rows_of text) depot customers header p passed has plain)
+      let end = length (lines_of text) + 1 in (
+        rest_clean end heading (rows_of text) (depot ∷ customers) passed (clean_lines end depot customers clean),
+        problem_here (rows_of text) depot customers header p passed has plain,
+      )

@@ -13,6 +13,8 @@ const STOP_NUMBER: Limits = (0, MAX_STOP_NUMBER as i32);
 
 const TIME: Limits = (0, MAX_TIME as i32);
 
+const SERVICE: Limits = (0, MAX_SERVICE as i32);
+
 /// A coordinate, in any format.
 pub const COORDINATE: Limits = (-MAX_COORDINATE, MAX_COORDINATE);
 
@@ -28,7 +30,7 @@ pub const TASK: [Limits; 9] = [
     (-MAX_DEMAND, MAX_DEMAND),
     TIME,
     TIME,
-    (0, MAX_SERVICE as i32),
+    SERVICE,
     STOP_NUMBER,
     STOP_NUMBER,
 ];
@@ -41,7 +43,7 @@ pub const CUSTOMER: [Limits; 7] = [
     NODE_DEMAND,
     TIME,
     TIME,
-    (0, MAX_SERVICE as i32),
+    SERVICE,
 ];
 
 /// The greatest number of nodes of a `.vrp` text. The depot is a node too.

@@ -2,15 +2,14 @@
 //! time windows, and the `.vrp` files of CVRPLIB.
 //!
 //! The entry points are `read_lilim`, `read_solomon`, `read_vrp`, and `read_instance` for a Li-Lim or a `.vrp`
-//! text. Each returns the `Problem` that a text spells, or the first fault of the text. A text spells a problem if it has no fault and
-//! its lines describe that problem. `evidence_of` returns the details of a fault that its line shows, such as
-//! the field and its limits; `plan_explain` puts them into words. `split_key` splits a line of a `.vrp` file
-//! into key and value.
+//! text. Each returns the `Problem` that a text spells, or the first fault of the text. A text spells a problem
+//! if it has no fault and its lines describe that problem. `evidence_of` returns the details of a fault that its
+//! line shows, such as the field and its limits, except for Solomon's format; `plan_explain` puts them into
+//! words. `split_key` splits a line of a `.vrp` file into key and value.
 //!
 //! Sources: Li and Lim's benchmark instances for PDPTW; those of Solomon, and of Gehring and Homberger, for
-//! VRPTW; the keys and sections of TSPLIB95, as CVRPLIB's
-//! instances use them (TYPE CVRP, EDGE_WEIGHT_TYPE EUC_2D). The faults, their order and the limits
-//! (`plan_types::limits`) are this project's own.
+//! VRPTW; the keys and sections of TSPLIB95, as CVRPLIB's instances use them (TYPE CVRP, EDGE_WEIGHT_TYPE
+//! EUC_2D). The faults, their order and the limits (`plan_types::limits`) are this project's own.
 //!
 //! Each line is read once, in order, and reading ends at the first line with a fault. Checks of the whole text
 //! (that tasks form pairs, that no key is missing) follow after the last line.
@@ -41,9 +40,9 @@
 //! - `laws`: what the lines of a `.vrp` text are, that every text is read, and what evidence shows
 //!
 //! Proved: each reader returns exactly the problem that the text spells, or else the first fault by class, line
-//! and kind, unless memory runs out. Every text spells one problem or has one first fault, in any format.
-//! The laws state the format of `.vrp` lines and sections in other words, and that the evidence for a bad
-//! number is the first such word of the line.
+//! and kind, unless memory runs out. Every text spells one problem or has one first fault, in any format. The
+//! laws state the format of `.vrp` lines and sections in other words, and that the evidence for a bad number is
+//! the first such word of the line.
 #![tactic(auto)]
 
 mod entries;

@@ -36,10 +36,7 @@ pub fn read_solomon(alloc: Global, text: &[u8]) -> Result<Problem, ReadFault>
     ensures fault { IfErr result (ReportsFirstFault (SolomonFault text.now)) }
 {
     let mut lines = NumberedLines::new(text);
-    let header = match read_heading(&mut lines, text) {
-        Ok(header) => header,
-        Err(fault) => return Err(fault),
-    };
+    let header = read_heading(&mut lines, text)?;
     let tasks = read_tasks(alloc, &CUSTOMER, lines)?;
     match tasks.as_slice() {
         [] => Err(truncated(text)),
@@ -107,10 +104,7 @@ fn begins_with(line: &[u8], word: &[u8]) -> bool
 }
 
 // Returns the next line that is not blank, or the fault that the text ends here.
-fn next_line<'a>(
-    lines: &mut NumberedLines<'a>,
-    text: &[u8],
-) -> Result<NumberedLine<'a>, ReadFault>
+fn next_line<'a>(lines: &mut NumberedLines<'a>, text: &[u8]) -> Result<NumberedLine<'a>, ReadFault>
     ensures { MatchResult result
         (λ line. lines.old ≡ row_view line ∷ lines.new)
         (λ fault. (lines.old ≡ []) × (fault ≡ truncated_after text.now)) }

@@ -51,9 +51,7 @@ fn line_of(alloc: Global, form: Form, before: u32) -> Result<String, AllocError>
         Form::Pair => pair_line(alloc, before),
         Form::Node => format!(in alloc; "{number} {number} -{number}\n"),
         Form::Demand => format!(in alloc; "{number} {number}\n"),
-        Form::Customer => {
-            format!(in alloc; "{number} {number} -{number} 7 0 100000000 90\n")
-        }
+        Form::Customer => { format!(in alloc; "{number} {number} -{number} 7 0 100000000 90\n") }
         Form::Route => format!(in alloc; "Route #{number}: {number}\n"),
         Form::Stop => format!(in alloc; " {number}"),
         Form::Nine => format!(in alloc; "9"),

@@ -37,10 +37,7 @@ const READ: [(&[u8], Counts, &[Spot]); 3] = [
     (
         PART_OF_R101,
         [25, 200, 101, 2],
-        &[
-            (1, [41, 49, 10, 171, 1]),
-            (100, [18, 18, 17, 195, 100]),
-        ],
+        &[(1, [41, 49, 10, 171, 1]), (100, [18, 18, 17, 195, 100])],
     ),
     (
         REWRITTEN,
@@ -108,7 +105,11 @@ const HEADING_FAULTS: [(&[u8], u64, ReadFaultKind); 17] = [
     (b"n\nVEHICLE\nNUMBER\n40001 1\n", 4, Range),
     (b"n\nVEHICLE\nNUMBER\n1 1000001\n", 4, Range),
     (b"n\nVEHICLE\nNUMBER\n1 1\nCUST\n", 5, MissingKey),
-    (b"n\nVEHICLE\nNUMBER\n1 1\nCUSTOMER\n0 0 0 0 0 9 0\n", 6, MissingKey),
+    (
+        b"n\nVEHICLE\nNUMBER\n1 1\nCUSTOMER\n0 0 0 0 0 9 0\n",
+        6,
+        MissingKey,
+    ),
 ];
 
 /// The lines of customers, after six lines of a heading, with a fault, its line and its kind.
@@ -124,7 +125,11 @@ const CUSTOMER_FAULTS: [(&[u8], u64, ReadFaultKind); 15] = [
     (b"1 0 0 0 9 8 0\n", 7, TaskOrder),
     (b"0 0 0 0 9 8 0\n", 7, EmptyWindow),
     (b"0 0 0 0 0 9 0\n\n0 0 0 0 0 9 0\n", 9, TaskOrder),
-    (b"0 0 0 0 0 9 0\n2 0 0 0 0 9 0\n2 0 0 0 0 9 0\n", 9, TaskOrder),
+    (
+        b"0 0 0 0 0 9 0\n2 0 0 0 0 9 0\n2 0 0 0 0 9 0\n",
+        9,
+        TaskOrder,
+    ),
     (b"0 0 0 0 0 9 0\n1 0 0 0 5 4 0\nx\n", 8, EmptyWindow),
     (b"0 0 0 0 0 9 0\n1 0 0 0 0 9 0\nEOF\n", 9, FieldCount),
     (b"\n\n", 9, Truncated),
@@ -160,9 +165,7 @@ fn reports_the_first_fault_of_a_customer(rt: HostRuntime) -> Result<(), Fail> {
 
 /// An instance with as many customers as possible: customer n is at (n, -n) and has demand 7.
 const MOST_CUSTOMERS: [Part; 2] = [
-    Part::Text(
-        b"n\nVEHICLE\nNUMBER\n40000 1000000\nCUSTOMER\nCUST\n0 0 0 0 0 100000000 0\n",
-    ),
+    Part::Text(b"n\nVEHICLE\nNUMBER\n40000 1000000\nCUSTOMER\nCUST\n0 0 0 0 0 100000000 0\n"),
     Part::Lines(Form::Customer, limits::MAX_STOP_NUMBER),
 ];
 

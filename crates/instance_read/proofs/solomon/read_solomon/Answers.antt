@@ -25,7 +25,7 @@ pub read_tasks-requires : goal.read_tasks-requires
 read_tasks-requires c =
     let P : List Row → Type 0 = LinesAbove 0 in
     let above = subst P (sym c.new-lines.ensures) (rows_above 0 (lines_of c.args.text.now)) in
-    (omega arith, (customer_stop_limits, above_rest heading c.new-lines.result c.read_heading.new.lines c.in-Ok.ensures.0 above))
+    (omega arith, (customer_stop_limits, above_rest heading c.new-lines.result c.read_heading.new.lines c.in_ok-header.ensures.0 above))
 
 pub returns-in_err-tasks-clause-fault : goal.returns-in_err-tasks-clause-fault
 returns-in_err-tasks-clause-fault c =
@@ -33,10 +33,10 @@ returns-in_err-tasks-clause-fault c =
     let rest = c.read_heading.new.lines in
     let f = c.in_err-tasks.field-0.0 in
     let P : List Row → Type 0 = λ rows. IsFirstFault (LinesFault end heading rows) f in
-    let p = err_from_is_err_and c.from_residual.result c.from_residual.ensures.1 in
+    let p = err_from_is_err_and c.from_residual-in_err-tasks.result c.from_residual-in_err-tasks.ensures.1 in
     rw (p.1, p.2) (⊎_elim
     (λ memory. inl memory)
-    (λ h. inr (subst P c.new-lines.ensures (rest_first end heading c.new-lines.result rest f c.in-Ok.ensures.0 (customers_first end rest f h))))
+    (λ h. inr (subst P c.new-lines.ensures (rest_first end heading c.new-lines.result rest f c.in_ok-header.ensures.0 (customers_first end rest f h))))
     c.in_err-tasks.ensures.err)
 
 pub returns-in-empty-clause-fault : goal.returns-in-empty-clause-fault
@@ -49,12 +49,12 @@ returns-in-empty-clause-fault c =
     let Q : List Row → Type 0 = λ rows. IsFirstFault (LinesFault end heading rows) f in
     let R : List Row → Type 0 = λ rows. IsFirstFault (LinesFault end [] rows) f in
     let none = no_rest rest c.as_slice.result.now c.in-empty.len_below (c.as_slice.ensures.value ∙ c.in_ok-tasks.ensures.ok.1) in
-    let first = rest_first end heading c.new-lines.result rest f c.in-Ok.ensures.0 (subst R (sym none) (cut_first end [])) in
+    let first = rest_first end heading c.new-lines.result rest f c.in_ok-header.ensures.0 (subst R (sym none) (cut_first end [])) in
     inr (subst P (sym c.truncated.ensures) (subst Q c.new-lines.ensures first))
 
 pub problem_of_singles-requires-clause-header : goal.problem_of_singles-requires-clause-header
 problem_of_singles-requires-clause-header c =
-    fleet_limits c.new-lines.result c.read_heading.new.lines c.in-Ok.header c.in-Ok.ensures.0 c.in-Ok.ensures.1
+    fleet_limits c.new-lines.result c.read_heading.new.lines c.in_ok-header.header c.in_ok-header.ensures.0 c.in_ok-header.ensures.1
 
 pub problem_of_singles-requires-clause-tasks : goal.problem_of_singles-requires-clause-tasks
 problem_of_singles-requires-clause-tasks c =
@@ -68,8 +68,8 @@ pub returns-clause-value : goal.returns-clause-value
 returns-clause-value c =
     let rest = c.read_heading.new.lines in
     let P : List Row → Type 0 = λ rows. ArePassed heading rows rest in
-    let Q : List Row → Type 0 = λ rows. HasFleet rows c.in-Ok.header in
+    let Q : List Row → Type 0 = λ rows. HasFleet rows c.in_ok-header.header in
     MatchResult-weaker c.problem_of_singles.result c.problem_of_singles.ensures.ok
-    (λ p h. spells_singles c.as_slice.result.now (omega arith) c.args.text.now c.in-Ok.header rest (subst P c.new-lines.ensures c.in-Ok.ensures.0)
-    (subst Q c.new-lines.ensures c.in-Ok.ensures.1) c.in_ok-tasks.ensures.ok.0 (c.as_slice.ensures.value ∙ c.in_ok-tasks.ensures.ok.1) p h)
+    (λ p h. spells_singles c.as_slice.result.now (omega arith) c.args.text.now c.in_ok-header.header rest (subst P c.new-lines.ensures c.in_ok-header.ensures.0)
+    (subst Q c.new-lines.ensures c.in_ok-header.ensures.1) c.in_ok-tasks.ensures.ok.0 (c.as_slice.ensures.value ∙ c.in_ok-tasks.ensures.ok.1) p h)
     (λ _ h. h)
