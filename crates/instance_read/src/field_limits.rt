@@ -1,7 +1,7 @@
 //! The limits of the numbers in a line, field by field, both inclusive.
 //!
-//! Sources: Li and Lim's benchmark instances, Solomon's and TSPLIB95 define the fields; `plan_types::limits` defines their
-//! limits.
+//! Sources: Li and Lim's benchmark instances, Solomon's and TSPLIB95 define the fields; `plan_types::limits`
+//! defines their limits.
 use plan_types::limits::{
     MAX_CAPACITY, MAX_COORDINATE, MAX_DEMAND, MAX_FLEET, MAX_SERVICE, MAX_STOP_NUMBER, MAX_TIME,
 };
